@@ -1,6 +1,6 @@
 -- What a slot spells: five bytes of home address, and the records up to eight bytes FF
 -- (component descriptions of the 2841 and the 2314, 'Track Format'; the CKD_P370 image layout).
-use Rattle.std.specs.Prelude.{◌≡◌, ℕ, zero, suc, ◌+◌, ◌-◌, ◌*◌, ◌/◌, ◌%◌, ◌<◌, Bool, true, false, nat_lt, if◌then◌else◌, List, [], ◌∷◌, ◌++◌, length, take, drop, flat_map, replicate, slice_index, slice_range, Result, Ok, Err, bytes_eq, All}
+use Rattle.std.specs.Prelude.{◌≡◌, ℕ, zero, suc, ◌+◌, ◌-◌, ◌*◌, ◌/◌, ◌%◌, ◌≤◌, ◌<◌, ◌⊎◌, Bool, false, nat_lt, if◌then◌else◌, List, [], ◌∷◌, ◌++◌, length, take, drop, flat_map, replicate, slice_index, slice_index_or, slice_range, Option, Some, None, Result, Ok, Err, bytes_eq, All}
 use Rattle.ckd_track.specs.declared.fault.SlotFault.{SlotFault}
 use Rattle.ckd_track.specs.declared.fault.SlotFault.TheVariants.{NoEnd, RecordPastEnd}
 
@@ -49,6 +49,14 @@ pub record Spells (slot : List ℕ) (t : Track) : Type 0 where
   pub rest : List ℕ
   pub bytes : slot ≡ spelling t ++ rest
 
+-- from the home address up to the offset the slot's bytes are records, one after another
+pub record RecordsUpTo (slot : List ℕ) (offset : ℕ) : Type 0 where
+  pub behind_home_address : 5 ≤ offset
+  pub within : offset ≤ length slot
+  pub records : List Record
+  pub are_records : All IsRecord records
+  pub bytes : slice_range slot 5 offset ≡ flat_map record_bytes records
+
 -- The one track that a slot spells.
 
 abbrev pub key_length : List ℕ → ℕ
@@ -71,6 +79,22 @@ record_at bytes = record {
   key_area = slice_range bytes 8 (8 + key_length bytes);
   data_area = slice_range bytes (8 + key_length bytes) (8 + body_length bytes);
 }
+
+-- Why a slot spells no whole track: it ends within its home address; or records stand one after another up to
+-- the offset, and there fewer than eight bytes are left, or stands the count area of a record that runs over the end.
+abbrev pub HasFault : List ℕ → SlotFault → Type 0
+HasFault slot (NoEnd offset) =
+    ((length slot < 5) × (offset ≡ 0)) ⊎ (RecordsUpTo slot offset × (length slot < offset + 8))
+HasFault slot (RecordPastEnd offset) =
+    RecordsUpTo slot offset × (offset + 8 ≤ length slot)
+    × (begins_with_end_mark (drop offset slot) ≡ false) × (length slot < offset + 8 + body_length (drop offset slot))
+
+-- the bytes begin with this record, and behind it is room for an end mark
+pub record BeginsWith (bytes : List ℕ) (r : Record) : Type 0 where
+  pub is_record : IsRecord r
+  pub same : record_at bytes ≡ r
+  pub count : take 8 bytes ≡ count_area r
+  pub room : 16 + body_length bytes ≤ length bytes
 
 -- a record before those of a good read, or the same fault
 abbrev pub followed_by : Record → Result (List Record) SlotFault → Result (List Record) SlotFault
@@ -98,3 +122,60 @@ behind_home_address ha (Err fault) = Err fault
 -- the one track that a slot spells; the track of a slot that spells none is unreadable, with the fault
 unfoldable pub track_of : List ℕ → Result Track SlotFault
 track_of slot = behind_home_address (take 5 slot) (records_of slot)
+
+-- Looking into a track.
+
+-- what stands in the place of a record that is not there
+abbrev pub no_record : Record
+no_record = record { id = []; key_area = []; data_area = [] }
+
+-- record i of a track, R0 being record 0
+abbrev pub record_in : Track → ℕ → Record
+record_in t i = slice_index_or t.records i no_record
+
+abbrev pub no_track : Track
+no_track = record { home_address = []; records = [] }
+
+abbrev pub track_or_none : Result Track SlotFault → Track
+track_or_none (Ok t) = t
+track_or_none (Err fault) = no_track
+
+-- the track that a slot spells, for slots that spell one
+abbrev pub track_in : List ℕ → Track
+track_in slot = track_or_none (track_of slot)
+
+-- how many records were read, or the same fault
+abbrev pub number_of_records : Result Track SlotFault → Result ℕ SlotFault
+number_of_records (Ok t) = Ok (length t.records)
+number_of_records (Err fault) = Err fault
+
+-- Where the records stand.
+
+-- the bytes that a record takes in a slot: eight count bytes, the key and the data
+abbrev pub record_size : Record → ℕ
+record_size r = 8 + (length r.key_area + length r.data_area)
+
+-- the offsets of records that stand one after another
+abbrev pub offsets_from : ℕ → List Record → List ℕ
+offsets_from at [] = []
+offsets_from at (r ∷ rs) = at ∷ offsets_from (at + record_size r) rs
+
+-- the offset of each record's count area, in a slot that spells the track: R0 stands behind the home address
+abbrev pub record_offsets : Track → List ℕ
+record_offsets t = offsets_from 5 t.records
+
+abbrev pub offsets_on : Result Track SlotFault → Result (List ℕ) SlotFault
+offsets_on (Ok t) = Ok (record_offsets t)
+offsets_on (Err fault) = Err fault
+
+-- the offsets of the records that a slot spells, or the fault
+abbrev pub offsets_of : List ℕ → Result (List ℕ) SlotFault
+offsets_of slot = offsets_on (track_of slot)
+
+-- what stands at an offset of a slot: a record of so many bytes, or the end mark, or neither
+abbrev pub size_at : ℕ → List ℕ → Result (Option ℕ) SlotFault
+size_at at bytes =
+    if nat_lt (length bytes) 8 then Err (NoEnd at)
+    else (if begins_with_end_mark bytes then Ok None
+    else (if nat_lt (length bytes) (8 + body_length bytes) then Err (RecordPastEnd at)
+    else Ok (Some (8 + body_length bytes))))

@@ -1,0 +1,93 @@
+//! Walking over the records of a slot.
+
+ghost use Rattle.std.specs.Prelude.{◌≡◌, ◌≤◌, ◌<◌, ◌+◌, length, drop, slice_index};
+ghost use Rattle.ckd_track.specs.Track.{body_length as length_of_body, key_length as length_of_key, data_length as length_of_data, size_at, track_of, track_in, number_of_records, record_offsets};
+
+use crate::fault::SlotFault;
+
+/// Where the records begin: behind the home address's flag, cylinder and head.
+pub const RECORDS_START: usize = 5;
+
+/// Cylinder, head, record number, key length and data length.
+pub const COUNT_LENGTH: usize = 8;
+
+const END_MARK: [u8; COUNT_LENGTH] = [255; COUNT_LENGTH];
+
+/// The key length that a count area gives.
+pub fn key_length(count: &[u8]) -> usize
+    requires { 8 ≤ length count.now }
+    ensures { result ≡ length_of_key count.now }
+{
+    count[5] as usize
+}
+
+/// The data length that a count area gives.
+pub fn data_length(count: &[u8]) -> usize
+    requires { 8 ≤ length count.now }
+    ensures { result ≡ length_of_data count.now }
+{
+    u16::from_be_bytes([count[6], count[7]]) as usize
+}
+
+/// How many bytes the key and the data of a count area take together.
+fn body_length(count: &[u8]) -> usize
+    requires { 8 ≤ length count.now }
+    ensures { result ≡ length_of_body count.now }
+{
+    key_length(count) + data_length(count)
+}
+
+/// The size of the record at an offset, or `None` at the end mark.
+pub fn record_size_at(slot: &[u8], at: usize) -> Result<Option<usize>, SlotFault>
+    requires { at ≤ length slot.now }
+    ensures { result ≡ size_at at (drop at slot.now) }
+{
+    let rest = &slot[at..];
+    if rest.len() < COUNT_LENGTH {
+        return Err(SlotFault::NoEnd(at));
+    }
+    if rest[..COUNT_LENGTH] == END_MARK[..] {
+        return Ok(None);
+    }
+    let size = COUNT_LENGTH + body_length(rest);
+    if rest.len() < size {
+        return Err(SlotFault::RecordPastEnd(at));
+    }
+    Ok(Some(size))
+}
+
+/// How many records the slot spells.
+pub fn count_records(slot: &[u8]) -> Result<usize, SlotFault>
+    ensures { result ≡ number_of_records (track_of slot.now) }
+{
+    if slot.len() < RECORDS_START {
+        return Err(SlotFault::NoEnd(0));
+    }
+    let mut at = RECORDS_START;
+    let mut records = 0;
+    while let Some(size) = record_size_at(slot, at)? {
+        at += size;
+        records += 1;
+    }
+    Ok(records)
+}
+
+/// The size of the record at an offset.
+fn record_size(slot: &[u8], at: usize) -> usize
+    requires { at + 8 ≤ length slot.now }
+    ensures { result ≡ 8 + length_of_body (drop at slot.now) }
+{
+    COUNT_LENGTH + body_length(&slot[at..])
+}
+
+/// Where record `i` begins.
+pub fn offset_of(slot: &[u8], i: usize) -> usize
+    requires { i < length (track_in slot.now).records }
+    ensures { result ≡ slice_index (record_offsets (track_in slot.now)) i }
+{
+    let mut at = RECORDS_START;
+    for _ in 0..i {
+        at += record_size(slot, at);
+    }
+    at
+}
