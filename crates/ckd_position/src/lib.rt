@@ -1,1 +1,14 @@
+//! How far a turn of a track has come: its areas in the order in which they pass, the next one of a kind, and the
+//! comparisons of a search.
 #![tactic(auto)]
+
+mod areas;
+mod comparisons;
+mod looks;
+
+pub use crate::areas::{Area, Kind, Next, Part, Position};
+pub use crate::comparisons::{Compare, verdict};
+pub use crate::looks::next_area;
+
+#[cfg(test)]
+mod tests;

@@ -1,0 +1,4 @@
+pub mod Order
+pub mod Walk
+pub mod NextOfKind
+pub mod Finds

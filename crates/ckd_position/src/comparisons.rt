@@ -1,0 +1,40 @@
+//! What a search asks of an area.
+
+ghost use Rattle.std.specs.Prelude.{◌≡◌, ◌↔◌, ◌≤◌, IsTrue, length};
+ghost use Rattle.ckd_position.specs.Comparisons.{accepts, is_satisfied, Satisfies};
+
+use std::cmp::Ordering;
+
+/// What a search asks of the area's bytes, beside those that it is given.
+#[derive(Clone, Copy, Debug, PartialEq, Eq)]
+pub enum Compare {
+    /// They are the same.
+    Equal,
+    /// They are higher: at the first place where the two differ, the track's byte is greater.
+    High,
+    /// They are the same or higher.
+    EqualOrHigh,
+}
+
+impl Compare {
+    /// Whether this order of the area's bytes to those given is as the search asks.
+    fn accepts(self, order: Ordering) -> bool
+        ensures { result ≡ accepts self order }
+    {
+        match self {
+            Compare::Equal => order.is_eq(),
+            Compare::High => order.is_gt(),
+            Compare::EqualOrHigh => order.is_ge(),
+        }
+    }
+}
+
+/// Whether the bytes of an area are as the search asks, beside as many bytes as it is given: unsigned bytes, from the
+/// left (component descriptions of the 2841 and the 2314, 'Search Commands').
+pub fn verdict(compare: Compare, area: &[u8], comparand: &[u8]) -> bool
+    requires { length comparand.now ≤ length area.now }
+    ensures value { result ≡ is_satisfied compare area.now comparand.now }
+    ensures meaning { IsTrue result ↔ Satisfies compare area.now comparand.now }
+{
+    compare.accepts(area[..comparand.len()].cmp(comparand))
+}
