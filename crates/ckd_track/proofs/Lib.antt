@@ -3,3 +3,7 @@ pub mod Reading
 pub mod Laws
 pub mod Offsets
 pub mod Slots
+pub mod Places
+pub mod Rewritten
+pub mod ChargeLaws
+pub mod Writing

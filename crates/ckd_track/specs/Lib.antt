@@ -1,2 +1,4 @@
 pub mod Track
 pub mod Model
+pub mod Charges
+pub mod Changes

@@ -1,16 +1,23 @@
 //! Tracks of count-key-data disks: the slots that spell them, their records, and what records take.
 #![tactic(auto)]
 
+mod charges;
 pub mod fault;
 mod index;
 pub mod model;
 mod view;
 mod walk;
+mod writes;
 
+pub use crate::charges::{charge, fits, last_charge, r0_charge, used};
 pub use crate::fault::SlotFault;
 pub use crate::index::index_slot;
 pub use crate::model::DriveModel;
 pub use crate::view::{TrackView, read_slot, view_at};
+pub use crate::writes::{
+    data_offset_of, end_offset_of, overwrite, put_data, put_end_mark, put_key_data, put_record,
+    write_ha,
+};
 
 #[cfg(test)]
 mod tests;
