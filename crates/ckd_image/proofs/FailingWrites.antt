@@ -1,0 +1,39 @@
+-- A write of a store that fails as it was told, in the words of every store.
+use Rattle.std.proofs.Common.{◌≡◌, ℕ, ◌+◌, ◌-◌, ◌≤◌, min, Bool, true, false, not, ◌&&◌, if◌then◌else◌, is_ok, Result, Ok, Err, OnOk, OnErr, List, length, take, refl, ap, arith, length-take}
+use Rattle.ckd_image.specs.declared.store.StoreFault.{StoreFault}
+use Rattle.ckd_image.specs.Store.{Stored, overwritten, Torn, Counts}
+use Rattle.ckd_image.specs.Failing.{after_torn_write}
+use Rattle.ckd_image.proofs.Writes.{torn_within}
+
+pub record Told (old new : Stored) (before now at : ℕ) (bytes : List ℕ) (r : Result (Unit {0}) StoreFault) : Type 0 where
+  pub written : OnOk r (new.content ≡ overwritten old.content at bytes)
+  pub torn : OnErr r (Torn old.content new.content at (length bytes))
+  pub counted : Counts (old.failures + before) (new.failures + now) r
+
+-- the first 60 bytes, within the content
+torn_sixty : (s new : Stored) (at : ℕ) (bytes : List ℕ) → at ≤ length s.content → new ≡ after_torn_write s at bytes → Torn s.content new.content at (length bytes)
+torn_sixty s new at bytes begins is =
+    let count = min 60 (length s.content - at) in
+    let short : length (take count bytes) ≤ length bytes = simp length-take (omega arith) in
+    let within : at + length (take count bytes) ≤ length s.content = simp length-take (omega arith) in
+    rw (ap (λ (v : Stored). v.content) is) (torn_within s.content (take count bytes) at (length bytes) within short)
+
+pub told : (old new : Stored) (before now at : ℕ) (bytes : List ℕ) (fails room : Bool) (r : Result (Unit {0}) StoreFault) → at ≤ length old.content → is_ok r ≡ (not fails && room) → new ≡ (if fails then after_torn_write old at bytes else (if room then record old { content = overwritten old.content at bytes } else record old { failures = old.failures + 1 })) → now ≡ before + (if fails then 1 else 0) → Told old new before now at bytes r
+told old new before now at bytes true room (Ok v) begins ok is counted = cc
+told old new before now at bytes true room (Err e) begins ok is counted = record {
+  written = tt;
+  torn = torn_sixty old new at bytes begins is;
+  counted = let same = ap (λ (v : Stored). v.failures) is in omega arith;
+}
+told old new before now at bytes false true (Ok v) begins ok is counted = record {
+  written = ap (λ (v : Stored). v.content) is;
+  torn = tt;
+  counted = let same = ap (λ (v : Stored). v.failures) is in omega arith;
+}
+told old new before now at bytes false true (Err e) begins ok is counted = cc
+told old new before now at bytes false false (Ok v) begins ok is counted = cc
+told old new before now at bytes false false (Err e) begins ok is counted = record {
+  written = tt;
+  torn = rw (ap (λ (v : Stored). v.content) is) (record { before = refl; behind = refl; same_length = refl });
+  counted = let more = ap (λ (v : Stored). v.failures) is in omega arith;
+}

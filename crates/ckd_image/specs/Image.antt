@@ -1,0 +1,85 @@
+-- An image as the layers above see it, and the file that it stands for.
+use Rattle.std.specs.Prelude.{◌≡◌, ℕ, ◌+◌, ◌≤◌, List, ◌++◌, length, take, drop, All, ◌==◌, ◌||◌, nat_lt, if◌then◌else◌, Result, Ok, Err, IsOk}
+use Rattle.std.specs.List.{concat}
+use Rattle.ckd_track.specs.declared.model.DriveModel.{DriveModel}
+use Rattle.ckd_image.specs.declared.geometry.Geometry.{Geometry}
+use Rattle.ckd_image.specs.declared.fault.MountFault.{MountFault}
+use Rattle.ckd_image.specs.declared.fault.MountFault.TheVariants.{Length, StoreFault}
+use Rattle.ckd_image.specs.Geometry.{IsGeometry, tracks_of, image_length, new_geometry}
+use Rattle.ckd_image.specs.Header.{mount_of, new_header}
+use Rattle.ckd_image.specs.Slots.{slots_in, new_slots}
+
+pub record ImageState : Type 0 where
+  pub geometry : Geometry
+  -- a slot for each track, cylinder by cylinder and head by head
+  pub slots : List (List ℕ)
+  -- the bytes of the file before the slots
+  pub header : List ℕ
+  -- how many calls of the store failed
+  pub failures : ℕ
+  -- how many loads and saves were called of the image
+  pub loads : ℕ
+  pub saves : ℕ
+
+-- the file that holds the image
+abbrev pub file_of : ImageState → List ℕ
+file_of i = i.header ++ concat i.slots
+
+-- a file holds the volume of this geometry and these slots: its header and its length keep the
+-- rules of a mount, and behind the header stand the slots, one for each track, in order
+pub record Holds (file : List ℕ) (g : Geometry) (slots : List (List ℕ)) : Type 0 where
+  pub mounts : mount_of file ≡ Ok g
+  pub count : length slots ≡ tracks_of g
+  pub sizes : All (λ slot. length slot ≡ g.track_size) slots
+  pub order : drop 512 file ≡ concat slots
+
+-- what is true of each image
+pub record IsImage (i : ImageState) : Type 0 where
+  pub holds : Holds (file_of i) i.geometry i.slots
+  pub geometry : IsGeometry i.geometry
+
+-- the image of this geometry that a file holds, as it is first held
+abbrev pub image_in : Geometry → List ℕ → ℕ → ImageState
+image_in g file failures = record {
+  geometry = g;
+  slots = slots_in g.track_size (tracks_of g) (drop 512 file);
+  header = take 512 file;
+  failures = failures;
+  loads = 0;
+  saves = 0;
+}
+
+-- a mount of a file was refused with this fault, and the store's failures were and are so many: a
+-- fault of the store is met only where its header was read, and is counted; any other is the first
+-- rule that is broken
+abbrev pub MountRefused : MountFault → List ℕ → ℕ → ℕ → Type 0
+MountRefused StoreFault file before now = (512 ≤ length file) × (now ≡ before + 1)
+MountRefused fault file before now = (mount_of file ≡ Err fault) × (now ≡ before)
+
+-- the file of a new volume
+abbrev pub new_file : Geometry → List ℕ
+new_file g = new_header g.model ++ concat (new_slots g)
+
+-- the geometry of a new image in a store of this length, or why it is not made
+abbrev pub format_of : DriveModel → ℕ → ℕ → Result Geometry MountFault
+format_of model cylinders len =
+    if (cylinders == 0) || nat_lt (image_length (new_geometry model cylinders)) len then Err Length
+    else Ok (new_geometry model cylinders)
+
+-- a format was refused with this fault, and the store's failures were and are so many: a fault of
+-- the store is met only where the rules allow the new image, and is counted; any other is the rule
+-- that is broken
+abbrev pub FormatRefused : MountFault → Result Geometry MountFault → ℕ → ℕ → Type 0
+FormatRefused StoreFault rules before now = IsOk rules × (now ≡ before + 1)
+FormatRefused fault rules before now = (rules ≡ Err fault) × (now ≡ before)
+
+-- a new image of so many cylinders, as it is first held
+abbrev pub new_image : DriveModel → ℕ → ℕ → ImageState
+new_image model cylinders failures = let g = new_geometry model cylinders in record {
+  geometry = g;
+  slots = new_slots g;
+  header = new_header model;
+  failures = failures;
+  loads = 0;
+  saves = 0;
+}
