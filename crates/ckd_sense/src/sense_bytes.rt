@@ -10,7 +10,7 @@ use bitflags::{Flag, Flags, bitflag_items};
 ///
 /// Sense byte 0 is the high half of the number, and sense byte 1 the low half.
 #[derive(Clone, Copy, Debug, PartialEq, Eq)]
-pub struct Sense(u16);
+pub struct Sense(pub u16);
 
 bitflag_items! {
     impl Sense: u16 {

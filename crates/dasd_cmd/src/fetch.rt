@@ -14,8 +14,7 @@ pub fn first_ccw(caw: Caw, storage: &Storage) -> Option<Ccw>
     if caw.key != 0 {
         return None;
     }
-    let bytes = storage.slice(caw.address, 8)?;
-    let ccw = Ccw::from_bytes(bytes.try_into().ok()?);
+    let ccw = storage.ccw_at(caw.address)?;
     begins_command(ccw).then_some(ccw)
 }
 

@@ -1,7 +1,7 @@
 //! Main storage: bytes, and a storage key for each block of 2,048 bytes (Principles of Operation, 'Main
 //! Storage' and 'Storage Protection').
 
-ghost use Rattle.std.specs.Prelude.{ℕ, ◌≡◌, ◌↔◌, ◌+◌, ◌/◌, ◌<◌, ◌≤◌, false, length, nat_lt, slice_get, slice_range, Some, None, if◌then◌else◌, option_map, IsTrue, IfOk, IfSome};
+ghost use Rattle.std.specs.Prelude.{ℕ, ◌≡◌, ◌↔◌, ◌+◌, ◌/◌, ◌^◌, ◌<◌, ◌≤◌, false, length, nat_lt, slice_get, slice_range, Some, None, if◌then◌else◌, option_map, IsTrue, IfOk, IfSome};
 ghost use Rattle.s360_words.specs.Storage.{is_size, cleared, is_inside, key_at, admits, may_store, overwritten, Bytes, KeyOf, changed, is_within, caw_word, ccw_at, csw_stored, status_stored};
 
 use crate::flags::{ChannelStatus, UnitStatus};
@@ -149,7 +149,8 @@ impl Storage {
     /// The channel command word at an address, or none where one of its eight bytes is outside storage. The address
     /// need not be a multiple of 8.
     pub fn ccw_at(&self, at: u32) -> Option<Ccw>
-        ensures { result ≡ (if is_inside self.now at 8 then Some (ccw_at self.now at) else None) }
+        ensures word { result ≡ (if is_inside self.now at 8 then Some (ccw_at self.now at) else None) }
+        ensures address { IfSome result (λ ccw. ccw.address < 2 ^ 24) }
     {
         let bytes = self.slice(at, 8)?;
         Some(Ccw::from_bytes(bytes.try_into().ok()?))
