@@ -1,0 +1,123 @@
+//! What the parts of a command lead to, as far as the registers tell.
+
+use crate::registers::Registers;
+use ckd_position::{Area, Kind};
+use ckd_sense::Command;
+use s360_words::UnitStatus;
+
+/// What a command works on.
+#[derive(Clone, Copy, Debug, PartialEq, Eq)]
+pub enum Aim {
+    /// No area of the track.
+    NoArea,
+    /// The next area of this kind behind the position.
+    Next(Kind),
+    /// The area that the sequence credit names.
+    Credited,
+}
+
+/// What a command does with the bytes that pass.
+#[derive(Clone, Copy, Debug, PartialEq, Eq)]
+pub enum Action {
+    /// None pass.
+    NoTransfer,
+    /// It takes a seek address, and moves the arm to its cylinder and head.
+    SeekCylinderAndHead,
+    /// It takes a seek address, and takes its head.
+    SeekHead,
+    /// It takes the mask byte.
+    SetFileMask,
+    /// It gives the sense bytes.
+    GiveSense,
+    /// It compares them with the area.
+    Search,
+    /// It gives those of the area.
+    Read,
+    /// It takes a home address, and removes all records.
+    WriteHomeAddress,
+    /// It takes count, key and data of a new record, and removes all records behind it.
+    Format,
+    /// It puts them in the place of those of the area.
+    Update,
+}
+
+/// Which bytes of the home address or of a record a command gives, compares or replaces.
+#[derive(Clone, Copy, Debug, PartialEq, Eq)]
+pub enum Extent {
+    /// None.
+    Nothing,
+    /// Cylinder and head of the home address.
+    CylinderAndHead,
+    /// The home address with its flag.
+    HomeAddress,
+    /// Cylinder, head and record number of a count area.
+    Identifier,
+    /// The count area.
+    Count,
+    /// The key area.
+    Key,
+    /// The data area.
+    Data,
+    /// The key area and the data area.
+    KeyAndData,
+    /// The whole record.
+    CountKeyAndData,
+}
+
+/// A command that works, and the area that it works on, as soon as that is known.
+#[derive(Clone, Copy, Debug, PartialEq, Eq)]
+pub struct Opened {
+    /// The command.
+    pub command: Command,
+    /// Whether its code has the multi-track bit.
+    pub multi_track: bool,
+    /// The area that it works on.
+    pub area: Option<Area>,
+}
+
+/// What a command code leads to.
+#[derive(Clone, Copy, Debug, PartialEq, Eq)]
+pub enum Beginning {
+    /// The command is not begun: the sense tells why.
+    Rejected(Registers),
+    /// The command is over at once, and no byte passes.
+    Immediate(Registers),
+    /// The command works.
+    Started(Registers, Opened),
+    /// The arm goes to cylinder 0, head 0 first. Then a command that has no more to do is over at once with the arm in
+    /// motion, and another works there.
+    ToCylinderZero(Registers, Option<Opened>),
+}
+
+/// What a look at the track under the arm leads to.
+#[derive(Clone, Copy, Debug, PartialEq, Eq)]
+pub enum Sight {
+    /// The area is found, or none is looked for.
+    Found(Opened),
+    /// The index passed, and the looks go on at the index of the same track.
+    IndexPassed(Registers),
+    /// The index passed, and the looks go on at the index of the next head's track.
+    NextHead(Registers),
+    /// The command ends: the sense tells why.
+    Missed(Registers),
+}
+
+/// How a command ends, as the channel sees it.
+#[derive(Clone, Copy, Debug, PartialEq, Eq)]
+pub struct DriveEnding {
+    /// The unit status.
+    pub unit: UnitStatus,
+    /// Whether the arm still moves.
+    pub motion: bool,
+}
+
+/// How a command closes, but for what it wrote.
+#[derive(Clone, Copy, Debug, PartialEq, Eq)]
+pub struct Outcome {
+    /// What the drive remembers.
+    pub registers: Registers,
+    /// What the channel sees.
+    pub ending: DriveEnding,
+    /// Whether the arm or the head leaves the track, which is saved first.
+    pub moves_off: bool,
+}

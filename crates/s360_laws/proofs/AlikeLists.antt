@@ -1,0 +1,276 @@
+-- The acts of the serial list are the acts of the list.
+use Rattle.std.proofs.Common.{◌≡◌, ℕ, zero, suc, ◌+◌, ◌*◌, ◌/◌, ◌%◌, refl, sym, ap, subst, ◌∙◌, arith, true, false, Bool, cond, not, ◌&&◌, ◌||◌, ◌==◌, List, [], ◌∷◌, ◌++◌, Option, Some, None, zero-add, append_assoc, append-nil}
+use Rattle.std.proofs.lemmas.Bool.{eqb-true}
+use Rattle.std.specs.Prelude.{replicate, filter}
+use Rattle.s360_words.specs.Storage.{Change, csw_stored, Bytes, KeyOf}
+use Rattle.s360_program.specs.Scripts.{units, OneUnit, Script}
+use Rattle.s360_laws.specs.Events.{Exchange, Hio, Condition, Reset, Sio, StepBy, Stepped, Interrupt, Interrupted, Store, WasKept, SetKey, Tio, CswStored, StatusStored, Tch, Answer, HasArrived, Arrive, WasReset, Show, Shown, FaultAfter}
+use Rattle.s360_laws.specs.History.{units_ahead, script_ahead, fate_ahead, acts, own_change, where_over, Changes, acts_of, Program, turns_of}
+use Rattle.s360_laws.specs.Machine.{units_with}
+use Rattle.s360_laws.specs.SerialLists.{changes_nothing, is_arrival, arrivals_last, steps_ahead, is_step, is_between, whole_step, steps_of, ArePlain, steps_joined, SameActs}
+use Rattle.s360_laws.specs.declared.condition.ConditionCode.TheVariants.{Two, Zero, One, Three}
+use Rattle.s360_laws.proofs.Ahead.{same_script, quiet_script}
+use Rattle.s360_laws.proofs.StepLaws.{plain_two}
+
+record Alike (x y : List Exchange) : Type 0 where
+  ahead : units_ahead x ≡ units_ahead y
+  script : script_ahead x ≡ script_ahead y
+  ends : fate_ahead x ≡ fate_ahead y
+  does : acts x ≡ acts y
+
+same : (x : List Exchange) → Alike x x
+same x = record { ahead = refl; script = refl; ends = refl; does = refl }
+
+then : {x y z : List Exchange} → Alike x y → Alike y z → Alike x z
+then p q = record { ahead = p.ahead ∙ q.ahead; script = p.script ∙ q.script; ends = p.ends ∙ q.ends; does = p.does ∙ q.does }
+
+back : {x y : List Exchange} → Alike x y → Alike y x
+back p = record { ahead = sym p.ahead; script = sym p.script; ends = sym p.ends; does = sym p.does }
+
+-- behind an event.
+
+units_behind : (t : Exchange) (x y : List Exchange) → units_ahead x ≡ units_ahead y → units_ahead (t ∷ x) ≡ units_ahead (t ∷ y)
+units_behind (Hio a, m, Condition Two) x y h = refl
+units_behind (Reset, m, r) x y h = refl
+units_behind (Sio a, m, Condition Zero) x y h = refl
+units_behind (StepBy k, m, Stepped d) x y h = ap (λ n. d + n) h
+units_behind t x y h = h
+
+fate_behind : (t : Exchange) (x y : List Exchange) → fate_ahead x ≡ fate_ahead y → fate_ahead (t ∷ x) ≡ fate_ahead (t ∷ y)
+fate_behind (Hio a, m, Condition Two) x y h = refl
+fate_behind (Reset, m, r) x y h = refl
+fate_behind (Sio a, m, Condition Zero) x y h = refl
+fate_behind t x y h = h
+
+owns : (c : Change) (x y : List Exchange) → units_ahead x ≡ units_ahead y → own_change x c ≡ own_change y c
+owns c x y h = ap (λ n. where_over n (Changes c ∷ []) []) h
+
+act_behind : (t : Exchange) (x y : List Exchange) → Alike x y → acts_of t x ≡ acts_of t y
+act_behind (Sio a, m, Condition Zero) x y h = ap (λ s. Program (a % 256) (OneUnit None ∷ s) (fate_ahead x) ∷ []) h.script ∙ ap (λ f. Program (a % 256) (OneUnit None ∷ script_ahead y) f ∷ []) h.ends
+act_behind (Interrupt, m, Interrupted (Some i)) x y h = owns (csw_stored i.1) x y h.ahead
+act_behind (Store at bytes, m, WasKept true) x y h = owns (Bytes at bytes) x y h.ahead
+act_behind (SetKey at key, m, WasKept true) x y h = owns (KeyOf at key) x y h.ahead
+act_behind (Tio a, m, CswStored csw) x y h = refl
+act_behind (Hio a, m, StatusStored unit channel) x y h = refl
+act_behind t x y h = refl
+
+behind : (t : Exchange) (x y : List Exchange) → Alike x y → Alike (t ∷ x) (t ∷ y)
+behind t x y h = record {
+  ahead = units_behind t x y h.ahead;
+  script = ap (λ n. where_over n [] (turns_of t ++ script_ahead x)) (units_behind t x y h.ahead) ∙ ap (λ s. where_over (units_ahead (t ∷ y)) [] (turns_of t ++ s)) h.script;
+  ends = fate_behind t x y h.ends;
+  does = ap (λ a. a ++ acts x) (act_behind t x y h) ∙ ap (λ a. acts_of t y ++ a) h.does;
+}
+
+all_behind : (z x y : List Exchange) → Alike x y → Alike (z ++ x) (z ++ y)
+all_behind [] x y h = h
+all_behind (t ∷ z) x y h = behind t (z ++ x) (z ++ y) (all_behind z x y h)
+
+-- What changed nothing.
+
+no : {P : Type 0} → false ≡ true → P
+no h = absurd (cc)
+
+gone : (x : List Exchange) → (t : Exchange) → units_ahead (t ∷ x) ≡ units_ahead x → turns_of t ≡ [] → fate_ahead (t ∷ x) ≡ fate_ahead x → acts_of t x ≡ [] → Alike (t ∷ x) x
+gone x t u s f a = record {
+  ahead = u;
+  script = ap (λ n. where_over n [] (turns_of t ++ script_ahead x)) u ∙ ap (λ l. where_over (units_ahead x) [] (l ++ script_ahead x)) s ∙ sym (same_script x);
+  ends = f;
+  does = ap (λ l. l ++ acts x) a;
+}
+
+left_out : (t : Exchange) (x : List Exchange) → changes_nothing t ≡ true → Alike (t ∷ x) x
+left_out (Sio a, m, Condition One) x h = gone x (Sio a, m, Condition One) refl refl refl refl
+left_out (Sio a, m, Condition Two) x h = gone x (Sio a, m, Condition Two) refl refl refl refl
+left_out (Sio a, m, Condition Three) x h = gone x (Sio a, m, Condition Three) refl refl refl refl
+left_out (Tio a, m, Condition n) x h = gone x (Tio a, m, Condition n) refl refl refl refl
+left_out (Hio a, m, Condition Zero) x h = gone x (Hio a, m, Condition Zero) refl refl refl refl
+left_out (Hio a, m, Condition One) x h = gone x (Hio a, m, Condition One) refl refl refl refl
+left_out (Hio a, m, Condition Three) x h = gone x (Hio a, m, Condition Three) refl refl refl refl
+left_out (Tch, m, r) x h = go r
+  where
+    go : (r : Answer) → Alike ((Tch, m, r) ∷ x) x
+    go (Condition n) = gone x (Tch, m, Condition n) refl refl refl refl
+    go (StatusStored a b) = gone x (Tch, m, StatusStored a b) refl refl refl refl
+    go (CswStored c) = gone x (Tch, m, CswStored c) refl refl refl refl
+    go (Stepped k) = gone x (Tch, m, Stepped k) refl refl refl refl
+    go (HasArrived b) = gone x (Tch, m, HasArrived b) refl refl refl refl
+    go (Interrupted i) = gone x (Tch, m, Interrupted i) refl refl refl refl
+    go (WasReset w) = gone x (Tch, m, WasReset w) refl refl refl refl
+    go (WasKept b) = gone x (Tch, m, WasKept b) refl refl refl refl
+    go (Shown s) = gone x (Tch, m, Shown s) refl refl refl refl
+left_out (StepBy k, m, Stepped zero) x h = gone x (StepBy k, m, Stepped zero) (zero-add (units_ahead x)) (none k m) refl refl
+  where
+    none : (k : ℕ) (m : Option FaultAfter) → units_with 0 m ≡ []
+    none k None = refl
+    none k (Some y) = refl
+left_out (Arrive a, m, HasArrived false) x h = gone x (Arrive a, m, HasArrived false) refl refl refl refl
+left_out (Interrupt, m, Interrupted None) x h = gone x (Interrupt, m, Interrupted None) refl refl refl refl
+left_out (Store at bytes, m, WasKept false) x h = gone x (Store at bytes, m, WasKept false) refl refl refl refl
+left_out (SetKey at key, m, WasKept false) x h = gone x (SetKey at key, m, WasKept false) refl refl refl refl
+left_out (Show at len, m, r) x h = go r
+  where
+    go : (r : Answer) → Alike ((Show at len, m, r) ∷ x) x
+    go (Condition n) = gone x (Show at len, m, Condition n) refl refl refl refl
+    go (StatusStored a b) = gone x (Show at len, m, StatusStored a b) refl refl refl refl
+    go (CswStored c) = gone x (Show at len, m, CswStored c) refl refl refl refl
+    go (Stepped k) = gone x (Show at len, m, Stepped k) refl refl refl refl
+    go (HasArrived b) = gone x (Show at len, m, HasArrived b) refl refl refl refl
+    go (Interrupted i) = gone x (Show at len, m, Interrupted i) refl refl refl refl
+    go (WasReset w) = gone x (Show at len, m, WasReset w) refl refl refl refl
+    go (WasKept b) = gone x (Show at len, m, WasKept b) refl refl refl refl
+    go (Shown s) = gone x (Show at len, m, Shown s) refl refl refl refl
+left_out t x h = no h
+
+filtered : (list : List Exchange) → Alike (filter (λ t. not (changes_nothing t)) list) list
+filtered [] = same []
+filtered (t ∷ list) = go (changes_nothing t) refl (filtered list)
+  where
+    go : (b : Bool) → changes_nothing t ≡ b → Alike (filter (λ t. not (changes_nothing t)) list) list
+        → Alike (cond (not b) (t ∷ filter (λ t. not (changes_nothing t)) list) (filter (λ t. not (changes_nothing t)) list)) (t ∷ list)
+    go true h k = then k (back (left_out t list h))
+    go false h k = behind t _ list k
+
+-- Arrivals.
+
+arrival_gone : (t : Exchange) (x : List Exchange) → is_arrival t ≡ true → Alike (t ∷ x) x
+arrival_gone (Arrive a, m, r) x h = go r
+  where
+    go : (r : Answer) → Alike ((Arrive a, m, r) ∷ x) x
+    go (Condition n) = gone x (Arrive a, m, Condition n) refl refl refl refl
+    go (StatusStored b c) = gone x (Arrive a, m, StatusStored b c) refl refl refl refl
+    go (CswStored c) = gone x (Arrive a, m, CswStored c) refl refl refl refl
+    go (Stepped k) = gone x (Arrive a, m, Stepped k) refl refl refl refl
+    go (HasArrived b) = gone x (Arrive a, m, HasArrived b) refl refl refl refl
+    go (Interrupted i) = gone x (Arrive a, m, Interrupted i) refl refl refl refl
+    go (WasReset w) = gone x (Arrive a, m, WasReset w) refl refl refl refl
+    go (WasKept b) = gone x (Arrive a, m, WasKept b) refl refl refl refl
+    go (Shown s) = gone x (Arrive a, m, Shown s) refl refl refl refl
+arrival_gone t x h = no h
+
+abbrev AreArrivals : List Exchange → Type 0
+AreArrivals [] = Unit {0}
+AreArrivals (t ∷ rest) = (is_arrival t ≡ true) × AreArrivals rest
+
+one_more : (held : List Exchange) (t : Exchange) → AreArrivals held → is_arrival t ≡ true → AreArrivals (held ++ t ∷ [])
+one_more [] t h k = (k, tt)
+one_more (a ∷ held) t h k = (h.0, one_more held t h.1 k)
+
+held_gone : (held x : List Exchange) → AreArrivals held → Alike (held ++ x) x
+held_gone [] x h = same x
+held_gone (t ∷ held) x h = then (arrival_gone t (held ++ x) h.0) (held_gone held x h.1)
+
+held_alone : (held : List Exchange) → AreArrivals held → Alike held []
+held_alone held h = subst (λ l. Alike l []) (append-nil held) (held_gone held [] h)
+
+first_true : (a b : Bool) → (a && b) ≡ true → a ≡ true
+first_true true b h = refl
+first_true false b h = no h
+
+shifted : (list : List Exchange) (inside : Bool) (held : List Exchange) → AreArrivals held → Alike (arrivals_last inside held list) list
+shifted [] inside held h = held_alone held h
+shifted (t ∷ rest) inside held h = go (is_arrival t && (inside && steps_ahead rest)) (is_step t && not (steps_ahead rest)) refl
+    (λ held h. shifted rest inside held h) (shifted rest false [] tt) (shifted rest (is_step t || (inside && not (is_between t))) held h)
+  where
+    go : (b c : Bool) → (is_arrival t && (inside && steps_ahead rest)) ≡ b
+        → ((held : List Exchange) → AreArrivals held → Alike (arrivals_last inside held rest) rest)
+        → Alike (arrivals_last false [] rest) rest → Alike (arrivals_last (is_step t || (inside && not (is_between t))) held rest) rest
+        → Alike (cond b (arrivals_last inside (held ++ t ∷ []) rest) (cond c (t ∷ (held ++ arrivals_last false [] rest)) (t ∷ arrivals_last (is_step t || (inside && not (is_between t))) held rest))) (t ∷ rest)
+    go true c e k l n = let a = first_true (is_arrival t) _ e in then (k (held ++ t ∷ []) (one_more held t h a)) (back (arrival_gone t rest a))
+    go false true e k l n = behind t _ rest (then (held_gone held _ h) l)
+    go false false e k l n = behind t _ rest n
+
+-- Steps.
+
+two_steps : (a b : ℕ) (x : List Exchange) → Alike (whole_step a ∷ whole_step b ∷ x) (whole_step (a + b) ∷ x)
+two_steps a b x = record {
+  ahead = more a b (units_ahead x);
+  script = go (units_ahead x) (units_ahead x) refl (script_ahead x) (λ h. quiet_script x h);
+  ends = refl;
+  does = refl;
+}
+  where
+    more : (a b n : ℕ) → a + (b + n) ≡ a + b + n
+    more a b n = omega arith
+
+    go : (n k : ℕ) → n ≡ k → (s : Script) → (n ≡ 0 → s ≡ [])
+        → where_over (a + (b + n)) [] (units a ++ where_over (b + n) [] (units b ++ s))
+        ≡ where_over (a + b + n) [] (units (a + b) ++ s)
+    go n k e s h = ap (λ l. where_over (a + (b + n)) [] (units a ++ l)) (sym (opened b n s h)) ∙ ap (λ k. where_over k [] (units a ++ (units b ++ s))) (more a b n)
+        ∙ ap (λ l. where_over (a + b + n) [] l) (sym (append_assoc (units a) (units b) s) ∙ ap (λ l. l ++ s) (plain_two a b))
+      where
+        opened : (b n : ℕ) (s : Script) → (n ≡ 0 → s ≡ []) → units b ++ s ≡ where_over (b + n) [] (units b ++ s)
+        opened b n s h = cases (b + n) refl
+          where
+            cases : (k : ℕ) → b + n ≡ k → units b ++ s ≡ where_over k [] (units b ++ s)
+            cases (suc k) e = refl
+            cases zero e = let z : b ≡ 0 = omega (arith, e) in ap (λ b. units b ++ s) z ∙ h (omega (arith, e))
+
+no_step : (x : List Exchange) → Alike (whole_step 0 ∷ x) x
+no_step x = left_out (whole_step 0) x refl
+
+many : (q n : ℕ) (x : List Exchange) → Alike (replicate q (whole_step n) ++ x) (whole_step (q * n) ∷ x)
+many zero n x = subst (λ k. Alike x (whole_step k ∷ x)) (nothing n) (back (no_step x))
+  where
+    nothing : (n : ℕ) → 0 ≡ 0 * n
+    nothing n = omega arith
+many (suc q) n x = subst (λ k. Alike (replicate (suc q) (whole_step n) ++ x) (whole_step k ∷ x)) (next q n) (then (behind (whole_step n) _ _ (many q n x)) (two_steps n (q * n) x))
+  where
+    next : (q n : ℕ) → n + q * n ≡ suc q * n
+    next q n = grind arith
+
+steps_alike : (n : ℕ) (x : List Exchange) → Alike (steps_of n ++ x) (whole_step n ∷ x)
+steps_alike n x = go (n % 65535 == 0) refl
+  where
+    whole : (n : ℕ) → n / 65535 * 65535 + n % 65535 ≡ n
+    whole n = omega arith
+
+    even : (n : ℕ) → n % 65535 ≡ 0 → n / 65535 * 65535 ≡ n
+    even n h = omega arith
+
+    go : (b : Bool) → (n % 65535 == 0) ≡ b → Alike ((replicate (n / 65535) (whole_step 65535) ++ cond b [] (whole_step (n % 65535) ∷ [])) ++ x) (whole_step n ∷ x)
+    go true h = subst (λ l. Alike (l ++ x) (whole_step n ∷ x)) (sym (append-nil (replicate (n / 65535) (whole_step 65535))))
+        (subst (λ k. Alike (replicate (n / 65535) (whole_step 65535) ++ x) (whole_step k ∷ x)) (even n (eqb-true _ _ h)) (many (n / 65535) 65535 x))
+    go false h = subst (λ l. Alike l (whole_step n ∷ x)) (sym (append_assoc (replicate (n / 65535) (whole_step 65535)) (whole_step (n % 65535) ∷ []) x))
+        (subst (λ k. Alike (replicate (n / 65535) (whole_step 65535) ++ (whole_step (n % 65535) ∷ x)) (whole_step k ∷ x)) (whole n)
+        (then (many (n / 65535) 65535 (whole_step (n % 65535) ∷ x)) (two_steps (n / 65535 * 65535) (n % 65535) x)))
+
+plain_step : (k d : ℕ) (m : Option FaultAfter) (x : List Exchange) → m ≡ None → Alike (whole_step d ∷ x) ((StepBy k, m, Stepped d) ∷ x)
+plain_step k d m x h = subst (λ m. Alike (whole_step d ∷ x) ((StepBy k, m, Stepped d) ∷ x)) (sym h) (record { ahead = refl; script = refl; ends = refl; does = refl })
+
+joined : (list : List Exchange) (n : ℕ) → ArePlain list → Alike (steps_joined n list) (whole_step n ∷ list)
+joined [] n h = subst (λ l. Alike l (whole_step n ∷ [])) (append-nil (steps_of n)) (steps_alike n [])
+joined ((StepBy k, m, Stepped d) ∷ rest) n h =
+    then (joined rest (n + d) h.1) (then (back (two_steps n d rest)) (behind (whole_step n) _ _ (plain_step k d m rest h.0)))
+joined (t ∷ rest) n h =
+    then (steps_alike n (t ∷ steps_joined 0 rest)) (behind (whole_step n) _ _ (behind t _ _ (then (joined rest 0 h.1) (no_step rest))))
+
+plain_filter : (p : Exchange → Bool) (list : List Exchange) → ArePlain list → ArePlain (filter p list)
+plain_filter p [] h = tt
+plain_filter p (t ∷ list) h = go (p t) (plain_filter p list h.1)
+  where
+    go : (b : Bool) → ArePlain (filter p list) → ArePlain (cond b (t ∷ filter p list) (filter p list))
+    go true k = (h.0, k)
+    go false k = k
+
+plain_append : (x y : List Exchange) → ArePlain x → ArePlain y → ArePlain (x ++ y)
+plain_append [] y h k = k
+plain_append (t ∷ x) y h k = (h.0, plain_append x y h.1 k)
+
+plain_last : (list : List Exchange) (inside : Bool) (held : List Exchange) → ArePlain held → ArePlain list → ArePlain (arrivals_last inside held list)
+plain_last [] inside held h k = h
+plain_last (t ∷ rest) inside held h k = go (is_arrival t && (inside && steps_ahead rest)) (is_step t && not (steps_ahead rest))
+    (plain_last rest inside (held ++ t ∷ []) (plain_append held (t ∷ []) h (k.0, tt)) k.1) (plain_last rest false [] tt k.1) (plain_last rest (is_step t || (inside && not (is_between t))) held h k.1)
+  where
+    go : (b c : Bool) → ArePlain (arrivals_last inside (held ++ t ∷ []) rest) → ArePlain (arrivals_last false [] rest) → ArePlain (arrivals_last (is_step t || (inside && not (is_between t))) held rest)
+        → ArePlain (cond b (arrivals_last inside (held ++ t ∷ []) rest) (cond c (t ∷ (held ++ arrivals_last false [] rest)) (t ∷ arrivals_last (is_step t || (inside && not (is_between t))) held rest)))
+    go true c x y z = x
+    go false true x y z = (k.0, plain_append held _ h y)
+    go false false x y z = (k.0, z)
+
+pub same_acts : SameActs
+same_acts list h =
+    let left = filter (λ t. not (changes_nothing t)) list in
+    let plain = plain_last left false [] tt (plain_filter (λ t. not (changes_nothing t)) list h) in
+    let all = then (joined (arrivals_last false [] left) 0 plain) (then (no_step (arrivals_last false [] left)) (then (shifted left false [] tt) (filtered list))) in
+    all.does

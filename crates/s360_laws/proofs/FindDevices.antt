@@ -1,0 +1,120 @@
+-- Numbers, tests and devices that are found by their addresses.
+use Rattle.std.proofs.Common.{◌≡◌, ℕ, ◌+◌, ◌*◌, refl, sym, ap, ◌∙◌, arith, true, false, Bool, cond, ◌==◌, List, [], ◌∷◌, map, Option, Some, None}
+use Rattle.std.proofs.lemmas.Bool.{eq-eqb, eqb-true, eqb-false}
+use Rattle.std.specs.Prelude.{find, option_map}
+use Rattle.ckd_drive.specs.Drive.{Drive}
+use Rattle.s360_laws.specs.Machine.{Device, Machine, address_of, device_at}
+use Rattle.s360_laws.specs.Soundness.{AreDistinct}
+use Rattle.s360_laws.specs.declared.arm.Arm.{Arm}
+
+-- Numbers and tests.
+
+pub different : (a b : ℕ) → (a ≡ b → ⊥) → (a == b) ≡ false
+different a b f = go (a == b) refl
+  where
+    go : (c : Bool) → (a == b) ≡ c → (a == b) ≡ false
+    go true h = absurd (f (eqb-true a b h))
+    go false h = h
+
+pub add_same : (n x y : ℕ) → (256 * n + x == 256 * n + y) ≡ (x == y)
+add_same n x y = go (x == y) refl
+  where
+    back : (n x y : ℕ) → 256 * n + x ≡ 256 * n + y → x ≡ y
+    back n x y e = omega arith
+
+    go : (b : Bool) → (x == y) ≡ b → (256 * n + x == 256 * n + y) ≡ b
+    go true h = eq-eqb _ _ (ap (λ k. 256 * n + k) (eqb-true x y h))
+    go false h = different _ _ (λ e. eqb-false x y h (back n x y e))
+
+pub no : {P : Type 0} → false ≡ true → P
+no h = absurd (cc)
+
+-- Finding units.
+
+abbrev pub Has : (Device → Bool) → Option Device → Type 0
+Has p None = Unit {0}
+Has p (Some v) = p v ≡ true
+
+pub has_found : (p : Device → Bool) (vs : List Device) → Has p (find p vs)
+has_found p [] = tt
+has_found p (v ∷ vs) = go (p v) refl (has_found p vs)
+  where
+    go : (b : Bool) → p v ≡ b → Has p (find p vs) → Has p (cond b (Some v) (find p vs))
+    go true h k = h
+    go false h k = k
+
+pub found_same : (n d : ℕ) (vs : List Device) → find (λ v. 256 * n + v.device == 256 * n + d) vs ≡ find (λ v. v.device == d) vs
+found_same n d [] = refl
+found_same n d (v ∷ vs) = ap (λ b. cond b (Some v) (find (λ v. 256 * n + v.device == 256 * n + d) vs)) (add_same n v.device d) ∙ ap (λ r. cond (v.device == d) (Some v) r) (found_same n d vs)
+
+-- a change of units that keeps their devices
+abbrev pub Keeps : (Device → Device) → Type 0
+Keeps g = (v : Device) → (g v).device ≡ v.device
+
+pub found_map : (p : ℕ → Bool) (g : Device → Device) → Keeps g → (vs : List Device) → find (λ w. p w.device) (map g vs) ≡ option_map g (find (λ w. p w.device) vs)
+found_map p g k [] = refl
+found_map p g k (v ∷ vs) = ap (λ d. cond (p d) (Some (g v)) (find (λ w. p w.device) (map g vs))) (k v) ∙ go (p v.device) (found_map p g k vs)
+  where
+    go : (b : Bool) {x : Option Device} → x ≡ option_map g (find (λ w. p w.device) vs) → cond b (Some (g v)) x ≡ option_map g (cond b (Some v) (find (λ w. p w.device) vs))
+    go true h = refl
+    go false h = h
+
+pub distinct_map : (g : Device → Device) → Keeps g → (vs : List Device) → AreDistinct vs → AreDistinct (map g vs)
+distinct_map g k [] h = tt
+distinct_map g k (v ∷ vs) h =
+    (ap (λ d. find (λ w. w.device == d) (map g vs)) (k v) ∙ found_map (λ d. d == v.device) g k vs ∙ ap (option_map g) h.0, distinct_map g k vs h.1)
+
+abbrev pub set_arm : Arm → Device → Device
+set_arm arm v = record v { arm = arm }
+
+abbrev pub set_both : Arm → Drive → Device → Device
+set_both arm d v = record v { arm = arm; drive = d }
+
+abbrev pub set_drive : Drive → Device → Device
+set_drive d v = record v { drive = d }
+
+pub keeps_one : (d : ℕ) (f : Device → Device) → Keeps f → Keeps (λ v. cond (v.device == d) (f v) v)
+keeps_one d f k v = go (v.device == d)
+  where
+    go : (b : Bool) → (cond b (f v) v).device ≡ v.device
+    go true = k v
+    go false = refl
+
+-- the unit of an address, after a change of one device
+pub unit_after : (n d u : ℕ) (f : Device → Device) → Keeps f → (vs : List Device)
+    → find (λ v. 256 * n + v.device == u) (map (λ v. cond (v.device == d) (f v) v) vs)
+    ≡ cond (256 * n + d == u) (option_map f (find (λ v. 256 * n + v.device == u) vs)) (find (λ v. 256 * n + v.device == u) vs)
+unit_after n d u f k vs = found_map (λ d. 256 * n + d == u) _ (keeps_one d f k) vs ∙ go (find (λ v. 256 * n + v.device == u) vs) (has_found (λ v. 256 * n + v.device == u) vs)
+  where
+    same_test : (v : Device) → (256 * n + v.device == u) ≡ true → (v.device == d) ≡ (256 * n + d == u)
+    same_test v h = sym (add_same n v.device d) ∙ ap (λ k. k == 256 * n + d) (eqb-true _ _ h) ∙ turn u (256 * n + d)
+      where
+        turn : (a b : ℕ) → (a == b) ≡ (b == a)
+        turn a b = go (b == a) refl
+          where
+            go : (c : Bool) → (b == a) ≡ c → (a == b) ≡ c
+            go true h = eq-eqb _ _ (sym (eqb-true b a h))
+            go false h = different _ _ (λ e. eqb-false b a h (sym e))
+
+    both : (b : Bool) (x y : Device) → Some (cond b x y) ≡ cond b (Some x) (Some y)
+    both true x y = refl
+    both false x y = refl
+
+    none : (b : Bool) → ◌≡◌ {A = Option Device} None (cond b None None)
+    none true = refl
+    none false = refl
+
+    go : (x : Option Device) → Has (λ v. 256 * n + v.device == u) x → option_map (λ v. cond (v.device == d) (f v) v) x ≡ cond (256 * n + d == u) (option_map f x) x
+    go None h = none (256 * n + d == u)
+    go (Some v) h = ap (λ b. Some (cond b (f v) v)) (same_test v h) ∙ both (256 * n + d == u) (f v) v
+
+-- the device of an address
+abbrev pub device_for : Machine → ℕ → Option Device
+device_for m u = find (λ d. address_of m d.device == u) m.devices
+
+-- the unit at an address, by its device
+pub at_device : (m : Machine) (d u : ℕ) (y : Option Device) → address_of m d ≡ u → device_at m d ≡ y → device_for m u ≡ y
+at_device m d u y e h = ap (device_for m) (sym e) ∙ found_same m.channel d m.devices ∙ h
+
+pub device_of : (m : Machine) (d : ℕ) → device_at m d ≡ device_for m (address_of m d)
+device_of m d = sym (found_same m.channel d m.devices)

@@ -1,0 +1,261 @@
+-- Without a fault no event tells of one; and a reset tells a track only where the program had written it.
+use Rattle.std.proofs.Common.{◌≡◌, ℕ, zero, suc, ◌/◌, ◌%◌, refl, sym, ap, subst, ◌∙◌, true, false, Bool, cond, ◌==◌, [], ◌∷◌, ◌++◌, map, Option, Some, None, append-nil}
+use Rattle.std.proofs.lemmas.Bool.{eqb-true}
+use Rattle.std.specs.Prelude.{find, filter, option_map, is_some}
+use Rattle.s360_words.specs.Storage.{Storage, Change, Bytes, KeyOf, is_within}
+use Rattle.s360_words.specs.Words.{caw_of}
+use Rattle.s360_words.specs.declared.words.Caw.{Caw}
+use Rattle.s360_words.specs.declared.words.Csw.{Csw}
+use Rattle.ckd_drive.specs.Drive.{Drive, tells_equipment_check}
+use Rattle.s360_program.specs.Endings.{Outcome, Ended, Ending, NotEnded}
+use Rattle.s360_program.specs.Faults.{without_faults}
+use Rattle.s360_program.specs.Runs.{Start, run, run_from, start_point}
+use Rattle.s360_program.specs.Scripts.{Script, OneUnit, Outside, TakesInterruption, units}
+use Rattle.s360_program.specs.Starts.{First, BadStart, RejectedStart, ImmediateStart, AcceptedStart, first}
+use Rattle.s360_program.specs.Units.{Between, walk, Walk, StandsIn, EndsWith, outcome_of, standing_in}
+use Rattle.s360_program.specs.Unsaved.{GainsNoCheck, TellsNoFault, OutcomeTellsNoFault, FirstTellsNoFault}
+use Rattle.s360_program.proofs.FaultsMet.{goes_on_without_faults}
+use Rattle.s360_program.proofs.UnsavedTracks.{no_fault_nothing_told, unsaved_was_written}
+use Rattle.s360_program.proofs.Walks.{run_walk}
+use Rattle.s360_laws.specs.Events.{Answer, Event, StepBy, Condition, Hio, WasReset, Reset, Sio, Tio, Tch, Arrive, HasArrived, Interrupt, Store, WasKept, SetKey, Show}
+use Rattle.s360_laws.specs.History.{Runs}
+use Rattle.s360_laws.specs.Machine.{cut, Device, Machine, device_at, arm_after, started, start_device, test_device, test_io, tested, with_arm, with_ending, stepped, start_of, react, Subchannel, Idle, Pending, Working, run_of, unsaved_at, address_of, all_at_rest, at_rest, arrive, is_in_motion, has_arrived, lowest, interrupt_device, interrupt_program, asked_by, change, keep, fault_in, halt_io}
+use Rattle.s360_laws.specs.NothingTold.{TellsNoTrack, NoneGainsCheck, NoFaultNoneTold, HadWritten, ResetTellsWritten}
+use Rattle.s360_laws.specs.Soundness.{IsRunning}
+use Rattle.s360_laws.specs.declared.arm.Arm.{Arm}
+use Rattle.s360_laws.specs.declared.arm.Arm.TheVariants.{AtRest, InMotion, Arrived}
+use Rattle.s360_laws.specs.declared.condition.ConditionCode.TheVariants.{Zero, Two, Three}
+use Rattle.s360_laws.proofs.FindDevices.{Keeps, found_map, keeps_one, Has, has_found, set_arm, set_both, set_drive}
+use Rattle.s360_laws.proofs.Shapes.{working}
+use Rattle.s360_laws.proofs.StepLaws.{run_at, the_unit}
+
+-- Changes of devices.
+
+abbrev Quietly : Option Device → Option Device → Type 0
+Quietly x y = (d e : Device) → x ≡ Some d → y ≡ Some e → GainsNoCheck d.drive e.drive
+
+the_device : (d e : Device) → Some d ≡ Some e → d ≡ e
+the_device d e h = cc
+
+same_devices : (x : Option Device) → Quietly x x
+same_devices x d e h k = subst (λ e. GainsNoCheck d.drive e.drive) (the_device d e (sym h ∙ k)) (λ q. q)
+
+-- where one device is changed, and gains nothing
+one_changed : (m : Machine) (d : ℕ) (f : Device → Device) → Keeps f → ((v : Device) → device_at m d ≡ Some v → GainsNoCheck v.drive (f v).drive)
+    → (n : ℕ) → Quietly (device_at m n) (find (λ w. w.device == n) (map (λ w. cond (w.device == d) (f w) w) m.devices))
+one_changed m d f k h n v e at after = subst (λ e. GainsNoCheck v.drive e.drive) changed (go (v.device == d) refl)
+  where
+    changed : cond (v.device == d) (f v) v ≡ e
+    changed = the_device _ _ (sym (ap (option_map (λ w. cond (w.device == d) (f w) w)) at) ∙ sym (found_map (λ b. b == n) _ (keeps_one d f k) m.devices) ∙ after)
+
+    is_n : (v.device == n) ≡ true
+    is_n = subst (Has (λ w. w.device == n)) at (has_found (λ w. w.device == n) m.devices)
+
+    go : (b : Bool) → (v.device == d) ≡ b → GainsNoCheck v.drive (cond b (f v) v).drive
+    go true e = h v (subst (λ n. device_at m n ≡ Some v) (sym (eqb-true v.device n is_n) ∙ eqb-true v.device d e) at)
+    go false e = λ q. q
+
+abbrev Calm : Machine → Answer × Machine → Type 0
+Calm m r = TellsNoTrack r.0 × NoneGainsCheck m r.1
+
+none_changed : (m : Machine) → NoneGainsCheck m m
+none_changed m n = same_devices (device_at m n)
+
+armed : (m : Machine) (arm : Arm) (d : ℕ) → NoneGainsCheck m (with_arm arm d m)
+armed m arm d = one_changed m d (set_arm arm) (λ v. refl) (λ v at q. q)
+
+ending_calm : (m : Machine) (d : ℕ) (st : Storage) (e : Ending) (v : Device) → device_at m d ≡ Some v → TellsNoFault v.drive e → NoneGainsCheck m (with_ending d st e m)
+ending_calm m d st e v at h = one_changed m d (set_both (arm_after e) e.drive) (λ w. refl) (λ w there. subst (λ w. GainsNoCheck w.drive e.drive) (the_device v w (sym at ∙ there)) h.no_check)
+
+-- Runs that have not ended.
+
+without_append : (script : Script) (k : ℕ) → without_faults script ++ units k ≡ without_faults (script ++ units k)
+without_append [] k = plain_units k
+  where
+    plain_units : (k : ℕ) → units k ≡ without_faults (units k)
+    plain_units zero = refl
+    plain_units (suc k) = ap (λ l. OneUnit None ∷ l) (plain_units k)
+without_append (OneUnit f ∷ rest) k = ap (λ l. OneUnit None ∷ l) (without_append rest k)
+without_append (Outside c ∷ rest) k = ap (λ l. Outside c ∷ l) (without_append rest k)
+without_append (TakesInterruption ∷ rest) k = ap (λ l. TakesInterruption ∷ l) (without_append rest k)
+
+-- over further units without a fault
+runs_calm : (s : Start) (script : Script) (k : ℕ) → IsRunning (Some (run script s)) → OutcomeTellsNoFault s.drive (run (script ++ units k) s)
+runs_calm s script k = go (run script s) refl
+  where
+    go : (o : Outcome) → run script s ≡ o → IsRunning (Some o) → OutcomeTellsNoFault s.drive (run (script ++ units k) s)
+    go (Ended used st e) h r = absurd r
+    go (NotEnded seen) h r =
+        subst (OutcomeTellsNoFault s.drive) (ap (λ l. run l s) (sym (without_append script k)) ∙ goes_on_without_faults s script seen h (units k))
+        (no_fault_nothing_told s (script ++ units k)).0
+
+stands_calm : (s : Start) (script : Script) → IsRunning (Some (run script s)) → OutcomeTellsNoFault s.drive (run script s)
+stands_calm s script r = subst (λ l. OutcomeTellsNoFault s.drive (run l s)) (append-nil script) (runs_calm s script 0 r)
+
+-- Events.
+
+start_calm : (m : Machine) (d : ℕ) (y : Option Device) → device_at m d ≡ y → Calm m (start_device d m y)
+start_calm m d None at = (tt, none_changed m)
+start_calm m d (Some v) at = by_arm v.arm
+  where
+    by_first : (f : First) → FirstTellsNoFault v.drive f → Calm m (started d m f)
+    by_first BadStart h = (tt, none_changed m)
+    by_first (RejectedStart drive) h = (tt, one_changed m d (set_drive drive) (λ w. refl) (λ w there. subst (λ w. GainsNoCheck w.drive drive) (the_device v w (sym at ∙ there)) h))
+    by_first (ImmediateStart e) h = (tt, ending_calm m d m.storage e v at h)
+    by_first AcceptedStart h = (tt, none_changed m)
+
+    by_arm : (arm : Arm) → Calm m (start_device d m (Some (set_arm arm v)))
+    by_arm InMotion = (tt, none_changed m)
+    by_arm Arrived = (tt, armed m AtRest d)
+    by_arm AtRest = by_first (first (start_of m v.drive)) (no_fault_nothing_told (start_of m v.drive) []).1
+
+test_calm : (m : Machine) (d : ℕ) (y : Option Device) → Calm m (test_device d m y)
+test_calm m d None = (tt, none_changed m)
+test_calm m d (Some v) = by_arm v.arm
+  where
+    by_arm : (arm : Arm) → Calm m (test_device d m (Some (set_arm arm v)))
+    by_arm InMotion = (tt, none_changed m)
+    by_arm Arrived = (tt, armed m AtRest d)
+    by_arm AtRest = (tt, none_changed m)
+
+either : (m : Machine) (b : Bool) (y z : Answer × Machine) → Calm m y → Calm m z → Calm m (cond b y z)
+either m true y z h k = h
+either m false y z h k = k
+
+on_this : (m : Machine) (a : ℕ) (r : Answer × Machine) → Calm m r → Calm m (cond (a / 256 == m.channel) r (Condition Three, m))
+on_this m a r h = either m (a / 256 == m.channel) r (Condition Three, m) h (tt, none_changed m)
+
+-- the program that runs
+abbrev OutcomeFor : Drive → Option Outcome → Type 0
+OutcomeFor d None = Unit {0}
+OutcomeFor d (Some o) = OutcomeTellsNoFault d o
+
+cut_calm : (m : Machine) (d : ℕ) (v : Device) → device_at m d ≡ Some v → (o : Option Outcome) → OutcomeFor v.drive o → NoneGainsCheck m (cut None d m o)
+cut_calm m d v at None h = none_changed m
+cut_calm m d v at (Some (Ended used st e)) h = ending_calm m d st e v at h
+cut_calm m d v at (Some (NotEnded seen)) h = ending_calm m d seen.storage (seen.cut None) v at h
+
+step_calm : (m : Machine) (d : ℕ) (s : Script) (k : ℕ) (v : Device) → device_at m d ≡ Some v → (o : Option Outcome) → OutcomeFor v.drive o → Calm m (stepped d s k m o)
+step_calm m d s k v at None h = (tt, none_changed m)
+step_calm m d s k v at (Some (Ended used st e)) h = (tt, ending_calm m d st e v at h)
+step_calm m d s k v at (Some (NotEnded seen)) h = (tt, none_changed m)
+
+told_calm : (m : Machine) (d : ℕ) (v : Device) (o : Option Outcome) → OutcomeFor v.drive o → unsaved_at (address_of m d) None o ≡ None
+told_calm m d v None h = refl
+told_calm m d v (Some (Ended used st e)) h = refl
+told_calm m d v (Some (NotEnded seen)) h = ap (option_map (λ t. (address_of m d, t.0, t.1))) h.saved
+
+-- at rest no sense tells anything
+rests_calm : (m n : Machine) → NoneGainsCheck m (all_at_rest n)
+rests_calm m n d v e at after = λ q. go (device_at n d) (sym (found_map (λ b. b == d) at_rest (λ w. refl) n.devices) ∙ after)
+  where
+    never : (P : Type 0) → None ≡ Some e → P
+    never P h = absurd (cc)
+
+    go : (y : Option Device) → option_map at_rest y ≡ Some e → tells_equipment_check e.drive.sense ≡ false
+    go None h = never _ h
+    go (Some w) h = subst (λ e. tells_equipment_check e.drive.sense ≡ false) (the_device (at_rest w) e h) refl
+
+arrive_calm : (m : Machine) (d : ℕ) (y : Option Device) → Calm m (arrive d m y)
+arrive_calm m d None = (tt, none_changed m)
+arrive_calm m d (Some v) = either m (is_in_motion v.arm) (HasArrived true, with_arm Arrived d m) (HasArrived false, m) (tt, armed m Arrived d) (tt, none_changed m)
+
+interrupts_calm : (m : Machine) (y : Option ℕ) → Calm m (interrupt_device m y)
+interrupts_calm m None = (tt, none_changed m)
+interrupts_calm m (Some d) = (tt, armed m AtRest d)
+
+asks_calm : (m : Machine) (d : ℕ) (s : Script) (y : Option Csw) → Calm m (interrupt_program d s m y)
+asks_calm m d s None = (tt, none_changed m)
+asks_calm m d s (Some csw) = (tt, none_changed m)
+
+kept_calm : (m : Machine) (c : Change) → Calm m (keep c m)
+kept_calm m c = either m (is_within c m.storage) (WasKept true, change c m m.subchannel) (WasKept false, m) (tt, go m.subchannel) (tt, none_changed m)
+  where
+    go : (s : Subchannel) → NoneGainsCheck m (change c m s)
+    go Idle = none_changed m
+    go (Working d s) = none_changed m
+    go (Pending p csw) = none_changed m
+
+-- of the run of the program that runs
+run_calm : (m : Machine) (d : ℕ) (s : Script) (k : ℕ) (v : Device) → device_at m d ≡ Some v → IsRunning (Some (run s (start_of m v.drive))) → OutcomeFor v.drive (run_of m d (s ++ units k))
+run_calm m d s k v at r = subst (OutcomeFor v.drive) (sym (run_at m d v (s ++ units k) at)) (runs_calm (start_of m v.drive) s k r)
+
+stand_calm : (m : Machine) (d : ℕ) (s : Script) (v : Device) → device_at m d ≡ Some v → IsRunning (Some (run s (start_of m v.drive))) → OutcomeFor v.drive (run_of m d s)
+stand_calm m d s v at r = subst (OutcomeFor v.drive) (sym (run_at m d v s at)) (stands_calm (start_of m v.drive) s r)
+
+abbrev with_sub : Machine → Subchannel → Machine
+with_sub m c = record m { subchannel = c }
+
+by_event : (m : Machine) (e : Event) (c : Subchannel) → Runs m c → Calm (with_sub m c) (react e None (with_sub m c))
+by_event m (Sio a) Idle r = on_this (with_sub m Idle) a (start_device (a % 256) (with_sub m Idle) (device_at m (a % 256))) (start_calm (with_sub m Idle) (a % 256) (device_at m (a % 256)) refl)
+by_event m (Sio a) (Working d s) r = on_this (working m d s) a (Condition Two, working m d s) (tt, none_changed (working m d s))
+by_event m (Sio a) (Pending p csw) r = on_this (with_sub m (Pending p csw)) a (Condition Two, with_sub m (Pending p csw)) (tt, none_changed m)
+by_event m (Tio a) Idle r = on_this (with_sub m Idle) a (test_device (a % 256) (with_sub m Idle) (device_at m (a % 256))) (test_calm (with_sub m Idle) (a % 256) (device_at m (a % 256)))
+by_event m (Tio a) (Working d s) r = on_this (working m d s) a (Condition Two, working m d s) (tt, none_changed m)
+by_event m (Tio a) (Pending p csw) r = on_this (with_sub m (Pending p csw)) a (test_io (a % 256) (with_sub m (Pending p csw)) (Pending p csw))
+    (either (with_sub m (Pending p csw)) (a % 256 == p) (tested csw (with_sub m Idle)) (Condition Two, with_sub m (Pending p csw)) (tt, none_changed m) (tt, none_changed m))
+by_event m (Hio a) Idle r = on_this (with_sub m Idle) a (halt_io None (a % 256) (with_sub m Idle) Idle) (either (with_sub m Idle) (is_some (device_at m (a % 256))) _ (Condition Three, with_sub m Idle) (tt, none_changed m) (tt, none_changed m))
+by_event m (Hio a) (Working d s) r =
+    let v = the_unit m d s (device_at m d) refl r in
+    on_this (working m d s) a (halt_io None (a % 256) (working m d s) (Working d s)) (tt, cut_calm (working m d s) d v.0 v.1 (run_of m d s) (stand_calm m d s v.0 v.1 v.2))
+by_event m (Hio a) (Pending p csw) r = on_this (with_sub m (Pending p csw)) a (Condition Zero, with_sub m (Pending p csw)) (tt, none_changed m)
+by_event m Tch c r = (tt, none_changed m)
+by_event m (StepBy k) Idle r = (tt, none_changed m)
+by_event m (StepBy k) (Working d s) r = let v = the_unit m d s (device_at m d) refl r in step_calm (working m d s) d s k v.0 v.1 (run_of m d (s ++ units k)) (run_calm m d s k v.0 v.1 v.2)
+by_event m (StepBy k) (Pending p csw) r = (tt, none_changed m)
+by_event m (Arrive a) c r = either (with_sub m c) (a / 256 == m.channel) (arrive (a % 256) (with_sub m c) (device_at m (a % 256))) (HasArrived false, with_sub m c) (arrive_calm (with_sub m c) (a % 256) (device_at m (a % 256))) (tt, none_changed m)
+by_event m Interrupt Idle r = interrupts_calm (with_sub m Idle) (lowest (filter has_arrived m.devices))
+by_event m Interrupt (Working d s) r = asks_calm (working m d s) d s (asked_by (run_of m d s))
+by_event m Interrupt (Pending p csw) r = (tt, none_changed m)
+by_event m Reset Idle r = (refl, rests_calm m (with_sub m Idle))
+by_event m Reset (Working d s) r = let v = the_unit m d s (device_at m d) refl r in (told_calm m d v.0 (run_of m d s) (stand_calm m d s v.0 v.1 v.2), rests_calm m (cut None d (working m d s) (run_of m d s)))
+by_event m Reset (Pending p csw) r = (refl, rests_calm m (with_sub m (Pending p csw)))
+by_event m (Store at bytes) c r = kept_calm (with_sub m c) (Bytes at bytes)
+by_event m (SetKey at key) c r = kept_calm (with_sub m c) (KeyOf at key)
+by_event m (Show at len) c r = (tt, none_changed m)
+
+pub no_fault_none_told : NoFaultNoneTold
+no_fault_none_told m e r = by_event m e m.subchannel r
+
+-- Resets that tell a track.
+
+told_some : (address : ℕ) (y : Option (ℕ × ℕ)) (track : ℕ × ℕ × ℕ) → WasReset (option_map (λ t. (address, t.0, t.1)) y) ≡ WasReset (Some track) → is_some y ≡ true
+told_some address None track h = absurd (cc)
+told_some address (Some t) track h = refl
+
+no_track : {P : Type 0} (track : ℕ × ℕ × ℕ) → WasReset None ≡ WasReset (Some track) → P
+no_track track h = absurd (cc)
+
+pub reset_tells_written : ResetTellsWritten
+reset_tells_written m x track h = go m.subchannel refl h
+  where
+    by_walk : (d : ℕ) (s : Script) (v : Device) (caw : Caw) → m.subchannel ≡ Working d s → device_at m d ≡ Some v → (w : Walk) → walk s caw.key (Between (start_point caw (start_of m v.drive))) ≡ w
+        → WasReset (unsaved_at (address_of m d) (fault_in x) (Some (outcome_of s caw.key w))) ≡ WasReset (Some track) → HadWritten m
+    by_walk d s v caw is at (EndsWith rest st e) k h = no_track track h
+    by_walk d s v caw is at (StandsIn g) k h = record {
+      device = d;
+      script = s;
+      worked = is;
+      drive = v;
+      is_there = at;
+      caw = caw;
+      phase = g;
+      stands = k;
+      written = (unsaved_was_written (start_of m v.drive) caw s g (fault_in x) k).1 (told_some (address_of m d) ((standing_in caw.key g).cut (fault_in x)).unsaved track h);
+    }
+
+    by_caw : (d : ℕ) (s : Script) (v : Device) → m.subchannel ≡ Working d s → device_at m d ≡ Some v → (c : Option Caw)
+        → WasReset (unsaved_at (address_of m d) (fault_in x) (Some (run_from s (start_of m v.drive) c))) ≡ WasReset (Some track) → HadWritten m
+    by_caw d s v is at None h = no_track track h
+    by_caw d s v is at (Some caw) h = by_walk d s v caw is at (walk s caw.key (Between (start_point caw (start_of m v.drive)))) refl
+        (ap (λ o. WasReset (unsaved_at (address_of m d) (fault_in x) (Some o))) (sym (run_walk (start_of m v.drive) caw s)) ∙ h)
+
+    by_device : (d : ℕ) (s : Script) → m.subchannel ≡ Working d s → (y : Option Device) → device_at m d ≡ y
+        → WasReset (unsaved_at (address_of m d) (fault_in x) (option_map (λ v. run s (start_of m v.drive)) y)) ≡ WasReset (Some track) → HadWritten m
+    by_device d s is None at h = no_track track h
+    by_device d s is (Some v) at h = by_caw d s v is at (caw_of (start_of m v.drive).caw) h
+
+    go : (c : Subchannel) → m.subchannel ≡ c → (react Reset x (record m { subchannel = c })).0 ≡ WasReset (Some track) → HadWritten m
+    go Idle is h = no_track track h
+    go (Pending p csw) is h = no_track track h
+    go (Working d s) is h = by_device d s is (device_at m d) refl h

@@ -1,0 +1,117 @@
+-- What a machine owes, and how an event keeps what is stored and what is owed in balance.
+use Rattle.std.proofs.Common.{◌≡◌, ℕ, ◌+◌, refl, sym, ap, ◌∙◌, arith, true, false, Bool, cond, ◌&&◌, ◌==◌, Option, Some, None, zero-add}
+use Rattle.std.proofs.lemmas.Bool.{eqb-true}
+use Rattle.std.specs.Prelude.{if◌then◌else◌, option_map}
+use Rattle.s360_words.specs.declared.flags.TheConstants.UnitStatus.{CHANNEL_END, DEVICE_END}
+use Rattle.s360_words.specs.declared.flags.UnitStatus.{UnitStatus}
+use Rattle.s360_program.specs.Status.{tells}
+use Rattle.s360_laws.specs.Events.{Exchange, Event, FaultAfter, Answer, Arrive, HasArrived}
+use Rattle.s360_laws.specs.Ledger.{is_reset, is_accepted, stores_end}
+use Rattle.s360_laws.specs.Machine.{Machine, Subchannel, Idle, Working, address_of, Pending, device_at, Device, with_arm, is_in_motion, arrive}
+use Rattle.s360_laws.specs.Soundness.{device_owes, AreDistinct, arm_owes}
+use Rattle.s360_laws.specs.declared.arm.Arm.{Arm}
+use Rattle.s360_laws.specs.declared.arm.Arm.TheVariants.{AtRest, Arrived, InMotion}
+use Rattle.s360_laws.proofs.FindDevices.{device_for, no, set_arm, unit_after, distinct_map, keeps_one, at_device, device_of}
+
+-- What a machine owes.
+
+-- whether the channel owes an end to an address: of a program that runs any, else what its CSW tells
+abbrev pub channel_owes : (end : UnitStatus) → (u : ℕ) → Machine → Subchannel → ℕ
+channel_owes end u m Idle = 0
+channel_owes end u m (Working device script) = if address_of m device == u then 1 else 0
+channel_owes end u m (Pending device csw) = if address_of m device == u && tells csw.unit end then 1 else 0
+
+abbrev pub owes_channel_end : ℕ → Machine → ℕ
+owes_channel_end u m = channel_owes CHANNEL_END u m m.subchannel
+
+abbrev pub owes_device_end : ℕ → Machine → ℕ
+owes_device_end u m = channel_owes DEVICE_END u m m.subchannel + device_owes (device_for m u)
+
+-- What each event owes.
+
+abbrev pub Rest : Machine → Subchannel → Type 0
+Rest m Idle = Unit {0}
+Rest m (Working d s) = device_owes (device_at m d) ≡ 0
+Rest m (Pending d csw) = (tells csw.unit CHANNEL_END ≡ true) × (cond (tells csw.unit DEVICE_END) 1 0 + device_owes (device_at m d) ≡ 1)
+
+abbrev pub due : ℕ → Exchange → ℕ → ℕ
+due u t n = cond (is_reset t) 0 (cond (is_accepted u t) 1 n)
+
+abbrev pub Balance : ℕ → Exchange → Machine → Machine → Type 0
+Balance u t m m_two =
+    (cond (stores_end CHANNEL_END u t) 1 0 + owes_channel_end u m_two ≡ due u t (owes_channel_end u m))
+    × (cond (stores_end DEVICE_END u t) 1 0 + owes_device_end u m_two ≡ due u t (owes_device_end u m))
+    × (is_accepted u t ≡ true → (owes_channel_end u m ≡ 0) × (owes_device_end u m ≡ 0))
+
+abbrev pub Fine : Machine → Event → Option FaultAfter → Answer × Machine → Type 0
+Fine m e x r = AreDistinct r.1.devices × Rest r.1 r.1.subchannel × ((u : ℕ) → Balance u (e, x, r.0) m r.1)
+
+pub either_fine : (m : Machine) (e : Event) (x : Option FaultAfter) (b : Bool) (y z : Answer × Machine) → (b ≡ true → Fine m e x y) → Fine m e x z → Fine m e x (cond b y z)
+either_fine m e x true y z f g = f refl
+either_fine m e x false y z f g = g
+
+-- nothing stored, nothing owed more or less
+pub nothing : {P : Type 0} (c d : ℕ) → (0 + c ≡ c) × (0 + d ≡ d) × (false ≡ true → P)
+nothing c d = (zero-add c, zero-add d, λ h. no h)
+
+-- a status without this end
+pub silent : (b : Bool) (c : ℕ) → cond (b && false) 1 0 + c ≡ c
+silent true c = zero-add c
+silent false c = zero-add c
+
+-- the device end of an arm, list
+pub clears : (b : Bool) (x : Option Device) → (b ≡ true → device_owes x ≡ 1) → cond (b && true) 1 0 + (0 + device_owes (cond b (option_map (set_arm AtRest) x) x)) ≡ 0 + device_owes x
+clears true None h = let e = h refl in omega arith
+clears true (Some v) h = let e = h refl in omega arith
+clears false x h = omega arith
+
+-- a change of one unit that owes the same
+pub same_owed : (f : Device → Device) (b : Bool) (x : Option Device) → (b ≡ true → device_owes (option_map f x) ≡ device_owes x) → device_owes (cond b (option_map f x) x) ≡ device_owes x
+same_owed f true x h = h refl
+same_owed f false x h = refl
+
+pub arm_set : (m : Machine) (arm : Arm) (d u : ℕ) → device_for (with_arm arm d m) u ≡ cond (address_of m d == u) (option_map (set_arm arm) (device_for m u)) (device_for m u)
+arm_set m arm d u = unit_after m.channel d u (set_arm arm) (λ v. refl) m.devices
+
+pub distinct_arm : (m : Machine) (arm : Arm) (d : ℕ) → AreDistinct m.devices → AreDistinct (with_arm arm d m).devices
+distinct_arm m arm d h = distinct_map _ (keeps_one d (set_arm arm) (λ v. refl)) m.devices h
+
+-- the device end of unit d is list, to address a
+pub device_end_told : (m : Machine) (d a u : ℕ) (v : Device) → device_at m d ≡ Some v → v.arm ≡ Arrived → address_of m d ≡ a
+    → cond ((a == u) && true) 1 0 + (0 + device_owes (device_for (with_arm AtRest d m) u)) ≡ 0 + device_owes (device_for m u)
+device_end_told m d a u v at arm e =
+    ap (λ y. cond ((a == u) && true) 1 0 + (0 + device_owes y)) (arm_set m AtRest d u ∙ ap (λ k. cond (k == u) (option_map (set_arm AtRest) (device_for m u)) (device_for m u)) e)
+    ∙ clears (a == u) (device_for m u) (λ h. ap device_owes (at_device m d u (Some v) (e ∙ eqb-true a u h) at) ∙ ap arm_owes arm)
+
+-- an arrival
+pub arrival_owes : (m : Machine) (d u : ℕ) (v : Device) → device_at m d ≡ Some v → is_in_motion v.arm ≡ true → device_owes (device_for (with_arm Arrived d m) u) ≡ device_owes (device_for m u)
+arrival_owes m d u v at h =
+    ap device_owes (arm_set m Arrived d u)
+    ∙ same_owed _ (address_of m d == u) (device_for m u) (λ b. let e = at_device m d u (Some v) (eqb-true _ _ b) at in ap (λ x. device_owes (option_map (set_arm Arrived) x)) e ∙ moves v.arm h ∙ sym (ap device_owes e))
+  where
+    moves : (arm : Arm) → is_in_motion arm ≡ true → 1 ≡ arm_owes arm
+    moves InMotion h = refl
+    moves AtRest h = no h
+    moves Arrived h = no h
+
+pub arrival_rest : (m : Machine) (c : Subchannel) (d : ℕ) (v : Device) → device_at m d ≡ Some v → is_in_motion v.arm ≡ true → Rest m c → Rest (with_arm Arrived d m) c
+arrival_rest m Idle d v at h r = tt
+arrival_rest m (Working p s) d v at h r = ap device_owes (device_of (with_arm Arrived d m) p) ∙ arrival_owes m d (address_of m p) v at h ∙ sym (ap device_owes (device_of m p)) ∙ r
+arrival_rest m (Pending p csw) d v at h r = (r.0, ap (λ n. cond (tells csw.unit DEVICE_END) 1 0 + n) (ap device_owes (device_of (with_arm Arrived d m) p) ∙ arrival_owes m d (address_of m p) v at h ∙ sym (ap device_owes (device_of m p))) ∙ r.1)
+
+pub arrive_fine : (m : Machine) (c : Subchannel) (a d : ℕ) (x : Option FaultAfter) (y : Option Device) → device_at m d ≡ y → AreDistinct m.devices → Rest m c → Fine (record m { subchannel = c }) (Arrive a) x (arrive d (record m { subchannel = c }) y)
+arrive_fine m c a d x None at ds r = (ds, rest_in c r, λ u. nothing _ _)
+  where
+    rest_in : (c : Subchannel) → Rest m c → Rest (record m { subchannel = c }) c
+    rest_in Idle r = r
+    rest_in (Working p s) r = r
+    rest_in (Pending p csw) r = r
+arrive_fine m c a d x (Some v) at ds r = go c r (is_in_motion v.arm) refl
+  where
+    go : (c : Subchannel) → Rest m c → (b : Bool) → is_in_motion v.arm ≡ b → Fine (record m { subchannel = c }) (Arrive a) x (cond b (HasArrived true, with_arm Arrived d (record m { subchannel = c })) (HasArrived false, record m { subchannel = c }))
+    go Idle r false h = (ds, tt, λ u. nothing _ _)
+    go (Working p s) r false h = (ds, r, λ u. nothing _ _)
+    go (Pending p csw) r false h = (ds, r, λ u. nothing _ _)
+    go Idle r true h = (distinct_arm m Arrived d ds, tt, λ u. (zero-add 0, zero-add _ ∙ ap (λ n. 0 + n) (arrival_owes m d u v at h), λ b. no b))
+    go (Working p s) r true h = (distinct_arm m Arrived d ds, arrival_rest m (Working p s) d v at h r, λ u. (zero-add _, zero-add _ ∙ ap (λ n. cond (address_of m p == u) 1 0 + n) (arrival_owes m d u v at h), λ b. no b))
+    go (Pending p csw) r true h = (distinct_arm m Arrived d ds, arrival_rest m (Pending p csw) d v at h r, λ u. (zero-add _, zero-add _ ∙ ap (λ n. cond (address_of m p == u && tells csw.unit DEVICE_END) 1 0 + n) (arrival_owes m d u v at h), λ b. no b))

@@ -1,0 +1,183 @@
+-- The units of a step, and the programs that end in one.
+use Rattle.std.proofs.Common.{◌≡◌, ℕ, zero, suc, ◌+◌, ◌-◌, ◌≤◌, refl, sym, ap, ◌∙◌, arith, [], ◌∷◌, ◌++◌, length, Option, Some, None}
+use Rattle.s360_words.specs.Storage.{Storage}
+use Rattle.ckd_drive.specs.Drive.{Fault}
+use Rattle.s360_program.specs.Endings.{Outcome, Ended, NotEnded, Ending, Standing}
+use Rattle.s360_program.specs.Faults.{without_faults}
+use Rattle.s360_program.specs.Runs.{Start, run}
+use Rattle.s360_program.specs.Scripts.{Script, units, Turn, units_in, OneUnit}
+use Rattle.s360_program.specs.Units.{Phase, StandsAt, walk, Walk, StandsIn, outcome_of, standing_in, EndsWith}
+use Rattle.s360_program.proofs.FaultsMet.{unmet_walk, same_outcome}
+use Rattle.s360_program.proofs.Standing.{stands_somewhere, ends_by, goes_by}
+use Rattle.s360_program.proofs.Walks.{exact, units_in_two}
+use Rattle.s360_laws.specs.Events.{FaultAfter}
+use Rattle.s360_laws.specs.Machine.{units_failing, units_with}
+use Rattle.s360_laws.specs.Soundness.{IsRunning}
+use Rattle.s360_laws.proofs.SeenDevices.{seen}
+
+-- The units of a step.
+
+plain_front : (k : ℕ) (front rest : Script) → units k ≡ front ++ rest → units (length front) ≡ front
+plain_front k [] rest h = refl
+plain_front zero (t ∷ front) rest h = absurd (no_list h)
+  where
+    no_list : [] ≡ t ∷ (front ++ rest) → ⊥
+    no_list h = cc
+plain_front (suc k) (t ∷ front) rest h = same_cons _ _ _ _ (head_of _ _ _ _ h) (plain_front k front rest (tail_of _ _ _ _ h))
+  where
+    head_of : (a b : Turn) (x y : Script) → a ∷ x ≡ b ∷ y → a ≡ b
+    head_of a b x y h = cc
+
+    tail_of : (a b : Turn) (x y : Script) → a ∷ x ≡ b ∷ y → x ≡ y
+    tail_of a b x y h = cc
+
+    same_cons : (a b : Turn) (x y : Script) → a ≡ b → x ≡ y → a ∷ x ≡ b ∷ y
+    same_cons a b x y p q = cc
+
+failing_front : (k b : ℕ) (f : Fault) (front rest : Script) → units_failing k b f ≡ front ++ rest → units_failing (length front) b f ≡ front
+failing_front k b f [] rest h = refl
+failing_front zero b f (t ∷ front) rest h = absurd (no_list h)
+  where
+    no_list : [] ≡ t ∷ (front ++ rest) → ⊥
+    no_list h = cc
+failing_front (suc k) zero f (t ∷ front) rest h = same_cons _ _ _ _ (head_of _ _ _ _ h) (plain_front k front rest (tail_of _ _ _ _ h))
+  where
+    head_of : (a b : Turn) (x y : Script) → a ∷ x ≡ b ∷ y → a ≡ b
+    head_of a b x y h = cc
+
+    tail_of : (a b : Turn) (x y : Script) → a ∷ x ≡ b ∷ y → x ≡ y
+    tail_of a b x y h = cc
+
+    same_cons : (a b : Turn) (x y : Script) → a ≡ b → x ≡ y → a ∷ x ≡ b ∷ y
+    same_cons a b x y p q = cc
+failing_front (suc k) (suc b) f (t ∷ front) rest h = same_cons _ _ _ _ (head_of _ _ _ _ h) (failing_front k b f front rest (tail_of _ _ _ _ h))
+  where
+    head_of : (a b : Turn) (x y : Script) → a ∷ x ≡ b ∷ y → a ≡ b
+    head_of a b x y h = cc
+
+    tail_of : (a b : Turn) (x y : Script) → a ∷ x ≡ b ∷ y → x ≡ y
+    tail_of a b x y h = cc
+
+    same_cons : (a b : Turn) (x y : Script) → a ≡ b → x ≡ y → a ∷ x ≡ b ∷ y
+    same_cons a b x y p q = cc
+
+pub units_front : (k : ℕ) (x : Option FaultAfter) (front rest : Script) → units_with k x ≡ front ++ rest → units_with (length front) x ≡ front
+units_front k None front rest h = plain_front k front rest h
+units_front k (Some x) front rest h = failing_front k x.units x.fault front rest h
+
+plain_count : (k : ℕ) → units_in (units k) ≡ k
+plain_count zero = refl
+plain_count (suc k) = let h = plain_count k in omega arith
+
+failing_count : (k b : ℕ) (f : Fault) → units_in (units_failing k b f) ≡ k
+failing_count zero b f = refl
+failing_count (suc k) zero f = let h = plain_count k in omega arith
+failing_count (suc k) (suc b) f = let h = failing_count k b f in omega arith
+
+pub units_count : (k : ℕ) (x : Option FaultAfter) → units_in (units_with k x) ≡ k
+units_count k None = plain_count k
+units_count k (Some x) = failing_count k x.units x.fault
+
+-- A program that runs stands somewhere.
+
+pub stood : (s : Start) (script : Script) → IsRunning (Some (run script s)) → (key : ℕ) × (g : Phase) × StandsAt s script key g
+stood s script r = go (run script s) refl r
+  where
+    go : (o : Outcome) → run script s ≡ o → IsRunning (Some o) → (key : ℕ) × (g : Phase) × StandsAt s script key g
+    go (Ended used st e) h r = absurd r
+    go (NotEnded seen) h r = let y = stands_somewhere s script seen h in (y.0, y.1, y.2)
+
+-- what ends after a script that did not has used its units
+pub used_most : (s : Start) (script more : Script) (key : ℕ) (g : Phase) (used : ℕ) (st : Storage) (e : Ending) → StandsAt s script key g
+    → run (script ++ more) s ≡ Ended used st e → units_in script ≤ used
+used_most s script more key g used st e h r = go (walk more key g) refl
+  where
+    used_of : Outcome → ℕ
+    used_of (Ended u a b) = u
+    used_of (NotEnded a) = 0
+
+    go : (w : Walk) → walk more key g ≡ w → units_in script ≤ used
+    go (StandsIn f) w = absurd (no (sym r ∙ h more ∙ ap (outcome_of (script ++ more) key) w))
+      where
+        no : Ended used st e ≡ NotEnded (standing_in key f) → ⊥
+        no q = cc
+    go (EndsWith rest st_two e_two) w =
+        let y = exact more key rest st_two e_two g w in
+        let q = sym (ap (outcome_of (script ++ more) key) w) ∙ sym (h more) ∙ r in
+        enough (units_in script) (units_in y.0) (units_in rest) (units_in more) _ used (ap units_in y.1 ∙ units_in_two y.0 rest) (units_in_two script more) (ap used_of q)
+      where
+        enough : (a f r u t used : ℕ) → u ≡ f + r → t ≡ a + u → t - r ≡ used → a ≤ used
+        enough a f r u t used p q w = omega arith
+
+-- A program that ended in a step ended at its last unit that counts.
+pub ended_there : (s : Start) (script : Script) (key : ℕ) (g : Phase) (k used : ℕ) (x : Option FaultAfter) (st : Storage) (e : Ending) → StandsAt s script key g
+    → run (script ++ units_with k x) s ≡ Ended used st e → run (script ++ units_with (used - units_in script) x) s ≡ Ended used st e
+ended_there s script key g k used x st e h r = go (walk (units_with k x) key g) refl
+  where
+    used_of : Outcome → ℕ
+    used_of (Ended u a b) = u
+    used_of (NotEnded a) = 0
+
+    other : (u : ℕ) (st_two : Storage) (e_two : Ending) → Ended u st_two e_two ≡ Ended used st e → Ended used st_two e_two ≡ Ended used st e
+    other u st_two e_two q = cc
+
+    go : (w : Walk) → walk (units_with k x) key g ≡ w → run (script ++ units_with (used - units_in script) x) s ≡ Ended used st e
+    go (StandsIn f) w = absurd (no (sym r ∙ h (units_with k x) ∙ ap (outcome_of (script ++ units_with k x) key) w))
+      where
+        no : Ended used st e ≡ NotEnded (standing_in key f) → ⊥
+        no q = cc
+    go (EndsWith rest st_two e_two) w =
+        let y = exact (units_with k x) key rest st_two e_two g w in
+        let q = sym (ap (outcome_of (script ++ units_with k x) key) w) ∙ sym (h (units_with k x)) ∙ r in
+        let front = units_front k x y.0 rest y.1 in
+        let count = ap units_in (sym front) ∙ units_count (length y.0) x in
+        let split = ap units_in y.1 ∙ units_in_two y.0 rest in
+        let both = units_in_two script (units_with k x) in
+        let ended = units_in_two script y.0 in
+        let now = same_use (units_in script) (units_in y.0) (units_in rest) (units_in (units_with k x)) _ used (length y.0) split both (ap used_of q) count in
+        ap (λ j. run (script ++ units_with j x) s) now.0 ∙ ap (λ l. run (script ++ l) s) front
+        ∙ ends_by s script y.0 key g st_two e_two h y.2
+        ∙ ap (λ u. Ended u st_two e_two) (ended ∙ now.1) ∙ other _ st_two e_two q
+      where
+        same_use : (a f r u t used l : ℕ) → u ≡ f + r → t ≡ a + u → t - r ≡ used → f ≡ l → (used - a ≡ l) × (a + f ≡ used)
+        same_use a f r u t used l p q w c = (omega arith, omega arith)
+
+-- A step that the program outlives has met no fault.
+
+plain_units : (k : ℕ) → without_faults (units k) ≡ units k
+plain_units zero = refl
+plain_units (suc k) = ap (λ l. OneUnit None ∷ l) (plain_units k)
+
+plain_failing : (k after : ℕ) (f : Fault) → without_faults (units_failing k after f) ≡ units k
+plain_failing zero after f = refl
+plain_failing (suc k) zero f = ap (λ l. OneUnit None ∷ l) (plain_units k)
+plain_failing (suc k) (suc after) f = ap (λ l. OneUnit None ∷ l) (plain_failing k after f)
+
+plain_step : (k : ℕ) (x : Option FaultAfter) → without_faults (units_with k x) ≡ units k
+plain_step k None = plain_units k
+plain_step k (Some x) = plain_failing k x.units x.fault
+
+-- so its run goes on as without the fault
+pub unmet : (s : Start) (script : Script) (key : ℕ) (g : Phase) (k : ℕ) (x : Option FaultAfter) (seen : Standing) → StandsAt s script key g → run (script ++ units_with k x) s ≡ NotEnded seen
+    → (more : Script) → run ((script ++ units k) ++ more) s ≡ run ((script ++ units_with k x) ++ more) s
+unmet s script key g k x seen st r more = go (walk (units_with k x) key g) refl
+  where
+    never : {A : Type 0} (u : ℕ) (st_two : Storage) (e : Ending) → Ended u st_two e ≡ NotEnded seen → A
+    never u st_two e h = absurd (cc)
+
+    counts : units_in ((script ++ units k) ++ more) ≡ units_in ((script ++ units_with k x) ++ more)
+    counts =
+        let a = units_in_two (script ++ units k) more in
+        let b = units_in_two script (units k) in
+        let c = units_in_two (script ++ units_with k x) more in
+        let d = units_in_two script (units_with k x) in
+        let e = units_count k x in
+        let f = plain_count k in
+        omega arith
+
+    go : (w : Walk) → walk (units_with k x) key g ≡ w → run ((script ++ units k) ++ more) s ≡ run ((script ++ units_with k x) ++ more) s
+    go (EndsWith rest st_two e) w = never _ _ _ (sym (ap (outcome_of (script ++ units_with k x) key) w) ∙ sym (st (units_with k x)) ∙ r)
+    go (StandsIn h) w =
+        goes_by s script (units k) key g h st (ap (λ l. walk l key g) (sym (plain_step k x)) ∙ unmet_walk (units_with k x) key g h w) more
+        ∙ same_outcome ((script ++ units k) ++ more) ((script ++ units_with k x) ++ more) key (walk more key h) counts
+        ∙ sym (goes_by s script (units_with k x) key g h st w more)

@@ -1,0 +1,122 @@
+-- The ledger: from events and answers alone, how often each device's channel end and device end were stored.
+use Rattle.std.specs.Prelude.{◌≡◌, ◌≤◌, ℕ, ◌+◌, ◌*◌, ◌/◌, ◌%◌, List, [], ◌∷◌, Bool, true, false, not, ◌&&◌, ◌||◌, ◌==◌, Option, Some, None, fold, if◌then◌else◌}
+use Rattle.s360_words.specs.declared.flags.TheConstants.UnitStatus.{CHANNEL_END, BUSY, DEVICE_END}
+use Rattle.s360_words.specs.declared.flags.UnitStatus.{UnitStatus}
+use Rattle.s360_words.specs.declared.words.Csw.{Csw}
+use Rattle.s360_program.specs.Status.{tells}
+use Rattle.s360_laws.specs.Events.{Exchange, Sio, Condition, StatusStored, Reset, Tio, CswStored, Interrupt, Interrupted, Input, FaultAfter, Tch}
+use Rattle.s360_laws.specs.Machine.{exchanges, Machine, react, after_all, is_working, Pending}
+use Rattle.s360_laws.specs.Soundness.{IsSound}
+use Rattle.s360_laws.specs.declared.condition.ConditionCode.TheVariants.{Zero, Two, Three, One}
+
+-- the address whose start was accepted: it runs, or it was over at once
+abbrev pub accepted : Exchange → Option ℕ
+accepted (Sio a, x, Condition Zero) = Some a
+accepted (Sio a, x, StatusStored unit channel) =
+    if tells unit CHANNEL_END && not (tells unit BUSY) then Some a else None
+accepted _ = None
+
+abbrev pub is_accepted : (address : ℕ) → Exchange → Bool
+is_accepted u t = is_for u (accepted t)
+  where
+    is_for : ℕ → Option ℕ → Bool
+    is_for u None = false
+    is_for u (Some a) = a == u
+
+abbrev pub is_reset : Exchange → Bool
+is_reset (Reset, x, answer) = true
+is_reset _ = false
+
+-- the address and the unit status that were stored
+abbrev pub stored_status : Exchange → Option (ℕ × UnitStatus)
+stored_status (Sio a, x, StatusStored unit channel) = Some (a, unit)
+stored_status (Tio a, x, CswStored csw) = Some (a, csw.unit)
+stored_status (Interrupt, x, Interrupted (Some i)) = Some (i.0, i.1.unit)
+stored_status _ = None
+
+-- whether this end, one bit of unit status, was stored for an address
+abbrev pub stores_end : (end : UnitStatus) → (address : ℕ) → Exchange → Bool
+stores_end end u t = is_for (stored_status t)
+  where
+    is_for : Option (ℕ × UnitStatus) → Bool
+    is_for None = false
+    is_for (Some s) = s.0 == u && tells s.1 end
+
+-- how often it was stored since the last acceptance for that address, or the last reset
+abbrev pub counted : (end : UnitStatus) → (address : ℕ) → ℕ → Exchange → ℕ
+counted end u n t = (if is_reset t || is_accepted u t then 0 else n) + (if stores_end end u t then 1 else 0)
+
+abbrev pub times_stored : (end : UnitStatus) → (address : ℕ) → List Exchange → ℕ
+times_stored end u exchanges = fold (counted end u) 0 exchanges
+
+-- what came last for an address: neither an acceptance nor a reset, an acceptance, or a reset
+pub data Since : Type 0 where
+  SinceBeginning : Since
+  SinceAcceptance : Since
+  SinceReset : Since
+
+abbrev pub later : (address : ℕ) → Since → Exchange → Since
+later u s t = if is_reset t then SinceReset else (if is_accepted u t then SinceAcceptance else s)
+
+abbrev pub since : (address : ℕ) → List Exchange → Since
+since u exchanges = fold (later u) SinceBeginning exchanges
+
+-- The laws of the ledger.
+
+-- Each end is stored at most once.
+abbrev pub AtMostOnce : Type 0
+AtMostOnce = (m : Machine) (es : List Input) (u : ℕ) → IsSound m →
+    (times_stored CHANNEL_END u (exchanges es m) ≤ 1) × (times_stored DEVICE_END u (exchanges es m) ≤ 1)
+
+-- Between two acceptances with no reset between, each end is stored exactly once.
+abbrev pub ExactlyOnce : Type 0
+ExactlyOnce = (m : Machine) (es : List Input) (e : Input) (u : ℕ) → IsSound m
+    → since u (exchanges es m) ≡ SinceAcceptance
+    → is_accepted u (e.0, e.1, (react e.0 e.1 (after_all es m)).0) ≡ true
+    → (times_stored CHANNEL_END u (exchanges es m) ≡ 1) × (times_stored DEVICE_END u (exchanges es m) ≡ 1)
+
+-- The channel end of a program comes not after its device end.
+abbrev pub ChannelEndFirst : Type 0
+ChannelEndFirst = (m : Machine) (es : List Input) (u : ℕ) → IsSound m → since u (exchanges es m) ≡ SinceAcceptance
+    → times_stored DEVICE_END u (exchanges es m) ≤ times_stored CHANNEL_END u (exchanges es m)
+
+-- After a reset nothing of an older program is stored.
+abbrev pub NoneAfterReset : Type 0
+NoneAfterReset = (m : Machine) (es : List Input) (u : ℕ) → IsSound m → since u (exchanges es m) ≡ SinceReset
+    → (times_stored CHANNEL_END u (exchanges es m) ≡ 0) × (times_stored DEVICE_END u (exchanges es m) ≡ 0)
+
+-- No start is accepted before the channel end of every accepted program is stored, or a reset has taken it away.
+abbrev pub StartsAfterChannelEnd : Type 0
+StartsAfterChannelEnd = (m : Machine) (es : List Input) (e : Input) (u v : ℕ) → IsSound m
+    → since u (exchanges es m) ≡ SinceAcceptance
+    → is_accepted v (e.0, e.1, (react e.0 e.1 (after_all es m)).0) ≡ true
+    → times_stored CHANNEL_END u (exchanges es m) ≡ 1
+
+-- While a program runs, Start I/O at the channel answers 2, at any other channel 3, and changes nothing.
+abbrev pub NoStartWhileWorking : Type 0
+NoStartWhileWorking = (m : Machine) (a : ℕ) (x : Option FaultAfter) → is_working m.subchannel ≡ true
+    → react (Sio a) x m ≡ (Condition (if a / 256 == m.channel then Two else Three), m)
+
+-- While the channel end of a program that ended is owed, no program starts and the next interruption gives it.
+
+abbrev pub HeldAnswer : (channel device : ℕ) → Csw → Exchange → Type 0
+HeldAnswer channel device csw (Sio a, x, answer) = a / 256 ≡ channel → answer ≡ Condition Two
+HeldAnswer channel device csw (Tio a, x, answer) = a / 256 ≡ channel → (a % 256 ≡ device → ⊥) → answer ≡ Condition Two
+HeldAnswer channel device csw (Tch, x, answer) = answer ≡ Condition One
+HeldAnswer channel device csw (Interrupt, x, answer) = answer ≡ Interrupted (Some (256 * channel + device, csw))
+HeldAnswer channel device csw _ = Unit {0}
+
+-- it is owed until it is stored, or a reset takes it away
+abbrev pub ends_holding : (address : ℕ) → Exchange → Bool
+ends_holding u t = is_reset t || stores_end CHANNEL_END u t
+
+-- over a list of events: each answer until then
+abbrev pub HeldAnswers : (channel device : ℕ) → Csw → List Exchange → Type 0
+HeldAnswers channel device csw [] = Unit {0}
+HeldAnswers channel device csw (t ∷ rest) =
+    HeldAnswer channel device csw t
+    × (ends_holding (256 * channel + device) t ≡ false → HeldAnswers channel device csw rest)
+
+abbrev pub HeldUntilStored : Type 0
+HeldUntilStored = (m : Machine) (device : ℕ) (csw : Csw) (es : List Input) → IsSound m
+    → m.subchannel ≡ Pending device csw → HeldAnswers m.channel device csw (exchanges es m)

@@ -1,0 +1,112 @@
+//! The laws of the serial machine. Each function here does nothing: what it ensures is a law of the definitions in
+//! `specs/`, which speak of every list of events, with or without faults of the store.
+
+ghost use Rattle.s360_laws.specs.Soundness.{StaysSound, IdleIsSound};
+ghost use Rattle.s360_laws.specs.Ledger.{AtMostOnce, ExactlyOnce, ChannelEndFirst, NoneAfterReset, StartsAfterChannelEnd, NoStartWhileWorking, HeldUntilStored};
+ghost use Rattle.s360_laws.specs.History.{IsSerial};
+ghost use Rattle.s360_laws.specs.Steps.{StepsAtMost, StepsJoin, StepsSplit, FaultEndsStep, FaultEndsHalt, FaultToldByReset, OthersMeetNone};
+ghost use Rattle.s360_laws.specs.NothingTold.{NoFaultNoneTold, ResetTellsWritten};
+ghost use Rattle.s360_laws.specs.SerialLists.{SameActs};
+
+/// A machine with no program, whose devices have distinct addresses, is sound.
+pub fn idle_is_sound()
+    ensures { IdleIsSound }
+{}
+
+/// Every event keeps a machine sound.
+pub fn stays_sound()
+    ensures { StaysSound }
+{}
+
+/// The channel end and the device end of each accepted program are stored at most once.
+pub fn ends_at_most_once()
+    ensures { AtMostOnce }
+{}
+
+/// Between two acceptances for one device, with no reset between, each is stored exactly once.
+pub fn ends_exactly_once()
+    ensures { ExactlyOnce }
+{}
+
+/// The channel end of a program comes not after its device end.
+pub fn channel_end_first()
+    ensures { ChannelEndFirst }
+{}
+
+/// After a reset nothing of an older program is stored.
+pub fn none_after_reset()
+    ensures { NoneAfterReset }
+{}
+
+/// No start is accepted, for any device, before the channel end of the program before it is stored or reset.
+pub fn starts_after_channel_end()
+    ensures { StartsAfterChannelEnd }
+{}
+
+/// While a program runs, Start I/O answers 2 to each device of the channel, and changes nothing.
+pub fn no_start_while_working()
+    ensures { NoStartWhileWorking }
+{}
+
+/// While the channel end of a program that ended is owed: Start I/O to each device, and Test I/O to each other device,
+/// answer 2, Test Channel 1, and the next interruption gives it; over every list of events until it is stored or reset.
+pub fn held_until_stored()
+    ensures { HeldUntilStored }
+{}
+
+/// Whenever no program runs, storage and drives are what the programs of the list make, each as one whole run, one
+/// after another.
+pub fn machine_is_serial()
+    ensures { IsSerial }
+{}
+
+/// A step does at most the units that it is asked for, and all of them where the program goes on.
+pub fn steps_at_most()
+    ensures { StepsAtMost }
+{}
+
+/// Two steps do what one step of all their units does.
+pub fn steps_join()
+    ensures { StepsJoin }
+{}
+
+/// And so do any number of steps.
+pub fn steps_split()
+    ensures { StepsSplit }
+{}
+
+/// A fault that a step meets ends the program in that unit, and the step answers the units up to it.
+pub fn fault_ends_step()
+    ensures { FaultEndsStep }
+{}
+
+/// A fault that Halt I/O meets is told by the CSW and the sense.
+pub fn fault_ends_halt()
+    ensures { FaultEndsHalt }
+{}
+
+/// A fault that a reset meets is told by its answer: the address, and the cylinder and head of the track that was not
+/// saved.
+pub fn fault_told_by_reset()
+    ensures { FaultToldByReset }
+{}
+
+/// No other event meets a fault.
+pub fn others_meet_none()
+    ensures { OthersMeetNone }
+{}
+
+/// An event that comes with no fault tells no track as not saved, and no device's sense gains equipment check.
+pub fn no_fault_none_told()
+    ensures { NoFaultNoneTold }
+{}
+
+/// A reset tells a track as not saved only where the program that it cuts had written it.
+pub fn reset_tells_written()
+    ensures { ResetTellsWritten }
+{}
+
+/// The acts of a serial list are the acts of the list.
+pub fn serial_list_has_same_acts()
+    ensures { SameActs }
+{}

@@ -1,0 +1,4 @@
+pub mod Volumes
+pub mod ChannelPrograms
+pub mod Seen
+pub mod Channels
