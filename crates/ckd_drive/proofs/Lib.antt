@@ -1,2 +1,17 @@
+pub mod Windows
+pub mod Caches
+pub mod Walks
+pub mod Sights
+pub mod Beginnings
+pub mod Standing
+pub mod Faults
+pub mod First
+pub mod Looks
+pub mod Moving
+pub mod Ends
+pub mod Settling
+pub mod Numbers
+pub mod Torn
+pub mod LostLooks
 pub mod CommandFacts
 pub mod Marks

@@ -1,5 +1,17 @@
-//! One drive: what a command is, as a change of the drive's state and of its volume.
+//! One drive over an image: a command, begun, looked for, given or taken in pieces of any length, and ended or cut, is
+//! one change of the drive's state.
 #![tactic(auto)]
 
+pub mod answers;
+mod beginning;
+mod buffer;
+mod cache;
+mod closing;
+pub mod drive;
+mod places;
+mod placing;
 pub mod registers;
+mod sight;
 pub mod steps;
+mod tables;
+mod trace;

@@ -1,0 +1,161 @@
+-- A command that has just found where its bytes stand.
+use Rattle.std.proofs.Common.{◌≡◌, ◌∙◌, ap, sym, subst, refl, ℕ, ◌+◌, ◌-◌, List, [], true, false, Some, None, length, arith}
+use Rattle.ckd_track.specs.Track.{track_of}
+use Rattle.ckd_image.specs.declared.geometry.Geometry.{Geometry}
+use Rattle.ckd_sense.specs.declared.commands.Command.{Command}
+use Rattle.ckd_sense.specs.declared.commands.Command.TheVariants as command
+use Rattle.ckd_drive.specs.declared.registers.Registers.{Registers}
+use Rattle.ckd_drive.specs.declared.steps.Aim.TheVariants.{NoArea}
+use Rattle.ckd_drive.specs.declared.steps.Action.{Action}
+use Rattle.ckd_drive.specs.declared.steps.Action.TheVariants as action
+use Rattle.ckd_drive.specs.declared.steps.Extent.TheVariants as extent
+use Rattle.ckd_drive.specs.declared.steps.Opened.{Opened}
+use Rattle.ckd_drive.specs.declared.steps.Sight.TheVariants.{Found}
+use Rattle.ckd_drive.specs.declared.places.Window.{Window}
+use Rattle.ckd_drive.specs.declared.places.Place.{Place}
+use Rattle.ckd_drive.specs.declared.places.Place.TheVariants.{Unfound, Sense, Field, Read, Search, Fill, Filled}
+use Rattle.ckd_drive.specs.Tables.{action_of, extent_of, aim}
+use Rattle.ckd_drive.specs.Commands.{Sighted, Closing, is_readable, sight, area_bytes, bytes_for, area_ends, length_after, length_for, closing, close_by, outcome}
+use Rattle.ckd_drive.specs.Buffer.{Lies}
+use Rattle.ckd_drive.specs.Cache.{CacheState}
+use Rattle.ckd_drive.specs.Half.{IsFirstPlace, IsPlaced, IsField, ReadsWhole, FieldAtHand, AtHand, field_size, slot_at}
+
+-- whether a command of this action works on an area
+abbrev pub NeedsArea : Action → Type 0
+NeedsArea action.Search = Unit {0}
+NeedsArea action.Read = Unit {0}
+NeedsArea action.WriteHomeAddress = Unit {0}
+NeedsArea action.Format = Unit {0}
+NeedsArea action.Update = Unit {0}
+NeedsArea _ = ⊥
+
+pub needs_area : (c : Command) → NeedsArea (action_of c) → aim c ≡ NoArea → ⊥
+needs_area command.NoOperation w e = absurd w
+needs_area command.Recalibrate w e = absurd w
+needs_area command.Seek w e = absurd w
+needs_area command.SeekCylinder w e = absurd w
+needs_area command.SeekHead w e = absurd w
+needs_area command.SetFileMask w e = absurd w
+needs_area command.Sense w e = absurd w
+needs_area _ w e = cc
+
+sense_extent : (c : Command) → action_of c ≡ action.GiveSense → extent_of c ≡ extent.Nothing
+sense_extent command.Sense e = refl
+sense_extent _ e = absurd cc
+
+-- what is at hand for a command that works on an area
+pub record Hand (c : CacheState) (n : ℕ) (o : Opened) : Type 0 where
+  pub held : c.held ≡ Some n
+  pub whole : ReadsWhole (action_of o.command) (track_of (slot_at c.slots n))
+
+abbrev pub HandIfAimed : CacheState → ℕ → Opened → Type 0
+HandIfAimed c n o = (aim o.command ≡ NoArea → ⊥) → Hand c n o
+
+hand_for : (c : CacheState) (n : ℕ) (o : Opened) (a : Action) → action_of o.command ≡ a → NeedsArea a → HandIfAimed c n o → Hand c n o
+hand_for c n o a is w h = h (needs_area o.command (rw is w))
+
+whole_at : (c : CacheState) (n : ℕ) (o : Opened) (a : Action) → action_of o.command ≡ a → (ReadsWhole a (track_of (slot_at c.slots n)) → is_readable (track_of (slot_at c.slots n)) ≡ true) → Hand c n o → AtHand c n
+whole_at c n o a is f h = record { held = h.held; readable = f (rw is at h.whole) }
+
+field_at_hand : (a : Action) (c : CacheState) (n : ℕ) (o : Opened) → action_of o.command ≡ a → IsField a → HandIfAimed c n o → FieldAtHand a c n
+field_at_hand action.SeekCylinderAndHead c n o is f h = tt
+field_at_hand action.SeekHead c n o is f h = tt
+field_at_hand action.SetFileMask c n o is f h = tt
+field_at_hand action.WriteHomeAddress c n o is f h = (hand_for c n o action.WriteHomeAddress is tt h).held
+field_at_hand action.Format c n o is f h = whole_at c n o action.Format is (λ x. x) (hand_for c n o action.Format is tt h)
+field_at_hand action.NoTransfer c n o is f h = absurd f
+field_at_hand action.GiveSense c n o is f h = absurd f
+field_at_hand action.Search c n o is f h = absurd f
+field_at_hand action.Read c n o is f h = absurd f
+field_at_hand action.Update c n o is f h = absurd f
+
+field_length : (a : Action) (g : Geometry) (t : Sighted) (o : Opened) (r : Registers) → IsField a → length_for a g t o r [] ≡ field_size a
+field_length action.SeekCylinderAndHead g t o r f = refl
+field_length action.SeekHead g t o r f = refl
+field_length action.SetFileMask g t o r f = refl
+field_length action.WriteHomeAddress g t o r f = refl
+field_length action.Format g t o r f = refl
+field_length action.NoTransfer g t o r f = absurd f
+field_length action.GiveSense g t o r f = absurd f
+field_length action.Search g t o r f = absurd f
+field_length action.Read g t o r f = absurd f
+field_length action.Update g t o r f = absurd f
+
+field_unwritten : (a : Action) (g : Geometry) (t : Sighted) (o : Opened) (r : Registers) → IsField a → (close_by a g t o r []).written ≡ None
+field_unwritten action.SeekCylinderAndHead g t o r f = refl
+field_unwritten action.SeekHead g t o r f = refl
+field_unwritten action.SetFileMask g t o r f = refl
+field_unwritten action.WriteHomeAddress g t o r f = refl
+field_unwritten action.Format g t o r f = refl
+field_unwritten action.NoTransfer g t o r f = absurd f
+field_unwritten action.GiveSense g t o r f = absurd f
+field_unwritten action.Search g t o r f = absurd f
+field_unwritten action.Read g t o r f = absurd f
+field_unwritten action.Update g t o r f = absurd f
+
+-- The definitions, by the action.
+
+pub area_by : (a : Action) (t : Sighted) (o : Opened) (r : Registers) → action_of o.command ≡ a → area_bytes t o r ≡ bytes_for a t o r
+unfolding area_bytes
+area_by a t o r is = rw is refl
+
+pub length_by : (a : Action) (g : Geometry) (t : Sighted) (o : Opened) (r : Registers) (b : List ℕ) → action_of o.command ≡ a → length_after g t o r b ≡ length_for a g t o r b
+unfolding length_after
+length_by a g t o r b is = rw is refl
+
+pub closing_by : (a : Action) (g : Geometry) (t : Sighted) (o : Opened) (r : Registers) (b : List ℕ) → action_of o.command ≡ a → closing g t o r b ≡ close_by a g t o r b
+unfolding closing
+closing_by a g t o r b is = rw is refl
+
+pub sense_length : (g : Geometry) (t : Sighted) (o : Opened) (r : Registers) (b : List ℕ) → action_of o.command ≡ action.GiveSense → length_after g t o r b ≡ 6
+sense_length g t o r b is = length_by action.GiveSense g t o r b is ∙ ap length (area_by action.GiveSense t o r is)
+
+pub sense_outcome : (g : Geometry) (t : Sighted) (o : Opened) (r : Registers) (b : List ℕ) → action_of o.command ≡ action.GiveSense → closing g t o r b ≡ area_ends o r false
+sense_outcome g t o r b is = closing_by action.GiveSense g t o r b is ∙ rw (sense_extent o.command is) refl
+
+all_left : (n : ℕ) → n ≡ 0 + (n - 0)
+all_left n = omega arith
+
+none_passed : (n : ℕ) → n ≡ 0 + n
+none_passed n = omega arith
+
+lies_behind : (slot : List ℕ) (w : Window) (a b : List ℕ) → a ≡ b → Lies slot w a → Lies slot w b
+lies_behind slot w a b e l = (let P : List ℕ → Type 0 = λ x. Lies slot w x in subst P e l)
+
+pub first_placed : (c : CacheState) (g : Geometry) (r : Registers) (n : ℕ) (o : Opened) (before : List ℕ) (p : Place)
+    → IsFirstPlace (slot_at c.slots n) o r p → HandIfAimed c n o → sight g (track_of (slot_at c.slots n)) o r ≡ Found o → IsPlaced c g r n o before [] p
+first_placed c g r n o before (Sense u) f h again =
+    let t = track_of (slot_at c.slots n) in
+    let is = sense_outcome g t o r [] f.0 in
+    (f.0, omega arith, record { again = again; len = sense_length g t o r [] f.0 }, record { so = ap outcome is ∙ sym f.1; unwritten = ap (λ (k : Closing). k.written) is })
+first_placed c g r n o before (Field x) f h again =
+    let t = track_of (slot_at c.slots n) in
+    let a = action_of o.command in (
+      record { is_field = f; room = omega arith; collected = refl; at_hand = field_at_hand a c n o refl f h },
+      record { again = again; len = length_by a g t o r [] refl ∙ field_length a g t o r f ∙ all_left (field_size a) },
+      ap (λ (k : Closing). k.written) (closing_by a g t o r [] refl) ∙ field_unwritten a g t o r f,
+    )
+first_placed c g r n o before (Read w u) f h again =
+    let t = track_of (slot_at c.slots n) in
+    let area = area_by action.Read t o r f.0 in
+    let is = closing_by action.Read g t o r [] f.0 in (
+      record { is_read = f.0; held = (hand_for c n o action.Read f.0 tt h).held; lies = lies_behind (slot_at c.slots n) w _ (area_bytes t o r) (sym area) f.1; room = omega arith; begins = omega arith },
+      record { again = again; len = length_by action.Read g t o r [] f.0 ∙ ap length area ∙ f.1.size ∙ none_passed w.len },
+      record { so = ap outcome is ∙ sym f.2; unwritten = ap (λ (k : Closing). k.written) is },
+    )
+first_placed c g r n o before (Search w so_far) f h again =
+    let t = track_of (slot_at c.slots n) in
+    let area = area_by action.Search t o r f.0 in (
+      record { is_search = f.0; at_hand = whole_at c n o action.Search f.0 (λ x. x) (hand_for c n o action.Search f.0 tt h); lies = lies_behind (slot_at c.slots n) w _ (area_bytes t o r) (sym area) f.1; room = omega arith; begins = omega arith; compared = f.2 },
+      record { again = again; len = length_by action.Search g t o r [] f.0 ∙ ap length area ∙ f.1.size ∙ none_passed w.len },
+    )
+first_placed c g r n o before (Fill w u) f h again =
+    let t = track_of (slot_at c.slots n) in
+    let area = area_by action.Update t o r f.0 in
+    let is = closing_by action.Update g t o r [] f.0 in (
+      record { is_update = f.0; at_hand = whole_at c n o action.Update f.0 (λ x. x) (hand_for c n o action.Update f.0 tt h); lies = lies_behind (slot_at c.slots n) w _ (area_bytes t o r) (sym area) f.1; none = refl },
+      record { again = again; len = length_by action.Update g t o r [] f.0 ∙ ap length area ∙ f.1.size ∙ none_passed w.len },
+      record { so = ap outcome is ∙ sym f.2; unwritten = ap (λ (k : Closing). k.written) is },
+    )
+first_placed c g r n o before Unfound f h again = absurd f
+first_placed c g r n o before (Filled w u) f h again = absurd f

@@ -1,0 +1,149 @@
+-- A drive that stands, after its parts have changed.
+use Rattle.std.proofs.Common.{◌≡◌, ◌∙◌, ap, sym, subst, refl, ℕ, ◌<◌, List, Bool, true, false, not, Some, None, Result, Ok, Err, OnOk, OnErr, unwrap_or, length, length-set, arith}
+use Rattle.std.proofs.lemmas.List.Elements.{All-set}
+use Rattle.std.specs.Result.{is_err}
+use Rattle.ckd_track.specs.Model.{heads_of}
+use Rattle.ckd_track.specs.declared.model.DriveModel.{DriveModel}
+use Rattle.ckd_track.specs.declared.model.DriveModel.TheVariants.{D2311, D2314}
+use Rattle.ckd_image.specs.declared.store.StoreFault.{StoreFault}
+use Rattle.ckd_drive.specs.declared.registers.Registers.{Registers}
+use Rattle.ckd_drive.specs.declared.registers.Mark.{Mark}
+use Rattle.ckd_drive.specs.declared.registers.Mark.TheVariants.{Saved, Lost}
+use Rattle.ckd_drive.specs.declared.places.Stage.{Stage}
+use Rattle.ckd_drive.specs.declared.places.Stage.TheVariants.{Idle, Over, Working}
+use Rattle.ckd_drive.specs.Commands.{IsAtTrack, moved_to}
+use Rattle.ckd_drive.specs.Cache.{CacheState, IsVolume, saved, loaded, holds, after_save, after_failed_save, after_hold, after_failed_hold}
+use Rattle.ckd_drive.specs.Work.{DriveState, is_idle}
+use Rattle.ckd_drive.specs.declared.steps.Beginning.{Beginning}
+use Rattle.ckd_drive.specs.Commands.{beginning}
+use Rattle.ckd_drive.proofs.Beginnings.{begins_well}
+use Rattle.ckd_drive.specs.Half.{Stands, StageIs, state_of, BeginsWell, CreditIs, number, is_filled, work_of}
+
+pub on_ok : (r : Result (Unit {0}) StoreFault) (P : Type 0) → is_err r ≡ false → OnOk r P → P
+on_ok (Ok u) P e p = p
+on_ok (Err f) P e p = absurd cc
+
+pub on_err : (r : Result (Unit {0}) StoreFault) (P : Type 0) → is_err r ≡ true → OnErr r P → P
+on_err (Ok u) P e p = absurd cc
+on_err (Err f) P e p = p
+
+pub idle_stage : (s : Stage) (passed : List ℕ) → is_idle (work_of s passed) ≡ true → s ≡ Idle
+idle_stage Idle passed e = refl
+idle_stage (Over x) passed e = absurd cc
+idle_stage (Working p) passed e = absurd cc
+
+pub no_credit : (c : CacheState) (r : Registers) (n : ℕ) → r.credit ≡ None → CreditIs r.credit c n
+no_credit c r n e = rw e tt
+
+heads_above : (m : DriveModel) → 0 < heads_of m
+heads_above D2311 = omega arith
+heads_above D2314 = omega arith
+
+pub at_zero : (c : CacheState) (r : Registers) → IsVolume c → IsAtTrack c.image.geometry (moved_to r 0 0)
+at_zero c r v = (let g = v.geometry in record { cylinder = omega (arith, g.cylinders); head = heads_above c.image.geometry.model })
+
+-- The slots.
+
+volume_saved_by : (c : CacheState) (b : Bool) → c.changed ≡ b → IsVolume c → IsVolume (record c { image = saved c.image c.slots b; changed = false })
+volume_saved_by c true e v = record { geometry = v.geometry; count = v.count; sizes = v.sizes; clean = λ _. refl }
+volume_saved_by c false e v = record { geometry = v.geometry; count = v.count; sizes = v.sizes; clean = λ _. v.clean e }
+
+pub volume_saved : (c : CacheState) → IsVolume c → IsVolume (after_save c)
+volume_saved c v = volume_saved_by c c.changed refl v
+
+pub volume_lost : (c : CacheState) (left : List ℕ) → length left ≡ c.image.geometry.track_size → IsVolume c → IsVolume (after_failed_save c left)
+volume_lost c left size v = record {
+  geometry = v.geometry;
+  count = length-set c.slots (unwrap_or c.held 0) left ∙ v.count;
+  sizes = All-set (λ slot. length slot ≡ c.image.geometry.track_size) c.slots (unwrap_or c.held 0) left size v.sizes;
+  clean = λ _. refl;
+}
+
+volume_held_by : (c : CacheState) (track : ℕ) (b : Bool) → IsVolume c → IsVolume (record c { image = loaded c.image b; held = Some track })
+volume_held_by c track true v = record { geometry = v.geometry; count = v.count; sizes = v.sizes; clean = v.clean }
+volume_held_by c track false v = record { geometry = v.geometry; count = v.count; sizes = v.sizes; clean = v.clean }
+
+pub volume_held : (c : CacheState) (track : ℕ) → IsVolume c → IsVolume (after_hold c track)
+volume_held c track v = volume_held_by c track (holds c.held track) v
+
+pub volume_not_held : (c : CacheState) → IsVolume c → IsVolume (after_failed_hold c)
+volume_not_held c v = record { geometry = v.geometry; count = v.count; sizes = v.sizes; clean = v.clean }
+
+pub geometry_saved : (c : CacheState) → (after_save c).image.geometry ≡ c.image.geometry
+geometry_saved c = elim c.changed as (λ b. (saved c.image c.slots b).geometry ≡ c.image.geometry) [ true ↦ refl | false ↦ refl ]
+
+pub geometry_held : (c : CacheState) (track : ℕ) → (after_hold c track).image.geometry ≡ c.image.geometry
+geometry_held c track = elim (holds c.held track) as (λ b. (loaded c.image b).geometry ≡ c.image.geometry) [ true ↦ refl | false ↦ refl ]
+
+pub failures_saved : (c : CacheState) → (after_save c).image.failures ≡ c.image.failures
+failures_saved c = elim c.changed as (λ b. (saved c.image c.slots b).failures ≡ c.image.failures) [ true ↦ refl | false ↦ refl ]
+
+-- Another stage at the same track.
+
+pub stays : (c : CacheState) (r q : Registers) (m : Mark) (s s' : Stage) (before passed before' passed' : List ℕ) (began : Bool)
+    → Stands c r m s before passed began → is_filled s ≡ false → is_filled s' ≡ false → q.cylinder ≡ r.cylinder → q.head ≡ r.head → StageIs c q before' passed' s' → Stands c q m s' before' passed' true
+stays c r q m s s' before passed before' passed' began x f f' cy he w = record {
+  volume = x.volume;
+  arm = record { cylinder = rw cy x.arm.cylinder; head = rw he x.arm.head };
+  anchored = rw (cy, he) x.anchored;
+  marked = rw f' (rw f at x.marked);
+  work = w;
+  rests = tt;
+}
+
+-- Where a written track was saved.
+
+pub saved_stands : (c c' : CacheState) (r q : Registers) (m : Mark) (s s' : Stage) (before passed before' passed' : List ℕ) (began : Bool)
+    → Stands c r m s before passed began → c' ≡ after_save c → is_filled s' ≡ false → IsAtTrack c.image.geometry q → StageIs c' q before' passed' s' → Stands c' q Saved s' before' passed' true
+saved_stands c c' r q m s s' before passed before' passed' began x is f' at w =
+    let changed : c'.changed ≡ false = ap (λ (d : CacheState). d.changed) is in
+    let g : c'.image.geometry ≡ c.image.geometry = ap (λ (d : CacheState). d.image.geometry) is ∙ geometry_saved c in
+    record {
+      volume = (let P = λ (d : CacheState). IsVolume d in subst P (sym is) (volume_saved c x.volume));
+      arm = rw g at;
+      anchored = λ e. absurd (cc);
+      marked = rw (changed, f') refl;
+      work = w;
+      rests = tt;
+    }
+
+-- Where its saving failed.
+
+pub lost_stands : (c c' : CacheState) (r q : Registers) (m : Mark) (s s' : Stage) (before passed before' passed' left : List ℕ) (began : Bool)
+    → Stands c r m s before passed began → c' ≡ after_failed_save c left → length left ≡ c.image.geometry.track_size → is_filled s' ≡ false → q.cylinder ≡ r.cylinder → q.head ≡ r.head
+    → StageIs c' q before' passed' s' → Stands c' q Lost s' before' passed' true
+lost_stands c c' r q m s s' before passed before' passed' left began x is size f' cy he w =
+    let changed : c'.changed ≡ false = ap (λ (d : CacheState). d.changed) is in
+    let g : c'.image.geometry ≡ c.image.geometry = ap (λ (d : CacheState). d.image.geometry) is in
+    record {
+      volume = (let P = λ (d : CacheState). IsVolume d in subst P (sym is) (volume_lost c left size x.volume));
+      arm = rw g (record { cylinder = rw cy x.arm.cylinder; head = rw he x.arm.head });
+      anchored = λ e. absurd (cc);
+      marked = rw (changed, f') refl;
+      work = w;
+      rests = tt;
+    }
+
+pub not_filled : (s : Stage) → s ≡ Idle → is_filled s ≡ false
+not_filled s e = rw e refl
+
+pub rests_without : (c : CacheState) (r : Registers) (s : Stage) (before passed : List ℕ) → s ≡ Idle → r.credit ≡ None → StageIs c r before passed s
+rests_without c r s before passed e none = rw (e, none) tt
+
+-- what a command code leads to, where nothing was begun
+pub well_begun : (c : CacheState) (r : Registers) (m : Mark) (s : Stage) (before passed : List ℕ) (began : Bool) (now : DriveState) (code : ℕ) (b : Beginning)
+    → Stands c r m s before passed began → state_of c r m s before passed began ≡ now → is_idle now.work ≡ true → b ≡ beginning code r
+    → (s ≡ Idle) × BeginsWell c (number c.image.geometry r) r b
+well_begun c r m s before passed began now code b x is idle e =
+    let at_rest : s ≡ Idle = idle_stage s passed (ap (λ (d : DriveState). is_idle d.work) is ∙ idle) in
+    let P : Stage → Type 0 = λ t. StageIs c r before passed t in
+    let credit : CreditIs r.credit c (number c.image.geometry r) = subst P at_rest x.work in
+    (at_rest, rw e (begins_well c (number c.image.geometry r) code r credit))
+
+pub not_true : (b : Bool) → not b ≡ true → b ≡ false
+not_true true e = absurd cc
+not_true false e = refl
+
+pub not_false : (b : Bool) → not b ≡ false → b ≡ true
+not_false true e = refl
+not_false false e = absurd cc

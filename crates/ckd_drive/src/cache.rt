@@ -1,0 +1,129 @@
+//! An image, with the slot of one track at hand: loaded when it is first wanted, written in place, saved late.
+
+ghost use Rattle.std.specs.Prelude.{◌≡◌, ◌≤◌, ◌<◌, ◌+◌, Some, None, true, false, [], length, unwrap_or, slice_index_or, IfOk, IfErr, OnOk, OnErr, IsSome};
+ghost use Rattle.ckd_image.specs.Geometry.{tracks_of};
+ghost use Rattle.ckd_track.specs.Track.{track_of, track_in, slot_of};
+ghost use Rattle.ckd_drive.specs.Commands.{is_readable, formatted as track_formatted, bare_track, with_record_changed, replaced};
+ghost use Rattle.ckd_drive.specs.Buffer.{overwritten, SameRecords, FitsSlot, IsUpdate, IsRecordOf};
+ghost use Rattle.ckd_drive.specs.Cache.{slot_held, with_held, holds, after_hold, after_failed_hold, after_save, after_failed_save, IsVolume};
+
+use crate::buffer::TrackBuffer;
+use crate::steps::Extent;
+use ckd_image::geometry::Geometry;
+use ckd_image::image::Image;
+use ckd_image::store::{ImageStore, StoreFault};
+use ckd_position::Area;
+use std::alloc::{AllocError, Global};
+use std::marker::Model;
+
+#[derive(Drop)]
+pub(crate) struct TrackCache<S: ImageStore> {
+    image: Image<S>,
+    buffer: TrackBuffer,
+    held: Option<u32>,
+    changed: bool,
+}
+
+impl<S: ImageStore> Model for TrackCache<S> {
+    ghost use Rattle.ckd_drive.specs.Cache.{CacheState, held_over, Holds};
+
+    ghost Value = { CacheState };
+
+    ghost view = { λ c. record {
+      image = c.image;
+      slots = held_over c.image.slots c.held c.buffer;
+      held = c.held;
+      changed = c.changed;
+    } };
+
+    ghost invariant = { λ c. Holds c.image c.held c.changed c.buffer };
+}
+
+impl<S: ImageStore> TrackCache<S> {
+    /// All the memory that is ever taken: the slot, and the table of its records. Without it the image comes back.
+    pub(crate) fn new(
+        alloc: Global,
+        image: Image<S>,
+    ) -> Result<TrackCache<S>, (AllocError, Image<S>)>
+        ensures ok { IfOk result (λ c. c ≡ record { image = image; slots = image.slots; held = None; changed = false }) }
+        ensures err { IfErr result (λ e. e.1 ≡ image) }
+    {
+        match TrackBuffer::new(alloc, image.geometry().track_size) {
+            Ok(buffer) => Ok(TrackCache {
+                image,
+                buffer,
+                held: None,
+                changed: false,
+            }),
+            Err(fault) => Err((fault, image)),
+        }
+    }
+
+    pub(crate) fn geometry(&self) -> Geometry
+        ensures geometry { result ≡ self.now.image.geometry }
+        ensures volume { IsVolume self.now }
+    {
+        self.image.geometry()
+    }
+
+    /// Has the slot of a track at hand. After an error none is.
+    pub(crate) fn hold(&mut self, track: u32) -> Result<(), StoreFault>
+        requires there { track < tracks_of self.old.image.geometry }
+        requires clean { self.old.changed ≡ true → self.old.held ≡ Some track }
+        ensures ok { OnOk result (self.new ≡ after_hold self.old track) }
+        ensures err { OnErr result (self.new ≡ after_failed_hold self.old) }
+        ensures fails { OnErr result (holds self.old.held track ≡ false) }
+    {
+        if self.held == Some(track) {
+            return Ok(());
+        }
+        self.held = None;
+        self.buffer.load(&mut self.image, track)?;
+        self.held = Some(track);
+        Ok(())
+    }
+
+    /// The slot at hand.
+    pub(crate) fn buffer(&self) -> &TrackBuffer
+        requires { IsSome self.now.held }
+        ensures slot { result.now ≡ slot_held self.now }
+        ensures size { length result.now ≡ self.now.image.geometry.track_size }
+    {
+        &self.buffer
+    }
+
+    /// Saves the slot at hand if it was changed. Where that fails the slot is dropped.
+    pub(crate) fn save(&mut self) -> Result<(), StoreFault>
+        ensures ok { OnOk result (self.new ≡ after_save self.old) }
+        ensures err { OnErr result (self.new ≡ after_failed_save self.old (slice_index_or self.new.image.slots (unwrap_or self.old.held 0) [])) }
+        ensures fails { OnErr result (self.old.changed ≡ true) }
+        ensures size { OnErr result (length (slice_index_or self.new.image.slots (unwrap_or self.old.held 0) []) ≡ self.old.image.geometry.track_size) }
+    {
+        if !self.changed {
+            return Ok(());
+        }
+        let Some(track) = self.held else {
+            return Ok(());
+        };
+        self.changed = false;
+        match self.image.save(track, self.buffer.bytes()) {
+            Ok(()) => Ok(()),
+            Err(fault) => {
+                self.held = None;
+                Err(fault)
+            }
+        }
+    }
+
+    pub(crate) fn into_image(self) -> Image<S>
+        ensures { result ≡ self.image }
+    {
+        let TrackCache {
+            image,
+            buffer: _,
+            held: _,
+            changed: _,
+        } = self;
+        image
+    }
+}

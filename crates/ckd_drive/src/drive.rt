@@ -1,0 +1,424 @@
+//! One drive.
+
+ghost use Rattle.std.specs.Prelude.{◌≡◌, ◌≤◌, ◌<◌, ◌+◌, ◌-◌, ◌^◌, ◌++◌, Some, None, true, false, [], length, slice_range, IfOk, IfErr, OnOk, OnErr, Option};
+ghost use Rattle.ckd_sense.specs.SenseBytes.{sense_bytes};
+ghost use Rattle.ckd_image.specs.Store.{Counts};
+ghost use Rattle.ckd_drive.specs.Half.{next_progress, NextLeft};
+ghost use Rattle.ckd_sense.specs.declared.sense_bytes.TheConstants.Sense.{STORE_FAULT};
+ghost use Rattle.ckd_drive.specs.declared.places.Stage.TheVariants.{Working};
+ghost use Rattle.ckd_drive.specs.declared.places.Place.TheVariants.{Unfound};
+ghost use Rattle.ckd_drive.specs.Commands.{with_cause as joined_with_cause};
+ghost use Rattle.ckd_drive.specs.Drive.{unsaved as unsaved_track, begin as begin_of};
+ghost use Rattle.ckd_drive.specs.Work.{DriveState, fault_met, MakesAtMost, after_begin, after_look, look_of, moved_on, left_of, gives_now, takes_now, given_now, passed_of, closed_of, after_end, ending_of, is_idle, is_working, may_end, after_settle, begun_program, answer_of_begin, answer_of_look, with_image, new_drive, without_sense};
+
+use crate::answers::{Begun, Look};
+use crate::cache::TrackCache;
+use crate::places::{Place, Progress, Stage};
+use crate::registers::{Mark, Registers};
+use crate::steps::{Aim, Beginning, DriveEnding, Opened, Sight};
+use crate::trace::Trace;
+use crate::{beginning, closing, placing, tables};
+use ckd_image::image::Image;
+use ckd_image::store::{ImageStore, StoreFault};
+use ckd_sense::Sense;
+use std::alloc::{AllocError, Global};
+use std::marker::Model;
+
+/// One drive over an image.
+#[derive(Drop)]
+pub struct Drive<S: ImageStore> {
+    cache: TrackCache<S>,
+    registers: Registers,
+    mark: Mark,
+    stage: Stage,
+    /// The slot under the arm as it was before the command wrote to it.
+    before: Trace,
+    /// The bytes that passed in the command.
+    passed: Trace,
+    /// Whether a command began since the drive was made or last settled.
+    began: bool,
+}
+
+impl<S: ImageStore> Model for Drive<S> {
+    ghost use Rattle.ckd_drive.specs.Work.{DriveState};
+    ghost use Rattle.ckd_drive.specs.Half.{state_of, Stands};
+
+    ghost Value = { DriveState };
+
+    ghost view = { λ d. state_of d.cache d.registers d.mark d.stage d.before.bytes d.passed.bytes d.began };
+
+    ghost invariant = { λ d. Stands d.cache d.registers d.mark d.stage d.before.bytes d.passed.bytes d.began };
+}
+
+const FAILED: Stage = Stage::Over(UNIT_CHECK);
+
+const UNIT_CHECK: DriveEnding = DriveEnding {
+    unit: closing::UNIT_CHECK,
+    motion: false,
+};
+
+const ENDED: DriveEnding = DriveEnding {
+    unit: closing::ENDING,
+    motion: false,
+};
+
+// The registers where a load failed.
+fn with_store_fault(registers: Registers) -> Registers
+    ensures { result ≡ joined_with_cause registers STORE_FAULT }
+{
+    beginning::with_cause(registers, Sense::STORE_FAULT)
+}
+
+// The registers where a track is lost whose saving failed.
+fn lost(registers: Registers) -> Registers
+    ensures { result ≡ joined_with_cause (record registers { credit = None }) STORE_FAULT }
+{
+    let registers = Registers {
+        credit: None,
+        ..registers
+    };
+    with_store_fault(registers)
+}
+
+// A command that looks for its area next.
+fn unfound(opened: Opened) -> Stage
+    ensures { result ≡ Working (record { opened = opened; moved = 0; left = None; place = Unfound }) }
+{
+    Stage::Working(Progress {
+        opened,
+        moved: 0,
+        left: None,
+        place: Place::Unfound,
+    })
+}
+
+// A command that has just found where its bytes stand, so many of them.
+fn found(opened: Opened, place: Place, left: usize) -> Stage
+    ensures { result ≡ Working (record { opened = opened; moved = 0; left = Some left; place = place }) }
+{
+    Stage::Working(Progress {
+        opened,
+        moved: 0,
+        left: Some(left),
+        place,
+    })
+}
+
+// So many bytes more have passed, and the rest have this place.
+fn moved_on_by(p: Progress, n: usize, place: Place) -> Stage
+    requires left { NextLeft p.left n }
+    requires moved { p.moved + n < 2 ^ 32 }
+    ensures { result ≡ Working (next_progress p n place) }
+{
+    Stage::Working(Progress {
+        opened: p.opened,
+        moved: p.moved + n,
+        left: p.left.map(|left| left - n),
+        place,
+    })
+}
+
+fn copy(from: &[u8], at: usize, into: &mut [u8])
+    requires { at + length into.old ≤ length from.now }
+    ensures { into.new ≡ slice_range from.now at (at + length into.old) }
+{
+    into.copy_from_slice(&from[at..at + into.len()]);
+}
+
+impl<S: ImageStore> Drive<S> {
+    /// A drive over an image, at cylinder 0 and head 0, with zero sense bytes.
+    ///
+    /// It takes all the memory that it ever needs: a slot, and a table of the records of one.
+    ///
+    /// # Errors
+    ///
+    /// Where there is no such memory the image comes back.
+    pub fn new(alloc: Global, image: Image<S>) -> Result<Drive<S>, (AllocError, Image<S>)>
+        ensures ok { IfOk result (λ d. d ≡ new_drive image) }
+        ensures err { IfErr result (λ e. e.1 ≡ image) }
+    {
+        let cache = TrackCache::new(alloc, image)?;
+        let _geometry = cache.geometry();
+        Ok(Drive {
+            cache,
+            registers: beginning::first_registers(),
+            mark: Mark::Saved,
+            stage: Stage::Idle,
+            before: Trace::new(),
+            passed: Trace::new(),
+            began: false,
+        })
+    }
+
+    /// Begins a command.
+    pub fn begin(&mut self, code: u8) -> Begun
+        requires { is_idle self.old.work ≡ true }
+        ensures state { self.new ≡ with_image (after_begin (fault_met self.old self.new) code self.old) self.new.image }
+        ensures answer { result ≡ answer_of_begin (begin_of (fault_met self.old self.new) code self.old.state) }
+        ensures calls { MakesAtMost self.old self.new }
+    {
+        self.began = true;
+        match beginning::begin(code, self.registers) {
+            Beginning::Rejected(registers) => {
+                self.registers = registers;
+                Begun::Rejected
+            }
+            Beginning::Immediate(registers) => {
+                self.registers = registers;
+                self.stage = Stage::Over(DriveEnding {
+                    unit: closing::ENDING,
+                    motion: false,
+                });
+                Begun::Immediate
+            }
+            Beginning::Started(registers, opened) => {
+                self.registers = registers;
+                self.passed = Trace::new();
+                self.stage = unfound(opened);
+                Begun::Started
+            }
+            Beginning::ToCylinderZero(registers, opened) => {
+                if self.cache.save().is_err() {
+                    self.registers = lost(registers);
+                    self.mark = Mark::Lost;
+                    return Begun::Rejected;
+                }
+                self.mark = Mark::Saved;
+                self.registers = beginning::moved_to(registers, 0, 0);
+                match opened {
+                    None => {
+                        self.stage = Stage::Over(DriveEnding {
+                            unit: closing::IN_MOTION,
+                            motion: true,
+                        });
+                        Begun::Immediate
+                    }
+                    Some(opened) => {
+                        self.passed = Trace::new();
+                        self.stage = unfound(opened);
+                        Begun::Started
+                    }
+                }
+            }
+        }
+    }
+
+    /// Looks at the track under the arm for the area of the command.
+    pub fn look(&mut self) -> Look
+        requires { is_working self.old.work ≡ true }
+        ensures state { self.new ≡ with_image (after_look (fault_met self.old self.new) self.old) self.new.image }
+        ensures answer { result ≡ answer_of_look (look_of (fault_met self.old self.new) self.old self.old.work) self.new.work }
+        ensures calls { MakesAtMost self.old self.new }
+    {
+        let Stage::Working(p) = self.stage else {
+            return Look::Failed;
+        };
+        if !placing::is_unfound(p.place) {
+            let left = placing::remaining(tables::action(p.opened.command), p.place, p.moved);
+            self.stage = Stage::Working(Progress {
+                left: Some(left),
+                ..p
+            });
+            return Look::Ready(left);
+        }
+        match tables::aim(p.opened.command) {
+            Aim::NoArea => {
+                let place = placing::place_without_area(p.opened, self.registers);
+                let left = placing::remaining(tables::action(p.opened.command), place, 0);
+                self.stage = found(p.opened, place, left);
+                Look::Ready(left)
+            }
+            Aim::Credited => {
+                let place = placing::place_on(self.cache.buffer(), p.opened, self.registers);
+                let left = placing::remaining(tables::action(p.opened.command), place, 0);
+                self.stage = found(p.opened, place, left);
+                Look::Ready(left)
+            }
+            Aim::Next(kind) => {
+                let geometry = self.cache.geometry();
+                let track = geometry.track_at(self.registers.cylinder, self.registers.head);
+                if self.cache.hold(track).is_err() {
+                    self.registers = with_store_fault(self.registers);
+                    self.stage = FAILED;
+                    return Look::Failed;
+                }
+                match placing::look_at(
+                    self.cache.buffer(),
+                    geometry,
+                    p.opened,
+                    self.registers,
+                    kind,
+                ) {
+                    Sight::Found(opened) => {
+                        let place = placing::place_on(self.cache.buffer(), opened, self.registers);
+                        let left = placing::remaining(tables::action(opened.command), place, 0);
+                        self.stage = found(opened, place, left);
+                        Look::Ready(left)
+                    }
+                    Sight::IndexPassed(registers) => {
+                        self.registers = registers;
+                        Look::Passed
+                    }
+                    Sight::NextHead(registers) => {
+                        if self.cache.save().is_err() {
+                            self.registers = lost(self.registers);
+                            self.mark = Mark::Lost;
+                            self.stage = FAILED;
+                            return Look::Failed;
+                        }
+                        self.mark = Mark::Saved;
+                        self.registers = registers;
+                        Look::Passed
+                    }
+                    Sight::Missed(registers) => {
+                        self.registers = registers;
+                        self.stage = FAILED;
+                        Look::Failed
+                    }
+                }
+            }
+        }
+    }
+
+    /// Gives the next bytes.
+    pub fn give(&mut self, into: &mut [u8])
+        requires gives { gives_now self.old.work ≡ true }
+        requires room { length into.old ≤ left_of self.old.work }
+        ensures given { into.new ≡ slice_range (given_now self.old self.old.work) (length (passed_of self.old.work)) (length (passed_of self.old.work) + length into.old) }
+        ensures moved { self.new ≡ record self.old { work = moved_on into.new self.old.work } }
+    {
+        let Stage::Working(p) = self.stage else {
+            return;
+        };
+        if let Place::Read(window, outcome) = p.place {
+            copy(self.cache.buffer().bytes(), window.start, into);
+            self.passed = self.passed.and(into);
+            self.stage = moved_on_by(
+                p,
+                into.len(),
+                Place::Read(placing::behind(window, into.len()), outcome),
+            );
+            return;
+        }
+        copy(&self.registers.sense.to_bytes(), p.moved, into);
+        self.passed = self.passed.and(into);
+        self.stage = moved_on_by(p, into.len(), p.place);
+    }
+
+    /// Ends the command, with the bytes that have passed.
+    pub fn end(&mut self) -> DriveEnding
+        requires { may_end self.old.work ≡ true }
+        ensures state { self.new ≡ with_image (after_end (fault_met self.old self.new) self.old) self.new.image }
+        ensures ending { result ≡ ending_of (closed_of (fault_met self.old self.new) self.old self.old.work) }
+        ensures calls { MakesAtMost self.old self.new }
+    {
+        let p = match self.stage {
+            Stage::Idle => return ENDED,
+            Stage::Over(ending) => {
+                self.stage = Stage::Idle;
+                return ending;
+            }
+            Stage::Working(p) => p,
+        };
+        let outcome = placing::close(
+            self.cache.geometry(),
+            self.registers,
+            p.opened,
+            p.moved,
+            p.place,
+        );
+        self.stage = Stage::Idle;
+        if !outcome.moves_off {
+            self.mark = placing::mark_left(p.place, self.mark);
+            self.registers = outcome.registers;
+            return outcome.ending;
+        }
+        if self.cache.save().is_err() {
+            self.registers = lost(self.registers);
+            self.mark = Mark::Lost;
+            return UNIT_CHECK;
+        }
+        self.mark = Mark::Saved;
+        self.registers = outcome.registers;
+        outcome.ending
+    }
+
+    /// Saves the track if it was written. An open command ends, of which no byte has passed.
+    pub fn settle(&mut self) -> Result<(), StoreFault>
+        requires { passed_of self.old.work ≡ [] }
+        ensures state { self.new ≡ with_image (after_settle (fault_met self.old self.new) self.old) self.new.image }
+        ensures saved { self.new.image.slots ≡ self.new.state.volume.slots }
+        ensures counted { Counts self.old.image.failures self.new.image.failures result }
+        ensures calls { MakesAtMost self.old self.new }
+    {
+        self.stage = Stage::Idle;
+        self.began = false;
+        match self.cache.save() {
+            Ok(()) => {
+                self.mark = placing::settled_mark(self.mark);
+                Ok(())
+            }
+            Err(fault) => {
+                self.registers = lost(self.registers);
+                self.mark = Mark::Lost;
+                Err(fault)
+            }
+        }
+    }
+
+    /// Begins a channel program: the track stands at its index, the file mask is 00 and none was set, and there is no
+    /// credit. Cylinder, head and sense stay, and a track that was written stays to be saved.
+    pub fn begin_program(&mut self)
+        requires { is_idle self.old.work ≡ true }
+        ensures { self.new ≡ record self.old { state = begun_program self.old.state } }
+    {
+        self.registers = beginning::program_start(self.registers);
+        self.mark = placing::owed_mark(self.mark);
+    }
+
+    /// The six sense bytes.
+    pub fn sense(&self) -> [u8; 6]
+        ensures { result ≡ sense_bytes self.now.state.registers.sense }
+    {
+        self.registers.sense.to_bytes()
+    }
+
+    /// Makes the sense bytes zero.
+    pub fn clear_sense(&mut self)
+        requires { is_idle self.old.work ≡ true }
+        ensures { self.new ≡ record self.old { state = without_sense self.old.state } }
+    {
+        self.registers = Registers {
+            sense: Sense::ZERO,
+            ..self.registers
+        };
+    }
+
+    /// Cylinder and head of a track that could not be saved, until the arm leaves it or the next program begins.
+    pub fn unsaved(&self) -> Option<(u16, u16)>
+        ensures { result ≡ unsaved_track self.now.state }
+    {
+        match self.mark {
+            Mark::Lost => Some((self.registers.cylinder, self.registers.head)),
+            Mark::Saved | Mark::Written => None,
+        }
+    }
+
+    /// The image, which holds the drive's volume.
+    pub fn into_image(self) -> Image<S>
+        requires { self.began ≡ false }
+        ensures image { result ≡ self.image }
+        ensures volume { result.slots ≡ self.state.volume.slots }
+    {
+        let Drive {
+            cache,
+            registers: _,
+            mark: _,
+            stage: _,
+            before: _,
+            passed: _,
+            began: _,
+        } = self;
+        cache.into_image()
+    }
+}

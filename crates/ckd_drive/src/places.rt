@@ -1,0 +1,56 @@
+//! Where the bytes of a half done command stand.
+
+use crate::steps::{DriveEnding, Opened, Outcome};
+use std::cmp::Ordering;
+
+/// A part of a slot.
+#[derive(Clone, Copy, Debug, PartialEq, Eq)]
+pub struct Window {
+    /// Where it begins, from the slot's beginning.
+    pub start: usize,
+    /// How many bytes it has.
+    pub len: usize,
+}
+
+/// What becomes of the bytes that pass, and where in the slot those stand that are still to pass.
+#[derive(Clone, Copy, Debug, PartialEq, Eq)]
+pub enum Place {
+    /// The command has not looked yet.
+    Unfound,
+    /// The sense bytes are given, and the command then closes so.
+    Sense(Outcome),
+    /// The bytes of a field are collected.
+    Field([u8; 8]),
+    /// These bytes are given, and the command then closes so.
+    Read(Window, Outcome),
+    /// These bytes are still to be compared, and those before them are in this order to those that were given.
+    Search(Window, Ordering),
+    /// These bytes are to be replaced, none was yet, and the command then closes so.
+    Fill(Window, Outcome),
+    /// The track is changed, these bytes are zeros that may still be replaced, and the command then closes so.
+    Filled(Window, Outcome),
+}
+
+/// A command half done.
+#[derive(Clone, Copy, Debug, PartialEq, Eq)]
+pub struct Progress {
+    /// The command, and its area as soon as that is found.
+    pub opened: Opened,
+    /// How many bytes passed.
+    pub moved: usize,
+    /// How many more the last look allows, where it found the area.
+    pub left: Option<usize>,
+    /// What becomes of them.
+    pub place: Place,
+}
+
+/// What a drive does.
+#[derive(Clone, Copy, Debug, PartialEq, Eq)]
+pub enum Stage {
+    /// Nothing.
+    Idle,
+    /// A command is over, and waits for its end.
+    Over(DriveEnding),
+    /// A command works.
+    Working(Progress),
+}
