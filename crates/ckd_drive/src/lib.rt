@@ -1,5 +1,5 @@
-//! One drive over an image: a command, begun, looked for, given or taken in pieces of any length, and ended or cut, is
-//! one change of the drive's state.
+//! One drive over an image: a command, begun, looked for, given in pieces of any length, and ended, is one change of
+//! the drive's state. The call by which a drive takes bytes is still to be built; the definitions have it.
 #![tactic(auto)]
 
 pub mod answers;
