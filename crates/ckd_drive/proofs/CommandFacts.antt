@@ -5,6 +5,7 @@ use Rattle.std.proofs.lemmas.Nat.{and_or_apart, and_or_self}
 use Rattle.s360_words.specs.Words.{has}
 use Rattle.ckd_track.specs.Track.{Record, Track, track_or_none}
 use Rattle.ckd_track.specs.Model.{heads_of}
+use Rattle.ckd_track.specs.Changes.{bare_track}
 use Rattle.ckd_image.specs.declared.geometry.Geometry.{Geometry}
 use Rattle.ckd_position.specs.Areas.{next_of_kind}
 use Rattle.ckd_position.specs.Comparisons.{is_satisfied}
@@ -31,7 +32,7 @@ use Rattle.ckd_drive.specs.declared.steps.Beginning.TheVariants.{Rejected, Immed
 use Rattle.ckd_drive.specs.declared.steps.Sight.{Sight}
 use Rattle.ckd_drive.specs.declared.steps.Sight.TheVariants.{Found, IndexPassed, NextHead, Missed}
 use Rattle.ckd_drive.specs.Tables.{aim, action_of, extent_of, comparison, ends_with_data, needs_readable}
-use Rattle.ckd_drive.specs.Commands.{Sighted, Closing, ends, fails, writes, closing, close_by, whole_field, with_cause, at_end, seek_cylinder_and_head, seek_head, set_file_mask, search, search_ends, area_bytes, end_of_area, has_no_data, update, updated, replaced, format, formatted, format_ends, kept, new_record_fits, write_home_address, own_home_address, bare_track, home_address_ends, ending_status, unit_exception_status, number, beginning, begin_decoded, begin_allowed, started, cleared, refusal, refusal_under, is_out_of_sequence, sight, look_for, sight_of, next_head, turned, is_readable}
+use Rattle.ckd_drive.specs.Commands.{Sighted, Closing, ends, fails, writes, closing, close_by, whole_field, with_cause, at_end, seek_cylinder_and_head, seek_head, set_file_mask, search, search_ends, area_bytes, end_of_area, has_no_data, update, updated, replaced, format, formatted, format_ends, kept, new_record_fits, write_home_address, own_home_address, home_address_ends, ending_status, unit_exception_status, number, beginning, begin_decoded, begin_allowed, started, cleared, refusal, refusal_under, is_out_of_sequence, sight, look_for, sight_of, next_head, turned, is_readable}
 
 -- Equipment check, which tells of the store alone.
 
@@ -122,8 +123,8 @@ updates change t o r (x ∷ b) =
     go (Err fault) a c h = h
 
 formats : (g : Geometry) (t : Sighted) (o : Opened) (r : Registers) (x : ℕ) (b : List ℕ) → IsClosing r (x ∷ b) true (format g t o r (x ∷ b))
-formats g t o r x b = either r (x ∷ b) true (new_record_fits g t o (x ∷ b)) (writes (formatted t o.area (x ∷ b)) (format_ends r (length (kept t o)))) (fails r cause.RECORD_DOES_NOT_FIT)
-    (writing r x b _ (format_ends r (length (kept t o))) (record { channel_end = refl; device_end = refl; written = inl refl; not_told = λ e. e }))
+formats g t o r x b = either r (x ∷ b) true (new_record_fits g t o (x ∷ b)) (writes (formatted t o.area (x ∷ b)) (format_ends r (length (kept t o.area)))) (fails r cause.RECORD_DOES_NOT_FIT)
+    (writing r x b _ (format_ends r (length (kept t o.area))) (record { channel_end = refl; device_end = refl; written = inl refl; not_told = λ e. e }))
     (check r r (x ∷ b) true cause.RECORD_DOES_NOT_FIT.0 refl (λ e. e))
 
 homes : (o : Opened) (r : Registers) (x : ℕ) (b : List ℕ) → IsClosing r (x ∷ b) true (write_home_address o r (x ∷ b))

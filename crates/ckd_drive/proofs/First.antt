@@ -153,9 +153,9 @@ first_placed c g r n o before (Fill w u) f h again =
     let t = track_of (slot_at c.slots n) in
     let area = area_by action.Update t o r f.0 in
     let is = closing_by action.Update g t o r [] f.0 in (
-      record { is_update = f.0; at_hand = whole_at c n o action.Update f.0 (λ x. x) (hand_for c n o action.Update f.0 tt h); lies = lies_behind (slot_at c.slots n) w _ (area_bytes t o r) (sym area) f.1; none = refl },
+      record { is_update = f.0; at_hand = whole_at c n o action.Update f.0 (λ x. x) (hand_for c n o action.Update f.0 tt h); lies = lies_behind (slot_at c.slots n) w _ (area_bytes t o r) (sym area) f.1; place = f.2; none = refl },
       record { again = again; len = length_by action.Update g t o r [] f.0 ∙ ap length area ∙ f.1.size ∙ none_passed w.len },
-      record { so = ap outcome is ∙ sym f.2; unwritten = ap (λ (k : Closing). k.written) is },
+      record { so = ap outcome is ∙ sym f.3; unwritten = ap (λ (k : Closing). k.written) is },
     )
 first_placed c g r n o before Unfound f h again = absurd f
 first_placed c g r n o before (Filled w u) f h again = absurd f

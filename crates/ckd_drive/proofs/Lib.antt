@@ -15,3 +15,11 @@ pub mod Torn
 pub mod LostLooks
 pub mod CommandFacts
 pub mod Marks
+pub mod Writes
+pub mod Updates
+pub mod Takes
+pub mod Fills
+pub mod News
+pub mod Formats
+pub mod Replaces
+pub mod Taken

@@ -66,7 +66,7 @@ may_give c r m s p before passed more began now is now_is gives room =
     let x = gives_left p.opened passed p.left (rw work_is at gives) in
     (record { l = x.0; left = x.1; room = rw (work_is, x.1) at room }, x.2)
 
-next_left : (a : Action) (place place' : Place) (moved moved' l k : ℕ) → LeftIs a place moved (Some l) → k ≤ l → is_unfound place' ≡ false → remaining a place' moved' ≡ remaining a place moved - k → LeftIs a place' moved' (Some (l - k))
+pub next_left : (a : Action) (place place' : Place) (moved moved' l k : ℕ) → LeftIs a place moved (Some l) → k ≤ l → is_unfound place' ≡ false → remaining a place' moved' ≡ remaining a place moved - k → LeftIs a place' moved' (Some (l - k))
 next_left a Unfound place' moved moved' l k x le not e = absurd x
 next_left a (Sense u) place' moved moved' l k x le not e = left_le a place' moved' (l - k) not (omega (arith, x, e))
 next_left a (Field f) place' moved moved' l k x le not e = left_le a place' moved' (l - k) not (omega (arith, x, e))

@@ -11,7 +11,7 @@ use Rattle.ckd_drive.specs.Commands.{IsAtTrack}
 use Rattle.ckd_drive.specs.Cache.{CacheState}
 use Rattle.ckd_drive.specs.Half.{Stands, number}
 
-number_below : (g : Geometry) (r : Registers) → IsAtTrack g r → number g r < tracks_of g
+pub number_below : (g : Geometry) (r : Registers) → IsAtTrack g r → number g r < tracks_of g
 number_below g r at = below g.cylinders (heads_of g.model) r.cylinder r.head at.cylinder at.head
   where
     below : (c h x y : ℕ) → x < c → y < h → x * h + y < c * h

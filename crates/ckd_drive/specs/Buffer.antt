@@ -1,16 +1,12 @@
 -- One slot at hand, and a table of its records.
-use Rattle.std.specs.Prelude.{◌≡◌, ℕ, ◌+◌, ◌-◌, ◌/◌, ◌≤◌, ◌<◌, ◌^◌, List, ◌++◌, false, Option, Some, None, Ok, length, take, drop, sum_by, slice_range, slice_index, All}
-use Rattle.ckd_track.specs.Track.{Track, IsRecord, Spells, track_of, track_in, record_offsets, record_size, spelling}
+use Rattle.std.specs.Prelude.{◌≡◌, ℕ, ◌+◌, ◌-◌, ◌/◌, ◌≤◌, ◌<◌, ◌^◌, List, false, Option, Some, None, Ok, length, take, flat_map, slice_range, slice_index, All}
+use Rattle.ckd_track.specs.Track.{Track, IsRecord, Spells, track_of, track_in, record_offsets, record_in, record_bytes, spelling}
 use Rattle.ckd_position.specs.declared.areas.Area.{Area}
 use Rattle.ckd_position.specs.declared.areas.Area.TheVariants.{HomeAddress, Of}
 use Rattle.ckd_drive.specs.declared.places.Window.{Window}
 use Rattle.ckd_drive.specs.declared.steps.Extent.{Extent}
 use Rattle.ckd_drive.specs.declared.steps.Extent.TheVariants as extent
 use Rattle.ckd_drive.specs.Commands.{Sighted, is_readable, records_on}
-
--- the bytes with others in their place from there on
-abbrev pub overwritten : List ℕ → ℕ → List ℕ → List ℕ
-overwritten old at bytes = take at old ++ (bytes ++ drop (at + length bytes) old)
 
 -- these bytes stand there in the slot
 pub record Lies (slot : List ℕ) (w : Window) (bytes : List ℕ) : Type 0 where
@@ -50,6 +46,11 @@ record_place extent.KeyAndData at key data_bytes = record { start = at + 8; len 
 record_place extent.CountKeyAndData at key data_bytes = record { start = at; len = 8 + key + data_bytes }
 record_place _ at key data_bytes = record { start = 0; len = 0 }
 
+-- the window is where these bytes of a record of the track stand
+abbrev pub IsPlaceOf : Extent → Track → Area → Window → Type 0
+IsPlaceOf e t HomeAddress w = Unit {0}
+IsPlaceOf e t (Of part i) w = i < length t.records → w ≡ record_place e (slice_index (record_offsets t) i) (length (record_in t i).key_area) (length (record_in t i).data_area)
+
 -- record i stands there, or is not there
 abbrev pub StandsThere : List ℕ → ℕ → Option ℕ → Type 0
 StandsThere slot i None = length (records_on (track_of slot)) ≤ i
@@ -82,8 +83,13 @@ IsUpdate _ = ⊥
 
 -- where so many records end
 abbrev pub end_of_records : Track → ℕ → ℕ
-end_of_records t n = 5 + sum_by record_size (take n t.records)
+end_of_records t n = length t.home_address + length (flat_map record_bytes (take n t.records))
 
 abbrev pub IsRecordOf : Track → Area → Type 0
 IsRecordOf t (Of part i) = i < length t.records
 IsRecordOf t HomeAddress = ⊥
+
+-- how many records stand before one that is made behind this one
+abbrev pub number_up_to : Option ℕ → ℕ
+number_up_to None = 0
+number_up_to (Some i) = i + 1

@@ -1,7 +1,8 @@
 -- One command, as a change of what the drive remembers and of the track under the arm
 -- (component descriptions of the 2841 and the 2314, the sections of the commands).
-use Rattle.std.specs.Prelude.{ℕ, ◌<◌, ◌+◌, ◌-◌, ◌*◌, ◌/◌, ◌%◌, List, [], ◌∷◌, ◌++◌, Bool, true, false, not, ◌&&◌, ◌||◌, ◌==◌, Option, Some, None, is_none, Result, Ok, Err, length, take, drop, replicate, slice_index, slice_range, slice_index_or, slice_set, nat_lt, if◌then◌else◌, bytes_eq}
-use Rattle.ckd_track.specs.Track.{Record, Track, count_area, record_bytes, no_record, track_or_none}
+use Rattle.std.specs.Prelude.{ℕ, ◌<◌, ◌+◌, ◌-◌, ◌*◌, ◌/◌, ◌%◌, List, [], ◌∷◌, ◌++◌, Bool, true, false, not, ◌&&◌, ◌||◌, ◌==◌, Option, Some, None, is_none, Result, Ok, Err, length, take, drop, replicate, slice_range, slice_index_or, slice_set, nat_lt, if◌then◌else◌, bytes_eq}
+use Rattle.ckd_track.specs.Track.{Record, Track, count_area, record_bytes, record_at, key_length, data_length, body_length, no_record, track_or_none}
+use Rattle.ckd_track.specs.Changes.{bare_track, kept_records, with_record}
 use Rattle.ckd_track.specs.Model.{heads_of}
 use Rattle.ckd_track.specs.Charges.{has_room}
 use Rattle.ckd_track.specs.declared.fault.SlotFault.{SlotFault}
@@ -204,27 +205,22 @@ bytes_for _ t o r = bytes_at (extent_of o.command) t o.area
 unfoldable pub area_bytes : Sighted → Opened → Registers → List ℕ
 area_bytes t o r = bytes_for (action_of o.command) t o r
 
--- the records that a formatting write keeps before the new one: Write R0 none, Write Count, Key and Data those up to the credit's
-abbrev pub kept_before : List Record → Option Area → List Record
-kept_before rs (Some (Of part i)) = take (i + 1) rs
-kept_before rs _ = []
+-- the record behind which a formatting write makes its own: Write R0 behind none
+abbrev pub record_before : Option Area → Option ℕ
+record_before (Some (Of part i)) = Some i
+record_before _ = None
 
-abbrev pub kept : Sighted → Opened → List Record
-kept t o = kept_before (records_on t) o.area
-
-abbrev pub new_key_length : List ℕ → ℕ
-new_key_length b = slice_index b 5
-
-abbrev pub new_data_length : List ℕ → ℕ
-new_data_length b = number (slice_range b 6 8)
+-- the records that it keeps
+abbrev pub kept : Sighted → Option Area → List Record
+kept t after = kept_records (record_before after) (track_or_none t)
 
 abbrev pub new_record_fits : Geometry → Sighted → Opened → List ℕ → Bool
-new_record_fits g t o b = has_room g.model (kept t o) (new_key_length b) (new_data_length b)
+new_record_fits g t o b = has_room g.model (kept t o.area) (key_length b) (data_length b)
 
 -- eight count bytes; then the key and the data that they tell of, where the record fits
 abbrev pub format_length : Geometry → Sighted → Opened → List ℕ → ℕ
 format_length g t o b =
-    if nat_lt (length b) 8 || not (new_record_fits g t o b) then 8 else 8 + new_key_length b + new_data_length b
+    if nat_lt (length b) 8 || not (new_record_fits g t o b) then 8 else 8 + body_length b
 
 abbrev pub length_for : Action → Geometry → Sighted → Opened → Registers → List ℕ → ℕ
 length_for action.SeekCylinderAndHead g t o r b = 6
@@ -339,14 +335,13 @@ abbrev pub update : (Record → Record) → Sighted → Opened → Registers →
 update change t o r b =
     if length b == 0 then end_of_area t o r else updated t o.area change (end_of_area t o r)
 
+-- the record of these count bytes, and of key and data as far as they came, with zeros behind
 abbrev pub new_record : List ℕ → Record
-new_record b =
-    let bytes = padded (drop 8 b) (new_key_length b + new_data_length b) in
-    record { id = take 5 b; key_area = take (new_key_length b) bytes; data_area = drop (new_key_length b) bytes }
+new_record b = record_at (padded b (8 + body_length b))
 
 -- the kept records and the new one
 abbrev pub formatted : Sighted → Option Area → List ℕ → Track
-formatted t after b = record { home_address = home_address_on t; records = kept_before (records_on t) after ++ new_record b ∷ [] }
+formatted t after b = with_record (record_before after) (new_record b) (track_or_none t)
 
 abbrev pub format_ends : Registers → (new : ℕ) → Closing
 format_ends r i = ends (record r { position = At (Of Data i); credit = Some (WroteRecord i) }) ending_status
@@ -355,15 +350,11 @@ format_ends r i = ends (record r { position = At (Of Data i); credit = Some (Wro
 abbrev pub format : Geometry → Sighted → Opened → Registers → List ℕ → Closing
 format g t o r b =
     if new_record_fits g t o b
-    then writes (formatted t o.area b) (format_ends r (length (kept t o)))
+    then writes (formatted t o.area b) (format_ends r (length (kept t o.area)))
     else fails r cause.RECORD_DOES_NOT_FIT
 
 abbrev pub own_home_address : Registers → List ℕ
 own_home_address r = 0 ∷ r.cylinder / 256 ∷ r.cylinder % 256 ∷ r.head / 256 ∷ r.head % 256 ∷ []
-
--- a track without a record
-abbrev pub bare_track : List ℕ → Track
-bare_track ha = record { home_address = ha; records = [] }
 
 abbrev pub home_address_ends : Opened → Registers → Closing
 home_address_ends o r = ends (record (at_end o r) { credit = Some WroteHomeAddress }) ending_status

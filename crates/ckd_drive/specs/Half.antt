@@ -1,5 +1,5 @@
 -- A command half done, as the drive holds it.
-use Rattle.std.specs.Prelude.{◌≡◌, ℕ, ◌+◌, ◌-◌, ◌≤◌, ◌<◌, List, [], ◌++◌, Bool, true, false, ◌&&◌, ◌||◌, ◌==◌, nat_lt, Option, Some, None, option_map, length, take, drop, slice_index_or, slice_set}
+use Rattle.std.specs.Prelude.{◌≡◌, ℕ, ◌+◌, ◌-◌, ◌^◌, ◌≤◌, ◌<◌, List, [], ◌++◌, Bool, true, false, ◌&&◌, ◌||◌, ◌==◌, nat_lt, Option, Some, None, option_map, bytes_eq, length, take, drop, slice_index_or, slice_set, if◌then◌else◌}
 use Rattle.ckd_track.specs.Track.{Track, track_of, track_in, slot_of, record_offsets}
 use Rattle.ckd_image.specs.declared.geometry.Geometry.{Geometry}
 use Rattle.ckd_image.specs.Geometry.{track_at}
@@ -28,14 +28,16 @@ use Rattle.std.specs.declared.cmp.Ordering.TheVariants as order
 use Rattle.std.specs.Cmp.Lexicographic.{slice_cmp}
 use Rattle.ckd_drive.specs.declared.places.Place.{Place}
 use Rattle.ckd_drive.specs.declared.places.Place.TheVariants.{Unfound, Sense, Field, Read, Search, Fill, Filled}
+use Rattle.ckd_drive.specs.declared.places.Whole.{Whole}
+use Rattle.ckd_drive.specs.declared.places.Whole.TheVariants as whole
 use Rattle.ckd_drive.specs.declared.places.Progress.{Progress}
 use Rattle.ckd_drive.specs.declared.places.Stage.{Stage}
 use Rattle.ckd_drive.specs.declared.places.Stage.TheVariants as stage
-use Rattle.ckd_drive.specs.Tables.{action_of, extent_of, aim, comparison}
+use Rattle.ckd_drive.specs.Tables.{action_of, extent_of, aim, comparison, is_giving}
 use Rattle.ckd_position.specs.Comparisons.{accepts}
 use Rattle.ckd_sense.specs.declared.sense_bytes.TheConstants.Sense as cause
 use Rattle.ckd_drive.specs.Commands.{Sighted, Closing, IsAtTrack, is_readable, sight as sight_on, area_bytes, bytes_at, area_ends, end_of_area, search_ends, whole_field, seek_cylinder_and_head, seek_head, set_file_mask, fails, ends, at_end, ending_status, length_after, closing, outcome, padded}
-use Rattle.ckd_drive.specs.Buffer.{Lies, HasBytes, FitsSlot}
+use Rattle.ckd_drive.specs.Buffer.{Lies, HasBytes, IsPlaceOf, FitsSlot}
 use Rattle.ckd_drive.specs.Cache.{CacheState, IsVolume}
 use Rattle.ckd_drive.specs.Work.{Work, Idle, Over, Working, DriveState}
 
@@ -125,6 +127,8 @@ pub record IsFilled (g : Geometry) (r : Registers) (before now : List ℕ) (o : 
   pub lead : ℕ
   pub room : ℕ
   pub begins : lead ≤ length passed
+  pub lead_small : lead ≤ 8
+  pub within : w.start + w.len ≤ g.track_size
   pub start : length head + (length passed - lead) ≡ w.start
   pub rest : w.len + (length passed - lead) ≡ room
   pub closes : (more : List ℕ) → length more ≤ w.len
@@ -166,10 +170,16 @@ pub record HasSearched (c : CacheState) (n : ℕ) (a : Action) (w : Window) (so_
   pub begins : length passed ≤ w.start
   pub compared : so_far ≡ order_of bytes passed
 
-pub record WillFill (c : CacheState) (n : ℕ) (a : Action) (w : Window) (bytes passed : List ℕ) : Type 0 where
-  pub is_update : a ≡ action.Update
+-- the window is where these bytes of a record of the track stand
+abbrev pub PlaceIn : Extent → Track → Option Area → Window → Type 0
+PlaceIn e t (Some a) w = IsPlaceOf e t a w
+PlaceIn e t None w = Unit {0}
+
+pub record WillFill (c : CacheState) (n : ℕ) (o : Opened) (w : Window) (bytes passed : List ℕ) : Type 0 where
+  pub is_update : action_of o.command ≡ action.Update
   pub at_hand : AtHand c n
   pub lies : Lies (slot_at c.slots n) w bytes
+  pub place : PlaceIn (extent_of o.command) (track_in (slot_at c.slots n)) o.area w
   pub none : passed ≡ []
 
 pub record HasFilled (c : CacheState) (g : Geometry) (r : Registers) (n : ℕ) (o : Opened) (before passed : List ℕ) (w : Window) (u : Outcome) : Type 0 where
@@ -199,7 +209,7 @@ IsPlaced c g r n o before passed (Read w u) =
 IsPlaced c g r n o before passed (Search w so_far) =
     HasSearched c n (action_of o.command) w so_far (area_bytes (track_of (slot_at c.slots n)) o r) passed × IsFound g r (track_of (slot_at c.slots n)) o passed (Search w so_far)
 IsPlaced c g r n o before passed (Fill w u) =
-    WillFill c n (action_of o.command) w (area_bytes (track_of (slot_at c.slots n)) o r) passed × IsFound g r (track_of (slot_at c.slots n)) o passed (Fill w u) × ClosesUnwritten g r (track_of (slot_at c.slots n)) o passed u
+    WillFill c n o w (area_bytes (track_of (slot_at c.slots n)) o r) passed × IsFound g r (track_of (slot_at c.slots n)) o passed (Fill w u) × ClosesUnwritten g r (track_of (slot_at c.slots n)) o passed u
 IsPlaced c g r n o before passed (Filled w u) = HasFilled c g r n o before passed w u
 
 -- What a look has found.
@@ -225,7 +235,7 @@ IsFirstPlace slot o r (Read w u) =
 IsFirstPlace slot o r (Search w so_far) =
     (action_of o.command ≡ action.Search) × Lies slot w (bytes_at (extent_of o.command) (track_of slot) o.area) × (so_far ≡ order.Equal)
 IsFirstPlace slot o r (Fill w u) =
-    (action_of o.command ≡ action.Update) × Lies slot w (bytes_at (extent_of o.command) (track_of slot) o.area) × (u ≡ outcome (end_of_area (track_of slot) o r))
+    (action_of o.command ≡ action.Update) × Lies slot w (bytes_at (extent_of o.command) (track_of slot) o.area) × PlaceIn (extent_of o.command) (track_in slot) o.area w × (u ≡ outcome (end_of_area (track_of slot) o r))
 IsFirstPlace slot o r _ = ⊥
 
 -- the arm and the credit are as they were
@@ -345,3 +355,34 @@ MovedInField a moved _ = Unit {0}
 abbrev pub mark_left : Place → Mark → Mark
 mark_left (Filled w u) m = Written
 mark_left _ m = m
+
+-- What a field is, once it came whole.
+abbrev pub whole_of : Action → (own : List ℕ) → (moved : ℕ) → (field : List ℕ) → Whole
+whole_of action.WriteHomeAddress own moved f = if moved == 5 && bytes_eq (take 5 f) own then whole.HomeAddress (take 5 f) else whole.No
+whole_of action.Format own moved f = if moved == 8 then whole.Count f else whole.No
+whole_of _ own moved f = whole.No
+
+-- Bytes that are taken.
+
+-- a command half done, whatever the mark is and whenever it began
+pub record Works (c : CacheState) (r : Registers) (before passed : List ℕ) (p : Progress) : Type 0 where
+  pub volume : IsVolume c
+  pub arm : IsAtTrack c.image.geometry r
+  pub anchored : c.changed ≡ true → c.held ≡ Some (number c.image.geometry r)
+  pub goes : Goes c r before passed p
+
+-- these bytes are taken by the drive, and may be
+pub record MayTake (p : Progress) (more : List ℕ) : Type 0 where
+  pub l : ℕ
+  pub left : p.left ≡ Some l
+  pub room : length more ≤ l
+  pub taking : is_giving (action_of p.opened.command) ≡ false
+
+-- the command half done takes these bytes, and the rest have this place
+pub record Absorbs (c c' : CacheState) (r : Registers) (before before' passed : List ℕ) (p : Progress) (more : List ℕ) (place : Place) : Type 0 where
+  pub works : Works c' r before' (passed ++ more) (next_progress p (length more) place)
+  pub image : c'.image ≡ c.image
+  pub seen_same : seen_by c'.slots (number c.image.geometry r) before' place ≡ seen_by c.slots (number c.image.geometry r) before p.place
+  pub changed : c'.changed ≡ (c.changed || is_filled_by place)
+  pub still : is_filled_by p.place ≡ true → is_filled_by place ≡ true
+  pub small : length passed + length more < 2 ^ 32

@@ -1,18 +1,23 @@
 //! The slot of one track at hand, with a table of where its records stand.
 
-ghost use Rattle.std.specs.Prelude.{◌≡◌, ◌≤◌, ◌<◌, ◌+◌, ◌-◌, ◌/◌, ◌^◌, ◌++◌, length, take, drop, replicate, slice_index_or, IfOk, OnOk, OnErr, Ok, Some, [], true, IsSome};
-ghost use Rattle.ckd_track.specs.Track.{track_of, track_in, track_or_none, no_track, slot_of, end_mark, body_length as body_length_of, key_length as key_length_of, data_length as data_length_of, IsRecord};
+ghost use Rattle.std.specs.Prelude.{◌≡◌, ◌≤◌, ◌<◌, ◌+◌, ◌-◌, ◌/◌, ◌^◌, ◌++◌, length, take, drop, replicate, bytes_eq, false, slice_index_or, IfOk, OnOk, OnErr, Ok, Some, [], true, IsSome};
+ghost use Rattle.ckd_track.specs.Track.{track_of, track_in, track_or_none, no_track, spelling, slot_of, end_mark, body_length as body_length_of, key_length as key_length_of, data_length as data_length_of, IsRecord};
 ghost use Rattle.ckd_image.specs.Geometry.{tracks_of};
 ghost use Rattle.ckd_position.specs.Areas.{next_of_kind, IsOnTrack, IfFound};
-ghost use Rattle.ckd_drive.specs.Commands.{records_on, bytes_of, is_readable as reads, has_no_data as lacks_data, formatted as track_formatted, bare_track, with_record_changed, replaced, new_record_fits, new_record, kept_before};
-ghost use Rattle.ckd_drive.specs.Buffer.{overwritten, Lies, HasBytes, StandsThere, home_address_place, record_place, IsRead, end_of_records, IsRecordOf, SameRecords, FitsSlot, IsUpdate};
+ghost use Rattle.ckd_track.specs.Changes.{overwritten, ended_at, bare_track, kept_records};
+ghost use Rattle.ckd_track.specs.Charges.{has_room};
+ghost use Rattle.ckd_track.specs.Model.{capacity_of};
+ghost use Rattle.std.specs.Option.{ForSome};
+ghost use Rattle.ckd_drive.specs.Commands.{records_on, bytes_of, is_readable as reads, has_no_data as lacks_data, formatted as track_formatted, with_record_changed, replaced, kept as kept_on};
+ghost use Rattle.ckd_drive.specs.Buffer.{Lies, HasBytes, IsPlaceOf, StandsThere, home_address_place, record_place, IsRead, end_of_records, number_up_to, IsRecordOf, SameRecords, FitsSlot, IsUpdate};
 
 use crate::places::Window;
 use crate::steps::Extent;
+use crate::tables;
 use ckd_image::image::Image;
 use ckd_image::store::{ImageStore, StoreFault};
 use ckd_position::{Area, Kind, Next, Position, next_area};
-use ckd_track::{DriveModel, index_slot, view_at};
+use ckd_track::{DriveModel, fits, index_slot, overwrite, put_end_mark, view_at, write_ha};
 use std::alloc::{AllocError, Global};
 use std::marker::Model;
 
@@ -58,13 +63,6 @@ fn body_length(count: &[u8]) -> usize
     count[5] as usize + u16::from_be_bytes([count[6], count[7]]) as usize
 }
 
-fn overwrite(slot: &mut [u8], at: usize, bytes: &[u8])
-    requires { at + length bytes.now ≤ length slot.old }
-    ensures { slot.new ≡ overwritten slot.old at bytes.now }
-{
-    slot[at..at + bytes.len()].copy_from_slice(bytes);
-}
-
 fn clear(slot: &mut [u8], at: usize, n: usize)
     requires { at + n ≤ length slot.old }
     ensures { slot.new ≡ overwritten slot.old at (replicate n 0) }
@@ -72,13 +70,36 @@ fn clear(slot: &mut [u8], at: usize, n: usize)
     slot[at..at + n].fill(0);
 }
 
-// The end mark at an offset, and zeros behind it.
-fn end_at(slot: &mut [u8], at: usize)
-    requires { at + 8 ≤ length slot.old }
-    ensures { slot.new ≡ take at slot.old ++ (end_mark ++ replicate (length slot.old - (at + 8)) 0) }
+// A record of these count bytes at an offset, with so many zeros as its key and data; behind it the end mark and zeros.
+fn put_new(slot: &mut [u8], at: usize, count: &[u8; 8], body: usize)
+    requires { at + 8 + body + 8 ≤ length slot.old }
+    ensures { slot.new ≡ ended_at (overwritten (overwritten slot.old at count.now) (at + 8) (replicate body 0)) (at + 8 + body) }
 {
-    slot[at..].fill(0);
-    slot[at..at + COUNT_LENGTH].fill(0xff);
+    let end = at + COUNT_LENGTH + body;
+    overwrite(slot, at, count);
+    clear(slot, at + COUNT_LENGTH, body);
+    put_end_mark(slot, end);
+}
+
+// Zeros in a window, and behind the end mark.
+fn clear_window(slot: &mut [u8], window: Window, end: usize)
+    requires window { window.start + window.len ≤ length slot.old }
+    requires end { end + 8 ≤ length slot.old }
+    ensures { slot.new ≡ ended_at (overwritten slot.old window.start (replicate window.len 0)) end }
+{
+    clear(slot, window.start, window.len);
+    put_end_mark(slot, end);
+}
+
+// How many records stand before one that is made behind this one.
+fn records_up_to(before: Option<usize>) -> usize
+    requires { ForSome before (λ i. i < 2 ^ 32) }
+    ensures { result ≡ number_up_to before }
+{
+    match before {
+        Some(i) => i + 1,
+        None => 0,
+    }
 }
 
 // The only area of a track that does not read whole.
@@ -192,7 +213,8 @@ impl TrackBuffer {
     pub(crate) fn window(&self, extent: Extent, area: Area) -> Window
         requires readable { reads (track_of self.now) ≡ true }
         requires on_track { HasBytes extent (track_of self.now) area }
-        ensures { Lies self.now result (bytes_of extent (track_of self.now) area) }
+        ensures lies { Lies self.now result (bytes_of extent (track_of self.now) area) }
+        ensures place { IsPlaceOf extent (track_in self.now) area result }
     {
         match area {
             Area::HomeAddress => home_address_window(extent),
@@ -229,5 +251,110 @@ impl TrackBuffer {
             return None;
         }
         Some(self.offsets[i] as usize)
+    }
+
+    // Where the first records end, so many of them.
+    fn end_of(&self, records: usize) -> usize
+        requires readable { reads (track_of self.now) ≡ true }
+        requires there { records ≤ length (track_in self.now).records }
+        ensures place { result ≡ end_of_records (track_in self.now) records }
+        ensures room { result + 8 ≤ length self.now }
+    {
+        let _slot = &self.slot;
+        if records == 0 {
+            return HOME_ADDRESS_LENGTH;
+        }
+        match self.offset_of(records - 1) {
+            Some(at) => at + record_window(&self.slot, at, Extent::CountKeyAndData).len,
+            None => HOME_ADDRESS_LENGTH,
+        }
+    }
+
+    // The record behind which a formatting write makes its own, as far as the track has it.
+    fn before(&self, after: Option<Area>) -> Option<usize>
+        requires { reads (track_of self.now) ≡ true }
+        ensures kept { kept_records result (track_in self.now) ≡ kept_on (track_of self.now) after }
+        ensures there { ForSome result (λ i. i < length (track_in self.now).records) }
+    {
+        let Some(i) = tables::record_before(after) else {
+            return None;
+        };
+        let n = self.records.unwrap_or(0);
+        if n == 0 {
+            return None;
+        }
+        Some(i.min(n - 1))
+    }
+
+    /// Whether a new record with these count bytes fits.
+    pub(crate) fn fits(&self, model: DriveModel, after: Option<Area>, count: [u8; 8]) -> bool
+        requires { reads (track_of self.now) ≡ true }
+        ensures value { result ≡ has_room model (kept_on (track_of self.now) after) (key_length_of count) (data_length_of count) }
+        ensures room { result ≡ true → length (spelling (track_formatted (track_of self.now) after count)) ≤ capacity_of model + 37 }
+        ensures no_end_mark { result ≡ true → bytes_eq count end_mark ≡ false }
+    {
+        let n = self.records.unwrap_or(0);
+        let view = view_at(&self.slot, &self.offsets[..n]);
+        fits(
+            model,
+            &view,
+            self.before(after),
+            count[5],
+            u16::from_be_bytes([count[6], count[7]]),
+        )
+    }
+
+    /// Writes the home address, and removes all records.
+    pub(crate) fn write_home_address(&mut self, home_address: [u8; 5])
+        requires { 13 ≤ length self.old }
+        ensures slot { self.new ≡ slot_of (length self.old) (bare_track home_address) }
+        ensures size { length self.new ≡ length self.old }
+    {
+        write_ha(&mut self.slot, home_address);
+        self.records = Some(0);
+    }
+
+    /// Writes a record of these count bytes behind the kept ones, with zeros in its key and data, removes all records
+    /// behind it, and answers its number.
+    pub(crate) fn format(&mut self, after: Option<Area>, count: [u8; 8]) -> usize
+        requires readable { reads (track_of self.old) ≡ true }
+        requires no_end_mark { bytes_eq count end_mark ≡ false }
+        requires room { length (spelling (track_formatted (track_of self.old) after count)) ≤ length self.old }
+        ensures slot { self.new ≡ slot_of (length self.old) (track_formatted (track_of self.old) after count) }
+        ensures number { result ≡ length (kept_on (track_of self.old) after) }
+        ensures fits { FitsSlot (length self.old) (track_formatted (track_of self.old) after count) }
+        ensures size { length self.new ≡ length self.old }
+    {
+        let kept = records_up_to(self.before(after));
+        let at = self.end_of(kept);
+        let body = body_length(&count);
+        put_new(&mut self.slot, at, &count, body);
+        self.offsets[kept] = at as u32;
+        self.records = Some(kept + 1);
+        kept
+    }
+
+    /// Puts zeros in the place of the bytes of a record's area, and behind the end mark.
+    pub(crate) fn clear(&mut self, extent: Extent, area: Area)
+        requires readable { reads (track_of self.old) ≡ true }
+        requires update { IsUpdate extent }
+        requires there { IsRecordOf (track_in self.old) area }
+        ensures slot { self.new ≡ slot_of (length self.old) (with_record_changed (replaced extent []) area (track_in self.old)) }
+        ensures fits { FitsSlot (length self.old) (with_record_changed (replaced extent []) area (track_in self.old)) }
+        ensures size { length self.new ≡ length self.old }
+    {
+        let window = self.window(extent, area);
+        let end = self.end_of(self.records.unwrap_or(0));
+        clear_window(&mut self.slot, window, end);
+    }
+
+    /// Puts other bytes into the slot, where its records stay in their places.
+    pub(crate) fn put(&mut self, at: usize, bytes: &[u8])
+        requires room { at + length bytes.now ≤ length self.old }
+        requires records { SameRecords self.old (overwritten self.old at bytes.now) }
+        ensures slot { self.new ≡ overwritten self.old at bytes.now }
+        ensures size { length self.new ≡ length self.old }
+    {
+        overwrite(&mut self.slot, at, bytes);
     }
 }

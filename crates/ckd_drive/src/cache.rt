@@ -1,10 +1,11 @@
 //! An image, with the slot of one track at hand: loaded when it is first wanted, written in place, saved late.
 
-ghost use Rattle.std.specs.Prelude.{◌≡◌, ◌≤◌, ◌<◌, ◌+◌, Some, None, true, false, [], length, unwrap_or, slice_index_or, IfOk, IfErr, OnOk, OnErr, IsSome};
+ghost use Rattle.std.specs.Prelude.{◌≡◌, ◌≤◌, ◌<◌, ◌+◌, Some, None, true, false, [], length, bytes_eq, unwrap_or, slice_index_or, IfOk, IfErr, OnOk, OnErr, IsSome};
 ghost use Rattle.ckd_image.specs.Geometry.{tracks_of};
-ghost use Rattle.ckd_track.specs.Track.{track_of, track_in, slot_of};
-ghost use Rattle.ckd_drive.specs.Commands.{is_readable, formatted as track_formatted, bare_track, with_record_changed, replaced};
-ghost use Rattle.ckd_drive.specs.Buffer.{overwritten, SameRecords, FitsSlot, IsUpdate, IsRecordOf};
+ghost use Rattle.ckd_track.specs.Track.{track_of, track_in, slot_of, spelling, end_mark};
+ghost use Rattle.ckd_track.specs.Changes.{overwritten, bare_track};
+ghost use Rattle.ckd_drive.specs.Commands.{is_readable, formatted as track_formatted, with_record_changed, replaced, kept};
+ghost use Rattle.ckd_drive.specs.Buffer.{SameRecords, FitsSlot, IsUpdate, IsRecordOf};
 ghost use Rattle.ckd_drive.specs.Cache.{slot_held, with_held, holds, after_hold, after_failed_hold, after_save, after_failed_save, IsVolume};
 
 use crate::buffer::TrackBuffer;
@@ -90,6 +91,51 @@ impl<S: ImageStore> TrackCache<S> {
         ensures size { length result.now ≡ self.now.image.geometry.track_size }
     {
         &self.buffer
+    }
+
+    pub(crate) fn write_home_address(&mut self, home_address: [u8; 5])
+        requires held { IsSome self.old.held }
+        ensures { self.new ≡ with_held self.old (slot_of self.old.image.geometry.track_size (bare_track home_address)) }
+    {
+        let _geometry = self.image.geometry();
+        self.buffer.write_home_address(home_address);
+        self.changed = true;
+    }
+
+    pub(crate) fn format(&mut self, after: Option<Area>, count: [u8; 8]) -> usize
+        requires held { IsSome self.old.held }
+        requires readable { is_readable (track_of (slot_held self.old)) ≡ true }
+        requires no_end_mark { bytes_eq count end_mark ≡ false }
+        requires room { length (spelling (track_formatted (track_of (slot_held self.old)) after count)) ≤ self.old.image.geometry.track_size }
+        ensures slot { self.new ≡ with_held self.old (slot_of self.old.image.geometry.track_size (track_formatted (track_of (slot_held self.old)) after count)) }
+        ensures number { result ≡ length (kept (track_of (slot_held self.old)) after) }
+        ensures fits { FitsSlot self.old.image.geometry.track_size (track_formatted (track_of (slot_held self.old)) after count) }
+    {
+        let number = self.buffer.format(after, count);
+        self.changed = true;
+        number
+    }
+
+    pub(crate) fn clear(&mut self, extent: Extent, area: Area)
+        requires held { IsSome self.old.held }
+        requires readable { is_readable (track_of (slot_held self.old)) ≡ true }
+        requires update { IsUpdate extent }
+        requires there { IsRecordOf (track_in (slot_held self.old)) area }
+        ensures slot { self.new ≡ with_held self.old (slot_of self.old.image.geometry.track_size (with_record_changed (replaced extent []) area (track_in (slot_held self.old)))) }
+        ensures fits { FitsSlot self.old.image.geometry.track_size (with_record_changed (replaced extent []) area (track_in (slot_held self.old))) }
+    {
+        self.buffer.clear(extent, area);
+        self.changed = true;
+    }
+
+    pub(crate) fn put(&mut self, at: usize, bytes: &[u8])
+        requires held { IsSome self.old.held }
+        requires room { at + length bytes.now ≤ self.old.image.geometry.track_size }
+        requires records { SameRecords (slot_held self.old) (overwritten (slot_held self.old) at bytes.now) }
+        ensures { self.new ≡ with_held self.old (overwritten (slot_held self.old) at bytes.now) }
+    {
+        self.buffer.put(at, bytes);
+        self.changed = true;
     }
 
     /// Saves the slot at hand if it was changed. Where that fails the slot is dropped.

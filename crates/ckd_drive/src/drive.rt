@@ -17,7 +17,7 @@ use crate::places::{Place, Progress, Stage};
 use crate::registers::{Mark, Registers};
 use crate::steps::{Aim, Beginning, DriveEnding, Opened, Sight};
 use crate::trace::Trace;
-use crate::{beginning, closing, placing, tables};
+use crate::{beginning, closing, placing, tables, taking};
 use ckd_image::image::Image;
 use ckd_image::store::{ImageStore, StoreFault};
 use ckd_sense::Sense;
@@ -303,6 +303,27 @@ impl<S: ImageStore> Drive<S> {
         copy(&self.registers.sense.to_bytes(), p.moved, into);
         self.passed = self.passed.and(into);
         self.stage = moved_on_by(p, into.len(), p.place);
+    }
+
+    /// Takes the next bytes.
+    pub fn take(&mut self, bytes: &[u8])
+        requires takes { takes_now self.old.work ≡ true }
+        requires room { length bytes.now ≤ left_of self.old.work }
+        ensures { self.new ≡ record self.old { work = moved_on bytes.now self.old.work } }
+    {
+        let Stage::Working(p) = self.stage else {
+            return;
+        };
+        let place = taking::absorb(
+            &mut self.cache,
+            self.registers,
+            &mut self.before,
+            &self.passed,
+            p,
+            bytes,
+        );
+        self.passed = self.passed.and(bytes);
+        self.stage = moved_on_by(p, bytes.len(), place);
     }
 
     /// Ends the command, with the bytes that have passed.

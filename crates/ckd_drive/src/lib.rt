@@ -1,5 +1,5 @@
-//! One drive over an image: a command, begun, looked for, given in pieces of any length, and ended, is one change of
-//! the drive's state. The call by which a drive takes bytes is still to be built; the definitions have it.
+//! One drive over an image: a command, begun, looked for, given or taken in pieces of any length, and ended or cut, is
+//! one change of the drive's state.
 #![tactic(auto)]
 
 pub mod answers;
@@ -14,4 +14,5 @@ pub mod registers;
 mod sight;
 pub mod steps;
 mod tables;
+mod taking;
 mod trace;

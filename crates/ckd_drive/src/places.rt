@@ -31,6 +31,17 @@ pub enum Place {
     Filled(Window, Outcome),
 }
 
+/// What the bytes of a field are, once they came whole, to a command that may then change the track.
+#[derive(Clone, Copy, Debug, PartialEq, Eq)]
+pub enum Whole {
+    /// They did not come whole, or the track is not changed.
+    No,
+    /// The track's own home address.
+    HomeAddress([u8; 5]),
+    /// The count area of a new record.
+    Count([u8; 8]),
+}
+
 /// A command half done.
 #[derive(Clone, Copy, Debug, PartialEq, Eq)]
 pub struct Progress {

@@ -7,16 +7,16 @@ ghost use Rattle.std.specs.Ordering.{nat_cmp, ordering_then};
 ghost use Rattle.std.specs.Cmp.Lexicographic.{slice_cmp};
 ghost use Rattle.ckd_position.specs.Comparisons.{accepts as accepts_order};
 ghost use Rattle.ckd_drive.specs.Tables.{action_of, aim as aim_of};
-ghost use Rattle.ckd_drive.specs.Commands.{outcome, sight as sight_of_track};
+ghost use Rattle.ckd_drive.specs.Commands.{outcome, own_home_address, sight as sight_of_track};
 ghost use Rattle.ckd_drive.specs.Work.{settled_mark as mark_settled, owed_mark as mark_owed};
-ghost use Rattle.ckd_drive.specs.Buffer.{overwritten};
+ghost use Rattle.ckd_track.specs.Changes.{overwritten};
 ghost use Rattle.ckd_drive.specs.declared.steps.Aim.TheVariants.{Next, NoArea};
 ghost use Rattle.ckd_drive.specs.declared.steps.Action.TheVariants.{NoTransfer};
-ghost use Rattle.ckd_drive.specs.Half.{field_ends as field_closes, outcome_at, MovedInField, is_unfound as has_not_looked, mark_left as mark_left_by, remaining as remaining_by, field_size as size_of_field, AreaIsThere, AreaOf, IsFirstPlace, ReadsWhole};
+ghost use Rattle.ckd_drive.specs.Half.{whole_of, field_ends as field_closes, outcome_at, MovedInField, is_unfound as has_not_looked, mark_left as mark_left_by, remaining as remaining_by, field_size as size_of_field, AreaIsThere, AreaOf, IsFirstPlace, ReadsWhole};
 
 use crate::beginning::with_cause;
 use crate::buffer::TrackBuffer;
-use crate::places::{Place, Window};
+use crate::places::{Place, Whole, Window};
 use crate::registers::{Mark, Registers};
 use crate::sight::sight_of;
 use crate::steps::{Action, Opened, Outcome, Sight};
@@ -242,5 +242,23 @@ pub(crate) fn close(
         }
         Place::Field(field) => field_ends(geometry, opened, registers, &field[..moved]),
         Place::Unfound => closing::ends(registers, closing::ENDING),
+    }
+}
+
+/// What a field is once so many of its bytes came.
+pub(crate) fn whole(opened: Opened, registers: Registers, moved: usize, field: [u8; 8]) -> Whole
+    ensures { result ≡ whole_of (action_of opened.command) (own_home_address registers) moved field }
+{
+    match tables::action(opened.command) {
+        Action::WriteHomeAddress => {
+            let home_address = [field[0], field[1], field[2], field[3], field[4]];
+            if moved == 5 && home_address == closing::own_home_address(registers) {
+                Whole::HomeAddress(home_address)
+            } else {
+                Whole::No
+            }
+        }
+        Action::Format if moved == 8 => Whole::Count(field),
+        _ => Whole::No,
     }
 }

@@ -1,0 +1,287 @@
+-- A track that gets a new record.
+use Rattle.std.proofs.Common.{◌≡◌, ◌∙◌, ap, sym, subst, refl, ℕ, ◌+◌, ◌-◌, ◌<◌, ◌≤◌, List, [], ◌∷◌, ◌++◌, Bool, true, false, ◌==◌, nat_lt, Option, Some, length, take, drop, set, slice_range, slice_index, replicate, length-append, length-drop, length-take, drop-drop, append_assoc, append-nil, arith}
+use Rattle.std.proofs.Math.Seq.{get_or-append_seam, set-append_seam}
+use Rattle.std.proofs.lemmas.List.{drop_at, take_all, get_or_append_left, take-append-le}
+use Rattle.std.proofs.lemmas.Bool.Decides.{nat_tests}
+use Rattle.ckd_track.specs.Track.{Track, Record, track_of, track_in, record_in, no_record, record_offsets, record_at, slot_of, key_length, data_length, body_length}
+use Rattle.ckd_track.specs.Changes.{overwritten}
+use Rattle.ckd_track.specs.Charges.{has_room}
+use Rattle.ckd_image.specs.declared.geometry.Geometry.{Geometry}
+use Rattle.ckd_position.specs.declared.areas.Area.{Area}
+use Rattle.ckd_position.specs.declared.areas.Area.TheVariants.{Of}
+use Rattle.ckd_position.specs.declared.areas.Part.{Part}
+use Rattle.ckd_drive.specs.declared.registers.Registers.{Registers}
+use Rattle.ckd_drive.specs.declared.steps.Action.{Action}
+use Rattle.ckd_drive.specs.declared.steps.Action.TheVariants as action
+use Rattle.ckd_drive.specs.declared.steps.Extent.TheVariants as extent
+use Rattle.ckd_drive.specs.declared.steps.Opened.{Opened}
+use Rattle.ckd_drive.specs.declared.places.Whole.TheVariants as whole
+use Rattle.ckd_drive.specs.declared.places.Window.{Window}
+use Rattle.ckd_drive.specs.declared.places.Place.TheVariants.{Field, Filled}
+use Rattle.ckd_drive.specs.declared.places.Progress.{Progress}
+use Rattle.ckd_drive.specs.Tables.{action_of}
+use Rattle.ckd_drive.specs.Commands.{Sighted, Closing, is_readable, length_after, closing, outcome, own_home_address, new_record_fits, new_record, formatted, format_ends, kept, writes, padded, replaced, with_key_and_data, with_record_changed}
+use Rattle.ckd_drive.specs.Buffer.{FitsSlot, IsPlaceOf}
+use Rattle.ckd_drive.specs.Cache.{CacheState, with_held, slot_held}
+use Rattle.ckd_drive.specs.Half.{Works, MayTake, Absorbs, IsFilled, AtHand, FieldAtHand, slot_at, number, whole_of}
+use Rattle.ckd_drive.proofs.Writes.{update_length, update_place}
+use Rattle.ckd_drive.proofs.Fills.{there, new_slot_at, reads_new, ClosesFilled, form_filled, length-padded}
+use Rattle.ckd_drive.proofs.Looks.{slot_is}
+use Rattle.ckd_drive.proofs.First.{length_by, closing_by}
+use Rattle.ckd_drive.proofs.Takes.{ChangesNothing, field_goes, field_absorbs}
+use Rattle.ckd_drive.proofs.News.{newly_absorbs, is_count}
+
+-- The count bytes tell the lengths, whatever comes behind them.
+pub record SameCount (b m : List ℕ) : Type 0 where
+  pub key : key_length (b ++ m) ≡ key_length b
+  pub bytes : data_length (b ++ m) ≡ data_length b
+
+same_count : (b m : List ℕ) → length b ≡ 8 → SameCount b m
+same_count b m eight =
+    let f : slice_index (b ++ m) 5 ≡ slice_index b 5 = get_or_append_left b m 0 5 (omega (arith, eight)) in
+    let g : slice_index (b ++ m) 6 ≡ slice_index b 6 = get_or_append_left b m 0 6 (omega (arith, eight)) in
+    let h : slice_index (b ++ m) 7 ≡ slice_index b 7 = get_or_append_left b m 0 7 (omega (arith, eight)) in
+    record { key = f; bytes = rw (g, h) refl }
+
+abbrev record_with : (b body : List ℕ) → Record
+record_with b body = record { id = take 5 b; key_area = take (key_length b) body; data_area = drop (key_length b) body }
+
+-- a record of count bytes and as many bytes as these tell
+parts : (b body : List ℕ) → length b ≡ 8 → length body ≡ body_length b → record_at (b ++ body) ≡ record_with b body
+parts b body eight long =
+    let s = same_count b body eight in
+    let k = key_length b in
+    let id : take 5 (b ++ body) ≡ take 5 b = take-append-le 5 b body (omega (arith, eight)) in
+    let behind : drop 8 (b ++ body) ≡ body = drop_at b body 8 eight in
+    let key : slice_range (b ++ body) 8 (8 + key_length (b ++ body)) ≡ take k body = rw (s.key, behind, (let e : 8 + k - 8 ≡ k = omega arith in e)) refl in
+    let bytes : slice_range (b ++ body) (8 + key_length (b ++ body)) (8 + body_length (b ++ body)) ≡ drop k body =
+    (let far : drop (8 + k) (b ++ body) ≡ drop k body = sym (drop-drop k 8 (b ++ body)) ∙ ap (drop k) behind in
+    rw (s.key, s.bytes, far) (take_all (8 + body_length b - (8 + k)) (drop k body) (omega (arith, length-drop k body, long)))) in
+    rw (id, key, bytes) refl
+
+-- the zeros behind the bytes that came
+padded_behind : (b m : List ℕ) (n : ℕ) → length b ≡ 8 → padded (b ++ m) (8 + n) ≡ b ++ padded m n
+padded_behind b m n eight =
+    let e : 8 + n - length (b ++ m) ≡ n - length m = omega (arith, length-append b m, eight) in
+    rw e (append_assoc b m (replicate (n - length m) 0))
+
+pub new_with : (b m : List ℕ) → length b ≡ 8 → length m ≤ body_length b → new_record (b ++ m) ≡ record_with b (padded m (body_length b))
+new_with b m eight le =
+    let s = same_count b m eight in
+    let n : body_length (b ++ m) ≡ body_length b = rw (s.key, s.bytes) refl in
+    ap (λ (k : ℕ). record_at (padded (b ++ m) (8 + k))) n ∙ ap record_at (padded_behind b m (body_length b) eight) ∙ parts b (padded m (body_length b)) eight (length-padded m (body_length b) le)
+
+-- The new record stands behind the kept ones.
+
+length-record : (b m : List ℕ) → length m ≤ body_length b → length (take (key_length b) (padded m (body_length b))) + length (drop (key_length b) (padded m (body_length b))) ≡ body_length b
+length-record b m le =
+    let long = length-padded m (body_length b) le in
+    omega (arith, length-take (key_length b) (padded m (body_length b)), length-drop (key_length b) (padded m (body_length b)), long)
+
+-- a new record that gets other bytes
+record_changed : (b m : List ℕ) → length m ≤ body_length b → with_key_and_data (padded m (body_length b)) (record_with b (padded [] (body_length b))) ≡ record_with b (padded m (body_length b))
+record_changed b m le =
+    let n = body_length b in
+    let k = key_length b in
+    let none = length-padded [] n (omega arith) in
+    let sum : length (take k (padded [] n)) + length (drop k (padded [] n)) ≡ n = length-record b [] (omega arith) in
+    let key : length (take k (padded [] n)) ≡ k = omega (arith, length-take k (padded [] n), none) in
+    let whole : padded (padded m n) n ≡ padded m n = (let z : n - length (padded m n) ≡ 0 = omega (arith, length-padded m n le) in rw z (append-nil (padded m n))) in
+    rw (sum, key, whole) refl
+
+record_last : (t : Sighted) (after : Option Area) (b : List ℕ) (i : ℕ) → i ≡ length (kept t after) → record_in (formatted t after b) i ≡ new_record b
+record_last t after b i e = rw e (get_or-append_seam (kept t after) (new_record b) [] no_record)
+
+pub format_there : (t : Sighted) (after : Option Area) (b : List ℕ) (i : ℕ) → i ≡ length (kept t after) → i < length (formatted t after b).records
+format_there t after b i e = omega (arith, e, length-append (kept t after) (new_record b ∷ []))
+
+pub format_bytes : (t : Sighted) (after : Option Area) (b : List ℕ) (i : ℕ) → i ≡ length (kept t after) → length b ≡ 8 → update_length extent.KeyAndData (record_in (formatted t after b) i) ≡ body_length b
+format_bytes t after b i e eight =
+    let new : new_record b ≡ record_with b (padded [] (body_length b)) = ap new_record (sym (append-nil b)) ∙ new_with b [] eight (omega arith) in
+    ap (update_length extent.KeyAndData) (record_last t after b i e ∙ new) ∙ length-record b [] (omega arith)
+
+pub format_same : (t : Sighted) (after : Option Area) (b m : List ℕ) (part : Part) (i : ℕ) → length b ≡ 8 → i ≡ length (kept t after) → length m ≤ body_length b
+    → with_record_changed (replaced extent.KeyAndData (padded m (body_length b))) (Of part i) (formatted t after b) ≡ formatted t after (b ++ m)
+format_same t after b m part i eight e le =
+    let new : new_record b ≡ record_with b (padded [] (body_length b)) = ap new_record (sym (append-nil b)) ∙ new_with b [] eight (omega arith) in
+    let there = record_last t after b i e in
+    let changed : with_key_and_data (padded m (body_length b)) (record_in (formatted t after b) i) ≡ new_record (b ++ m) = ap (λ (x : Record). with_key_and_data (padded m (body_length b)) x) (there ∙ new) ∙ record_changed b m le ∙ sym (new_with b m eight le) in
+    let put : set (kept t after ++ new_record b ∷ []) i (new_record (b ++ m)) ≡ kept t after ++ new_record (b ++ m) ∷ [] = rw e (set-append_seam (kept t after) (new_record b) [] (new_record (b ++ m))) in
+    ap (λ (x : Record). let y : Track = record (formatted t after b) { records = set (kept t after ++ new_record b ∷ []) i x } in y) changed
+    ∙ ap (λ (rs : List Record). let y : Track = record (formatted t after b) { records = rs } in y) put
+
+pub format_written : (t : Sighted) (after : Option Area) (b m : List ℕ) (part : Part) (i : ℕ) → length b ≡ 8 → i ≡ length (kept t after) → length m ≤ body_length b
+    → with_record_changed (replaced extent.KeyAndData (padded (drop 8 (b ++ m)) (update_length extent.KeyAndData (record_in (formatted t after b) i)))) (Of part i) (formatted t after b) ≡ formatted t after (b ++ m)
+format_written t after b m part i eight e le =
+    let room = update_length extent.KeyAndData (record_in (formatted t after b) i) in
+    let same : padded (drop 8 (b ++ m)) room ≡ padded m (body_length b) = ap (λ (x : List ℕ). padded x room) (drop_at b m 8 eight) ∙ ap (λ (k : ℕ). padded m k) (format_bytes t after b i e eight) in
+    ap (λ (x : List ℕ). with_record_changed (replaced extent.KeyAndData x) (Of part i) (formatted t after b)) same ∙ format_same t after b m part i eight e le
+
+-- How a formatting write closes once its count bytes came and fit.
+
+fits_still : (g : Geometry) (t : Sighted) (o : Opened) (b m : List ℕ) → length b ≡ 8 → new_record_fits g t o b ≡ true → new_record_fits g t o (b ++ m) ≡ true
+fits_still g t o b m eight fits =
+    let s = same_count b m eight in
+    let P : ℕ → ℕ → Type 0 = λ k d. has_room g.model (kept t o.area) k d ≡ true in
+    let Q : ℕ → Type 0 = λ k. P k (data_length b) in
+    let R : ℕ → Type 0 = λ d. P (key_length (b ++ m)) d in
+    subst R (sym s.bytes) (subst Q (sym s.key) fits)
+
+not_below : (n : ℕ) → 8 ≤ n → nat_lt n 8 ≡ false
+not_below n le = grind (arith, nat_tests)
+
+not_zero : (n : ℕ) → 8 ≤ n → (n == 0) ≡ false
+not_zero n le = grind (arith, nat_tests)
+
+long_enough : (b m : List ℕ) → length b ≡ 8 → (nat_lt (length (b ++ m)) 8 ≡ false) × ((length (b ++ m) == 0) ≡ false)
+long_enough b m eight = (let le : 8 ≤ length (b ++ m) = omega (arith, length-append b m, eight) in (not_below (length (b ++ m)) le, not_zero (length (b ++ m)) le))
+
+format_closes : (g : Geometry) (t : Sighted) (o : Opened) (r : Registers) (b m : List ℕ) → action_of o.command ≡ action.Format → length b ≡ 8 → new_record_fits g t o b ≡ true
+    → closing g t o r (b ++ m) ≡ writes (formatted t o.area (b ++ m)) (format_ends r (length (kept t o.area)))
+format_closes g t o r b m is eight fits =
+    let still = fits_still g t o b m eight fits in
+    let long = long_enough b m eight in
+    closing_by action.Format g t o r (b ++ m) is ∙ rw (long.0, long.1, still) refl
+
+format_wants : (g : Geometry) (t : Sighted) (o : Opened) (r : Registers) (b m : List ℕ) → action_of o.command ≡ action.Format → length b ≡ 8 → new_record_fits g t o b ≡ true
+    → length_after g t o r (b ++ m) ≡ 8 + body_length b
+format_wants g t o r b m is eight fits =
+    let still = fits_still g t o b m eight fits in
+    let long = long_enough b m eight in
+    let s = same_count b m eight in
+    length_by action.Format g t o r (b ++ m) is ∙ rw (long.0, still, s.key, s.bytes) refl
+
+pub format_filled : (g : Geometry) (r : Registers) (before : List ℕ) (o : Opened) (b m : List ℕ) (part : Part) (i : ℕ) → action_of o.command ≡ action.Format → length b ≡ 8 → new_record_fits g (track_of before) o b ≡ true
+    → i ≡ length (kept (track_of before) o.area) → length m ≤ update_length extent.KeyAndData (record_in (formatted (track_of before) o.area b) i)
+    → ClosesFilled g r before o (b ++ m) (outcome (format_ends r i)) (formatted (track_of before) o.area b) extent.KeyAndData part i 8 (update_length extent.KeyAndData (record_in (formatted (track_of before) o.area b) i))
+format_filled g r before o b m part i is eight fits e le =
+    let t = track_of before in
+    let n = format_bytes t o.area b i e eight in
+    let k = format_closes g t o r b m is eight fits in
+    record {
+      so = ap outcome k ∙ rw e refl;
+      written = ap (λ (y : Closing). y.written) k ∙ ap (λ (y : Track). Some y) (sym (format_written t o.area b m part i eight e (rw n at le)));
+      wants = rw n (format_wants g t o r b m is eight fits);
+    }
+
+-- the count bytes have come whole, and fit
+pub record FormatGoes (c : CacheState) (r : Registers) (passed : List ℕ) (p : Progress) (more count : List ℕ) : Type 0 where
+  pub is : action_of p.opened.command ≡ action.Format
+  pub eight : length (passed ++ more) ≡ 8
+  pub whole : count ≡ passed ++ more
+  pub at_hand : AtHand c (number c.image.geometry r)
+
+format_hand : (a : Action) (c : CacheState) (n : ℕ) → a ≡ action.Format → FieldAtHand a c n → AtHand c n
+format_hand a c n is h = (let P : Action → Type 0 = λ y. FieldAtHand y c n in subst P is h)
+
+pub format_goes : (c : CacheState) (r : Registers) (before passed : List ℕ) (p : Progress) (more f field count : List ℕ) → Works c r before passed p → MayTake p more → p.place ≡ Field f → field ≡ overwritten f p.moved more → length field ≡ 8
+    → whole_of (action_of p.opened.command) (own_home_address r) (p.moved + length more) field ≡ whole.Count count → FormatGoes c r passed p more count
+format_goes c r before passed p more f field count x may at is long e =
+    let k = field_goes c r before passed p more f x may at in
+    let goes = x.goes in
+    let moved : p.moved + length more ≡ length (passed ++ more) = omega (arith, goes.moved, k.long) in
+    let new = is_count (action_of p.opened.command) (own_home_address r) (p.moved + length more) field count e in
+    let eight : length (passed ++ more) ≡ 8 = sym moved ∙ new.eight in
+    let come : take 8 field ≡ passed ++ more = rw (eight, ← is) at k.collected in
+    record {
+      is = new.is;
+      eight = eight;
+      whole = new.count ∙ sym (take_all 8 field (omega (arith, long))) ∙ come;
+      at_hand = format_hand (action_of p.opened.command) c (number c.image.geometry r) new.is k.has.at_hand;
+    }
+
+-- a record that does not fit
+pub format_stays : (c : CacheState) (r : Registers) (before passed : List ℕ) (p : Progress) (more f field count : List ℕ) → Works c r before passed p → MayTake p more → p.place ≡ Field f → field ≡ overwritten f p.moved more
+    → FormatGoes c r passed p more count → new_record_fits c.image.geometry (track_of (slot_at c.slots (number c.image.geometry r))) p.opened count ≡ false → Absorbs c c r before before passed p more (Field field)
+format_stays c r before passed p more f field count x may at is k no_room =
+    let g = c.image.geometry in
+    let t = track_of (slot_at c.slots (number g r)) in
+    let N : Action → Type 0 = λ a. ChangesNothing a g t p.opened r (passed ++ more) in
+    let P : List ℕ → Type 0 = λ b. new_record_fits g t p.opened b ≡ false in
+    let none : ChangesNothing action.Format g t p.opened r (passed ++ more) = λ _. subst P k.whole no_room in
+    field_absorbs c r before passed p more f field x may at is (subst N (sym k.is) none)
+
+-- what is known of the new record
+pub record IsNew (c : CacheState) (r : Registers) (p : Progress) (count new : List ℕ) (part : Part) (i : ℕ) (w : Window) : Type 0 where
+  pub fits : new_record_fits c.image.geometry (track_of (slot_at c.slots (number c.image.geometry r))) p.opened count ≡ true
+  pub last : i ≡ length (kept (track_of (slot_at c.slots (number c.image.geometry r))) p.opened.area)
+  pub room : FitsSlot c.image.geometry.track_size (formatted (track_of (slot_at c.slots (number c.image.geometry r))) p.opened.area count)
+  pub made : new ≡ slot_of c.image.geometry.track_size (formatted (track_of (slot_at c.slots (number c.image.geometry r))) p.opened.area count)
+  pub place : IsPlaceOf extent.KeyAndData (track_in new) (Of part i) w
+
+takes_format : (a : Action) → a ≡ action.Format → (a ≡ action.GiveSense → ⊥) × (a ≡ action.Read → ⊥)
+takes_format a e = (λ z. cc, λ z. cc)
+
+pub format_absorbs : (c : CacheState) (r : Registers) (before passed : List ℕ) (p : Progress) (more f field count new : List ℕ) (part : Part) (i : ℕ) (w : Window) → Works c r before passed p → MayTake p more → p.place ≡ Field f
+    → FormatGoes c r passed p more count → IsNew c r p count new part i w → Absorbs c (with_held c new) r before (slot_at c.slots (number c.image.geometry r)) passed p more (Filled w (outcome (format_ends r i)))
+format_absorbs c r before passed p more f field count new part i w x may at k new_is =
+    let g = c.image.geometry in
+    let n : ℕ = number g r in
+    let old = slot_at c.slots n in
+    let t = track_of old in
+    let a = p.opened.area in
+    let b = passed ++ more in
+    let goes = field_goes c r before passed p more f x may at in
+    let t0 = formatted t a b in
+    let Fit : List ℕ → Type 0 = λ y. new_record_fits g t p.opened y ≡ true in
+    let Room : List ℕ → Type 0 = λ y. FitsSlot g.track_size (formatted t a y) in
+    let fits = subst Fit k.whole new_is.fits in
+    let room = subst Room k.whole new_is.room in
+    let made : new ≡ slot_of g.track_size t0 = new_is.made ∙ ap (λ (y : List ℕ). slot_of g.track_size (formatted t a y)) k.whole in
+    let read = reads_new g.track_size t0 new room made in
+    let at_new = new_slot_at c n new k.at_hand.held (there c r before passed p x) in
+    let now : List ℕ = slot_at (with_held c new).slots n in
+    let offs : record_offsets (track_in now) ≡ record_offsets t0 = ap (λ (y : List ℕ). record_offsets (track_in y)) at_new ∙ ap record_offsets read.1 in
+    let last = format_there t a b i new_is.last in
+    let P : Track → Type 0 = λ y. IsPlaceOf extent.KeyAndData y (Of part i) w in
+    let place = update_place extent.KeyAndData t0 part i w tt last (subst P read.1 new_is.place) in
+    let bytes = format_bytes t a b i new_is.last k.eight in
+    let filled : IsFilled g r old now p.opened b w (outcome (format_ends r i)) =
+    form_filled g r old now p.opened b w (outcome (format_ends r i)) t0 extent.KeyAndData part i 8 tt room last offs (omega (arith, k.eight)) (omega arith) (omega (arith, place.0, k.eight)) (omega (arith, place.1, k.eight))
+    (λ m le. format_filled g r old p.opened b m part i k.is k.eight fits new_is.last (omega (arith, le, place.1))) in
+    let whole : with_record_changed (replaced extent.KeyAndData (padded (drop 8 (b ++ [])) (update_length extent.KeyAndData (record_in t0 i)))) (Of part i) t0 ≡ t0 =
+    format_written t a b [] part i k.eight new_is.last (omega arith) ∙ ap (λ (y : List ℕ). formatted t a y) (append-nil b) in
+    let left : may.l ≤ 8 - length passed = rw (at, may.left, k.is) at x.goes.left in
+    newly_absorbs c r before passed p more new w (outcome (format_ends r i)) (omega arith) x may k.at_hand.held (rw at refl) goes.again
+    (takes_format (action_of p.opened.command) k.is) (record { stays = refl; cylinder = refl; head = refl }) (omega (arith, k.eight, goes.long)) (omega (arith, left, k.eight, goes.long)) (omega (arith, k.eight, goes.long))
+    filled (made ∙ ap (slot_of g.track_size) (sym whole))
+
+-- The slot at hand, and what is known of it.
+
+pub held_new : (c c' : CacheState) (n : ℕ) (new slot : List ℕ) → c.held ≡ Some n → n < length c.slots → c' ≡ with_held c new → slot ≡ slot_held c' → slot ≡ new
+held_new c c' n new slot held lt is e = slot_is (with_held c new) n slot held (e ∙ ap slot_held is) ∙ new_slot_at c n new held lt
+
+pub room_is : (c : CacheState) (n : ℕ) (o : Opened) (slot count : List ℕ) (answer : Bool) → slot ≡ slot_at c.slots n
+    → answer ≡ has_room c.image.geometry.model (kept (track_of slot) o.area) (key_length count) (data_length count) → answer ≡ new_record_fits c.image.geometry (track_of (slot_at c.slots n)) o count
+room_is c n o slot count answer is e =
+    let P : List ℕ → Type 0 = λ s. answer ≡ has_room c.image.geometry.model (kept (track_of s) o.area) (key_length count) (data_length count) in
+    subst P is e
+
+-- what is known once the record is written
+pub record Written (c c' : CacheState) (n : ℕ) (o : Opened) (count new slot : List ℕ) (i : ℕ) : Type 0 where
+  pub last : i ≡ length (kept (track_of (slot_at c.slots n)) o.area)
+  pub room : FitsSlot c.image.geometry.track_size (formatted (track_of (slot_at c.slots n)) o.area count)
+  pub made : new ≡ slot_of c.image.geometry.track_size (formatted (track_of (slot_at c.slots n)) o.area count)
+  pub whole : c' ≡ with_held c new
+  pub slot_is : slot ≡ new
+  pub readable : is_readable (track_of slot) ≡ true
+
+pub written : (c c' : CacheState) (n : ℕ) (o : Opened) (count slot : List ℕ) (i : ℕ) → c.held ≡ Some n → n < length c.slots
+    → c' ≡ with_held c (slot_of c.image.geometry.track_size (formatted (track_of (slot_held c)) o.area count)) → i ≡ length (kept (track_of (slot_held c)) o.area)
+    → FitsSlot c.image.geometry.track_size (formatted (track_of (slot_held c)) o.area count) → slot ≡ slot_held c'
+    → Written c c' n o count (slot_of c.image.geometry.track_size (formatted (track_of (slot_held c)) o.area count)) slot i
+written c c' n o count slot i held lt made number fits slot_held_is =
+    let old : slot_held c ≡ slot_at c.slots n = slot_is c n (slot_held c) held refl in
+    let new = slot_of c.image.geometry.track_size (formatted (track_of (slot_held c)) o.area count) in
+    let now = held_new c c' n new slot held lt made slot_held_is in
+    let read = reads_new c.image.geometry.track_size (formatted (track_of (slot_held c)) o.area count) slot fits now in
+    let L : List ℕ → Type 0 = λ s. i ≡ length (kept (track_of s) o.area) in
+    let R : List ℕ → Type 0 = λ s. FitsSlot c.image.geometry.track_size (formatted (track_of s) o.area count) in
+    record {
+      last = subst L old number;
+      room = subst R old fits;
+      made = ap (λ (s : List ℕ). slot_of c.image.geometry.track_size (formatted (track_of s) o.area count)) old;
+      whole = made;
+      slot_is = now;
+      readable = read.0;
+    }

@@ -1,0 +1,264 @@
+-- Tracks that a command begins to write.
+use Rattle.std.proofs.Common.{◌≡◌, ◌∙◌, ap, sym, subst, refl, ℕ, ◌+◌, ◌-◌, ◌<◌, ◌≤◌, ◌^◌, List, [], ◌∷◌, ◌++◌, Bool, true, false, ◌&&◌, ◌==◌, if◌then◌else◌, Some, length, take, drop, bytes_eq, length-append, length-take, append-nil, arith}
+use Rattle.std.proofs.lemmas.List.{take-append-drop, drop_all, set-get_or}
+use Rattle.std.proofs.lemmas.Bool.Decides.{nat_tests}
+use Rattle.ckd_track.specs.Track.{track_of, track_in, record_offsets, slot_of}
+use Rattle.ckd_track.specs.Changes.{overwritten, bare_track}
+use Rattle.ckd_track.proofs.Slots.{length-slot_of}
+use Rattle.ckd_image.specs.declared.geometry.Geometry.{Geometry}
+use Rattle.ckd_drive.specs.declared.registers.Registers.{Registers}
+use Rattle.ckd_drive.specs.declared.steps.Action.{Action}
+use Rattle.ckd_drive.specs.declared.steps.Action.TheVariants as action
+use Rattle.ckd_drive.specs.declared.steps.Opened.{Opened}
+use Rattle.ckd_drive.specs.declared.steps.Outcome.{Outcome}
+use Rattle.ckd_drive.specs.declared.steps.Sight.TheVariants.{Found}
+use Rattle.ckd_drive.specs.declared.places.Whole.{Whole}
+use Rattle.ckd_drive.specs.declared.places.Whole.TheVariants as whole
+use Rattle.ckd_drive.specs.declared.places.Window.{Window}
+use Rattle.ckd_drive.specs.declared.places.Place.{Place}
+use Rattle.ckd_drive.specs.declared.places.Place.TheVariants.{Unfound, Sense, Field, Read, Search, Fill, Filled}
+use Rattle.ckd_drive.specs.declared.places.Progress.{Progress}
+use Rattle.ckd_drive.specs.Tables.{action_of}
+use Rattle.ckd_drive.specs.Commands.{Sighted, Closing, sight, length_after, closing, outcome, own_home_address, home_address_ends, writes, padded}
+use Rattle.ckd_drive.specs.Cache.{CacheState, IsVolume, with_held}
+use Rattle.ckd_drive.specs.Half.{Works, MayTake, Absorbs, HasFilled, IsFilled, FieldAtHand, slot_at, number, seen_by, is_filled_by, whole_of}
+use Rattle.ckd_drive.proofs.Writes.{bare_fits}
+use Rattle.ckd_drive.proofs.Fills.{written_works, there, new_slot_at, written_absorbs, reads_new}
+use Rattle.ckd_drive.proofs.First.{length_by, closing_by}
+use Rattle.ckd_drive.proofs.Takes.{ChangesNothing, field_goes, field_absorbs}
+
+unfilled_sees : (slots : List (List ℕ)) (n : ℕ) (before : List ℕ) (p : Place) → is_filled_by p ≡ false → seen_by slots n before p ≡ slots
+unfilled_sees slots n before Unfound e = refl
+unfilled_sees slots n before (Sense u) e = refl
+unfilled_sees slots n before (Field f) e = refl
+unfilled_sees slots n before (Read w u) e = refl
+unfilled_sees slots n before (Search w u) e = refl
+unfilled_sees slots n before (Fill w u) e = refl
+unfilled_sees slots n before (Filled w u) e = absurd cc
+
+-- the arm stays at its track
+pub record StaysOn (r : Registers) (u : Outcome) : Type 0 where
+  pub stays : u.moves_off ≡ false
+  pub cylinder : u.registers.cylinder ≡ r.cylinder
+  pub head : u.registers.head ≡ r.head
+
+-- a command's first bytes that change the track
+pub newly_absorbs : (c : CacheState) (r : Registers) (before passed : List ℕ) (p : Progress) (more new : List ℕ) (w : Window) (u : Outcome) (le0 : length {A = ℕ} [] ≤ w.len)
+    → Works c r before passed p → (may : MayTake p more) → c.held ≡ Some (number c.image.geometry r) → is_filled_by p.place ≡ false
+    → sight c.image.geometry (track_of (slot_at c.slots (number c.image.geometry r))) p.opened r ≡ Found p.opened
+    → (action_of p.opened.command ≡ action.GiveSense → ⊥) × (action_of p.opened.command ≡ action.Read → ⊥) → StaysOn r u
+    → 0 < length passed + length more → may.l - length more ≤ w.len → length passed + length more < 2 ^ 32
+    → (f : IsFilled c.image.geometry r (slot_at c.slots (number c.image.geometry r)) (slot_at (with_held c new).slots (number c.image.geometry r)) p.opened (passed ++ more) w u)
+    → new ≡ slot_of c.image.geometry.track_size (f.closes [] le0).track
+    → Absorbs c (with_held c new) r before (slot_at c.slots (number c.image.geometry r)) passed p more (Filled w u)
+newly_absorbs c r before passed p more new w u le0 x may held plain again takes on some left small f is =
+    let g = c.image.geometry in
+    let n : ℕ = number g r in
+    let lt = there c r before passed p x in
+    let old = slot_at c.slots n in
+    let k = f.closes [] le0 in
+    let read = reads_new g.track_size k.track new k.fits is in
+    let at_new = new_slot_at c n new held lt in
+    let same : (passed ++ more) ++ [] ≡ passed ++ more = append-nil (passed ++ more) in
+    let made : new ≡ f.head ++ (padded (drop f.lead ((passed ++ more) ++ [])) f.room ++ f.tail) = is ∙ sym (sym k.slot_is) in
+    let made' : new ≡ f.head ++ (padded (drop f.lead (passed ++ more)) f.room ++ f.tail) = made ∙ ap (λ (b : List ℕ). f.head ++ (padded (drop f.lead b) f.room ++ f.tail)) same in
+    let wants : length_after g (track_of old) p.opened r (passed ++ more) ≡ f.lead + f.room = ap (λ (b : List ℕ). length_after g (track_of old) p.opened r b) (sym same) ∙ f.wants [] le0 in
+    let far = length-append passed more in
+    let has : HasFilled (with_held c new) g r n p.opened old (passed ++ more) w u = record {
+      at_hand = record { held = held; readable = rw at_new read.0 };
+      size = x.volume.sizes n [] lt;
+      filled = f;
+      slot_is = at_new ∙ made';
+      found = record { again = again; len = omega (arith, wants, f.rest, f.begins) };
+      takes = takes;
+      some = omega (arith, some, far);
+      stays = on.stays;
+      cylinder = on.cylinder;
+      head = on.head;
+    } in
+    let works = written_works c r before old passed p more new w u may.l x may.left held read.2 left has in
+    written_absorbs c r before old passed p more new w u works held (set-get_or c.slots n [] ∙ sym (unfilled_sees c.slots n before p.place plain)) small
+
+-- What a field is that came whole.
+
+abbrev home_of : Whole → List ℕ
+home_of (whole.HomeAddress h) = h
+home_of _ = []
+
+abbrev count_of : Whole → List ℕ
+count_of (whole.Count b) = b
+count_of _ = []
+
+same_number : (m n : ℕ) → (m == n) ≡ true → m ≡ n
+same_number m n e = grind (arith, nat_tests)
+
+pub record IsHome (a : Action) (own : List ℕ) (moved : ℕ) (f h : List ℕ) : Type 0 where
+  pub is : a ≡ action.WriteHomeAddress
+  pub five : moved ≡ 5
+  pub own_address : bytes_eq (take 5 f) own ≡ true
+  pub home : h ≡ take 5 f
+
+home_by : (own : List ℕ) (moved : ℕ) (f h : List ℕ) (five same : Bool) → (moved == 5) ≡ five → bytes_eq (take 5 f) own ≡ same → (if five && same then whole.HomeAddress (take 5 f) else whole.No) ≡ whole.HomeAddress h
+    → IsHome action.WriteHomeAddress own moved f h
+home_by own moved f h true true a b e = record { is = refl; five = same_number moved 5 a; own_address = b; home = sym (ap home_of e) }
+home_by own moved f h true false a b e = absurd cc
+home_by own moved f h false true a b e = absurd cc
+home_by own moved f h false false a b e = absurd cc
+
+not_home : (moved : ℕ) (f h : List ℕ) (eight : Bool) → (if eight then whole.Count f else whole.No) ≡ whole.HomeAddress h → ⊥
+not_home moved f h true e = cc
+not_home moved f h false e = cc
+
+pub is_home : (a : Action) (own : List ℕ) (moved : ℕ) (f h : List ℕ) → whole_of a own moved f ≡ whole.HomeAddress h → IsHome a own moved f h
+is_home action.WriteHomeAddress own moved f h e = home_by own moved f h (moved == 5) (bytes_eq (take 5 f) own) refl refl e
+is_home action.Format own moved f h e = absurd (not_home moved f h (moved == 8) e)
+is_home action.NoTransfer own moved f h e = absurd cc
+is_home action.SeekCylinderAndHead own moved f h e = absurd cc
+is_home action.SeekHead own moved f h e = absurd cc
+is_home action.SetFileMask own moved f h e = absurd cc
+is_home action.GiveSense own moved f h e = absurd cc
+is_home action.Search own moved f h e = absurd cc
+is_home action.Read own moved f h e = absurd cc
+is_home action.Update own moved f h e = absurd cc
+
+pub record IsCount (a : Action) (moved : ℕ) (f b : List ℕ) : Type 0 where
+  pub is : a ≡ action.Format
+  pub eight : moved ≡ 8
+  pub count : b ≡ f
+
+count_by : (moved : ℕ) (f b : List ℕ) (eight : Bool) → (moved == 8) ≡ eight → (if eight then whole.Count f else whole.No) ≡ whole.Count b → IsCount action.Format moved f b
+count_by moved f b true a e = record { is = refl; eight = same_number moved 8 a; count = sym (ap count_of e) }
+count_by moved f b false a e = absurd cc
+
+not_count : (f b : List ℕ) (x : Bool) → (if x then whole.HomeAddress (take 5 f) else whole.No) ≡ whole.Count b → ⊥
+not_count f b true e = cc
+not_count f b false e = cc
+
+pub is_count : (a : Action) (own : List ℕ) (moved : ℕ) (f b : List ℕ) → whole_of a own moved f ≡ whole.Count b → IsCount a moved f b
+is_count action.Format own moved f b e = count_by moved f b (moved == 8) refl e
+is_count action.WriteHomeAddress own moved f b e = absurd (not_count f b (moved == 5 && bytes_eq (take 5 f) own) e)
+is_count action.NoTransfer own moved f b e = absurd cc
+is_count action.SeekCylinderAndHead own moved f b e = absurd cc
+is_count action.SeekHead own moved f b e = absurd cc
+is_count action.SetFileMask own moved f b e = absurd cc
+is_count action.GiveSense own moved f b e = absurd cc
+is_count action.Search own moved f b e = absurd cc
+is_count action.Read own moved f b e = absurd cc
+is_count action.Update own moved f b e = absurd cc
+
+no_home : (own f : List ℕ) (same : Bool) → bytes_eq (take 5 f) own ≡ same → (if true && same then whole.HomeAddress (take 5 f) else whole.No) ≡ whole.No → bytes_eq (take 5 f) own ≡ false
+no_home own f true b e = absurd cc
+no_home own f false b e = b
+
+-- what is no whole field changes nothing
+pub no_change : (a : Action) (g : Geometry) (t : Sighted) (o : Opened) (r : Registers) (moved : ℕ) (f b : List ℕ) → whole_of a (own_home_address r) moved f ≡ whole.No → length b ≡ moved → take moved f ≡ b → ChangesNothing a g t o r b
+no_change action.WriteHomeAddress g t o r moved f b e long is = λ five.
+    (let m : moved ≡ 5 = sym long ∙ five in
+    let e' = rw m at e in
+    let b_is : take 5 f ≡ b = rw m at is in
+    rw b_is at (no_home (own_home_address r) f (bytes_eq (take 5 f) (own_home_address r)) refl e'))
+no_change action.Format g t o r moved f b e long is = λ eight. absurd (let m : moved ≡ 8 = sym long ∙ eight in let e' = rw m at e in cc)
+no_change action.NoTransfer g t o r moved f b e long is = tt
+no_change action.SeekCylinderAndHead g t o r moved f b e long is = tt
+no_change action.SeekHead g t o r moved f b e long is = tt
+no_change action.SetFileMask g t o r moved f b e long is = tt
+no_change action.GiveSense g t o r moved f b e long is = tt
+no_change action.Search g t o r moved f b e long is = tt
+no_change action.Read g t o r moved f b e long is = tt
+no_change action.Update g t o r moved f b e long is = tt
+
+pub field_stays : (c : CacheState) (r : Registers) (before passed : List ℕ) (p : Progress) (more f field : List ℕ) → Works c r before passed p → MayTake p more → p.place ≡ Field f → field ≡ overwritten f p.moved more
+    → whole_of (action_of p.opened.command) (own_home_address r) (p.moved + length more) field ≡ whole.No → Absorbs c c r before before passed p more (Field field)
+field_stays c r before passed p more f field x may at is none =
+    let k = field_goes c r before passed p more f x may at in
+    let goes = x.goes in
+    let moved : p.moved + length more ≡ length (passed ++ more) = omega (arith, goes.moved, k.long) in
+    let come : take (length (passed ++ more)) field ≡ passed ++ more = rw is k.collected in
+    field_absorbs c r before passed p more f field x may at is
+    (no_change (action_of p.opened.command) c.image.geometry (track_of (slot_at c.slots (number c.image.geometry r))) p.opened r (length (passed ++ more)) field (passed ++ more) (rw moved at none) refl come)
+
+-- the home address
+
+pub home_closes : (g : Geometry) (t : Sighted) (o : Opened) (r : Registers) (b : List ℕ) → action_of o.command ≡ action.WriteHomeAddress → length b ≡ 5 → bytes_eq b (own_home_address r) ≡ true → closing g t o r b ≡ writes (bare_track b) (home_address_ends o r)
+home_closes g t o r b is five own = closing_by action.WriteHomeAddress g t o r b is ∙ rw (five, own) refl
+
+pub nothing_more : (b more : List ℕ) → length more ≤ 0 → b ++ more ≡ b
+nothing_more b [] le = append-nil b
+nothing_more b (x ∷ more) le = absurd (omega (arith, le))
+
+pub none_behind : (b : List ℕ) (n : ℕ) → length b ≡ n → padded (drop n b) 0 ≡ []
+none_behind b n e = (let z : drop n b ≡ [] = drop_all n b (omega (arith, e)) in rw z refl)
+
+-- the track's own home address has come whole
+abbrev pub home_filled : (g : Geometry) (r : Registers) (before now : List ℕ) (o : Opened) (b : List ℕ) → action_of o.command ≡ action.WriteHomeAddress → length b ≡ 5 → bytes_eq b (own_home_address r) ≡ true → 13 ≤ g.track_size
+    → record_offsets (track_in now) ≡ record_offsets (bare_track b) → IsFilled g r before now o b (record { start = 5; len = 0 }) (outcome (home_address_ends o r))
+home_filled g r before now o b is five own room offs =
+    let s = slot_of g.track_size (bare_track b) in
+    let f = bare_fits g.track_size b five room in
+    let long = length-slot_of g.track_size (bare_track b) f.room in
+    record {
+      head = take 5 s;
+      tail = drop 5 s;
+      lead = 5;
+      room = 0;
+      begins = omega (arith, five);
+      lead_small = omega arith;
+      within = omega (arith, room);
+      start = omega (arith, length-take 5 s, long, room, five);
+      rest = omega (arith, five);
+      closes = λ more le.
+          (let e = nothing_more b more le in
+          let k : closing g (track_of before) o r (b ++ more) ≡ writes (bare_track b) (home_address_ends o r) = ap (λ (x : List ℕ). closing g (track_of before) o r x) e ∙ home_closes g (track_of before) o r b is five own in
+          record {
+            track = bare_track b;
+            so = ap outcome k;
+            written = ap (λ (y : Closing). y.written) k;
+            fits = f;
+            offsets_stay = sym offs;
+            slot_is = sym (ap (λ (x : List ℕ). take 5 s ++ (padded (drop 5 x) 0 ++ drop 5 s)) e ∙ ap (λ (x : List ℕ). take 5 s ++ (x ++ drop 5 s)) (none_behind b 5 five) ∙ take-append-drop 5 s);
+          });
+      wants = λ more le. ap (λ (x : List ℕ). length_after g (track_of before) o r x) (nothing_more b more le) ∙ length_by action.WriteHomeAddress g (track_of before) o r b is;
+    }
+
+field_at : (a : Action) (c : CacheState) (n : ℕ) → a ≡ action.WriteHomeAddress → FieldAtHand a c n → c.held ≡ Some n
+field_at a c n is h = (let P : Action → Type 0 = λ y. FieldAtHand y c n in subst P is h)
+
+pub home_held : (c : CacheState) (r : Registers) (before passed : List ℕ) (p : Progress) (more f field h : List ℕ) → Works c r before passed p → MayTake p more → p.place ≡ Field f
+    → whole_of (action_of p.opened.command) (own_home_address r) (p.moved + length more) field ≡ whole.HomeAddress h → c.held ≡ Some (number c.image.geometry r)
+home_held c r before passed p more f field h x may at e =
+    let k = field_goes c r before passed p more f x may at in
+    let home = is_home (action_of p.opened.command) (own_home_address r) (p.moved + length more) field h e in
+    field_at (action_of p.opened.command) c (number c.image.geometry r) home.is k.has.at_hand
+
+-- no slot is shorter than that of a track without records
+pub size_least : (c : CacheState) → IsVolume c → 13 ≤ c.image.geometry.track_size
+size_least c v = omega (arith, v.geometry.room)
+
+pub home_absorbs : (c : CacheState) (r : Registers) (before passed : List ℕ) (p : Progress) (more f field h new : List ℕ) → Works c r before passed p → MayTake p more → p.place ≡ Field f → field ≡ overwritten f p.moved more
+    → whole_of (action_of p.opened.command) (own_home_address r) (p.moved + length more) field ≡ whole.HomeAddress h → new ≡ slot_of c.image.geometry.track_size (bare_track h)
+    → Absorbs c (with_held c new) r before (slot_at c.slots (number c.image.geometry r)) passed p more (Filled (record { start = 5; len = 0 }) (outcome (home_address_ends p.opened r)))
+home_absorbs c r before passed p more f field h new x may at is e new_is =
+    let room = size_least c x.volume in
+    let g = c.image.geometry in
+    let n : ℕ = number g r in
+    let k = field_goes c r before passed p more f x may at in
+    let goes = x.goes in
+    let moved : p.moved + length more ≡ length (passed ++ more) = omega (arith, goes.moved, k.long) in
+    let home = is_home (action_of p.opened.command) (own_home_address r) (p.moved + length more) field h e in
+    let b = passed ++ more in
+    let five : length b ≡ 5 = sym moved ∙ home.five in
+    let come : take 5 field ≡ b = rw (five, ← is) at k.collected in
+    let h_is : h ≡ b = home.home ∙ come in
+    let own : bytes_eq b (own_home_address r) ≡ true = rw come at home.own_address in
+    let held = field_at (action_of p.opened.command) c n home.is k.has.at_hand in
+    let made : new ≡ slot_of g.track_size (bare_track b) = new_is ∙ ap (λ (y : List ℕ). slot_of g.track_size (bare_track y)) h_is in
+    let read = reads_new g.track_size (bare_track b) new (bare_fits g.track_size b five room) made in
+    let at_new = new_slot_at c n new held (there c r before passed p x) in
+    let offs : record_offsets (track_in (slot_at (with_held c new).slots n)) ≡ record_offsets (bare_track b) = ap (λ (y : List ℕ). record_offsets (track_in y)) at_new ∙ ap record_offsets read.1 in
+    let left : may.l ≤ 5 - length passed = rw (at, may.left, home.is) at goes.left in
+    newly_absorbs c r before passed p more new (record { start = 5; len = 0 }) (outcome (home_address_ends p.opened r)) (omega arith) x may held (rw at refl) k.again
+    (takes_home (action_of p.opened.command) home.is) (record { stays = refl; cylinder = refl; head = refl }) (omega (arith, five, k.long)) (omega (arith, left, five, k.long)) (omega (arith, five, k.long))
+    (home_filled g r (slot_at c.slots n) (slot_at (with_held c new).slots n) p.opened b home.is five own room offs) made
+  where
+    takes_home : (a : Action) → a ≡ action.WriteHomeAddress → (a ≡ action.GiveSense → ⊥) × (a ≡ action.Read → ⊥)
+    takes_home a e = (λ z. cc, λ z. cc)

@@ -1,0 +1,369 @@
+-- A record that gets other bytes.
+use Rattle.std.proofs.Common.{◌≡◌, ◌∙◌, ap, sym, subst, refl, inl, inr, ◌⊎◌, ℕ, ◌+◌, ◌-◌, ◌<◌, ◌≤◌, List, [], ◌++◌, true, false, ◌==◌, Option, Some, None, Ok, Err, unwrap_or, length, take, drop, set, set-set, get_or-set_same, slice_index, length-append, length-drop, length-take, length-set, append-nil, arith}
+use Rattle.std.proofs.lemmas.List.{get_or_past}
+use Rattle.std.proofs.lemmas.Bool.{cases_lt}
+use Rattle.std.proofs.lemmas.Bool.Decides.{nat_tests}
+use Rattle.ckd_track.specs.Track.{Track, Record, track_of, track_in, track_or_none, record_in, no_record, record_offsets, record_size, slot_of}
+use Rattle.ckd_track.specs.Changes.{overwritten}
+use Rattle.ckd_track.proofs.Slots.{length-slot_of, offsets-set}
+use Rattle.ckd_image.specs.declared.geometry.Geometry.{Geometry}
+use Rattle.ckd_sense.specs.declared.commands.Command.{Command}
+use Rattle.ckd_sense.specs.declared.commands.Command.TheVariants as command
+use Rattle.ckd_position.specs.declared.areas.Area.{Area}
+use Rattle.ckd_position.specs.declared.areas.Area.TheVariants.{HomeAddress, Of}
+use Rattle.ckd_position.specs.declared.areas.Part.{Part}
+use Rattle.ckd_drive.specs.declared.registers.Registers.{Registers}
+use Rattle.ckd_drive.specs.declared.steps.Action.{Action}
+use Rattle.ckd_drive.specs.declared.steps.Action.TheVariants as action
+use Rattle.ckd_drive.specs.declared.steps.Extent.{Extent}
+use Rattle.ckd_drive.specs.declared.steps.Extent.TheVariants as extent
+use Rattle.ckd_drive.specs.declared.steps.Opened.{Opened}
+use Rattle.ckd_drive.specs.declared.steps.Outcome.{Outcome}
+use Rattle.ckd_drive.specs.declared.steps.Sight.TheVariants.{Found}
+use Rattle.ckd_drive.specs.declared.places.Window.{Window}
+use Rattle.ckd_drive.specs.declared.places.Place.{Place}
+use Rattle.ckd_drive.specs.declared.places.Place.TheVariants.{Fill, Filled}
+use Rattle.ckd_drive.specs.declared.places.Progress.{Progress}
+use Rattle.ckd_drive.specs.Tables.{action_of, extent_of}
+use Rattle.ckd_drive.specs.Commands.{Sighted, Closing, bytes_of, bytes_at, area_bytes, sight, closing, end_of_area, updated, outcome, writes, padded, replaced, with_record_changed}
+use Rattle.ckd_drive.specs.Buffer.{FitsSlot, IsUpdate, IsRecordOf, SameRecords, IsPlaceOf}
+use Rattle.ckd_drive.specs.Cache.{CacheState, with_held, slot_held}
+use Rattle.ckd_drive.specs.Half.{Works, MayTake, Absorbs, IsPlaced, IsFilled, ClosesUnwritten, AtHand, LeftIs, PlaceIn, slot_at, number}
+use Rattle.ckd_drive.proofs.Writes.{update_offset, update_length, update_place}
+use Rattle.ckd_drive.proofs.Updates.{form_of, same_records}
+use Rattle.ckd_drive.proofs.Fills.{there, new_slot_at, reads_new, ClosesFilled, form_filled, length-padded, next_made, old_read}
+use Rattle.ckd_drive.proofs.First.{length_by, closing_by, area_by}
+use Rattle.ckd_drive.proofs.Looks.{slot_is}
+use Rattle.ckd_drive.proofs.News.{newly_absorbs, StaysOn}
+
+-- Which bytes are replaced.
+
+pub update_extent : (c : Command) → action_of c ≡ action.Update → IsUpdate (extent_of c)
+update_extent command.WriteData e = tt
+update_extent command.WriteKeyAndData e = tt
+update_extent _ e = absurd cc
+
+-- only a record's areas have bytes to replace
+record_there : (e : Extent) (t : Track) (i : ℕ) → IsUpdate e → 0 < update_length e (record_in t i) → i < length t.records
+record_there e t i u some = by_place (cases_lt i (length t.records))
+  where
+    nothing_of : (e : Extent) (r : Record) → IsUpdate e → r ≡ no_record → update_length e r ≡ 0
+    nothing_of extent.Data r u is = rw is refl
+    nothing_of extent.KeyAndData r u is = rw is refl
+    nothing_of extent.Nothing r u is = absurd u
+    nothing_of extent.CylinderAndHead r u is = absurd u
+    nothing_of extent.HomeAddress r u is = absurd u
+    nothing_of extent.Identifier r u is = absurd u
+    nothing_of extent.Count r u is = absurd u
+    nothing_of extent.Key r u is = absurd u
+    nothing_of extent.CountKeyAndData r u is = absurd u
+
+    by_place : (i < length t.records) ⊎ (length t.records ≤ i) → i < length t.records
+    by_place (inl lt) = lt
+    by_place (inr le) = absurd (let z = nothing_of e (record_in t i) u (get_or_past t.records i no_record le) in omega (arith, z, some))
+
+no_home_bytes : (e : Extent) (t : Sighted) → IsUpdate e → bytes_of e t HomeAddress ≡ []
+no_home_bytes extent.Data t u = refl
+no_home_bytes extent.KeyAndData t u = refl
+no_home_bytes extent.Nothing t u = absurd u
+no_home_bytes extent.CylinderAndHead t u = absurd u
+no_home_bytes extent.HomeAddress t u = absurd u
+no_home_bytes extent.Identifier t u = absurd u
+no_home_bytes extent.Count t u = absurd u
+no_home_bytes extent.Key t u = absurd u
+no_home_bytes extent.CountKeyAndData t u = absurd u
+
+length-bytes : (e : Extent) (t : Track) (part : Part) (i : ℕ) → IsUpdate e → length (bytes_of e (Ok t) (Of part i)) ≡ update_length e (record_in t i)
+length-bytes extent.Data t part i u = refl
+length-bytes extent.KeyAndData t part i u = length-append (record_in t i).key_area (record_in t i).data_area
+length-bytes extent.Nothing t part i u = absurd u
+length-bytes extent.CylinderAndHead t part i u = absurd u
+length-bytes extent.HomeAddress t part i u = absurd u
+length-bytes extent.Identifier t part i u = absurd u
+length-bytes extent.Count t part i u = absurd u
+length-bytes extent.Key t part i u = absurd u
+length-bytes extent.CountKeyAndData t part i u = absurd u
+
+bytes_there : (e : Extent) (t : Track) (a : Area) → IsUpdate e → 0 < length (bytes_of e (Ok t) a) → IsRecordOf t a
+bytes_there e t HomeAddress u some = (let z = ap length (no_home_bytes e (Ok t) u) in absurd (omega (arith, z, some)))
+bytes_there e t (Of part i) u some = (let z = length-bytes e t part i u in record_there e t i u (omega (arith, z, some)))
+
+-- Other bytes in a record.
+
+replaced_size : (e : Extent) (r : Record) (b : List ℕ) → IsUpdate e → length b ≤ update_length e r → record_size (replaced e b r) ≡ record_size r
+replaced_size extent.Data r b u le = omega (arith, length-padded b (length r.data_area) le)
+replaced_size extent.KeyAndData r b u le =
+    let n = length r.key_area + length r.data_area in
+    let long = length-padded b n le in
+    omega (arith, long, length-take (length r.key_area) (padded b n), length-drop (length r.key_area) (padded b n))
+replaced_size extent.Nothing r b u le = absurd u
+replaced_size extent.CylinderAndHead r b u le = absurd u
+replaced_size extent.HomeAddress r b u le = absurd u
+replaced_size extent.Identifier r b u le = absurd u
+replaced_size extent.Count r b u le = absurd u
+replaced_size extent.Key r b u le = absurd u
+replaced_size extent.CountKeyAndData r b u le = absurd u
+
+abbrev with_both : Record → (key : ℕ) → List ℕ → Record
+with_both r key b = record r { key_area = take key b; data_area = drop key b }
+
+-- what was cleared, and then gets bytes
+cleared_first : (e : Extent) (r : Record) (b : List ℕ) → IsUpdate e → length b ≤ update_length e r → replaced e (padded b (update_length e (replaced e [] r))) (replaced e [] r) ≡ replaced e b r
+cleared_first extent.Data r b u le =
+    let n = length r.data_area in
+    let none : length (padded [] n) ≡ n = length-padded [] n (omega arith) in
+    let whole : padded (padded b n) n ≡ padded b n = (let z : n - length (padded b n) ≡ 0 = omega (arith, length-padded b n le) in rw z (append-nil (padded b n))) in
+    ap (λ (x : ℕ). let y : Record = record r { data_area = padded (padded b x) x } in y) none ∙ ap (λ (x : List ℕ). let y : Record = record r { data_area = x } in y) whole
+cleared_first extent.KeyAndData r b u le =
+    let k = length r.key_area in
+    let n = k + length r.data_area in
+    let none : length (padded [] n) ≡ n = length-padded [] n (omega arith) in
+    let key : length (take k (padded [] n)) ≡ k = omega (arith, none, length-take k (padded [] n)) in
+    let sum : length (take k (padded [] n)) + length (drop k (padded [] n)) ≡ n = omega (arith, none, length-take k (padded [] n), length-drop k (padded [] n)) in
+    let whole : padded (padded b n) n ≡ padded b n = (let z : n - length (padded b n) ≡ 0 = omega (arith, length-padded b n le) in rw z (append-nil (padded b n))) in
+    let s = length (take k (padded [] n)) + length (drop k (padded [] n)) in
+    ap (λ (x : ℕ). with_both r x (padded (padded b s) s)) key ∙ ap (λ (x : ℕ). with_both r k (padded (padded b x) x)) sum ∙ ap (with_both r k) whole
+cleared_first extent.Nothing r b u le = absurd u
+cleared_first extent.CylinderAndHead r b u le = absurd u
+cleared_first extent.HomeAddress r b u le = absurd u
+cleared_first extent.Identifier r b u le = absurd u
+cleared_first extent.Count r b u le = absurd u
+cleared_first extent.Key r b u le = absurd u
+cleared_first extent.CountKeyAndData r b u le = absurd u
+
+cleared_length : (e : Extent) (r : Record) → IsUpdate e → update_length e (replaced e [] r) ≡ update_length e r
+cleared_length extent.Data r u = length-padded [] (length r.data_area) (omega arith)
+cleared_length extent.KeyAndData r u =
+    let k = length r.key_area in
+    let n = k + length r.data_area in
+    omega (arith, length-padded [] n (omega arith), length-take k (padded [] n), length-drop k (padded [] n))
+cleared_length extent.Nothing r u = absurd u
+cleared_length extent.CylinderAndHead r u = absurd u
+cleared_length extent.HomeAddress r u = absurd u
+cleared_length extent.Identifier r u = absurd u
+cleared_length extent.Count r u = absurd u
+cleared_length extent.Key r u = absurd u
+cleared_length extent.CountKeyAndData r u = absurd u
+
+abbrev cleared : Extent → Part → ℕ → Track → Track
+cleared e part i t = with_record_changed (replaced e []) (Of part i) t
+
+cleared_offsets : (e : Extent) (t : Track) (part : Part) (i : ℕ) → IsUpdate e → record_offsets (cleared e part i t) ≡ record_offsets t
+cleared_offsets e t part i u = offsets-set 5 t.records i (replaced e [] (record_in t i)) (replaced_size e (record_in t i) [] u (omega arith))
+
+cleared_record : (e : Extent) (t : Track) (part : Part) (i : ℕ) → i < length t.records → record_in (cleared e part i t) i ≡ replaced e [] (record_in t i)
+cleared_record e t part i lt = get_or-set_same t.records i (replaced e [] (record_in t i)) no_record lt
+
+-- the areas of a cleared record stand where they stood
+cleared_offset : (e : Extent) (t : Track) (part : Part) (i : ℕ) → IsUpdate e → i < length t.records → update_offset e (cleared e part i t) i ≡ update_offset e t i
+cleared_offset extent.Data t part i u lt =
+    let offs = ap (λ (os : List ℕ). slice_index os i) (cleared_offsets extent.Data t part i tt) in
+    let key = ap (λ (r : Record). length r.key_area) (cleared_record extent.Data t part i lt) in
+    omega (arith, offs, key)
+cleared_offset extent.KeyAndData t part i u lt = ap (λ (os : List ℕ). slice_index os i + 8) (cleared_offsets extent.KeyAndData t part i tt)
+cleared_offset extent.Nothing t part i u lt = absurd u
+cleared_offset extent.CylinderAndHead t part i u lt = absurd u
+cleared_offset extent.HomeAddress t part i u lt = absurd u
+cleared_offset extent.Identifier t part i u lt = absurd u
+cleared_offset extent.Count t part i u lt = absurd u
+cleared_offset extent.Key t part i u lt = absurd u
+cleared_offset extent.CountKeyAndData t part i u lt = absurd u
+
+-- a track whose record was cleared, and then gets bytes
+cleared_changed : (e : Extent) (t : Track) (part : Part) (i : ℕ) (b : List ℕ) → IsUpdate e → i < length t.records → length b ≤ update_length e (record_in t i)
+    → with_record_changed (replaced e (padded b (update_length e (record_in (cleared e part i t) i)))) (Of part i) (cleared e part i t) ≡ with_record_changed (replaced e b) (Of part i) t
+cleared_changed e t part i b u lt le =
+    let r = record_in t i in
+    let there = cleared_record e t part i lt in
+    let t0 = cleared e part i t in
+    let G : Record → Record = λ x. replaced e (padded b (update_length e x)) x in
+    let new : G (record_in t0 i) ≡ replaced e b r = ap G there ∙ cleared_first e r b u le in
+    ap (λ (x : Record). let y : Track = record t { records = set (set t.records i (replaced e [] r)) i x } in y) new
+    ∙ ap (λ (rs : List Record). let y : Track = record t { records = rs } in y) (set-set t.records i (replaced e [] r) (replaced e b r))
+
+-- How an update closes of which a byte has come.
+
+positive : (n : ℕ) → 0 < n → (n == 0) ≡ false
+positive n some = grind (arith, nat_tests)
+
+updated_is : (slot : List ℕ) (a : Area) (t : Sighted) (area : Option Area) (change : Record → Record) (c : Closing) → t ≡ Ok (track_in slot) → area ≡ Some a → updated t area change c ≡ writes (with_record_changed change a (track_in slot)) c
+updated_is slot a (Ok t) (Some x) change c e f =
+    let t_is : t ≡ track_in slot = ap track_or_none e in
+    let x_is : x ≡ a = ap (λ (y : Option Area). unwrap_or y a) f in
+    ap (λ (y : Track). writes (with_record_changed change x y) c) t_is ∙ ap (λ (y : Area). writes (with_record_changed change y (track_in slot)) c) x_is
+updated_is slot a (Ok t) None change c e f = absurd cc
+updated_is slot a (Err x) area change c e f = absurd cc
+
+update_closes : (g : Geometry) (slot : List ℕ) (o : Opened) (r : Registers) (a : Area) (b : List ℕ) → action_of o.command ≡ action.Update → track_of slot ≡ Ok (track_in slot) → o.area ≡ Some a → 0 < length b
+    → closing g (track_of slot) o r b ≡ writes (with_record_changed (replaced (extent_of o.command) b) a (track_in slot)) (end_of_area (track_of slot) o r)
+update_closes g slot o r a b is reads there some =
+    closing_by action.Update g (track_of slot) o r b is ∙ rw (positive (length b) some) (updated_is slot a (track_of slot) o.area (replaced (extent_of o.command) b) (end_of_area (track_of slot) o r) reads there)
+
+fill_filled : (g : Geometry) (r : Registers) (slot : List ℕ) (o : Opened) (part : Part) (i : ℕ) (b : List ℕ) (u : Outcome) → action_of o.command ≡ action.Update → IsUpdate (extent_of o.command) → track_of slot ≡ Ok (track_in slot) → o.area ≡ Some (Of part i)
+    → i < length (track_in slot).records → 0 < length b → length b ≤ update_length (extent_of o.command) (record_in (track_in slot) i) → outcome (end_of_area (track_of slot) o r) ≡ u → length (area_bytes (track_of slot) o r) ≡ update_length (extent_of o.command) (record_in (track_in slot) i)
+    → ClosesFilled g r slot o b u (cleared (extent_of o.command) part i (track_in slot)) (extent_of o.command) part i 0 (update_length (extent_of o.command) (record_in (cleared (extent_of o.command) part i (track_in slot)) i))
+fill_filled g r slot o part i b u is upd reads there lt some le so size =
+    let t = track_in slot in
+    let e = extent_of o.command in
+    let k = update_closes g slot o r (Of part i) b is reads there some in
+    let room : update_length e (record_in (cleared e part i t) i) ≡ update_length e (record_in t i) = ap (update_length e) (cleared_record e t part i lt) ∙ cleared_length e (record_in t i) upd in
+    let wants = length_by action.Update g (track_of slot) o r b is in
+    record {
+      so = ap outcome k ∙ so;
+      written = ap (λ (y : Closing). y.written) k ∙ ap (λ (y : Track). Some y) (sym (cleared_changed e t part i b upd lt le));
+      wants = omega (arith, wants, size, room);
+    }
+
+-- A command's first bytes that replace others.
+
+pub record FillGoes (c : CacheState) (r : Registers) (passed : List ℕ) (p : Progress) (more : List ℕ) (a : Area) (w : Window) (u : Outcome) : Type 0 where
+  pub is : action_of p.opened.command ≡ action.Update
+  pub hand : AtHand c (number c.image.geometry r)
+  pub upd : IsUpdate (extent_of p.opened.command)
+  pub none : passed ≡ []
+  pub le : length more ≤ w.len
+  pub left : (l : ℕ) → p.left ≡ Some l → l ≤ w.len
+  pub there : IsRecordOf (track_in (slot_at c.slots (number c.image.geometry r))) a
+  pub place : IsPlaceOf (extent_of p.opened.command) (track_in (slot_at c.slots (number c.image.geometry r))) a w
+  pub within : w.start + w.len ≤ c.image.geometry.track_size
+  pub again : sight c.image.geometry (track_of (slot_at c.slots (number c.image.geometry r))) p.opened r ≡ Found p.opened
+  pub size : length (area_bytes (track_of (slot_at c.slots (number c.image.geometry r))) p.opened r) ≡ w.len
+  pub so : outcome (end_of_area (track_of (slot_at c.slots (number c.image.geometry r))) p.opened r) ≡ u
+
+left_in_fill : (a : Action) (w : Window) (u : Outcome) (moved l : ℕ) → LeftIs a (Fill w u) moved (Some l) → l ≤ w.len
+left_in_fill a w u moved l x = x
+
+-- bytes that come belong to an area
+pub no_area : (c : CacheState) (r : Registers) (before passed : List ℕ) (p : Progress) (more : List ℕ) (w : Window) (u : Outcome) → Works c r before passed p → MayTake p more → p.place ≡ Fill w u → p.opened.area ≡ None → 0 < length more → ⊥
+no_area c r before passed p more w u x may at none some =
+    let g = c.image.geometry in
+    let n : ℕ = number g r in
+    let t = track_of (slot_at c.slots n) in
+    let left = rw (at, may.left) at x.goes.left in
+    let P : Place → Type 0 = λ y. IsPlaced c g r n p.opened before passed y in
+    let h = (subst P at x.goes.placed).0 in
+    let bytes : area_bytes t p.opened r ≡ [] = area_by action.Update t p.opened r h.is_update ∙ rw none refl in
+    let zero : 0 ≡ w.len = sym (ap length bytes) ∙ h.lies.size in
+    let le = left_in_fill (action_of p.opened.command) w u (length passed) may.l left in
+    omega (arith, zero, le, may.room, some)
+
+pub fill_goes : (c : CacheState) (r : Registers) (before passed : List ℕ) (p : Progress) (more : List ℕ) (a : Area) (w : Window) (u : Outcome) → Works c r before passed p → MayTake p more → p.place ≡ Fill w u → p.opened.area ≡ Some a → 0 < length more
+    → FillGoes c r passed p more a w u
+fill_goes c r before passed p more a w u x may at area some =
+    let g = c.image.geometry in
+    let n : ℕ = number g r in
+    let old = slot_at c.slots n in
+    let t = track_of old in
+    let left = rw (at, may.left) at x.goes.left in
+    let P : Place → Type 0 = λ y. IsPlaced c g r n p.opened before passed y in
+    let placed = subst P at x.goes.placed in
+    let h = placed.0 in
+    let e = extent_of p.opened.command in
+    let upd = update_extent p.opened.command h.is_update in
+    let reads = old_read old h.at_hand.readable in
+    let le = left_in_fill (action_of p.opened.command) w u (length passed) may.l left in
+    let bytes : area_bytes t p.opened r ≡ bytes_of e t a = area_by action.Update t p.opened r h.is_update ∙ ap (λ (y : Option Area). bytes_at e t y) area in
+    let B : Sighted → Type 0 = λ y. 0 < length (bytes_of e y a) in
+    let W : Option Area → Type 0 = λ y. PlaceIn e (track_in old) y w in
+    let count : length (bytes_of e t a) ≡ w.len = ap length (sym bytes) ∙ h.lies.size in
+    let full : 0 < length (bytes_of e t a) = omega (arith, count, le, may.room, some) in
+    let closes = closing_by action.Update g t p.opened r [] h.is_update in
+    let K : List ℕ → Type 0 = λ b. ClosesUnwritten g r t p.opened b u in
+    let closed = subst K h.none placed.2 in
+    record {
+      is = h.is_update;
+      hand = h.at_hand;
+      upd = upd;
+      none = h.none;
+      le = omega (arith, le, may.room);
+      left = λ l is. (let same : Some may.l ≡ Some l = sym may.left ∙ is in let m : may.l ≡ l = ap (λ (y : Option ℕ). unwrap_or y 0) same in omega (arith, m, le));
+      there = bytes_there e (track_in old) a upd (subst B reads full);
+      place = subst W area h.place;
+      within = omega (arith, h.lies.within, x.volume.sizes n [] (there c r before passed p x));
+      again = placed.1.again;
+      size = h.lies.size;
+      so = ap outcome (sym closes) ∙ closed.so;
+    }
+
+takes_update : (a : Action) → a ≡ action.Update → (a ≡ action.GiveSense → ⊥) × (a ≡ action.Read → ⊥)
+takes_update a e = (λ z. cc, λ z. cc)
+
+ends_on : (t : Sighted) (o : Opened) (r : Registers) (u : Outcome) → outcome (end_of_area t o r) ≡ u → StaysOn r u
+ends_on t o r u so = record { stays = ap (λ (y : Outcome). y.moves_off) (sym so); cylinder = ap (λ (y : Outcome). y.registers.cylinder) (sym so); head = ap (λ (y : Outcome). y.registers.head) (sym so) }
+
+-- the slot that was cleared, and then gets bytes
+abbrev pub cleared_slot : CacheState → Registers → Progress → Area → List ℕ
+cleared_slot c r p a = slot_of c.image.geometry.track_size (with_record_changed (replaced (extent_of p.opened.command) []) a (track_in (slot_at c.slots (number c.image.geometry r))))
+
+pub record Replaces (c : CacheState) (r : Registers) (before passed : List ℕ) (p : Progress) (more : List ℕ) (a : Area) (w : Window) (u : Outcome) : Type 0 where
+  pub records : SameRecords (cleared_slot c r p a) (overwritten (cleared_slot c r p a) w.start more)
+  pub absorbs : Absorbs c (with_held c (overwritten (cleared_slot c r p a) w.start more)) r before (slot_at c.slots (number c.image.geometry r)) passed p more (Filled (record { start = w.start + length more; len = w.len - length more }) u)
+
+pub fill_absorbs : (c : CacheState) (r : Registers) (before passed : List ℕ) (p : Progress) (more : List ℕ) (a : Area) (w : Window) (u : Outcome) → Works c r before passed p → MayTake p more → p.place ≡ Fill w u → p.opened.area ≡ Some a → 0 < length more
+    → FillGoes c r passed p more a w u → FitsSlot c.image.geometry.track_size (with_record_changed (replaced (extent_of p.opened.command) []) a (track_in (slot_at c.slots (number c.image.geometry r)))) → Replaces c r before passed p more a w u
+fill_absorbs c r before passed p more HomeAddress w u x may at area some k f = absurd k.there
+fill_absorbs c r before passed p more (Of part i) w u x may at area some k f =
+    let g = c.image.geometry in
+    let n : ℕ = number g r in
+    let old = slot_at c.slots n in
+    let size = g.track_size in
+    let e = extent_of p.opened.command in
+    let t = track_in old in
+    let t0 = cleared e part i t in
+    let s1 = slot_of size t0 in
+    let reads = old_read old k.hand.readable in
+    let pl = update_place e t part i w k.upd k.there k.place in
+    let start : w.start ≡ update_offset e t0 i = pl.0 ∙ sym (cleared_offset e t part i k.upd k.there) in
+    let room0 = update_length e (record_in t0 i) in
+    let room_is : room0 ≡ update_length e (record_in t i) = ap (update_length e) (cleared_record e t part i k.there) ∙ cleared_length e (record_in t i) k.upd in
+    let len : w.len ≡ room0 = pl.1 ∙ sym room_is in
+    let lt0 : i < length t0.records = omega (arith, k.there, length-set t.records i (replaced e [] (record_in t i))) in
+    let body = padded more room0 in
+    let body_long : length body ≡ room0 = length-padded more room0 (omega (arith, k.le, len)) in
+    let zeros_long : length (padded [] room0) ≡ room0 = length-padded [] room0 (omega arith) in
+    let form = form_of size t0 e part i body k.upd f lt0 body_long in
+    let form0 = form_of size t0 e part i (padded [] room0) k.upd f lt0 zeros_long in
+    let off = update_offset e t0 i in
+    let head = take off s1 in
+    let tail = drop (off + room0) s1 in
+    let long = length-slot_of size t0 f.room in
+    let t1 = with_record_changed (replaced e body) (Of part i) t0 in
+    let s1_is : s1 ≡ head ++ (padded [] room0 ++ tail) =
+    ap (slot_of size) (sym (cleared_changed e t part i [] k.upd k.there (omega arith))) ∙ form0.slot ∙ ap (λ (m : ℕ). head ++ (padded [] room0 ++ drop (off + m) s1)) zeros_long in
+    let front : length head + 0 ≡ w.start = omega (arith, start, form.within, body_long, length-take off s1, long) in
+    let made : overwritten s1 w.start more ≡ head ++ (body ++ tail) = next_made s1 head tail [] more room0 w.start s1_is front (omega (arith, k.le, len)) in
+    let new = overwritten s1 w.start more in
+    let new_is : new ≡ slot_of size t1 = made ∙ sym (form.slot ∙ ap (λ (m : ℕ). head ++ (body ++ drop (off + m) s1)) body_long) in
+    let read1 = reads_new size t0 s1 f refl in
+    let read = reads_new size t1 new form.fits new_is in
+    let at_new = new_slot_at c n new k.hand.held (there c r before passed p x) in
+    let now : List ℕ = slot_at (with_held c new).slots n in
+    let offs : record_offsets (track_in now) ≡ record_offsets t0 = ap (λ (y : List ℕ). record_offsets (track_in y)) at_new ∙ ap record_offsets read.1 ∙ form.offsets in
+    let b = passed ++ more in
+    let b_is : b ≡ more = ap (λ (y : List ℕ). y ++ more) k.none in
+    let b_long : length b ≡ length more = ap length b_is in
+    let none_long : length passed ≡ 0 = ap length k.none in
+    let w' : Window = record { start = w.start + length more; len = w.len - length more } in
+    let filled : IsFilled g r old now p.opened b w' u =
+    form_filled g r old now p.opened b w' u t0 e part i 0 k.upd f lt0 offs (omega arith) (omega arith) (omega (arith, start, b_long)) (omega (arith, len, b_long, k.le))
+    (λ m le. fill_filled g r old p.opened part i (b ++ m) u k.is k.upd reads area k.there (omega (arith, length-append b m, b_long, some)) (omega (arith, length-append b m, b_long, le, k.le, pl.1)) k.so (k.size ∙ pl.1)) in
+    let whole : b ++ [] ≡ more = append-nil b ∙ b_is in
+    record {
+      records = same_records size s1 new t1 (old_read s1 read1.0) form.fits new_is (form.offsets ∙ sym (ap record_offsets read1.1));
+      absorbs = newly_absorbs c r before passed p more new w' u (omega arith) x may k.hand.held (rw at refl) k.again (takes_update (action_of p.opened.command) k.is) (ends_on (track_of old) p.opened r u k.so)
+          (omega (arith, some)) (let l = k.left may.l may.left in omega (arith, l)) (omega (arith, none_long, k.le, k.within, x.volume.geometry.limit)) filled
+          (new_is ∙ ap (λ (y : List ℕ). slot_of size (with_record_changed (replaced e (padded y room0)) (Of part i) t0)) (sym whole));
+    }
+
+pub held_slot : (c : CacheState) (n : ℕ) → c.held ≡ Some n → slot_held c ≡ slot_at c.slots n
+held_slot c n held = slot_is c n (slot_held c) held refl
+
+pub held_now : (c c' : CacheState) (n : ℕ) (new : List ℕ) → c.held ≡ Some n → n < length c.slots → c' ≡ with_held c new → slot_held c' ≡ new
+held_now c c' n new held lt is = ap slot_held is ∙ held_slot (with_held c new) n held ∙ new_slot_at c n new held lt
+
+-- a slot that is written twice
+pub held_twice : (c : CacheState) (one two : List ℕ) → with_held (with_held c one) two ≡ with_held c two
+held_twice c one two = ap (λ (slots : List (List ℕ)). let y : CacheState = record c { slots = slots; changed = true } in y) (set-set c.slots (unwrap_or c.held 0) one two)
+
+pub some_of : (n : ℕ) → (n == 0) ≡ false → 0 < n
+some_of n e = grind (arith, nat_tests)

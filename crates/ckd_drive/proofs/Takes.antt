@@ -1,0 +1,254 @@
+-- Bytes that are taken.
+use Rattle.std.proofs.Common.{◌≡◌, ◌∙◌, ap, sym, subst, refl, inl, inr, ◌⊎◌, ℕ, ◌+◌, ◌-◌, ◌<◌, ◌≤◌, ◌^◌, List, [], ◌∷◌, ◌++◌, Bool, true, false, ◌||◌, ◌==◌, nat_lt, if◌then◌else◌, Some, None, length, take, drop, slice_range, bytes_eq, length-append, length-drop, length-take, drop-drop, append_assoc, arith}
+use Rattle.std.specs.Ordering.{nat_cmp, ordering_then}
+use Rattle.std.specs.declared.cmp.Ordering.{Ordering}
+use Rattle.std.specs.declared.cmp.Ordering.TheVariants as order
+use Rattle.std.specs.Cmp.Lexicographic.{slice_cmp}
+use Rattle.std.proofs.lemmas.List.{take-take, drop-take, take-append-drop, take_at, get_or_past}
+use Rattle.std.proofs.lemmas.Bool.{cases_lt}
+use Rattle.std.proofs.lemmas.Bool.Decides.{nat_tests}
+use Rattle.ckd_track.specs.Track.{track_of}
+use Rattle.ckd_track.specs.Changes.{overwritten}
+use Rattle.ckd_image.specs.declared.geometry.Geometry.{Geometry}
+use Rattle.ckd_drive.specs.declared.registers.Registers.{Registers}
+use Rattle.ckd_drive.specs.declared.steps.Action.{Action}
+use Rattle.ckd_drive.specs.declared.steps.Action.TheVariants as action
+use Rattle.ckd_drive.specs.declared.steps.Opened.{Opened}
+use Rattle.ckd_drive.specs.declared.steps.Sight.TheVariants.{Found}
+use Rattle.ckd_drive.specs.declared.places.Window.{Window}
+use Rattle.ckd_drive.specs.declared.places.Place.{Place}
+use Rattle.ckd_drive.specs.declared.places.Place.TheVariants.{Field, Search}
+use Rattle.ckd_drive.specs.declared.places.Progress.{Progress}
+use Rattle.ckd_drive.specs.Tables.{action_of}
+use Rattle.ckd_drive.specs.Commands.{Sighted, Closing, sight, area_bytes, length_after, length_for, close_by, own_home_address, new_record_fits, write_home_address, format}
+use Rattle.ckd_drive.specs.Buffer.{Lies}
+use Rattle.ckd_drive.specs.Cache.{CacheState, IsVolume}
+use Rattle.ckd_drive.specs.Half.{Works, MayTake, Absorbs, IsPlaced, IsField, HasField, LeftIs, remaining, slot_at, number, seen_by, is_filled_by, is_unfound, order_of, field_size}
+use Rattle.ckd_drive.proofs.First.{length_by, closing_by}
+use Rattle.ckd_drive.proofs.Moving.{lies_first, lies_rest, next_left}
+
+-- no slot is longer than a track size may be
+pub size_limit : (c : CacheState) (n : ℕ) → IsVolume c → length (slot_at c.slots n) ≤ 65536
+size_limit c n v = by_place (cases_lt n (length c.slots))
+  where
+    by_place : (n < length c.slots) ⊎ (length c.slots ≤ n) → length (slot_at c.slots n) ≤ 65536
+    by_place (inl lt) = (let e = v.sizes n [] lt in omega (arith, e, v.geometry.limit))
+    by_place (inr le) = (let e : slot_at c.slots n ≡ [] = get_or_past c.slots n [] le in rw e (omega arith))
+
+or_false : (b : Bool) → b ≡ (b || false)
+or_false true = refl
+or_false false = refl
+
+-- the track stays as it is
+pub absorbs_plain : (c : CacheState) (r : Registers) (before passed : List ℕ) (p : Progress) (more : List ℕ) (place' : Place)
+    → Works c r before passed p → MayTake p more → is_filled_by p.place ≡ false → is_filled_by place' ≡ false → is_unfound place' ≡ false
+    → seen_by c.slots (number c.image.geometry r) before place' ≡ seen_by c.slots (number c.image.geometry r) before p.place
+    → remaining (action_of p.opened.command) place' (length (passed ++ more)) ≡ remaining (action_of p.opened.command) p.place (length passed) - length more
+    → IsPlaced c c.image.geometry r (number c.image.geometry r) p.opened before (passed ++ more) place' → length passed + length more < 2 ^ 32
+    → Absorbs c c r before before passed p more place'
+absorbs_plain c r before passed p more place' x may f f' u seen rest placed small =
+    let goes = x.goes in
+    record {
+      works = record {
+        volume = x.volume;
+        arm = x.arm;
+        anchored = x.anchored;
+        goes = record {
+          moved = rw (← goes.moved) (length-append passed more);
+          left = rw may.left (next_left (action_of p.opened.command) p.place place' (length passed) (length (passed ++ more)) may.l (length more) (rw may.left at goes.left) may.room u rest);
+          placed = placed;
+          no_credit = goes.no_credit;
+        };
+      };
+      image = refl;
+      seen_same = seen;
+      changed = rw f' (or_false c.changed);
+      still = λ e. absurd cc;
+      small = small;
+    }
+
+-- Comparing.
+
+then_assoc : (a b c : Ordering) → ordering_then (ordering_then a b) c ≡ ordering_then a (ordering_then b c)
+then_assoc order.Less b c = refl
+then_assoc order.Equal b c = refl
+then_assoc order.Greater b c = refl
+
+compare_more : (x a : List ℕ) (y b : List ℕ) → length x ≡ length a → ordering_then (slice_cmp nat_cmp x a) (slice_cmp nat_cmp y b) ≡ slice_cmp nat_cmp (x ++ y) (a ++ b)
+compare_more [] [] y b e = refl
+compare_more [] (a ∷ bs) y b e = absurd (omega (arith, e))
+compare_more (x ∷ xs) [] y b e = absurd (omega (arith, e))
+compare_more (x ∷ xs) (a ∷ bs) y b e = then_assoc (nat_cmp x a) (slice_cmp nat_cmp xs bs) (slice_cmp nat_cmp y b) ∙ ap (λ (o : Ordering). ordering_then (nat_cmp x a) o) (compare_more xs bs y b (omega (arith, e)))
+
+take_more : (m k : ℕ) (s : List ℕ) → take m s ++ take k (drop m s) ≡ take (m + k) s
+take_more m k s =
+    let whole : take (m + k) s ≡ take m (take (m + k) s) ++ drop m (take (m + k) s) = sym (take-append-drop m (take (m + k) s)) in
+    let first : take m (take (m + k) s) ≡ take m s = take-take m (m + k) s (omega arith) in
+    let second : drop m (take (m + k) s) ≡ take k (drop m s) = drop-take m k s in
+    sym (whole ∙ rw (first, second) refl)
+
+order_more : (area passed more : List ℕ) → length passed + length more ≤ length area → ordering_then (order_of area passed) (slice_cmp nat_cmp (take (length more) (drop (length passed) area)) more) ≡ order_of area (passed ++ more)
+order_more area passed more le =
+    let m = length passed in
+    let long : length (take m area) ≡ length passed = omega (arith, length-take m area, le) in
+    compare_more (take m area) passed (take (length more) (drop m area)) more long
+    ∙ ap (λ (x : List ℕ). slice_cmp nat_cmp x (passed ++ more)) (take_more m (length more) area ∙ ap (λ (n : ℕ). take n area) (sym (length-append passed more)))
+
+left_in_search : (a : Action) (w : Window) (o : Ordering) (moved l k : ℕ) → LeftIs a (Search w o) moved (Some l) → k ≤ l → k ≤ w.len
+left_in_search a w o moved l k x le = omega (arith, x, le)
+
+pub search_absorbs : (c : CacheState) (r : Registers) (before passed : List ℕ) (p : Progress) (more slot : List ℕ) (w : Window) (so_far now : Ordering)
+    → Works c r before passed p → MayTake p more → p.place ≡ Search w so_far → slot ≡ slot_at c.slots (number c.image.geometry r)
+    → now ≡ ordering_then so_far (slice_cmp nat_cmp (slice_range slot w.start (w.start + length more)) more)
+    → Absorbs c c r before before passed p more (Search (record { start = w.start + length more; len = w.len - length more }) now)
+search_absorbs c r before passed p more slot w so_far now x may at slot_is now_is =
+    let g = c.image.geometry in
+    let n : ℕ = number g r in
+    let goes = x.goes in
+    let t = track_of (slot_at c.slots n) in
+    let left = rw (at, may.left) at goes.left in
+    let le : length more ≤ w.len = left_in_search (action_of p.opened.command) w so_far (length passed) may.l (length more) left may.room in
+    let P : Place → Type 0 = λ y. IsPlaced c g r n p.opened before passed y in
+    let placed = subst P at goes.placed in
+    let h = placed.0 in
+    let area = area_bytes t p.opened r in
+    let rest : List ℕ = drop (length passed) area in
+    let far : length (passed ++ more) ≡ length passed + length more = length-append passed more in
+    let whole : length area ≡ length passed + w.len = omega (arith, h.lies.size, length-drop (length passed) area, h.room) in
+    let behind : drop (length more) rest ≡ drop (length (passed ++ more)) area = drop-drop (length more) (length passed) area ∙ rw far refl in
+    let w' : Window = record { start = w.start + length more; len = w.len - length more } in
+    let lies : Lies (slot_at c.slots n) w' (drop (length (passed ++ more)) area) =
+    (let Q : List ℕ → Type 0 = λ b. Lies (slot_at c.slots n) w' b in subst Q behind (lies_rest (slot_at c.slots n) rest w (length more) h.lies le)) in
+    let piece : slice_range slot w.start (w.start + length more) ≡ take (length more) rest = rw slot_is (lies_first (slot_at c.slots n) rest w (length more) h.lies le) in
+    let compared : now ≡ order_of area (passed ++ more) = now_is ∙ rw (h.compared, piece) (order_more area passed more (omega (arith, whole, le))) in
+    let wants : length_after g t p.opened r (passed ++ more) ≡ length area = length_by action.Search g t p.opened r (passed ++ more) h.is_search in
+    absorbs_plain c r before passed p more (Search w' now) x may (rw at refl) refl refl (rw at refl) (rw at refl) (
+      record { is_search = h.is_search; at_hand = h.at_hand; lies = lies; room = omega (arith, whole, far, le); begins = omega (arith, h.begins, far); compared = compared },
+      record { again = placed.1.again; len = omega (arith, wants, whole, far, le) },
+    )
+    (omega (arith, h.begins, h.lies.within, le, size_limit c n x.volume))
+
+-- Fields.
+
+collected_more : (f passed more : List ℕ) → take (length passed) f ≡ passed → take (length (passed ++ more)) (overwritten f (length passed) more) ≡ passed ++ more
+collected_more f passed more e =
+    let m = length passed in
+    let is : overwritten f m more ≡ (passed ++ more) ++ drop (m + length more) f = ap (λ (z : List ℕ). z ++ (more ++ drop (m + length more) f)) e ∙ sym (append_assoc passed more (drop (m + length more) f)) in
+    rw is (take_at (passed ++ more) (drop (m + length more) f) (length (passed ++ more)) refl)
+
+of_three : (P : Closing → Type 0) (a b : Bool) (x y z : Closing) → P x → P y → (a ≡ false → b ≡ false → P z) → P (if a then x else (if b then y else z))
+of_three P true b x y z p q s = p
+of_three P false true x y z p q s = q
+of_three P false false x y z p q s = s refl refl
+
+of_two : (P : Closing → Type 0) (a : Bool) (x y : Closing) → (a ≡ true → P x) → P y → P (if a then x else y)
+of_two P true x y p q = p refl
+of_two P false x y p q = q
+
+-- what a field that came so far does to the track: nothing, unless it came whole
+abbrev pub ChangesNothing : Action → Geometry → Sighted → Opened → Registers → List ℕ → Type 0
+ChangesNothing action.WriteHomeAddress g t o r b = (length b ≡ 5) → bytes_eq b (own_home_address r) ≡ false
+ChangesNothing action.Format g t o r b = (length b ≡ 8) → new_record_fits g t o b ≡ false
+ChangesNothing a g t o r b = Unit {0}
+
+exactly : (m n : ℕ) → m ≤ n → nat_lt m n ≡ false → m ≡ n
+exactly m n le e = grind (arith, nat_tests)
+
+write_home_unwritten : (g : Geometry) (t : Sighted) (o : Opened) (r : Registers) (b : List ℕ) → length b ≤ 5 → ChangesNothing action.WriteHomeAddress g t o r b → (close_by action.WriteHomeAddress g t o r b).written ≡ None
+write_home_unwritten g t o r b le n =
+    of_three (λ k. k.written ≡ None) (length b == 0) (nat_lt (length b) 5) _ _ (write_home_address o r b) refl refl
+    (λ e0 e5. (let own = n (exactly (length b) 5 le e5) in rw own refl))
+
+format_unwritten : (g : Geometry) (t : Sighted) (o : Opened) (r : Registers) (b : List ℕ) → length b ≤ 8 → ChangesNothing action.Format g t o r b → (close_by action.Format g t o r b).written ≡ None
+format_unwritten g t o r b le n =
+    of_three (λ k. k.written ≡ None) (length b == 0) (nat_lt (length b) 8) _ _ (format g t o r b) refl refl
+    (λ e0 e8. (let own = n (exactly (length b) 8 le e8) in rw own refl))
+
+format_wants : (g : Geometry) (t : Sighted) (o : Opened) (r : Registers) (b : List ℕ) (short : Bool) → nat_lt (length b) 8 ≡ short → length b ≤ 8 → ChangesNothing action.Format g t o r b → length_for action.Format g t o r b ≡ 8
+format_wants g t o r b true e le n = rw e refl
+format_wants g t o r b false e le n = (let own = n (exactly (length b) 8 le e) in rw (e, own) refl)
+
+pub field_unwritten : (a : Action) (g : Geometry) (t : Sighted) (o : Opened) (r : Registers) (b : List ℕ) → IsField a → length b ≤ field_size a → ChangesNothing a g t o r b → (close_by a g t o r b).written ≡ None
+field_unwritten action.SeekCylinderAndHead g t o r b f le n = of_three (λ k. k.written ≡ None) (length b == 0) (nat_lt (length b) 6) _ _ _ refl refl (λ _ _. of_two (λ k. k.written ≡ None) _ _ _ (λ _. refl) refl)
+field_unwritten action.SeekHead g t o r b f le n = of_three (λ k. k.written ≡ None) (length b == 0) (nat_lt (length b) 6) _ _ _ refl refl (λ _ _. of_two (λ k. k.written ≡ None) _ _ _ (λ _. refl) refl)
+field_unwritten action.SetFileMask g t o r [] f le n = refl
+field_unwritten action.SetFileMask g t o r (x ∷ b) f le n = refl
+field_unwritten action.WriteHomeAddress g t o r b f le n = write_home_unwritten g t o r b le n
+field_unwritten action.Format g t o r b f le n = format_unwritten g t o r b le n
+field_unwritten action.NoTransfer g t o r b f le n = absurd f
+field_unwritten action.GiveSense g t o r b f le n = absurd f
+field_unwritten action.Search g t o r b f le n = absurd f
+field_unwritten action.Read g t o r b f le n = absurd f
+field_unwritten action.Update g t o r b f le n = absurd f
+
+pub field_wants : (a : Action) (g : Geometry) (t : Sighted) (o : Opened) (r : Registers) (b : List ℕ) → IsField a → length b ≤ field_size a → ChangesNothing a g t o r b → length_for a g t o r b ≡ field_size a
+field_wants action.SeekCylinderAndHead g t o r b f le n = refl
+field_wants action.SeekHead g t o r b f le n = refl
+field_wants action.SetFileMask g t o r b f le n = refl
+field_wants action.WriteHomeAddress g t o r b f le n = refl
+field_wants action.Format g t o r b f le n = format_wants g t o r b (nat_lt (length b) 8) refl le n
+field_wants action.NoTransfer g t o r b f le n = absurd f
+field_wants action.GiveSense g t o r b f le n = absurd f
+field_wants action.Search g t o r b f le n = absurd f
+field_wants action.Read g t o r b f le n = absurd f
+field_wants action.Update g t o r b f le n = absurd f
+
+field_small : (a : Action) → field_size a ≤ 8
+field_small action.SeekCylinderAndHead = omega arith
+field_small action.SeekHead = omega arith
+field_small action.SetFileMask = omega arith
+field_small action.WriteHomeAddress = omega arith
+field_small action.Format = omega arith
+field_small action.NoTransfer = omega arith
+field_small action.GiveSense = omega arith
+field_small action.Search = omega arith
+field_small action.Read = omega arith
+field_small action.Update = omega arith
+
+left_in_field : (a : Action) (f : List ℕ) (moved l k : ℕ) → LeftIs a (Field f) moved (Some l) → k ≤ l → k ≤ field_size a - moved
+left_in_field a f moved l k x le = omega (arith, x, le)
+
+-- what is known of a field, with more bytes
+pub record FieldGoes (c : CacheState) (r : Registers) (before passed : List ℕ) (p : Progress) (more f : List ℕ) : Type 0 where
+  pub has : HasField c (number c.image.geometry r) (action_of p.opened.command) f passed
+  pub again : sight c.image.geometry (track_of (slot_at c.slots (number c.image.geometry r))) p.opened r ≡ Found p.opened
+  pub long : length (passed ++ more) ≡ length passed + length more
+  pub room : length (passed ++ more) ≤ field_size (action_of p.opened.command)
+  pub collected : take (length (passed ++ more)) (overwritten f p.moved more) ≡ passed ++ more
+
+pub field_goes : (c : CacheState) (r : Registers) (before passed : List ℕ) (p : Progress) (more f : List ℕ) → Works c r before passed p → MayTake p more → p.place ≡ Field f → FieldGoes c r before passed p more f
+field_goes c r before passed p more f x may at =
+    let g = c.image.geometry in
+    let n : ℕ = number g r in
+    let goes = x.goes in
+    let left = rw (at, may.left) at goes.left in
+    let le = left_in_field (action_of p.opened.command) f (length passed) may.l (length more) left may.room in
+    let P : Place → Type 0 = λ y. IsPlaced c g r n p.opened before passed y in
+    let placed = subst P at goes.placed in
+    let h = placed.0 in
+    let far : length (passed ++ more) ≡ length passed + length more = length-append passed more in
+    record {
+      has = h;
+      again = placed.1.again;
+      long = far;
+      room = omega (arith, far, le, h.room);
+      collected = rw (← goes.moved) (collected_more f passed more h.collected);
+    }
+
+pub field_absorbs : (c : CacheState) (r : Registers) (before passed : List ℕ) (p : Progress) (more f field : List ℕ)
+    → Works c r before passed p → MayTake p more → p.place ≡ Field f → field ≡ overwritten f p.moved more
+    → ChangesNothing (action_of p.opened.command) c.image.geometry (track_of (slot_at c.slots (number c.image.geometry r))) p.opened r (passed ++ more)
+    → Absorbs c c r before before passed p more (Field field)
+field_absorbs c r before passed p more f field x may at is nothing =
+    let g = c.image.geometry in
+    let n : ℕ = number g r in
+    let a = action_of p.opened.command in
+    let t = track_of (slot_at c.slots n) in
+    let k = field_goes c r before passed p more f x may at in
+    let wants = length_by a g t p.opened r (passed ++ more) refl ∙ field_wants a g t p.opened r (passed ++ more) k.has.is_field k.room nothing in
+    absorbs_plain c r before passed p more (Field field) x may (rw at refl) refl refl (rw at refl) (rw at (let far = k.long in omega (arith, far))) (
+      record { is_field = k.has.is_field; room = k.room; collected = rw is k.collected; at_hand = k.has.at_hand },
+      record { again = k.again; len = (let room = k.room in omega (arith, wants, room)) },
+      ap (λ (y : Closing). y.written) (closing_by a g t p.opened r (passed ++ more) refl) ∙ field_unwritten a g t p.opened r (passed ++ more) k.has.is_field k.room nothing,
+    )
+    (omega (arith, k.room, k.long, field_small a))
