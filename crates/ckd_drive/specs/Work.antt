@@ -9,6 +9,8 @@ use Rattle.ckd_drive.specs.declared.answers.Begun.{Begun as Answer}
 use Rattle.ckd_drive.specs.declared.answers.Begun.TheVariants as begun
 use Rattle.ckd_drive.specs.declared.answers.Look.{Look as LookAnswer}
 use Rattle.ckd_drive.specs.declared.answers.Look.TheVariants as looked
+use Rattle.ckd_drive.specs.declared.answers.Phase.{Phase}
+use Rattle.ckd_drive.specs.declared.answers.Phase.TheVariants as phase
 use Rattle.ckd_position.specs.declared.areas.Position.TheVariants.{AtIndex}
 use Rattle.ckd_sense.specs.declared.sense_bytes.TheConstants.Sense.{ZERO}
 use Rattle.ckd_sense.specs.Masks.{mask_of_byte}
@@ -135,6 +137,25 @@ abbrev pub may_end : Work → Bool
 may_end (Working o b (Some left)) = true
 may_end (Over unit motion) = true
 may_end w = false
+
+-- How far a command is.
+
+abbrev pub phase_of_transfer : (gives : Bool) → (left : ℕ) → Phase
+phase_of_transfer gives left = if gives then phase.Gives left else phase.Takes left
+
+abbrev pub phase_of : Work → Phase
+phase_of Idle = phase.Idle
+phase_of (Over unit motion) = phase.Over
+phase_of (Working o b None) = phase.Looking
+phase_of (Working o b (Some left)) = phase_of_transfer (is_giving (action_of o.command)) left
+
+-- what may be called while a command is so far
+abbrev pub Allows : Phase → Work → Type 0
+Allows phase.Idle w = (is_idle w ≡ true) × (passed_of w ≡ [])
+Allows phase.Over w = (may_end w ≡ true) × (passed_of w ≡ [])
+Allows phase.Looking w = is_working w ≡ true
+Allows (phase.Gives left) w = (is_working w ≡ true) × (may_end w ≡ true) × (gives_now w ≡ true) × (left_of w ≡ left)
+Allows (phase.Takes left) w = (is_working w ≡ true) × (may_end w ≡ true) × (takes_now w ≡ true) × (left_of w ≡ left)
 
 -- Settle, and the next program.
 

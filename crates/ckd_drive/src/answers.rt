@@ -21,3 +21,19 @@ pub enum Look {
     /// The command is over, and waits for its end: the sense bytes tell why.
     Failed,
 }
+
+/// How far a command is, and so what may be called next. Other calls than those named wait: whoever makes one breaks
+/// its condition.
+#[derive(Clone, Copy, Debug, PartialEq, Eq)]
+pub enum Phase {
+    /// No command is open: `begin`, `begin_program`, `clear_sense` and `settle`.
+    Idle,
+    /// A command is over: `end`, or `settle` in its place.
+    Over,
+    /// A command works, and its area is not found yet, or the index passed: `look`.
+    Looking,
+    /// A command works, and may be given so many bytes by the drive: `give` of no more than these, `look` and `end`.
+    Gives(usize),
+    /// A command works, and takes so many bytes: `take` of no more than these, `look` and `end`.
+    Takes(usize),
+}

@@ -9,9 +9,9 @@ ghost use Rattle.ckd_drive.specs.declared.places.Stage.TheVariants.{Working};
 ghost use Rattle.ckd_drive.specs.declared.places.Place.TheVariants.{Unfound};
 ghost use Rattle.ckd_drive.specs.Commands.{with_cause as joined_with_cause};
 ghost use Rattle.ckd_drive.specs.Drive.{unsaved as unsaved_track, begin as begin_of};
-ghost use Rattle.ckd_drive.specs.Work.{DriveState, fault_met, MakesAtMost, after_begin, after_look, look_of, moved_on, left_of, gives_now, takes_now, given_now, passed_of, closed_of, after_end, ending_of, is_idle, is_working, may_end, after_settle, begun_program, answer_of_begin, answer_of_look, with_image, new_drive, without_sense};
+ghost use Rattle.ckd_drive.specs.Work.{DriveState, fault_met, MakesAtMost, after_begin, after_look, look_of, moved_on, left_of, gives_now, takes_now, given_now, passed_of, closed_of, after_end, ending_of, is_idle, is_working, may_end, after_settle, begun_program, answer_of_begin, answer_of_look, with_image, new_drive, without_sense, phase_of, Allows};
 
-use crate::answers::{Begun, Look};
+use crate::answers::{Begun, Look, Phase};
 use crate::cache::TrackCache;
 use crate::places::{Place, Progress, Stage};
 use crate::registers::{Mark, Registers};
@@ -395,6 +395,24 @@ impl<S: ImageStore> Drive<S> {
     {
         self.registers = beginning::program_start(self.registers);
         self.mark = placing::owed_mark(self.mark);
+    }
+
+    /// How far the command is, and so what may be called next.
+    pub fn phase(&self) -> Phase
+        ensures phase { result ≡ phase_of self.now.work }
+        ensures allows { Allows result self.now.work }
+    {
+        match self.stage {
+            Stage::Idle => Phase::Idle,
+            Stage::Over(_) => Phase::Over,
+            Stage::Working(p) => match p.left {
+                None => Phase::Looking,
+                Some(left) if tables::is_giving(tables::action(p.opened.command)) => {
+                    Phase::Gives(left)
+                }
+                Some(left) => Phase::Takes(left),
+            },
+        }
     }
 
     /// The six sense bytes.
