@@ -300,7 +300,8 @@ impl<S: ImageStore> Drive<S> {
             );
             return;
         }
-        copy(&self.registers.sense.to_bytes(), p.moved, into);
+        let sense = self.registers.sense;
+        copy(&sense.to_bytes(), p.moved, into);
         self.passed = self.passed.and(into);
         self.stage = moved_on_by(p, into.len(), p.place);
     }

@@ -107,7 +107,9 @@ pub(crate) fn take<S: ImageStore>(
         let n = take_some(drive, part);
         // a formatting write wants key and data once the count area came
         look(drive)?;
-        moved = moved.saturating_add(n).saturating_add(take_some(drive, &part[n..]));
+        moved = moved
+            .saturating_add(n)
+            .saturating_add(take_some(drive, &part[n..]));
     }
     Ok(moved)
 }
@@ -132,11 +134,12 @@ pub(crate) fn read<S: ImageStore>(
 /// A command that takes these bytes, or as many as it wants; one whose bytes the drive gives has it give some.
 pub(crate) fn write<S: ImageStore>(
     drive: &mut Drive<S>,
-    (code, bytes): Step,
+    step: Step,
     piece: usize,
 ) -> Result<Ran, Fail>
     requires { 1 ≤ piece }
 {
+    let (code, bytes) = step;
     match begin(drive, code)? {
         Begun::Rejected => return Ok(Ran::Rejected),
         Begun::Immediate => return Ok(Ran::Ended(end(drive)?, 0)),

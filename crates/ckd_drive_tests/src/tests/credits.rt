@@ -51,24 +51,59 @@ const ROWS: [(&[Step], [bool; 4]); 26] = [
     (&[(0x31, &[0, 0, 0, 0])], [false, false, false, false]),
     (&[(0x31, &[0, 0, 0, 0, 9])], [false, false, false, false]),
     // searches that are satisfied by a high area, and by an equal or high one
-    (&[SEARCH_R0, (0x51, &[0, 0, 0, 0, 0])], [false, false, false, false]),
+    (
+        &[SEARCH_R0, (0x51, &[0, 0, 0, 0, 0])],
+        [false, false, false, false],
+    ),
     (&[(0x71, &[0, 0, 0, 0, 0])], [false, false, false, false]),
-    (&[SEARCH_R0, WRITE_COUNT_KEY_AND_DATA, SEARCH_KEY], [false, true, true, false]),
-    (&[SEARCH_R0, WRITE_COUNT_KEY_AND_DATA, (0xA9, b"KEY")], [false, true, true, false]),
+    (
+        &[SEARCH_R0, WRITE_COUNT_KEY_AND_DATA, SEARCH_KEY],
+        [false, true, true, false],
+    ),
+    (
+        &[
+            SEARCH_R0,
+            WRITE_COUNT_KEY_AND_DATA,
+            SEARCH_HOME_ADDRESS,
+            (0xA9, b"KEY"),
+        ],
+        [false, true, true, false],
+    ),
     // two bytes of three, another key, and searches for a high key, and for an equal or high one
-    (&[SEARCH_R0, WRITE_COUNT_KEY_AND_DATA, (0x29, b"KE")], [false, false, false, false]),
-    (&[SEARCH_R0, WRITE_COUNT_KEY_AND_DATA, (0x29, b"KIN")], [false, false, false, false]),
-    (&[SEARCH_R0, WRITE_COUNT_KEY_AND_DATA, (0x49, b"JAY")], [false, false, false, false]),
-    (&[SEARCH_R0, WRITE_COUNT_KEY_AND_DATA, (0x69, b"KEY")], [false, false, false, false]),
-    (&[SEARCH_HOME_ADDRESS, WRITE_R0], [false, true, false, false]),
+    (
+        &[SEARCH_R0, WRITE_COUNT_KEY_AND_DATA, (0x29, b"KE")],
+        [false, false, false, false],
+    ),
+    (
+        &[SEARCH_R0, WRITE_COUNT_KEY_AND_DATA, (0x29, b"KIN")],
+        [false, false, false, false],
+    ),
+    (
+        &[SEARCH_R0, WRITE_COUNT_KEY_AND_DATA, (0x49, b"JAY")],
+        [false, false, false, false],
+    ),
+    (
+        &[SEARCH_R0, WRITE_COUNT_KEY_AND_DATA, (0x69, b"KEY")],
+        [false, false, false, false],
+    ),
+    (
+        &[SEARCH_HOME_ADDRESS, WRITE_R0],
+        [false, true, false, false],
+    ),
     (&[WRITE_HOME_ADDRESS, WRITE_R0], [false, true, false, false]),
-    (&[SEARCH_R0, WRITE_COUNT_KEY_AND_DATA], [false, true, false, false]),
+    (
+        &[SEARCH_R0, WRITE_COUNT_KEY_AND_DATA],
+        [false, true, false, false],
+    ),
     // a record that was updated leaves none
     (&[SEARCH_R0, WRITE_DATA], [false, false, false, false]),
     // any command between takes it away
     (&[SEARCH_R0, NO_OPERATION], [false, false, false, false]),
     (&[SEARCH_R0, SENSE], [false, false, false, false]),
-    (&[SEARCH_HOME_ADDRESS, (0x1A, &[])], [false, false, false, false]),
+    (
+        &[SEARCH_HOME_ADDRESS, (0x1A, &[])],
+        [false, false, false, false],
+    ),
 ];
 
 #[test]
@@ -83,7 +118,11 @@ fn credits_are_given_and_refused(rt: HostRuntime) -> Result<(), Fail> {
             assert_eq!(rt; ran != Ran::Rejected, *may, "{code} in row {i}");
             let sequence = if *may { 0x00 } else { 0x10 };
             let reject = if *may { 0x00 } else { 0x80 };
-            assert_eq!(rt; drive.sense(), [reject, sequence, 0, 0, 0, 0], "{code} in row {i}");
+            assert_eq!(rt;
+                drive.sense(),
+                [reject, sequence, 0, 0, 0, 0],
+                "{code} in row {i}"
+            );
         }
     }
     Ok(())

@@ -1,6 +1,6 @@
 //! Reads, and how a pass over a cylinder ends.
 
-use super::commands::{Ran, begin, end, find, look, new_drive, read, run};
+use super::commands::{Ran, begin, end, find, give, look, new_drive, read, run, write};
 use super::volumes::{new_volume, written_volume};
 use ckd_drive::answers::{Begun, Look};
 use std::test::Fail;
@@ -28,7 +28,10 @@ fn reads_the_counts_of_a_cylinder(rt: HostRuntime) -> Result<(), Fail> {
         [0, 0, 0, 3, 1, 0, 0, 0x10],
     ] {
         let mut count = [0; 8];
-        assert_eq!(rt; read(&mut drive, READ_COUNT, &mut count, 8)?, Ran::Ended(ENDING, 8));
+        assert_eq!(rt;
+            read(&mut drive, READ_COUNT, &mut count, 8)?,
+            Ran::Ended(ENDING, 8)
+        );
         assert_eq!(rt; count, want);
     }
     assert_eq!(rt; begin(&mut drive, READ_COUNT)?, Begun::Started);
@@ -45,7 +48,10 @@ fn reads_the_counts_of_a_cylinder(rt: HostRuntime) -> Result<(), Fail> {
 fn reads_r0_of_a_new_track(rt: HostRuntime) -> Result<(), Fail> {
     let mut drive = new_drive(rt.alloc(), new_volume(rt.alloc())?)?;
     let mut record = [0xAA; 16];
-    assert_eq!(rt; read(&mut drive, 0x16, &mut record, 16)?, Ran::Ended(ENDING, 16));
+    assert_eq!(rt;
+        read(&mut drive, 0x16, &mut record, 16)?,
+        Ran::Ended(ENDING, 16)
+    );
     assert_eq!(rt; record, [0, 0, 0, 0, 0, 0, 0, 8, 0, 0, 0, 0, 0, 0, 0, 0]);
     Ok(())
 }
@@ -55,9 +61,19 @@ fn reads_each_kind_of_area_in_pieces(rt: HostRuntime) -> Result<(), Fail> {
     let rows: [(u8, usize, u8, &[u8]); 9] = [
         // the home address, and R0 with its count area
         (0x1A, 0, ENDING, &[0, 0, 0, 0, 0]),
-        (0x16, 0, ENDING, &[0, 0, 0, 0, 0, 0, 0, 8, 0, 0, 0, 0, 0, 0, 0, 0]),
+        (
+            0x16,
+            0,
+            ENDING,
+            &[0, 0, 0, 0, 0, 0, 0, 8, 0, 0, 0, 0, 0, 0, 0, 0],
+        ),
         // record 1 with its count area, the next count area, and the data behind that
-        (0x1E, 0, ENDING, b"\0\0\0\0\x01\0\0\x50\xC1\xC1\xC1\xC1\xC1\xC1\xC1\xC1\xC1\xC1\xC1\xC1"),
+        (
+            0x1E,
+            0,
+            ENDING,
+            b"\0\0\0\0\x01\0\0\x50\xC1\xC1\xC1\xC1\xC1\xC1\xC1\xC1\xC1\xC1\xC1\xC1",
+        ),
         (0x12, 0, ENDING, &[0, 0, 0, 0, 2, 0, 0, 0x50]),
         (0x06, 0, ENDING, &[0xC2; 80]),
         (0x0E, 0, ENDING, &[0xC3; 80]),
@@ -74,8 +90,8 @@ fn reads_each_kind_of_area_in_pieces(rt: HostRuntime) -> Result<(), Fail> {
             let into = bytes.get_mut(..want.len()).ok_or("too long")?;
             assert_eq!(rt; begin(&mut drive, code)?, Begun::Started);
             assert_eq!(rt; find(&mut drive)?, passed, "{code} in {piece}");
-            let moved = super::commands::give(&mut drive, into, piece);
-            assert_eq!(rt; into, want, "{code} in {piece}");
+            let moved = give(&mut drive, into, piece);
+            assert!(rt; *into == *want, "{code} in {piece}");
             assert_eq!(rt; moved, want.len());
             assert_eq!(rt; end(&mut drive)?, status);
         }
@@ -86,8 +102,14 @@ fn reads_each_kind_of_area_in_pieces(rt: HostRuntime) -> Result<(), Fail> {
 #[test]
 fn a_record_without_data_is_a_unit_exception(rt: HostRuntime) -> Result<(), Fail> {
     let mut drive = new_drive(rt.alloc(), written_volume(rt.alloc())?)?;
-    assert_eq!(rt; run(&mut drive, &[(0x1B, &[0, 0, 0, 0, 0, 1])])?, Ran::Ended(ENDING, 6));
-    assert_eq!(rt; run(&mut drive, &[(0x06, &[])])?, Ran::Ended(UNIT_EXCEPTION, 0));
+    assert_eq!(rt;
+        run(&mut drive, &[(0x1B, &[0, 0, 0, 0, 0, 1])])?,
+        Ran::Ended(ENDING, 6)
+    );
+    assert_eq!(rt;
+        run(&mut drive, &[(0x06, &[])])?,
+        Ran::Ended(UNIT_EXCEPTION, 0)
+    );
     assert_eq!(rt; drive.sense(), [0; 6]);
     Ok(())
 }
@@ -95,7 +117,7 @@ fn a_record_without_data_is_a_unit_exception(rt: HostRuntime) -> Result<(), Fail
 #[test]
 fn searches_compare_as_many_bytes_as_are_given(rt: HostRuntime) -> Result<(), Fail> {
     // the count area of R0 comes first, then those of the records 1, 2 and 3
-    let rows: [(u8, &[u8], u8); 12] = [
+    let rows: [(u8, &[u8], u8); 14] = [
         (0x31, &[0, 0, 0, 0, 0], SATISFIED),
         (0x31, &[0, 0, 0, 0, 2], ENDING),
         (0x31, &[0, 0, 0, 0, 2], SATISFIED),
@@ -105,8 +127,11 @@ fn searches_compare_as_many_bytes_as_are_given(rt: HostRuntime) -> Result<(), Fa
         (0x31, &[], ENDING),
         (0x51, &[0, 0, 0, 0, 2], ENDING),
         (0x51, &[0, 0, 0, 0, 2], SATISFIED),
+        // the index passes once among searches; another command begins a new turn
+        (0x03, &[], ENDING),
         (0x71, &[0, 0, 0, 0, 1], ENDING),
         (0x71, &[0, 0, 0, 0, 1], SATISFIED),
+        (0x03, &[], ENDING),
         (0x39, &[0, 0, 0, 0], SATISFIED),
         (0xB1, &[0, 0, 0, 0, 0], SATISFIED),
     ];
@@ -114,7 +139,7 @@ fn searches_compare_as_many_bytes_as_are_given(rt: HostRuntime) -> Result<(), Fa
         let mut drive = new_drive(rt.alloc(), written_volume(rt.alloc())?)?;
         for (i, (code, bytes, status)) in rows.iter().enumerate() {
             assert_eq!(rt;
-                super::commands::write(&mut drive, (*code, *bytes), piece)?,
+                write(&mut drive, (*code, *bytes), piece)?,
                 Ran::Ended(*status, bytes.len()),
                 "{i} in {piece}"
             );
@@ -129,7 +154,10 @@ fn sense_gives_the_sense_bytes_and_leaves_them(rt: HostRuntime) -> Result<(), Fa
     assert_eq!(rt; run(&mut drive, &[(0x05, &[])])?, Ran::Rejected);
     for piece in [1, 6] {
         let mut sense = [0xAA; 6];
-        assert_eq!(rt; read(&mut drive, 0x04, &mut sense, piece)?, Ran::Ended(ENDING, 6));
+        assert_eq!(rt;
+            read(&mut drive, 0x04, &mut sense, piece)?,
+            Ran::Ended(ENDING, 6)
+        );
         assert_eq!(rt; sense, [0x80, 0x10, 0, 0, 0, 0]);
         assert_eq!(rt; drive.sense(), sense);
     }

@@ -3,8 +3,8 @@
 ghost use Rattle.std.specs.Prelude.{◌≡◌, length, IfOk};
 ghost use Rattle.ckd_image.specs.Geometry.{new_geometry};
 
-use ckd_image::image::Image;
 use ckd_image::geometry::image_len;
+use ckd_image::image::Image;
 use ckd_image::memory::MemoryStore;
 use ckd_track::{DriveModel, fits, put_record, read_slot};
 use std::alloc::Global;

@@ -1,6 +1,6 @@
 //! Writes that end, or are cut, after so many bytes.
 
-use super::commands::{Ran, Step, new_drive, run, store_of, write};
+use super::commands::{Ran, Step, new_drive, read, run, store_of, write};
 use super::volumes::{HEADER, SLOT, differ_in_track_alone, written_volume};
 use std::test::Fail;
 
@@ -18,8 +18,11 @@ const SEARCH_RECORD_1: Step = (0x31, &[0, 0, 0, 0, 1]);
 /// The slot of head 0 as it is written at first, with other bytes from `at` on and zeros behind them.
 fn slot_with(file: &[u8], at: usize, bytes: &[u8]) -> Option<[u8; SLOT]> {
     let mut slot = [0; SLOT];
-    slot.get_mut(..at)?.copy_from_slice(file.get(HEADER..)?.get(..at)?);
-    slot.get_mut(at..)?.get_mut(..bytes.len())?.copy_from_slice(bytes);
+    slot.get_mut(..at)?
+        .copy_from_slice(file.get(HEADER..)?.get(..at)?);
+    slot.get_mut(at..)?
+        .get_mut(..bytes.len())?
+        .copy_from_slice(bytes);
     Some(slot)
 }
 
@@ -27,8 +30,10 @@ fn slot_with(file: &[u8], at: usize, bytes: &[u8]) -> Option<[u8; SLOT]> {
 fn write_count_key_and_data_ends_early(rt: HostRuntime) -> Result<(), Fail> {
     let before = written_volume(rt.alloc())?;
     let record = b"\0\0\0\0\x01\0\0\x14\xD5\xD5\xD5\xD5\xD5\xD5\xD5\xD5\xD5\xD5";
-    let zeros = b"\0\0\0\0\x01\0\0\x14\0\0\0\0\0\0\0\0\0\0\0\0\0\0\0\0\0\0\0\0\xFF\xFF\xFF\xFF\xFF\xFF\xFF\xFF";
-    let half = b"\0\0\0\0\x01\0\0\x14\xD5\xD5\xD5\xD5\xD5\xD5\xD5\xD5\xD5\xD5\0\0\0\0\0\0\0\0\0\0\xFF\xFF\xFF\xFF\xFF\xFF\xFF\xFF";
+    let zeros =
+        b"\0\0\0\0\x01\0\0\x14\0\0\0\0\0\0\0\0\0\0\0\0\0\0\0\0\0\0\0\0\xFF\xFF\xFF\xFF\xFF\xFF\xFF\xFF";
+    let half =
+        b"\0\0\0\0\x01\0\0\x14\xD5\xD5\xD5\xD5\xD5\xD5\xD5\xD5\xD5\xD5\0\0\0\0\0\0\0\0\0\0\xFF\xFF\xFF\xFF\xFF\xFF\xFF\xFF";
     let rows: [(usize, u8, u8, Option<&[u8]>); 4] = [
         (0, ENDING, 0, None),
         (5, UNIT_CHECK, 0x80, None),
@@ -68,18 +73,30 @@ fn write_data_ends_early(rt: HostRuntime) -> Result<(), Fail> {
     for moved in [0, 30, 80] {
         for piece in [1, 7, 65_535] {
             let mut drive = new_drive(rt.alloc(), written_volume(rt.alloc())?)?;
-            assert_eq!(rt; run(&mut drive, &[SEARCH_RECORD_1])?, Ran::Ended(SATISFIED, 5));
+            assert_eq!(rt;
+                run(&mut drive, &[SEARCH_R0, SEARCH_RECORD_1])?,
+                Ran::Ended(SATISFIED, 5)
+            );
             let bytes = [0xD7; 80];
             let bytes = bytes.get(..moved).ok_or("too short")?;
-            assert_eq!(rt; write(&mut drive, (0x05, bytes), piece)?, Ran::Ended(ENDING, moved));
+            assert_eq!(rt;
+                write(&mut drive, (0x05, bytes), piece)?,
+                Ran::Ended(ENDING, moved)
+            );
             assert_eq!(rt; drive.sense(), [0; 6]);
             let store = store_of(drive)?;
             let now = store.bytes();
             // the data of record 1 stands from 29 to 109
             let data = now.get(HEADER + 29..HEADER + 109).ok_or("no data")?;
             let rest = if moved == 0 { 0xC1 } else { 0 };
-            assert!(rt; data.iter().take(moved).all(|byte| *byte == 0xD7), "{moved}");
-            assert!(rt; data.iter().skip(moved).all(|byte| *byte == rest), "{moved}");
+            assert!(rt;
+                data.iter().take(moved).all(|byte| *byte == 0xD7),
+                "{moved}"
+            );
+            assert!(rt;
+                data.iter().skip(moved).all(|byte| *byte == rest),
+                "{moved}"
+            );
             assert!(rt; now.get(..HEADER + 29) == before.bytes().get(..HEADER + 29));
             assert!(rt; now.get(HEADER + 109..) == before.bytes().get(HEADER + 109..));
         }
@@ -103,33 +120,34 @@ fn write_home_address_removes_all_records(rt: HostRuntime) -> Result<(), Fail> {
 #[test]
 fn a_record_with_a_key_is_written_found_and_read(rt: HostRuntime) -> Result<(), Fail> {
     let mut drive = new_drive(rt.alloc(), written_volume(rt.alloc())?)?;
-    let steps: [Step; 6] = [
-        (0x31, &[0, 0, 0, 0, 0]),
-        (0x31, &[0, 0, 0, 0, 1]),
+    let steps: [Step; 5] = [
+        SEARCH_R0,
+        SEARCH_RECORD_1,
         (0x1D, b"\0\0\0\0\x02\x03\0\x04KEYDATA"),
         // the index passes, and the key of record 2 is the first on the track
         (0x29, b"KEY"),
         (0x05, b"NEWS"),
-        (0x31, &[0, 0, 0, 0, 0]),
     ];
-    assert_eq!(rt; run(&mut drive, &steps)?, Ran::Ended(SATISFIED, 5));
-    assert_eq!(rt; run(&mut drive, &[(0x31, &[0, 0, 0, 0, 1])])?, Ran::Ended(SATISFIED, 5));
+    assert_eq!(rt; run(&mut drive, &steps)?, Ran::Ended(ENDING, 4));
+    assert_eq!(rt;
+        run(&mut drive, &[SEARCH_R0, SEARCH_RECORD_1])?,
+        Ran::Ended(SATISFIED, 5)
+    );
     let mut bytes = [0; 15];
     assert_eq!(rt;
-        super::commands::read(&mut drive, 0x1E, &mut bytes, 4)?,
+        read(&mut drive, 0x1E, &mut bytes, 4)?,
         Ran::Ended(ENDING, 15)
     );
-    assert_eq!(rt; bytes, b"\0\0\0\0\x02\x03\0\x04KEYNEWS"[..]);
-    let steps: [Step; 2] = [(0x31, &[0, 0, 0, 0, 2]), (0x0D, b"KIN")];
-    let searches: [Step; 2] = [(0x31, &[0, 0, 0, 0, 0]), (0x31, &[0, 0, 0, 0, 1])];
-    assert_eq!(rt; run(&mut drive, &searches)?, Ran::Ended(SATISFIED, 5));
-    assert_eq!(rt; run(&mut drive, &steps)?, Ran::Ended(ENDING, 3));
+    assert_eq!(rt; &bytes, b"\0\0\0\0\x02\x03\0\x04KEYNEWS");
+    let find_record_2: [Step; 3] = [SEARCH_R0, SEARCH_RECORD_1, (0x31, &[0, 0, 0, 0, 2])];
+    assert_eq!(rt; run(&mut drive, &find_record_2)?, Ran::Ended(SATISFIED, 5));
+    assert_eq!(rt; run(&mut drive, &[(0x0D, b"KIN")])?, Ran::Ended(ENDING, 3));
+    assert_eq!(rt; run(&mut drive, &find_record_2)?, Ran::Ended(SATISFIED, 5));
     let mut bytes = [0xAA; 7];
-    assert_eq!(rt; run(&mut drive, &searches)?, Ran::Ended(SATISFIED, 5));
     assert_eq!(rt;
-        super::commands::read(&mut drive, 0x0E, &mut bytes, 7)?,
+        read(&mut drive, 0x0E, &mut bytes, 7)?,
         Ran::Ended(ENDING, 7)
     );
-    assert_eq!(rt; bytes, b"KIN\0\0\0\0"[..]);
+    assert_eq!(rt; &bytes, b"KIN\0\0\0\0");
     Ok(())
 }
