@@ -30,7 +30,7 @@ held_again c n e =
     ap (λ (b : Bool). let d : CacheState = record c { image = loaded c.image b; held = Some n } in d) hand
     ∙ ap (λ (h : Option ℕ). let d : CacheState = record c { held = h } in d) (sym e)
 
-lost_at_hand : (c : CacheState) (r q : Registers) (m : Mark) (s : Stage) (p : Progress) (before passed left : List ℕ) (began : Bool) (now : DriveState)
+pub lost_at_hand : (c : CacheState) (r q : Registers) (m : Mark) (s : Stage) (p : Progress) (before passed left : List ℕ) (began : Bool) (now : DriveState)
     → Stands c r m s before passed began → s ≡ Working p → is_unfound p.place ≡ true → state_of c r m s before passed began ≡ now
     → sight c.image.geometry (track_of (slot_at c.slots (number c.image.geometry r))) p.opened r ≡ NextHead q
     → c.changed ≡ true → left ≡ slice_index_or (after_failed_save c left).image.slots (unwrap_or c.held 0) [] → length left ≡ c.image.geometry.track_size
