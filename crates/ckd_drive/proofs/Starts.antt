@@ -24,37 +24,37 @@ use Rattle.ckd_drive.proofs.Torn.{torn_whole}
 pub lost_begins : (c c' : CacheState) (r r' q : Registers) (m m' : Mark) (o : Option Opened) (b : Beginning)
     → Stands c r m Idle [] [] true → BeginsWell c (number c.image.geometry r) r b → b ≡ ToCylinderZero q o → Loses c c' q r' m' → Begins c c' r r' m m' b Idle
 lost_begins c c' r r' q m m' o b x well is l = rw (is, l.cache, l.registers, l.mark) (λ before. (
-  let n : ℕ = number c.image.geometry r in
-  let k = to_zero c n r q o (rw is at well) in
-  let left = l.left in
-  let there : left ≡ slice_index_or (after_failed_save c left).image.slots (unwrap_or c.held 0) [] = l.there ∙ ap (λ (d : CacheState). slice_index_or d.image.slots (unwrap_or c.held 0) []) l.cache in
-  let held : c.held ≡ Some n = x.anchored l.changed in
-  let written : m ≡ Written = mark_written m c.changed x.marked l.changed in
-  let left_is = failed_left c n left held there in
-  let old = drive_at c r m Idle [] in
-  let new = drive_at (after_failed_save c left) (lost_registers q) Lost Idle before in
-  let f : fault_met old new ≡ Some (SaveFails left) = fault_saving old new refl refl ∙ (rw (held, left_is) refl) in
-  let whole = torn_whole c n left x.volume (number_there c r m Idle [] [] true x) l.size in
-  record {
-    stands = lost_stands c (after_failed_save c left) r (lost_registers q) m Idle Idle [] [] before [] left true x refl l.size refl k.cylinder k.head tt;
-    state = rw (f, written, held, k.cylinder, k.head, whole) refl;
-    calls = record { loads = omega arith; saves = omega arith; failures = omega arith; loads_stay = omega arith; saves_stay = omega arith; failures_stay = omega arith; header = refl; geometry = refl };
-  }))
+    let n : ℕ = number c.image.geometry r in
+    let k = to_zero c n r q o (rw is at well) in
+    let left = l.left in
+    let there : left ≡ slice_index_or (after_failed_save c left).image.slots (unwrap_or c.held 0) [] = l.there ∙ ap (λ (d : CacheState). slice_index_or d.image.slots (unwrap_or c.held 0) []) l.cache in
+    let held : c.held ≡ Some n = x.anchored l.changed in
+    let written : m ≡ Written = mark_written m c.changed x.marked l.changed in
+    let left_is = failed_left c n left held there in
+    let old = drive_at c r m Idle [] in
+    let new = drive_at (after_failed_save c left) (lost_registers q) Lost Idle before in
+    let f : fault_met old new ≡ Some (SaveFails left) = fault_saving old new refl refl ∙ (rw (held, left_is) refl) in
+    let whole = torn_whole c n left x.volume (number_there c r m Idle [] [] true x) l.size in
+    record {
+      stands = lost_stands c (after_failed_save c left) r (lost_registers q) m Idle Idle [] [] before [] left true x refl l.size refl k.cylinder k.head tt;
+      state = rw (f, written, held, k.cylinder, k.head, whole) refl;
+      calls = record { loads = omega arith; saves = omega arith; failures = omega arith; loads_stay = omega arith; saves_stay = omega arith; failures_stay = omega arith; header = refl; geometry = refl };
+    }))
 
 -- The arm goes there, and the command works.
 pub zero_begins : (c c' : CacheState) (r r' q : Registers) (m m' : Mark) (o : Opened) (b : Beginning) (s : Stage)
     → Stands c r m Idle [] [] true → BeginsWell c (number c.image.geometry r) r b → b ≡ ToCylinderZero q (Some o) → Leaves c c' r' m' (moved_to q 0 0) → s ≡ unlooked o → Begins c c' r r' m m' b s
 zero_begins c c' r r' q m m' o b s x well is l e = rw (is, l.cache, l.registers, l.mark, e) (λ before. (
-  let w = rw is at well in
-  let old = drive_at c r m Idle [] in
-  let new = drive_at (after_save c) (moved_to q 0 0) Saved (unlooked o) before in
-  let none : fault_met old new ≡ None = fault_none old new (failures_saved c) in
-  record {
-    stands = saved_stands c (after_save c) r (moved_to q 0 0) m Idle (unlooked o) [] [] before [] true x refl refl (at_zero c q x.volume)
-    (record { moved = refl; left = tt; placed = (refl, w.1, rw w.2 tt); no_credit = w.0.credit });
-    state = rw (none, geometry_saved c) refl;
-    calls = calls_of_save old new c c.changed c.slots refl refl;
-  }))
+    let w = rw is at well in
+    let old = drive_at c r m Idle [] in
+    let new = drive_at (after_save c) (moved_to q 0 0) Saved (unlooked o) before in
+    let none : fault_met old new ≡ None = fault_none old new (failures_saved c) in
+    record {
+      stands = saved_stands c (after_save c) r (moved_to q 0 0) m Idle (unlooked o) [] [] before [] true x refl refl (at_zero c q x.volume)
+          (record { moved = refl; left = tt; placed = (refl, w.1, rw w.2 tt); no_credit = w.0.credit });
+      state = rw (none, geometry_saved c) refl;
+      calls = calls_of_save old new c c.changed c.slots refl refl;
+    }))
 
 -- The drive that was called, as it is within the call.
 

@@ -60,7 +60,8 @@ pub record Loses (c c' : CacheState) (r r' : Registers) (m' : Mark) : Type 0 whe
 abbrev pub drive_at : CacheState → Registers → Mark → Stage → (before : List ℕ) → DriveState
 drive_at c r m s before = state_of c r m s before [] true
 
--- it came to this: as the definitions have it, with the fault that was met
+-- A part of a call came to this: it stands, it is as the definitions have it by the fault that was met, and the store was
+-- called at most so often.
 pub record Comes (old : DriveState) (after : Option Fault → DriveState) (c : CacheState) (r : Registers) (m : Mark) (s : Stage) (before : List ℕ) : Type 0 where
   pub stands : Stands c r m s before [] true
   pub state : drive_at c r m s before ≡ with_image (after (fault_met old (drive_at c r m s before))) c.image

@@ -4,10 +4,7 @@ ghost use Rattle.std.specs.Prelude.{◌≡◌, ◌≤◌, ◌<◌, ◌+◌, ◌-
 ghost use Rattle.ckd_sense.specs.SenseBytes.{sense_bytes};
 ghost use Rattle.ckd_image.specs.Store.{Counts};
 ghost use Rattle.ckd_drive.specs.Half.{next_progress, NextLeft};
-ghost use Rattle.ckd_sense.specs.declared.sense_bytes.TheConstants.Sense.{STORE_FAULT};
 ghost use Rattle.ckd_drive.specs.declared.places.Stage.TheVariants.{Working};
-ghost use Rattle.ckd_drive.specs.declared.places.Place.TheVariants.{Unfound};
-ghost use Rattle.ckd_drive.specs.Commands.{with_cause as joined_with_cause};
 ghost use Rattle.ckd_drive.specs.Drive.{unsaved as unsaved_track, begin as begin_of};
 ghost use Rattle.ckd_drive.specs.Work.{DriveState, fault_met, MakesAtMost, after_begin, after_look, look_of, moved_on, left_of, gives_now, takes_now, given_now, passed_of, closed_of, after_end, ending_of, is_idle, is_working, may_end, after_settle, begun_program, answer_of_begin, answer_of_look, with_image, new_drive, without_sense};
 
@@ -107,12 +104,7 @@ impl<S: ImageStore> Drive<S> {
         self.began = true;
         self.passed = Trace::new();
         let begun = beginning::begin(code, self.registers);
-        self.stage = starting::start(
-            &mut self.cache,
-            &mut self.registers,
-            &mut self.mark,
-            begun,
-        );
+        self.stage = starting::start(&mut self.cache, &mut self.registers, &mut self.mark, begun);
         stages::begun(self.stage)
     }
 

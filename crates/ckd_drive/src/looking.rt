@@ -67,7 +67,9 @@ fn look_for_next<S: ImageStore>(
     requires aim { aim_of opened.command ≡ Next kind }
     ensures { Looks cache.old cache.new registers.old registers.new mark.old mark.new opened result }
 {
-    let track = cache.geometry().track_at(registers.cylinder, registers.head);
+    let track = cache
+        .geometry()
+        .track_at(registers.cylinder, registers.head);
     if cache.hold(track).is_err() {
         *registers = with_store_fault(*registers);
         return FAILED;

@@ -11,16 +11,19 @@ use crate::places::{Place, Progress, Stage};
 use crate::steps::{DriveEnding, Opened};
 use crate::{closing, placing, tables};
 
+/// How a command ends whose arm stays.
 pub(crate) const ENDED: DriveEnding = DriveEnding {
     unit: closing::ENDING,
     motion: false,
 };
 
+/// How a command ends whose arm still moves.
 pub(crate) const IN_MOTION: DriveEnding = DriveEnding {
     unit: closing::IN_MOTION,
     motion: true,
 };
 
+/// How a command ends whose sense bytes tell why it failed.
 pub(crate) const UNIT_CHECK: DriveEnding = DriveEnding {
     unit: closing::UNIT_CHECK,
     motion: false,
@@ -45,11 +48,7 @@ pub(crate) fn ready(opened: Opened, moved: usize, place: Place) -> Stage
     Stage::Working(Progress {
         opened,
         moved,
-        left: Some(placing::remaining(
-            tables::action(opened.command),
-            place,
-            moved,
-        )),
+        left: Some(placing::remaining(tables::action(opened.command), place, moved)),
         place,
     })
 }

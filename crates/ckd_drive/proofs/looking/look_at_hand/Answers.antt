@@ -1,6 +1,6 @@
-use Rattle.std.proofs.Common.{◌≡◌, ◌∙◌, sym, true, false, Some, ℕ}
+use Rattle.std.proofs.Common.{◌≡◌, ◌∙◌, sym, ℕ}
 use Rattle.ckd_track.specs.Track.{track_of}
-use Rattle.ckd_drive.specs.declared.steps.Sight.TheVariants.{Found, IndexPassed, NextHead, Missed}
+use Rattle.ckd_drive.specs.declared.steps.Sight.TheVariants.{Found}
 use Rattle.ckd_drive.specs.Tables.{action_of}
 use Rattle.ckd_drive.specs.Commands.{sight}
 use Rattle.ckd_drive.specs.Half.{number, slot_at, ReadsWhole}

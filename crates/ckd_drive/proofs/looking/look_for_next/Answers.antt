@@ -1,4 +1,4 @@
-use Rattle.std.proofs.Common.{◌≡◌, ◌∙◌, sym, false, ℕ}
+use Rattle.std.proofs.Common.{◌≡◌, ◌∙◌, sym, ℕ}
 use Rattle.ckd_drive.specs.Cache.{after_hold}
 use Rattle.ckd_drive.specs.Half.{number}
 use Rattle.ckd_drive.proofs.Standing.{on_ok}

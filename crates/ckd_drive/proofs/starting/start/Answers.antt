@@ -1,4 +1,4 @@
-use Rattle.std.proofs.Common.{◌≡◌, ◌∙◌, sym, true, false, Some}
+use Rattle.std.proofs.Common.{◌≡◌, ◌∙◌, sym, Some}
 use Rattle.ckd_drive.specs.declared.steps.Beginning.TheVariants.{ToCylinderZero}
 use Rattle.ckd_drive.specs.Commands.{moved_to}
 use Rattle.ckd_drive.specs.Stages.{Leaves, Loses}

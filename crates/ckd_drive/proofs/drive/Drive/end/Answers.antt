@@ -1,4 +1,4 @@
-use Rattle.std.proofs.Common.{◌≡◌, ◌∙◌, ap, sym, refl, true, false}
+use Rattle.std.proofs.Common.{◌∙◌, ap, sym}
 use Rattle.ckd_drive.specs.Cache.{CacheState}
 use Rattle.ckd_drive.specs.Stages.{Leaves, Loses}
 use Rattle.ckd_drive.specs.Work.{DriveState, ending_of}
