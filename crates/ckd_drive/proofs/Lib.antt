@@ -23,3 +23,5 @@ pub mod News
 pub mod Formats
 pub mod Replaces
 pub mod Taken
+pub mod Unlooked
+pub mod Starts

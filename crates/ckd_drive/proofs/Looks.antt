@@ -16,13 +16,11 @@ use Rattle.ckd_drive.specs.declared.places.Place.TheVariants.{Unfound, Sense, Fi
 use Rattle.ckd_drive.specs.declared.places.Progress.{Progress}
 use Rattle.ckd_drive.specs.declared.places.Stage.{Stage}
 use Rattle.ckd_drive.specs.declared.places.Stage.TheVariants.{Idle, Over, Working}
-use Rattle.ckd_drive.specs.declared.answers.Look.TheVariants as answer
 use Rattle.ckd_drive.specs.Tables.{action_of, aim}
 use Rattle.ckd_drive.specs.Commands.{Sighted, IsAtTrack, sight, length_after, is_readable}
-use Rattle.ckd_drive.specs.Cache.{CacheState, IsVolume, saved, loaded, holds, slot_held, after_hold}
+use Rattle.ckd_drive.specs.Cache.{CacheState, IsVolume, slot_held}
 use Rattle.ckd_drive.proofs.Numbers.{number_there}
-use Rattle.ckd_drive.proofs.Standing.{volume_held, geometry_held}
-use Rattle.ckd_drive.specs.Work.{DriveState, MakesAtMost, fault_met, with_image, after_look, look_of, answer_of_look}
+use Rattle.ckd_drive.specs.Work.{DriveState, fault_met, with_image, after_look}
 use Rattle.ckd_drive.specs.Half.{Stands, is_unfound, StaysAt, AtHand, ReadsWhole, IsFound, StageIs, Goes, IsPlaced, IsFirstPlace, LeftIs, Rests, CreditAtHand, remaining, state_of, seen_by, slot_at, number, is_written, is_filled, is_filled_by}
 use Rattle.ckd_drive.proofs.First.{first_placed, HandIfAimed}
 use Rattle.ckd_drive.proofs.Faults.{fault_none}
@@ -164,18 +162,6 @@ found_state c c' r m s p before passed began o place left now x is at now_is y f
     let plain = no_filled_seen c'.slots (number c'.image.geometry r) before place (first_not_filled (slot_at c'.slots n) o r place f) in
     rw (← now_is, none, is, at', k.nothing, plain, ← y.slots, y.geometry, first, left_is) refl
 
-pub found_answer : (c c' : CacheState) (r : Registers) (m : Mark) (s : Stage) (p : Progress) (before passed : List ℕ) (began : Bool) (o : Opened) (place : Place) (left : ℕ) (now : DriveState)
-    → s ≡ Working p → is_unfound p.place ≡ true → state_of c r m s before passed began ≡ now → SeesAt c c' r
-    → sight c.image.geometry (track_of (slot_at c'.slots (number c.image.geometry r))) p.opened r ≡ Found o
-    → answer.Ready left ≡ answer_of_look (look_of (fault_met now (state_of c' r m (Working (record { opened = o; moved = 0; left = Some left; place = place })) before passed began)) now now.work)
-    (state_of c' r m (Working (record { opened = o; moved = 0; left = Some left; place = place })) before passed began).work
-found_answer c c' r m s p before passed began o place left now is at now_is y first =
-    let new = state_of c' r m (Working (record { opened = o; moved = 0; left = Some left; place = place })) before passed began in
-    let none : fault_met (state_of c r m s before passed began) new ≡ None = fault_none (state_of c r m s before passed began) new y.failures in
-    let first' = rw y.slots at first in
-    let at' : p.place ≡ Unfound = unfound_is p.place at in
-    rw (← now_is, none, is, at', first') refl
-
 -- A look that goes on, or ends the command.
 
 pub on_stands : (c c' : CacheState) (r r' : Registers) (m m' : Mark) (s : Stage) (p : Progress) (before passed : List ℕ) (began : Bool) (k : Kind)
@@ -271,13 +257,6 @@ again_stands c r m s p before passed began left x is not e =
       rests = rw (began_by began p m (let P : Stage → Type 0 = λ t. Rests began t m in subst P is x.rests)) tt;
     }
 
--- What the looks of one call make of the store.
-pub calls_of_both : (now new : DriveState) (c : CacheState) (a b : Bool) (slots : List (List ℕ)) → now.image ≡ c.image → new.image ≡ saved (loaded c.image a) slots b → MakesAtMost now new
-calls_of_both now new c true true slots e f = rw (e, f) (record { loads = omega arith; saves = omega arith; failures = omega arith; loads_stay = omega arith; saves_stay = omega arith; failures_stay = omega arith; header = refl; geometry = refl })
-calls_of_both now new c true false slots e f = rw (e, f) (record { loads = omega arith; saves = omega arith; failures = omega arith; loads_stay = omega arith; saves_stay = omega arith; failures_stay = omega arith; header = refl; geometry = refl })
-calls_of_both now new c false true slots e f = rw (e, f) (record { loads = omega arith; saves = omega arith; failures = omega arith; loads_stay = omega arith; saves_stay = omega arith; failures_stay = omega arith; header = refl; geometry = refl })
-calls_of_both now new c false false slots e f = rw (e, f) (record { loads = omega arith; saves = omega arith; failures = omega arith; loads_stay = omega arith; saves_stay = omega arith; failures_stay = omega arith; header = refl; geometry = refl })
-
 pub plain_sight : (g : Geometry) (t : Sighted) (o : Opened) (r : Registers) → aim o.command ≡ NoArea → sight g t o r ≡ Found o
 unfolding sight
 plain_sight g t o r e = rw e refl
@@ -285,18 +264,6 @@ plain_sight g t o r e = rw e refl
 pub credited_sight : (g : Geometry) (t : Sighted) (o : Opened) (r : Registers) → aim o.command ≡ Credited → sight g t o r ≡ Found o
 unfolding sight
 credited_sight g t o r e = rw e refl
-
-pub sees_held : (c c' : CacheState) (r : Registers) (m : Mark) (s : Stage) (before passed : List ℕ) (began : Bool) → Stands c r m s before passed began → c' ≡ after_hold c (number c.image.geometry r) → SeesAt c c' r
-sees_held c c' r m s before passed began x is =
-    let P : CacheState → Type 0 = λ d. SeesAt c d r in
-    subst P (sym is) (record {
-      volume = volume_held c (number c.image.geometry r) x.volume;
-      geometry = geometry_held c (number c.image.geometry r);
-      slots = refl;
-      changed = refl;
-      anchored = λ _. refl;
-      failures = elim (holds c.held (number c.image.geometry r)) as (λ b. (loaded c.image b).failures ≡ c.image.failures) [ true ↦ refl | false ↦ refl ];
-    })
 
 pub slot_is : (c : CacheState) (n : ℕ) (slot : List ℕ) → c.held ≡ Some n → slot ≡ slot_held c → slot ≡ slot_at c.slots n
 slot_is c n slot held e = rw held at e

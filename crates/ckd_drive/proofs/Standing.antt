@@ -1,5 +1,5 @@
 -- A drive that stands, after its parts have changed.
-use Rattle.std.proofs.Common.{◌≡◌, ◌∙◌, ap, sym, subst, refl, ℕ, ◌<◌, List, Bool, true, false, not, Some, None, Result, Ok, Err, OnOk, OnErr, unwrap_or, length, length-set, arith}
+use Rattle.std.proofs.Common.{◌≡◌, ◌∙◌, ap, sym, subst, refl, ℕ, ◌<◌, List, Bool, true, false, not, None, Result, Ok, Err, OnOk, OnErr, unwrap_or, length, length-set, arith}
 use Rattle.std.proofs.lemmas.List.Elements.{All-set}
 use Rattle.std.specs.Result.{is_err}
 use Rattle.ckd_track.specs.Model.{heads_of}
@@ -12,7 +12,7 @@ use Rattle.ckd_drive.specs.declared.registers.Mark.TheVariants.{Saved, Lost}
 use Rattle.ckd_drive.specs.declared.places.Stage.{Stage}
 use Rattle.ckd_drive.specs.declared.places.Stage.TheVariants.{Idle, Over, Working}
 use Rattle.ckd_drive.specs.Commands.{IsAtTrack, moved_to}
-use Rattle.ckd_drive.specs.Cache.{CacheState, IsVolume, saved, loaded, holds, after_save, after_failed_save, after_hold, after_failed_hold}
+use Rattle.ckd_drive.specs.Cache.{CacheState, IsVolume, saved, after_save, after_failed_save, after_failed_hold}
 use Rattle.ckd_drive.specs.Work.{DriveState, is_idle}
 use Rattle.ckd_drive.specs.declared.steps.Beginning.{Beginning}
 use Rattle.ckd_drive.specs.Commands.{beginning}
@@ -59,37 +59,14 @@ volume_lost c left size v = record {
   clean = λ _. refl;
 }
 
-volume_held_by : (c : CacheState) (track : ℕ) (b : Bool) → IsVolume c → IsVolume (record c { image = loaded c.image b; held = Some track })
-volume_held_by c track true v = record { geometry = v.geometry; count = v.count; sizes = v.sizes; clean = v.clean }
-volume_held_by c track false v = record { geometry = v.geometry; count = v.count; sizes = v.sizes; clean = v.clean }
-
-pub volume_held : (c : CacheState) (track : ℕ) → IsVolume c → IsVolume (after_hold c track)
-volume_held c track v = volume_held_by c track (holds c.held track) v
-
 pub volume_not_held : (c : CacheState) → IsVolume c → IsVolume (after_failed_hold c)
 volume_not_held c v = record { geometry = v.geometry; count = v.count; sizes = v.sizes; clean = v.clean }
 
 pub geometry_saved : (c : CacheState) → (after_save c).image.geometry ≡ c.image.geometry
 geometry_saved c = elim c.changed as (λ b. (saved c.image c.slots b).geometry ≡ c.image.geometry) [ true ↦ refl | false ↦ refl ]
 
-pub geometry_held : (c : CacheState) (track : ℕ) → (after_hold c track).image.geometry ≡ c.image.geometry
-geometry_held c track = elim (holds c.held track) as (λ b. (loaded c.image b).geometry ≡ c.image.geometry) [ true ↦ refl | false ↦ refl ]
-
 pub failures_saved : (c : CacheState) → (after_save c).image.failures ≡ c.image.failures
 failures_saved c = elim c.changed as (λ b. (saved c.image c.slots b).failures ≡ c.image.failures) [ true ↦ refl | false ↦ refl ]
-
--- Another stage at the same track.
-
-pub stays : (c : CacheState) (r q : Registers) (m : Mark) (s s' : Stage) (before passed before' passed' : List ℕ) (began : Bool)
-    → Stands c r m s before passed began → is_filled s ≡ false → is_filled s' ≡ false → q.cylinder ≡ r.cylinder → q.head ≡ r.head → StageIs c q before' passed' s' → Stands c q m s' before' passed' true
-stays c r q m s s' before passed before' passed' began x f f' cy he w = record {
-  volume = x.volume;
-  arm = record { cylinder = rw cy x.arm.cylinder; head = rw he x.arm.head };
-  anchored = rw (cy, he) x.anchored;
-  marked = rw f' (rw f at x.marked);
-  work = w;
-  rests = tt;
-}
 
 -- Where a written track was saved.
 
@@ -123,12 +100,6 @@ lost_stands c c' r q m s s' before passed before' passed' left began x is size f
       work = w;
       rests = tt;
     }
-
-pub not_filled : (s : Stage) → s ≡ Idle → is_filled s ≡ false
-not_filled s e = rw e refl
-
-pub rests_without : (c : CacheState) (r : Registers) (s : Stage) (before passed : List ℕ) → s ≡ Idle → r.credit ≡ None → StageIs c r before passed s
-rests_without c r s before passed e none = rw (e, none) tt
 
 -- what a command code leads to, where nothing was begun
 pub well_begun : (c : CacheState) (r : Registers) (m : Mark) (s : Stage) (before passed : List ℕ) (began : Bool) (now : DriveState) (code : ℕ) (b : Beginning)

@@ -5,3 +5,4 @@ pub mod Work
 pub mod Buffer
 pub mod Cache
 pub mod Half
+pub mod Stages

@@ -4,10 +4,7 @@ ghost use Rattle.std.specs.Prelude.{◌≡◌, ◌≤◌, ◌<◌, ◌+◌, ◌-
 ghost use Rattle.ckd_sense.specs.SenseBytes.{sense_bytes};
 ghost use Rattle.ckd_image.specs.Store.{Counts};
 ghost use Rattle.ckd_drive.specs.Half.{next_progress, NextLeft};
-ghost use Rattle.ckd_sense.specs.declared.sense_bytes.TheConstants.Sense.{STORE_FAULT};
 ghost use Rattle.ckd_drive.specs.declared.places.Stage.TheVariants.{Working};
-ghost use Rattle.ckd_drive.specs.declared.places.Place.TheVariants.{Unfound};
-ghost use Rattle.ckd_drive.specs.Commands.{with_cause as joined_with_cause};
 ghost use Rattle.ckd_drive.specs.Drive.{unsaved as unsaved_track, begin as begin_of};
 ghost use Rattle.ckd_drive.specs.Work.{DriveState, fault_met, MakesAtMost, after_begin, after_look, look_of, moved_on, left_of, gives_now, takes_now, given_now, passed_of, closed_of, after_end, ending_of, is_idle, is_working, may_end, after_settle, begun_program, answer_of_begin, answer_of_look, with_image, new_drive, without_sense, phase_of, Allows};
 
@@ -15,9 +12,10 @@ use crate::answers::{Begun, Look, Phase};
 use crate::cache::TrackCache;
 use crate::places::{Place, Progress, Stage};
 use crate::registers::{Mark, Registers};
-use crate::steps::{Aim, Beginning, DriveEnding, Opened, Sight};
+use crate::stages::{ENDED, UNIT_CHECK};
+use crate::steps::DriveEnding;
 use crate::trace::Trace;
-use crate::{beginning, closing, placing, tables, taking};
+use crate::{beginning, leaving, looking, placing, stages, starting, taking};
 use ckd_image::image::Image;
 use ckd_image::store::{ImageStore, StoreFault};
 use ckd_sense::Sense;
@@ -48,60 +46,6 @@ impl<S: ImageStore> Model for Drive<S> {
     ghost view = { λ d. state_of d.cache d.registers d.mark d.stage d.before.bytes d.passed.bytes d.began };
 
     ghost invariant = { λ d. Stands d.cache d.registers d.mark d.stage d.before.bytes d.passed.bytes d.began };
-}
-
-const FAILED: Stage = Stage::Over(UNIT_CHECK);
-
-const UNIT_CHECK: DriveEnding = DriveEnding {
-    unit: closing::UNIT_CHECK,
-    motion: false,
-};
-
-const ENDED: DriveEnding = DriveEnding {
-    unit: closing::ENDING,
-    motion: false,
-};
-
-// The registers where a load failed.
-fn with_store_fault(registers: Registers) -> Registers
-    ensures { result ≡ joined_with_cause registers STORE_FAULT }
-{
-    beginning::with_cause(registers, Sense::STORE_FAULT)
-}
-
-// The registers where a track is lost whose saving failed.
-fn lost(registers: Registers) -> Registers
-    ensures { result ≡ joined_with_cause (record registers { credit = None }) STORE_FAULT }
-{
-    let registers = Registers {
-        credit: None,
-        ..registers
-    };
-    with_store_fault(registers)
-}
-
-// A command that looks for its area next.
-fn unfound(opened: Opened) -> Stage
-    ensures { result ≡ Working (record { opened = opened; moved = 0; left = None; place = Unfound }) }
-{
-    Stage::Working(Progress {
-        opened,
-        moved: 0,
-        left: None,
-        place: Place::Unfound,
-    })
-}
-
-// A command that has just found where its bytes stand, so many of them.
-fn found(opened: Opened, place: Place, left: usize) -> Stage
-    ensures { result ≡ Working (record { opened = opened; moved = 0; left = Some left; place = place }) }
-{
-    Stage::Working(Progress {
-        opened,
-        moved: 0,
-        left: Some(left),
-        place,
-    })
 }
 
 // So many bytes more have passed, and the rest have this place.
@@ -158,49 +102,10 @@ impl<S: ImageStore> Drive<S> {
         ensures calls { MakesAtMost self.old self.new }
     {
         self.began = true;
-        match beginning::begin(code, self.registers) {
-            Beginning::Rejected(registers) => {
-                self.registers = registers;
-                Begun::Rejected
-            }
-            Beginning::Immediate(registers) => {
-                self.registers = registers;
-                self.stage = Stage::Over(DriveEnding {
-                    unit: closing::ENDING,
-                    motion: false,
-                });
-                Begun::Immediate
-            }
-            Beginning::Started(registers, opened) => {
-                self.registers = registers;
-                self.passed = Trace::new();
-                self.stage = unfound(opened);
-                Begun::Started
-            }
-            Beginning::ToCylinderZero(registers, opened) => {
-                if self.cache.save().is_err() {
-                    self.registers = lost(registers);
-                    self.mark = Mark::Lost;
-                    return Begun::Rejected;
-                }
-                self.mark = Mark::Saved;
-                self.registers = beginning::moved_to(registers, 0, 0);
-                match opened {
-                    None => {
-                        self.stage = Stage::Over(DriveEnding {
-                            unit: closing::IN_MOTION,
-                            motion: true,
-                        });
-                        Begun::Immediate
-                    }
-                    Some(opened) => {
-                        self.passed = Trace::new();
-                        self.stage = unfound(opened);
-                        Begun::Started
-                    }
-                }
-            }
-        }
+        self.passed = Trace::new();
+        let begun = beginning::begin(code, self.registers);
+        self.stage = starting::start(&mut self.cache, &mut self.registers, &mut self.mark, begun);
+        stages::begun(self.stage)
     }
 
     /// Looks at the track under the arm for the area of the command.
@@ -214,70 +119,16 @@ impl<S: ImageStore> Drive<S> {
             return Look::Failed;
         };
         if !placing::is_unfound(p.place) {
-            let left = placing::remaining(tables::action(p.opened.command), p.place, p.moved);
-            self.stage = Stage::Working(Progress {
-                left: Some(left),
-                ..p
-            });
-            return Look::Ready(left);
+            self.stage = stages::ready(p.opened, p.moved, p.place);
+            return stages::looked(self.stage);
         }
-        match tables::aim(p.opened.command) {
-            Aim::NoArea => {
-                let place = placing::place_without_area(p.opened, self.registers);
-                let left = placing::remaining(tables::action(p.opened.command), place, 0);
-                self.stage = found(p.opened, place, left);
-                Look::Ready(left)
-            }
-            Aim::Credited => {
-                let place = placing::place_on(self.cache.buffer(), p.opened, self.registers);
-                let left = placing::remaining(tables::action(p.opened.command), place, 0);
-                self.stage = found(p.opened, place, left);
-                Look::Ready(left)
-            }
-            Aim::Next(kind) => {
-                let geometry = self.cache.geometry();
-                let track = geometry.track_at(self.registers.cylinder, self.registers.head);
-                if self.cache.hold(track).is_err() {
-                    self.registers = with_store_fault(self.registers);
-                    self.stage = FAILED;
-                    return Look::Failed;
-                }
-                match placing::look_at(
-                    self.cache.buffer(),
-                    geometry,
-                    p.opened,
-                    self.registers,
-                    kind,
-                ) {
-                    Sight::Found(opened) => {
-                        let place = placing::place_on(self.cache.buffer(), opened, self.registers);
-                        let left = placing::remaining(tables::action(opened.command), place, 0);
-                        self.stage = found(opened, place, left);
-                        Look::Ready(left)
-                    }
-                    Sight::IndexPassed(registers) => {
-                        self.registers = registers;
-                        Look::Passed
-                    }
-                    Sight::NextHead(registers) => {
-                        if self.cache.save().is_err() {
-                            self.registers = lost(self.registers);
-                            self.mark = Mark::Lost;
-                            self.stage = FAILED;
-                            return Look::Failed;
-                        }
-                        self.mark = Mark::Saved;
-                        self.registers = registers;
-                        Look::Passed
-                    }
-                    Sight::Missed(registers) => {
-                        self.registers = registers;
-                        self.stage = FAILED;
-                        Look::Failed
-                    }
-                }
-            }
-        }
+        self.stage = looking::look(
+            &mut self.cache,
+            &mut self.registers,
+            &mut self.mark,
+            p.opened,
+        );
+        stages::looked(self.stage)
     }
 
     /// Gives the next bytes.
@@ -355,13 +206,10 @@ impl<S: ImageStore> Drive<S> {
             self.registers = outcome.registers;
             return outcome.ending;
         }
-        if self.cache.save().is_err() {
-            self.registers = lost(self.registers);
-            self.mark = Mark::Lost;
+        let next = outcome.registers;
+        if leaving::leave(&mut self.cache, &mut self.registers, &mut self.mark, next).is_err() {
             return UNIT_CHECK;
         }
-        self.mark = Mark::Saved;
-        self.registers = outcome.registers;
         outcome.ending
     }
 
@@ -381,7 +229,7 @@ impl<S: ImageStore> Drive<S> {
                 Ok(())
             }
             Err(fault) => {
-                self.registers = lost(self.registers);
+                self.registers = leaving::lost(self.registers);
                 self.mark = Mark::Lost;
                 Err(fault)
             }

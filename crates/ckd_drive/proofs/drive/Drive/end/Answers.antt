@@ -1,5 +1,6 @@
-use Rattle.std.proofs.Common.{◌≡◌, ◌∙◌, ap, sym, refl, true, [], ℕ, List, slice_index_or, unwrap_or, length}
-use Rattle.ckd_drive.specs.Cache.{CacheState, after_save, after_failed_save}
+use Rattle.std.proofs.Common.{◌∙◌, ap, sym}
+use Rattle.ckd_drive.specs.Cache.{CacheState}
+use Rattle.ckd_drive.specs.Stages.{Leaves, Loses}
 use Rattle.ckd_drive.specs.Work.{DriveState, ending_of}
 use Rattle.ckd_drive.specs.Drive.{Closed}
 use Rattle.ckd_drive.proofs.Standing.{on_ok, on_err, not_true, not_false}
@@ -29,49 +30,43 @@ returns-then-not-outcome-clause-ending g c =
 pub returns-then-is_err-clause-state : goal.returns-then-is_err-clause-state
 returns-then-is_err-clause-state g c =
     let i = c.self.inside in
-    let left : List ℕ = slice_index_or c.save.new.self.image.slots (unwrap_or i.cache.held 0) [] in
-    let yes = sym c.is_err.ensures.value ∙ c.if-is_err.true in
-    let failed : c.save.new.self ≡ after_failed_save i.cache left = on_err c.save.result _ yes c.save.ensures.err in
-    let changed : i.cache.changed ≡ true = on_err c.save.result _ yes c.save.ensures.fails in
-    let size : length left ≡ i.cache.image.geometry.track_size = on_err c.save.result _ yes c.save.ensures.size in
-    rw c.lost-self-inside.ensures
-    (lost_state i.cache c.save.new.self i.registers i.mark i.stage c.in-Working.p i.before.bytes i.passed.bytes left i.began c.args.self.now c.close-outcome.result c.self.invariant c.in-Working.is c.self.view_is c.requires
-    (rw c.geometry.ensures.geometry at c.close-outcome.ensures) (not_false c.close-outcome.result.moves_off c.if-not-outcome.false) changed failed refl size).0
+    let l : Loses i.cache c.leave.new.cache i.registers c.leave.new.registers c.leave.new.mark = on_err c.leave.result _ (sym c.is_err.ensures.value ∙ c.if-is_err.true) c.leave.ensures.loses in
+    rw (l.registers, l.mark)
+    (lost_state i.cache c.leave.new.cache i.registers i.mark i.stage c.in-Working.p i.before.bytes i.passed.bytes l.left i.began c.args.self.now c.close-outcome.result c.self.invariant c.in-Working.is c.self.view_is c.requires
+    (rw c.geometry.ensures.geometry at c.close-outcome.ensures) (not_false c.close-outcome.result.moves_off c.if-not-outcome.false) l.changed l.cache l.there l.size).0
 
 pub returns-then-is_err-clause-ending : goal.returns-then-is_err-clause-ending
 returns-then-is_err-clause-ending g c =
     let i = c.self.inside in
-    let left : List ℕ = slice_index_or c.save.new.self.image.slots (unwrap_or i.cache.held 0) [] in
-    let yes = sym c.is_err.ensures.value ∙ c.if-is_err.true in
-    let failed : c.save.new.self ≡ after_failed_save i.cache left = on_err c.save.result _ yes c.save.ensures.err in
-    let changed : i.cache.changed ≡ true = on_err c.save.result _ yes c.save.ensures.fails in
-    let size : length left ≡ i.cache.image.geometry.track_size = on_err c.save.result _ yes c.save.ensures.size in
-    (sym (ap (λ (k : Closed). ending_of k) (lost_state i.cache c.save.new.self i.registers i.mark i.stage c.in-Working.p i.before.bytes i.passed.bytes left i.began c.args.self.now c.close-outcome.result c.self.invariant c.in-Working.is c.self.view_is c.requires
-    (rw c.geometry.ensures.geometry at c.close-outcome.ensures) (not_false c.close-outcome.result.moves_off c.if-not-outcome.false) changed failed refl size).1))
+    let l : Loses i.cache c.leave.new.cache i.registers c.leave.new.registers c.leave.new.mark = on_err c.leave.result _ (sym c.is_err.ensures.value ∙ c.if-is_err.true) c.leave.ensures.loses in
+    (sym (ap (λ (k : Closed). ending_of k) (lost_state i.cache c.leave.new.cache i.registers i.mark i.stage c.in-Working.p i.before.bytes i.passed.bytes l.left i.began c.args.self.now c.close-outcome.result c.self.invariant c.in-Working.is c.self.view_is c.requires
+    (rw c.geometry.ensures.geometry at c.close-outcome.ensures) (not_false c.close-outcome.result.moves_off c.if-not-outcome.false) l.changed l.cache l.there l.size).1))
 
 pub invariant_of-self-2 : goal.invariant_of-self-2
 invariant_of-self-2 g c =
     let i = c.self.inside in
-    let saved : c.save.new.self ≡ after_save i.cache = on_ok c.save.result _ (sym c.is_err.ensures.value ∙ c.if-is_err.false) c.save.ensures.ok in
-    moves_stands i.cache c.save.new.self i.registers i.mark i.stage c.in-Working.p i.before.bytes i.passed.bytes i.began c.args.self.now c.close-outcome.result c.self.invariant c.in-Working.is c.self.view_is c.requires
-    (rw c.geometry.ensures.geometry at c.close-outcome.ensures) (not_false c.close-outcome.result.moves_off c.if-not-outcome.false) saved
+    let l : Leaves i.cache c.leave.new.cache c.leave.new.registers c.leave.new.mark c.close-outcome.result.registers = on_ok c.leave.result _ (sym c.is_err.ensures.value ∙ c.if-is_err.false) c.leave.ensures.leaves in
+    rw (l.registers, l.mark)
+    (moves_stands i.cache c.leave.new.cache i.registers i.mark i.stage c.in-Working.p i.before.bytes i.passed.bytes i.began c.args.self.now c.close-outcome.result c.self.invariant c.in-Working.is c.self.view_is c.requires
+    (rw c.geometry.ensures.geometry at c.close-outcome.ensures) (not_false c.close-outcome.result.moves_off c.if-not-outcome.false) l.cache)
 
 pub returns-clause-state : goal.returns-clause-state
 returns-clause-state g c =
     let i = c.self.inside in
-    let saved : c.save.new.self ≡ after_save i.cache = on_ok c.save.result _ (sym c.is_err.ensures.value ∙ c.if-is_err.false) c.save.ensures.ok in
-    (moves_state i.cache c.save.new.self i.registers i.mark i.stage c.in-Working.p i.before.bytes i.passed.bytes i.began c.args.self.now c.close-outcome.result c.self.invariant c.in-Working.is c.self.view_is c.requires
-    (rw c.geometry.ensures.geometry at c.close-outcome.ensures) (not_false c.close-outcome.result.moves_off c.if-not-outcome.false) saved).0
+    let l : Leaves i.cache c.leave.new.cache c.leave.new.registers c.leave.new.mark c.close-outcome.result.registers = on_ok c.leave.result _ (sym c.is_err.ensures.value ∙ c.if-is_err.false) c.leave.ensures.leaves in
+    rw (l.registers, l.mark)
+    (moves_state i.cache c.leave.new.cache i.registers i.mark i.stage c.in-Working.p i.before.bytes i.passed.bytes i.began c.args.self.now c.close-outcome.result c.self.invariant c.in-Working.is c.self.view_is c.requires
+    (rw c.geometry.ensures.geometry at c.close-outcome.ensures) (not_false c.close-outcome.result.moves_off c.if-not-outcome.false) l.cache).0
 
 pub returns-clause-ending : goal.returns-clause-ending
 returns-clause-ending g c =
     let i = c.self.inside in
-    let saved : c.save.new.self ≡ after_save i.cache = on_ok c.save.result _ (sym c.is_err.ensures.value ∙ c.if-is_err.false) c.save.ensures.ok in
-    (moves_state i.cache c.save.new.self i.registers i.mark i.stage c.in-Working.p i.before.bytes i.passed.bytes i.began c.args.self.now c.close-outcome.result c.self.invariant c.in-Working.is c.self.view_is c.requires
-    (rw c.geometry.ensures.geometry at c.close-outcome.ensures) (not_false c.close-outcome.result.moves_off c.if-not-outcome.false) saved).1
+    let l : Leaves i.cache c.leave.new.cache c.leave.new.registers c.leave.new.mark c.close-outcome.result.registers = on_ok c.leave.result _ (sym c.is_err.ensures.value ∙ c.if-is_err.false) c.leave.ensures.leaves in
+    (moves_state i.cache c.leave.new.cache i.registers i.mark i.stage c.in-Working.p i.before.bytes i.passed.bytes i.began c.args.self.now c.close-outcome.result c.self.invariant c.in-Working.is c.self.view_is c.requires
+    (rw c.geometry.ensures.geometry at c.close-outcome.ensures) (not_false c.close-outcome.result.moves_off c.if-not-outcome.false) l.cache).1
 
 pub returns-clause-calls : goal.returns-clause-calls
 returns-clause-calls g c =
     let i = c.self.inside in
-    let saved : c.save.new.self ≡ after_save i.cache = on_ok c.save.result _ (sym c.is_err.ensures.value ∙ c.if-is_err.false) c.save.ensures.ok in
-    calls_of_save c.args.self.now _ i.cache i.cache.changed i.cache.slots (sym (ap (λ (d : DriveState). d.image) c.self.view_is)) (ap (λ (d : CacheState). d.image) saved)
+    let l : Leaves i.cache c.leave.new.cache c.leave.new.registers c.leave.new.mark c.close-outcome.result.registers = on_ok c.leave.result _ (sym c.is_err.ensures.value ∙ c.if-is_err.false) c.leave.ensures.leaves in
+    calls_of_save c.args.self.now _ i.cache i.cache.changed i.cache.slots (sym (ap (λ (d : DriveState). d.image) c.self.view_is)) (ap (λ (d : CacheState). d.image) l.cache)

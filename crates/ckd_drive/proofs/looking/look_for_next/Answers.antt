@@ -1,0 +1,17 @@
+use Rattle.std.proofs.Common.{◌≡◌, ◌∙◌, sym, ℕ}
+use Rattle.ckd_drive.specs.Cache.{after_hold}
+use Rattle.ckd_drive.specs.Half.{number}
+use Rattle.ckd_drive.proofs.Standing.{on_ok}
+use Rattle.ckd_drive.proofs.Unlooked.{held_looks}
+use Rattle.ckd_drive.proofs.looking.look_for_next.Goals as goal
+
+pub returns : goal.returns
+returns g c =
+    let d = c.args.cache.now in
+    let r = c.args.registers.now in
+    let e = c.hold.new.self in
+    let n : ℕ = number d.image.geometry r in
+    let track : c.track_at-track.result ≡ n = rw c.geometry.ensures.geometry at c.track_at-track.ensures.number in
+    let held : e ≡ after_hold d n = rw track at (on_ok c.hold.result (e ≡ after_hold d c.track_at-track.result) (sym c.is_err.ensures.value ∙ c.if-is_err.false) c.hold.ensures.ok) in
+    let h = c.look_at_hand in
+    held_looks d e h.new.cache r h.new.registers c.args.mark.now h.new.mark c.args.opened h.result held h.ensures.loads h.ensures.stage
