@@ -11,7 +11,7 @@ use Rattle.ckd_drive.specs.declared.places.Stage.{Stage}
 use Rattle.ckd_drive.specs.declared.places.Stage.TheVariants.{Idle}
 use Rattle.ckd_drive.specs.Commands.{beginning, with_cause}
 use Rattle.ckd_drive.specs.Drive.{LoadFails, SaveFails, number_under}
-use Rattle.ckd_drive.specs.Cache.{CacheState, after_failed_save}
+use Rattle.ckd_cache.specs.Cache.{CacheState, after_failed_save}
 use Rattle.ckd_drive.specs.Work.{DriveState, fault_met, is_idle, with_image, after_begin}
 use Rattle.ckd_drive.specs.Half.{Stands, state_of, number, is_written, BeginsWell, IsCleared}
 use Rattle.s360_words.specs.Storage.{overwritten}

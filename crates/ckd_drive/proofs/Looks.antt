@@ -18,8 +18,9 @@ use Rattle.ckd_drive.specs.declared.places.Stage.{Stage}
 use Rattle.ckd_drive.specs.declared.places.Stage.TheVariants.{Idle, Over, Working}
 use Rattle.ckd_drive.specs.declared.answers.Look.TheVariants as answer
 use Rattle.ckd_drive.specs.Tables.{action_of, aim}
-use Rattle.ckd_drive.specs.Commands.{Sighted, IsAtTrack, sight, length_after, is_readable}
-use Rattle.ckd_drive.specs.Cache.{CacheState, IsVolume, saved, loaded, holds, slot_held, after_hold}
+use Rattle.ckd_cache.specs.Contents.{Sighted, is_readable}
+use Rattle.ckd_drive.specs.Commands.{IsAtTrack, sight, length_after}
+use Rattle.ckd_cache.specs.Cache.{CacheState, IsVolume, saved, loaded, holds, slot_held, after_hold}
 use Rattle.ckd_drive.proofs.Numbers.{number_there}
 use Rattle.ckd_drive.proofs.Standing.{volume_held, geometry_held}
 use Rattle.ckd_drive.specs.Work.{DriveState, MakesAtMost, fault_met, with_image, after_look, look_of, answer_of_look}

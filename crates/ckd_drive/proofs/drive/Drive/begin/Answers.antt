@@ -2,7 +2,7 @@ use Rattle.std.proofs.Common.{◌≡◌, ◌∙◌, sym, refl, true, [], ℕ, Li
 use Rattle.ckd_drive.specs.declared.steps.Beginning.TheVariants.{ToCylinderZero}
 use Rattle.ckd_drive.proofs.Faults.{lost_begun, to_zero, lost_registers}
 use Rattle.ckd_drive.specs.Commands.{beginning, moved_to}
-use Rattle.ckd_drive.specs.Cache.{after_save, after_failed_save}
+use Rattle.ckd_cache.specs.Cache.{after_save, after_failed_save}
 use Rattle.ckd_drive.specs.Half.{number}
 use Rattle.ckd_drive.proofs.Standing.{well_begun, not_filled, rests_without, stays, no_credit, saved_stands, lost_stands, at_zero, on_ok, on_err}
 use Rattle.ckd_drive.proofs.drive.Drive.begin.Goals as goal

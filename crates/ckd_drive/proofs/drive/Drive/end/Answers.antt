@@ -1,5 +1,5 @@
 use Rattle.std.proofs.Common.{◌≡◌, ◌∙◌, ap, sym, refl, true, [], ℕ, List, slice_index_or, unwrap_or, length}
-use Rattle.ckd_drive.specs.Cache.{CacheState, after_save, after_failed_save}
+use Rattle.ckd_cache.specs.Cache.{CacheState, after_save, after_failed_save}
 use Rattle.ckd_drive.specs.Work.{DriveState, ending_of}
 use Rattle.ckd_drive.specs.Drive.{Closed}
 use Rattle.ckd_drive.proofs.Standing.{on_ok, on_err, not_true, not_false}

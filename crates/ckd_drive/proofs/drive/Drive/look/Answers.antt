@@ -8,7 +8,7 @@ use Rattle.ckd_image.specs.declared.geometry.Geometry.{Geometry}
 use Rattle.ckd_image.specs.Image.{ImageState}
 use Rattle.ckd_drive.specs.Tables.{aim, action_of}
 use Rattle.ckd_drive.specs.Commands.{sight, IsAtTrack}
-use Rattle.ckd_drive.specs.Cache.{CacheState, IsVolume, holds, saved as image_saved, after_hold, after_save, after_failed_save}
+use Rattle.ckd_cache.specs.Cache.{CacheState, IsVolume, holds, saved as image_saved, after_hold, after_save, after_failed_save}
 use Rattle.ckd_drive.specs.Work.{DriveState}
 use Rattle.ckd_drive.specs.Half.{number, slot_at, is_unfound, ReadsWhole, SightKeeps}
 use Rattle.ckd_drive.proofs.Sights.{sight_keeps, look_again, found_whole}
