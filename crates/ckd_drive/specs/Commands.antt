@@ -1,18 +1,17 @@
 -- One command, as a change of what the drive remembers and of the track under the arm
 -- (component descriptions of the 2841 and the 2314, the sections of the commands).
-use Rattle.std.specs.Prelude.{ℕ, ◌<◌, ◌+◌, ◌-◌, ◌*◌, ◌/◌, ◌%◌, List, [], ◌∷◌, ◌++◌, Bool, true, false, not, ◌&&◌, ◌||◌, ◌==◌, Option, Some, None, is_none, Result, Ok, Err, length, take, drop, replicate, slice_range, slice_index_or, slice_set, nat_lt, if◌then◌else◌, bytes_eq}
-use Rattle.ckd_track.specs.Track.{Record, Track, count_area, record_bytes, record_at, key_length, data_length, body_length, no_record, track_or_none}
-use Rattle.ckd_track.specs.Changes.{bare_track, kept_records, with_record}
+use Rattle.std.specs.Prelude.{ℕ, ◌<◌, ◌+◌, ◌*◌, ◌/◌, ◌%◌, List, [], ◌∷◌, Bool, true, false, not, ◌&&◌, ◌||◌, ◌==◌, Option, Some, None, is_none, Ok, length, take, slice_range, nat_lt, if◌then◌else◌, bytes_eq}
+use Rattle.ckd_track.specs.Track.{Record, Track, key_length, data_length, body_length, track_or_none}
+use Rattle.ckd_track.specs.Changes.{bare_track}
 use Rattle.ckd_track.specs.Model.{heads_of}
 use Rattle.ckd_track.specs.Charges.{has_room}
-use Rattle.ckd_track.specs.declared.fault.SlotFault.{SlotFault}
 use Rattle.ckd_image.specs.declared.geometry.Geometry.{Geometry}
 use Rattle.ckd_position.specs.Areas.{next_of_kind}
 use Rattle.ckd_position.specs.declared.areas.Next.{Next as NextArea}
 use Rattle.ckd_position.specs.declared.areas.Next.TheVariants as next
 use Rattle.ckd_position.specs.Comparisons.{is_satisfied}
 use Rattle.ckd_position.specs.declared.areas.Area.{Area}
-use Rattle.ckd_position.specs.declared.areas.Area.TheVariants.{HomeAddress, Of}
+use Rattle.ckd_position.specs.declared.areas.Area.TheVariants.{Of}
 use Rattle.ckd_position.specs.declared.areas.Part.TheVariants.{Data}
 use Rattle.ckd_position.specs.declared.areas.Position.{Position}
 use Rattle.ckd_position.specs.declared.areas.Position.TheVariants.{AtIndex, At}
@@ -41,7 +40,7 @@ use Rattle.ckd_drive.specs.declared.steps.Sight.TheVariants.{Found, IndexPassed,
 use Rattle.ckd_drive.specs.declared.steps.Action.{Action}
 use Rattle.ckd_drive.specs.declared.steps.Action.TheVariants as action
 use Rattle.ckd_cache.specs.declared.extents.Extent.{Extent}
-use Rattle.ckd_cache.specs.declared.extents.Extent.TheVariants as extent
+use Rattle.ckd_cache.specs.Contents.{Sighted, is_readable, bytes_of, kept, has_no_data, replaced, with_record_changed, formatted}
 use Rattle.ckd_drive.specs.Tables.{aim, credited, credit_of_search, action_of, extent_of, is_search, comparison, area_left, ends_with_data, needs_readable}
 
 -- a big-endian number
