@@ -15,7 +15,7 @@ use Rattle.ckd_drive.specs.declared.steps.Aim.TheVariants.{NoArea, Next, Credite
 use Rattle.ckd_drive.specs.declared.steps.Opened.{Opened}
 use Rattle.ckd_drive.specs.Tables.{aim, credited}
 use Rattle.ckd_drive.specs.Commands.{beginning, begin_decoded, begin_allowed, started, refusal, refusal_under, is_out_of_sequence, is_credited}
-use Rattle.ckd_drive.specs.Cache.{CacheState}
+use Rattle.ckd_cache.specs.Cache.{CacheState}
 use Rattle.ckd_drive.specs.Half.{CreditIs, CreditAtHand, BeginsWell}
 
 none_credited : (c : Command) → credited c None ≡ None

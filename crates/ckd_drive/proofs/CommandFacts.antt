@@ -32,7 +32,8 @@ use Rattle.ckd_drive.specs.declared.steps.Beginning.TheVariants.{Rejected, Immed
 use Rattle.ckd_drive.specs.declared.steps.Sight.{Sight}
 use Rattle.ckd_drive.specs.declared.steps.Sight.TheVariants.{Found, IndexPassed, NextHead, Missed}
 use Rattle.ckd_drive.specs.Tables.{aim, action_of, extent_of, comparison, ends_with_data, needs_readable}
-use Rattle.ckd_drive.specs.Commands.{Sighted, Closing, ends, fails, writes, closing, close_by, whole_field, with_cause, at_end, seek_cylinder_and_head, seek_head, set_file_mask, search, search_ends, area_bytes, end_of_area, has_no_data, update, updated, replaced, format, formatted, format_ends, kept, new_record_fits, write_home_address, own_home_address, home_address_ends, ending_status, unit_exception_status, number, beginning, begin_decoded, begin_allowed, started, cleared, refusal, refusal_under, is_out_of_sequence, sight, look_for, sight_of, next_head, turned, is_readable}
+use Rattle.ckd_cache.specs.Contents.{Sighted, has_no_data, replaced, formatted, kept, is_readable}
+use Rattle.ckd_drive.specs.Commands.{Closing, ends, fails, writes, closing, close_by, whole_field, with_cause, at_end, seek_cylinder_and_head, seek_head, set_file_mask, search, search_ends, area_bytes, end_of_area, update, updated, format, format_ends, new_record_fits, write_home_address, own_home_address, home_address_ends, ending_status, unit_exception_status, number, beginning, begin_decoded, begin_allowed, started, cleared, refusal, refusal_under, is_out_of_sequence, sight, look_for, sight_of, next_head, turned}
 
 -- Equipment check, which tells of the store alone.
 

@@ -13,15 +13,16 @@ use Rattle.ckd_drive.specs.declared.steps.Action.{Action}
 use Rattle.ckd_drive.specs.declared.steps.Action.TheVariants as action
 use Rattle.ckd_drive.specs.declared.steps.Opened.{Opened}
 use Rattle.ckd_drive.specs.declared.steps.Outcome.{Outcome}
-use Rattle.ckd_drive.specs.declared.places.Window.{Window}
+use Rattle.ckd_cache.specs.declared.windows.Window.{Window}
 use Rattle.ckd_drive.specs.declared.places.Place.{Place}
 use Rattle.ckd_drive.specs.declared.places.Place.TheVariants.{Unfound, Sense, Field, Read, Search, Fill, Filled}
 use Rattle.ckd_drive.specs.declared.places.Progress.{Progress}
 use Rattle.ckd_drive.specs.declared.places.Stage.{Stage}
 use Rattle.ckd_drive.specs.declared.places.Stage.TheVariants.{Idle, Working}
 use Rattle.ckd_drive.specs.Tables.{action_of}
-use Rattle.ckd_drive.specs.Commands.{Sighted, Closing, IsAtTrack, area_bytes, closing, close_by, outcome, search_ends, area_ends, own_home_address, new_record_fits, number as number_of}
-use Rattle.ckd_drive.specs.Cache.{CacheState, IsVolume, saved, after_save, after_failed_save}
+use Rattle.ckd_cache.specs.Contents.{Sighted}
+use Rattle.ckd_drive.specs.Commands.{Closing, IsAtTrack, area_bytes, closing, close_by, outcome, search_ends, area_ends, own_home_address, new_record_fits, number as number_of}
+use Rattle.ckd_cache.specs.Cache.{CacheState, IsVolume, saved, after_save, after_failed_save}
 use Rattle.ckd_drive.specs.Half.{Stands, Rests, is_written, mark_left, HasFilled, LeftIs, state_of, IsPlaced, IsField, CreditIs, AtHand, outcome_at, field_ends, seen_by, slot_at, number, is_unfound, is_filled_by}
 use Rattle.ckd_drive.specs.Drive.{closed_staying, SaveFails}
 use Rattle.ckd_drive.specs.Work as work

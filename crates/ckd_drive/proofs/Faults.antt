@@ -9,7 +9,7 @@ use Rattle.ckd_drive.specs.declared.steps.Opened.{Opened}
 use Rattle.ckd_drive.specs.declared.steps.Beginning.TheVariants.{ToCylinderZero}
 use Rattle.ckd_drive.specs.Commands.{with_cause}
 use Rattle.ckd_drive.specs.Drive.{LoadFails, SaveFails, number_under}
-use Rattle.ckd_drive.specs.Cache.{CacheState, after_failed_save}
+use Rattle.ckd_cache.specs.Cache.{CacheState, after_failed_save}
 use Rattle.ckd_drive.specs.Work.{DriveState, fault_met}
 use Rattle.ckd_drive.specs.Half.{is_written, BeginsWell, IsCleared}
 

@@ -10,20 +10,21 @@ use Rattle.ckd_position.specs.declared.areas.Area.TheVariants.{Of}
 use Rattle.ckd_position.specs.declared.areas.Part.{Part}
 use Rattle.ckd_drive.specs.declared.registers.Registers.{Registers}
 use Rattle.ckd_drive.specs.declared.steps.Action.{Action}
-use Rattle.ckd_drive.specs.declared.steps.Extent.{Extent}
+use Rattle.ckd_cache.specs.declared.extents.Extent.{Extent}
 use Rattle.ckd_drive.specs.declared.steps.Opened.{Opened}
 use Rattle.ckd_drive.specs.declared.steps.Outcome.{Outcome}
-use Rattle.ckd_drive.specs.declared.places.Window.{Window}
+use Rattle.ckd_cache.specs.declared.windows.Window.{Window}
 use Rattle.ckd_drive.specs.declared.places.Place.{Place}
 use Rattle.ckd_drive.specs.declared.places.Place.TheVariants.{Filled}
 use Rattle.ckd_drive.specs.declared.places.Progress.{Progress}
 use Rattle.ckd_drive.specs.Tables.{action_of}
-use Rattle.ckd_drive.specs.Commands.{Sighted, is_readable, length_after, closing, outcome, padded, replaced, with_record_changed}
-use Rattle.ckd_drive.specs.Buffer.{FitsSlot, IsUpdate, SameRecords}
-use Rattle.ckd_drive.specs.Cache.{CacheState, with_held}
+use Rattle.ckd_cache.specs.Contents.{Sighted, is_readable, padded, replaced, with_record_changed}
+use Rattle.ckd_drive.specs.Commands.{length_after, closing, outcome}
+use Rattle.ckd_cache.specs.Buffer.{FitsSlot, IsUpdate, SameRecords}
+use Rattle.ckd_cache.specs.Cache.{CacheState, with_held}
 use Rattle.ckd_drive.specs.Half.{Works, MayTake, Absorbs, IsPlaced, HasFilled, IsFilled, LeftIs, next_progress, slot_at, number, seen_by}
-use Rattle.ckd_drive.proofs.Writes.{update_offset, update_length}
-use Rattle.ckd_drive.proofs.Updates.{form_of, padded_on, same_records}
+use Rattle.ckd_cache.proofs.Writes.{update_offset, update_length}
+use Rattle.ckd_cache.proofs.Updates.{form_of, padded_on, same_records}
 use Rattle.ckd_drive.proofs.Numbers.{number_below}
 
 or_true : (b : Bool) → true ≡ (b || true)

@@ -8,16 +8,17 @@ use Rattle.ckd_drive.specs.declared.registers.Registers.{Registers}
 use Rattle.ckd_drive.specs.declared.steps.Aim.TheVariants.{NoArea}
 use Rattle.ckd_drive.specs.declared.steps.Action.{Action}
 use Rattle.ckd_drive.specs.declared.steps.Action.TheVariants as action
-use Rattle.ckd_drive.specs.declared.steps.Extent.TheVariants as extent
+use Rattle.ckd_cache.specs.declared.extents.Extent.TheVariants as extent
 use Rattle.ckd_drive.specs.declared.steps.Opened.{Opened}
 use Rattle.ckd_drive.specs.declared.steps.Sight.TheVariants.{Found}
-use Rattle.ckd_drive.specs.declared.places.Window.{Window}
+use Rattle.ckd_cache.specs.declared.windows.Window.{Window}
 use Rattle.ckd_drive.specs.declared.places.Place.{Place}
 use Rattle.ckd_drive.specs.declared.places.Place.TheVariants.{Unfound, Sense, Field, Read, Search, Fill, Filled}
 use Rattle.ckd_drive.specs.Tables.{action_of, extent_of, aim}
-use Rattle.ckd_drive.specs.Commands.{Sighted, Closing, is_readable, sight, area_bytes, bytes_for, area_ends, length_after, length_for, closing, close_by, outcome}
-use Rattle.ckd_drive.specs.Buffer.{Lies}
-use Rattle.ckd_drive.specs.Cache.{CacheState}
+use Rattle.ckd_cache.specs.Contents.{Sighted, is_readable}
+use Rattle.ckd_drive.specs.Commands.{Closing, sight, area_bytes, bytes_for, area_ends, length_after, length_for, closing, close_by, outcome}
+use Rattle.ckd_cache.specs.Buffer.{Lies}
+use Rattle.ckd_cache.specs.Cache.{CacheState}
 use Rattle.ckd_drive.specs.Half.{IsFirstPlace, IsPlaced, IsField, ReadsWhole, FieldAtHand, AtHand, field_size, slot_at}
 
 -- whether a command of this action works on an area

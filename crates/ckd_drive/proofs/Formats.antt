@@ -13,18 +13,19 @@ use Rattle.ckd_position.specs.declared.areas.Part.{Part}
 use Rattle.ckd_drive.specs.declared.registers.Registers.{Registers}
 use Rattle.ckd_drive.specs.declared.steps.Action.{Action}
 use Rattle.ckd_drive.specs.declared.steps.Action.TheVariants as action
-use Rattle.ckd_drive.specs.declared.steps.Extent.TheVariants as extent
+use Rattle.ckd_cache.specs.declared.extents.Extent.TheVariants as extent
 use Rattle.ckd_drive.specs.declared.steps.Opened.{Opened}
 use Rattle.ckd_drive.specs.declared.places.Whole.TheVariants as whole
-use Rattle.ckd_drive.specs.declared.places.Window.{Window}
+use Rattle.ckd_cache.specs.declared.windows.Window.{Window}
 use Rattle.ckd_drive.specs.declared.places.Place.TheVariants.{Field, Filled}
 use Rattle.ckd_drive.specs.declared.places.Progress.{Progress}
 use Rattle.ckd_drive.specs.Tables.{action_of}
-use Rattle.ckd_drive.specs.Commands.{Sighted, Closing, is_readable, length_after, closing, outcome, own_home_address, new_record_fits, new_record, formatted, format_ends, kept, writes, padded, replaced, with_key_and_data, with_record_changed}
-use Rattle.ckd_drive.specs.Buffer.{FitsSlot, IsPlaceOf}
-use Rattle.ckd_drive.specs.Cache.{CacheState, with_held, slot_held}
+use Rattle.ckd_cache.specs.Contents.{Sighted, is_readable, new_record, formatted, kept, padded, replaced, with_key_and_data, with_record_changed}
+use Rattle.ckd_drive.specs.Commands.{Closing, length_after, closing, outcome, own_home_address, new_record_fits, format_ends, writes}
+use Rattle.ckd_cache.specs.Buffer.{FitsSlot, IsPlaceOf}
+use Rattle.ckd_cache.specs.Cache.{CacheState, with_held, slot_held}
 use Rattle.ckd_drive.specs.Half.{Works, MayTake, Absorbs, IsFilled, AtHand, FieldAtHand, slot_at, number, whole_of}
-use Rattle.ckd_drive.proofs.Writes.{update_length, update_place}
+use Rattle.ckd_cache.proofs.Writes.{update_length, update_place}
 use Rattle.ckd_drive.proofs.Fills.{there, new_slot_at, reads_new, ClosesFilled, form_filled, length-padded}
 use Rattle.ckd_drive.proofs.Looks.{slot_is}
 use Rattle.ckd_drive.proofs.First.{length_by, closing_by}

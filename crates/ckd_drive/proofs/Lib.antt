@@ -1,5 +1,3 @@
-pub mod Windows
-pub mod Caches
 pub mod Walks
 pub mod Sights
 pub mod Beginnings
@@ -15,8 +13,6 @@ pub mod Torn
 pub mod LostLooks
 pub mod CommandFacts
 pub mod Marks
-pub mod Writes
-pub mod Updates
 pub mod Takes
 pub mod Fills
 pub mod News

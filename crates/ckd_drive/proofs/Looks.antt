@@ -17,8 +17,9 @@ use Rattle.ckd_drive.specs.declared.places.Progress.{Progress}
 use Rattle.ckd_drive.specs.declared.places.Stage.{Stage}
 use Rattle.ckd_drive.specs.declared.places.Stage.TheVariants.{Idle, Over, Working}
 use Rattle.ckd_drive.specs.Tables.{action_of, aim}
-use Rattle.ckd_drive.specs.Commands.{Sighted, IsAtTrack, sight, length_after, is_readable}
-use Rattle.ckd_drive.specs.Cache.{CacheState, IsVolume, slot_held}
+use Rattle.ckd_cache.specs.Contents.{Sighted, is_readable}
+use Rattle.ckd_drive.specs.Commands.{IsAtTrack, sight, length_after}
+use Rattle.ckd_cache.specs.Cache.{CacheState, IsVolume, slot_held}
 use Rattle.ckd_drive.proofs.Numbers.{number_there}
 use Rattle.ckd_drive.specs.Work.{DriveState, fault_met, with_image, after_look}
 use Rattle.ckd_drive.specs.Half.{Stands, is_unfound, StaysAt, AtHand, ReadsWhole, IsFound, StageIs, Goes, IsPlaced, IsFirstPlace, LeftIs, Rests, CreditAtHand, remaining, state_of, seen_by, slot_at, number, is_written, is_filled, is_filled_by}

@@ -11,7 +11,7 @@ use Rattle.ckd_drive.specs.declared.places.Stage.{Stage}
 use Rattle.ckd_drive.specs.declared.places.Stage.TheVariants.{Over, Working}
 use Rattle.ckd_drive.specs.Commands.{sight}
 use Rattle.ckd_drive.specs.Drive.{SaveFails}
-use Rattle.ckd_drive.specs.Cache.{CacheState, after_failed_save}
+use Rattle.ckd_cache.specs.Cache.{CacheState, after_failed_save}
 use Rattle.ckd_drive.specs.Work.{DriveState, fault_met, with_image, after_look}
 use Rattle.ckd_drive.specs.Half.{Stands, is_unfound, state_of, slot_at, number}
 use Rattle.ckd_drive.proofs.Faults.{fault_saving, mark_written, failed_left, lost_registers}

@@ -10,16 +10,17 @@ use Rattle.ckd_drive.specs.declared.steps.Action.{Action}
 use Rattle.ckd_drive.specs.declared.steps.Action.TheVariants as action
 use Rattle.ckd_drive.specs.declared.steps.Opened.{Opened}
 use Rattle.ckd_drive.specs.declared.steps.Outcome.{Outcome}
-use Rattle.ckd_drive.specs.declared.places.Window.{Window}
+use Rattle.ckd_cache.specs.declared.windows.Window.{Window}
 use Rattle.ckd_drive.specs.declared.places.Place.{Place}
 use Rattle.ckd_drive.specs.declared.places.Place.TheVariants.{Unfound, Sense, Field, Read, Search, Fill, Filled}
 use Rattle.ckd_drive.specs.declared.places.Progress.{Progress}
 use Rattle.ckd_drive.specs.declared.places.Stage.{Stage}
 use Rattle.ckd_drive.specs.declared.places.Stage.TheVariants.{Working}
 use Rattle.ckd_drive.specs.Tables.{action_of, is_giving}
-use Rattle.ckd_drive.specs.Commands.{Sighted, Closing, area_bytes, length_after, closing, outcome}
-use Rattle.ckd_drive.specs.Buffer.{Lies}
-use Rattle.ckd_drive.specs.Cache.{CacheState}
+use Rattle.ckd_cache.specs.Contents.{Sighted}
+use Rattle.ckd_drive.specs.Commands.{Closing, area_bytes, length_after, closing, outcome}
+use Rattle.ckd_cache.specs.Buffer.{Lies}
+use Rattle.ckd_cache.specs.Cache.{CacheState}
 use Rattle.ckd_drive.specs.Work as work
 use Rattle.ckd_drive.specs.Work.{DriveState, gives_now, takes_now, left_of, given_now, passed_of, moved_on}
 use Rattle.ckd_drive.specs.Half.{Stands, IsPlaced, IsField, ClosesUnwritten, LeftIs, remaining, next_progress, state_of, slot_at, number, is_filled_by, is_unfound, Rests, seen_by}

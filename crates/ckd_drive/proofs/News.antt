@@ -14,15 +14,16 @@ use Rattle.ckd_drive.specs.declared.steps.Outcome.{Outcome}
 use Rattle.ckd_drive.specs.declared.steps.Sight.TheVariants.{Found}
 use Rattle.ckd_drive.specs.declared.places.Whole.{Whole}
 use Rattle.ckd_drive.specs.declared.places.Whole.TheVariants as whole
-use Rattle.ckd_drive.specs.declared.places.Window.{Window}
+use Rattle.ckd_cache.specs.declared.windows.Window.{Window}
 use Rattle.ckd_drive.specs.declared.places.Place.{Place}
 use Rattle.ckd_drive.specs.declared.places.Place.TheVariants.{Unfound, Sense, Field, Read, Search, Fill, Filled}
 use Rattle.ckd_drive.specs.declared.places.Progress.{Progress}
 use Rattle.ckd_drive.specs.Tables.{action_of}
-use Rattle.ckd_drive.specs.Commands.{Sighted, Closing, sight, length_after, closing, outcome, own_home_address, home_address_ends, writes, padded}
-use Rattle.ckd_drive.specs.Cache.{CacheState, IsVolume, with_held}
+use Rattle.ckd_cache.specs.Contents.{Sighted, padded}
+use Rattle.ckd_drive.specs.Commands.{Closing, sight, length_after, closing, outcome, own_home_address, home_address_ends, writes}
+use Rattle.ckd_cache.specs.Cache.{CacheState, IsVolume, with_held}
 use Rattle.ckd_drive.specs.Half.{Works, MayTake, Absorbs, HasFilled, IsFilled, FieldAtHand, slot_at, number, seen_by, is_filled_by, whole_of}
-use Rattle.ckd_drive.proofs.Writes.{bare_fits}
+use Rattle.ckd_cache.proofs.Writes.{bare_fits}
 use Rattle.ckd_drive.proofs.Fills.{written_works, there, new_slot_at, written_absorbs, reads_new}
 use Rattle.ckd_drive.proofs.First.{length_by, closing_by}
 use Rattle.ckd_drive.proofs.Takes.{ChangesNothing, field_goes, field_absorbs}

@@ -8,7 +8,7 @@ use Rattle.ckd_drive.specs.declared.registers.Registers.{Registers}
 use Rattle.ckd_drive.specs.declared.registers.Mark.{Mark}
 use Rattle.ckd_drive.specs.declared.places.Stage.{Stage}
 use Rattle.ckd_drive.specs.Commands.{IsAtTrack}
-use Rattle.ckd_drive.specs.Cache.{CacheState}
+use Rattle.ckd_cache.specs.Cache.{CacheState}
 use Rattle.ckd_drive.specs.Half.{Stands, number}
 
 pub number_below : (g : Geometry) (r : Registers) → IsAtTrack g r → number g r < tracks_of g

@@ -15,22 +15,23 @@ use Rattle.ckd_position.specs.declared.areas.Part.{Part}
 use Rattle.ckd_drive.specs.declared.registers.Registers.{Registers}
 use Rattle.ckd_drive.specs.declared.steps.Action.{Action}
 use Rattle.ckd_drive.specs.declared.steps.Action.TheVariants as action
-use Rattle.ckd_drive.specs.declared.steps.Extent.{Extent}
-use Rattle.ckd_drive.specs.declared.steps.Extent.TheVariants as extent
+use Rattle.ckd_cache.specs.declared.extents.Extent.{Extent}
+use Rattle.ckd_cache.specs.declared.extents.Extent.TheVariants as extent
 use Rattle.ckd_drive.specs.declared.steps.Opened.{Opened}
 use Rattle.ckd_drive.specs.declared.steps.Outcome.{Outcome}
 use Rattle.ckd_drive.specs.declared.steps.Sight.TheVariants.{Found}
-use Rattle.ckd_drive.specs.declared.places.Window.{Window}
+use Rattle.ckd_cache.specs.declared.windows.Window.{Window}
 use Rattle.ckd_drive.specs.declared.places.Place.{Place}
 use Rattle.ckd_drive.specs.declared.places.Place.TheVariants.{Fill, Filled}
 use Rattle.ckd_drive.specs.declared.places.Progress.{Progress}
 use Rattle.ckd_drive.specs.Tables.{action_of, extent_of}
-use Rattle.ckd_drive.specs.Commands.{Sighted, Closing, bytes_of, bytes_at, area_bytes, sight, closing, end_of_area, updated, outcome, writes, padded, replaced, with_record_changed}
-use Rattle.ckd_drive.specs.Buffer.{FitsSlot, IsUpdate, IsRecordOf, SameRecords, IsPlaceOf}
-use Rattle.ckd_drive.specs.Cache.{CacheState, with_held, slot_held}
+use Rattle.ckd_cache.specs.Contents.{Sighted, bytes_of, padded, replaced, with_record_changed}
+use Rattle.ckd_drive.specs.Commands.{Closing, bytes_at, area_bytes, sight, closing, end_of_area, updated, outcome, writes}
+use Rattle.ckd_cache.specs.Buffer.{FitsSlot, IsUpdate, IsRecordOf, SameRecords, IsPlaceOf}
+use Rattle.ckd_cache.specs.Cache.{CacheState, with_held, slot_held}
 use Rattle.ckd_drive.specs.Half.{Works, MayTake, Absorbs, IsPlaced, IsFilled, ClosesUnwritten, AtHand, LeftIs, PlaceIn, slot_at, number}
-use Rattle.ckd_drive.proofs.Writes.{update_offset, update_length, update_place}
-use Rattle.ckd_drive.proofs.Updates.{form_of, same_records}
+use Rattle.ckd_cache.proofs.Writes.{update_offset, update_length, update_place}
+use Rattle.ckd_cache.proofs.Updates.{form_of, same_records}
 use Rattle.ckd_drive.proofs.Fills.{there, new_slot_at, reads_new, ClosesFilled, form_filled, length-padded, next_made, old_read}
 use Rattle.ckd_drive.proofs.First.{length_by, closing_by, area_by}
 use Rattle.ckd_drive.proofs.Looks.{slot_is}

@@ -9,7 +9,7 @@ use Rattle.ckd_drive.specs.declared.places.Place.TheVariants.{Unfound, Sense, Fi
 use Rattle.ckd_drive.specs.declared.places.Stage.{Stage}
 use Rattle.ckd_drive.specs.declared.places.Stage.TheVariants.{Idle, Over, Working}
 use Rattle.ckd_drive.specs.Drive.{SaveFails}
-use Rattle.ckd_drive.specs.Cache.{CacheState, after_save, after_failed_save}
+use Rattle.ckd_cache.specs.Cache.{CacheState, after_save, after_failed_save}
 use Rattle.ckd_drive.specs.Work.{DriveState, passed_of, fault_met, with_image, after_settle, settled_mark}
 use Rattle.ckd_drive.specs.Half.{Stands, StageIs, IsPlaced, state_of, work_of, seen, number, is_filled, is_filled_by}
 use Rattle.ckd_drive.proofs.Torn.{torn_whole}

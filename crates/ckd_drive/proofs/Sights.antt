@@ -21,15 +21,16 @@ use Rattle.ckd_drive.specs.declared.steps.Aim.{Aim}
 use Rattle.ckd_drive.specs.declared.steps.Aim.TheVariants.{NoArea, Next, Credited}
 use Rattle.ckd_drive.specs.declared.steps.Action.{Action}
 use Rattle.ckd_drive.specs.declared.steps.Action.TheVariants as action
-use Rattle.ckd_drive.specs.declared.steps.Extent.{Extent}
-use Rattle.ckd_drive.specs.declared.steps.Extent.TheVariants as extent
+use Rattle.ckd_cache.specs.declared.extents.Extent.{Extent}
+use Rattle.ckd_cache.specs.declared.extents.Extent.TheVariants as extent
 use Rattle.ckd_drive.specs.declared.steps.Opened.{Opened}
 use Rattle.ckd_drive.specs.declared.steps.Sight.{Sight}
 use Rattle.ckd_drive.specs.declared.steps.Sight.TheVariants.{Found, IndexPassed, NextHead, Missed}
 use Rattle.ckd_drive.specs.Tables.{aim, action_of, needs_readable}
-use Rattle.ckd_drive.specs.Commands.{Sighted, IsAtTrack, sight, sight_of, look_for, next_head, turned, moved_to, with_cause, is_readable}
+use Rattle.ckd_cache.specs.Contents.{Sighted, is_readable}
+use Rattle.ckd_drive.specs.Commands.{IsAtTrack, sight, sight_of, look_for, next_head, turned, moved_to, with_cause}
 use Rattle.ckd_sense.specs.declared.sense_bytes.TheConstants.Sense as cause
-use Rattle.ckd_drive.specs.Buffer.{HasBytes}
+use Rattle.ckd_cache.specs.Buffer.{HasBytes}
 use Rattle.ckd_drive.specs.Half.{AreaIsThere, ReadsWhole, SightKeeps}
 
 on_track : (e : Extent) (t : Sighted) (a : Area) → IsOnTrack (track_or_none t) a → HasBytes e t a

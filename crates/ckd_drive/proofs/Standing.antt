@@ -12,7 +12,7 @@ use Rattle.ckd_drive.specs.declared.registers.Mark.TheVariants.{Saved, Lost}
 use Rattle.ckd_drive.specs.declared.places.Stage.{Stage}
 use Rattle.ckd_drive.specs.declared.places.Stage.TheVariants.{Idle, Over, Working}
 use Rattle.ckd_drive.specs.Commands.{IsAtTrack, moved_to}
-use Rattle.ckd_drive.specs.Cache.{CacheState, IsVolume, saved, after_save, after_failed_save, after_failed_hold}
+use Rattle.ckd_cache.specs.Cache.{CacheState, IsVolume, saved, after_save, after_failed_save, after_failed_hold}
 use Rattle.ckd_drive.specs.Work.{DriveState, is_idle}
 use Rattle.ckd_drive.specs.declared.steps.Beginning.{Beginning}
 use Rattle.ckd_drive.specs.Commands.{beginning}

@@ -10,7 +10,7 @@ use Rattle.ckd_drive.specs.declared.places.Stage.{Stage}
 use Rattle.ckd_drive.specs.declared.places.Stage.TheVariants.{Idle, Over, Working}
 use Rattle.ckd_drive.specs.Commands.{beginning, moved_to}
 use Rattle.ckd_drive.specs.Drive.{Begun, Rejected, Immediate, Started, SaveFails, begin}
-use Rattle.ckd_drive.specs.Cache.{CacheState, after_save, after_failed_save}
+use Rattle.ckd_cache.specs.Cache.{CacheState, after_save, after_failed_save}
 use Rattle.ckd_drive.specs.Work.{DriveState, MakesAtMost, fault_met, with_image, after_begun, after_begin, answer_of_begin, is_idle}
 use Rattle.ckd_drive.specs.Half.{Stands, BeginsWell, number, state_of, work_of}
 use Rattle.ckd_drive.specs.Stages.{Begins, Leaves, Loses, drive_at, unlooked, begun_at}

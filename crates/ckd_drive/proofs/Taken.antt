@@ -8,7 +8,7 @@ use Rattle.ckd_drive.specs.declared.places.Progress.{Progress}
 use Rattle.ckd_drive.specs.declared.places.Stage.{Stage}
 use Rattle.ckd_drive.specs.declared.places.Stage.TheVariants.{Working}
 use Rattle.ckd_drive.specs.Tables.{action_of, is_giving}
-use Rattle.ckd_drive.specs.Cache.{CacheState}
+use Rattle.ckd_cache.specs.Cache.{CacheState}
 use Rattle.ckd_drive.specs.Work as work
 use Rattle.ckd_drive.specs.Work.{DriveState, takes_now, left_of, moved_on}
 use Rattle.ckd_drive.specs.Half.{Stands, Works, MayTake, Absorbs, next_progress, state_of, is_filled_by, is_written, Rests}

@@ -15,14 +15,15 @@ use Rattle.ckd_drive.specs.declared.steps.Action.{Action}
 use Rattle.ckd_drive.specs.declared.steps.Action.TheVariants as action
 use Rattle.ckd_drive.specs.declared.steps.Opened.{Opened}
 use Rattle.ckd_drive.specs.declared.steps.Sight.TheVariants.{Found}
-use Rattle.ckd_drive.specs.declared.places.Window.{Window}
+use Rattle.ckd_cache.specs.declared.windows.Window.{Window}
 use Rattle.ckd_drive.specs.declared.places.Place.{Place}
 use Rattle.ckd_drive.specs.declared.places.Place.TheVariants.{Field, Search}
 use Rattle.ckd_drive.specs.declared.places.Progress.{Progress}
 use Rattle.ckd_drive.specs.Tables.{action_of}
-use Rattle.ckd_drive.specs.Commands.{Sighted, Closing, sight, area_bytes, length_after, length_for, close_by, own_home_address, new_record_fits, write_home_address, format}
-use Rattle.ckd_drive.specs.Buffer.{Lies}
-use Rattle.ckd_drive.specs.Cache.{CacheState, IsVolume}
+use Rattle.ckd_cache.specs.Contents.{Sighted}
+use Rattle.ckd_drive.specs.Commands.{Closing, sight, area_bytes, length_after, length_for, close_by, own_home_address, new_record_fits, write_home_address, format}
+use Rattle.ckd_cache.specs.Buffer.{Lies}
+use Rattle.ckd_cache.specs.Cache.{CacheState, IsVolume}
 use Rattle.ckd_drive.specs.Half.{Works, MayTake, Absorbs, IsPlaced, IsField, HasField, LeftIs, remaining, slot_at, number, seen_by, is_filled_by, is_unfound, order_of, field_size}
 use Rattle.ckd_drive.proofs.First.{length_by, closing_by}
 use Rattle.ckd_drive.proofs.Moving.{lies_first, lies_rest, next_left}

@@ -2,7 +2,7 @@
 use Rattle.std.proofs.Common.{◌≡◌, ◌∙◌, sym, ap, refl, ℕ, ◌<◌, List, [], ◌∷◌, length, slice_index_or, arith}
 use Rattle.std.proofs.lemmas.List.Elements.{All-get_or}
 use Rattle.s360_words.specs.Storage.{overwritten}
-use Rattle.ckd_drive.specs.Cache.{CacheState, IsVolume}
+use Rattle.ckd_cache.specs.Cache.{CacheState, IsVolume}
 
 overwritten_whole : (old new : List ℕ) → length new ≡ length old → overwritten old 0 new ≡ new
 overwritten_whole [] [] e = refl

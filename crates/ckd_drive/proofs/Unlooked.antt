@@ -18,7 +18,7 @@ use Rattle.ckd_drive.specs.declared.places.Stage.TheVariants.{Idle, Over, Workin
 use Rattle.ckd_drive.specs.Tables.{action_of, aim}
 use Rattle.ckd_drive.specs.Commands.{sight}
 use Rattle.ckd_drive.specs.Drive.{Look, Ready, Passed, Failed, length_of}
-use Rattle.ckd_drive.specs.Cache.{CacheState, holds, loaded, after_hold, after_save, after_failed_save}
+use Rattle.ckd_cache.specs.Cache.{CacheState, holds, loaded, after_hold, after_save, after_failed_save}
 use Rattle.ckd_drive.specs.Work.{DriveState, MakesAtMost, fault_met, with_image, after_sight, after_look, look_of, answer_of_look, passed_of}
 use Rattle.ckd_drive.specs.Half.{Stands, SightKeeps, IsFirstPlace, is_unfound, number, remaining, slot_at, state_of, work_of}
 use Rattle.ckd_drive.specs.Stages.{Looks, Leaves, Loses, drive_at, unlooked, looked_at}

@@ -1,18 +1,17 @@
 -- One command, as a change of what the drive remembers and of the track under the arm
 -- (component descriptions of the 2841 and the 2314, the sections of the commands).
-use Rattle.std.specs.Prelude.{ℕ, ◌<◌, ◌+◌, ◌-◌, ◌*◌, ◌/◌, ◌%◌, List, [], ◌∷◌, ◌++◌, Bool, true, false, not, ◌&&◌, ◌||◌, ◌==◌, Option, Some, None, is_none, Result, Ok, Err, length, take, drop, replicate, slice_range, slice_index_or, slice_set, nat_lt, if◌then◌else◌, bytes_eq}
-use Rattle.ckd_track.specs.Track.{Record, Track, count_area, record_bytes, record_at, key_length, data_length, body_length, no_record, track_or_none}
-use Rattle.ckd_track.specs.Changes.{bare_track, kept_records, with_record}
+use Rattle.std.specs.Prelude.{ℕ, ◌<◌, ◌+◌, ◌*◌, ◌/◌, ◌%◌, List, [], ◌∷◌, Bool, true, false, not, ◌&&◌, ◌||◌, ◌==◌, Option, Some, None, is_none, Ok, length, take, slice_range, nat_lt, if◌then◌else◌, bytes_eq}
+use Rattle.ckd_track.specs.Track.{Record, Track, key_length, data_length, body_length, track_or_none}
+use Rattle.ckd_track.specs.Changes.{bare_track}
 use Rattle.ckd_track.specs.Model.{heads_of}
 use Rattle.ckd_track.specs.Charges.{has_room}
-use Rattle.ckd_track.specs.declared.fault.SlotFault.{SlotFault}
 use Rattle.ckd_image.specs.declared.geometry.Geometry.{Geometry}
 use Rattle.ckd_position.specs.Areas.{next_of_kind}
 use Rattle.ckd_position.specs.declared.areas.Next.{Next as NextArea}
 use Rattle.ckd_position.specs.declared.areas.Next.TheVariants as next
 use Rattle.ckd_position.specs.Comparisons.{is_satisfied}
 use Rattle.ckd_position.specs.declared.areas.Area.{Area}
-use Rattle.ckd_position.specs.declared.areas.Area.TheVariants.{HomeAddress, Of}
+use Rattle.ckd_position.specs.declared.areas.Area.TheVariants.{Of}
 use Rattle.ckd_position.specs.declared.areas.Part.TheVariants.{Data}
 use Rattle.ckd_position.specs.declared.areas.Position.{Position}
 use Rattle.ckd_position.specs.declared.areas.Position.TheVariants.{AtIndex, At}
@@ -40,36 +39,15 @@ use Rattle.ckd_drive.specs.declared.steps.Sight.{Sight}
 use Rattle.ckd_drive.specs.declared.steps.Sight.TheVariants.{Found, IndexPassed, NextHead, Missed}
 use Rattle.ckd_drive.specs.declared.steps.Action.{Action}
 use Rattle.ckd_drive.specs.declared.steps.Action.TheVariants as action
-use Rattle.ckd_drive.specs.declared.steps.Extent.{Extent}
-use Rattle.ckd_drive.specs.declared.steps.Extent.TheVariants as extent
+use Rattle.ckd_cache.specs.declared.extents.Extent.{Extent}
+use Rattle.ckd_cache.specs.Contents.{Sighted, is_readable, bytes_of, kept, has_no_data, replaced, with_record_changed, formatted}
 use Rattle.ckd_drive.specs.Tables.{aim, credited, credit_of_search, action_of, extent_of, is_search, comparison, area_left, ends_with_data, needs_readable}
-
--- the track under the arm: its home address and records, or why it can't be read
-abbrev pub Sighted : Type 0
-Sighted = Result Track SlotFault
-
-abbrev pub records_on : Sighted → List Record
-records_on t = (track_or_none t).records
-
-abbrev pub home_address_on : Sighted → List ℕ
-home_address_on t = (track_or_none t).home_address
-
-abbrev pub is_readable : Sighted → Bool
-is_readable (Ok t) = true
-is_readable (Err fault) = false
-
-abbrev pub record_on : Sighted → ℕ → Record
-record_on t i = slice_index_or (records_on t) i no_record
 
 -- a big-endian number
 abbrev pub number : List ℕ → ℕ
 number [] = 0
 number (high ∷ []) = high
 number (high ∷ low ∷ _) = 256 * high + low
-
--- these bytes, and zeros behind them up to the area's length
-abbrev pub padded : List ℕ → (size : ℕ) → List ℕ
-padded bytes size = bytes ++ replicate (size - length bytes) 0
 
 -- Unit status at a command's end ('Status Byte').
 
@@ -182,17 +160,6 @@ sight g t o r = look_for g t o r (aim o.command)
 
 -- The bytes that pass.
 
-abbrev pub bytes_of : Extent → Sighted → Area → List ℕ
-bytes_of extent.CylinderAndHead t HomeAddress = drop 1 (home_address_on t)
-bytes_of extent.HomeAddress t HomeAddress = home_address_on t
-bytes_of extent.Identifier t (Of part i) = (record_on t i).id
-bytes_of extent.Count t (Of part i) = count_area (record_on t i)
-bytes_of extent.Key t (Of part i) = (record_on t i).key_area
-bytes_of extent.Data t (Of part i) = (record_on t i).data_area
-bytes_of extent.KeyAndData t (Of part i) = (record_on t i).key_area ++ (record_on t i).data_area
-bytes_of extent.CountKeyAndData t (Of part i) = record_bytes (record_on t i)
-bytes_of _ t a = []
-
 abbrev pub bytes_at : Extent → Sighted → Option Area → List ℕ
 bytes_at e t (Some a) = bytes_of e t a
 bytes_at e t None = []
@@ -204,15 +171,6 @@ bytes_for _ t o r = bytes_at (extent_of o.command) t o.area
 -- what a command gives, compares or replaces
 unfoldable pub area_bytes : Sighted → Opened → Registers → List ℕ
 area_bytes t o r = bytes_for (action_of o.command) t o r
-
--- the record behind which a formatting write makes its own: Write R0 behind none
-abbrev pub record_before : Option Area → Option ℕ
-record_before (Some (Of part i)) = Some i
-record_before _ = None
-
--- the records that it keeps
-abbrev pub kept : Sighted → Option Area → List Record
-kept t after = kept_records (record_before after) (track_or_none t)
 
 abbrev pub new_record_fits : Geometry → Sighted → Opened → List ℕ → Bool
 new_record_fits g t o b = has_room g.model (kept t o.area) (key_length b) (data_length b)
@@ -297,34 +255,12 @@ search t o r b =
     let area = area_bytes t o r in
     search_ends o r (nat_lt 0 (length b) && is_satisfied (comparison o.command) area b) (length b == length area)
 
--- unit exception: the record that was found has no data
-abbrev pub has_no_data : Sighted → Option Area → Bool
-has_no_data t (Some (Of part i)) = length (record_on t i).data_area == 0
-has_no_data t _ = false
-
 abbrev pub area_ends : Opened → Registers → (no_data : Bool) → Closing
 area_ends o r no_data =
     ends (at_end o r) (if ends_with_data (extent_of o.command) && no_data then unit_exception_status else ending_status)
 
 abbrev pub end_of_area : Sighted → Opened → Registers → Closing
 end_of_area t o r = area_ends o r (has_no_data t o.area)
-
-abbrev pub with_data : List ℕ → Record → Record
-with_data b r = record r { data_area = padded b (length r.data_area) }
-
-abbrev pub with_key_and_data : List ℕ → Record → Record
-with_key_and_data b r =
-    let bytes = padded b (length r.key_area + length r.data_area) in
-    record r { key_area = take (length r.key_area) bytes; data_area = drop (length r.key_area) bytes }
-
--- a record with these bytes in the place of its data area, or of its key area and data area
-abbrev pub replaced : Extent → List ℕ → Record → Record
-replaced extent.KeyAndData b = with_key_and_data b
-replaced _ b = with_data b
-
-abbrev pub with_record_changed : (Record → Record) → Area → Track → Track
-with_record_changed change (Of part i) t = record t { records = slice_set t.records i (change (slice_index_or t.records i no_record)) }
-with_record_changed change HomeAddress t = t
 
 -- an update of a record's areas: the bytes, and zeros behind them; without a byte nothing changes
 abbrev pub updated : Sighted → Option Area → (Record → Record) → Closing → Closing
@@ -334,14 +270,6 @@ updated _ _ change c = c
 abbrev pub update : (Record → Record) → Sighted → Opened → Registers → List ℕ → Closing
 update change t o r b =
     if length b == 0 then end_of_area t o r else updated t o.area change (end_of_area t o r)
-
--- the record of these count bytes, and of key and data as far as they came, with zeros behind
-abbrev pub new_record : List ℕ → Record
-new_record b = record_at (padded b (8 + body_length b))
-
--- the kept records and the new one
-abbrev pub formatted : Sighted → Option Area → List ℕ → Track
-formatted t after b = with_record (record_before after) (new_record b) (track_or_none t)
 
 abbrev pub format_ends : Registers → (new : ℕ) → Closing
 format_ends r i = ends (record r { position = At (Of Data i); credit = Some (WroteRecord i) }) ending_status

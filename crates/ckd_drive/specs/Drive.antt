@@ -24,7 +24,8 @@ use Rattle.ckd_drive.specs.declared.steps.Sight.{Sight}
 use Rattle.ckd_drive.specs.declared.steps.Beginning.TheVariants as beginning
 use Rattle.ckd_drive.specs.declared.steps.Sight.TheVariants as sight
 use Rattle.ckd_drive.specs.Tables.{aim, action_of, is_giving}
-use Rattle.ckd_drive.specs.Commands.{Sighted, Closing, beginning, sight, area_bytes, length_after, closing, with_cause, moved_to, program_start, unit_check_status}
+use Rattle.ckd_cache.specs.Contents.{Sighted}
+use Rattle.ckd_drive.specs.Commands.{Closing, beginning, sight, area_bytes, length_after, closing, with_cause, moved_to, program_start, unit_check_status}
 
 -- A volume: a slot for each track, cylinder by cylinder and head by head.
 pub record Volume : Type 0 where

@@ -10,7 +10,7 @@ use Rattle.ckd_drive.specs.declared.registers.Mark.TheVariants.{Written}
 use Rattle.ckd_drive.specs.declared.steps.Action.{Action}
 use Rattle.ckd_drive.specs.declared.steps.Action.TheVariants as action
 use Rattle.ckd_position.specs.declared.areas.Area.{Area}
-use Rattle.ckd_drive.specs.declared.steps.Extent.{Extent}
+use Rattle.ckd_cache.specs.declared.extents.Extent.{Extent}
 use Rattle.ckd_drive.specs.declared.steps.Aim.{Aim}
 use Rattle.ckd_drive.specs.declared.steps.Aim.TheVariants.{Next, Credited}
 use Rattle.ckd_drive.specs.declared.steps.Opened.{Opened}
@@ -21,7 +21,7 @@ use Rattle.ckd_drive.specs.declared.steps.Beginning.TheVariants as beginning
 use Rattle.ckd_drive.specs.declared.steps.Sight.{Sight}
 use Rattle.ckd_drive.specs.declared.steps.Sight.TheVariants.{Found}
 use Rattle.ckd_drive.specs.declared.steps.Sight.TheVariants as sight
-use Rattle.ckd_drive.specs.declared.places.Window.{Window}
+use Rattle.ckd_cache.specs.declared.windows.Window.{Window}
 use Rattle.std.specs.Ordering.{nat_cmp}
 use Rattle.std.specs.declared.cmp.Ordering.{Ordering}
 use Rattle.std.specs.declared.cmp.Ordering.TheVariants as order
@@ -36,9 +36,10 @@ use Rattle.ckd_drive.specs.declared.places.Stage.TheVariants as stage
 use Rattle.ckd_drive.specs.Tables.{action_of, extent_of, aim, comparison, is_giving}
 use Rattle.ckd_position.specs.Comparisons.{accepts}
 use Rattle.ckd_sense.specs.declared.sense_bytes.TheConstants.Sense as cause
-use Rattle.ckd_drive.specs.Commands.{Sighted, Closing, IsAtTrack, is_readable, sight as sight_on, area_bytes, bytes_at, area_ends, end_of_area, search_ends, whole_field, seek_cylinder_and_head, seek_head, set_file_mask, fails, ends, at_end, ending_status, length_after, closing, outcome, padded}
-use Rattle.ckd_drive.specs.Buffer.{Lies, HasBytes, IsPlaceOf, FitsSlot}
-use Rattle.ckd_drive.specs.Cache.{CacheState, IsVolume}
+use Rattle.ckd_cache.specs.Contents.{Sighted, is_readable, padded}
+use Rattle.ckd_drive.specs.Commands.{Closing, IsAtTrack, sight as sight_on, area_bytes, bytes_at, area_ends, end_of_area, search_ends, whole_field, seek_cylinder_and_head, seek_head, set_file_mask, fails, ends, at_end, ending_status, length_after, closing, outcome}
+use Rattle.ckd_cache.specs.Buffer.{Lies, HasBytes, IsPlaceOf, FitsSlot}
+use Rattle.ckd_cache.specs.Cache.{CacheState, IsVolume}
 use Rattle.ckd_drive.specs.Work.{Work, Idle, Over, Working, DriveState}
 
 -- the order of an area's first bytes to those that were given

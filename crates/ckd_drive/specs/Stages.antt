@@ -16,7 +16,7 @@ use Rattle.ckd_drive.specs.declared.answers.Look.TheVariants as looked
 use Rattle.ckd_drive.specs.Commands.{with_cause}
 use Rattle.ckd_drive.specs.Drive.{Fault}
 use Rattle.ckd_drive.specs.Drive as drive
-use Rattle.ckd_drive.specs.Cache.{CacheState, after_save, after_failed_save}
+use Rattle.ckd_cache.specs.Cache.{CacheState, after_save, after_failed_save}
 use Rattle.ckd_drive.specs.Work.{DriveState, MakesAtMost, fault_met, with_image, after_begun, after_look}
 use Rattle.ckd_drive.specs.Half.{Stands, state_of}
 

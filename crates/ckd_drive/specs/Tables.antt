@@ -15,8 +15,8 @@ use Rattle.ckd_drive.specs.declared.steps.Aim.{Aim}
 use Rattle.ckd_drive.specs.declared.steps.Aim.TheVariants.{NoArea, Next, Credited}
 use Rattle.ckd_drive.specs.declared.steps.Action.{Action}
 use Rattle.ckd_drive.specs.declared.steps.Action.TheVariants as action
-use Rattle.ckd_drive.specs.declared.steps.Extent.{Extent}
-use Rattle.ckd_drive.specs.declared.steps.Extent.TheVariants as extent
+use Rattle.ckd_cache.specs.declared.extents.Extent.{Extent}
+use Rattle.ckd_cache.specs.declared.extents.Extent.TheVariants as extent
 
 -- what a command works on
 abbrev pub aim : Command → Aim

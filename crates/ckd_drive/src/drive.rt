@@ -9,13 +9,13 @@ ghost use Rattle.ckd_drive.specs.Drive.{unsaved as unsaved_track, begin as begin
 ghost use Rattle.ckd_drive.specs.Work.{DriveState, fault_met, MakesAtMost, after_begin, after_look, look_of, moved_on, left_of, gives_now, takes_now, given_now, passed_of, closed_of, after_end, ending_of, is_idle, is_working, may_end, after_settle, begun_program, answer_of_begin, answer_of_look, with_image, new_drive, without_sense, phase_of, Allows};
 
 use crate::answers::{Begun, Look, Phase};
-use crate::cache::TrackCache;
+use ckd_cache::TrackCache;
 use crate::places::{Place, Progress, Stage};
 use crate::registers::{Mark, Registers};
 use crate::stages::{ENDED, UNIT_CHECK};
 use crate::steps::DriveEnding;
 use crate::trace::Trace;
-use crate::{beginning, leaving, looking, placing, stages, starting, taking};
+use crate::{beginning, leaving, looking, placing, stages, starting, tables, taking};
 use ckd_image::image::Image;
 use ckd_image::store::{ImageStore, StoreFault};
 use ckd_sense::Sense;

@@ -4,8 +4,6 @@
 
 pub mod answers;
 mod beginning;
-mod buffer;
-mod cache;
 mod closing;
 pub mod drive;
 mod leaving;

@@ -6,7 +6,7 @@ ghost use Rattle.ckd_drive.specs.Tables.{aim as aim_of};
 ghost use Rattle.ckd_drive.specs.Half.{Stands, number};
 ghost use Rattle.ckd_drive.specs.Stages.{Looks, unlooked as not_looked};
 
-use crate::cache::TrackCache;
+use ckd_cache::TrackCache;
 use crate::leaving::{leave, with_store_fault};
 use crate::places::Stage;
 use crate::registers::{Mark, Registers};

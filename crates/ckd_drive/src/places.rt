@@ -1,16 +1,8 @@
 //! Where the bytes of a half done command stand.
 
 use crate::steps::{DriveEnding, Opened, Outcome};
+use ckd_cache::Window;
 use std::cmp::Ordering;
-
-/// A part of a slot.
-#[derive(Clone, Copy, Debug, PartialEq, Eq)]
-pub struct Window {
-    /// Where it begins, from the slot's beginning.
-    pub start: usize,
-    /// How many bytes it has.
-    pub len: usize,
-}
 
 /// What becomes of the bytes that pass, and where in the slot those stand that are still to pass.
 #[derive(Clone, Copy, Debug, PartialEq, Eq)]

@@ -15,12 +15,12 @@ ghost use Rattle.ckd_drive.specs.declared.steps.Action.TheVariants.{NoTransfer};
 ghost use Rattle.ckd_drive.specs.Half.{whole_of, field_ends as field_closes, outcome_at, MovedInField, is_unfound as has_not_looked, mark_left as mark_left_by, remaining as remaining_by, field_size as size_of_field, AreaIsThere, AreaOf, IsFirstPlace, ReadsWhole};
 
 use crate::beginning::with_cause;
-use crate::buffer::TrackBuffer;
-use crate::places::{Place, Whole, Window};
+use crate::places::{Place, Whole};
 use crate::registers::{Mark, Registers};
 use crate::sight::sight_of;
 use crate::steps::{Action, Opened, Outcome, Sight};
 use crate::{closing, tables};
+use ckd_cache::{TrackBuffer, Window};
 use ckd_image::geometry::Geometry;
 use ckd_position::{Compare, Kind};
 use ckd_sense::Sense;

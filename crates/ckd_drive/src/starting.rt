@@ -6,7 +6,7 @@ ghost use Rattle.ckd_drive.specs.Half.{Stands, BeginsWell, number};
 ghost use Rattle.ckd_drive.specs.Stages.{Begins};
 
 use crate::beginning::moved_to;
-use crate::cache::TrackCache;
+use ckd_cache::TrackCache;
 use crate::leaving::leave;
 use crate::places::Stage;
 use crate::registers::{Mark, Registers};

@@ -41,29 +41,6 @@ pub enum Action {
     Update,
 }
 
-/// Which bytes of the home address or of a record a command gives, compares or replaces.
-#[derive(Clone, Copy, Debug, PartialEq, Eq)]
-pub enum Extent {
-    /// None.
-    Nothing,
-    /// Cylinder and head of the home address.
-    CylinderAndHead,
-    /// The home address with its flag.
-    HomeAddress,
-    /// Cylinder, head and record number of a count area.
-    Identifier,
-    /// The count area.
-    Count,
-    /// The key area.
-    Key,
-    /// The data area.
-    Data,
-    /// The key area and the data area.
-    KeyAndData,
-    /// The whole record.
-    CountKeyAndData,
-}
-
 /// A command that works, and the area that it works on, as soon as that is known.
 #[derive(Clone, Copy, Debug, PartialEq, Eq)]
 pub struct Opened {

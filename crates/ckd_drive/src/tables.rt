@@ -1,11 +1,11 @@
 //! The commands as tables (component descriptions of the 2841 and the 2314, the sections of the commands).
 
 ghost use Rattle.std.specs.Prelude.{◌≡◌};
-ghost use Rattle.ckd_drive.specs.Commands.{record_before as before_of};
 ghost use Rattle.ckd_drive.specs.Tables.{aim as aim_of, credited as credited_area, credit_of_search as credit_left, action_of, extent_of, is_search as searches, comparison as comparison_of, area_left as left_area, ends_with_data as tells_of_data, is_giving as gives};
 
 use crate::registers::Credit;
-use crate::steps::{Action, Aim, Extent};
+use crate::steps::{Action, Aim};
+use ckd_cache::Extent;
 use ckd_position::{Area, Compare, Kind, Part};
 use ckd_sense::Command;
 
@@ -167,14 +167,4 @@ pub(crate) fn is_giving(action: Action) -> bool
     ensures { result ≡ gives action }
 {
     matches!(action, Action::GiveSense | Action::Read)
-}
-
-/// The record behind which a formatting write with this credited area makes its own.
-pub(crate) fn record_before(area: Option<Area>) -> Option<usize>
-    ensures { result ≡ before_of area }
-{
-    match area {
-        Some(Area::Of(_, i)) => Some(i),
-        _ => None,
-    }
 }

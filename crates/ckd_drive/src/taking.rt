@@ -4,12 +4,12 @@ ghost use Rattle.std.specs.Prelude.{◌≡◌, ◌≤◌, ◌<◌, ◌+◌, ◌+
 ghost use Rattle.ckd_drive.specs.declared.places.Place.TheVariants as place;
 ghost use Rattle.ckd_drive.specs.Half.{Works, MayTake, Absorbs};
 
-use crate::cache::TrackCache;
-use crate::places::{Place, Progress, Whole, Window};
+use crate::places::{Place, Progress, Whole};
 use crate::registers::Registers;
-use crate::steps::{Extent, Outcome};
+use crate::steps::Outcome;
 use crate::trace::Trace;
 use crate::{closing, placing, tables};
+use ckd_cache::{Extent, TrackCache, Window};
 use ckd_image::store::ImageStore;
 use ckd_position::{Area, Part};
 use std::cmp::Ordering;

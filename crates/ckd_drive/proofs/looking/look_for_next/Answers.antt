@@ -1,5 +1,5 @@
 use Rattle.std.proofs.Common.{◌≡◌, ◌∙◌, sym, ℕ}
-use Rattle.ckd_drive.specs.Cache.{after_hold}
+use Rattle.ckd_cache.specs.Cache.{after_hold}
 use Rattle.ckd_drive.specs.Half.{number}
 use Rattle.ckd_drive.proofs.Standing.{on_ok}
 use Rattle.ckd_drive.proofs.Unlooked.{held_looks}

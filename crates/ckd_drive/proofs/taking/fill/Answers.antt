@@ -2,9 +2,9 @@ use Rattle.std.proofs.Common.{◌≡◌, ◌∙◌, ◌<◌, [], ap, sym, ℕ, l
 use Rattle.ckd_track.specs.Track.{track_in}
 use Rattle.ckd_track.specs.Changes.{overwritten}
 use Rattle.ckd_drive.specs.Tables.{extent_of}
-use Rattle.ckd_drive.specs.Commands.{with_record_changed, replaced}
-use Rattle.ckd_drive.specs.Buffer.{FitsSlot}
-use Rattle.ckd_drive.specs.Cache.{CacheState, slot_held, with_held}
+use Rattle.ckd_cache.specs.Contents.{with_record_changed, replaced}
+use Rattle.ckd_cache.specs.Buffer.{FitsSlot}
+use Rattle.ckd_cache.specs.Cache.{CacheState, slot_held, with_held}
 use Rattle.ckd_drive.specs.Half.{number, slot_at}
 use Rattle.ckd_drive.proofs.Fills.{there}
 use Rattle.ckd_drive.proofs.Looks.{slot_is}

@@ -1,5 +1,5 @@
 use Rattle.std.proofs.Common.{◌≡◌, refl, ℕ}
-use Rattle.ckd_drive.specs.Cache.{slot_held}
+use Rattle.ckd_cache.specs.Cache.{slot_held}
 use Rattle.ckd_drive.specs.Half.{number, slot_at}
 use Rattle.ckd_drive.proofs.Looks.{slot_is}
 use Rattle.ckd_drive.proofs.Fills.{filled_absorbs}

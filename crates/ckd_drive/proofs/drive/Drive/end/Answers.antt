@@ -1,5 +1,5 @@
 use Rattle.std.proofs.Common.{◌∙◌, ap, sym}
-use Rattle.ckd_drive.specs.Cache.{CacheState}
+use Rattle.ckd_cache.specs.Cache.{CacheState}
 use Rattle.ckd_drive.specs.Stages.{Leaves, Loses}
 use Rattle.ckd_drive.specs.Work.{DriveState, ending_of}
 use Rattle.ckd_drive.specs.Drive.{Closed}

@@ -1,5 +1,5 @@
 use Rattle.std.proofs.Common.{◌∙◌, refl, length, arith}
-use Rattle.ckd_drive.specs.declared.places.Window.{Window}
+use Rattle.ckd_cache.specs.declared.windows.Window.{Window}
 use Rattle.ckd_drive.specs.declared.steps.Outcome.{Outcome}
 use Rattle.ckd_drive.proofs.Moving.{may_give, read_stands, sense_stands, sense_given, moved_work}
 use Rattle.ckd_drive.proofs.drive.Drive.give.Goals as goal

@@ -1,0 +1,53 @@
+use Rattle.std.proofs.Common.{[], ◌≡◌, ◌∙◌, length, arith, rules}
+use Rattle.std.specs.Vec.{with_items}
+use Rattle.std.proofs.lemmas.List.{with_items_is}
+use Rattle.ckd_track.specs.Track.{track_in, slot_of}
+use Rattle.ckd_cache.specs.Contents.{with_record_changed, replaced}
+use Rattle.ckd_cache.specs.Buffer.{end_of_records}
+use Rattle.ckd_cache.proofs.AreaPlaces.{seen_index, spelled}
+use Rattle.ckd_cache.proofs.Writes.{records_are, clear_is, same_indexed}
+use Rattle.ckd_cache.proofs.buffer.TrackBuffer.clear.Goals as goal
+
+pub end_of-end-requires-clause-there : goal.end_of-end-requires-clause-there
+end_of-end-requires-clause-there c =
+    let i = c.self.inside in
+    let x = seen_index i.slot.items c.args.self.now i.offsets.items i.records c.self.view_is c.self.invariant in
+    omega (arith, records_are c.args.self.now i.offsets.items i.records c.unwrap_or.result x c.requires.readable c.unwrap_or.ensures)
+
+pub invariant_of-self : goal.invariant_of-self
+invariant_of-self c =
+    let i = c.self.inside in
+    let s = c.args.self.now in
+    let x = seen_index i.slot.items s i.offsets.items i.records c.self.view_is c.self.invariant in
+    let sp = (spelled s i.offsets.items i.records x c.requires.readable).1 in
+    let n = records_are s i.offsets.items i.records c.unwrap_or.result x c.requires.readable c.unwrap_or.ensures in
+    let end : c.end_of-end.result ≡ end_of_records (track_in s) (length (track_in s).records) = rw n at c.end_of-end.ensures.place in
+    let k = clear_is c.args.extent s c.args.area c.window-window.result c.end_of-end.result c.requires.update sp c.requires.there c.window-window.ensures.place end in
+    let old : c.deref_mut.result.now ≡ s = c.deref_mut.ensures.value ∙ c.self.view_is in
+    let done : c.clear_window.new.slot ≡ slot_of (length s) (with_record_changed (replaced c.args.extent []) c.args.area (track_in s)) = rw old at c.clear_window.ensures ∙ k.0 in
+    let items : (with_items i.slot c.clear_window.new.slot).items ≡ c.clear_window.new.slot = with_items_is i.slot c.clear_window.new.slot (search rules) in
+    rw (items, done) (same_indexed s i.offsets.items i.records (with_record_changed (replaced c.args.extent []) c.args.area (track_in s)) x c.requires.readable k.1 k.2)
+
+pub returns-clause-slot : goal.returns-clause-slot
+returns-clause-slot c =
+    let i = c.self.inside in
+    let s = c.args.self.now in
+    let x = seen_index i.slot.items s i.offsets.items i.records c.self.view_is c.self.invariant in
+    let sp = (spelled s i.offsets.items i.records x c.requires.readable).1 in
+    let n = records_are s i.offsets.items i.records c.unwrap_or.result x c.requires.readable c.unwrap_or.ensures in
+    let end : c.end_of-end.result ≡ end_of_records (track_in s) (length (track_in s).records) = rw n at c.end_of-end.ensures.place in
+    let k = clear_is c.args.extent s c.args.area c.window-window.result c.end_of-end.result c.requires.update sp c.requires.there c.window-window.ensures.place end in
+    let old : c.deref_mut.result.now ≡ s = c.deref_mut.ensures.value ∙ c.self.view_is in
+    let items : (with_items i.slot c.clear_window.new.slot).items ≡ c.clear_window.new.slot = with_items_is i.slot c.clear_window.new.slot (search rules) in
+    rw items (rw old at c.clear_window.ensures ∙ k.0)
+
+pub returns-clause-fits : goal.returns-clause-fits
+returns-clause-fits c =
+    let i = c.self.inside in
+    let s = c.args.self.now in
+    let x = seen_index i.slot.items s i.offsets.items i.records c.self.view_is c.self.invariant in
+    let sp = (spelled s i.offsets.items i.records x c.requires.readable).1 in
+    let n = records_are s i.offsets.items i.records c.unwrap_or.result x c.requires.readable c.unwrap_or.ensures in
+    let end : c.end_of-end.result ≡ end_of_records (track_in s) (length (track_in s).records) = rw n at c.end_of-end.ensures.place in
+    let k = clear_is c.args.extent s c.args.area c.window-window.result c.end_of-end.result c.requires.update sp c.requires.there c.window-window.ensures.place end in
+    k.1

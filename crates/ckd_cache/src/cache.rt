@@ -1,0 +1,195 @@
+//! An image, with the slot of one track at hand: loaded when it is first wanted, written in place, saved late.
+
+ghost use Rattle.std.specs.Prelude.{◌≡◌, ◌≤◌, ◌<◌, ◌+◌, Some, None, true, false, [], length, bytes_eq, unwrap_or, slice_index_or, IfOk, IfErr, OnOk, OnErr, IsSome};
+ghost use Rattle.ckd_image.specs.Geometry.{tracks_of};
+ghost use Rattle.ckd_track.specs.Track.{track_of, track_in, slot_of, spelling, end_mark};
+ghost use Rattle.ckd_track.specs.Changes.{overwritten, bare_track};
+ghost use Rattle.ckd_cache.specs.Contents.{is_readable, formatted as track_formatted, with_record_changed, replaced, kept};
+ghost use Rattle.ckd_cache.specs.Buffer.{SameRecords, FitsSlot, IsUpdate, IsRecordOf};
+ghost use Rattle.ckd_cache.specs.Cache.{slot_held, with_held, holds, after_hold, after_failed_hold, after_save, after_failed_save, IsVolume};
+
+use crate::buffer::TrackBuffer;
+use crate::extents::Extent;
+use ckd_image::geometry::Geometry;
+use ckd_image::image::Image;
+use ckd_image::store::{ImageStore, StoreFault};
+use ckd_position::Area;
+use std::alloc::{AllocError, Global};
+use std::marker::Model;
+
+/// An image, and the slot of one track at hand. It is seen as the image, the image's slots with what was written into
+/// the one at hand, the number of its track, and whether it was written since it was last saved.
+#[derive(Drop)]
+pub struct TrackCache<S: ImageStore> {
+    image: Image<S>,
+    buffer: TrackBuffer,
+    held: Option<u32>,
+    changed: bool,
+}
+
+impl<S: ImageStore> Model for TrackCache<S> {
+    ghost use Rattle.ckd_cache.specs.Cache.{CacheState, held_over, Holds};
+
+    ghost Value = { CacheState };
+
+    ghost view = { λ c. record {
+      image = c.image;
+      slots = held_over c.image.slots c.held c.buffer;
+      held = c.held;
+      changed = c.changed;
+    } };
+
+    ghost invariant = { λ c. Holds c.image c.held c.changed c.buffer };
+}
+
+impl<S: ImageStore> TrackCache<S> {
+    /// A cache with no slot at hand.
+    ///
+    /// It takes all the memory that it ever needs: the slot, and the table of its records.
+    ///
+    /// # Errors
+    ///
+    /// Where there is no such memory the image comes back.
+    pub fn new(alloc: Global, image: Image<S>) -> Result<TrackCache<S>, (AllocError, Image<S>)>
+        ensures ok { IfOk result (λ c. c ≡ record { image = image; slots = image.slots; held = None; changed = false }) }
+        ensures err { IfErr result (λ e. e.1 ≡ image) }
+    {
+        match TrackBuffer::new(alloc, image.geometry().track_size) {
+            Ok(buffer) => Ok(TrackCache {
+                image,
+                buffer,
+                held: None,
+                changed: false,
+            }),
+            Err(fault) => Err((fault, image)),
+        }
+    }
+
+    /// The geometry of the image.
+    pub fn geometry(&self) -> Geometry
+        ensures geometry { result ≡ self.now.image.geometry }
+        ensures volume { IsVolume self.now }
+    {
+        self.image.geometry()
+    }
+
+    /// Has the slot of a track at hand, which is loaded where that of another is. A slot that was written is saved first.
+    ///
+    /// # Errors
+    ///
+    /// Where the load fails no slot is at hand.
+    pub fn hold(&mut self, track: u32) -> Result<(), StoreFault>
+        requires there { track < tracks_of self.old.image.geometry }
+        requires clean { self.old.changed ≡ true → self.old.held ≡ Some track }
+        ensures ok { OnOk result (self.new ≡ after_hold self.old track) }
+        ensures err { OnErr result (self.new ≡ after_failed_hold self.old) }
+        ensures fails { OnErr result (holds self.old.held track ≡ false) }
+    {
+        if self.held == Some(track) {
+            return Ok(());
+        }
+        self.held = None;
+        self.buffer.load(&mut self.image, track)?;
+        self.held = Some(track);
+        Ok(())
+    }
+
+    /// The slot at hand.
+    pub fn buffer(&self) -> &TrackBuffer
+        requires { IsSome self.now.held }
+        ensures slot { result.now ≡ slot_held self.now }
+        ensures size { length result.now ≡ self.now.image.geometry.track_size }
+    {
+        &self.buffer
+    }
+
+    /// Writes the home address into the slot at hand, and removes all records.
+    pub fn write_home_address(&mut self, home_address: [u8; 5])
+        requires held { IsSome self.old.held }
+        ensures { self.new ≡ with_held self.old (slot_of self.old.image.geometry.track_size (bare_track home_address)) }
+    {
+        let _geometry = self.image.geometry();
+        self.buffer.write_home_address(home_address);
+        self.changed = true;
+    }
+
+    /// Writes a record of these count bytes behind the kept ones into the slot at hand, with zeros in its key and data,
+    /// removes all records behind it, and answers its number.
+    pub fn format(&mut self, after: Option<Area>, count: [u8; 8]) -> usize
+        requires held { IsSome self.old.held }
+        requires readable { is_readable (track_of (slot_held self.old)) ≡ true }
+        requires no_end_mark { bytes_eq count end_mark ≡ false }
+        requires room { length (spelling (track_formatted (track_of (slot_held self.old)) after count)) ≤ self.old.image.geometry.track_size }
+        ensures slot { self.new ≡ with_held self.old (slot_of self.old.image.geometry.track_size (track_formatted (track_of (slot_held self.old)) after count)) }
+        ensures number { result ≡ length (kept (track_of (slot_held self.old)) after) }
+        ensures fits { FitsSlot self.old.image.geometry.track_size (track_formatted (track_of (slot_held self.old)) after count) }
+    {
+        let number = self.buffer.format(after, count);
+        self.changed = true;
+        number
+    }
+
+    /// Puts zeros in the place of the bytes of a record's area in the slot at hand, and behind the end mark.
+    pub fn clear(&mut self, extent: Extent, area: Area)
+        requires held { IsSome self.old.held }
+        requires readable { is_readable (track_of (slot_held self.old)) ≡ true }
+        requires update { IsUpdate extent }
+        requires there { IsRecordOf (track_in (slot_held self.old)) area }
+        ensures slot { self.new ≡ with_held self.old (slot_of self.old.image.geometry.track_size (with_record_changed (replaced extent []) area (track_in (slot_held self.old)))) }
+        ensures fits { FitsSlot self.old.image.geometry.track_size (with_record_changed (replaced extent []) area (track_in (slot_held self.old))) }
+    {
+        self.buffer.clear(extent, area);
+        self.changed = true;
+    }
+
+    /// Puts other bytes into the slot at hand, where its records stay in their places.
+    pub fn put(&mut self, at: usize, bytes: &[u8])
+        requires held { IsSome self.old.held }
+        requires room { at + length bytes.now ≤ self.old.image.geometry.track_size }
+        requires records { SameRecords (slot_held self.old) (overwritten (slot_held self.old) at bytes.now) }
+        ensures { self.new ≡ with_held self.old (overwritten (slot_held self.old) at bytes.now) }
+    {
+        self.buffer.put(at, bytes);
+        self.changed = true;
+    }
+
+    /// Saves the slot at hand if it was written since it was last saved.
+    ///
+    /// # Errors
+    ///
+    /// Where the save fails no slot is at hand, and the image's slot is what the store was left with.
+    pub fn save(&mut self) -> Result<(), StoreFault>
+        ensures ok { OnOk result (self.new ≡ after_save self.old) }
+        ensures err { OnErr result (self.new ≡ after_failed_save self.old (slice_index_or self.new.image.slots (unwrap_or self.old.held 0) [])) }
+        ensures fails { OnErr result (self.old.changed ≡ true) }
+        ensures size { OnErr result (length (slice_index_or self.new.image.slots (unwrap_or self.old.held 0) []) ≡ self.old.image.geometry.track_size) }
+    {
+        if !self.changed {
+            return Ok(());
+        }
+        let Some(track) = self.held else {
+            return Ok(());
+        };
+        self.changed = false;
+        match self.image.save(track, self.buffer.bytes()) {
+            Ok(()) => Ok(()),
+            Err(fault) => {
+                self.held = None;
+                Err(fault)
+            }
+        }
+    }
+
+    /// The image, without what was written and not saved.
+    pub fn into_image(self) -> Image<S>
+        ensures { result ≡ self.image }
+    {
+        let TrackCache {
+            image,
+            buffer: _,
+            held: _,
+            changed: _,
+        } = self;
+        image
+    }
+}
