@@ -1,275 +1,308 @@
 //! Every cause that the sense bytes tell of.
 
-use super::commands::{Ran, Step, new_drive, read, run, store_of, write};
-use super::volumes::{HEADER, written_volume};
-use ckd_image::memory::MemoryStore;
-use ckd_image::store::ImageStore;
-use std::alloc::Global;
+use super::codes::*;
+use super::steps::{Step, new_drive, play, store_of};
+use super::volumes::{changed_volume, written_volume};
 use std::test::Fail;
 
-const UNIT_CHECK: u8 = 0x0E;
+const ALL_WRITES: Step = Step::Takes(SET_FILE_MASK, &[0xC0], ENDING);
 
-const ENDING: u8 = 0x0C;
+const FIND_HOME_ADDRESS: Step = Step::Takes(SEARCH_HOME_ADDRESS_EQUAL, &[0, 0, 0, 0], SATISFIED);
 
-const MOVING: u8 = 0x08;
+const FIND_R0: Step = Step::Takes(SEARCH_ID_EQUAL, &[0, 0, 0, 0, 0], SATISFIED);
 
-/// Set File Mask, so that Write Home Address and Write R0 are allowed too.
-const ALL_WRITES: Step = (0x1F, &[0xC0]);
+const HOME_ADDRESS_PASSES: Step = Step::Gives(READ_HOME_ADDRESS_MULTI_TRACK, &[], ENDING);
 
-const SEARCH_R0: Step = (0x31, &[0, 0, 0, 0, 0]);
+const TO_HEAD_9: Step = Step::Takes(SEEK, &[0, 0, 0, 0, 0, 9], MOVING);
 
-const SEARCH_HOME_ADDRESS: Step = (0x39, &[0, 0, 0, 0]);
+const NO_ID: Step = Step::Takes(SEARCH_ID_EQUAL, &[0, 0, 0, 0, 9], ENDING);
 
-/// Read Home Address with the multi-track bit.
-const READ_HOME_ADDRESS: Step = (0x9A, &[]);
-
-/// Commands of which the last is not begun, and the first two sense bytes.
-type Rejected<'a> = (&'a [Step<'a>], [u8; 2]);
-
-/// Commands of which the last ends in unit check, how many of its bytes passed, and the first two sense bytes.
-type Checked<'a> = (&'a [Step<'a>], usize, [u8; 2]);
-
-/// A command is not begun: no such command, the file mask, the sequence.
-const AT_THE_BEGIN: [Rejected; 21] = [
-    (&[(0x00, &[])], [0x80, 0x00]),
-    (&[(0x43, &[])], [0x80, 0x00]),
-    (&[(0x87, &[])], [0x80, 0x00]),
-    (&[(0x19, &[])], [0x80, 0x04]),
-    (&[(0x15, &[])], [0x80, 0x04]),
-    (&[(0x1F, &[0x40]), (0x1D, &[])], [0x80, 0x04]),
-    (&[(0x1F, &[0x40]), (0x05, &[])], [0x80, 0x04]),
-    (&[(0x1F, &[0x40]), (0x0D, &[])], [0x80, 0x04]),
-    (&[(0x1F, &[0x80]), SEARCH_R0, (0x1D, &[])], [0x80, 0x04]),
-    (&[(0x1F, &[0x08]), (0x07, &[])], [0x00, 0x04]),
-    (&[(0x1F, &[0x08]), (0x13, &[])], [0x00, 0x04]),
-    (&[(0x1F, &[0x08]), (0x02, &[])], [0x00, 0x04]),
-    (&[(0x1F, &[0x10]), (0x0B, &[])], [0x00, 0x04]),
-    (&[(0x1F, &[0x18]), (0x1B, &[])], [0x00, 0x04]),
-    (&[(0x05, &[])], [0x80, 0x10]),
-    (&[(0x0D, &[])], [0x80, 0x10]),
-    (&[(0x1D, &[])], [0x80, 0x10]),
-    (&[ALL_WRITES, (0x15, &[])], [0x80, 0x10]),
-    (&[ALL_WRITES, ALL_WRITES], [0x80, 0x10]),
-    // a mask that was not taken was not set
-    (&[(0x1F, &[]), ALL_WRITES, ALL_WRITES], [0x80, 0x10]),
+/// The command is not begun.
+const AT_THE_BEGIN: [&[Step]; 21] = [
+    // no such command
+    &[Step::Rejected(0x00), Step::Senses(0x80, 0x00)],
+    &[Step::Rejected(0x43), Step::Senses(0x80, 0x00)],
+    &[Step::Rejected(0x87), Step::Senses(0x80, 0x00)],
+    // the file mask does not allow the write
+    &[Step::Rejected(WRITE_HOME_ADDRESS), Step::Senses(0x80, 0x04)],
+    &[Step::Rejected(WRITE_R0), Step::Senses(0x80, 0x04)],
+    &[
+        Step::Takes(SET_FILE_MASK, &[0x40], ENDING),
+        Step::Rejected(WRITE_COUNT_KEY_AND_DATA),
+        Step::Senses(0x80, 0x04),
+    ],
+    &[
+        Step::Takes(SET_FILE_MASK, &[0x40], ENDING),
+        Step::Rejected(WRITE_DATA),
+        Step::Senses(0x80, 0x04),
+    ],
+    &[
+        Step::Takes(SET_FILE_MASK, &[0x40], ENDING),
+        Step::Rejected(WRITE_KEY_AND_DATA),
+        Step::Senses(0x80, 0x04),
+    ],
+    &[
+        Step::Takes(SET_FILE_MASK, &[0x80], ENDING),
+        FIND_R0,
+        Step::Rejected(WRITE_COUNT_KEY_AND_DATA),
+        Step::Senses(0x80, 0x04),
+    ],
+    // nor the seek
+    &[
+        Step::Takes(SET_FILE_MASK, &[0x08], ENDING),
+        Step::Rejected(SEEK),
+        Step::Senses(0x00, 0x04),
+    ],
+    &[
+        Step::Takes(SET_FILE_MASK, &[0x08], ENDING),
+        Step::Rejected(RECALIBRATE),
+        Step::Senses(0x00, 0x04),
+    ],
+    &[
+        Step::Takes(SET_FILE_MASK, &[0x08], ENDING),
+        Step::Rejected(READ_IPL),
+        Step::Senses(0x00, 0x04),
+    ],
+    &[
+        Step::Takes(SET_FILE_MASK, &[0x10], ENDING),
+        Step::Rejected(SEEK_CYLINDER),
+        Step::Senses(0x00, 0x04),
+    ],
+    &[
+        Step::Takes(SET_FILE_MASK, &[0x18], ENDING),
+        Step::Rejected(SEEK_HEAD),
+        Step::Senses(0x00, 0x04),
+    ],
+    // there is no credit, or the mask was set before
+    &[Step::Rejected(WRITE_DATA), Step::Senses(0x80, 0x10)],
+    &[Step::Rejected(WRITE_KEY_AND_DATA), Step::Senses(0x80, 0x10)],
+    &[
+        Step::Rejected(WRITE_COUNT_KEY_AND_DATA),
+        Step::Senses(0x80, 0x10),
+    ],
+    &[
+        ALL_WRITES,
+        Step::Rejected(WRITE_R0),
+        Step::Senses(0x80, 0x10),
+    ],
+    &[
+        ALL_WRITES,
+        Step::Rejected(SET_FILE_MASK),
+        Step::Senses(0x80, 0x10),
+    ],
+    // a mask of which no byte came was not set
+    &[
+        Step::Takes(SET_FILE_MASK, &[], ENDING),
+        ALL_WRITES,
+        Step::Rejected(SET_FILE_MASK),
+        Step::Senses(0x80, 0x10),
+    ],
     // the mask is told before the sequence
-    (&[(0x1F, &[0x58]), (0x05, &[])], [0x80, 0x04]),
+    &[
+        Step::Takes(SET_FILE_MASK, &[0x40], ENDING),
+        Step::Rejected(WRITE_DATA),
+        Step::Senses(0x80, 0x04),
+    ],
 ];
 
-/// The index passed: the head may not change, no record was found, the cylinder ended.
-const AT_THE_INDEX: [Checked; 5] = [
-    (
-        &[(0x1F, &[0x18]), READ_HOME_ADDRESS, READ_HOME_ADDRESS],
-        0,
-        [0x00, 0x04],
-    ),
-    (&[(0x29, b"KEY")], 0, [0x00, 0x08]),
-    (
-        &[
-            (0x07, &[0, 0, 0, 0, 0, 9]),
-            READ_HOME_ADDRESS,
-            READ_HOME_ADDRESS,
-        ],
-        0,
-        [0x00, 0x20],
-    ),
+/// The index passed.
+const AT_THE_INDEX: [&[Step]; 5] = [
+    // the mask does not allow another head
+    &[
+        Step::Takes(SET_FILE_MASK, &[0x18], ENDING),
+        HOME_ADDRESS_PASSES,
+        Step::Fails(READ_HOME_ADDRESS_MULTI_TRACK, 0),
+        Step::Senses(0x00, 0x04),
+    ],
+    // no record found
+    &[Step::Fails(SEARCH_KEY_EQUAL, 1), Step::Senses(0x00, 0x08)],
+    // the cylinder ends
+    &[
+        TO_HEAD_9,
+        HOME_ADDRESS_PASSES,
+        Step::Fails(READ_HOME_ADDRESS_MULTI_TRACK, 0),
+        Step::Senses(0x00, 0x20),
+    ],
     // the mask is told before the end of the cylinder
-    (
-        &[
-            (0x07, &[0, 0, 0, 0, 0, 9]),
-            (0x1F, &[0x18]),
-            READ_HOME_ADDRESS,
-            READ_HOME_ADDRESS,
-        ],
-        0,
-        [0x00, 0x04],
-    ),
-    // a search that goes on where the one before it passed the index: it has one turn and not two
-    (
-        &[
-            (0x31, &[0, 0, 0, 0, 0]),
-            (0x31, &[0, 0, 0, 0, 0]),
-            (0x31, &[0, 0, 0, 0, 0]),
-            (0x31, &[0, 0, 0, 0, 0]),
-            (0x31, &[0, 0, 0, 0, 9]),
-            (0x31, &[0, 0, 0, 0, 9]),
-            (0x31, &[0, 0, 0, 0, 9]),
-            (0x31, &[0, 0, 0, 0, 9]),
-            (0x31, &[0, 0, 0, 0, 9]),
-        ],
-        0,
-        [0x00, 0x08],
-    ),
+    &[
+        TO_HEAD_9,
+        Step::Takes(SET_FILE_MASK, &[0x18], ENDING),
+        HOME_ADDRESS_PASSES,
+        Step::Fails(READ_HOME_ADDRESS_MULTI_TRACK, 0),
+        Step::Senses(0x00, 0x04),
+    ],
+    // searches one behind the other have two turns in all, with four ids each
+    &[
+        NO_ID,
+        NO_ID,
+        NO_ID,
+        NO_ID,
+        NO_ID,
+        NO_ID,
+        NO_ID,
+        NO_ID,
+        Step::Fails(SEARCH_ID_EQUAL, 0),
+        Step::Senses(0x00, 0x08),
+    ],
 ];
 
-/// A command ended, and its bytes were too few, another home address, no track of the drive, or a record too long.
-const AT_THE_END: [Checked; 18] = [
-    (&[ALL_WRITES, (0x19, &[0])], 1, [0x80, 0x00]),
-    (&[ALL_WRITES, (0x19, &[0, 0, 0, 0])], 4, [0x80, 0x00]),
-    (
-        &[ALL_WRITES, SEARCH_HOME_ADDRESS, (0x15, &[0])],
-        1,
-        [0x80, 0x00],
-    ),
-    (
-        &[ALL_WRITES, SEARCH_HOME_ADDRESS, (0x15, &[0; 7])],
-        7,
-        [0x80, 0x00],
-    ),
-    (&[SEARCH_R0, (0x1D, &[0])], 1, [0x80, 0x00]),
-    (&[SEARCH_R0, (0x1D, &[0; 7])], 7, [0x80, 0x00]),
-    (&[(0x07, &[0])], 1, [0x80, 0x00]),
-    (&[(0x07, &[0; 5])], 5, [0x80, 0x00]),
-    (&[(0x0B, &[0; 5])], 5, [0x80, 0x00]),
-    (&[(0x1B, &[0; 5])], 5, [0x80, 0x00]),
-    (&[ALL_WRITES, (0x19, &[0x80, 0, 0, 0, 0])], 5, [0x80, 0x00]),
-    (&[ALL_WRITES, (0x19, &[0, 0, 0, 0, 1])], 5, [0x80, 0x00]),
-    (&[(0x07, &[0, 0, 0, 2, 0, 0])], 6, [0x81, 0x00]),
-    (&[(0x07, &[0, 1, 0, 0, 0, 0])], 6, [0x81, 0x00]),
-    (&[(0x0B, &[0, 0, 0, 0, 0, 10])], 6, [0x81, 0x00]),
-    (&[(0x1B, &[0, 0, 0, 0, 0, 10])], 6, [0x81, 0x00]),
-    // 3,626 bytes of data, where the track has room for 3,625
-    (
-        &[SEARCH_R0, (0x1D, &[0, 0, 0, 0, 1, 0, 0x0E, 0x2A, 0xD5])],
-        8,
-        [0x00, 0x40],
-    ),
-    // 1,740 bytes are charged 1,885 where they are not the last, and leave room for 1,740 and not for 1,741
-    (
-        &[
-            SEARCH_R0,
-            (0x1D, &[0, 0, 0, 0, 1, 0, 0x06, 0xCC]),
-            (0x1D, &[0, 0, 0, 0, 2, 0, 0x06, 0xCD, 0xD5]),
-        ],
-        8,
-        [0x00, 0x40],
-    ),
+/// The bytes were wrong.
+const AT_THE_END: [&[Step]; 9] = [
+    // another flag, and another home address
+    &[
+        ALL_WRITES,
+        Step::Takes(WRITE_HOME_ADDRESS, &[0x80, 0, 0, 0, 0], UNIT_CHECK),
+        Step::Senses(0x80, 0x00),
+    ],
+    &[
+        ALL_WRITES,
+        Step::Takes(WRITE_HOME_ADDRESS, &[0, 0, 0, 0, 1], UNIT_CHECK),
+        Step::Senses(0x80, 0x00),
+    ],
+    // no such cylinder, head, or bin
+    &[
+        Step::Takes(SEEK, &[0, 0, 0, 2, 0, 0], UNIT_CHECK),
+        Step::Senses(0x81, 0x00),
+    ],
+    &[
+        Step::Takes(SEEK, &[0, 0, 0, 0, 0, 10], UNIT_CHECK),
+        Step::Senses(0x81, 0x00),
+    ],
+    &[
+        Step::Takes(SEEK, &[0, 1, 0, 0, 0, 0], UNIT_CHECK),
+        Step::Senses(0x81, 0x00),
+    ],
+    &[
+        Step::Takes(SEEK_CYLINDER, &[0, 0, 1, 0, 0, 0], UNIT_CHECK),
+        Step::Senses(0x81, 0x00),
+    ],
+    &[
+        Step::Takes(SEEK_HEAD, &[0, 0, 0, 0, 1, 0], UNIT_CHECK),
+        Step::Senses(0x81, 0x00),
+    ],
+    // 3,626 bytes of data, and the track has room for 3,625
+    &[
+        FIND_R0,
+        Step::TakesOnly(
+            WRITE_COUNT_KEY_AND_DATA,
+            &[0, 0, 0, 0, 1, 0, 0x0E, 0x2A, 7],
+            8,
+            UNIT_CHECK,
+        ),
+        Step::Senses(0x00, 0x40),
+    ],
+    // 1,740 bytes that are not the last are charged 1,885: there is room for 1,740 more and not for 1,741
+    &[
+        FIND_R0,
+        Step::Takes(
+            WRITE_COUNT_KEY_AND_DATA,
+            &[0, 0, 0, 0, 1, 0, 0x06, 0xCC, 7],
+            ENDING,
+        ),
+        Step::TakesOnly(
+            WRITE_COUNT_KEY_AND_DATA,
+            &[0, 0, 0, 0, 2, 0, 0x06, 0xCD, 7],
+            8,
+            UNIT_CHECK,
+        ),
+        Step::Senses(0x00, 0x40),
+    ],
 ];
 
 #[test]
 fn each_cause_is_told(rt: HostRuntime) -> Result<(), Fail> {
-    for (i, (steps, [first, second])) in AT_THE_BEGIN.iter().enumerate() {
-        let mut drive = new_drive(rt.alloc(), written_volume(rt.alloc())?)?;
-        assert_eq!(rt; run(&mut drive, steps)?, Ran::Rejected, "row {i}");
-        assert_eq!(rt; drive.sense(), [*first, *second, 0, 0, 0, 0], "row {i}");
-    }
-    for rows in [AT_THE_INDEX.as_slice(), AT_THE_END.as_slice()] {
-        for (i, (steps, moved, [first, second])) in rows.iter().enumerate() {
+    let groups: [&[&[Step]]; 3] = [&AT_THE_BEGIN, &AT_THE_INDEX, &AT_THE_END];
+    for rows in groups {
+        for (i, steps) in rows.iter().enumerate() {
             let mut drive = new_drive(rt.alloc(), written_volume(rt.alloc())?)?;
-            assert_eq!(rt;
-                run(&mut drive, steps)?,
-                Ran::Ended(UNIT_CHECK, *moved),
-                "row {i}"
-            );
-            assert_eq!(rt; drive.sense(), [*first, *second, 0, 0, 0, 0], "row {i}");
+            assert_eq!(rt; play(&mut drive, steps, 100), steps.len(), "row {i}");
         }
     }
     Ok(())
 }
 
+/// Commands that take a field which must come whole, what comes before them, and how long the field is.
+const FIELDS: [(u8, Step, usize); 6] = [
+    (WRITE_HOME_ADDRESS, FIND_R0, 5),
+    (WRITE_R0, FIND_HOME_ADDRESS, 8),
+    (WRITE_COUNT_KEY_AND_DATA, FIND_R0, 8),
+    (SEEK, FIND_R0, 6),
+    (SEEK_CYLINDER, FIND_R0, 6),
+    (SEEK_HEAD, FIND_R0, 6),
+];
+
 #[test]
-fn each_short_field_is_a_command_reject(rt: HostRuntime) -> Result<(), Fail> {
-    let zeros = [0; 8];
-    for (code, size) in [
-        (0x19, 5),
-        (0x15, 8),
-        (0x1D, 8),
-        (0x07, 6),
-        (0x0B, 6),
-        (0x1B, 6),
-    ] {
-        for moved in 0..size {
-            let before = written_volume(rt.alloc())?;
-            let mut drive = new_drive(rt.alloc(), written_volume(rt.alloc())?)?;
-            let search = if code == 0x1D {
-                SEARCH_R0
+fn each_field_cut_short_is_a_command_reject(rt: HostRuntime) -> Result<(), Fail> {
+    let before = written_volume(rt.alloc())?;
+    for (code, find, size) in FIELDS {
+        for len in 0..size {
+            let bytes = [0; 8];
+            let bytes = bytes.get(..len).ok_or("too long")?;
+            let (status, reject) = if len == 0 {
+                (ENDING, 0x00)
             } else {
-                SEARCH_HOME_ADDRESS
+                (UNIT_CHECK, 0x80)
             };
-            run(&mut drive, &[ALL_WRITES, search])?;
-            let bytes = zeros.get(..moved).ok_or("too short")?;
-            let status = if moved == 0 { ENDING } else { UNIT_CHECK };
-            assert_eq!(rt;
-                run(&mut drive, &[(code, bytes)])?,
-                Ran::Ended(status, moved)
-            );
-            let reject = if moved == 0 { 0x00 } else { 0x80 };
-            assert_eq!(rt;
-                drive.sense(),
-                [reject, 0, 0, 0, 0, 0],
-                "{code} with {moved}"
-            );
-            assert!(rt; store_of(drive)?.bytes() == before.bytes());
+            let mut drive = new_drive(rt.alloc(), written_volume(rt.alloc())?)?;
+            let steps = [
+                ALL_WRITES,
+                find,
+                Step::Takes(code, bytes, status),
+                Step::Senses(reject, 0x00),
+            ];
+            assert_eq!(rt; play(&mut drive, &steps, 100), 4, "{code} with {len}");
+            let store = store_of(drive).ok_or("a command is open")?;
+            assert!(rt; store.bytes() == before.bytes(), "{code} with {len}");
         }
     }
     Ok(())
 }
 
-/// A volume whose first slot spells no track: behind R0 a record runs over the slot's end.
-fn unreadable_volume(alloc: Global) -> Result<MemoryStore, Fail> {
-    let mut store = written_volume(alloc)?;
-    let at = HEADER as u64 + 21;
-    if at > store.len() {
-        return Err(Fail::from("too short"));
-    }
-    store.write_at(at, &[0, 0, 0, 0, 1, 0, 0xFF, 0xFF])?;
-    Ok(store)
-}
+/// The commands that look for an area, but Write Home Address.
+const LOOKS: [u8; 13] = [
+    SEARCH_HOME_ADDRESS_EQUAL,
+    SEARCH_ID_EQUAL,
+    SEARCH_KEY_EQUAL,
+    READ_IPL,
+    READ_HOME_ADDRESS,
+    READ_R0,
+    READ_COUNT,
+    READ_DATA,
+    READ_KEY_AND_DATA,
+    READ_COUNT_KEY_AND_DATA,
+    READ_DATA_MULTI_TRACK,
+    READ_COUNT_MULTI_TRACK,
+    READ_HOME_ADDRESS_MULTI_TRACK,
+];
+
+/// What is done with a track that does not read whole: it is written anew.
+const WRITTEN_ANEW: [Step; 5] = [
+    ALL_WRITES,
+    Step::Takes(WRITE_HOME_ADDRESS, &[0, 0, 0, 0, 0], ENDING),
+    Step::Takes(WRITE_R0, &[0, 0, 0, 0, 0, 0, 0, 8], ENDING),
+    Step::Gives(
+        READ_R0,
+        &[0, 0, 0, 0, 0, 0, 0, 8, 0, 0, 0, 0, 0, 0, 0, 0],
+        ENDING,
+    ),
+    Step::Senses(0x00, 0x00),
+];
 
 #[test]
-fn an_unreadable_track_is_told_but_to_write_home_address(rt: HostRuntime) -> Result<(), Fail> {
-    for code in [
-        0x39, 0x31, 0x29, 0x02, 0x1A, 0x16, 0x12, 0x06, 0x0E, 0x1E, 0x86, 0x9A,
-    ] {
-        let mut drive = new_drive(rt.alloc(), unreadable_volume(rt.alloc())?)?;
-        assert_eq!(rt;
-            run(&mut drive, &[(code, &[0])])?,
-            Ran::Ended(UNIT_CHECK, 0),
-            "{code}"
-        );
-        assert_eq!(rt; drive.sense(), [0x08, 0x02, 0, 0, 0, 0], "{code}");
-    }
-    let mut drive = new_drive(rt.alloc(), unreadable_volume(rt.alloc())?)?;
-    let steps: [Step; 2] = [ALL_WRITES, (0x19, &[0, 0, 0, 0, 0])];
-    assert_eq!(rt; run(&mut drive, &steps)?, Ran::Ended(ENDING, 5));
-    assert_eq!(rt;
-        run(&mut drive, &[(0x15, &[0, 0, 0, 0, 0, 0, 0, 8])])?,
-        Ran::Ended(ENDING, 8)
-    );
-    assert_eq!(rt; run(&mut drive, &[(0x16, &[])])?, Ran::Ended(ENDING, 16));
-    Ok(())
-}
-
-#[test]
-fn seeks_within_the_volume_move_the_arm(rt: HostRuntime) -> Result<(), Fail> {
-    let mut drive = new_drive(rt.alloc(), written_volume(rt.alloc())?)?;
-    let rows: [(u8, [u8; 6], u8, [u8; 5]); 5] = [
-        (0x07, [0, 0, 0, 1, 0, 9], MOVING, [0, 0, 1, 0, 9]),
-        (0x1B, [0, 0, 0, 0, 0, 2], ENDING, [0, 0, 1, 0, 2]),
-        (0x0B, [0, 0, 0, 0, 0, 3], MOVING, [0, 0, 0, 0, 3]),
-        (0x1B, [9, 9, 9, 9, 0, 4], ENDING, [0, 0, 0, 0, 4]),
-        (0x07, [0, 0, 0, 1, 0, 0], MOVING, [0, 0, 1, 0, 0]),
-    ];
-    for (code, address, status, home_address) in rows {
-        for piece in [1, 4, 6] {
-            assert_eq!(rt;
-                write(&mut drive, (code, &address), piece)?,
-                Ran::Ended(status, 6)
-            );
-            let mut bytes = [0xAA; 5];
-            assert_eq!(rt;
-                read(&mut drive, 0x1A, &mut bytes, 5)?,
-                Ran::Ended(ENDING, 5)
-            );
-            assert_eq!(rt; bytes, home_address);
+fn an_unreadable_track_is_told(rt: HostRuntime) -> Result<(), Fail> {
+    // behind R0 a record that runs over the slot's end, or no end mark
+    let record: [u8; 8] = [0, 0, 0, 0, 1, 0, 0xFF, 0xFF];
+    let rows: [(Option<usize>, &[u8]); 2] = [(None, &record), (Some(21), &[])];
+    for (zeros, bytes) in rows {
+        for code in LOOKS {
+            let store = changed_volume(rt.alloc(), zeros, &[(21, bytes)])?;
+            let mut drive = new_drive(rt.alloc(), store)?;
+            let steps = [Step::Fails(code, 0), Step::Senses(0x08, 0x02)];
+            assert_eq!(rt; play(&mut drive, &steps, 100), 2, "{code}");
         }
+        let store = changed_volume(rt.alloc(), zeros, &[(21, bytes)])?;
+        let mut drive = new_drive(rt.alloc(), store)?;
+        assert_eq!(rt; play(&mut drive, &WRITTEN_ANEW, 100), 5);
     }
-    assert_eq!(rt; run(&mut drive, &[(0x13, &[])])?, Ran::Ended(MOVING, 0));
-    let mut bytes = [0xAA; 5];
-    assert_eq!(rt;
-        read(&mut drive, 0x1A, &mut bytes, 5)?,
-        Ran::Ended(ENDING, 5)
-    );
-    assert_eq!(rt; bytes, [0; 5]);
     Ok(())
 }

@@ -1,128 +1,182 @@
 //! The sequence credits, each given and each refused.
 
-use super::commands::{Ran, Step, new_drive, run};
+use super::codes::*;
+use super::steps::{Step, new_drive, play};
 use super::volumes::written_volume;
 use std::test::Fail;
 
-const SET_FILE_MASK: Step = (0x1F, &[0xC0]);
+const ALL_WRITES: Step = Step::Takes(SET_FILE_MASK, &[0xC0], ENDING);
 
-const SEARCH_HOME_ADDRESS: Step = (0x39, &[0, 0, 0, 0]);
+const FIND_HOME_ADDRESS: Step = Step::Takes(SEARCH_HOME_ADDRESS_EQUAL, &[0, 0, 0, 0], SATISFIED);
 
-const SEARCH_R0: Step = (0x31, &[0, 0, 0, 0, 0]);
+const FIND_R0: Step = Step::Takes(SEARCH_ID_EQUAL, &[0, 0, 0, 0, 0], SATISFIED);
 
-const SEARCH_KEY: Step = (0x29, b"KEY");
+const NEW_HOME_ADDRESS: Step = Step::Takes(WRITE_HOME_ADDRESS, &[0, 0, 0, 0, 0], ENDING);
 
-const NO_OPERATION: Step = (0x03, &[]);
+const NEW_R0: Step = Step::Takes(WRITE_R0, &[0, 0, 0, 0, 0, 0, 0, 8], ENDING);
 
-const SENSE: Step = (0x04, &[]);
-
-const WRITE_HOME_ADDRESS: Step = (0x19, &[0, 0, 0, 0, 0]);
-
-const WRITE_R0: Step = (0x15, &[0, 0, 0, 0, 0, 0, 0, 8]);
-
-const WRITE_COUNT_KEY_AND_DATA: Step = (0x1D, b"\0\0\0\0\x01\x03\0\x04KEYDATA");
-
-const WRITE_DATA: Step = (0x05, b"DATA");
-
-const WRITE_KEY_AND_DATA: Step = (0x0D, b"KEYDATA");
-
-/// The four writes that need a credit, in the order of the rows.
-const WRITES: [Step; 4] = [
-    WRITE_R0,
+/// Record 1, with a key of three bytes.
+const NEW_RECORD: Step = Step::Takes(
     WRITE_COUNT_KEY_AND_DATA,
-    WRITE_DATA,
-    WRITE_KEY_AND_DATA,
+    b"\0\0\0\0\x01\x03\0\x04KEYDATA",
+    ENDING,
+);
+
+const NEW_DATA: Step = Step::Takes(WRITE_DATA, b"DATA", ENDING);
+
+const NEW_KEY_AND_DATA: Step = Step::Takes(WRITE_KEY_AND_DATA, b"KEYDATA", ENDING);
+
+/// The writes that need a credit, in the order of the rows.
+const WRITES: [(u8, Step); 4] = [
+    (WRITE_R0, NEW_R0),
+    (WRITE_COUNT_KEY_AND_DATA, NEW_RECORD),
+    (WRITE_DATA, NEW_DATA),
+    (WRITE_KEY_AND_DATA, NEW_KEY_AND_DATA),
 ];
+
+const NONE: [bool; 4] = [false, false, false, false];
+
+const R0_ALONE: [bool; 4] = [true, false, false, false];
+
+const RECORD_ALONE: [bool; 4] = [false, true, false, false];
+
+const BY_ID: [bool; 4] = [false, true, true, true];
+
+const BY_KEY: [bool; 4] = [false, true, true, false];
 
 /// Commands, and which of the four writes may follow them.
 const ROWS: [(&[Step], [bool; 4]); 26] = [
-    (&[], [false, false, false, false]),
-    (&[SEARCH_HOME_ADDRESS], [true, false, false, false]),
-    (&[(0xB9, &[0, 0, 0, 0])], [true, false, false, false]),
-    // three bytes of four, and another home address
-    (&[(0x39, &[0, 0, 0])], [false, false, false, false]),
-    (&[(0x39, &[0, 0, 0, 1])], [false, false, false, false]),
-    (&[WRITE_HOME_ADDRESS], [true, false, false, false]),
-    // a flag byte other than zero changes nothing
-    (&[(0x19, &[0x80, 0, 0, 0, 0])], [false, false, false, false]),
-    (&[SEARCH_R0], [false, true, true, true]),
-    (&[(0xB1, &[0, 0, 0, 0, 0])], [false, true, true, true]),
-    // four bytes of five, and another id
-    (&[(0x31, &[0, 0, 0, 0])], [false, false, false, false]),
-    (&[(0x31, &[0, 0, 0, 0, 9])], [false, false, false, false]),
-    // searches that are satisfied by a high area, and by an equal or high one
+    (&[], NONE),
+    (&[FIND_HOME_ADDRESS], R0_ALONE),
     (
-        &[SEARCH_R0, (0x51, &[0, 0, 0, 0, 0])],
-        [false, false, false, false],
+        &[Step::Takes(
+            SEARCH_HOME_ADDRESS_EQUAL_MULTI_TRACK,
+            &[0, 0, 0, 0],
+            SATISFIED,
+        )],
+        R0_ALONE,
     ),
-    (&[(0x71, &[0, 0, 0, 0, 0])], [false, false, false, false]),
+    // three bytes of four, and another home address
     (
-        &[SEARCH_R0, WRITE_COUNT_KEY_AND_DATA, SEARCH_KEY],
-        [false, true, true, false],
+        &[Step::Takes(SEARCH_HOME_ADDRESS_EQUAL, &[0, 0, 0], SATISFIED)],
+        NONE,
+    ),
+    (
+        &[Step::Takes(SEARCH_HOME_ADDRESS_EQUAL, &[0, 0, 0, 1], ENDING)],
+        NONE,
+    ),
+    (&[NEW_HOME_ADDRESS], R0_ALONE),
+    // a flag other than zero changes nothing
+    (
+        &[Step::Takes(WRITE_HOME_ADDRESS, &[0x80, 0, 0, 0, 0], UNIT_CHECK)],
+        NONE,
+    ),
+    (&[FIND_R0], BY_ID),
+    (
+        &[Step::Takes(SEARCH_ID_EQUAL_MULTI_TRACK, &[0, 0, 0, 0, 0], SATISFIED)],
+        BY_ID,
+    ),
+    // four bytes of five, and another id
+    (
+        &[Step::Takes(SEARCH_ID_EQUAL, &[0, 0, 0, 0], SATISFIED)],
+        NONE,
+    ),
+    (
+        &[Step::Takes(SEARCH_ID_EQUAL, &[0, 0, 0, 0, 9], ENDING)],
+        NONE,
+    ),
+    // a high id, and an equal or high one
+    (
+        &[
+            FIND_R0,
+            Step::Takes(SEARCH_ID_HIGH, &[0, 0, 0, 0, 0], SATISFIED),
+        ],
+        NONE,
+    ),
+    (
+        &[Step::Takes(SEARCH_ID_EQUAL_OR_HIGH, &[0, 0, 0, 0, 0], SATISFIED)],
+        NONE,
     ),
     (
         &[
-            SEARCH_R0,
-            WRITE_COUNT_KEY_AND_DATA,
-            SEARCH_HOME_ADDRESS,
-            (0xA9, b"KEY"),
+            FIND_R0,
+            NEW_RECORD,
+            Step::Takes(SEARCH_KEY_EQUAL, b"KEY", SATISFIED),
         ],
-        [false, true, true, false],
-    ),
-    // two bytes of three, another key, and searches for a high key, and for an equal or high one
-    (
-        &[SEARCH_R0, WRITE_COUNT_KEY_AND_DATA, (0x29, b"KE")],
-        [false, false, false, false],
+        BY_KEY,
     ),
     (
-        &[SEARCH_R0, WRITE_COUNT_KEY_AND_DATA, (0x29, b"KIN")],
-        [false, false, false, false],
+        &[
+            FIND_R0,
+            NEW_RECORD,
+            FIND_HOME_ADDRESS,
+            Step::Takes(SEARCH_KEY_EQUAL_MULTI_TRACK, b"KEY", SATISFIED),
+        ],
+        BY_KEY,
+    ),
+    // two bytes of three, another key, a high key, and an equal or high one
+    (
+        &[
+            FIND_R0,
+            NEW_RECORD,
+            Step::Takes(SEARCH_KEY_EQUAL, b"KE", SATISFIED),
+        ],
+        NONE,
     ),
     (
-        &[SEARCH_R0, WRITE_COUNT_KEY_AND_DATA, (0x49, b"JAY")],
-        [false, false, false, false],
+        &[
+            FIND_R0,
+            NEW_RECORD,
+            Step::Takes(SEARCH_KEY_EQUAL, b"KIN", ENDING),
+        ],
+        NONE,
     ),
     (
-        &[SEARCH_R0, WRITE_COUNT_KEY_AND_DATA, (0x69, b"KEY")],
-        [false, false, false, false],
+        &[
+            FIND_R0,
+            NEW_RECORD,
+            Step::Takes(SEARCH_KEY_HIGH, b"JAY", SATISFIED),
+        ],
+        NONE,
     ),
     (
-        &[SEARCH_HOME_ADDRESS, WRITE_R0],
-        [false, true, false, false],
+        &[
+            FIND_R0,
+            NEW_RECORD,
+            Step::Takes(SEARCH_KEY_EQUAL_OR_HIGH, b"KEY", SATISFIED),
+        ],
+        NONE,
     ),
-    (&[WRITE_HOME_ADDRESS, WRITE_R0], [false, true, false, false]),
-    (
-        &[SEARCH_R0, WRITE_COUNT_KEY_AND_DATA],
-        [false, true, false, false],
-    ),
+    (&[FIND_HOME_ADDRESS, NEW_R0], RECORD_ALONE),
+    (&[NEW_HOME_ADDRESS, NEW_R0], RECORD_ALONE),
+    (&[FIND_R0, NEW_RECORD], RECORD_ALONE),
     // a record that was updated leaves none
-    (&[SEARCH_R0, WRITE_DATA], [false, false, false, false]),
-    // any command between takes it away
-    (&[SEARCH_R0, NO_OPERATION], [false, false, false, false]),
-    (&[SEARCH_R0, SENSE], [false, false, false, false]),
+    (&[FIND_R0, NEW_DATA], NONE),
+    // any command between takes the credit away
+    (&[FIND_R0, Step::Immediate(NO_OPERATION, ENDING)], NONE),
     (
-        &[SEARCH_HOME_ADDRESS, (0x1A, &[])],
-        [false, false, false, false],
+        &[FIND_R0, Step::Gives(SENSE, &[0, 0, 0, 0, 0, 0], ENDING)],
+        NONE,
+    ),
+    (
+        &[FIND_HOME_ADDRESS, Step::Gives(READ_R0, &[], ENDING)],
+        NONE,
     ),
 ];
 
 #[test]
 fn credits_are_given_and_refused(rt: HostRuntime) -> Result<(), Fail> {
     for (i, (steps, allowed)) in ROWS.iter().enumerate() {
-        for (write, may) in WRITES.iter().zip(allowed) {
+        for ((code, write), may) in WRITES.iter().zip(allowed) {
             let mut drive = new_drive(rt.alloc(), written_volume(rt.alloc())?)?;
-            run(&mut drive, &[SET_FILE_MASK])?;
-            run(&mut drive, steps)?;
-            let ran = run(&mut drive, &[*write])?;
-            let (code, _) = *write;
-            assert_eq!(rt; ran != Ran::Rejected, *may, "{code} in row {i}");
-            let sequence = if *may { 0x00 } else { 0x10 };
-            let reject = if *may { 0x00 } else { 0x80 };
-            assert_eq!(rt;
-                drive.sense(),
-                [reject, sequence, 0, 0, 0, 0],
-                "{code} in row {i}"
-            );
+            assert_eq!(rt; play(&mut drive, &[ALL_WRITES], 100), 1);
+            assert_eq!(rt; play(&mut drive, steps, 100), steps.len(), "row {i}");
+            let ends = if *may {
+                [*write, Step::Senses(0x00, 0x00)]
+            } else {
+                [Step::Rejected(*code), Step::Senses(0x80, 0x10)]
+            };
+            assert_eq!(rt; play(&mut drive, &ends, 100), 2, "{code} behind row {i}");
         }
     }
     Ok(())

@@ -1,12 +1,13 @@
 //! A drive takes its memory as it is made, and hands the image back where there is none.
 
-use super::commands::{Ran, read};
+use super::codes::*;
+use super::steps::{Step, play};
 use super::volumes::written_volume;
 use ckd_drive::drive::Drive;
 use ckd_image::image::Image;
 use std::test::Fail;
 
-// The allocations are refused in turn by the test runner; this test then holds as well, but where its own are refused.
+// This holds too where the third or the fourth allocation is refused: those are the drive's.
 #[test]
 fn a_new_drive_reads_record_1_or_hands_the_image_back(rt: HostRuntime) -> Result<(), Fail> {
     let before = written_volume(rt.alloc())?;
@@ -16,14 +17,12 @@ fn a_new_drive_reads_record_1_or_hands_the_image_back(rt: HostRuntime) -> Result
     };
     match Drive::new(rt.alloc(), image) {
         Ok(mut drive) => {
-            let mut bytes = [0; 80];
-            assert_eq!(rt;
-                read(&mut drive, 0x06, &mut bytes, 80)?,
-                Ran::Ended(0x0C, 80)
-            );
-            assert_eq!(rt; bytes, [0xC1; 80]);
-            assert_eq!(rt; drive.sense(), [0; 6]);
-            assert_eq!(rt; drive.unsaved(), None);
+            let steps = [
+                Step::Unsaved(None),
+                Step::Senses(0x00, 0x00),
+                Step::Gives(READ_DATA, &[0xC1; 80], ENDING),
+            ];
+            assert_eq!(rt; play(&mut drive, &steps, 100), 3);
         }
         Err((_, image)) => assert!(rt; image.into_store().bytes() == before.bytes()),
     }

@@ -2,7 +2,8 @@
 
 ghost use Rattle.std.specs.Prelude.{◌≡◌, ◌+◌, ◌≤◌, length};
 
-use super::commands::{Ran, Step, new_drive, read, run, store_of};
+use super::codes::*;
+use super::steps::{Step, new_drive, play, store_of};
 use super::volumes::written_volume;
 use ckd_image::memory::MemoryStore;
 use ckd_image::store::{ImageStore, StoreFault};
@@ -56,94 +57,53 @@ impl ImageStore for Recorder {
     }
 }
 
-const FIRST_SLOT: (u64, usize) = (512, 4096);
+const PASS_R0: Step = Step::Takes(SEARCH_ID_EQUAL, &[0, 0, 0, 0, 1], ENDING);
+
+const FIND_RECORD_1: Step = Step::Takes(SEARCH_ID_EQUAL, &[0, 0, 0, 0, 1], SATISFIED);
+
+const FIND_RECORD_2: Step = Step::Takes(SEARCH_ID_EQUAL, &[0, 0, 0, 0, 2], SATISFIED);
+
+/// Two updates of one track and a read of it; and the next program, which reads it too.
+const ONE_TRACK: [Step; 9] = [
+    PASS_R0,
+    FIND_RECORD_1,
+    Step::Takes(WRITE_DATA, &[0xD7; 80], ENDING),
+    FIND_RECORD_2,
+    Step::Takes(WRITE_DATA, &[0xD8; 80], ENDING),
+    Step::Gives(READ_DATA, &[0xC3; 80], ENDING),
+    Step::Settles,
+    Step::Program,
+    Step::Gives(READ_DATA, &[0xD7; 80], ENDING),
+];
+
+/// The written track is saved before the arm or the head leaves it, to the same track too, and not again.
+const TWO_TRACKS: [Step; 8] = [
+    PASS_R0,
+    FIND_RECORD_1,
+    Step::Takes(WRITE_DATA, &[0xD7; 80], ENDING),
+    Step::Takes(SEEK, &[0, 0, 0, 0, 0, 0], MOVING),
+    Step::Takes(SEEK, &[0, 0, 0, 0, 0, 1], MOVING),
+    Step::Gives(READ_HOME_ADDRESS, &[0, 0, 0, 0, 1], ENDING),
+    Step::Immediate(RECALIBRATE, MOVING),
+    Step::Gives(READ_HOME_ADDRESS, &[0, 0, 0, 0, 0], ENDING),
+];
 
 #[test]
 fn a_track_is_read_once_and_saved_once(rt: HostRuntime) -> Result<(), Fail> {
-    let recorder = Recorder {
-        store: written_volume(rt.alloc())?,
-        reads: NONE,
-        writes: NONE,
-    };
-    let mut drive = new_drive(rt.alloc(), recorder)?;
-    let steps: [Step; 4] = [
-        (0x31, &[0, 0, 0, 0, 0]),
-        (0x31, &[0, 0, 0, 0, 1]),
-        (0x05, &[0xD7; 80]),
-        (0x31, &[0, 0, 0, 0, 2]),
-    ];
-    assert_eq!(rt; run(&mut drive, &steps)?, Ran::Ended(0x4C, 5));
-    assert_eq!(rt;
-        run(&mut drive, &[(0x05, &[0xD8; 80])])?,
-        Ran::Ended(0x0C, 80)
-    );
-    let mut bytes = [0; 80];
-    assert_eq!(rt;
-        read(&mut drive, 0x06, &mut bytes, 80)?,
-        Ran::Ended(0x0C, 80)
-    );
-    assert_eq!(rt; bytes, [0xC3; 80]);
-    drive.settle()?;
-    // the next program reads the same track
-    drive.begin_program();
-    assert_eq!(rt;
-        read(&mut drive, 0x06, &mut bytes, 80)?,
-        Ran::Ended(0x0C, 80)
-    );
-    assert_eq!(rt; bytes, [0xD7; 80]);
-    let recorder = store_of(drive)?;
     // the first read is that of the header, as the image is mounted
-    assert_eq!(rt;
-        recorder.reads,
-        Calls {
-            count: 2,
-            last: FIRST_SLOT
-        }
-    );
-    assert_eq!(rt;
-        recorder.writes,
-        Calls {
-            count: 1,
-            last: FIRST_SLOT
-        }
-    );
-    Ok(())
-}
-
-#[test]
-fn another_track_is_read_and_the_written_one_saved_first(rt: HostRuntime) -> Result<(), Fail> {
-    let recorder = Recorder {
-        store: written_volume(rt.alloc())?,
-        reads: NONE,
-        writes: NONE,
-    };
-    let mut drive = new_drive(rt.alloc(), recorder)?;
-    let steps: [Step; 5] = [
-        (0x31, &[0, 0, 0, 0, 0]),
-        (0x31, &[0, 0, 0, 0, 1]),
-        (0x05, &[0xD7; 80]),
-        // to the same track too it is saved first, and once
-        (0x07, &[0, 0, 0, 0, 0, 0]),
-        (0x07, &[0, 0, 0, 0, 0, 1]),
-    ];
-    assert_eq!(rt; run(&mut drive, &steps)?, Ran::Ended(0x08, 6));
-    assert_eq!(rt; run(&mut drive, &[(0x1A, &[])])?, Ran::Ended(0x0C, 5));
-    assert_eq!(rt; run(&mut drive, &[(0x13, &[])])?, Ran::Ended(0x08, 0));
-    assert_eq!(rt; run(&mut drive, &[(0x1A, &[])])?, Ran::Ended(0x0C, 5));
-    let recorder = store_of(drive)?;
-    assert_eq!(rt;
-        recorder.reads,
-        Calls {
-            count: 4,
-            last: FIRST_SLOT
-        }
-    );
-    assert_eq!(rt;
-        recorder.writes,
-        Calls {
-            count: 1,
-            last: FIRST_SLOT
-        }
-    );
+    let rows: [(&[Step], u32); 2] = [(&ONE_TRACK, 2), (&TWO_TRACKS, 4)];
+    for (steps, reads) in rows {
+        let recorder = Recorder {
+            store: written_volume(rt.alloc())?,
+            reads: NONE,
+            writes: NONE,
+        };
+        let mut drive = new_drive(rt.alloc(), recorder)?;
+        assert_eq!(rt; play(&mut drive, steps, 100), steps.len());
+        let recorder = store_of(drive).ok_or("a command is open")?;
+        let last = (512, 4096);
+        assert_eq!(rt; recorder.reads, Calls { count: reads, last });
+        assert_eq!(rt; recorder.writes, Calls { count: 1, last });
+    }
     Ok(())
 }

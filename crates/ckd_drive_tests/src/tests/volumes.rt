@@ -6,15 +6,19 @@ ghost use Rattle.ckd_image.specs.Geometry.{new_geometry};
 use ckd_image::geometry::image_len;
 use ckd_image::image::Image;
 use ckd_image::memory::MemoryStore;
+use ckd_image::store::ImageStore;
 use ckd_track::{DriveModel, fits, put_record, read_slot};
 use std::alloc::Global;
 use std::test::Fail;
 
-/// The bytes of a header, which stand before the slots.
-pub(crate) const HEADER: usize = 512;
+/// Where the first slot begins, and how long it is.
+pub(crate) const SLOT_0: u64 = 512;
 
-/// The bytes of a slot of a 2311.
 pub(crate) const SLOT: usize = 4096;
+
+/// Bytes that stand from a place on in the first slot. R0 begins at 5, and records 1, 2 and 3 at 21, 109 and 197; the end
+/// mark stands at 285.
+pub(crate) type Change<'a> = (u64, &'a [u8]);
 
 fn new_image(alloc: Global, cylinders: u16) -> Result<Image<MemoryStore>, Fail>
     ensures { IfOk result (λ i. i.geometry ≡ new_geometry DriveModel.D2311 cylinders) }
@@ -36,20 +40,14 @@ fn put(slot: &mut [u8], after: usize, count: [u8; 8], body: &[u8]) -> Result<(),
     ensures { length slot.new ≡ length slot.old }
 {
     let model = DriveModel::D2311;
-    let body_length = count[5] as usize + u16::from_be_bytes([count[6], count[7]]) as usize;
+    let data_length = u16::from_be_bytes([count[6], count[7]]);
     let Ok(view) = read_slot(slot) else {
         return Err(Fail::from("no track"));
     };
     if slot.len() < model.capacity() as usize + 37
-        || body.len() != body_length
+        || body.len() != count[5] as usize + data_length as usize
         || view.len() <= after
-        || !fits(
-            model,
-            &view,
-            Some(after),
-            count[5],
-            u16::from_be_bytes([count[6], count[7]]),
-        )
+        || !fits(model, &view, Some(after), count[5], data_length)
     {
         return Err(Fail::from("no room"));
     }
@@ -71,32 +69,39 @@ pub(crate) fn written_volume(alloc: Global) -> Result<MemoryStore, Fail> {
     put(&mut slot, 0, [0, 0, 0, 1, 1, 0, 0, 0], &[])?;
     image.save(1, &slot)?;
     image.load(2, &mut slot)?;
-    put(
-        &mut slot,
-        0,
-        [0, 0, 0, 2, 1, 0, 0, 8],
-        b"\x04\x00\x06\x00\x00\x00\x00\x06",
-    )?;
+    let body = b"\x04\x00\x06\x00\x00\x00\x00\x06";
+    put(&mut slot, 0, [0, 0, 0, 2, 1, 0, 0, 8], body)?;
     image.save(2, &slot)?;
     image.load(3, &mut slot)?;
-    put(
-        &mut slot,
-        0,
-        [0, 0, 0, 3, 1, 0, 0, 16],
-        b"\x00\x00\x06\x00\x00\x00\x00\x08\xE1\xE1\xE1\xE1\xE1\xE1\xE1\xE1",
-    )?;
+    let body = b"\x00\x00\x06\x00\x00\x00\x00\x08\xE1\xE1\xE1\xE1\xE1\xE1\xE1\xE1";
+    put(&mut slot, 0, [0, 0, 0, 3, 1, 0, 0, 16], body)?;
     image.save(3, &slot)?;
     Ok(image.into_store())
 }
 
-/// The slot of a track in a file.
-pub(crate) fn slot_of(file: &[u8], track: usize) -> Option<&[u8]> {
-    file.get(HEADER..)?.chunks(SLOT).nth(track)
+/// The written volume with other bytes in its first slot. With zeros from a place on in it, these come first.
+pub(crate) fn changed_volume(
+    alloc: Global,
+    zeros: Option<usize>,
+    changes: &[Change],
+) -> Result<MemoryStore, Fail> {
+    let mut store = written_volume(alloc)?;
+    if let Some(from) = zeros {
+        let rest = [0; SLOT];
+        let rest = rest.get(from..).ok_or("past the slot")?;
+        put_into(&mut store, from as u64, rest)?;
+    }
+    for (at, bytes) in changes {
+        put_into(&mut store, *at, bytes)?;
+    }
+    Ok(store)
 }
 
-/// Whether two files are the same but for the slot of a track.
-pub(crate) fn differ_in_track_alone(one: &[u8], other: &[u8], track: usize) -> bool {
-    one.len() == other.len()
-        && one.get(..HEADER) == other.get(..HEADER)
-        && (0..one.len() / SLOT).all(|i| i == track || slot_of(one, i) == slot_of(other, i))
+fn put_into(store: &mut MemoryStore, at: u64, bytes: &[u8]) -> Result<(), Fail> {
+    let at = at.saturating_add(SLOT_0);
+    if at > store.len() {
+        return Err(Fail::from("past the end"));
+    }
+    store.write_at(at, bytes)?;
+    Ok(())
 }
