@@ -206,6 +206,11 @@ pub(crate) fn play<S: ImageStore>(drive: &mut Drive<S>, steps: &[Step], piece: u
 
 /// The store of a drive that has settled, whatever came of that.
 pub(crate) fn store_of<S: ImageStore>(mut drive: Drive<S>) -> Option<S> {
-    settle(&mut drive)?;
-    Some(drive.into_image().into_store())
+    match drive.phase() {
+        Phase::Idle | Phase::Over => {
+            drive.settle().ok();
+            Some(drive.into_image().into_store())
+        }
+        _ => None,
+    }
 }
