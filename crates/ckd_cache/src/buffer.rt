@@ -160,7 +160,7 @@ fn record_window(slot: &[u8], at: usize, extent: Extent) -> Window
 }
 
 impl TrackBuffer {
-    /// A buffer of this many zero bytes, and a table that has room for the records of any slot of this size.
+    /// A buffer for slots of this size, and a table that has room for the records of any of them.
     ///
     /// # Errors
     ///
