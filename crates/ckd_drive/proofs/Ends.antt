@@ -23,8 +23,8 @@ use Rattle.ckd_drive.specs.Tables.{action_of}
 use Rattle.ckd_cache.specs.Contents.{Sighted}
 use Rattle.ckd_drive.specs.Commands.{Closing, IsAtTrack, area_bytes, closing, close_by, outcome, search_ends, area_ends, own_home_address, new_record_fits, number as number_of}
 use Rattle.ckd_cache.specs.Cache.{CacheState, IsVolume, saved, after_save, after_failed_save}
-use Rattle.ckd_drive.specs.Half.{Stands, Rests, is_written, mark_left, HasFilled, LeftIs, state_of, IsPlaced, IsField, CreditIs, AtHand, outcome_at, field_ends, seen_by, slot_at, number, is_unfound, is_filled_by}
-use Rattle.ckd_drive.specs.Drive.{closed_staying, SaveFails}
+use Rattle.ckd_drive.specs.Half.{Stands, Rests, mark_left, HasFilled, LeftIs, state_of, IsPlaced, IsField, CreditIs, AtHand, outcome_at, field_ends, seen_by, slot_at, number, is_unfound, is_filled_by}
+use Rattle.ckd_drive.specs.Drive.{closed_staying, SaveFails, is_written_by}
 use Rattle.ckd_drive.specs.Work as work
 use Rattle.ckd_drive.specs.Work.{DriveState, MakesAtMost, may_end, closed_of, ending_of, after_end, fault_met, with_image}
 use Rattle.ckd_image.specs.Image.{ImageState}
@@ -352,7 +352,7 @@ stays_stands c r m s p before passed began now u x is now_is may out off =
       rests = rw (began_by began p m (let P : Stage → Type 0 = λ t. Rests began t m in subst P is x.rests)) tt;
     }
   where
-    marks : (q : Place) (m : Mark) (b : Bool) → b ≡ (is_written m || is_filled_by q) → b ≡ (is_written (mark_left q m) || false)
+    marks : (q : Place) (m : Mark) (b : Bool) → b ≡ (is_written_by m || is_filled_by q) → b ≡ (is_written_by (mark_left q m) || false)
     marks (Filled w u) Saved b e = e
     marks (Filled w u) Written b e = e
     marks (Filled w u) Lost b e = e
