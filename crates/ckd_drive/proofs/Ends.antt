@@ -22,11 +22,11 @@ use Rattle.ckd_drive.specs.declared.places.Stage.TheVariants.{Idle, Working}
 use Rattle.ckd_drive.specs.Tables.{action_of}
 use Rattle.ckd_cache.specs.Contents.{Sighted}
 use Rattle.ckd_drive.specs.Commands.{Closing, IsAtTrack, area_bytes, closing, close_by, outcome, search_ends, area_ends, own_home_address, new_record_fits, number as number_of}
-use Rattle.ckd_cache.specs.Cache.{CacheState, IsVolume, saved, after_save, after_failed_save}
-use Rattle.ckd_drive.specs.Half.{Stands, Rests, is_written, mark_left, HasFilled, LeftIs, state_of, IsPlaced, IsField, CreditIs, AtHand, outcome_at, field_ends, seen_by, slot_at, number, is_unfound, is_filled_by}
-use Rattle.ckd_drive.specs.Drive.{closed_staying, SaveFails}
+use Rattle.ckd_cache.specs.Cache.{CacheState, IsVolume, after_save, after_failed_save}
+use Rattle.ckd_drive.specs.Half.{Stands, Rests, mark_left, HasFilled, LeftIs, state_of, IsPlaced, IsField, CreditIs, AtHand, outcome_at, field_ends, seen_by, slot_at, number, is_unfound, is_filled, is_filled_by}
+use Rattle.ckd_drive.specs.Drive.{closed_staying, SaveFails, is_written_by}
 use Rattle.ckd_drive.specs.Work as work
-use Rattle.ckd_drive.specs.Work.{DriveState, MakesAtMost, may_end, closed_of, ending_of, after_end, fault_met, with_image}
+use Rattle.ckd_drive.specs.Work.{DriveState, may_end, closed_of, ending_of, after_end, fault_met, with_image}
 use Rattle.ckd_image.specs.Image.{ImageState}
 use Rattle.ckd_drive.proofs.Torn.{torn_whole}
 use Rattle.ckd_drive.proofs.Faults.{fault_none, fault_saving, mark_written, failed_left, lost_registers}
@@ -257,6 +257,12 @@ moving_unfilled c g r n o before passed (Fill w u) moved x e = refl
 moving_unfilled c g r n o before passed (Search w u) moved x e = refl
 moving_unfilled c g r n o before passed (Field f) moved x e = refl
 
+pub moves_unfilled : (c : CacheState) (r : Registers) (m : Mark) (s : Stage) (p : Progress) (before passed : List ℕ) (began : Bool) (u : Outcome)
+    → Stands c r m s before passed began → s ≡ Working p → u ≡ outcome_at c.image.geometry r p.opened p.moved p.place → u.moves_off ≡ true → is_filled s ≡ false
+moves_unfilled c r m s p before passed began u x is out moves =
+    let goes = goes_of c r m s p before passed began x is in
+    rw is (moving_unfilled c c.image.geometry r (number c.image.geometry r) p.opened before passed p.place p.moved goes.placed (ap (λ (y : Outcome). y.moves_off) (sym out) ∙ moves))
+
 -- The drive after the end.
 
 pub stays_state : (c : CacheState) (r : Registers) (m : Mark) (s : Stage) (p : Progress) (before passed : List ℕ) (began : Bool) (now : DriveState) (u : Outcome)
@@ -325,11 +331,6 @@ lost_state c c' r m s p before passed left began now u x is now_is may out moves
     rw (is, off, plain, written, held, whole) refl in
     (rw (failed, ← now_is, f, closed) refl, rw (failed, ← now_is, f) closed)
 
--- What one saving makes of the store.
-pub calls_of_save : (now new : DriveState) (c : CacheState) (b : Bool) (slots : List (List ℕ)) → now.image ≡ c.image → new.image ≡ saved c.image slots b → MakesAtMost now new
-calls_of_save now new c true slots e f = rw (e, f) (record { loads = omega arith; saves = omega arith; failures = omega arith; loads_stay = omega arith; saves_stay = omega arith; failures_stay = omega arith; header = refl; geometry = refl })
-calls_of_save now new c false slots e f = rw (e, f) (record { loads = omega arith; saves = omega arith; failures = omega arith; loads_stay = omega arith; saves_stay = omega arith; failures_stay = omega arith; header = refl; geometry = refl })
-
 -- An idle drive stands where the arm has stayed.
 pub stays_stands : (c : CacheState) (r : Registers) (m : Mark) (s : Stage) (p : Progress) (before passed : List ℕ) (began : Bool) (now : DriveState) (u : Outcome)
     → Stands c r m s before passed began → s ≡ Working p → state_of c r m s before passed began ≡ now → may_end now.work ≡ true → u ≡ outcome_at c.image.geometry r p.opened p.moved p.place → u.moves_off ≡ false
@@ -352,7 +353,7 @@ stays_stands c r m s p before passed began now u x is now_is may out off =
       rests = rw (began_by began p m (let P : Stage → Type 0 = λ t. Rests began t m in subst P is x.rests)) tt;
     }
   where
-    marks : (q : Place) (m : Mark) (b : Bool) → b ≡ (is_written m || is_filled_by q) → b ≡ (is_written (mark_left q m) || false)
+    marks : (q : Place) (m : Mark) (b : Bool) → b ≡ (is_written_by m || is_filled_by q) → b ≡ (is_written_by (mark_left q m) || false)
     marks (Filled w u) Saved b e = e
     marks (Filled w u) Written b e = e
     marks (Filled w u) Lost b e = e

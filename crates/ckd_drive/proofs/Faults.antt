@@ -8,10 +8,10 @@ use Rattle.ckd_drive.specs.declared.registers.Mark.TheVariants.{Saved, Written, 
 use Rattle.ckd_drive.specs.declared.steps.Opened.{Opened}
 use Rattle.ckd_drive.specs.declared.steps.Beginning.TheVariants.{ToCylinderZero}
 use Rattle.ckd_drive.specs.Commands.{with_cause}
-use Rattle.ckd_drive.specs.Drive.{LoadFails, SaveFails, number_under}
+use Rattle.ckd_drive.specs.Drive.{LoadFails, SaveFails, number_under, is_written_by}
 use Rattle.ckd_cache.specs.Cache.{CacheState, after_failed_save}
 use Rattle.ckd_drive.specs.Work.{DriveState, fault_met}
-use Rattle.ckd_drive.specs.Half.{is_written, BeginsWell, IsCleared}
+use Rattle.ckd_drive.specs.Half.{BeginsWell, IsCleared}
 
 more_not : (n : ℕ) → (n + 1 == n) ≡ false
 more_not n = grind (arith, nat_tests)
@@ -39,7 +39,7 @@ pub to_zero : (c : CacheState) (n : ℕ) (r q : Registers) (o : Option Opened) �
 to_zero c n r q None w = w
 to_zero c n r q (Some o) w = w.0
 
-pub mark_written : (m : Mark) (b : Bool) → b ≡ (is_written m || false) → b ≡ true → m ≡ Written
+pub mark_written : (m : Mark) (b : Bool) → b ≡ (is_written_by m || false) → b ≡ true → m ≡ Written
 mark_written Written b e t = refl
 mark_written Saved b e t = absurd cc
 mark_written Lost b e t = absurd cc

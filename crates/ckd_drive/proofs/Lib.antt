@@ -21,3 +21,4 @@ pub mod Replaces
 pub mod Taken
 pub mod Unlooked
 pub mod Starts
+pub mod Calls

@@ -22,7 +22,8 @@ use Rattle.ckd_drive.specs.Commands.{IsAtTrack, sight, length_after}
 use Rattle.ckd_cache.specs.Cache.{CacheState, IsVolume, slot_held}
 use Rattle.ckd_drive.proofs.Numbers.{number_there}
 use Rattle.ckd_drive.specs.Work.{DriveState, fault_met, with_image, after_look}
-use Rattle.ckd_drive.specs.Half.{Stands, is_unfound, StaysAt, AtHand, ReadsWhole, IsFound, StageIs, Goes, IsPlaced, IsFirstPlace, LeftIs, Rests, CreditAtHand, remaining, state_of, seen_by, slot_at, number, is_written, is_filled, is_filled_by}
+use Rattle.ckd_drive.specs.Drive.{is_written_by}
+use Rattle.ckd_drive.specs.Half.{Stands, is_unfound, StaysAt, AtHand, ReadsWhole, IsFound, StageIs, Goes, IsPlaced, IsFirstPlace, LeftIs, Rests, CreditAtHand, remaining, state_of, seen_by, slot_at, number, is_filled, is_filled_by}
 use Rattle.ckd_drive.proofs.First.{first_placed, HandIfAimed}
 use Rattle.ckd_drive.proofs.Faults.{fault_none}
 
@@ -46,7 +47,7 @@ pub record HasNotLooked (c : CacheState) (r : Registers) (m : Mark) (p : Progres
   pub transfers : action_of p.opened.command ≡ action.NoTransfer → ⊥
   pub credit : CreditAtHand (aim p.opened.command) c (number c.image.geometry r)
   pub no_credit : r.credit ≡ None
-  pub marked : c.changed ≡ (is_written m || false)
+  pub marked : c.changed ≡ (is_written_by m || false)
   pub moved : p.moved ≡ 0
   pub left : p.left ≡ None
 
@@ -167,7 +168,7 @@ found_state c c' r m s p before passed began o place left now x is at now_is y f
 
 pub on_stands : (c c' : CacheState) (r r' : Registers) (m m' : Mark) (s : Stage) (p : Progress) (before passed : List ℕ) (began : Bool) (k : Kind)
     → Stands c r m s before passed began → s ≡ Working p → is_unfound p.place ≡ true → aim p.opened.command ≡ Next k
-    → IsVolume c' → IsAtTrack c'.image.geometry r' → (c'.changed ≡ true → c'.held ≡ Some (number c'.image.geometry r')) → c'.changed ≡ (is_written m' || false) → r'.credit ≡ r.credit
+    → IsVolume c' → IsAtTrack c'.image.geometry r' → (c'.changed ≡ true → c'.held ≡ Some (number c'.image.geometry r')) → c'.changed ≡ (is_written_by m' || false) → r'.credit ≡ r.credit
     → Stands c' r' m' s before passed began
 on_stands c c' r r' m m' s p before passed began k x is at next v arm anchored marked credit =
     let h = not_looked c r m s p before passed began x is at in
@@ -189,7 +190,7 @@ on_stands c c' r r' m m' s p before passed began k x is at next v arm anchored m
 
 pub missed_stands : (c c' : CacheState) (r r' : Registers) (m m' : Mark) (s : Stage) (p : Progress) (before passed : List ℕ) (began : Bool) (e : DriveEnding)
     → Stands c r m s before passed began → s ≡ Working p → is_unfound p.place ≡ true
-    → IsVolume c' → IsAtTrack c'.image.geometry r' → (c'.changed ≡ true → c'.held ≡ Some (number c'.image.geometry r')) → c'.changed ≡ (is_written m' || false) → r'.credit ≡ None
+    → IsVolume c' → IsAtTrack c'.image.geometry r' → (c'.changed ≡ true → c'.held ≡ Some (number c'.image.geometry r')) → c'.changed ≡ (is_written_by m' || false) → r'.credit ≡ None
     → Stands c' r' m' (Over e) before passed began
 missed_stands c c' r r' m m' s p before passed began e x is at v arm anchored marked credit =
     let h = not_looked c r m s p before passed began x is at in

@@ -1,5 +1,5 @@
 -- A command that starts.
-use Rattle.std.proofs.Common.{◌≡◌, ◌∙◌, ap, sym, refl, ℕ, List, [], Bool, true, Option, Some, None, unwrap_or, slice_index_or, arith}
+use Rattle.std.proofs.Common.{◌≡◌, ◌∙◌, ap, sym, refl, ℕ, List, [], Bool, true, Option, Some, None, unwrap_or, slice_index_or}
 use Rattle.ckd_drive.specs.declared.registers.Registers.{Registers}
 use Rattle.ckd_drive.specs.declared.registers.Mark.{Mark}
 use Rattle.ckd_drive.specs.declared.registers.Mark.TheVariants.{Saved, Written, Lost}
@@ -11,13 +11,13 @@ use Rattle.ckd_drive.specs.declared.places.Stage.TheVariants.{Idle, Over, Workin
 use Rattle.ckd_drive.specs.Commands.{beginning, moved_to}
 use Rattle.ckd_drive.specs.Drive.{Begun, Rejected, Immediate, Started, SaveFails, begin}
 use Rattle.ckd_cache.specs.Cache.{CacheState, after_save, after_failed_save}
-use Rattle.ckd_drive.specs.Work.{DriveState, MakesAtMost, fault_met, with_image, after_begun, after_begin, answer_of_begin, is_idle}
+use Rattle.ckd_drive.specs.Work.{DriveState, SavesAtMost, fault_met, with_image, after_begun, after_begin, answer_of_begin, is_idle}
 use Rattle.ckd_drive.specs.Half.{Stands, BeginsWell, number, state_of, work_of}
 use Rattle.ckd_drive.specs.Stages.{Begins, Leaves, Loses, drive_at, unlooked, begun_at}
-use Rattle.ckd_drive.proofs.Ends.{calls_of_save}
+use Rattle.ckd_drive.proofs.Calls.{calls_of_save, calls_of_failed_save}
 use Rattle.ckd_drive.proofs.Faults.{fault_none, fault_saving, failed_left, mark_written, lost_registers, to_zero}
 use Rattle.ckd_drive.proofs.Numbers.{number_there}
-use Rattle.ckd_drive.proofs.Standing.{at_zero, failures_saved, geometry_saved, idle_stage, lost_stands, saved_stands}
+use Rattle.ckd_drive.proofs.Standing.{at_zero, failures_saved, geometry_saved, idle_stage, no_credit, lost_stands, saved_stands}
 use Rattle.ckd_drive.proofs.Torn.{torn_whole}
 
 -- The arm can't go to cylinder 0, since the track can't be saved.
@@ -38,7 +38,7 @@ lost_begins c c' r r' q m m' o b x well is l = rw (is, l.cache, l.registers, l.m
     record {
       stands = lost_stands c (after_failed_save c left) r (lost_registers q) m Idle Idle [] [] before [] left true x refl l.size refl k.cylinder k.head tt;
       state = rw (f, written, held, k.cylinder, k.head, whole) refl;
-      calls = record { loads = omega arith; saves = omega arith; failures = omega arith; loads_stay = omega arith; saves_stay = omega arith; failures_stay = omega arith; header = refl; geometry = refl };
+      calls = calls_of_failed_save c r m Idle [] [] left true old new x refl refl l.changed refl;
     }))
 
 -- The arm goes there, and the command works.
@@ -53,7 +53,21 @@ zero_begins c c' r r' q m m' o b s x well is l e = rw (is, l.cache, l.registers,
       stands = saved_stands c (after_save c) r (moved_to q 0 0) m Idle (unlooked o) [] [] before [] true x refl refl (at_zero c q x.volume)
           (record { moved = refl; left = tt; placed = (refl, w.1, rw w.2 tt); no_credit = w.0.credit });
       state = rw (none, geometry_saved c) refl;
-      calls = calls_of_save old new c c.changed c.slots refl refl;
+      calls = calls_of_save c r m Idle [] [] true old new x refl refl refl;
+    }))
+
+-- The arm goes there, and the command is over.
+pub zero_ends : (c c' : CacheState) (r r' q : Registers) (m m' : Mark) (b : Beginning)
+    → Stands c r m Idle [] [] true → BeginsWell c (number c.image.geometry r) r b → b ≡ ToCylinderZero q None → Leaves c c' r' m' (moved_to q 0 0) → Begins c c' r r' m m' b (Over (record { unit = record { 0 = 8 }; motion = true }))
+zero_ends c c' r r' q m m' b x well is l = rw (is, l.cache, l.registers, l.mark) (λ before. (
+    let w = rw is at well in
+    let old = drive_at c r m Idle [] in
+    let new = drive_at (after_save c) (moved_to q 0 0) Saved (Over (record { unit = record { 0 = 8 }; motion = true })) before in
+    let none : fault_met old new ≡ None = fault_none old new (failures_saved c) in
+    record {
+      stands = saved_stands c (after_save c) r (moved_to q 0 0) m Idle (Over (record { unit = record { 0 = 8 }; motion = true })) [] [] before [] true x refl refl (at_zero c q x.volume) (no_credit (after_save c) (moved_to q 0 0) (number (after_save c).image.geometry (moved_to q 0 0)) w.credit);
+      state = rw (none, geometry_saved c) refl;
+      calls = calls_of_save c r m Idle [] [] true old new x refl refl refl;
     }))
 
 -- The drive that was called, as it is within the call.
@@ -78,13 +92,14 @@ pub record HasBegun (c : CacheState) (r : Registers) (m : Mark) (s : Stage) (bef
   pub stands : Stands c r m s before passed true
   pub state : state_of c r m s before passed true ≡ with_image (after_begin (fault_met now (state_of c r m s before passed true)) code now) c.image
   pub answer : begun_at s ≡ answer_of_begin (begin (fault_met now (state_of c r m s before passed true)) code now.state)
-  pub calls : MakesAtMost now (state_of c r m s before passed true)
+  pub calls : SavesAtMost now (state_of c r m s before passed true)
 
 begun_at_rest : (c c' : CacheState) (r r' : Registers) (m m' : Mark) (s' : Stage) (before : List ℕ) (began : Bool) (code : ℕ)
     → Begins c c' r r' m m' (beginning code r) s' → HasBegun c' r' m' s' before [] (record (drive_at c r m Idle []) { began = began }) code
 begun_at_rest c c' r r' m m' s' before began code l =
     let x = l before in
     let k = x.calls in
+    let at_most = k.at_most in
     let old = drive_at c r m Idle [] in
     let new = drive_at c' r' m' s' before in
     let b : Begun = begin (fault_met old new) code old.state in
@@ -93,7 +108,11 @@ begun_at_rest c c' r r' m m' s' before began code l =
       stands = x.stands;
       state = state;
       answer = begun_work b (record old { began = began }) s' [] refl (ap (λ (d : DriveState). d.work) state);
-      calls = record { loads = k.loads; saves = k.saves; failures = k.failures; loads_stay = k.loads_stay; saves_stay = k.saves_stay; failures_stay = k.failures_stay; header = k.header; geometry = k.geometry };
+      calls = record {
+        at_most = record { loads = at_most.loads; saves = at_most.saves; failures = at_most.failures; loads_stay = at_most.loads_stay; saves_stay = at_most.saves_stay; failures_stay = at_most.failures_stay; header = at_most.header; geometry = at_most.geometry; unwritten = at_most.unwritten };
+        loads = k.loads;
+        unwritten = k.unwritten;
+      };
     }
 
 pub has_begun : (c c' : CacheState) (r r' : Registers) (m m' : Mark) (s s' : Stage) (before passed passed' : List ℕ) (began : Bool) (now : DriveState) (code : ℕ) (b : Beginning)

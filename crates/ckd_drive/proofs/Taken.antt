@@ -11,7 +11,8 @@ use Rattle.ckd_drive.specs.Tables.{action_of, is_giving}
 use Rattle.ckd_cache.specs.Cache.{CacheState}
 use Rattle.ckd_drive.specs.Work as work
 use Rattle.ckd_drive.specs.Work.{DriveState, takes_now, left_of, moved_on}
-use Rattle.ckd_drive.specs.Half.{Stands, Works, MayTake, Absorbs, next_progress, state_of, is_filled_by, is_written, Rests}
+use Rattle.ckd_drive.specs.Drive.{is_written_by}
+use Rattle.ckd_drive.specs.Half.{Stands, Works, MayTake, Absorbs, next_progress, state_of, is_filled_by, Rests}
 use Rattle.ckd_drive.proofs.Looks.{goes_of, began_by}
 
 takes_left : (o : Opened) (passed : List ℕ) (left : Option ℕ) → takes_now (work.Working o passed left) ≡ true → (l : ℕ) × (left ≡ Some l) × (is_giving (action_of o.command) ≡ false)
@@ -41,9 +42,9 @@ marked_by false false f' k = refl
 pub taken_stands : (c c' : CacheState) (r : Registers) (m : Mark) (s : Stage) (p : Progress) (before before' passed more : List ℕ) (began : Bool) (place : Place) (k : ℕ)
     → Stands c r m s before passed began → s ≡ Working p → k ≡ length more → Absorbs c c' r before before' passed p more place → Stands c' r m (Working (next_progress p k place)) before' (passed ++ more) began
 taken_stands c c' r m s p before before' passed more began place k x is n a =
-    let marked : c.changed ≡ (is_written m || is_filled_by p.place) = rw is at x.marked in
+    let marked : c.changed ≡ (is_written_by m || is_filled_by p.place) = rw is at x.marked in
     let w = a.works in
-    let now : c'.changed ≡ (is_written m || is_filled_by place) = a.changed ∙ rw marked (marked_by (is_written m) (is_filled_by p.place) (is_filled_by place) a.still) in
+    let now : c'.changed ≡ (is_written_by m || is_filled_by place) = a.changed ∙ rw marked (marked_by (is_written_by m) (is_filled_by p.place) (is_filled_by place) a.still) in
     record {
       volume = w.volume;
       arm = w.arm;

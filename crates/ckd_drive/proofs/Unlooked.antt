@@ -1,8 +1,10 @@
 -- A command that has not looked yet, and one look of it.
-use Rattle.std.proofs.Common.{◌≡◌, ◌∙◌, ap, sym, subst, refl, ℕ, ◌-◌, List, [], Bool, true, false, Option, Some, None, unwrap_or, length, slice_index_or, arith}
+use Rattle.std.proofs.Common.{◌≡◌, ◌∙◌, ap, sym, subst, refl, ℕ, ◌-◌, ◌==◌, List, [], Bool, true, false, Option, Some, None, unwrap_or, length, slice_index_or, arith}
+use Rattle.std.proofs.lemmas.Bool.Decides.{nat_tests}
 use Rattle.ckd_track.specs.Track.{track_of}
 use Rattle.ckd_image.specs.Image.{ImageState}
 use Rattle.ckd_position.specs.declared.areas.Kind.{Kind}
+use Rattle.ckd_sense.specs.declared.sense_bytes.TheConstants.Sense.{STORE_FAULT}
 use Rattle.ckd_drive.specs.declared.registers.Registers.{Registers}
 use Rattle.ckd_drive.specs.declared.registers.Mark.{Mark}
 use Rattle.ckd_drive.specs.declared.registers.Mark.TheVariants.{Saved}
@@ -16,19 +18,19 @@ use Rattle.ckd_drive.specs.declared.places.Progress.{Progress}
 use Rattle.ckd_drive.specs.declared.places.Stage.{Stage}
 use Rattle.ckd_drive.specs.declared.places.Stage.TheVariants.{Idle, Over, Working}
 use Rattle.ckd_drive.specs.Tables.{action_of, aim}
-use Rattle.ckd_drive.specs.Commands.{sight}
-use Rattle.ckd_drive.specs.Drive.{Look, Ready, Passed, Failed, length_of}
-use Rattle.ckd_cache.specs.Cache.{CacheState, holds, loaded, after_hold, after_save, after_failed_save}
+use Rattle.ckd_drive.specs.Commands.{sight, with_cause}
+use Rattle.ckd_drive.specs.Drive.{Look, Ready, Passed, Failed, LoadFails, length_of}
+use Rattle.ckd_cache.specs.Cache.{CacheState, holds, loaded, after_hold, after_failed_hold, after_save, after_failed_save}
 use Rattle.ckd_drive.specs.Work.{DriveState, MakesAtMost, fault_met, with_image, after_sight, after_look, look_of, answer_of_look, passed_of}
 use Rattle.ckd_drive.specs.Half.{Stands, SightKeeps, IsFirstPlace, is_unfound, number, remaining, slot_at, state_of, work_of}
 use Rattle.ckd_drive.specs.Stages.{Looks, Leaves, Loses, drive_at, unlooked, looked_at}
-use Rattle.ckd_drive.proofs.Ends.{calls_of_save}
-use Rattle.ckd_drive.proofs.Faults.{fault_none, lost_registers}
+use Rattle.ckd_drive.proofs.Calls.{calls_none, calls_of_save, calls_of_failed_save, calls_of_failed_hold}
+use Rattle.ckd_drive.proofs.Faults.{fault_none, fault_loading, lost_registers}
 use Rattle.ckd_drive.proofs.First.{HandIfAimed}
 use Rattle.ckd_drive.proofs.LostLooks.{lost_at_hand}
 use Rattle.ckd_drive.proofs.Looks.{not_looked, unfound_is, sees_same, found_stands, found_state, on_stands, missed_stands, stays_arm, stays_held, again_state, again_stands}
 use Rattle.ckd_drive.proofs.Sights.{sight_keeps}
-use Rattle.ckd_drive.proofs.Standing.{volume_saved, geometry_saved, failures_saved, lost_stands}
+use Rattle.ckd_drive.proofs.Standing.{volume_saved, volume_not_held, geometry_saved, failures_saved, lost_stands}
 
 abbrev not_moved : Opened → Progress
 not_moved o = record { opened = o; moved = 0; left = None; place = Unfound }
@@ -44,9 +46,6 @@ unlooked_stands c r m o before x = record {
   rests = tt;
 }
 
-calls_none : (old new : DriveState) → new.image ≡ old.image → MakesAtMost old new
-calls_none old new e = rw e (record { loads = omega arith; saves = omega arith; failures = omega arith; loads_stay = omega arith; saves_stay = omega arith; failures_stay = omega arith; header = refl; geometry = refl })
-
 -- It finds its area.
 pub found_looks : (c : CacheState) (r : Registers) (m : Mark) (o o' : Opened) (place : Place) (s : Stage)
     → Stands c r m (unlooked o) [] [] true → IsFirstPlace (slot_at c.slots (number c.image.geometry r)) o' r place → HandIfAimed c (number c.image.geometry r) o'
@@ -58,7 +57,7 @@ found_looks c r m o o' place s x f h again first is = rw is (λ before. (
     record {
       stands = found_stands c c r m (unlooked o) (not_moved o) before [] true o' place (remaining (action_of o'.command) place 0) y refl refl sees f h again refl;
       state = found_state c c r m (unlooked o) (not_moved o) before [] true o' place (remaining (action_of o'.command) place 0) (drive_at c r m (unlooked o) before) y refl refl refl sees f h again first refl;
-      calls = calls_none _ _ refl;
+      calls = (calls_none _ _ refl).at_most;
     }))
 
 -- The index passes.
@@ -76,7 +75,7 @@ passed_looks c r q m o k s x aimed held sighted is = rw is (λ before. (
     record {
       stands = on_stands c c r q m m (unlooked o) (not_moved o) before [] true k y refl refl aimed x.volume (stays_arm g g r q refl keeps x.arm) (stays_held c c r q sees keeps held) x.marked keeps.credit;
       state = rw (none, sighted) refl;
-      calls = calls_none _ _ refl;
+      calls = (calls_none _ _ refl).at_most;
     }))
 
 -- It finds none.
@@ -94,7 +93,7 @@ missed_looks c r q m o x held sighted = λ before. (
     record {
       stands = missed_stands c c r q m m (unlooked o) (not_moved o) before [] true _ y refl refl x.volume (stays_arm g g r q refl keeps x.arm) (stays_held c c r q sees keeps held) x.marked (keeps.credit ∙ x.work.no_credit);
       state = rw (none, sighted) refl;
-      calls = calls_none _ _ refl;
+      calls = (calls_none _ _ refl).at_most;
     })
 
 -- It goes on at the next head.
@@ -111,7 +110,7 @@ next_looks c c' r r' q m m' o k s x aimed sighted l is = rw (is, l.cache, l.regi
     record {
       stands = on_stands c (after_save c) r q m Saved (unlooked o) (not_moved o) before [] true k y refl refl aimed (volume_saved c x.volume) (rw (geometry_saved c) keeps.0) (λ e. absurd cc) refl keeps.1;
       state = rw (none, sighted, geometry_saved c) refl;
-      calls = calls_of_save (drive_at c r m (unlooked o) []) new c c.changed c.slots refl refl;
+      calls = (calls_of_save c r m (unlooked o) [] [] true (drive_at c r m (unlooked o) []) new x refl refl refl).at_most;
     }))
 
 -- The track can't be saved that it goes on from.
@@ -125,7 +124,26 @@ lost_looks c c' r r' q m m' o x sighted l = rw (l.cache, l.registers, l.mark) (�
     record {
       stands = lost_stands c (after_failed_save c l.left) r (lost_registers r) m (unlooked o) _ before [] before [] l.left true y refl l.size refl refl refl tt;
       state = lost_at_hand c r q m (unlooked o) (not_moved o) before [] l.left true (drive_at c r m (unlooked o) before) y refl refl refl sighted l.changed there l.size;
-      calls = record { loads = omega arith; saves = omega arith; failures = omega arith; loads_stay = omega arith; saves_stay = omega arith; failures_stay = omega arith; header = refl; geometry = refl };
+      calls = (calls_of_failed_save c r m (unlooked o) [] [] l.left true (drive_at c r m (unlooked o) []) _ x refl refl l.changed refl).at_most;
+    }))
+
+-- Its track can't be loaded.
+no_other : (c : CacheState) (n : ℕ) → c.held ≡ Some n → holds c.held n ≡ false → ⊥
+no_other c n e not = (let same : (n == n) ≡ true = grind (arith, nat_tests) in let other : (n == n) ≡ false = rw e at not in cc)
+
+pub unloaded_looks : (c c' : CacheState) (r r' : Registers) (m : Mark) (o : Opened) (k : Kind)
+    → Stands c r m (unlooked o) [] [] true → aim o.command ≡ Next k
+    → holds c.held (number c.image.geometry r) ≡ false → c' ≡ after_failed_hold c → r' ≡ with_cause r STORE_FAULT → Looks c c' r r' m m o (Over (record { unit = record { 0 = 14 }; motion = false }))
+unloaded_looks c c' r r' m o k x aimed not e f = rw (e, f) (λ before. (
+    let n : ℕ = number c.image.geometry r in
+    let y = unlooked_stands c r m o before x in
+    let old = drive_at c r m (unlooked o) [] in
+    let new = drive_at (after_failed_hold c) (with_cause r STORE_FAULT) m (Over (record { unit = record { 0 = 14 }; motion = false })) before in
+    let met : fault_met old new ≡ Some LoadFails = fault_loading old new refl refl in
+    record {
+      stands = missed_stands c (after_failed_hold c) r (with_cause r STORE_FAULT) m m (unlooked o) (not_moved o) before [] true _ y refl refl (volume_not_held c x.volume) (record { cylinder = x.arm.cylinder; head = x.arm.head }) (λ t. absurd (no_other c n (x.anchored t) not)) x.marked x.work.no_credit;
+      state = rw (met, aimed) refl;
+      calls = calls_of_failed_hold old new c refl refl;
     }))
 
 -- Its track was loaded first.
@@ -142,7 +160,7 @@ loaded_looks true c c' r r' m m' o s held e l = λ before. (
     record {
       stands = x.stands;
       state = x.state;
-      calls = record { loads = k.loads; saves = k.saves; failures = k.failures; loads_stay = k.loads_stay; saves_stay = k.saves_stay; failures_stay = k.failures_stay; header = k.header; geometry = k.geometry };
+      calls = record { loads = k.loads; saves = k.saves; failures = k.failures; loads_stay = k.loads_stay; saves_stay = k.saves_stay; failures_stay = k.failures_stay; header = k.header; geometry = k.geometry; unwritten = k.unwritten };
     })
 loaded_looks false c c' r r' m m' o s held e l = λ before. (
     let x = l before in
@@ -151,7 +169,7 @@ loaded_looks false c c' r r' m m' o s held e l = λ before. (
     record {
       stands = x.stands;
       state = x.state ∙ sighted_with (look_of (fault_met old (drive_at c' r' m' s before)) old old.work) [] old c'.image (loaded c.image false);
-      calls = record { loads = omega (arith, e); saves = k.saves; failures = k.failures; loads_stay = omega (arith, e); saves_stay = k.saves_stay; failures_stay = k.failures_stay; header = k.header; geometry = k.geometry };
+      calls = record { loads = omega (arith, e); saves = k.saves; failures = k.failures; loads_stay = omega (arith, e); saves_stay = k.saves_stay; failures_stay = k.failures_stay; header = k.header; geometry = k.geometry; unwritten = k.unwritten };
     })
 
 pub held_looks : (c d c' : CacheState) (r r' : Registers) (m m' : Mark) (o : Opened) (s : Stage)
@@ -213,4 +231,4 @@ has_looked_again c r m s s' p before passed began now x is not now_is e =
     let left : ℕ = remaining (action_of p.opened.command) p.place p.moved in
     let new = state_of c r m (Working (record p { left = Some left })) before passed began in
     rw e (looked_so c r m (Working (record p { left = Some left })) before passed began now (again_stands c r m s p before passed began left x is not refl) (again_state c r m s p before passed began left now x is not now_is refl)
-    (calls_none now new (ap (λ (d : DriveState). d.image) now_is)))
+    (calls_none now new (ap (λ (d : DriveState). d.image) now_is)).at_most)

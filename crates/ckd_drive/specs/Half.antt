@@ -40,6 +40,7 @@ use Rattle.ckd_cache.specs.Contents.{Sighted, is_readable, padded}
 use Rattle.ckd_drive.specs.Commands.{Closing, IsAtTrack, sight as sight_on, area_bytes, bytes_at, area_ends, end_of_area, search_ends, whole_field, seek_cylinder_and_head, seek_head, set_file_mask, fails, ends, at_end, ending_status, length_after, closing, outcome}
 use Rattle.ckd_cache.specs.Buffer.{Lies, HasBytes, IsPlaceOf, FitsSlot}
 use Rattle.ckd_cache.specs.Cache.{CacheState, IsVolume}
+use Rattle.ckd_drive.specs.Drive.{is_written_by}
 use Rattle.ckd_drive.specs.Work.{Work, Idle, Over, Working, DriveState}
 
 -- the order of an area's first bytes to those that were given
@@ -276,10 +277,6 @@ abbrev pub StageIs : CacheState → Registers → (before passed : List ℕ) →
 StageIs c r before passed (stage.Working p) = Goes c r before passed p
 StageIs c r before passed _ = CreditIs r.credit c (number c.image.geometry r)
 
-abbrev pub is_written : Mark → Bool
-is_written Written = true
-is_written _ = false
-
 abbrev pub is_unfound : Place → Bool
 is_unfound Unfound = true
 is_unfound _ = false
@@ -295,13 +292,13 @@ is_filled _ = false
 -- what has begun and what is settled
 abbrev pub Rests : (began : Bool) → Stage → Mark → Type 0
 Rests true s m = Unit {0}
-Rests false s m = (s ≡ stage.Idle) × (is_written m ≡ false)
+Rests false s m = (s ≡ stage.Idle) × (is_written_by m ≡ false)
 
 pub record Stands (c : CacheState) (r : Registers) (m : Mark) (s : Stage) (before passed : List ℕ) (began : Bool) : Type 0 where
   pub volume : IsVolume c
   pub arm : IsAtTrack c.image.geometry r
   pub anchored : c.changed ≡ true → c.held ≡ Some (number c.image.geometry r)
-  pub marked : c.changed ≡ (is_written m || is_filled s)
+  pub marked : c.changed ≡ (is_written_by m || is_filled s)
   pub work : StageIs c r before passed s
   pub rests : Rests began s m
 

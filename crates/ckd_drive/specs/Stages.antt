@@ -17,7 +17,7 @@ use Rattle.ckd_drive.specs.Commands.{with_cause}
 use Rattle.ckd_drive.specs.Drive.{Fault}
 use Rattle.ckd_drive.specs.Drive as drive
 use Rattle.ckd_cache.specs.Cache.{CacheState, after_save, after_failed_save}
-use Rattle.ckd_drive.specs.Work.{DriveState, MakesAtMost, fault_met, with_image, after_begun, after_look}
+use Rattle.ckd_drive.specs.Work.{DriveState, MakesAtMost, SavesAtMost, fault_met, with_image, after_begun, after_look}
 use Rattle.ckd_drive.specs.Half.{Stands, state_of}
 
 -- a command that has not looked yet
@@ -62,15 +62,15 @@ drive_at c r m s before = state_of c r m s before [] true
 
 -- A part of a call came to this: it stands, it is as the definitions have it by the fault that was met, and the store was
 -- called at most so often.
-pub record Comes (old : DriveState) (after : Option Fault → DriveState) (c : CacheState) (r : Registers) (m : Mark) (s : Stage) (before : List ℕ) : Type 0 where
+pub record Comes (Calls : DriveState → DriveState → Type 0) (old : DriveState) (after : Option Fault → DriveState) (c : CacheState) (r : Registers) (m : Mark) (s : Stage) (before : List ℕ) : Type 0 where
   pub stands : Stands c r m s before [] true
   pub state : drive_at c r m s before ≡ with_image (after (fault_met old (drive_at c r m s before))) c.image
-  pub calls : MakesAtMost old (drive_at c r m s before)
+  pub calls : Calls old (drive_at c r m s before)
 
 -- an idle drive begins a command that its code leads to so
 abbrev pub Begins : (c c' : CacheState) → (r r' : Registers) → (m m' : Mark) → Beginning → Stage → Type 0
-Begins c c' r r' m m' b s = (before : List ℕ) → Comes (drive_at c r m Idle []) (λ f. after_begun (drive.begun f (drive_at c r m Idle []).state b) (drive_at c r m Idle [])) c' r' m' s before
+Begins c c' r r' m m' b s = (before : List ℕ) → Comes SavesAtMost (drive_at c r m Idle []) (λ f. after_begun (drive.begun f (drive_at c r m Idle []).state b) (drive_at c r m Idle [])) c' r' m' s before
 
 -- a command that has not looked yet looks
 abbrev pub Looks : (c c' : CacheState) → (r r' : Registers) → (m m' : Mark) → Opened → Stage → Type 0
-Looks c c' r r' m m' o s = (before : List ℕ) → Comes (drive_at c r m (unlooked o) []) (λ f. after_look f (drive_at c r m (unlooked o) [])) c' r' m' s before
+Looks c c' r r' m m' o s = (before : List ℕ) → Comes MakesAtMost (drive_at c r m (unlooked o) []) (λ f. after_look f (drive_at c r m (unlooked o) [])) c' r' m' s before

@@ -18,7 +18,7 @@ use Rattle.ckd_drive.specs.declared.registers.Registers.{Registers}
 use Rattle.ckd_drive.specs.declared.registers.Lap.TheVariants.{First}
 use Rattle.ckd_drive.specs.Tables.{action_of, is_giving}
 use Rattle.ckd_drive.specs.Commands.{ending_status, in_motion_status, unit_check_status}
-use Rattle.ckd_drive.specs.Drive.{Volume, Drive, State, with_registers, Fault, LoadFails, SaveFails, Open, Begun, Look, Closed, begin, look, given, length_of, close, saving, left_by, begin_program, drive_of, number_under}
+use Rattle.ckd_drive.specs.Drive.{Volume, Drive, State, with_registers, Fault, LoadFails, SaveFails, Open, Begun, Look, Closed, begin, look, given, length_of, close, saving, left_by, begin_program, drive_of, number_under, is_written}
 use Rattle.ckd_drive.specs.Drive as drive
 
 -- What is being done: nothing; a command that is over and waits for its end, with its unit status and whether the arm
@@ -56,6 +56,13 @@ pub record MakesAtMost (old new : DriveState) : Type 0 where
   pub failures_stay : old.image.failures ≤ new.image.failures
   pub header : new.image.header ≡ old.image.header
   pub geometry : new.image.geometry ≡ old.image.geometry
+  pub unwritten : is_written old.state ≡ false → new.image.saves ≡ old.image.saves
+
+-- what a call that looks at no track makes of the store, at most: one saving; nothing where no track is written
+pub record SavesAtMost (old new : DriveState) : Type 0 where
+  pub at_most : MakesAtMost old new
+  pub loads : new.image.loads ≡ old.image.loads
+  pub unwritten : is_written old.state ≡ false → new.image ≡ old.image
 
 -- Begin.
 

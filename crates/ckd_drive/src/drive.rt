@@ -6,16 +6,16 @@ ghost use Rattle.ckd_image.specs.Store.{Counts};
 ghost use Rattle.ckd_drive.specs.Half.{next_progress, NextLeft};
 ghost use Rattle.ckd_drive.specs.declared.places.Stage.TheVariants.{Working};
 ghost use Rattle.ckd_drive.specs.Drive.{unsaved as unsaved_track, begin as begin_of};
-ghost use Rattle.ckd_drive.specs.Work.{DriveState, fault_met, MakesAtMost, after_begin, after_look, look_of, moved_on, left_of, gives_now, takes_now, given_now, passed_of, closed_of, after_end, ending_of, is_idle, is_working, may_end, after_settle, begun_program, answer_of_begin, answer_of_look, with_image, new_drive, without_sense, phase_of, Allows};
+ghost use Rattle.ckd_drive.specs.Work.{DriveState, fault_met, MakesAtMost, SavesAtMost, after_begin, after_look, look_of, moved_on, left_of, gives_now, takes_now, given_now, passed_of, closed_of, after_end, ending_of, is_idle, is_working, may_end, after_settle, begun_program, answer_of_begin, answer_of_look, with_image, new_drive, without_sense, phase_of, Allows};
 
 use crate::answers::{Begun, Look, Phase};
-use ckd_cache::TrackCache;
 use crate::places::{Place, Progress, Stage};
 use crate::registers::{Mark, Registers};
 use crate::stages::{ENDED, UNIT_CHECK};
 use crate::steps::DriveEnding;
 use crate::trace::Trace;
 use crate::{beginning, leaving, looking, placing, stages, starting, tables, taking};
+use ckd_cache::TrackCache;
 use ckd_image::image::Image;
 use ckd_image::store::{ImageStore, StoreFault};
 use ckd_sense::Sense;
@@ -99,7 +99,7 @@ impl<S: ImageStore> Drive<S> {
         requires { is_idle self.old.work ≡ true }
         ensures state { self.new ≡ with_image (after_begin (fault_met self.old self.new) code self.old) self.new.image }
         ensures answer { result ≡ answer_of_begin (begin_of (fault_met self.old self.new) code self.old.state) }
-        ensures calls { MakesAtMost self.old self.new }
+        ensures calls { SavesAtMost self.old self.new }
     {
         self.began = true;
         self.passed = Trace::new();
@@ -183,7 +183,7 @@ impl<S: ImageStore> Drive<S> {
         requires { may_end self.old.work ≡ true }
         ensures state { self.new ≡ with_image (after_end (fault_met self.old self.new) self.old) self.new.image }
         ensures ending { result ≡ ending_of (closed_of (fault_met self.old self.new) self.old self.old.work) }
-        ensures calls { MakesAtMost self.old self.new }
+        ensures calls { SavesAtMost self.old self.new }
     {
         let p = match self.stage {
             Stage::Idle => return ENDED,
@@ -219,7 +219,7 @@ impl<S: ImageStore> Drive<S> {
         ensures state { self.new ≡ with_image (after_settle (fault_met self.old self.new) self.old) self.new.image }
         ensures saved { self.new.image.slots ≡ self.new.state.volume.slots }
         ensures counted { Counts self.old.image.failures self.new.image.failures result }
-        ensures calls { MakesAtMost self.old self.new }
+        ensures calls { SavesAtMost self.old self.new }
     {
         self.stage = Stage::Idle;
         self.began = false;

@@ -6,8 +6,8 @@ ghost use Rattle.ckd_drive.specs.Commands.{with_cause as joined_with_cause};
 ghost use Rattle.ckd_drive.specs.Stages.{Leaves, Loses};
 
 use crate::beginning;
-use ckd_cache::TrackCache;
 use crate::registers::{Mark, Registers};
+use ckd_cache::TrackCache;
 use ckd_image::store::{ImageStore, StoreFault};
 use ckd_sense::Sense;
 

@@ -6,13 +6,13 @@ ghost use Rattle.ckd_drive.specs.Tables.{aim as aim_of};
 ghost use Rattle.ckd_drive.specs.Half.{Stands, number};
 ghost use Rattle.ckd_drive.specs.Stages.{Looks, unlooked as not_looked};
 
-use ckd_cache::TrackCache;
 use crate::leaving::{leave, with_store_fault};
 use crate::places::Stage;
 use crate::registers::{Mark, Registers};
 use crate::stages::{UNIT_CHECK, ready, unlooked};
 use crate::steps::{Aim, Opened, Sight};
 use crate::{placing, tables};
+use ckd_cache::TrackCache;
 use ckd_image::store::ImageStore;
 use ckd_position::Kind;
 

@@ -6,12 +6,12 @@ ghost use Rattle.ckd_drive.specs.Half.{Stands, BeginsWell, number};
 ghost use Rattle.ckd_drive.specs.Stages.{Begins};
 
 use crate::beginning::moved_to;
-use ckd_cache::TrackCache;
 use crate::leaving::leave;
 use crate::places::Stage;
 use crate::registers::{Mark, Registers};
 use crate::stages::{ENDED, IN_MOTION, unlooked};
 use crate::steps::Beginning;
+use ckd_cache::TrackCache;
 use ckd_image::store::ImageStore;
 
 /// An idle drive starts the command that its code leads to, and this is the stage that it comes to.

@@ -1,8 +1,8 @@
-use Rattle.std.proofs.Common.{◌≡◌, ◌∙◌, sym, ℕ}
-use Rattle.ckd_cache.specs.Cache.{after_hold}
+use Rattle.std.proofs.Common.{◌≡◌, ◌∙◌, sym, ℕ, false}
+use Rattle.ckd_cache.specs.Cache.{holds, after_hold, after_failed_hold}
 use Rattle.ckd_drive.specs.Half.{number}
-use Rattle.ckd_drive.proofs.Standing.{on_ok}
-use Rattle.ckd_drive.proofs.Unlooked.{held_looks}
+use Rattle.ckd_drive.proofs.Standing.{on_ok, on_err}
+use Rattle.ckd_drive.proofs.Unlooked.{held_looks, unloaded_looks}
 use Rattle.ckd_drive.proofs.looking.look_for_next.Goals as goal
 
 pub returns : goal.returns
@@ -15,3 +15,14 @@ returns g c =
     let held : e ≡ after_hold d n = rw track at (on_ok c.hold.result (e ≡ after_hold d c.track_at-track.result) (sym c.is_err.ensures.value ∙ c.if-is_err.false) c.hold.ensures.ok) in
     let h = c.look_at_hand in
     held_looks d e h.new.cache r h.new.registers c.args.mark.now h.new.mark c.args.opened h.result held h.ensures.loads h.ensures.stage
+
+pub returns-then-is_err : goal.returns-then-is_err
+returns-then-is_err g c =
+    let d = c.args.cache.now in
+    let r = c.args.registers.now in
+    let e = c.hold.new.self in
+    let n : ℕ = number d.image.geometry r in
+    let track : c.track_at-track.result ≡ n = rw c.geometry.ensures.geometry at c.track_at-track.ensures.number in
+    let failed = sym c.is_err.ensures.value ∙ c.if-is_err.true in
+    let other : holds d.held n ≡ false = rw track at (on_err c.hold.result (holds d.held c.track_at-track.result ≡ false) failed c.hold.ensures.fails) in
+    unloaded_looks d e r c.with_store_fault.result c.args.mark.now c.args.opened c.args.kind c.requires.stands c.requires.aim other (on_err c.hold.result (e ≡ after_failed_hold d) failed c.hold.ensures.err) c.with_store_fault.ensures

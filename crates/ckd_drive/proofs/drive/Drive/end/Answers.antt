@@ -1,10 +1,11 @@
 use Rattle.std.proofs.Common.{◌∙◌, ap, sym}
 use Rattle.ckd_cache.specs.Cache.{CacheState}
 use Rattle.ckd_drive.specs.Stages.{Leaves, Loses}
-use Rattle.ckd_drive.specs.Work.{DriveState, ending_of}
+use Rattle.ckd_drive.specs.Work.{ending_of}
 use Rattle.ckd_drive.specs.Drive.{Closed}
 use Rattle.ckd_drive.proofs.Standing.{on_ok, on_err, not_true, not_false}
-use Rattle.ckd_drive.proofs.Ends.{stays_state, stays_stands, moves_state, moves_stands, lost_state, calls_of_save}
+use Rattle.ckd_drive.proofs.Calls.{calls_of_save, calls_of_failed_save}
+use Rattle.ckd_drive.proofs.Ends.{stays_state, stays_stands, moves_state, moves_stands, moves_unfilled, lost_state}
 use Rattle.ckd_drive.proofs.drive.Drive.end.Goals as goal
 
 pub invariant_of-self-then-not-outcome : goal.invariant_of-self-then-not-outcome
@@ -69,4 +70,14 @@ pub returns-clause-calls : goal.returns-clause-calls
 returns-clause-calls g c =
     let i = c.self.inside in
     let l : Leaves i.cache c.leave.new.cache c.leave.new.registers c.leave.new.mark c.close-outcome.result.registers = on_ok c.leave.result _ (sym c.is_err.ensures.value ∙ c.if-is_err.false) c.leave.ensures.leaves in
-    calls_of_save c.args.self.now _ i.cache i.cache.changed i.cache.slots (sym (ap (λ (d : DriveState). d.image) c.self.view_is)) (ap (λ (d : CacheState). d.image) l.cache)
+    let f = moves_unfilled i.cache i.registers i.mark i.stage c.in-Working.p i.before.bytes i.passed.bytes i.began c.close-outcome.result c.self.invariant c.in-Working.is
+    (rw c.geometry.ensures.geometry at c.close-outcome.ensures) (not_false c.close-outcome.result.moves_off c.if-not-outcome.false) in
+    calls_of_save i.cache i.registers i.mark i.stage i.before.bytes i.passed.bytes i.began c.args.self.now _ c.self.invariant c.self.view_is f (ap (λ (d : CacheState). d.image) l.cache)
+
+pub returns-then-is_err-clause-calls : goal.returns-then-is_err-clause-calls
+returns-then-is_err-clause-calls g c =
+    let i = c.self.inside in
+    let l : Loses i.cache c.leave.new.cache i.registers c.leave.new.registers c.leave.new.mark = on_err c.leave.result _ (sym c.is_err.ensures.value ∙ c.if-is_err.true) c.leave.ensures.loses in
+    let f = moves_unfilled i.cache i.registers i.mark i.stage c.in-Working.p i.before.bytes i.passed.bytes i.began c.close-outcome.result c.self.invariant c.in-Working.is
+    (rw c.geometry.ensures.geometry at c.close-outcome.ensures) (not_false c.close-outcome.result.moves_off c.if-not-outcome.false) in
+    calls_of_failed_save i.cache i.registers i.mark i.stage i.before.bytes i.passed.bytes l.left i.began c.args.self.now _ c.self.invariant c.self.view_is f l.changed (ap (λ (d : CacheState). d.image) l.cache)
