@@ -45,7 +45,7 @@ const BY_ID: [bool; 4] = [false, true, true, true];
 const BY_KEY: [bool; 4] = [false, true, true, false];
 
 /// Commands, and which of the four writes may follow them.
-const ROWS: [(&[Step], [bool; 4]); 26] = [
+const ROWS: [(&[Step], [bool; 4]); 28] = [
     (&[], NONE),
     (&[FIND_HOME_ADDRESS], R0_ALONE),
     (
@@ -150,6 +150,25 @@ const ROWS: [(&[Step], [bool; 4]); 26] = [
     (&[FIND_HOME_ADDRESS, NEW_R0], RECORD_ALONE),
     (&[NEW_HOME_ADDRESS, NEW_R0], RECORD_ALONE),
     (&[FIND_R0, NEW_RECORD], RECORD_ALONE),
+    // a record that does not fit leaves none, nor does one whose count area was cut short
+    (
+        &[
+            FIND_R0,
+            Step::Takes(
+                WRITE_COUNT_KEY_AND_DATA,
+                &[0, 0, 0, 0, 1, 0, 0xFF, 0xFE],
+                UNIT_CHECK,
+            ),
+        ],
+        NONE,
+    ),
+    (
+        &[
+            FIND_R0,
+            Step::Takes(WRITE_COUNT_KEY_AND_DATA, &[0, 0, 0, 0, 1, 0, 0], UNIT_CHECK),
+        ],
+        NONE,
+    ),
     // a record that was updated leaves none
     (&[FIND_R0, NEW_DATA], NONE),
     // any command between takes the credit away
