@@ -30,65 +30,59 @@ fn found(part: Part, number: usize) -> Next {
 
 // Four tracks of a cylinder: head 0 has the keyless records 1, 2 and 3 of 80 bytes after R0, head 1 has record 1 without
 // data, head 2 has record 1 of 8 bytes, head 3 has record 1 of 16 bytes.
+const TRACKS: [&[&[u8]]; 4] = [
+    &[
+        &[0, 0, 0, 0, 0],
+        &[0, 0, 0, 0, 0, 0, 0, 8],
+        &[0; 8],
+        &[0, 0, 0, 0, 1, 0, 0, 0x50],
+        &[0xC1; 80],
+        &[0, 0, 0, 0, 2, 0, 0, 0x50],
+        &[0xC2; 80],
+        &[0, 0, 0, 0, 3, 0, 0, 0x50],
+        &[0xC3; 80],
+    ],
+    &[
+        &[0, 0, 0, 0, 1],
+        &[0, 0, 0, 1, 0, 0, 0, 8],
+        &[0; 8],
+        &[0, 0, 0, 1, 1, 0, 0, 0],
+    ],
+    &[
+        &[0, 0, 0, 0, 2],
+        &[0, 0, 0, 2, 0, 0, 0, 8],
+        &[0; 8],
+        &[0, 0, 0, 2, 1, 0, 0, 8],
+        &[4, 0, 6, 0, 0, 0, 0, 6],
+    ],
+    &[
+        &[0, 0, 0, 0, 3],
+        &[0, 0, 0, 3, 0, 0, 0, 8],
+        &[0; 8],
+        &[0, 0, 0, 3, 1, 0, 0, 0x10],
+        &[0, 0, 6, 0, 0, 0, 0, 8],
+        &[0xE1; 8],
+    ],
+];
+
+// The count areas behind that of record 0, for each of these tracks.
+const COUNTS: [&[[u8; 8]]; 4] = [
+    &[
+        [0, 0, 0, 0, 1, 0, 0, 0x50],
+        [0, 0, 0, 0, 2, 0, 0, 0x50],
+        [0, 0, 0, 0, 3, 0, 0, 0x50],
+    ],
+    &[[0, 0, 0, 1, 1, 0, 0, 0]],
+    &[[0, 0, 0, 2, 1, 0, 0, 8]],
+    &[[0, 0, 0, 3, 1, 0, 0, 0x10]],
+];
+
 #[test]
 fn seven_looks_for_the_next_count(rt: HostRuntime) -> Result<(), Fail> {
-    let alloc = rt.alloc();
-    let three = slot(
-        alloc,
-        &[
-            &[0, 0, 0, 0, 0],
-            &[0, 0, 0, 0, 0, 0, 0, 8],
-            &[0; 8],
-            &[0, 0, 0, 0, 1, 0, 0, 0x50],
-            &[0xC1; 80],
-            &[0, 0, 0, 0, 2, 0, 0, 0x50],
-            &[0xC2; 80],
-            &[0, 0, 0, 0, 3, 0, 0, 0x50],
-            &[0xC3; 80],
-        ],
-    )?;
-    counts_pass(
-        &rt,
-        &three,
-        &[
-            [0, 0, 0, 0, 1, 0, 0, 0x50],
-            [0, 0, 0, 0, 2, 0, 0, 0x50],
-            [0, 0, 0, 0, 3, 0, 0, 0x50],
-        ],
-    )?;
-    let empty = slot(
-        alloc,
-        &[
-            &[0, 0, 0, 0, 1],
-            &[0, 0, 0, 1, 0, 0, 0, 8],
-            &[0; 8],
-            &[0, 0, 0, 1, 1, 0, 0, 0],
-        ],
-    )?;
-    counts_pass(&rt, &empty, &[[0, 0, 0, 1, 1, 0, 0, 0]])?;
-    let eight = slot(
-        alloc,
-        &[
-            &[0, 0, 0, 0, 2],
-            &[0, 0, 0, 2, 0, 0, 0, 8],
-            &[0; 8],
-            &[0, 0, 0, 2, 1, 0, 0, 8],
-            &[4, 0, 6, 0, 0, 0, 0, 6],
-        ],
-    )?;
-    counts_pass(&rt, &eight, &[[0, 0, 0, 2, 1, 0, 0, 8]])?;
-    let sixteen = slot(
-        alloc,
-        &[
-            &[0, 0, 0, 0, 3],
-            &[0, 0, 0, 3, 0, 0, 0, 8],
-            &[0; 8],
-            &[0, 0, 0, 3, 1, 0, 0, 0x10],
-            &[0, 0, 6, 0, 0, 0, 0, 8],
-            &[0xE1; 8],
-        ],
-    )?;
-    counts_pass(&rt, &sixteen, &[[0, 0, 0, 3, 1, 0, 0, 0x10]])
+    for (pieces, counts) in TRACKS.iter().zip(COUNTS) {
+        counts_pass(&rt, &slot(rt.alloc(), pieces)?, counts)?;
+    }
+    Ok(())
 }
 
 // These are the counts behind that of record 0, until the index passes.
@@ -112,49 +106,67 @@ fn counts_pass(rt: &impl Abort, bytes: &[u8], counts: &[[u8; 8]]) -> Result<(), 
     Ok(())
 }
 
-// Record 0 has a key, record 1 a key and no data, record 2 data alone, record 3 both.
-#[test]
-fn each_kind_of_look(rt: HostRuntime) -> Result<(), Fail> {
-    let bytes = slot(
-        rt.alloc(),
-        &[
-            &[0, 0, 0, 0, 0],
-            &[0, 0, 0, 0, 0, 2, 0, 1],
-            &[0xD1, 0xD2, 0xD3],
-            &[0, 0, 0, 0, 1, 3, 0, 0],
-            &[0xC1, 0xC2, 0xC3],
-            &[0, 0, 0, 0, 2, 0, 0, 4],
-            &[0xC4; 4],
-            &[0, 0, 0, 0, 3, 1, 0, 2],
-            &[0xC5; 3],
-        ],
-    )?;
-    let view = read_slot(bytes.as_slice())?;
-    let after_home_address = Position::At(Area::HomeAddress);
-    let rows = [
+// A look for an area of this kind, from this position, and what comes next.
+type Row = (Kind, Position, Next);
+
+// Looks for home address and count areas.
+fn looks_for_counts() -> [Row; 19] {
+    [
         (
             Kind::HomeAddress,
             Position::AtIndex,
             Next::Found(Area::HomeAddress),
         ),
-        (Kind::HomeAddress, after_home_address, Next::IndexPassed),
+        (
+            Kind::HomeAddress,
+            Position::At(Area::HomeAddress),
+            Next::IndexPassed,
+        ),
         (Kind::HomeAddress, at(Part::Data, 3), Next::IndexPassed),
         (Kind::AnyCount, Position::AtIndex, found(Part::Count, 0)),
-        (Kind::AnyCount, after_home_address, found(Part::Count, 0)),
+        (
+            Kind::AnyCount,
+            Position::At(Area::HomeAddress),
+            found(Part::Count, 0),
+        ),
         (Kind::AnyCount, at(Part::Count, 0), found(Part::Count, 1)),
         (Kind::AnyCount, at(Part::Data, 2), found(Part::Count, 3)),
         (Kind::AnyCount, at(Part::Count, 3), Next::IndexPassed),
         (Kind::FirstCount, Position::AtIndex, found(Part::Count, 0)),
-        (Kind::FirstCount, after_home_address, found(Part::Count, 0)),
+        (
+            Kind::FirstCount,
+            Position::At(Area::HomeAddress),
+            found(Part::Count, 0),
+        ),
         (Kind::FirstCount, at(Part::Count, 0), Next::IndexPassed),
         (Kind::FirstCount, at(Part::Count, 2), Next::IndexPassed),
         (Kind::LaterCount, Position::AtIndex, found(Part::Count, 1)),
-        (Kind::LaterCount, after_home_address, found(Part::Count, 1)),
+        (
+            Kind::LaterCount,
+            Position::At(Area::HomeAddress),
+            found(Part::Count, 1),
+        ),
         (Kind::LaterCount, at(Part::Count, 0), found(Part::Count, 1)),
         (Kind::LaterCount, at(Part::Key, 1), found(Part::Count, 2)),
         (Kind::LaterCount, at(Part::Count, 3), Next::IndexPassed),
+        (Kind::AnyCount, at(Part::Count, 4), Next::IndexPassed),
+        (
+            Kind::LaterCount,
+            at(Part::Data, usize::MAX),
+            Next::IndexPassed,
+        ),
+    ]
+}
+
+// Looks for key areas.
+fn looks_for_keys() -> [Row; 10] {
+    [
         (Kind::Key, Position::AtIndex, found(Part::Key, 1)),
-        (Kind::Key, after_home_address, found(Part::Key, 1)),
+        (
+            Kind::Key,
+            Position::At(Area::HomeAddress),
+            found(Part::Key, 1),
+        ),
         (Kind::Key, at(Part::Count, 0), found(Part::Key, 0)),
         (Kind::Key, at(Part::Key, 0), found(Part::Key, 1)),
         (Kind::Key, at(Part::Data, 0), found(Part::Key, 1)),
@@ -162,8 +174,19 @@ fn each_kind_of_look(rt: HostRuntime) -> Result<(), Fail> {
         (Kind::Key, at(Part::Key, 1), found(Part::Key, 3)),
         (Kind::Key, at(Part::Count, 2), found(Part::Key, 3)),
         (Kind::Key, at(Part::Key, 3), Next::IndexPassed),
+        (Kind::Key, at(Part::Count, usize::MAX), Next::IndexPassed),
+    ]
+}
+
+// Looks for data areas.
+fn looks_for_data_areas() -> [Row; 22] {
+    [
         (Kind::Data, Position::AtIndex, found(Part::Data, 1)),
-        (Kind::Data, after_home_address, found(Part::Data, 1)),
+        (
+            Kind::Data,
+            Position::At(Area::HomeAddress),
+            found(Part::Data, 1),
+        ),
         (Kind::Data, at(Part::Count, 0), found(Part::Data, 0)),
         (Kind::Data, at(Part::Key, 0), found(Part::Data, 0)),
         (Kind::Data, at(Part::Data, 0), found(Part::Data, 1)),
@@ -183,16 +206,33 @@ fn each_kind_of_look(rt: HostRuntime) -> Result<(), Fail> {
         (Kind::FirstData, at(Part::Key, 1), found(Part::Data, 1)),
         (Kind::FirstData, at(Part::Data, 1), Next::IndexPassed),
         (Kind::FirstData, at(Part::Count, 2), Next::IndexPassed),
-        (Kind::AnyCount, at(Part::Count, 4), Next::IndexPassed),
-        (Kind::Key, at(Part::Count, usize::MAX), Next::IndexPassed),
         (Kind::Data, at(Part::Count, 4), Next::IndexPassed),
-        (
-            Kind::LaterCount,
-            at(Part::Data, usize::MAX),
-            Next::IndexPassed,
-        ),
-    ];
-    for (kind, position, wanted) in rows {
+    ]
+}
+
+// Record 0 has a key, record 1 a key and no data, record 2 data alone, record 3 both.
+const KEYED: [&[u8]; 9] = [
+    &[0, 0, 0, 0, 0],
+    &[0, 0, 0, 0, 0, 2, 0, 1],
+    &[0xD1, 0xD2, 0xD3],
+    &[0, 0, 0, 0, 1, 3, 0, 0],
+    &[0xC1, 0xC2, 0xC3],
+    &[0, 0, 0, 0, 2, 0, 0, 4],
+    &[0xC4; 4],
+    &[0, 0, 0, 0, 3, 1, 0, 2],
+    &[0xC5; 3],
+];
+
+#[test]
+fn each_kind_of_look(rt: HostRuntime) -> Result<(), Fail> {
+    let bytes = slot(rt.alloc(), &KEYED)?;
+    let view = read_slot(bytes.as_slice())?;
+    let rows = looks_for_counts();
+    for (kind, position, wanted) in rows
+        .into_iter()
+        .chain(looks_for_keys())
+        .chain(looks_for_data_areas())
+    {
         assert_eq!(rt;
             next_area(&view, position, kind),
             wanted,

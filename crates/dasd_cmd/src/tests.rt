@@ -142,38 +142,40 @@ fn storage_ends(rt: HostRuntime) -> Result<(), Fail> {
     check(&rt, deck, lines)
 }
 
+// Decks, and the line of each that is no event.
+const FAULTY_DECKS: [(&str, usize); 27] = [
+    ("FOO", 1),
+    ("\n", 1),
+    ("INT\nINT \n", 2),
+    ("INT\n INT", 2),
+    ("INT\r\n", 1),
+    ("INT 190", 1),
+    ("int", 1),
+    ("SIO 19", 1),
+    ("SIO 0190", 1),
+    ("SIO 19a", 1),
+    ("SIO  190", 1),
+    ("SIO 190 1", 1),
+    ("SIO", 1),
+    ("TIO 19G", 1),
+    ("STEP", 1),
+    ("STEP 65536", 1),
+    ("STEP 000001", 1),
+    ("STEP A", 1),
+    ("STORE 0", 1),
+    ("STORE 0 0", 1),
+    ("STORE 0 0 0 0", 1),
+    ("STORE 0000000 00", 1),
+    ("STORE G 00", 1),
+    ("SHOW 0", 1),
+    ("SHOW 0 0", 1),
+    ("SHOW 0 33", 1),
+    ("STORE 0 FF\nSIO 190\nHIO 190\nFOO", 3),
+];
+
 #[test]
 fn faulty_lines_write_nothing(rt: HostRuntime) -> Result<(), Fail> {
-    let cases = [
-        ("FOO", 1),
-        ("\n", 1),
-        ("INT\nINT \n", 2),
-        ("INT\n INT", 2),
-        ("INT\r\n", 1),
-        ("INT 190", 1),
-        ("int", 1),
-        ("SIO 19", 1),
-        ("SIO 0190", 1),
-        ("SIO 19a", 1),
-        ("SIO  190", 1),
-        ("SIO 190 1", 1),
-        ("SIO", 1),
-        ("TIO 19G", 1),
-        ("STEP", 1),
-        ("STEP 65536", 1),
-        ("STEP 000001", 1),
-        ("STEP A", 1),
-        ("STORE 0", 1),
-        ("STORE 0 0", 1),
-        ("STORE 0 0 0 0", 1),
-        ("STORE 0000000 00", 1),
-        ("STORE G 00", 1),
-        ("SHOW 0", 1),
-        ("SHOW 0 0", 1),
-        ("SHOW 0 33", 1),
-        ("STORE 0 FF\nSIO 190\nHIO 190\nFOO", 3),
-    ];
-    for (deck, line) in cases {
+    for (deck, line) in FAULTY_DECKS {
         let mut channel = new_channel(rt.alloc())?;
         let mut reader = deck.as_bytes();
         let mut writer = Vec::new(rt.alloc());

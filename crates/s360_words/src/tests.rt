@@ -97,51 +97,53 @@ fn knows_transfers_in_channel(rt: HostRuntime) {
     }
 }
 
+// Channel status words, and their fields.
+const STATUS_WORDS: [([u8; 8], Csw); 4] = [
+    (
+        [0x00, 0x00, 0x00, 0x00, 0x0C, 0x00, 0x00, 0x00],
+        Csw {
+            key: 0,
+            address: 0,
+            unit: UnitStatus(0x0C),
+            channel: ChannelStatus(0),
+            count: 0,
+        },
+    ),
+    (
+        [0x00, 0x00, 0x04, 0x08, 0x0C, 0x40, 0x00, 0x14],
+        Csw {
+            key: 0,
+            address: 0x408,
+            unit: UnitStatus(0x0C),
+            channel: ChannelStatus(0x40),
+            count: 20,
+        },
+    ),
+    (
+        [0x10, 0x00, 0x04, 0x08, 0x0C, 0x10, 0x00, 0x50],
+        Csw {
+            key: 1,
+            address: 0x408,
+            unit: UnitStatus(0x0C),
+            channel: ChannelStatus(0x10),
+            count: 80,
+        },
+    ),
+    (
+        [0xF0, 0x12, 0x34, 0x56, 0xFF, 0xFF, 0x01, 0x02],
+        Csw {
+            key: 15,
+            address: 0x12_3456,
+            unit: UnitStatus(0xFF),
+            channel: ChannelStatus(0xFF),
+            count: 258,
+        },
+    ),
+];
+
 #[test]
 fn reads_and_writes_channel_status_words(rt: HostRuntime) {
-    let rows = [
-        (
-            [0x00, 0x00, 0x00, 0x00, 0x0C, 0x00, 0x00, 0x00],
-            Csw {
-                key: 0,
-                address: 0,
-                unit: UnitStatus(0x0C),
-                channel: ChannelStatus(0),
-                count: 0,
-            },
-        ),
-        (
-            [0x00, 0x00, 0x04, 0x08, 0x0C, 0x40, 0x00, 0x14],
-            Csw {
-                key: 0,
-                address: 0x408,
-                unit: UnitStatus(0x0C),
-                channel: ChannelStatus(0x40),
-                count: 20,
-            },
-        ),
-        (
-            [0x10, 0x00, 0x04, 0x08, 0x0C, 0x10, 0x00, 0x50],
-            Csw {
-                key: 1,
-                address: 0x408,
-                unit: UnitStatus(0x0C),
-                channel: ChannelStatus(0x10),
-                count: 80,
-            },
-        ),
-        (
-            [0xF0, 0x12, 0x34, 0x56, 0xFF, 0xFF, 0x01, 0x02],
-            Csw {
-                key: 15,
-                address: 0x12_3456,
-                unit: UnitStatus(0xFF),
-                channel: ChannelStatus(0xFF),
-                count: 258,
-            },
-        ),
-    ];
-    for (bytes, csw) in rows {
+    for (bytes, csw) in STATUS_WORDS {
         assert_eq!(rt; csw.to_bytes(), bytes);
         assert_eq!(rt; Csw::from_bytes(bytes), csw);
     }
