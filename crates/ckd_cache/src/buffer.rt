@@ -277,6 +277,7 @@ impl TrackBuffer {
         ensures place { result ≡ end_of_records (track_in self.now) records }
         ensures room { result + 8 ≤ length self.now }
     {
+        // a slot that reads whole has a home address and an end mark, also where no record stands
         let _slot = &self.slot;
         if records == 0 {
             return HOME_ADDRESS_LENGTH;

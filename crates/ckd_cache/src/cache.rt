@@ -108,6 +108,7 @@ impl<S: ImageStore> TrackCache<S> {
         requires held { IsSome self.old.held }
         ensures { self.new ≡ with_held self.old (slot_of self.old.image.geometry.track_size (bare_track home_address)) }
     {
+        // the geometry is that of an image, so that a slot has room for a home address and the end mark
         let _geometry = self.image.geometry();
         self.buffer.write_home_address(home_address);
         self.changed = true;

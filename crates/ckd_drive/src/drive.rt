@@ -82,6 +82,7 @@ impl<S: ImageStore> Drive<S> {
         ensures err { IfErr result (λ e. e.1 ≡ image) }
     {
         let cache = TrackCache::new(alloc, image)?;
+        // the geometry is that of an image, so that there is a first track
         let _geometry = cache.geometry();
         Ok(Drive {
             cache,
@@ -94,7 +95,13 @@ impl<S: ImageStore> Drive<S> {
         })
     }
 
-    /// Begins a command.
+    /// Begins the command of this code, where none is open.
+    ///
+    /// `Rejected`: it is not begun, and the sense bytes tell why: no such command, the file mask, the sequence, or a written
+    /// track that could not be saved as the arm leaves it. `Immediate`: it is over, and waits for `end`. `Started`: it works,
+    /// and `look` is next. Every command takes the sequence credit away, and all but Sense make the sense bytes zero;
+    /// Recalibrate and Read IPL send the arm to cylinder 0, head 0 (component descriptions of the 2841 and the 2314, the
+    /// sections of the commands).
     pub fn begin(&mut self, code: u8) -> Begun
         requires { is_idle self.old.work ≡ true }
         ensures state { self.new ≡ with_image (after_begin (fault_met self.old self.new) code self.old) self.new.image }
@@ -108,7 +115,12 @@ impl<S: ImageStore> Drive<S> {
         stages::begun(self.stage)
     }
 
-    /// Looks at the track under the arm for the area of the command.
+    /// Looks at the track under the arm for the area of the command that works.
+    ///
+    /// `Ready`: so many bytes may pass; a formatting write asks for the count area first, and for key and data once that
+    /// came. `Passed`: the index passed, and another look is next. `Failed`: the command is over, and the sense bytes tell
+    /// why. The track is loaded where it is not at hand, and one that was written is saved before the next head's
+    /// (component descriptions, 'Multiple-Track Operation' and 'No Record Found').
     pub fn look(&mut self) -> Look
         requires { is_working self.old.work ≡ true }
         ensures state { self.new ≡ with_image (after_look (fault_met self.old self.new) self.old) self.new.image }
@@ -131,7 +143,8 @@ impl<S: ImageStore> Drive<S> {
         stages::looked(self.stage)
     }
 
-    /// Gives the next bytes.
+    /// Gives the next bytes of a read or of Sense: as many as are asked for, and no more than the last look allows less
+    /// what has passed since.
     pub fn give(&mut self, into: &mut [u8])
         requires gives { gives_now self.old.work ≡ true }
         requires room { length into.old ≤ left_of self.old.work }
@@ -157,7 +170,8 @@ impl<S: ImageStore> Drive<S> {
         self.stage = moved_on_by(p, into.len(), p.place);
     }
 
-    /// Takes the next bytes.
+    /// Takes the next bytes of any other command: no more than the last look allows less what has passed since. What is
+    /// written goes straight into the slot at hand, with zeros behind it up to the end of the area.
     pub fn take(&mut self, bytes: &[u8])
         requires takes { takes_now self.old.work ≡ true }
         requires room { length bytes.now ≤ left_of self.old.work }
@@ -178,7 +192,11 @@ impl<S: ImageStore> Drive<S> {
         self.stage = moved_on_by(p, bytes.len(), place);
     }
 
-    /// Ends the command, with the bytes that have passed.
+    /// Ends the command by the bytes that have passed, however few they are; it is over, or its area is found. Answers the
+    /// unit status, and whether the arm still moves.
+    ///
+    /// Where no byte came nothing changes; a field cut short is a command reject. A seek saves a written track first: where
+    /// that fails the arm and the head stay, and unit check and equipment check are told.
     pub fn end(&mut self) -> DriveEnding
         requires { may_end self.old.work ≡ true }
         ensures state { self.new ≡ with_image (after_end (fault_met self.old self.new) self.old) self.new.image }
@@ -213,7 +231,12 @@ impl<S: ImageStore> Drive<S> {
         outcome.ending
     }
 
-    /// Saves the track if it was written. An open command ends, of which no byte has passed.
+    /// Saves the track if it was written. A command that is open, of which no byte has passed, is open no more.
+    ///
+    /// # Errors
+    ///
+    /// Where the store fails the slot holds any bytes, and nothing of what was written is saved later; the sense bytes gain
+    /// equipment check, and `unsaved` tells the track.
     pub fn settle(&mut self) -> Result<(), StoreFault>
         requires { passed_of self.old.work ≡ [] }
         ensures state { self.new ≡ with_image (after_settle (fault_met self.old self.new) self.old) self.new.image }
