@@ -22,10 +22,14 @@ fn new_volume(alloc: Global, model: DriveModel, cylinders: u16) -> Result<Image<
     ensures { IfOk result (λ i. i.geometry ≡ new_geometry model cylinders) }
 {
     let store = MemoryStore::zeros(alloc, image_len(model, cylinders))?;
-    match Image::format(store, model, cylinders) {
-        Ok(image) => Ok(image),
-        Err((fault, _)) => Err(Fail::from(fault)),
+    let image = match Image::format(store, model, cylinders) {
+        Ok(image) => image,
+        Err((fault, _)) => return Err(Fail::from(fault)),
+    };
+    if image.geometry() != Geometry::new(model, cylinders) {
+        return Err(Fail::from("another geometry"));
     }
+    Ok(image)
 }
 
 /// The file of a new volume of one cylinder of a 2311, with other bytes from `at` on.
@@ -53,15 +57,25 @@ fn mount_fault(alloc: Global, store: MemoryStore) -> Result<Option<MountFault>, 
 
 /// The first place at which the two differ.
 fn first_difference(a: &[u8], b: &[u8]) -> Option<usize> {
-    a.iter().zip(b).position(|(x, y)| x != y)
+    for (i, byte) in a.iter().enumerate() {
+        if b.get(i) != Some(byte) {
+            return Some(i);
+        }
+    }
+    None
 }
 
 /// Whether these are this many bytes of this value.
 fn are_all(bytes: Option<&[u8]>, count: usize, value: u8) -> bool {
-    match bytes {
-        Some(bytes) => bytes.len() == count && bytes.iter().all(|byte| *byte == value),
-        None => false,
+    let Some(bytes) = bytes else {
+        return false;
+    };
+    for byte in bytes {
+        if *byte != value {
+            return false;
+        }
     }
+    bytes.len() == count
 }
 
 #[test]
@@ -143,7 +157,7 @@ fn refuses_to_format(rt: HostRuntime) -> Result<(), Fail> {
             Err((fault, store)) => {
                 assert_eq!(rt; fault, want, "{len}");
                 assert_eq!(rt; store.bytes().len(), len);
-                let kept = store.bytes().iter().all(|byte| *byte == 0xAA);
+                let kept = are_all(Some(store.bytes()), len, 0xAA);
                 assert_eq!(rt; kept, want == MountFault::Length || len == 0, "{len}");
             }
         }
@@ -317,37 +331,50 @@ fn failing(alloc: Global, bytes: &[u8], at: u64, for_good: bool) -> Result<Faili
     Ok(FailingStore::new(MemoryStore::new(alloc, bytes)?, at, for_good))
 }
 
+/// How many bytes are written where this write of a format fails: the header comes first, and then the slots.
+fn written_before(at: u64) -> usize {
+    let slots = (at as usize).saturating_sub(2).saturating_mul(4096);
+    if at == 1 {
+        60
+    } else {
+        slots.saturating_add(572)
+    }
+}
+
+/// The store of a format of which this write fails, if it does.
+fn failed_format(alloc: Global, old: &[u8], at: u64, for_good: bool) -> Result<FailingStore, Fail>
+    requires { at < 1000 }
+{
+    match Image::format(failing(alloc, old, at, for_good)?, DriveModel::D2311, 1) {
+        Ok(_) => Err(Fail::from("formatted")),
+        Err((MountFault::StoreFault, store)) => Ok(store),
+        Err((fault, _)) => Err(Fail::from(fault)),
+    }
+}
+
 #[test]
 fn each_write_of_a_format_fails(rt: HostRuntime) -> Result<(), Fail> {
     let old = vec![in rt.alloc(); 0xAAu8; ONE_CYLINDER]?;
     let new = new_volume(rt.alloc(), DriveModel::D2311, 1)?.into_store();
     // the header, and ten slots
     for at in 1..=11 {
-        let start = if at == 1 { 0 } else { 512 + (at - 2) * 4096 };
+        let written = written_before(at);
         for for_good in [false, true] {
-            let store = failing(rt.alloc(), &old, at, for_good)?;
-            match Image::format(store, DriveModel::D2311, 1) {
-                Ok(_) => return Err(Fail::from(at)),
-                Err((fault, store)) => {
-                    assert_eq!(rt; fault, MountFault::StoreFault, "{at}");
-                    assert_eq!(rt; store.calls(), at);
-                    let inner = store.into_inner();
-                    let written = start as usize + 60;
-                    assert_eq!(rt;
-                        inner.bytes().get(..written),
-                        new.bytes().get(..written),
-                        "{at}"
-                    );
-                    assert_eq!(rt; inner.bytes().get(written..), old.get(written..), "{at}");
-                }
-            }
+            let store = failed_format(rt.alloc(), &old, at, for_good)?;
+            assert_eq!(rt; store.calls(), at);
+            let inner = store.into_inner();
+            assert!(rt;
+                inner.bytes().get(..written) == new.bytes().get(..written),
+                "{at}"
+            );
+            assert!(rt; inner.bytes().get(written..) == old.get(written..), "{at}");
         }
     }
     match Image::format(failing(rt.alloc(), &old, 12, true)?, DriveModel::D2311, 1) {
         Ok(image) => {
             let store = image.into_store();
             assert_eq!(rt; store.calls(), 11);
-            assert_eq!(rt; store.into_inner().bytes(), new.bytes());
+            assert!(rt; store.into_inner().bytes() == new.bytes());
         }
         Err((fault, _)) => return Err(Fail::from(fault)),
     }
@@ -439,15 +466,16 @@ fn a_save_fails(rt: HostRuntime) -> Result<(), Fail> {
 #[test]
 fn fewer_than_sixty_bytes_are_all_written(rt: HostRuntime) -> Result<(), Fail> {
     // as far as they lie within the content
-    for (at, end) in [(10, 30), (90, 100), (100, 100)] {
-        let mut store = failing(rt.alloc(), &[0; 100], 1, false)?;
+    let rows: [(u64, [u8; 8]); 3] = [
+        (2, [0, 0, 1, 1, 1, 0, 0, 0]),
+        (6, [0, 0, 0, 0, 0, 0, 1, 1]),
+        (8, [0, 0, 0, 0, 0, 0, 0, 0]),
+    ];
+    for (at, want) in rows {
+        let mut store = failing(rt.alloc(), &[0; 8], 1, false)?;
         assert!(rt; at <= store.len());
-        assert_eq!(rt; store.write_at(at, &[1; 20]), Err(StoreFault));
-        let inner = store.into_inner();
-        let at = at as usize;
-        assert!(rt; are_all(inner.bytes().get(..at), at, 0));
-        assert!(rt; are_all(inner.bytes().get(at..end), end - at, 1));
-        assert!(rt; are_all(inner.bytes().get(end..), 100 - end, 0));
+        assert_eq!(rt; store.write_at(at, &[1; 3]), Err(StoreFault));
+        assert!(rt; store.into_inner().bytes() == want.as_slice(), "{at}");
     }
     Ok(())
 }

@@ -3,7 +3,7 @@
 ghost use Rattle.std.specs.Prelude.{◌≡◌, length, IfOk};
 ghost use Rattle.ckd_image.specs.Geometry.{new_geometry};
 
-use ckd_image::geometry::image_len;
+use ckd_image::geometry::{Geometry, image_len};
 use ckd_image::image::Image;
 use ckd_image::memory::MemoryStore;
 use ckd_image::store::ImageStore;
@@ -24,10 +24,14 @@ fn new_image(alloc: Global, cylinders: u16) -> Result<Image<MemoryStore>, Fail>
     ensures { IfOk result (λ i. i.geometry ≡ new_geometry DriveModel.D2311 cylinders) }
 {
     let store = MemoryStore::zeros(alloc, image_len(DriveModel::D2311, cylinders))?;
-    match Image::format(store, DriveModel::D2311, cylinders) {
-        Ok(image) => Ok(image),
-        Err((fault, _)) => Err(Fail::from(fault)),
+    let image = match Image::format(store, DriveModel::D2311, cylinders) {
+        Ok(image) => image,
+        Err((fault, _)) => return Err(Fail::from(fault)),
+    };
+    if image.geometry() != Geometry::new(DriveModel::D2311, cylinders) {
+        return Err(Fail::from("another geometry"));
     }
+    Ok(image)
 }
 
 /// A new volume of one cylinder.
