@@ -12,9 +12,9 @@ use Rattle.ckd_track.proofs.Spelled.{reads_back}
 use Rattle.ckd_track.proofs.Offsets.{stands, parts_at, StandsAt, home_is, length-offsets_from}
 use Rattle.ckd_position.specs.declared.areas.Area.TheVariants.{HomeAddress, Of}
 use Rattle.ckd_position.specs.declared.areas.Part.{Part}
-use Rattle.ckd_cache.specs.declared.extents.Extent.{Extent}
-use Rattle.ckd_cache.specs.declared.extents.Extent.TheVariants as extent
-use Rattle.ckd_cache.specs.Contents.{Sighted, bytes_of, record_on, records_on, is_readable}
+use Rattle.ckd_position.specs.declared.extents.Extent.{Extent}
+use Rattle.ckd_position.specs.declared.extents.Extent.TheVariants as extent
+use Rattle.ckd_position.specs.Contents.{Sighted, bytes_of, record_on, records_on, is_readable}
 use Rattle.ckd_cache.specs.Buffer.{Lies, Tabled, IsRead, IsIndexed, HasBytes, StandsThere, home_address_place, record_place}
 
 pub read_as : (slot : List ℕ) → Spells slot (track_in slot) → 5 ≤ length slot

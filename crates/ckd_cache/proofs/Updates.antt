@@ -7,8 +7,8 @@ use Rattle.ckd_track.proofs.Slots.{slot_of_spells, slot_of_reads, length-slot_of
 use Rattle.ckd_track.proofs.Rewritten.{length-overwritten, overwritten-middle}
 use Rattle.ckd_position.specs.declared.areas.Area.TheVariants.{Of}
 use Rattle.ckd_position.specs.declared.areas.Part.{Part}
-use Rattle.ckd_cache.specs.declared.extents.Extent.{Extent}
-use Rattle.ckd_cache.specs.Contents.{padded, replaced, with_record_changed}
+use Rattle.ckd_position.specs.declared.extents.Extent.{Extent}
+use Rattle.ckd_position.specs.Contents.{padded, replaced, with_record_changed}
 use Rattle.ckd_cache.specs.Buffer.{FitsSlot, IsUpdate, SameRecords}
 use Rattle.ckd_cache.proofs.Writes.{update_is, update_offset, update_length}
 

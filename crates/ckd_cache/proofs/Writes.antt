@@ -21,10 +21,10 @@ use Rattle.ckd_track.proofs.ChargeLaws.{leaves_room}
 use Rattle.ckd_position.specs.declared.areas.Area.{Area}
 use Rattle.ckd_position.specs.declared.areas.Area.TheVariants.{HomeAddress, Of}
 use Rattle.ckd_position.specs.declared.areas.Part.{Part}
-use Rattle.ckd_cache.specs.Contents.{is_readable, padded, new_record, formatted, kept, replaced, with_record_changed}
+use Rattle.ckd_position.specs.Contents.{is_readable, padded, new_record, formatted, kept, replaced, with_record_changed}
 use Rattle.ckd_cache.specs.Buffer.{Tabled, IsIndexed, StandsThere, number_up_to, FitsSlot, IsUpdate, IsRecordOf, IsPlaceOf, end_of_records, record_place}
-use Rattle.ckd_cache.specs.declared.extents.Extent.{Extent}
-use Rattle.ckd_cache.specs.declared.extents.Extent.TheVariants as extent
+use Rattle.ckd_position.specs.declared.extents.Extent.{Extent}
+use Rattle.ckd_position.specs.declared.extents.Extent.TheVariants as extent
 use Rattle.ckd_cache.specs.declared.windows.Window.{Window}
 use Rattle.ckd_cache.proofs.AreaPlaces.{spelled, standing}
 

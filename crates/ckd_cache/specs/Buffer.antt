@@ -4,9 +4,9 @@ use Rattle.ckd_track.specs.Track.{Track, IsRecord, Spells, track_of, track_in, r
 use Rattle.ckd_position.specs.declared.areas.Area.{Area}
 use Rattle.ckd_position.specs.declared.areas.Area.TheVariants.{HomeAddress, Of}
 use Rattle.ckd_cache.specs.declared.windows.Window.{Window}
-use Rattle.ckd_cache.specs.declared.extents.Extent.{Extent}
-use Rattle.ckd_cache.specs.declared.extents.Extent.TheVariants as extent
-use Rattle.ckd_cache.specs.Contents.{Sighted, is_readable, records_on}
+use Rattle.ckd_position.specs.declared.extents.Extent.{Extent}
+use Rattle.ckd_position.specs.declared.extents.Extent.TheVariants as extent
+use Rattle.ckd_position.specs.Contents.{Sighted, is_readable, records_on}
 
 -- these bytes stand there in the slot
 pub record Lies (slot : List ℕ) (w : Window) (bytes : List ℕ) : Type 0 where

@@ -2,20 +2,18 @@
 
 ghost use Rattle.std.specs.Prelude.{◌≡◌, ◌≤◌, ◌<◌, ◌+◌, ◌-◌, ◌/◌, ◌^◌, ◌++◌, length, take, drop, replicate, bytes_eq, false, slice_index_or, IfOk, OnOk, OnErr, Ok, Some, [], true, IsSome};
 ghost use Rattle.ckd_track.specs.Track.{track_of, track_in, track_or_none, no_track, spelling, slot_of, end_mark, body_length as body_length_of, key_length as key_length_of, data_length as data_length_of, IsRecord};
-ghost use Rattle.ckd_image.specs.Geometry.{tracks_of};
+ghost use Rattle.ckd_track.specs.Geometry.{tracks_of};
 ghost use Rattle.ckd_position.specs.Areas.{next_of_kind, IsOnTrack, IfFound};
 ghost use Rattle.ckd_track.specs.Changes.{overwritten, ended_at, bare_track, kept_records};
 ghost use Rattle.ckd_track.specs.Charges.{has_room};
 ghost use Rattle.ckd_track.specs.Model.{capacity_of};
 ghost use Rattle.std.specs.Option.{ForSome};
-ghost use Rattle.ckd_cache.specs.Contents.{records_on, bytes_of, is_readable as reads, has_no_data as lacks_data, formatted as track_formatted, with_record_changed, replaced, kept as kept_on, record_before as before_of};
+ghost use Rattle.ckd_position.specs.Contents.{records_on, bytes_of, is_readable as reads, has_no_data as lacks_data, formatted as track_formatted, with_record_changed, replaced, kept as kept_on, record_before as before_of};
 ghost use Rattle.ckd_cache.specs.Buffer.{Lies, HasBytes, IsPlaceOf, StandsThere, home_address_place, record_place, IsRead, end_of_records, number_up_to, IsRecordOf, SameRecords, FitsSlot, IsUpdate};
 
-use crate::extents::Extent;
 use crate::windows::Window;
-use ckd_image::image::Image;
-use ckd_image::store::{ImageStore, StoreFault};
-use ckd_position::{Area, Kind, Next, Position, next_area};
+use ckd_image::{Image, ImageStore, StoreFault};
+use ckd_position::{Area, Extent, Kind, Next, Position, next_area};
 use ckd_track::{DriveModel, fits, index_slot, overwrite, put_end_mark, view_at, write_ha};
 use std::alloc::{AllocError, Global};
 use std::marker::Model;

@@ -1,19 +1,17 @@
 //! An image, with the slot of one track at hand: loaded when it is first wanted, written in place, saved late.
 
 ghost use Rattle.std.specs.Prelude.{◌≡◌, ◌≤◌, ◌<◌, ◌+◌, Some, None, true, false, [], length, bytes_eq, unwrap_or, slice_index_or, IfOk, IfErr, OnOk, OnErr, IsSome};
-ghost use Rattle.ckd_image.specs.Geometry.{tracks_of};
+ghost use Rattle.ckd_track.specs.Geometry.{tracks_of};
 ghost use Rattle.ckd_track.specs.Track.{track_of, track_in, slot_of, spelling, end_mark};
 ghost use Rattle.ckd_track.specs.Changes.{overwritten, bare_track};
-ghost use Rattle.ckd_cache.specs.Contents.{is_readable, formatted as track_formatted, with_record_changed, replaced, kept};
+ghost use Rattle.ckd_position.specs.Contents.{is_readable, formatted as track_formatted, with_record_changed, replaced, kept};
 ghost use Rattle.ckd_cache.specs.Buffer.{SameRecords, FitsSlot, IsUpdate, IsRecordOf};
 ghost use Rattle.ckd_cache.specs.Cache.{slot_held, with_held, holds, after_hold, after_failed_hold, after_save, after_failed_save, IsVolume};
 
 use crate::buffer::TrackBuffer;
-use crate::extents::Extent;
-use ckd_image::geometry::Geometry;
-use ckd_image::image::Image;
-use ckd_image::store::{ImageStore, StoreFault};
-use ckd_position::Area;
+use ckd_image::{Image, ImageStore, StoreFault};
+use ckd_position::{Area, Extent};
+use ckd_track::Geometry;
 use std::alloc::{AllocError, Global};
 use std::marker::Model;
 

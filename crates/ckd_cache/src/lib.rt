@@ -4,10 +4,8 @@
 
 mod buffer;
 mod cache;
-mod extents;
 mod windows;
 
 pub use crate::buffer::TrackBuffer;
 pub use crate::cache::TrackCache;
-pub use crate::extents::Extent;
 pub use crate::windows::Window;

@@ -1,58 +1,70 @@
 -- How often a call uses the store.
-use Rattle.std.proofs.Common.{◌≡◌, ◌∙◌, ap, sym, refl, ℕ, List, Bool, true, false, ◌||◌, arith}
-use Rattle.ckd_drive.specs.declared.registers.Registers.{Registers}
-use Rattle.ckd_drive.specs.declared.registers.Mark.{Mark}
+use Rattle.std.proofs.Common.{◌≡◌, ◌∙◌, inl, inr, ap, sym, refl, ℕ, ◌+◌, List, Bool, true, false, ◌||◌, ◌&&◌, arith}
+use Rattle.ckd_command.specs.declared.registers.Registers.{Registers}
+use Rattle.ckd_command.specs.declared.registers.Mark.{Mark}
 use Rattle.ckd_drive.specs.declared.places.Stage.{Stage}
 use Rattle.ckd_cache.specs.Cache.{CacheState, saved, after_save, after_failed_save, after_failed_hold}
-use Rattle.ckd_drive.specs.Drive.{is_written, is_written_by}
-use Rattle.ckd_drive.specs.Work.{DriveState, MakesAtMost, SavesAtMost}
-use Rattle.ckd_drive.specs.Half.{Stands, state_of, is_filled}
+use Rattle.ckd_command.specs.Drive.{is_written_by}
+use Rattle.ckd_drive.specs.Work.{DriveState, CallsStore}
+use Rattle.ckd_drive.specs.Half.{Stands, is_filled}
 
-or_false : (b : Bool) → (b || false) ≡ b
+pub or_false : (b : Bool) → (b || false) ≡ b
 or_false true = refl
 or_false false = refl
 
+pub and_false : (b : Bool) → (b && false) ≡ false
+and_false true = refl
+and_false false = refl
+
+pub and_true : (b : Bool) → (b && true) ≡ b
+and_true true = refl
+and_true false = refl
+
+pub no_more : (n : ℕ) → n ≡ n + 1 → ⊥
+no_more n e = omega (arith, e)
+
 -- where no command half done has changed the slot at hand, it is changed just where its track is written
-changed_is : (c : CacheState) (r : Registers) (m : Mark) (s : Stage) (before passed : List ℕ) (began : Bool) (old : DriveState)
-    → Stands c r m s before passed began → state_of c r m s before passed began ≡ old → is_filled s ≡ false → c.changed ≡ is_written old.state
-changed_is c r m s before passed began old x is f =
-    let marked : c.changed ≡ (is_written_by m || false) = rw f at x.marked in
-    marked ∙ or_false (is_written_by m) ∙ ap (λ (d : DriveState). is_written d.state) is
+pub changed_is : (c : CacheState) (r : Registers) (m : Mark) (s : Stage) (before passed : List ℕ)
+    → Stands c r m s before passed → is_filled s ≡ false → c.changed ≡ is_written_by m
+changed_is c r m s before passed x f = (let marked : c.changed ≡ (is_written_by m || false) = rw f at x.marked in marked ∙ or_false (is_written_by m))
+
+pub loads_saved : (c : CacheState) → (after_save c).image.loads ≡ c.image.loads
+loads_saved c = elim c.changed as (λ b. (saved c.image c.slots b).loads ≡ c.image.loads) [ true ↦ refl | false ↦ refl ]
 
 -- the store is not called
-pub calls_none : (old new : DriveState) → new.image ≡ old.image → SavesAtMost old new
-calls_none old new e = rw e (record {
-  at_most = record { loads = omega arith; saves = omega arith; failures = omega arith; loads_stay = omega arith; saves_stay = omega arith; failures_stay = omega arith; header = refl; geometry = refl; unwritten = λ _. refl };
-  loads = refl;
-  unwritten = λ _. refl;
-})
+pub calls_none : (loads saves : Bool) (old new : DriveState) → new.image ≡ old.image → saves ≡ false → CallsStore loads saves old new
+calls_none loads saves old new e s = rw (e, s) (record { loads = inl refl; saves = omega arith; failures = inl refl; slots = λ _. refl; untouched = λ _ _. refl; header = refl; geometry = refl })
 
-save_by : (old new : DriveState) (c : CacheState) (b : Bool) (slots : List (List ℕ)) → old.image ≡ c.image → new.image ≡ saved c.image slots b → b ≡ is_written old.state → SavesAtMost old new
-save_by old new c true slots e f written = rw (e, f) (record {
-  at_most = record { loads = omega arith; saves = omega arith; failures = omega arith; loads_stay = omega arith; saves_stay = omega arith; failures_stay = omega arith; header = refl; geometry = refl; unwritten = λ w. absurd cc };
-  loads = refl;
-  unwritten = λ w. absurd cc;
-})
-save_by old new c false slots e f written = calls_none old new (f ∙ sym e)
+save_by : (loads b : Bool) (old new : DriveState) (c : CacheState) (slots : List (List ℕ)) → old.image ≡ c.image → new.image ≡ saved c.image slots b → CallsStore loads b old new
+save_by loads true old new c slots e f = rw (e, f) (record { loads = inl refl; saves = omega arith; failures = inl refl; slots = λ s. absurd cc; untouched = λ s _. absurd cc; header = refl; geometry = refl })
+save_by loads false old new c slots e f = calls_none loads false old new (f ∙ sym e) refl
 
 -- the track is saved, if it was written
-pub calls_of_save : (c : CacheState) (r : Registers) (m : Mark) (s : Stage) (before passed : List ℕ) (began : Bool) (old new : DriveState)
-    → Stands c r m s before passed began → state_of c r m s before passed began ≡ old → is_filled s ≡ false → new.image ≡ (after_save c).image → SavesAtMost old new
-calls_of_save c r m s before passed began old new x is f e =
-    save_by old new c c.changed c.slots (ap (λ (d : DriveState). d.image) (sym is)) e (changed_is c r m s before passed began old x is f)
+pub calls_of_save : (loads saves : Bool) (c : CacheState) (old new : DriveState) → old.image ≡ c.image → new.image ≡ (after_save c).image → c.changed ≡ saves → CallsStore loads saves old new
+calls_of_save loads saves c old new e f s = rw (← s) (save_by loads c.changed old new c c.slots e f)
 
 -- its saving fails
-pub calls_of_failed_save : (c : CacheState) (r : Registers) (m : Mark) (s : Stage) (before passed left : List ℕ) (began : Bool) (old new : DriveState)
-    → Stands c r m s before passed began → state_of c r m s before passed began ≡ old → is_filled s ≡ false → c.changed ≡ true → new.image ≡ (after_failed_save c left).image → SavesAtMost old new
-calls_of_failed_save c r m s before passed left began old new x is f changed e =
-    let image : old.image ≡ c.image = ap (λ (d : DriveState). d.image) (sym is) in
-    let written : is_written old.state ≡ true = sym (changed_is c r m s before passed began old x is f) ∙ changed in
-    rw (image, e) (record {
-      at_most = record { loads = omega arith; saves = omega arith; failures = omega arith; loads_stay = omega arith; saves_stay = omega arith; failures_stay = omega arith; header = refl; geometry = refl; unwritten = λ w. absurd cc };
-      loads = refl;
-      unwritten = λ w. absurd cc;
-    })
+pub calls_of_failed_save : (loads saves : Bool) (c : CacheState) (left : List ℕ) (old new : DriveState) → old.image ≡ c.image → new.image ≡ (after_failed_save c left).image → c.changed ≡ saves → c.changed ≡ true → CallsStore loads saves old new
+calls_of_failed_save loads saves c left old new e f s changed =
+    let saves_is : saves ≡ true = sym s ∙ changed in
+    rw (e, f, saves_is) (record { loads = inl refl; saves = omega arith; failures = inr (refl, inl refl); slots = λ s. absurd cc; untouched = λ s _. absurd cc; header = refl; geometry = refl })
 
 -- a load fails
-pub calls_of_failed_hold : (old new : DriveState) (c : CacheState) → old.image ≡ c.image → new.image ≡ (after_failed_hold c).image → MakesAtMost old new
-calls_of_failed_hold old new c e f = rw (e, f) (record { loads = omega arith; saves = omega arith; failures = omega arith; loads_stay = omega arith; saves_stay = omega arith; failures_stay = omega arith; header = refl; geometry = refl; unwritten = λ _. refl })
+pub calls_of_failed_hold : (loads saves : Bool) (c : CacheState) (old new : DriveState) → old.image ≡ c.image → new.image ≡ (after_failed_hold c).image → loads ≡ true → saves ≡ false → CallsStore loads saves old new
+calls_of_failed_hold loads saves c old new e f l s =
+    rw (e, f, l, s) (record { loads = inr (refl, refl, refl); saves = omega arith; failures = inr (refl, inr refl); slots = λ _. refl; untouched = λ _ e. absurd (no_more c.image.loads (sym e)); header = refl; geometry = refl })
+
+-- the track was loaded first
+pub calls_behind_load : (loads saves : Bool) (old held new : DriveState) → held.image ≡ record old.image { loads = old.image.loads + 1 } → loads ≡ true → saves ≡ false → new.image.loads ≡ held.image.loads
+    → CallsStore loads saves held new → CallsStore loads saves old new
+calls_behind_load loads saves old held new e l s same k =
+    let more : new.image.loads ≡ old.image.loads + 1 = same ∙ ap (λ i. i.loads) e in
+    record {
+      loads = inr (l, s, more);
+      saves = k.saves ∙ rw e refl;
+      failures = elim k.failures [ inl x ↦ inl (x ∙ ap (λ i. i.failures) e) | inr x ↦ inr (x.0 ∙ rw e refl, inr more) ];
+      slots = λ s. k.slots s ∙ ap (λ i. i.slots) e;
+      untouched = λ _ x. absurd (no_more old.image.loads (sym x ∙ more));
+      header = k.header ∙ ap (λ i. i.header) e;
+      geometry = k.geometry ∙ ap (λ i. i.geometry) e;
+    }

@@ -1,14 +1,14 @@
 -- Calls in which a load or a saving fails.
-use Rattle.std.proofs.Common.{◌≡◌, sym, refl, ℕ, ◌+◌, List, [], Bool, true, false, ◌||◌, ◌==◌, Option, Some, None, unwrap_or, slice_index_or, slice_set, arith}
+use Rattle.std.proofs.Common.{◌≡◌, sym, refl, ℕ, ◌+◌, List, [], true, false, ◌==◌, Option, Some, None, unwrap_or, slice_index_or, slice_set, arith}
 use Rattle.std.proofs.lemmas.Bool.Decides.{nat_tests}
 use Rattle.ckd_sense.specs.declared.sense_bytes.TheConstants.Sense.{STORE_FAULT}
-use Rattle.ckd_drive.specs.declared.registers.Registers.{Registers}
-use Rattle.ckd_drive.specs.declared.registers.Mark.{Mark}
-use Rattle.ckd_drive.specs.declared.registers.Mark.TheVariants.{Saved, Written, Lost}
-use Rattle.ckd_drive.specs.declared.steps.Opened.{Opened}
-use Rattle.ckd_drive.specs.declared.steps.Beginning.TheVariants.{ToCylinderZero}
-use Rattle.ckd_drive.specs.Commands.{with_cause}
-use Rattle.ckd_drive.specs.Drive.{LoadFails, SaveFails, number_under, is_written_by}
+use Rattle.ckd_command.specs.declared.registers.Registers.{Registers}
+use Rattle.ckd_command.specs.declared.registers.Mark.{Mark}
+use Rattle.ckd_command.specs.declared.registers.Mark.TheVariants.{Saved, Written, Lost}
+use Rattle.ckd_command.specs.declared.steps.Opened.{Opened}
+use Rattle.ckd_command.specs.declared.steps.Beginning.TheVariants.{ToCylinderZero}
+use Rattle.ckd_command.specs.Commands.{with_cause}
+use Rattle.ckd_command.specs.Drive.{LoadFails, SaveFails, number_under, is_written_by}
 use Rattle.ckd_cache.specs.Cache.{CacheState, after_failed_save}
 use Rattle.ckd_drive.specs.Work.{DriveState, fault_met}
 use Rattle.ckd_drive.specs.Half.{BeginsWell, IsCleared}
@@ -39,10 +39,10 @@ pub to_zero : (c : CacheState) (n : ℕ) (r q : Registers) (o : Option Opened) �
 to_zero c n r q None w = w
 to_zero c n r q (Some o) w = w.0
 
-pub mark_written : (m : Mark) (b : Bool) → b ≡ (is_written_by m || false) → b ≡ true → m ≡ Written
-mark_written Written b e t = refl
-mark_written Saved b e t = absurd cc
-mark_written Lost b e t = absurd cc
+pub mark_written : (m : Mark) → is_written_by m ≡ true → m ≡ Written
+mark_written Written t = refl
+mark_written Saved t = absurd cc
+mark_written Lost t = absurd cc
 
 -- the fault of a saving that failed, as the definitions see it
 pub failed_left : (c : CacheState) (n : ℕ) (left : List ℕ) → c.held ≡ Some n → left ≡ slice_index_or (after_failed_save c left).image.slots (unwrap_or c.held 0) []

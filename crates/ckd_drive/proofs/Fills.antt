@@ -5,24 +5,22 @@ use Rattle.std.proofs.lemmas.List.Elements.{All-set}
 use Rattle.ckd_track.specs.Track.{Track, track_of, track_in, track_or_none, record_in, record_offsets, slot_of}
 use Rattle.ckd_track.specs.Changes.{overwritten}
 use Rattle.ckd_track.proofs.Slots.{slot_of_reads, length-slot_of}
-use Rattle.ckd_image.specs.declared.geometry.Geometry.{Geometry}
+use Rattle.ckd_track.specs.declared.geometries.Geometry.{Geometry}
 use Rattle.ckd_position.specs.declared.areas.Area.TheVariants.{Of}
 use Rattle.ckd_position.specs.declared.areas.Part.{Part}
-use Rattle.ckd_drive.specs.declared.registers.Registers.{Registers}
-use Rattle.ckd_drive.specs.declared.steps.Action.{Action}
-use Rattle.ckd_cache.specs.declared.extents.Extent.{Extent}
-use Rattle.ckd_drive.specs.declared.steps.Opened.{Opened}
-use Rattle.ckd_drive.specs.declared.steps.Outcome.{Outcome}
+use Rattle.ckd_command.specs.declared.registers.Registers.{Registers}
+use Rattle.ckd_position.specs.declared.extents.Extent.{Extent}
+use Rattle.ckd_command.specs.declared.steps.Opened.{Opened}
+use Rattle.ckd_command.specs.declared.steps.Outcome.{Outcome}
 use Rattle.ckd_cache.specs.declared.windows.Window.{Window}
 use Rattle.ckd_drive.specs.declared.places.Place.{Place}
 use Rattle.ckd_drive.specs.declared.places.Place.TheVariants.{Filled}
 use Rattle.ckd_drive.specs.declared.places.Progress.{Progress}
-use Rattle.ckd_drive.specs.Tables.{action_of}
-use Rattle.ckd_cache.specs.Contents.{Sighted, is_readable, padded, replaced, with_record_changed}
-use Rattle.ckd_drive.specs.Commands.{length_after, closing, outcome}
+use Rattle.ckd_position.specs.Contents.{Sighted, is_readable, padded, replaced, with_record_changed}
+use Rattle.ckd_command.specs.Commands.{length_after, closing, outcome}
 use Rattle.ckd_cache.specs.Buffer.{FitsSlot, IsUpdate, SameRecords}
 use Rattle.ckd_cache.specs.Cache.{CacheState, with_held}
-use Rattle.ckd_drive.specs.Half.{Works, MayTake, Absorbs, IsPlaced, HasFilled, IsFilled, LeftIs, next_progress, slot_at, number, seen_by}
+use Rattle.ckd_drive.specs.Half.{Works, MayTake, Absorbs, IsPlaced, HasFilled, IsFilled, next_progress, slot_at, number, seen_by}
 use Rattle.ckd_cache.proofs.Writes.{update_offset, update_length}
 use Rattle.ckd_cache.proofs.Updates.{form_of, padded_on, same_records}
 use Rattle.ckd_drive.proofs.Numbers.{number_below}
@@ -35,11 +33,11 @@ pub length-padded : (b : List ℕ) (n : ℕ) → length b ≤ n → length (padd
 length-padded b n le = omega (arith, length-append b (replicate (n - length b) 0), length-replicate {A = ℕ} (n - length b) 0, le)
 
 -- The slot at hand has become another, made of a track.
-pub written_works : (c : CacheState) (r : Registers) (before before' passed : List ℕ) (p : Progress) (more new : List ℕ) (w : Window) (u : Outcome) (l : ℕ)
-    → Works c r before passed p → p.left ≡ Some l → c.held ≡ Some (number c.image.geometry r) → length new ≡ c.image.geometry.track_size → l - length more ≤ w.len
+pub written_works : (c : CacheState) (r : Registers) (before before' passed : List ℕ) (p : Progress) (more new : List ℕ) (w : Window) (u : Outcome)
+    → Works c r before passed p → c.held ≡ Some (number c.image.geometry r) → length new ≡ c.image.geometry.track_size → p.left - length more ≤ w.len
     → HasFilled (with_held c new) c.image.geometry r (number c.image.geometry r) p.opened before' (passed ++ more) w u
     → Works (with_held c new) r before' (passed ++ more) (next_progress p (length more) (Filled w u))
-written_works c r before before' passed p more new w u l x left held size le filled =
+written_works c r before before' passed p more new w u x held size le filled =
     let goes = x.goes in
     record {
       volume = record {
@@ -52,7 +50,7 @@ written_works c r before before' passed p more new w u l x left held size le fil
       anchored = λ _. held;
       goes = record {
         moved = rw (← goes.moved) (length-append passed more);
-        left = rw left le;
+        left = le;
         placed = filled;
         no_credit = goes.no_credit;
       };
@@ -139,9 +137,6 @@ form_filled g r before now o passed w u t0 e part i lead upd f lt offs begins sm
 
 -- More bytes.
 
-left_in_filled : (a : Action) (w : Window) (u : Outcome) (moved l k : ℕ) → LeftIs a (Filled w u) moved (Some l) → k ≤ l → (k ≤ w.len) × (l - k ≤ w.len - k)
-left_in_filled a w u moved l k x le = (omega (arith, x, le), omega (arith, x, le))
-
 abbrev pub filled_on : (g : Geometry) (r : Registers) (before now now' : List ℕ) (o : Opened) (passed more : List ℕ) (w : Window) (u : Outcome) → length more ≤ w.len → record_offsets (track_in now') ≡ record_offsets (track_in now)
     → IsFilled g r before now o passed w u → IsFilled g r before now' o (passed ++ more) (record { start = w.start + length more; len = w.len - length more }) u
 filled_on g r before now now' o passed more w u le offs f =
@@ -187,20 +182,20 @@ filled_absorbs c r before passed p more w u x may at =
     let g = c.image.geometry in
     let n : ℕ = number g r in
     let goes = x.goes in
-    let left = rw (at, may.left) at goes.left in
-    let le = left_in_filled (action_of p.opened.command) w u (length passed) may.l (length more) left may.room in
+    let left : p.left ≤ w.len = rw at at goes.left in
+    let le : length more ≤ w.len = omega (arith, left, may.room) in
     let P : Place → Type 0 = λ y. IsPlaced c g r n p.opened before passed y in
     let h : HasFilled c g r n p.opened before passed w u = subst P at goes.placed in
     let f = h.filled in
     let old = slot_at c.slots n in
     let new = overwritten old w.start more in
     let lt = there c r before passed p x in
-    let k = f.closes more le.0 in
+    let k = f.closes more le in
     let far = length-append passed more in
     let lead_len : length (drop f.lead passed) ≡ length passed - f.lead = length-drop f.lead passed in
     let start : length f.head + length (drop f.lead passed) ≡ w.start = omega (arith, f.start, lead_len) in
     let made : new ≡ f.head ++ (padded (drop f.lead passed ++ more) f.room ++ f.tail) =
-    next_made old f.head f.tail (drop f.lead passed) more f.room w.start h.slot_is start (omega (arith, lead_len, f.rest, le.0, f.begins)) in
+    next_made old f.head f.tail (drop f.lead passed) more f.room w.start h.slot_is start (omega (arith, lead_len, f.rest, le, f.begins)) in
     let made' : new ≡ f.head ++ (padded (drop f.lead (passed ++ more)) f.room ++ f.tail) = rw (next_bytes f.lead passed more f.begins) made in
     let slot : new ≡ slot_of g.track_size k.track = made' ∙ sym k.slot_is in
     let read = reads_new g.track_size k.track new k.fits slot in
@@ -208,25 +203,25 @@ filled_absorbs c r before passed p more w u x may at =
     let at_new = new_slot_at c n new h.at_hand.held lt in
     let w' : Window = record { start = w.start + length more; len = w.len - length more } in
     let now : List ℕ = slot_at (with_held c new).slots n in
-    let on = filled_on g r before old now p.opened passed more w u le.0 (ap (λ (y : List ℕ). record_offsets (track_in y)) at_new ∙ offs) f in
-    let wants = f.wants more le.0 in
+    let on = filled_on g r before old now p.opened passed more w u le (ap (λ (y : List ℕ). record_offsets (track_in y)) at_new ∙ offs) f in
+    let wants = f.wants more le in
     let has : HasFilled (with_held c new) g r n p.opened before (passed ++ more) w' u = record {
       at_hand = record { held = h.at_hand.held; readable = rw at_new read.0 };
       size = h.size;
       filled = on;
       slot_is = at_new ∙ made';
-      found = record { again = h.found.again; len = omega (arith, wants, f.rest, f.begins, far, le.0) };
+      found = record { again = h.found.again; len = omega (arith, wants, f.rest, f.begins, far, le) };
       takes = h.takes;
       some = omega (arith, h.some, far);
       stays = h.stays;
       cylinder = h.cylinder;
       head = h.head;
     } in
-    let works = written_works c r before before passed p more new w' u may.l x may.left h.at_hand.held read.2 le.1 has in
+    let works = written_works c r before before passed p more new w' u x h.at_hand.held read.2 (omega (arith, left, le)) has in
     record {
       held = h.at_hand.held;
-      le = le.0;
-      room = omega (arith, f.within, le.0);
+      le = le;
+      room = omega (arith, f.within, le);
       records = same_records g.track_size old new k.track (old_read old h.at_hand.readable) k.fits slot k.offsets_stay;
-      absorbs = written_absorbs c r before before passed p more new w' u works h.at_hand.held (rw at refl) (omega (arith, f.start, f.within, f.begins, f.lead_small, le.0, x.volume.geometry.limit));
+      absorbs = written_absorbs c r before before passed p more new w' u works h.at_hand.held (rw at refl) (omega (arith, f.start, f.within, f.begins, f.lead_small, le, x.volume.geometry.limit));
     }

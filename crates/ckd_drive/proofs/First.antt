@@ -1,22 +1,22 @@
 -- A command that has just found where its bytes stand.
 use Rattle.std.proofs.Common.{◌≡◌, ◌∙◌, ap, sym, subst, refl, ℕ, ◌+◌, ◌-◌, List, [], true, false, Some, None, length, arith}
 use Rattle.ckd_track.specs.Track.{track_of}
-use Rattle.ckd_image.specs.declared.geometry.Geometry.{Geometry}
+use Rattle.ckd_track.specs.declared.geometries.Geometry.{Geometry}
 use Rattle.ckd_sense.specs.declared.commands.Command.{Command}
 use Rattle.ckd_sense.specs.declared.commands.Command.TheVariants as command
-use Rattle.ckd_drive.specs.declared.registers.Registers.{Registers}
-use Rattle.ckd_drive.specs.declared.steps.Aim.TheVariants.{NoArea}
-use Rattle.ckd_drive.specs.declared.steps.Action.{Action}
-use Rattle.ckd_drive.specs.declared.steps.Action.TheVariants as action
-use Rattle.ckd_cache.specs.declared.extents.Extent.TheVariants as extent
-use Rattle.ckd_drive.specs.declared.steps.Opened.{Opened}
-use Rattle.ckd_drive.specs.declared.steps.Sight.TheVariants.{Found}
+use Rattle.ckd_command.specs.declared.registers.Registers.{Registers}
+use Rattle.ckd_command.specs.declared.steps.Aim.TheVariants.{NoArea}
+use Rattle.ckd_command.specs.declared.steps.Action.{Action}
+use Rattle.ckd_command.specs.declared.steps.Action.TheVariants as action
+use Rattle.ckd_position.specs.declared.extents.Extent.TheVariants as extent
+use Rattle.ckd_command.specs.declared.steps.Opened.{Opened}
+use Rattle.ckd_command.specs.declared.steps.Sight.TheVariants.{Found}
 use Rattle.ckd_cache.specs.declared.windows.Window.{Window}
 use Rattle.ckd_drive.specs.declared.places.Place.{Place}
-use Rattle.ckd_drive.specs.declared.places.Place.TheVariants.{Unfound, Sense, Field, Read, Search, Fill, Filled}
-use Rattle.ckd_drive.specs.Tables.{action_of, extent_of, aim}
-use Rattle.ckd_cache.specs.Contents.{Sighted, is_readable}
-use Rattle.ckd_drive.specs.Commands.{Closing, sight, area_bytes, bytes_for, area_ends, length_after, length_for, closing, close_by, outcome}
+use Rattle.ckd_drive.specs.declared.places.Place.TheVariants.{Sense, Field, Read, Search, Fill, Filled}
+use Rattle.ckd_command.specs.Tables.{action_of, extent_of, aim}
+use Rattle.ckd_position.specs.Contents.{Sighted, is_readable}
+use Rattle.ckd_command.specs.Commands.{Closing, sight, area_bytes, bytes_for, area_ends, length_after, length_for, closing, close_by, outcome}
 use Rattle.ckd_cache.specs.Buffer.{Lies}
 use Rattle.ckd_cache.specs.Cache.{CacheState}
 use Rattle.ckd_drive.specs.Half.{IsFirstPlace, IsPlaced, IsField, ReadsWhole, FieldAtHand, AtHand, field_size, slot_at}
@@ -125,10 +125,10 @@ lies_behind slot w a b e l = (let P : List ℕ → Type 0 = λ x. Lies slot w x 
 
 pub first_placed : (c : CacheState) (g : Geometry) (r : Registers) (n : ℕ) (o : Opened) (before : List ℕ) (p : Place)
     → IsFirstPlace (slot_at c.slots n) o r p → HandIfAimed c n o → sight g (track_of (slot_at c.slots n)) o r ≡ Found o → IsPlaced c g r n o before [] p
-first_placed c g r n o before (Sense u) f h again =
+first_placed c g r n o before (Sense b u) f h again =
     let t = track_of (slot_at c.slots n) in
     let is = sense_outcome g t o r [] f.0 in
-    (f.0, omega arith, record { again = again; len = sense_length g t o r [] f.0 }, record { so = ap outcome is ∙ sym f.1; unwritten = ap (λ (k : Closing). k.written) is })
+    (record { is_sense = f.0; bytes_are = f.1; room = omega arith }, record { again = again; len = sense_length g t o r [] f.0 }, record { so = ap outcome is ∙ sym f.2; unwritten = ap (λ (k : Closing). k.written) is })
 first_placed c g r n o before (Field x) f h again =
     let t = track_of (slot_at c.slots n) in
     let a = action_of o.command in (
@@ -158,5 +158,4 @@ first_placed c g r n o before (Fill w u) f h again =
       record { again = again; len = length_by action.Update g t o r [] f.0 ∙ ap length area ∙ f.1.size ∙ none_passed w.len },
       record { so = ap outcome is ∙ sym f.3; unwritten = ap (λ (k : Closing). k.written) is },
     )
-first_placed c g r n o before Unfound f h again = absurd f
 first_placed c g r n o before (Filled w u) f h again = absurd f

@@ -6,22 +6,22 @@ use Rattle.std.proofs.lemmas.Bool.Decides.{nat_tests}
 use Rattle.ckd_track.specs.Track.{Track, Record, track_of, track_in, record_in, no_record, record_offsets, record_at, slot_of, key_length, data_length, body_length}
 use Rattle.ckd_track.specs.Changes.{overwritten}
 use Rattle.ckd_track.specs.Charges.{has_room}
-use Rattle.ckd_image.specs.declared.geometry.Geometry.{Geometry}
+use Rattle.ckd_track.specs.declared.geometries.Geometry.{Geometry}
 use Rattle.ckd_position.specs.declared.areas.Area.{Area}
 use Rattle.ckd_position.specs.declared.areas.Area.TheVariants.{Of}
 use Rattle.ckd_position.specs.declared.areas.Part.{Part}
-use Rattle.ckd_drive.specs.declared.registers.Registers.{Registers}
-use Rattle.ckd_drive.specs.declared.steps.Action.{Action}
-use Rattle.ckd_drive.specs.declared.steps.Action.TheVariants as action
-use Rattle.ckd_cache.specs.declared.extents.Extent.TheVariants as extent
-use Rattle.ckd_drive.specs.declared.steps.Opened.{Opened}
+use Rattle.ckd_command.specs.declared.registers.Registers.{Registers}
+use Rattle.ckd_command.specs.declared.steps.Action.{Action}
+use Rattle.ckd_command.specs.declared.steps.Action.TheVariants as action
+use Rattle.ckd_position.specs.declared.extents.Extent.TheVariants as extent
+use Rattle.ckd_command.specs.declared.steps.Opened.{Opened}
 use Rattle.ckd_drive.specs.declared.places.Whole.TheVariants as whole
 use Rattle.ckd_cache.specs.declared.windows.Window.{Window}
 use Rattle.ckd_drive.specs.declared.places.Place.TheVariants.{Field, Filled}
 use Rattle.ckd_drive.specs.declared.places.Progress.{Progress}
-use Rattle.ckd_drive.specs.Tables.{action_of}
-use Rattle.ckd_cache.specs.Contents.{Sighted, is_readable, new_record, formatted, kept, padded, replaced, with_key_and_data, with_record_changed}
-use Rattle.ckd_drive.specs.Commands.{Closing, length_after, closing, outcome, own_home_address, new_record_fits, format_ends, writes}
+use Rattle.ckd_command.specs.Tables.{action_of}
+use Rattle.ckd_position.specs.Contents.{Sighted, is_readable, new_record, formatted, kept, padded, replaced, with_key_and_data, with_record_changed}
+use Rattle.ckd_command.specs.Commands.{Closing, length_after, closing, outcome, own_home_address, new_record_fits, format_ends, writes}
 use Rattle.ckd_cache.specs.Buffer.{FitsSlot, IsPlaceOf}
 use Rattle.ckd_cache.specs.Cache.{CacheState, with_held, slot_held}
 use Rattle.ckd_drive.specs.Half.{Works, MayTake, Absorbs, IsFilled, AtHand, FieldAtHand, slot_at, number, whole_of}
@@ -242,8 +242,8 @@ format_absorbs c r before passed p more f field count new part i w x may at k ne
     (λ m le. format_filled g r old p.opened b m part i k.is k.eight fits new_is.last (omega (arith, le, place.1))) in
     let whole : with_record_changed (replaced extent.KeyAndData (padded (drop 8 (b ++ [])) (update_length extent.KeyAndData (record_in t0 i)))) (Of part i) t0 ≡ t0 =
     format_written t a b [] part i k.eight new_is.last (omega arith) ∙ ap (λ (y : List ℕ). formatted t a y) (append-nil b) in
-    let left : may.l ≤ 8 - length passed = rw (at, may.left, k.is) at x.goes.left in
-    newly_absorbs c r before passed p more new w (outcome (format_ends r i)) (omega arith) x may k.at_hand.held (rw at refl) goes.again
+    let left : p.left ≤ 8 - length passed = rw (at, k.is) at x.goes.left in
+    newly_absorbs c r before passed p more new w (outcome (format_ends r i)) (omega arith) x k.at_hand.held (rw at refl) goes.again
     (takes_format (action_of p.opened.command) k.is) (record { stays = refl; cylinder = refl; head = refl }) (omega (arith, k.eight, goes.long)) (omega (arith, left, k.eight, goes.long)) (omega (arith, k.eight, goes.long))
     filled (made ∙ ap (slot_of g.track_size) (sym whole))
 

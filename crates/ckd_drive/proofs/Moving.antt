@@ -1,31 +1,32 @@
 -- Bytes that pass.
-use Rattle.std.proofs.Common.{◌≡◌, ◌∙◌, ap, sym, subst, refl, ℕ, ◌+◌, ◌-◌, ◌≤◌, List, ◌++◌, Bool, true, false, not, Option, Some, None, length, take, drop, slice_range, length-append, length-drop, drop-drop, arith}
-use Rattle.std.proofs.lemmas.List.{take-take, drop-take}
+use Rattle.std.proofs.Common.{◌≡◌, ◌∙◌, ap, sym, subst, refl, inl, inr, ◌⊎◌, ℕ, ◌+◌, ◌-◌, ◌<◌, ◌≤◌, ◌^◌, List, [], ◌++◌, true, false, Some, length, take, drop, slice_range, length-append, length-take, length-drop, drop-drop, arith}
+use Rattle.std.proofs.lemmas.List.{take-take, drop-take, get_or_past}
+use Rattle.std.proofs.lemmas.Bool.{cases_lt}
 use Rattle.ckd_track.specs.Track.{track_of}
-use Rattle.ckd_image.specs.declared.geometry.Geometry.{Geometry}
-use Rattle.ckd_sense.specs.SenseBytes.{sense_bytes}
-use Rattle.ckd_drive.specs.declared.registers.Registers.{Registers}
-use Rattle.ckd_drive.specs.declared.registers.Mark.{Mark}
-use Rattle.ckd_drive.specs.declared.steps.Action.{Action}
-use Rattle.ckd_drive.specs.declared.steps.Action.TheVariants as action
-use Rattle.ckd_drive.specs.declared.steps.Opened.{Opened}
-use Rattle.ckd_drive.specs.declared.steps.Outcome.{Outcome}
+use Rattle.ckd_track.specs.declared.geometries.Geometry.{Geometry}
+use Rattle.ckd_command.specs.declared.registers.Registers.{Registers}
+use Rattle.ckd_command.specs.declared.registers.Mark.{Mark}
+use Rattle.ckd_command.specs.declared.steps.Action.{Action}
+use Rattle.ckd_command.specs.declared.steps.Action.TheVariants as action
+use Rattle.ckd_command.specs.declared.steps.Opened.{Opened}
+use Rattle.ckd_command.specs.declared.steps.Outcome.{Outcome}
 use Rattle.ckd_cache.specs.declared.windows.Window.{Window}
 use Rattle.ckd_drive.specs.declared.places.Place.{Place}
-use Rattle.ckd_drive.specs.declared.places.Place.TheVariants.{Unfound, Sense, Field, Read, Search, Fill, Filled}
+use Rattle.ckd_drive.specs.declared.places.Place.TheVariants.{Sense, Field, Read, Search, Fill, Filled}
 use Rattle.ckd_drive.specs.declared.places.Progress.{Progress}
 use Rattle.ckd_drive.specs.declared.places.Stage.{Stage}
-use Rattle.ckd_drive.specs.declared.places.Stage.TheVariants.{Working}
-use Rattle.ckd_drive.specs.Tables.{action_of, is_giving}
-use Rattle.ckd_cache.specs.Contents.{Sighted}
-use Rattle.ckd_drive.specs.Commands.{Closing, area_bytes, length_after, closing, outcome}
+use Rattle.ckd_drive.specs.declared.places.Stage.TheVariants.{Passing}
+use Rattle.ckd_command.specs.Tables.{action_of, is_giving}
+use Rattle.ckd_position.specs.Contents.{Sighted}
+use Rattle.ckd_command.specs.Commands.{Closing, area_bytes, length_after, closing, outcome}
 use Rattle.ckd_cache.specs.Buffer.{Lies}
-use Rattle.ckd_cache.specs.Cache.{CacheState}
+use Rattle.ckd_cache.specs.Cache.{CacheState, IsVolume}
 use Rattle.ckd_drive.specs.Work as work
 use Rattle.ckd_drive.specs.Work.{DriveState, gives_now, takes_now, left_of, given_now, passed_of, moved_on}
-use Rattle.ckd_drive.specs.Half.{Stands, IsPlaced, IsField, ClosesUnwritten, LeftIs, remaining, next_progress, state_of, slot_at, number, is_filled_by, is_unfound, Rests, seen_by}
+use Rattle.ckd_drive.specs.Half.{Stands, IsPlaced, IsField, ClosesUnwritten, remaining, next_progress, given_on, state_of, slot_at, number, is_filled_by, seen_by}
 use Rattle.ckd_drive.proofs.First.{length_by, area_by, closing_by, sense_length, sense_outcome}
-use Rattle.ckd_drive.proofs.Looks.{goes_of, began_by, left_le}
+use Rattle.ckd_drive.proofs.Looks.{goes_of}
+use Rattle.std.specs.declared.cmp.Ordering.{Ordering}
 
 -- Windows.
 
@@ -49,41 +50,37 @@ lies_rest slot bytes w k l le =
       here = rw (behind_less (w.start + k) (w.len - k), ← here, drop_take k w.len (drop w.start slot) le, drop-drop k w.start slot) refl;
     }
 
+-- no slot is longer than a track size may be
+pub slot_small : (c : CacheState) (n : ℕ) → IsVolume c → length (slot_at c.slots n) ≤ 65536
+slot_small c n v = by_place (cases_lt n (length c.slots))
+  where
+    by_place : (n < length c.slots) ⊎ (length c.slots ≤ n) → length (slot_at c.slots n) ≤ 65536
+    by_place (inl lt) = (let e = v.sizes n [] lt in omega (arith, e, v.geometry.limit))
+    by_place (inr le) = (let e : slot_at c.slots n ≡ [] = get_or_past c.slots n [] le in rw e (omega arith))
+
 -- What may pass.
 
-pub gives_left : (o : Opened) (passed : List ℕ) (left : Option ℕ) → gives_now (work.Working o passed left) ≡ true → (l : ℕ) × (left ≡ Some l) × (is_giving (action_of o.command) ≡ true)
-gives_left o passed (Some l) e = (l, refl, e)
-gives_left o passed None e = absurd cc
-
 pub record MayMove (p : Progress) (more : List ℕ) : Type 0 where
-  pub l : ℕ
-  pub left : p.left ≡ Some l
-  pub room : length more ≤ l
+  pub room : length more ≤ p.left
+  pub giving : is_giving (action_of p.opened.command) ≡ true
 
-pub may_give : (c : CacheState) (r : Registers) (m : Mark) (s : Stage) (p : Progress) (before passed more : List ℕ) (began : Bool) (now : DriveState)
-    → s ≡ Working p → state_of c r m s before passed began ≡ now → gives_now now.work ≡ true → length more ≤ left_of now.work → MayMove p more × (is_giving (action_of p.opened.command) ≡ true)
-may_give c r m s p before passed more began now is now_is gives room =
-    let work_is : now.work ≡ work.Working p.opened passed p.left = sym (ap (λ (d : DriveState). d.work) now_is) ∙ rw is refl in
-    let x = gives_left p.opened passed p.left (rw work_is at gives) in
-    (record { l = x.0; left = x.1; room = rw (work_is, x.1) at room }, x.2)
+pub may_give : (c : CacheState) (r : Registers) (m : Mark) (s : Stage) (p : Progress) (before passed more : List ℕ) (now : DriveState)
+    → s ≡ Passing p → state_of c r m s before passed ≡ now → gives_now now.work ≡ true → length more ≤ left_of now.work → MayMove p more
+may_give c r m s p before passed more now is now_is gives room =
+    let work_is : now.work ≡ work.Passing p.opened passed p.left = sym (ap (λ (d : DriveState). d.work) now_is) ∙ rw is refl in
+    record { room = rw work_is at room; giving = rw work_is at gives }
 
-pub next_left : (a : Action) (place place' : Place) (moved moved' l k : ℕ) → LeftIs a place moved (Some l) → k ≤ l → is_unfound place' ≡ false → remaining a place' moved' ≡ remaining a place moved - k → LeftIs a place' moved' (Some (l - k))
-next_left a Unfound place' moved moved' l k x le not e = absurd x
-next_left a (Sense u) place' moved moved' l k x le not e = left_le a place' moved' (l - k) not (omega (arith, x, e))
-next_left a (Field f) place' moved moved' l k x le not e = left_le a place' moved' (l - k) not (omega (arith, x, e))
-next_left a (Read w u) place' moved moved' l k x le not e = left_le a place' moved' (l - k) not (omega (arith, x, e))
-next_left a (Search w u) place' moved moved' l k x le not e = left_le a place' moved' (l - k) not (omega (arith, x, e))
-next_left a (Fill w u) place' moved moved' l k x le not e = left_le a place' moved' (l - k) not (omega (arith, x, e))
-next_left a (Filled w u) place' moved moved' l k x le not e = left_le a place' moved' (l - k) not (omega (arith, x, e))
+pub next_left : (l k x y : ℕ) → l ≤ x → y ≡ x - k → l - k ≤ y
+next_left l k x y le e = omega (arith, le, e)
 
 -- the command goes on, and the track stays as it is
-pub goes_on : (c : CacheState) (r : Registers) (m : Mark) (s : Stage) (p : Progress) (before passed more : List ℕ) (began : Bool) (place' : Place) (k : ℕ)
-    → Stands c r m s before passed began → s ≡ Working p → MayMove p more → k ≡ length more → is_filled_by p.place ≡ false → is_filled_by place' ≡ false → is_unfound place' ≡ false
+pub goes_on : (c : CacheState) (r : Registers) (m : Mark) (s : Stage) (p : Progress) (before passed more : List ℕ) (place' : Place) (k : ℕ)
+    → Stands c r m s before passed → s ≡ Passing p → k ≡ length more → is_filled_by p.place ≡ false → is_filled_by place' ≡ false
     → remaining (action_of p.opened.command) place' (length (passed ++ more)) ≡ remaining (action_of p.opened.command) p.place (length passed) - length more
     → IsPlaced c c.image.geometry r (number c.image.geometry r) p.opened before (passed ++ more) place'
-    → Stands c r m (Working (next_progress p k place')) before (passed ++ more) began
-goes_on c r m s p before passed more began place' k x is may n f f' u rest placed =
-    let goes = goes_of c r m s p before passed began x is in
+    → Stands c r m (Passing (next_progress p k place')) before (passed ++ more)
+goes_on c r m s p before passed more place' k x is n f f' rest placed =
+    let goes = goes_of c r m s p before passed x is in
     let marked = rw (is, f) at x.marked in
     record {
       volume = x.volume;
@@ -92,11 +89,10 @@ goes_on c r m s p before passed more began place' k x is may n f f' u rest place
       marked = rw f' marked;
       work = record {
         moved = rw (n, ← goes.moved) (length-append passed more);
-        left = rw (n, may.left) (next_left (action_of p.opened.command) p.place place' (length passed) (length (passed ++ more)) may.l (length more) (rw may.left at goes.left) may.room u rest);
+        left = rw n (next_left p.left (length more) _ _ goes.left rest);
         placed = placed;
         no_credit = goes.no_credit;
       };
-      rests = rw (began_by began p m (let P : Stage → Type 0 = λ t. Rests began t m in subst P is x.rests)) tt;
     }
 
 -- Giving.
@@ -106,18 +102,15 @@ read_closes g r t o passed more u is k =
     let same : closing g t o r (passed ++ more) ≡ closing g t o r passed = closing_by action.Read g t o r (passed ++ more) is ∙ sym (closing_by action.Read g t o r passed is) in
     record { so = ap outcome same ∙ k.so; unwritten = ap (λ (x : Closing). x.written) same ∙ k.unwritten }
 
-left_in_window : (a : Action) (w : Window) (u : Outcome) (moved : ℕ) (l k : ℕ) → LeftIs a (Read w u) moved (Some l) → k ≤ l → k ≤ w.len
-left_in_window a w u moved l k x le = omega (arith, x, le)
-
-pub read_stands : (c : CacheState) (r : Registers) (m : Mark) (s : Stage) (p : Progress) (before passed more : List ℕ) (began : Bool) (w : Window) (u : Outcome) (k : ℕ)
-    → Stands c r m s before passed began → s ≡ Working p → p.place ≡ Read w u → MayMove p more → k ≡ length more
-    → Stands c r m (Working (next_progress p k (Read (record { start = w.start + k; len = w.len - k }) u))) before (passed ++ more) began
-read_stands c r m s p before passed more began w u k x is at may n =
+pub read_stands : (c : CacheState) (r : Registers) (m : Mark) (s : Stage) (p : Progress) (before passed more : List ℕ) (w : Window) (u : Outcome) (k : ℕ)
+    → Stands c r m s before passed → s ≡ Passing p → p.place ≡ Read w u → MayMove p more → k ≡ length more
+    → Stands c r m (Passing (next_progress p k (Read (record { start = w.start + k; len = w.len - k }) u))) before (passed ++ more)
+read_stands c r m s p before passed more w u k x is at may n =
     let g = c.image.geometry in
-    let goes = goes_of c r m s p before passed began x is in
+    let goes = goes_of c r m s p before passed x is in
     let t = track_of (slot_at c.slots (number g r)) in
-    let left = rw (at, may.left) at goes.left in
-    let le : length more ≤ w.len = left_in_window (action_of p.opened.command) w u (length passed) may.l (length more) left may.room in
+    let left : p.left ≤ w.len = rw at at goes.left in
+    let le : length more ≤ w.len = omega (arith, left, may.room) in
     let P : Place → Type 0 = λ y. IsPlaced c g r (number g r) p.opened before passed y in
     let placed = subst P at goes.placed in
     let h = placed.0 in
@@ -130,13 +123,36 @@ read_stands c r m s p before passed more began w u k x is at may n =
     (let Q : List ℕ → Type 0 = λ b. Lies (slot_at c.slots (number g r)) w' b in subst Q behind (lies_rest (slot_at c.slots (number g r)) (drop (length passed) area) w (length more) h.lies le)) in
     let whole : length area ≡ length passed + w.len = omega (arith, size, length-drop (length passed) area, h.room) in
     let wants : length_after g t p.opened r (passed ++ more) ≡ length area = length_by action.Read g t p.opened r (passed ++ more) h.is_read in
-    rw n (goes_on c r m s p before passed more began (Read w' u) (length more) x is may refl (rw at refl) refl refl (rw at refl) (
+    rw n (goes_on c r m s p before passed more (Read w' u) (length more) x is refl (rw at refl) refl (rw at refl) (
       record { is_read = h.is_read; held = h.held; lies = lies; room = omega (arith, whole, far, le); begins = omega (arith, h.begins, far) },
       record { again = placed.1.again; len = omega (arith, wants, whole, far, le) },
       read_closes g r t p.opened passed more u h.is_read placed.2,
     ))
 
--- Where the bytes that are given do not come from the track, they are the sense bytes.
+-- The sense bytes.
+
+sense_closes : (g : Geometry) (r : Registers) (t : Sighted) (o : Opened) (passed more : List ℕ) (u : Outcome) → action_of o.command ≡ action.GiveSense → ClosesUnwritten g r t o passed u → ClosesUnwritten g r t o (passed ++ more) u
+sense_closes g r t o passed more u is k =
+    let same : closing g t o r (passed ++ more) ≡ closing g t o r passed = sense_outcome g t o r (passed ++ more) is ∙ sym (sense_outcome g t o r passed is) in
+    record { so = ap outcome same ∙ k.so; unwritten = ap (λ (x : Closing). x.written) same ∙ k.unwritten }
+
+pub sense_stands : (c : CacheState) (r : Registers) (m : Mark) (s : Stage) (p : Progress) (before passed more b : List ℕ) (u : Outcome) (k : ℕ)
+    → Stands c r m s before passed → s ≡ Passing p → p.place ≡ Sense b u → MayMove p more → k ≡ length more
+    → Stands c r m (Passing (next_progress p k (Sense b u))) before (passed ++ more)
+sense_stands c r m s p before passed more b u k x is at may n =
+    let g = c.image.geometry in
+    let goes = goes_of c r m s p before passed x is in
+    let t = track_of (slot_at c.slots (number g r)) in
+    let left : p.left ≤ 6 - length passed = rw at at goes.left in
+    let P : Place → Type 0 = λ y. IsPlaced c g r (number g r) p.opened before passed y in
+    let h = subst P at goes.placed in
+    let far : length (passed ++ more) ≡ length passed + length more = length-append passed more in
+    let wants : length_after g t p.opened r (passed ++ more) ≡ 6 = sense_length g t p.opened r (passed ++ more) h.0.is_sense in
+    let room : length (passed ++ more) ≤ 6 = omega (arith, far, left, may.room, h.0.room) in
+    goes_on c r m s p before passed more (Sense b u) k x is n (rw at refl) refl (rw at (omega (arith, far)))
+    (record { is_sense = h.0.is_sense; bytes_are = h.0.bytes_are; room = room }, record { again = h.1.again; len = omega (arith, wants, room) }, sense_closes g r t p.opened passed more u h.0.is_sense h.2)
+
+-- Only those and the bytes of an area are given.
 
 field_takes : (a : Action) → IsField a → is_giving a ≡ true → ⊥
 field_takes action.SeekCylinderAndHead f e = cc
@@ -162,58 +178,127 @@ giving_two action.WriteHomeAddress e n = cc
 giving_two action.Format e n = cc
 giving_two action.Update e n = cc
 
-pub is_sense : (c : CacheState) (g : Geometry) (r : Registers) (n : ℕ) (o : Opened) (before passed : List ℕ) (p : Place) (l : ℕ)
-    → IsPlaced c g r n o before passed p → LeftIs (action_of o.command) p (length passed) (Some l) → is_giving (action_of o.command) ≡ true → ((w : Window) (u : Outcome) → p ≡ Read w u → ⊥) → (u : Outcome) × (p ≡ Sense u)
-is_sense c g r n o before passed Unfound l x le gives not = absurd le
-is_sense c g r n o before passed (Sense u) l x le gives not = (u, refl)
-is_sense c g r n o before passed (Field f) l x le gives not = absurd (field_takes (action_of o.command) x.0.is_field gives)
-is_sense c g r n o before passed (Read w u) l x le gives not = absurd (not w u refl)
-is_sense c g r n o before passed (Search w u) l x le gives not = absurd (let e : is_giving (action_of o.command) ≡ false = rw x.0.is_search refl in cc)
-is_sense c g r n o before passed (Fill w u) l x le gives not = absurd (let e : is_giving (action_of o.command) ≡ false = rw x.0.is_update refl in cc)
-is_sense c g r n o before passed (Filled w u) l x le gives not = absurd (giving_two (action_of o.command) gives x.takes)
+pub gives_not_field : (c : CacheState) (g : Geometry) (r : Registers) (n : ℕ) (o : Opened) (before passed f : List ℕ) → IsPlaced c g r n o before passed (Field f) → is_giving (action_of o.command) ≡ true → ⊥
+gives_not_field c g r n o before passed f x e = field_takes (action_of o.command) x.0.is_field e
 
-sense_closes : (g : Geometry) (r : Registers) (t : Sighted) (o : Opened) (passed more : List ℕ) (u : Outcome) → action_of o.command ≡ action.GiveSense → ClosesUnwritten g r t o passed u → ClosesUnwritten g r t o (passed ++ more) u
-sense_closes g r t o passed more u is k =
-    let same : closing g t o r (passed ++ more) ≡ closing g t o r passed = sense_outcome g t o r (passed ++ more) is ∙ sym (sense_outcome g t o r passed is) in
-    record { so = ap outcome same ∙ k.so; unwritten = ap (λ (x : Closing). x.written) same ∙ k.unwritten }
+pub gives_not_search : (c : CacheState) (g : Geometry) (r : Registers) (n : ℕ) (o : Opened) (before passed : List ℕ) (w : Window) (so_far : Ordering) → IsPlaced c g r n o before passed (Search w so_far) → is_giving (action_of o.command) ≡ true → ⊥
+gives_not_search c g r n o before passed w so_far x e = (let f : is_giving (action_of o.command) ≡ false = rw x.0.is_search refl in cc)
 
-six_left : (a : Action) (u : Outcome) (moved l k : ℕ) → LeftIs a (Sense u) moved (Some l) → k ≤ l → k ≤ 6 - moved
-six_left a u moved l k x le = omega (arith, x, le)
+pub gives_not_fill : (c : CacheState) (g : Geometry) (r : Registers) (n : ℕ) (o : Opened) (before passed : List ℕ) (w : Window) (u : Outcome) → IsPlaced c g r n o before passed (Fill w u) → is_giving (action_of o.command) ≡ true → ⊥
+gives_not_fill c g r n o before passed w u x e = (let f : is_giving (action_of o.command) ≡ false = rw x.0.is_update refl in cc)
 
-pub sense_stands : (c : CacheState) (r : Registers) (m : Mark) (s : Stage) (p : Progress) (before passed more : List ℕ) (began : Bool) (k : ℕ)
-    → Stands c r m s before passed began → s ≡ Working p → ((w : Window) (u : Outcome) → p.place ≡ Read w u → ⊥) → is_giving (action_of p.opened.command) ≡ true → MayMove p more → k ≡ length more
-    → Stands c r m (Working (next_progress p k p.place)) before (passed ++ more) began
-sense_stands c r m s p before passed more began k x is not gives may n =
+pub gives_not_filled : (c : CacheState) (g : Geometry) (r : Registers) (n : ℕ) (o : Opened) (before passed : List ℕ) (w : Window) (u : Outcome) → IsPlaced c g r n o before passed (Filled w u) → is_giving (action_of o.command) ≡ true → ⊥
+gives_not_filled c g r n o before passed w u x e = giving_two (action_of o.command) e x.takes
+
+-- The drive once bytes are given.
+
+pub given_stands : (c : CacheState) (r : Registers) (m : Mark) (s : Stage) (p : Progress) (before passed more : List ℕ) (k : ℕ)
+    → Stands c r m s before passed → s ≡ Passing p → MayMove p more → k ≡ length more
+    → Stands c r m (Passing (next_progress p k (given_on p.place k))) before (passed ++ more)
+given_stands c r m s p before passed more k x is may n = by_place p.place refl
+  where
+    placed : IsPlaced c c.image.geometry r (number c.image.geometry r) p.opened before passed p.place
+    placed = (goes_of c r m s p before passed x is).placed
+
+    by_place : (place : Place) → p.place ≡ place → Stands c r m (Passing (next_progress p k (given_on place k))) before (passed ++ more)
+    by_place (Sense b u) at = sense_stands c r m s p before passed more b u k x is at may n
+    by_place (Read w u) at = read_stands c r m s p before passed more w u k x is at may n
+    by_place (Field f) at = absurd (gives_not_field c c.image.geometry r (number c.image.geometry r) p.opened before passed f (rw at at placed) may.giving)
+    by_place (Search w so_far) at = absurd (gives_not_search c c.image.geometry r (number c.image.geometry r) p.opened before passed w so_far (rw at at placed) may.giving)
+    by_place (Fill w u) at = absurd (gives_not_fill c c.image.geometry r (number c.image.geometry r) p.opened before passed w u (rw at at placed) may.giving)
+    by_place (Filled w u) at = absurd (gives_not_filled c c.image.geometry r (number c.image.geometry r) p.opened before passed w u (rw at at placed) may.giving)
+
+-- what may be given: so many bytes, and they are what the definitions give
+pub record Lends (p : Progress) (now : DriveState) (bytes : List ℕ) : Type 0 where
+  pub size : length bytes ≡ left_of now.work
+  pub bytes_are : bytes ≡ slice_range (given_now now now.work) (length (passed_of now.work)) (length (passed_of now.work) + left_of now.work)
+
+pub sense_lends : (c : CacheState) (r : Registers) (m : Mark) (s : Stage) (p : Progress) (before passed b : List ℕ) (u : Outcome) (now : DriveState)
+    → Stands c r m s before passed → s ≡ Passing p → p.place ≡ Sense b u → state_of c r m s before passed ≡ now → Lends p now (slice_range b p.moved (p.moved + p.left))
+sense_lends c r m s p before passed b u now x is at now_is =
     let g = c.image.geometry in
-    let goes = goes_of c r m s p before passed began x is in
-    let t = track_of (slot_at c.slots (number g r)) in
-    let left' = rw may.left at goes.left in
-    let e = is_sense c g r (number g r) p.opened before passed p.place may.l goes.placed left' gives not in
-    let u = e.0 in
-    let at : p.place ≡ Sense u = e.1 in
-    let left = rw at at left' in
-    let le : length more ≤ 6 - length passed = six_left (action_of p.opened.command) u (length passed) may.l (length more) left may.room in
+    let goes = goes_of c r m s p before passed x is in
     let P : Place → Type 0 = λ y. IsPlaced c g r (number g r) p.opened before passed y in
-    let h = subst P at goes.placed in
-    let far : length (passed ++ more) ≡ length passed + length more = length-append passed more in
-    let wants : length_after g t p.opened r (passed ++ more) ≡ 6 = sense_length g t p.opened r (passed ++ more) h.0 in
-    rw at (goes_on c r m s p before passed more began (Sense u) k x is may n (rw at refl) refl refl (rw at (omega (arith, far)))
-    (h.0, omega (arith, far, le, h.1), record { again = h.2.again; len = omega (arith, wants, far, le, h.1) }, sense_closes g r t p.opened passed more u h.0 h.3))
+    let h = (subst P at goes.placed).0 in
+    let left : p.left ≤ 6 - length passed = rw at at goes.left in
+    let long : length b ≡ 6 = ap length h.bytes_are in
+    let size : length (slice_range b p.moved (p.moved + p.left)) ≡ p.left = omega (arith, length-take (p.moved + p.left - p.moved) (drop p.moved b), length-drop p.moved b, long, left, goes.moved, h.room) in
+    record {
+      size = rw (← now_is, is) size;
+      bytes_are = rw (← now_is, is, ← goes.moved, area_by action.GiveSense _ p.opened r h.is_sense, h.bytes_are) refl;
+    }
 
--- what is given where no area is
-pub sense_given : (c : CacheState) (r : Registers) (m : Mark) (s : Stage) (p : Progress) (before passed more : List ℕ) (began : Bool) (now : DriveState) (k : ℕ)
-    → Stands c r m s before passed began → s ≡ Working p → state_of c r m s before passed began ≡ now → ((w : Window) (u : Outcome) → p.place ≡ Read w u → ⊥) → is_giving (action_of p.opened.command) ≡ true → MayMove p more
-    → slice_range (sense_bytes r.sense) p.moved (p.moved + k) ≡ slice_range (given_now now now.work) (length (passed_of now.work)) (length (passed_of now.work) + k)
-sense_given c r m s p before passed more began now k x is now_is not gives may =
+-- where the bytes of an area stand that may be given
+pub record StandsInWindow (c : CacheState) (r : Registers) (p : Progress) (w : Window) : Type 0 where
+  pub held : c.held ≡ Some (number c.image.geometry r)
+  pub within : p.left ≤ w.len
+  pub inside : w.start + w.len ≤ length (slot_at c.slots (number c.image.geometry r))
+  pub small : w.start + w.len < 2 ^ 32
+
+pub read_window : (c : CacheState) (r : Registers) (m : Mark) (s : Stage) (p : Progress) (before passed : List ℕ) (w : Window) (u : Outcome)
+    → Stands c r m s before passed → s ≡ Passing p → p.place ≡ Read w u → StandsInWindow c r p w
+read_window c r m s p before passed w u x is at =
     let g = c.image.geometry in
-    let goes = goes_of c r m s p before passed began x is in
-    let left' = rw may.left at goes.left in
-    let e = is_sense c g r (number g r) p.opened before passed p.place may.l goes.placed left' gives not in
+    let goes = goes_of c r m s p before passed x is in
     let P : Place → Type 0 = λ y. IsPlaced c g r (number g r) p.opened before passed y in
-    let h = subst P e.1 goes.placed in
-    rw (← now_is, is, ← goes.moved, area_by action.GiveSense _ p.opened r h.0) refl
+    let h = (subst P at goes.placed).0 in
+    record {
+      held = h.held;
+      within = rw at at goes.left;
+      inside = h.lies.within;
+      small = omega (arith, h.lies.within, slot_small c (number g r) x.volume);
+    }
 
-pub moved_work : (c : CacheState) (r : Registers) (m : Mark) (s : Stage) (p : Progress) (before passed more : List ℕ) (began : Bool) (now : DriveState) (k : ℕ) (place : Place)
-    → s ≡ Working p → state_of c r m s before passed began ≡ now → MayMove p more → k ≡ length more → seen_by c.slots (number c.image.geometry r) before place ≡ seen_by c.slots (number c.image.geometry r) before p.place
-    → state_of c r m (Working (next_progress p k place)) before (passed ++ more) began ≡ record now { work = moved_on more now.work }
-moved_work c r m s p before passed more began now k place is now_is may n seen = rw (← now_is, is, n, may.left, seen) refl
+pub read_lends : (c : CacheState) (r : Registers) (m : Mark) (s : Stage) (p : Progress) (before passed slot : List ℕ) (w : Window) (u : Outcome) (now : DriveState)
+    → Stands c r m s before passed → s ≡ Passing p → p.place ≡ Read w u → slot ≡ slot_at c.slots (number c.image.geometry r) → state_of c r m s before passed ≡ now → Lends p now (slice_range slot w.start (w.start + p.left))
+read_lends c r m s p before passed slot w u now x is at slot_is now_is =
+    let g = c.image.geometry in
+    let old = slot_at c.slots (number g r) in
+    let goes = goes_of c r m s p before passed x is in
+    let left : p.left ≤ w.len = rw at at goes.left in
+    let P : Place → Type 0 = λ y. IsPlaced c g r (number g r) p.opened before passed y in
+    let h = (subst P at goes.placed).0 in
+    let area = area_bytes (track_of old) p.opened r in
+    let here : slice_range old w.start (w.start + p.left) ≡ slice_range area (length passed) (length passed + p.left) =
+    lies_first old (drop (length passed) area) w p.left h.lies left ∙ rw (behind_less (length passed) p.left) refl in
+    let size : length (slice_range old w.start (w.start + p.left)) ≡ p.left = omega (arith, length-take (w.start + p.left - w.start) (drop w.start old), length-drop w.start old, left, h.lies.within) in
+    record {
+      size = rw (slot_is, ← now_is, is) size;
+      bytes_are = rw (slot_is, ← now_is, is, at) here;
+    }
+
+pub take_range : (k l at : ℕ) (s : List ℕ) → k ≤ l → take k (slice_range s at (at + l)) ≡ slice_range s at (at + k)
+take_range k l at s le = rw (behind_less at l, behind_less at k) (take-take k l (drop at s) le)
+
+pub moved_work : (c : CacheState) (r : Registers) (m : Mark) (s : Stage) (p : Progress) (before passed more : List ℕ) (now : DriveState) (k : ℕ) (place : Place)
+    → s ≡ Passing p → state_of c r m s before passed ≡ now → k ≡ length more → seen_by c.slots (number c.image.geometry r) before place ≡ seen_by c.slots (number c.image.geometry r) before p.place
+    → state_of c r m (Passing (next_progress p k place)) before (passed ++ more) ≡ record now { work = moved_on more now.work }
+moved_work c r m s p before passed more now k place is now_is n seen = rw (← now_is, is, n, seen) refl
+
+pub given_seen : (slots : List (List ℕ)) (n : ℕ) (before : List ℕ) (p : Place) (k : ℕ) → seen_by slots n before (given_on p k) ≡ seen_by slots n before p
+given_seen slots n before (Sense b u) k = refl
+given_seen slots n before (Read w u) k = refl
+given_seen slots n before (Field f) k = refl
+given_seen slots n before (Search w u) k = refl
+given_seen slots n before (Fill w u) k = refl
+given_seen slots n before (Filled w u) k = refl
+
+-- what passing so many bytes makes of the drive
+pub record HasPassed (c : CacheState) (r : Registers) (m : Mark) (p : Progress) (before passed more : List ℕ) (now : DriveState) (k : ℕ) : Type 0 where
+  pub stands : Stands c r m (Passing (next_progress p k (given_on p.place k))) before (passed ++ more)
+  pub state : state_of c r m (Passing (next_progress p k (given_on p.place k))) before (passed ++ more)
+      ≡ record now { work = moved_on (slice_range (given_now now now.work) (length (passed_of now.work)) (length (passed_of now.work) + k)) now.work }
+
+pub has_passed : (c : CacheState) (r : Registers) (m : Mark) (s : Stage) (p : Progress) (before passed bytes : List ℕ) (now : DriveState) (k : ℕ)
+    → Stands c r m s before passed → s ≡ Passing p → state_of c r m s before passed ≡ now → gives_now now.work ≡ true → k ≤ left_of now.work
+    → length bytes ≡ left_of now.work → bytes ≡ slice_range (given_now now now.work) (length (passed_of now.work)) (length (passed_of now.work) + left_of now.work)
+    → HasPassed c r m p before passed (take k bytes) now k
+has_passed c r m s p before passed bytes now k x is now_is gives le long are =
+    let more : List ℕ = take k bytes in
+    let n : k ≡ length more = omega (arith, length-take k bytes, long, le) in
+    let may = may_give c r m s p before passed more now is now_is gives (omega (arith, n, le)) in
+    let range : more ≡ slice_range (given_now now now.work) (length (passed_of now.work)) (length (passed_of now.work) + k) = rw are (take_range k (left_of now.work) (length (passed_of now.work)) (given_now now now.work) le) in
+    record {
+      stands = given_stands c r m s p before passed more k x is may n;
+      state = moved_work c r m s p before passed more now k (given_on p.place k) is now_is n (given_seen c.slots (number c.image.geometry r) before p.place k) ∙ ap (λ (b : List ℕ). record now { work = moved_on b now.work }) range;
+    }

@@ -5,22 +5,22 @@ use Rattle.std.proofs.lemmas.Bool.Decides.{nat_tests}
 use Rattle.ckd_track.specs.Track.{track_of, track_in, record_offsets, slot_of}
 use Rattle.ckd_track.specs.Changes.{overwritten, bare_track}
 use Rattle.ckd_track.proofs.Slots.{length-slot_of}
-use Rattle.ckd_image.specs.declared.geometry.Geometry.{Geometry}
-use Rattle.ckd_drive.specs.declared.registers.Registers.{Registers}
-use Rattle.ckd_drive.specs.declared.steps.Action.{Action}
-use Rattle.ckd_drive.specs.declared.steps.Action.TheVariants as action
-use Rattle.ckd_drive.specs.declared.steps.Opened.{Opened}
-use Rattle.ckd_drive.specs.declared.steps.Outcome.{Outcome}
-use Rattle.ckd_drive.specs.declared.steps.Sight.TheVariants.{Found}
+use Rattle.ckd_track.specs.declared.geometries.Geometry.{Geometry}
+use Rattle.ckd_command.specs.declared.registers.Registers.{Registers}
+use Rattle.ckd_command.specs.declared.steps.Action.{Action}
+use Rattle.ckd_command.specs.declared.steps.Action.TheVariants as action
+use Rattle.ckd_command.specs.declared.steps.Opened.{Opened}
+use Rattle.ckd_command.specs.declared.steps.Outcome.{Outcome}
+use Rattle.ckd_command.specs.declared.steps.Sight.TheVariants.{Found}
 use Rattle.ckd_drive.specs.declared.places.Whole.{Whole}
 use Rattle.ckd_drive.specs.declared.places.Whole.TheVariants as whole
 use Rattle.ckd_cache.specs.declared.windows.Window.{Window}
 use Rattle.ckd_drive.specs.declared.places.Place.{Place}
-use Rattle.ckd_drive.specs.declared.places.Place.TheVariants.{Unfound, Sense, Field, Read, Search, Fill, Filled}
+use Rattle.ckd_drive.specs.declared.places.Place.TheVariants.{Sense, Field, Read, Search, Fill, Filled}
 use Rattle.ckd_drive.specs.declared.places.Progress.{Progress}
-use Rattle.ckd_drive.specs.Tables.{action_of}
-use Rattle.ckd_cache.specs.Contents.{Sighted, padded}
-use Rattle.ckd_drive.specs.Commands.{Closing, sight, length_after, closing, outcome, own_home_address, home_address_ends, writes}
+use Rattle.ckd_command.specs.Tables.{action_of}
+use Rattle.ckd_position.specs.Contents.{Sighted, padded}
+use Rattle.ckd_command.specs.Commands.{Closing, sight, length_after, closing, outcome, own_home_address, home_address_ends, writes}
 use Rattle.ckd_cache.specs.Cache.{CacheState, IsVolume, with_held}
 use Rattle.ckd_drive.specs.Half.{Works, MayTake, Absorbs, HasFilled, IsFilled, FieldAtHand, slot_at, number, seen_by, is_filled_by, whole_of}
 use Rattle.ckd_cache.proofs.Writes.{bare_fits}
@@ -29,8 +29,7 @@ use Rattle.ckd_drive.proofs.First.{length_by, closing_by}
 use Rattle.ckd_drive.proofs.Takes.{ChangesNothing, field_goes, field_absorbs}
 
 unfilled_sees : (slots : List (List ℕ)) (n : ℕ) (before : List ℕ) (p : Place) → is_filled_by p ≡ false → seen_by slots n before p ≡ slots
-unfilled_sees slots n before Unfound e = refl
-unfilled_sees slots n before (Sense u) e = refl
+unfilled_sees slots n before (Sense b u) e = refl
 unfilled_sees slots n before (Field f) e = refl
 unfilled_sees slots n before (Read w u) e = refl
 unfilled_sees slots n before (Search w u) e = refl
@@ -45,14 +44,14 @@ pub record StaysOn (r : Registers) (u : Outcome) : Type 0 where
 
 -- a command's first bytes that change the track
 pub newly_absorbs : (c : CacheState) (r : Registers) (before passed : List ℕ) (p : Progress) (more new : List ℕ) (w : Window) (u : Outcome) (le0 : length {A = ℕ} [] ≤ w.len)
-    → Works c r before passed p → (may : MayTake p more) → c.held ≡ Some (number c.image.geometry r) → is_filled_by p.place ≡ false
+    → Works c r before passed p → c.held ≡ Some (number c.image.geometry r) → is_filled_by p.place ≡ false
     → sight c.image.geometry (track_of (slot_at c.slots (number c.image.geometry r))) p.opened r ≡ Found p.opened
     → (action_of p.opened.command ≡ action.GiveSense → ⊥) × (action_of p.opened.command ≡ action.Read → ⊥) → StaysOn r u
-    → 0 < length passed + length more → may.l - length more ≤ w.len → length passed + length more < 2 ^ 32
+    → 0 < length passed + length more → p.left - length more ≤ w.len → length passed + length more < 2 ^ 32
     → (f : IsFilled c.image.geometry r (slot_at c.slots (number c.image.geometry r)) (slot_at (with_held c new).slots (number c.image.geometry r)) p.opened (passed ++ more) w u)
     → new ≡ slot_of c.image.geometry.track_size (f.closes [] le0).track
     → Absorbs c (with_held c new) r before (slot_at c.slots (number c.image.geometry r)) passed p more (Filled w u)
-newly_absorbs c r before passed p more new w u le0 x may held plain again takes on some left small f is =
+newly_absorbs c r before passed p more new w u le0 x held plain again takes on some left small f is =
     let g = c.image.geometry in
     let n : ℕ = number g r in
     let lt = there c r before passed p x in
@@ -77,7 +76,7 @@ newly_absorbs c r before passed p more new w u le0 x may held plain again takes 
       cylinder = on.cylinder;
       head = on.head;
     } in
-    let works = written_works c r before old passed p more new w u may.l x may.left held read.2 left has in
+    let works = written_works c r before old passed p more new w u x held read.2 left has in
     written_absorbs c r before old passed p more new w u works held (set-get_or c.slots n [] ∙ sym (unfilled_sees c.slots n before p.place plain)) small
 
 -- What a field is that came whole.
@@ -256,8 +255,8 @@ home_absorbs c r before passed p more f field h new x may at is e new_is =
     let read = reads_new g.track_size (bare_track b) new (bare_fits g.track_size b five room) made in
     let at_new = new_slot_at c n new held (there c r before passed p x) in
     let offs : record_offsets (track_in (slot_at (with_held c new).slots n)) ≡ record_offsets (bare_track b) = ap (λ (y : List ℕ). record_offsets (track_in y)) at_new ∙ ap record_offsets read.1 in
-    let left : may.l ≤ 5 - length passed = rw (at, may.left, home.is) at goes.left in
-    newly_absorbs c r before passed p more new (record { start = 5; len = 0 }) (outcome (home_address_ends p.opened r)) (omega arith) x may held (rw at refl) k.again
+    let left : p.left ≤ 5 - length passed = rw (at, home.is) at goes.left in
+    newly_absorbs c r before passed p more new (record { start = 5; len = 0 }) (outcome (home_address_ends p.opened r)) (omega arith) x held (rw at refl) k.again
     (takes_home (action_of p.opened.command) home.is) (record { stays = refl; cylinder = refl; head = refl }) (omega (arith, five, k.long)) (omega (arith, left, five, k.long)) (omega (arith, five, k.long))
     (home_filled g r (slot_at c.slots n) (slot_at (with_held c new).slots n) p.opened b home.is five own room offs) made
   where

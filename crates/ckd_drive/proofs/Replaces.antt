@@ -6,30 +6,30 @@ use Rattle.std.proofs.lemmas.Bool.Decides.{nat_tests}
 use Rattle.ckd_track.specs.Track.{Track, Record, track_of, track_in, track_or_none, record_in, no_record, record_offsets, record_size, slot_of}
 use Rattle.ckd_track.specs.Changes.{overwritten}
 use Rattle.ckd_track.proofs.Slots.{length-slot_of, offsets-set}
-use Rattle.ckd_image.specs.declared.geometry.Geometry.{Geometry}
+use Rattle.ckd_track.specs.declared.geometries.Geometry.{Geometry}
 use Rattle.ckd_sense.specs.declared.commands.Command.{Command}
 use Rattle.ckd_sense.specs.declared.commands.Command.TheVariants as command
 use Rattle.ckd_position.specs.declared.areas.Area.{Area}
 use Rattle.ckd_position.specs.declared.areas.Area.TheVariants.{HomeAddress, Of}
 use Rattle.ckd_position.specs.declared.areas.Part.{Part}
-use Rattle.ckd_drive.specs.declared.registers.Registers.{Registers}
-use Rattle.ckd_drive.specs.declared.steps.Action.{Action}
-use Rattle.ckd_drive.specs.declared.steps.Action.TheVariants as action
-use Rattle.ckd_cache.specs.declared.extents.Extent.{Extent}
-use Rattle.ckd_cache.specs.declared.extents.Extent.TheVariants as extent
-use Rattle.ckd_drive.specs.declared.steps.Opened.{Opened}
-use Rattle.ckd_drive.specs.declared.steps.Outcome.{Outcome}
-use Rattle.ckd_drive.specs.declared.steps.Sight.TheVariants.{Found}
+use Rattle.ckd_command.specs.declared.registers.Registers.{Registers}
+use Rattle.ckd_command.specs.declared.steps.Action.{Action}
+use Rattle.ckd_command.specs.declared.steps.Action.TheVariants as action
+use Rattle.ckd_position.specs.declared.extents.Extent.{Extent}
+use Rattle.ckd_position.specs.declared.extents.Extent.TheVariants as extent
+use Rattle.ckd_command.specs.declared.steps.Opened.{Opened}
+use Rattle.ckd_command.specs.declared.steps.Outcome.{Outcome}
+use Rattle.ckd_command.specs.declared.steps.Sight.TheVariants.{Found}
 use Rattle.ckd_cache.specs.declared.windows.Window.{Window}
 use Rattle.ckd_drive.specs.declared.places.Place.{Place}
 use Rattle.ckd_drive.specs.declared.places.Place.TheVariants.{Fill, Filled}
 use Rattle.ckd_drive.specs.declared.places.Progress.{Progress}
-use Rattle.ckd_drive.specs.Tables.{action_of, extent_of}
-use Rattle.ckd_cache.specs.Contents.{Sighted, bytes_of, padded, replaced, with_record_changed}
-use Rattle.ckd_drive.specs.Commands.{Closing, bytes_at, area_bytes, sight, closing, end_of_area, updated, outcome, writes}
+use Rattle.ckd_command.specs.Tables.{action_of, extent_of}
+use Rattle.ckd_position.specs.Contents.{Sighted, bytes_of, padded, replaced, with_record_changed}
+use Rattle.ckd_command.specs.Commands.{Closing, bytes_at, area_bytes, sight, closing, end_of_area, updated, outcome, writes}
 use Rattle.ckd_cache.specs.Buffer.{FitsSlot, IsUpdate, IsRecordOf, SameRecords, IsPlaceOf}
 use Rattle.ckd_cache.specs.Cache.{CacheState, with_held, slot_held}
-use Rattle.ckd_drive.specs.Half.{Works, MayTake, Absorbs, IsPlaced, IsFilled, ClosesUnwritten, AtHand, LeftIs, PlaceIn, slot_at, number}
+use Rattle.ckd_drive.specs.Half.{Works, MayTake, Absorbs, IsPlaced, IsFilled, ClosesUnwritten, AtHand, PlaceIn, slot_at, number}
 use Rattle.ckd_cache.proofs.Writes.{update_offset, update_length, update_place}
 use Rattle.ckd_cache.proofs.Updates.{form_of, same_records}
 use Rattle.ckd_drive.proofs.Fills.{there, new_slot_at, reads_new, ClosesFilled, form_filled, length-padded, next_made, old_read}
@@ -223,7 +223,7 @@ pub record FillGoes (c : CacheState) (r : Registers) (passed : List ℕ) (p : Pr
   pub upd : IsUpdate (extent_of p.opened.command)
   pub none : passed ≡ []
   pub le : length more ≤ w.len
-  pub left : (l : ℕ) → p.left ≡ Some l → l ≤ w.len
+  pub left : p.left ≤ w.len
   pub there : IsRecordOf (track_in (slot_at c.slots (number c.image.geometry r))) a
   pub place : IsPlaceOf (extent_of p.opened.command) (track_in (slot_at c.slots (number c.image.geometry r))) a w
   pub within : w.start + w.len ≤ c.image.geometry.track_size
@@ -231,22 +231,18 @@ pub record FillGoes (c : CacheState) (r : Registers) (passed : List ℕ) (p : Pr
   pub size : length (area_bytes (track_of (slot_at c.slots (number c.image.geometry r))) p.opened r) ≡ w.len
   pub so : outcome (end_of_area (track_of (slot_at c.slots (number c.image.geometry r))) p.opened r) ≡ u
 
-left_in_fill : (a : Action) (w : Window) (u : Outcome) (moved l : ℕ) → LeftIs a (Fill w u) moved (Some l) → l ≤ w.len
-left_in_fill a w u moved l x = x
-
 -- bytes that come belong to an area
 pub no_area : (c : CacheState) (r : Registers) (before passed : List ℕ) (p : Progress) (more : List ℕ) (w : Window) (u : Outcome) → Works c r before passed p → MayTake p more → p.place ≡ Fill w u → p.opened.area ≡ None → 0 < length more → ⊥
 no_area c r before passed p more w u x may at none some =
     let g = c.image.geometry in
     let n : ℕ = number g r in
     let t = track_of (slot_at c.slots n) in
-    let left = rw (at, may.left) at x.goes.left in
+    let left : p.left ≤ w.len = rw at at x.goes.left in
     let P : Place → Type 0 = λ y. IsPlaced c g r n p.opened before passed y in
     let h = (subst P at x.goes.placed).0 in
     let bytes : area_bytes t p.opened r ≡ [] = area_by action.Update t p.opened r h.is_update ∙ rw none refl in
     let zero : 0 ≡ w.len = sym (ap length bytes) ∙ h.lies.size in
-    let le = left_in_fill (action_of p.opened.command) w u (length passed) may.l left in
-    omega (arith, zero, le, may.room, some)
+    omega (arith, zero, left, may.room, some)
 
 pub fill_goes : (c : CacheState) (r : Registers) (before passed : List ℕ) (p : Progress) (more : List ℕ) (a : Area) (w : Window) (u : Outcome) → Works c r before passed p → MayTake p more → p.place ≡ Fill w u → p.opened.area ≡ Some a → 0 < length more
     → FillGoes c r passed p more a w u
@@ -255,19 +251,18 @@ fill_goes c r before passed p more a w u x may at area some =
     let n : ℕ = number g r in
     let old = slot_at c.slots n in
     let t = track_of old in
-    let left = rw (at, may.left) at x.goes.left in
+    let left : p.left ≤ w.len = rw at at x.goes.left in
     let P : Place → Type 0 = λ y. IsPlaced c g r n p.opened before passed y in
     let placed = subst P at x.goes.placed in
     let h = placed.0 in
     let e = extent_of p.opened.command in
     let upd = update_extent p.opened.command h.is_update in
     let reads = old_read old h.at_hand.readable in
-    let le = left_in_fill (action_of p.opened.command) w u (length passed) may.l left in
     let bytes : area_bytes t p.opened r ≡ bytes_of e t a = area_by action.Update t p.opened r h.is_update ∙ ap (λ (y : Option Area). bytes_at e t y) area in
     let B : Sighted → Type 0 = λ y. 0 < length (bytes_of e y a) in
     let W : Option Area → Type 0 = λ y. PlaceIn e (track_in old) y w in
     let count : length (bytes_of e t a) ≡ w.len = ap length (sym bytes) ∙ h.lies.size in
-    let full : 0 < length (bytes_of e t a) = omega (arith, count, le, may.room, some) in
+    let full : 0 < length (bytes_of e t a) = omega (arith, count, left, may.room, some) in
     let closes = closing_by action.Update g t p.opened r [] h.is_update in
     let K : List ℕ → Type 0 = λ b. ClosesUnwritten g r t p.opened b u in
     let closed = subst K h.none placed.2 in
@@ -276,8 +271,8 @@ fill_goes c r before passed p more a w u x may at area some =
       hand = h.at_hand;
       upd = upd;
       none = h.none;
-      le = omega (arith, le, may.room);
-      left = λ l is. (let same : Some may.l ≡ Some l = sym may.left ∙ is in let m : may.l ≡ l = ap (λ (y : Option ℕ). unwrap_or y 0) same in omega (arith, m, le));
+      le = omega (arith, left, may.room);
+      left = left;
       there = bytes_there e (track_in old) a upd (subst B reads full);
       place = subst W area h.place;
       within = omega (arith, h.lies.within, x.volume.sizes n [] (there c r before passed p x));
@@ -351,8 +346,8 @@ fill_absorbs c r before passed p more (Of part i) w u x may at area some k f =
     let whole : b ++ [] ≡ more = append-nil b ∙ b_is in
     record {
       records = same_records size s1 new t1 (old_read s1 read1.0) form.fits new_is (form.offsets ∙ sym (ap record_offsets read1.1));
-      absorbs = newly_absorbs c r before passed p more new w' u (omega arith) x may k.hand.held (rw at refl) k.again (takes_update (action_of p.opened.command) k.is) (ends_on (track_of old) p.opened r u k.so)
-          (omega (arith, some)) (let l = k.left may.l may.left in omega (arith, l)) (omega (arith, none_long, k.le, k.within, x.volume.geometry.limit)) filled
+      absorbs = newly_absorbs c r before passed p more new w' u (omega arith) x k.hand.held (rw at refl) k.again (takes_update (action_of p.opened.command) k.is) (ends_on (track_of old) p.opened r u k.so)
+          (omega (arith, some)) (let l = k.left in omega (arith, l)) (omega (arith, none_long, k.le, k.within, x.volume.geometry.limit)) filled
           (new_is ∙ ap (λ (y : List ℕ). slot_of size (with_record_changed (replaced e (padded y room0)) (Of part i) t0)) (sym whole));
     }
 

@@ -2,7 +2,7 @@
 use Rattle.std.proofs.Common.{◌≡◌, ap, sym, subst, refl, ℕ, ◌+◌, Bool, true, false, not, ◌&&◌, ◌==◌, if◌then◌else◌, Some, arith}
 use Rattle.ckd_track.specs.Track.{track_or_none}
 use Rattle.ckd_track.specs.Model.{heads_of}
-use Rattle.ckd_image.specs.declared.geometry.Geometry.{Geometry}
+use Rattle.ckd_track.specs.declared.geometries.Geometry.{Geometry}
 use Rattle.ckd_position.specs.declared.areas.Area.{Area}
 use Rattle.ckd_position.specs.declared.areas.Area.TheVariants.{HomeAddress, Of}
 use Rattle.ckd_position.specs.declared.areas.Position.TheVariants.{AtIndex}
@@ -14,21 +14,21 @@ use Rattle.ckd_position.specs.declared.areas.Next.{Next as NextArea}
 use Rattle.ckd_position.specs.declared.areas.Next.TheVariants as next
 use Rattle.ckd_position.specs.Areas.{IsOnTrack, IfFound, next_of_kind}
 use Rattle.ckd_sense.specs.Masks.{allows_head_change}
-use Rattle.ckd_drive.specs.declared.registers.Registers.{Registers}
-use Rattle.ckd_drive.specs.declared.registers.Lap.{Lap}
-use Rattle.ckd_drive.specs.declared.registers.Lap.TheVariants.{First, Second}
-use Rattle.ckd_drive.specs.declared.steps.Aim.{Aim}
-use Rattle.ckd_drive.specs.declared.steps.Aim.TheVariants.{NoArea, Next, Credited}
-use Rattle.ckd_drive.specs.declared.steps.Action.{Action}
-use Rattle.ckd_drive.specs.declared.steps.Action.TheVariants as action
-use Rattle.ckd_cache.specs.declared.extents.Extent.{Extent}
-use Rattle.ckd_cache.specs.declared.extents.Extent.TheVariants as extent
-use Rattle.ckd_drive.specs.declared.steps.Opened.{Opened}
-use Rattle.ckd_drive.specs.declared.steps.Sight.{Sight}
-use Rattle.ckd_drive.specs.declared.steps.Sight.TheVariants.{Found, IndexPassed, NextHead, Missed}
-use Rattle.ckd_drive.specs.Tables.{aim, action_of, needs_readable}
-use Rattle.ckd_cache.specs.Contents.{Sighted, is_readable}
-use Rattle.ckd_drive.specs.Commands.{IsAtTrack, sight, sight_of, look_for, next_head, turned, moved_to, with_cause}
+use Rattle.ckd_command.specs.declared.registers.Registers.{Registers}
+use Rattle.ckd_command.specs.declared.registers.Lap.{Lap}
+use Rattle.ckd_command.specs.declared.registers.Lap.TheVariants.{First, Second}
+use Rattle.ckd_command.specs.declared.steps.Aim.{Aim}
+use Rattle.ckd_command.specs.declared.steps.Aim.TheVariants.{NoArea, Next, Credited}
+use Rattle.ckd_command.specs.declared.steps.Action.{Action}
+use Rattle.ckd_command.specs.declared.steps.Action.TheVariants as action
+use Rattle.ckd_position.specs.declared.extents.Extent.{Extent}
+use Rattle.ckd_position.specs.declared.extents.Extent.TheVariants as extent
+use Rattle.ckd_command.specs.declared.steps.Opened.{Opened}
+use Rattle.ckd_command.specs.declared.steps.Sight.{Sight}
+use Rattle.ckd_command.specs.declared.steps.Sight.TheVariants.{Found, IndexPassed, NextHead, Missed}
+use Rattle.ckd_command.specs.Tables.{aim, action_of, needs_readable}
+use Rattle.ckd_position.specs.Contents.{Sighted, is_readable}
+use Rattle.ckd_command.specs.Commands.{IsAtTrack, sight, sight_of, look_for, next_head, turned, moved_to, at_index, with_cause}
 use Rattle.ckd_sense.specs.declared.sense_bytes.TheConstants.Sense as cause
 use Rattle.ckd_cache.specs.Buffer.{HasBytes}
 use Rattle.ckd_drive.specs.Half.{AreaIsThere, ReadsWhole, SightKeeps}
@@ -51,7 +51,7 @@ by_tests P true b x y z p q s = p
 by_tests P false true x y z p q s = q
 by_tests P false false x y z p q s = s refl
 
-by_lap : (P : Sight → Type 0) (r : Registers) (l : Lap) → P (IndexPassed (record r { position = AtIndex; lap = Second })) → ((c : Sense) → P (Missed (with_cause r c))) → P (turned r l)
+by_lap : (P : Sight → Type 0) (r : Registers) (l : Lap) → P (IndexPassed (record r { position = AtIndex; lap = Second })) → ((c : Sense) → P (Missed (with_cause (at_index r) c))) → P (turned r l)
 by_lap P r First passed missed = passed
 by_lap P r Second passed missed = missed _
 
@@ -61,10 +61,10 @@ by_track P false x y p q = q
 
 -- a look that passes the index goes on by one of these ways
 pub passing : (P : Sight → Type 0) (g : Geometry) (o : Opened) (r : Registers) → P (IndexPassed (record r { position = AtIndex; lap = Second }))
-    → ((r.head + 1 == heads_of g.model) ≡ false → P (NextHead (moved_to r r.cylinder (r.head + 1)))) → ((c : Sense) → P (Missed (with_cause r c))) → P (sight_of g o r next.IndexPassed)
+    → ((r.head + 1 == heads_of g.model) ≡ false → P (NextHead (moved_to r r.cylinder (r.head + 1)))) → ((c : Sense) → P (Missed (with_cause (at_index r) c))) → P (sight_of g o r next.IndexPassed)
 passing P g o r passed head missed =
     by_track P o.multi_track (next_head g r) (turned r r.lap)
-    (by_tests P (not (allows_head_change r.file_mask)) (r.head + 1 == heads_of g.model) (Missed (with_cause r cause.HEAD_CHANGE_NOT_ALLOWED)) (Missed (with_cause r cause.END_OF_CYLINDER)) (NextHead (moved_to r r.cylinder (r.head + 1)))
+    (by_tests P (not (allows_head_change r.file_mask)) (r.head + 1 == heads_of g.model) (Missed (with_cause (at_index r) cause.HEAD_CHANGE_NOT_ALLOWED)) (Missed (with_cause (at_index r) cause.END_OF_CYLINDER)) (NextHead (moved_to r r.cylinder (r.head + 1)))
     (missed _) (missed _) head)
     (by_lap P r r.lap passed missed)
 

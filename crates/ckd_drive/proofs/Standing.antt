@@ -6,16 +6,16 @@ use Rattle.ckd_track.specs.Model.{heads_of}
 use Rattle.ckd_track.specs.declared.model.DriveModel.{DriveModel}
 use Rattle.ckd_track.specs.declared.model.DriveModel.TheVariants.{D2311, D2314}
 use Rattle.ckd_image.specs.declared.store.StoreFault.{StoreFault}
-use Rattle.ckd_drive.specs.declared.registers.Registers.{Registers}
-use Rattle.ckd_drive.specs.declared.registers.Mark.{Mark}
-use Rattle.ckd_drive.specs.declared.registers.Mark.TheVariants.{Saved, Lost}
+use Rattle.ckd_command.specs.declared.registers.Registers.{Registers}
+use Rattle.ckd_command.specs.declared.registers.Mark.{Mark}
+use Rattle.ckd_command.specs.declared.registers.Mark.TheVariants.{Saved, Lost}
 use Rattle.ckd_drive.specs.declared.places.Stage.{Stage}
-use Rattle.ckd_drive.specs.declared.places.Stage.TheVariants.{Idle, Over, Working}
-use Rattle.ckd_drive.specs.Commands.{IsAtTrack, moved_to}
+use Rattle.ckd_drive.specs.declared.places.Stage.TheVariants.{Idle, Over, Looking, Passing}
+use Rattle.ckd_command.specs.Commands.{IsAtTrack, moved_to}
 use Rattle.ckd_cache.specs.Cache.{CacheState, IsVolume, saved, after_save, after_failed_save, after_failed_hold}
 use Rattle.ckd_drive.specs.Work.{DriveState, is_idle}
-use Rattle.ckd_drive.specs.declared.steps.Beginning.{Beginning}
-use Rattle.ckd_drive.specs.Commands.{beginning}
+use Rattle.ckd_command.specs.declared.steps.Beginning.{Beginning}
+use Rattle.ckd_command.specs.Commands.{beginning}
 use Rattle.ckd_drive.proofs.Beginnings.{begins_well}
 use Rattle.ckd_drive.specs.Half.{Stands, StageIs, state_of, BeginsWell, CreditIs, number, is_filled, work_of}
 
@@ -30,7 +30,8 @@ on_err (Err f) P e p = p
 pub idle_stage : (s : Stage) (passed : List ℕ) → is_idle (work_of s passed) ≡ true → s ≡ Idle
 idle_stage Idle passed e = refl
 idle_stage (Over x) passed e = absurd cc
-idle_stage (Working p) passed e = absurd cc
+idle_stage (Looking o) passed e = absurd cc
+idle_stage (Passing p) passed e = absurd cc
 
 pub no_credit : (c : CacheState) (r : Registers) (n : ℕ) → r.credit ≡ None → CreditIs r.credit c n
 no_credit c r n e = rw e tt
@@ -70,9 +71,9 @@ failures_saved c = elim c.changed as (λ b. (saved c.image c.slots b).failures �
 
 -- Where a written track was saved.
 
-pub saved_stands : (c c' : CacheState) (r q : Registers) (m : Mark) (s s' : Stage) (before passed before' passed' : List ℕ) (began : Bool)
-    → Stands c r m s before passed began → c' ≡ after_save c → is_filled s' ≡ false → IsAtTrack c.image.geometry q → StageIs c' q before' passed' s' → Stands c' q Saved s' before' passed' true
-saved_stands c c' r q m s s' before passed before' passed' began x is f' at w =
+pub saved_stands : (c c' : CacheState) (r q : Registers) (m : Mark) (s s' : Stage) (before passed before' passed' : List ℕ)
+    → Stands c r m s before passed → c' ≡ after_save c → is_filled s' ≡ false → IsAtTrack c.image.geometry q → StageIs c' q before' passed' s' → Stands c' q Saved s' before' passed'
+saved_stands c c' r q m s s' before passed before' passed' x is f' at w =
     let changed : c'.changed ≡ false = ap (λ (d : CacheState). d.changed) is in
     let g : c'.image.geometry ≡ c.image.geometry = ap (λ (d : CacheState). d.image.geometry) is ∙ geometry_saved c in
     record {
@@ -81,15 +82,14 @@ saved_stands c c' r q m s s' before passed before' passed' began x is f' at w =
       anchored = λ e. absurd (cc);
       marked = rw (changed, f') refl;
       work = w;
-      rests = tt;
     }
 
 -- Where its saving failed.
 
-pub lost_stands : (c c' : CacheState) (r q : Registers) (m : Mark) (s s' : Stage) (before passed before' passed' left : List ℕ) (began : Bool)
-    → Stands c r m s before passed began → c' ≡ after_failed_save c left → length left ≡ c.image.geometry.track_size → is_filled s' ≡ false → q.cylinder ≡ r.cylinder → q.head ≡ r.head
-    → StageIs c' q before' passed' s' → Stands c' q Lost s' before' passed' true
-lost_stands c c' r q m s s' before passed before' passed' left began x is size f' cy he w =
+pub lost_stands : (c c' : CacheState) (r q : Registers) (m : Mark) (s s' : Stage) (before passed before' passed' left : List ℕ)
+    → Stands c r m s before passed → c' ≡ after_failed_save c left → length left ≡ c.image.geometry.track_size → is_filled s' ≡ false → q.cylinder ≡ r.cylinder → q.head ≡ r.head
+    → StageIs c' q before' passed' s' → Stands c' q Lost s' before' passed'
+lost_stands c c' r q m s s' before passed before' passed' left x is size f' cy he w =
     let changed : c'.changed ≡ false = ap (λ (d : CacheState). d.changed) is in
     let g : c'.image.geometry ≡ c.image.geometry = ap (λ (d : CacheState). d.image.geometry) is in
     record {
@@ -98,14 +98,13 @@ lost_stands c c' r q m s s' before passed before' passed' left began x is size f
       anchored = λ e. absurd (cc);
       marked = rw (changed, f') refl;
       work = w;
-      rests = tt;
     }
 
 -- what a command code leads to, where nothing was begun
-pub well_begun : (c : CacheState) (r : Registers) (m : Mark) (s : Stage) (before passed : List ℕ) (began : Bool) (now : DriveState) (code : ℕ) (b : Beginning)
-    → Stands c r m s before passed began → state_of c r m s before passed began ≡ now → is_idle now.work ≡ true → b ≡ beginning code r
+pub well_begun : (c : CacheState) (r : Registers) (m : Mark) (s : Stage) (before passed : List ℕ) (now : DriveState) (code : ℕ) (b : Beginning)
+    → Stands c r m s before passed → state_of c r m s before passed ≡ now → is_idle now.work ≡ true → b ≡ beginning code r
     → (s ≡ Idle) × BeginsWell c (number c.image.geometry r) r b
-well_begun c r m s before passed began now code b x is idle e =
+well_begun c r m s before passed now code b x is idle e =
     let at_rest : s ≡ Idle = idle_stage s passed (ap (λ (d : DriveState). is_idle d.work) is ∙ idle) in
     let P : Stage → Type 0 = λ t. StageIs c r before passed t in
     let credit : CreditIs r.credit c (number c.image.geometry r) = subst P at_rest x.work in

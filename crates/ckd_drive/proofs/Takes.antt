@@ -1,40 +1,31 @@
 -- Bytes that are taken.
-use Rattle.std.proofs.Common.{◌≡◌, ◌∙◌, ap, sym, subst, refl, inl, inr, ◌⊎◌, ℕ, ◌+◌, ◌-◌, ◌<◌, ◌≤◌, ◌^◌, List, [], ◌∷◌, ◌++◌, Bool, true, false, ◌||◌, ◌==◌, nat_lt, if◌then◌else◌, Some, None, length, take, drop, slice_range, bytes_eq, length-append, length-drop, length-take, drop-drop, append_assoc, arith}
+use Rattle.std.proofs.Common.{◌≡◌, ◌∙◌, ap, sym, subst, refl, ℕ, ◌+◌, ◌-◌, ◌<◌, ◌≤◌, ◌^◌, List, [], ◌∷◌, ◌++◌, Bool, true, false, ◌||◌, ◌==◌, nat_lt, if◌then◌else◌, None, length, take, drop, slice_range, bytes_eq, length-append, length-drop, length-take, drop-drop, append_assoc, arith}
 use Rattle.std.specs.Ordering.{nat_cmp, ordering_then}
 use Rattle.std.specs.declared.cmp.Ordering.{Ordering}
 use Rattle.std.specs.declared.cmp.Ordering.TheVariants as order
 use Rattle.std.specs.Cmp.Lexicographic.{slice_cmp}
-use Rattle.std.proofs.lemmas.List.{take-take, drop-take, take-append-drop, take_at, get_or_past}
-use Rattle.std.proofs.lemmas.Bool.{cases_lt}
+use Rattle.std.proofs.lemmas.List.{take-take, drop-take, take-append-drop, take_at}
 use Rattle.std.proofs.lemmas.Bool.Decides.{nat_tests}
 use Rattle.ckd_track.specs.Track.{track_of}
 use Rattle.ckd_track.specs.Changes.{overwritten}
-use Rattle.ckd_image.specs.declared.geometry.Geometry.{Geometry}
-use Rattle.ckd_drive.specs.declared.registers.Registers.{Registers}
-use Rattle.ckd_drive.specs.declared.steps.Action.{Action}
-use Rattle.ckd_drive.specs.declared.steps.Action.TheVariants as action
-use Rattle.ckd_drive.specs.declared.steps.Opened.{Opened}
-use Rattle.ckd_drive.specs.declared.steps.Sight.TheVariants.{Found}
+use Rattle.ckd_track.specs.declared.geometries.Geometry.{Geometry}
+use Rattle.ckd_command.specs.declared.registers.Registers.{Registers}
+use Rattle.ckd_command.specs.declared.steps.Action.{Action}
+use Rattle.ckd_command.specs.declared.steps.Action.TheVariants as action
+use Rattle.ckd_command.specs.declared.steps.Opened.{Opened}
+use Rattle.ckd_command.specs.declared.steps.Sight.TheVariants.{Found}
 use Rattle.ckd_cache.specs.declared.windows.Window.{Window}
 use Rattle.ckd_drive.specs.declared.places.Place.{Place}
 use Rattle.ckd_drive.specs.declared.places.Place.TheVariants.{Field, Search}
 use Rattle.ckd_drive.specs.declared.places.Progress.{Progress}
-use Rattle.ckd_drive.specs.Tables.{action_of}
-use Rattle.ckd_cache.specs.Contents.{Sighted}
-use Rattle.ckd_drive.specs.Commands.{Closing, sight, area_bytes, length_after, length_for, close_by, own_home_address, new_record_fits, write_home_address, format}
+use Rattle.ckd_command.specs.Tables.{action_of}
+use Rattle.ckd_position.specs.Contents.{Sighted}
+use Rattle.ckd_command.specs.Commands.{Closing, sight, area_bytes, length_after, length_for, close_by, own_home_address, new_record_fits, write_home_address, format}
 use Rattle.ckd_cache.specs.Buffer.{Lies}
-use Rattle.ckd_cache.specs.Cache.{CacheState, IsVolume}
-use Rattle.ckd_drive.specs.Half.{Works, MayTake, Absorbs, IsPlaced, IsField, HasField, LeftIs, remaining, slot_at, number, seen_by, is_filled_by, is_unfound, order_of, field_size}
+use Rattle.ckd_cache.specs.Cache.{CacheState}
+use Rattle.ckd_drive.specs.Half.{Works, MayTake, Absorbs, IsPlaced, IsField, HasField, remaining, slot_at, number, seen_by, is_filled_by, order_of, field_size}
 use Rattle.ckd_drive.proofs.First.{length_by, closing_by}
-use Rattle.ckd_drive.proofs.Moving.{lies_first, lies_rest, next_left}
-
--- no slot is longer than a track size may be
-pub size_limit : (c : CacheState) (n : ℕ) → IsVolume c → length (slot_at c.slots n) ≤ 65536
-size_limit c n v = by_place (cases_lt n (length c.slots))
-  where
-    by_place : (n < length c.slots) ⊎ (length c.slots ≤ n) → length (slot_at c.slots n) ≤ 65536
-    by_place (inl lt) = (let e = v.sizes n [] lt in omega (arith, e, v.geometry.limit))
-    by_place (inr le) = (let e : slot_at c.slots n ≡ [] = get_or_past c.slots n [] le in rw e (omega arith))
+use Rattle.ckd_drive.proofs.Moving.{slot_small, lies_first, lies_rest, next_left}
 
 or_false : (b : Bool) → b ≡ (b || false)
 or_false true = refl
@@ -42,12 +33,12 @@ or_false false = refl
 
 -- the track stays as it is
 pub absorbs_plain : (c : CacheState) (r : Registers) (before passed : List ℕ) (p : Progress) (more : List ℕ) (place' : Place)
-    → Works c r before passed p → MayTake p more → is_filled_by p.place ≡ false → is_filled_by place' ≡ false → is_unfound place' ≡ false
+    → Works c r before passed p → is_filled_by p.place ≡ false → is_filled_by place' ≡ false
     → seen_by c.slots (number c.image.geometry r) before place' ≡ seen_by c.slots (number c.image.geometry r) before p.place
     → remaining (action_of p.opened.command) place' (length (passed ++ more)) ≡ remaining (action_of p.opened.command) p.place (length passed) - length more
     → IsPlaced c c.image.geometry r (number c.image.geometry r) p.opened before (passed ++ more) place' → length passed + length more < 2 ^ 32
     → Absorbs c c r before before passed p more place'
-absorbs_plain c r before passed p more place' x may f f' u seen rest placed small =
+absorbs_plain c r before passed p more place' x f f' seen rest placed small =
     let goes = x.goes in
     record {
       works = record {
@@ -56,7 +47,7 @@ absorbs_plain c r before passed p more place' x may f f' u seen rest placed smal
         anchored = x.anchored;
         goes = record {
           moved = rw (← goes.moved) (length-append passed more);
-          left = rw may.left (next_left (action_of p.opened.command) p.place place' (length passed) (length (passed ++ more)) may.l (length more) (rw may.left at goes.left) may.room u rest);
+          left = next_left p.left (length more) _ _ goes.left rest;
           placed = placed;
           no_credit = goes.no_credit;
         };
@@ -95,9 +86,6 @@ order_more area passed more le =
     compare_more (take m area) passed (take (length more) (drop m area)) more long
     ∙ ap (λ (x : List ℕ). slice_cmp nat_cmp x (passed ++ more)) (take_more m (length more) area ∙ ap (λ (n : ℕ). take n area) (sym (length-append passed more)))
 
-left_in_search : (a : Action) (w : Window) (o : Ordering) (moved l k : ℕ) → LeftIs a (Search w o) moved (Some l) → k ≤ l → k ≤ w.len
-left_in_search a w o moved l k x le = omega (arith, x, le)
-
 pub search_absorbs : (c : CacheState) (r : Registers) (before passed : List ℕ) (p : Progress) (more slot : List ℕ) (w : Window) (so_far now : Ordering)
     → Works c r before passed p → MayTake p more → p.place ≡ Search w so_far → slot ≡ slot_at c.slots (number c.image.geometry r)
     → now ≡ ordering_then so_far (slice_cmp nat_cmp (slice_range slot w.start (w.start + length more)) more)
@@ -107,8 +95,8 @@ search_absorbs c r before passed p more slot w so_far now x may at slot_is now_i
     let n : ℕ = number g r in
     let goes = x.goes in
     let t = track_of (slot_at c.slots n) in
-    let left = rw (at, may.left) at goes.left in
-    let le : length more ≤ w.len = left_in_search (action_of p.opened.command) w so_far (length passed) may.l (length more) left may.room in
+    let left : p.left ≤ w.len = rw at at goes.left in
+    let le : length more ≤ w.len = omega (arith, left, may.room) in
     let P : Place → Type 0 = λ y. IsPlaced c g r n p.opened before passed y in
     let placed = subst P at goes.placed in
     let h = placed.0 in
@@ -123,11 +111,11 @@ search_absorbs c r before passed p more slot w so_far now x may at slot_is now_i
     let piece : slice_range slot w.start (w.start + length more) ≡ take (length more) rest = rw slot_is (lies_first (slot_at c.slots n) rest w (length more) h.lies le) in
     let compared : now ≡ order_of area (passed ++ more) = now_is ∙ rw (h.compared, piece) (order_more area passed more (omega (arith, whole, le))) in
     let wants : length_after g t p.opened r (passed ++ more) ≡ length area = length_by action.Search g t p.opened r (passed ++ more) h.is_search in
-    absorbs_plain c r before passed p more (Search w' now) x may (rw at refl) refl refl (rw at refl) (rw at refl) (
+    absorbs_plain c r before passed p more (Search w' now) x (rw at refl) refl (rw at refl) (rw at refl) (
       record { is_search = h.is_search; at_hand = h.at_hand; lies = lies; room = omega (arith, whole, far, le); begins = omega (arith, h.begins, far); compared = compared },
       record { again = placed.1.again; len = omega (arith, wants, whole, far, le) },
     )
-    (omega (arith, h.begins, h.lies.within, le, size_limit c n x.volume))
+    (omega (arith, h.begins, h.lies.within, le, slot_small c n x.volume))
 
 -- Fields.
 
@@ -206,9 +194,6 @@ field_small action.Search = omega arith
 field_small action.Read = omega arith
 field_small action.Update = omega arith
 
-left_in_field : (a : Action) (f : List ℕ) (moved l k : ℕ) → LeftIs a (Field f) moved (Some l) → k ≤ l → k ≤ field_size a - moved
-left_in_field a f moved l k x le = omega (arith, x, le)
-
 -- what is known of a field, with more bytes
 pub record FieldGoes (c : CacheState) (r : Registers) (before passed : List ℕ) (p : Progress) (more f : List ℕ) : Type 0 where
   pub has : HasField c (number c.image.geometry r) (action_of p.opened.command) f passed
@@ -222,8 +207,7 @@ field_goes c r before passed p more f x may at =
     let g = c.image.geometry in
     let n : ℕ = number g r in
     let goes = x.goes in
-    let left = rw (at, may.left) at goes.left in
-    let le = left_in_field (action_of p.opened.command) f (length passed) may.l (length more) left may.room in
+    let left : p.left ≤ field_size (action_of p.opened.command) - length passed = rw at at goes.left in
     let P : Place → Type 0 = λ y. IsPlaced c g r n p.opened before passed y in
     let placed = subst P at goes.placed in
     let h = placed.0 in
@@ -232,7 +216,7 @@ field_goes c r before passed p more f x may at =
       has = h;
       again = placed.1.again;
       long = far;
-      room = omega (arith, far, le, h.room);
+      room = omega (arith, far, left, may.room, h.room);
       collected = rw (← goes.moved) (collected_more f passed more h.collected);
     }
 
@@ -247,7 +231,7 @@ field_absorbs c r before passed p more f field x may at is nothing =
     let t = track_of (slot_at c.slots n) in
     let k = field_goes c r before passed p more f x may at in
     let wants = length_by a g t p.opened r (passed ++ more) refl ∙ field_wants a g t p.opened r (passed ++ more) k.has.is_field k.room nothing in
-    absorbs_plain c r before passed p more (Field field) x may (rw at refl) refl refl (rw at refl) (rw at (let far = k.long in omega (arith, far))) (
+    absorbs_plain c r before passed p more (Field field) x (rw at refl) refl (rw at refl) (rw at (let far = k.long in omega (arith, far))) (
       record { is_field = k.has.is_field; room = k.room; collected = rw is k.collected; at_hand = k.has.at_hand },
       record { again = k.again; len = (let room = k.room in omega (arith, wants, room)) },
       ap (λ (y : Closing). y.written) (closing_by a g t p.opened r (passed ++ more) refl) ∙ field_unwritten a g t p.opened r (passed ++ more) k.has.is_field k.room nothing,

@@ -1,47 +1,48 @@
 -- A command half done, as the drive holds it.
-use Rattle.std.specs.Prelude.{◌≡◌, ℕ, ◌+◌, ◌-◌, ◌^◌, ◌≤◌, ◌<◌, List, [], ◌++◌, Bool, true, false, ◌&&◌, ◌||◌, ◌==◌, nat_lt, Option, Some, None, option_map, bytes_eq, length, take, drop, slice_index_or, slice_set, if◌then◌else◌}
+use Rattle.std.specs.Prelude.{◌≡◌, ℕ, ◌+◌, ◌-◌, ◌^◌, ◌≤◌, ◌<◌, List, [], ◌++◌, Bool, true, false, ◌&&◌, ◌||◌, ◌==◌, nat_lt, Option, Some, None, bytes_eq, length, take, drop, slice_index_or, slice_set, if◌then◌else◌}
 use Rattle.ckd_track.specs.Track.{Track, track_of, track_in, slot_of, record_offsets}
-use Rattle.ckd_image.specs.declared.geometry.Geometry.{Geometry}
-use Rattle.ckd_image.specs.Geometry.{track_at}
-use Rattle.ckd_drive.specs.declared.registers.Registers.{Registers}
-use Rattle.ckd_drive.specs.declared.registers.Credit.{Credit}
-use Rattle.ckd_drive.specs.declared.registers.Mark.{Mark}
-use Rattle.ckd_drive.specs.declared.registers.Mark.TheVariants.{Written}
-use Rattle.ckd_drive.specs.declared.steps.Action.{Action}
-use Rattle.ckd_drive.specs.declared.steps.Action.TheVariants as action
+use Rattle.ckd_track.specs.declared.geometries.Geometry.{Geometry}
+use Rattle.ckd_track.specs.Geometry.{track_at}
+use Rattle.ckd_command.specs.declared.registers.Registers.{Registers}
+use Rattle.ckd_command.specs.declared.registers.Credit.{Credit}
+use Rattle.ckd_command.specs.declared.registers.Mark.{Mark}
+use Rattle.ckd_command.specs.declared.registers.Mark.TheVariants.{Written}
+use Rattle.ckd_command.specs.declared.steps.Action.{Action}
+use Rattle.ckd_command.specs.declared.steps.Action.TheVariants as action
 use Rattle.ckd_position.specs.declared.areas.Area.{Area}
-use Rattle.ckd_cache.specs.declared.extents.Extent.{Extent}
-use Rattle.ckd_drive.specs.declared.steps.Aim.{Aim}
-use Rattle.ckd_drive.specs.declared.steps.Aim.TheVariants.{Next, Credited}
-use Rattle.ckd_drive.specs.declared.steps.Opened.{Opened}
-use Rattle.ckd_drive.specs.declared.steps.Outcome.{Outcome}
+use Rattle.ckd_position.specs.declared.extents.Extent.{Extent}
+use Rattle.ckd_command.specs.declared.steps.Aim.{Aim}
+use Rattle.ckd_command.specs.declared.steps.Aim.TheVariants.{Next, Credited}
+use Rattle.ckd_command.specs.declared.steps.Opened.{Opened}
+use Rattle.ckd_command.specs.declared.steps.Outcome.{Outcome}
 use Rattle.ckd_position.specs.declared.areas.Kind.TheVariants as kind
-use Rattle.ckd_drive.specs.declared.steps.Beginning.{Beginning}
-use Rattle.ckd_drive.specs.declared.steps.Beginning.TheVariants as beginning
-use Rattle.ckd_drive.specs.declared.steps.Sight.{Sight}
-use Rattle.ckd_drive.specs.declared.steps.Sight.TheVariants.{Found}
-use Rattle.ckd_drive.specs.declared.steps.Sight.TheVariants as sight
+use Rattle.ckd_command.specs.declared.steps.Beginning.{Beginning}
+use Rattle.ckd_command.specs.declared.steps.Beginning.TheVariants as beginning
+use Rattle.ckd_command.specs.declared.steps.Sight.{Sight}
+use Rattle.ckd_command.specs.declared.steps.Sight.TheVariants.{Found}
+use Rattle.ckd_command.specs.declared.steps.Sight.TheVariants as sight
 use Rattle.ckd_cache.specs.declared.windows.Window.{Window}
 use Rattle.std.specs.Ordering.{nat_cmp}
 use Rattle.std.specs.declared.cmp.Ordering.{Ordering}
 use Rattle.std.specs.declared.cmp.Ordering.TheVariants as order
 use Rattle.std.specs.Cmp.Lexicographic.{slice_cmp}
 use Rattle.ckd_drive.specs.declared.places.Place.{Place}
-use Rattle.ckd_drive.specs.declared.places.Place.TheVariants.{Unfound, Sense, Field, Read, Search, Fill, Filled}
+use Rattle.ckd_drive.specs.declared.places.Place.TheVariants.{Sense, Field, Read, Search, Fill, Filled}
 use Rattle.ckd_drive.specs.declared.places.Whole.{Whole}
 use Rattle.ckd_drive.specs.declared.places.Whole.TheVariants as whole
 use Rattle.ckd_drive.specs.declared.places.Progress.{Progress}
 use Rattle.ckd_drive.specs.declared.places.Stage.{Stage}
 use Rattle.ckd_drive.specs.declared.places.Stage.TheVariants as stage
-use Rattle.ckd_drive.specs.Tables.{action_of, extent_of, aim, comparison, is_giving}
+use Rattle.ckd_command.specs.Tables.{action_of, extent_of, aim, comparison, is_giving}
 use Rattle.ckd_position.specs.Comparisons.{accepts}
+use Rattle.ckd_sense.specs.SenseBytes.{sense_bytes}
 use Rattle.ckd_sense.specs.declared.sense_bytes.TheConstants.Sense as cause
-use Rattle.ckd_cache.specs.Contents.{Sighted, is_readable, padded}
-use Rattle.ckd_drive.specs.Commands.{Closing, IsAtTrack, sight as sight_on, area_bytes, bytes_at, area_ends, end_of_area, search_ends, whole_field, seek_cylinder_and_head, seek_head, set_file_mask, fails, ends, at_end, ending_status, length_after, closing, outcome}
+use Rattle.ckd_position.specs.Contents.{Sighted, is_readable, padded}
+use Rattle.ckd_command.specs.Commands.{Closing, IsAtTrack, sight as sight_on, area_bytes, bytes_at, area_ends, end_of_area, search_ends, whole_field, seek_cylinder_and_head, seek_head, set_file_mask, fails, ends, at_end, ending_status, length_after, closing, outcome}
 use Rattle.ckd_cache.specs.Buffer.{Lies, HasBytes, IsPlaceOf, FitsSlot}
 use Rattle.ckd_cache.specs.Cache.{CacheState, IsVolume}
-use Rattle.ckd_drive.specs.Drive.{is_written_by}
-use Rattle.ckd_drive.specs.Work.{Work, Idle, Over, Working, DriveState}
+use Rattle.ckd_command.specs.Drive.{is_written_by}
+use Rattle.ckd_drive.specs.Work.{Work, Idle, Over, Looking, Passing, DriveState}
 
 -- the order of an area's first bytes to those that were given
 abbrev pub order_of : List ℕ → List ℕ → Ordering
@@ -58,8 +59,7 @@ field_size _ = 0
 
 -- how many bytes are left, as far as is known
 abbrev pub remaining : Action → Place → (moved : ℕ) → ℕ
-remaining a Unfound moved = 0
-remaining a (Sense u) moved = 6 - moved
+remaining a (Sense b u) moved = 6 - moved
 remaining a (Field f) moved = field_size a - moved
 remaining a (Read w u) moved = w.len
 remaining a (Search w o) moved = w.len
@@ -78,23 +78,23 @@ seen_by slots n before (Filled w u) = slice_set slots n before
 seen_by slots n before _ = slots
 
 abbrev pub seen : List (List ℕ) → (n : ℕ) → (before : List ℕ) → Stage → List (List ℕ)
-seen slots n before (stage.Working p) = seen_by slots n before p.place
+seen slots n before (stage.Passing p) = seen_by slots n before p.place
 seen slots n before _ = slots
 
 abbrev pub work_of : Stage → (passed : List ℕ) → Work
 work_of stage.Idle passed = Idle
-work_of (stage.Over e) passed = Over e.unit.0 e.motion
-work_of (stage.Working p) passed = Working p.opened passed p.left
+work_of (stage.Over e) passed = Over e
+work_of (stage.Looking o) passed = Looking o
+work_of (stage.Passing p) passed = Passing p.opened passed p.left
 
-abbrev pub state_of : CacheState → Registers → Mark → Stage → (before passed : List ℕ) → (began : Bool) → DriveState
-state_of c r m s before passed began = record {
+abbrev pub state_of : CacheState → Registers → Mark → Stage → (before passed : List ℕ) → DriveState
+state_of c r m s before passed = record {
   image = c.image;
   state = record {
     volume = record { geometry = c.image.geometry; slots = seen c.slots (number c.image.geometry r) before s };
     registers = r;
     mark = m;
   };
-  began = began;
   work = work_of s passed;
 }
 
@@ -157,6 +157,11 @@ pub record HasField (c : CacheState) (n : ℕ) (a : Action) (f passed : List ℕ
   pub collected : take (length passed) f ≡ passed
   pub at_hand : FieldAtHand a c n
 
+pub record HasSense (a : Action) (r : Registers) (bytes passed : List ℕ) : Type 0 where
+  pub is_sense : a ≡ action.GiveSense
+  pub bytes_are : bytes ≡ sense_bytes r.sense
+  pub room : length passed ≤ 6
+
 pub record HasRead (c : CacheState) (n : ℕ) (a : Action) (w : Window) (bytes passed : List ℕ) : Type 0 where
   pub is_read : a ≡ action.Read
   pub held : c.held ≡ Some n
@@ -201,9 +206,8 @@ CreditAtHand Credited c n = AtHand c n
 CreditAtHand _ c n = Unit {0}
 
 abbrev pub IsPlaced : CacheState → Geometry → Registers → (n : ℕ) → Opened → (before passed : List ℕ) → Place → Type 0
-IsPlaced c g r n o before passed Unfound = (passed ≡ []) × (action_of o.command ≡ action.NoTransfer → ⊥) × CreditAtHand (aim o.command) c n
-IsPlaced c g r n o before passed (Sense u) =
-    (action_of o.command ≡ action.GiveSense) × (length passed ≤ 6) × IsFound g r (track_of (slot_at c.slots n)) o passed (Sense u) × ClosesUnwritten g r (track_of (slot_at c.slots n)) o passed u
+IsPlaced c g r n o before passed (Sense b u) =
+    HasSense (action_of o.command) r b passed × IsFound g r (track_of (slot_at c.slots n)) o passed (Sense b u) × ClosesUnwritten g r (track_of (slot_at c.slots n)) o passed u
 IsPlaced c g r n o before passed (Field f) =
     HasField c n (action_of o.command) f passed × IsFound g r (track_of (slot_at c.slots n)) o passed (Field f) × ((closing g (track_of (slot_at c.slots n)) o r passed).written ≡ None)
 IsPlaced c g r n o before passed (Read w u) =
@@ -230,7 +234,7 @@ AreaIsThere t o _ = Unit {0}
 
 -- where the bytes of a command stand that has just found its area
 abbrev pub IsFirstPlace : (slot : List ℕ) → Opened → Registers → Place → Type 0
-IsFirstPlace slot o r (Sense u) = (action_of o.command ≡ action.GiveSense) × (u ≡ outcome (area_ends o r false))
+IsFirstPlace slot o r (Sense b u) = (action_of o.command ≡ action.GiveSense) × (b ≡ sense_bytes r.sense) × (u ≡ outcome (area_ends o r false))
 IsFirstPlace slot o r (Field f) = IsField (action_of o.command)
 IsFirstPlace slot o r (Read w u) =
     (action_of o.command ≡ action.Read) × Lies slot w (bytes_at (extent_of o.command) (track_of slot) o.area) × (u ≡ outcome (end_of_area (track_of slot) o r))
@@ -257,14 +261,9 @@ abbrev pub ReadsWhole : Action → Sighted → Type 0
 ReadsWhole action.WriteHomeAddress t = Unit {0}
 ReadsWhole a t = is_readable t ≡ true
 
-abbrev pub LeftIs : Action → Place → (moved : ℕ) → Option ℕ → Type 0
-LeftIs a p moved None = Unit {0}
-LeftIs a Unfound moved (Some l) = ⊥
-LeftIs a p moved (Some l) = l ≤ remaining a p moved
-
 pub record Goes (c : CacheState) (r : Registers) (before passed : List ℕ) (p : Progress) : Type 0 where
   pub moved : length passed ≡ p.moved
-  pub left : LeftIs (action_of p.opened.command) p.place (length passed) p.left
+  pub left : p.left ≤ remaining (action_of p.opened.command) p.place (length passed)
   pub placed : IsPlaced c c.image.geometry r (number c.image.geometry r) p.opened before passed p.place
   pub no_credit : r.credit ≡ None
 
@@ -273,34 +272,31 @@ abbrev pub CreditIs : Option Credit → CacheState → ℕ → Type 0
 CreditIs None c n = Unit {0}
 CreditIs (Some credit) c n = AtHand c n
 
-abbrev pub StageIs : CacheState → Registers → (before passed : List ℕ) → Stage → Type 0
-StageIs c r before passed (stage.Working p) = Goes c r before passed p
-StageIs c r before passed _ = CreditIs r.credit c (number c.image.geometry r)
+-- a command that looks for its area
+pub record WillLook (c : CacheState) (r : Registers) (o : Opened) : Type 0 where
+  pub transfers : action_of o.command ≡ action.NoTransfer → ⊥
+  pub credit : CreditAtHand (aim o.command) c (number c.image.geometry r)
+  pub no_credit : r.credit ≡ None
 
-abbrev pub is_unfound : Place → Bool
-is_unfound Unfound = true
-is_unfound _ = false
+abbrev pub StageIs : CacheState → Registers → (before passed : List ℕ) → Stage → Type 0
+StageIs c r before passed (stage.Looking o) = WillLook c r o
+StageIs c r before passed (stage.Passing p) = Goes c r before passed p
+StageIs c r before passed _ = CreditIs r.credit c (number c.image.geometry r)
 
 abbrev pub is_filled_by : Place → Bool
 is_filled_by (Filled w u) = true
 is_filled_by _ = false
 
 abbrev pub is_filled : Stage → Bool
-is_filled (stage.Working p) = is_filled_by p.place
+is_filled (stage.Passing p) = is_filled_by p.place
 is_filled _ = false
 
--- what has begun and what is settled
-abbrev pub Rests : (began : Bool) → Stage → Mark → Type 0
-Rests true s m = Unit {0}
-Rests false s m = (s ≡ stage.Idle) × (is_written_by m ≡ false)
-
-pub record Stands (c : CacheState) (r : Registers) (m : Mark) (s : Stage) (before passed : List ℕ) (began : Bool) : Type 0 where
+pub record Stands (c : CacheState) (r : Registers) (m : Mark) (s : Stage) (before passed : List ℕ) : Type 0 where
   pub volume : IsVolume c
   pub arm : IsAtTrack c.image.geometry r
   pub anchored : c.changed ≡ true → c.held ≡ Some (number c.image.geometry r)
   pub marked : c.changed ≡ (is_written_by m || is_filled s)
   pub work : StageIs c r before passed s
-  pub rests : Rests began s m
 
 -- What a command leaves as it begins.
 
@@ -319,11 +315,17 @@ BeginsWell c n r (beginning.ToCylinderZero q (Some o)) = IsCleared r q × (actio
 -- More bytes.
 
 abbrev pub next_progress : Progress → (more : ℕ) → Place → Progress
-next_progress p n place = record { opened = p.opened; moved = p.moved + n; left = option_map (λ left. left - n) p.left; place = place }
+next_progress p n place = record { opened = p.opened; moved = p.moved + n; left = p.left - n; place = place }
 
-abbrev pub NextLeft : Option ℕ → ℕ → Type 0
-NextLeft (Some left) n = n ≤ left
-NextLeft None n = Unit {0}
+-- so many bytes may be given that have this place
+abbrev pub MayGive : Place → ℕ → Type 0
+MayGive (Read w u) n = (n ≤ w.len) × (w.start + w.len < 2 ^ 32)
+MayGive _ n = Unit {0}
+
+-- the place of those behind them
+abbrev pub given_on : Place → ℕ → Place
+given_on (Read w u) n = Read (record { start = w.start + n; len = w.len - n }) u
+given_on p n = p
 
 -- How a command closes, by its place.
 
@@ -332,18 +334,17 @@ abbrev pub field_ends : Action → Geometry → Opened → Registers → List �
 field_ends action.SeekCylinderAndHead g o r b = whole_field r b 6 (seek_cylinder_and_head g r b)
 field_ends action.SeekHead g o r b = whole_field r b 6 (seek_head g r b)
 field_ends action.SetFileMask g o r b = set_file_mask r b
-field_ends action.WriteHomeAddress g o r b = whole_field r b 5 (fails (at_end o r) cause.WRONG_HOME_ADDRESS)
+field_ends action.WriteHomeAddress g o r b = whole_field (at_end o r) b 5 (fails (at_end o r) cause.WRONG_HOME_ADDRESS)
 field_ends action.Format g o r b = whole_field r b 8 (fails r cause.RECORD_DOES_NOT_FIT)
 field_ends _ g o r b = ends r ending_status
 
 abbrev pub outcome_at : Geometry → Registers → Opened → (moved : ℕ) → Place → Outcome
 outcome_at g r o moved (Field f) = outcome (field_ends (action_of o.command) g o r (take moved f))
 outcome_at g r o moved (Search w so_far) = outcome (search_ends o r (nat_lt 0 moved && accepts (comparison o.command) so_far) (w.len == 0))
-outcome_at g r o moved (Sense u) = u
+outcome_at g r o moved (Sense b u) = u
 outcome_at g r o moved (Read w u) = u
 outcome_at g r o moved (Fill w u) = u
 outcome_at g r o moved (Filled w u) = u
-outcome_at g r o moved Unfound = outcome (ends r ending_status)
 
 abbrev pub MovedInField : Action → (moved : ℕ) → Place → Type 0
 MovedInField a moved (Field f) = moved ≤ field_size a
@@ -362,7 +363,7 @@ whole_of _ own moved f = whole.No
 
 -- Bytes that are taken.
 
--- a command half done, whatever the mark is and whenever it began
+-- a command half done, whatever the mark is
 pub record Works (c : CacheState) (r : Registers) (before passed : List ℕ) (p : Progress) : Type 0 where
   pub volume : IsVolume c
   pub arm : IsAtTrack c.image.geometry r
@@ -371,9 +372,7 @@ pub record Works (c : CacheState) (r : Registers) (before passed : List ℕ) (p 
 
 -- these bytes are taken by the drive, and may be
 pub record MayTake (p : Progress) (more : List ℕ) : Type 0 where
-  pub l : ℕ
-  pub left : p.left ≡ Some l
-  pub room : length more ≤ l
+  pub room : length more ≤ p.left
   pub taking : is_giving (action_of p.opened.command) ≡ false
 
 -- the command half done takes these bytes, and the rest have this place

@@ -1,6 +1,4 @@
-pub mod Tables
-pub mod Commands
-pub mod Drive
 pub mod Work
 pub mod Half
 pub mod Stages
+pub mod Laws

@@ -1,134 +1,41 @@
 -- A drive between two calls, as those see it who call it.
-use Rattle.std.specs.Prelude.{◌≡◌, ℕ, ◌+◌, ◌-◌, ◌≤◌, List, [], ◌++◌, Bool, true, false, not, ◌==◌, Option, Some, None, length, slice_index_or, if◌then◌else◌}
+use Rattle.std.specs.Prelude.{◌≡◌, ◌⊎◌, ℕ, ◌+◌, ◌-◌, List, [], ◌++◌, Bool, true, false, not, ◌&&◌, ◌==◌, Option, Some, None, length, slice_index_or, if◌then◌else◌}
 use Rattle.ckd_image.specs.Image.{ImageState}
-use Rattle.ckd_drive.specs.declared.registers.Mark.{Mark}
-use Rattle.ckd_drive.specs.declared.registers.Mark.TheVariants as mark
-use Rattle.ckd_drive.specs.declared.steps.Opened.{Opened}
-use Rattle.ckd_drive.specs.declared.steps.DriveEnding.{DriveEnding}
-use Rattle.ckd_drive.specs.declared.answers.Begun.{Begun as Answer}
+use Rattle.ckd_command.specs.declared.registers.Mark.{Mark}
+use Rattle.ckd_command.specs.declared.registers.Mark.TheVariants as mark
+use Rattle.ckd_command.specs.declared.steps.Aim.{Aim}
+use Rattle.ckd_command.specs.declared.steps.Aim.TheVariants.{Next}
+use Rattle.ckd_command.specs.declared.steps.Beginning.{Beginning}
+use Rattle.ckd_command.specs.declared.steps.Beginning.TheVariants.{ToCylinderZero}
+use Rattle.ckd_command.specs.declared.steps.DriveEnding.{DriveEnding}
+use Rattle.ckd_command.specs.declared.steps.Opened.{Opened}
+use Rattle.ckd_command.specs.declared.steps.Sight.{Sight}
+use Rattle.ckd_command.specs.declared.steps.Sight.TheVariants.{NextHead}
+use Rattle.ckd_command.specs.Tables.{aim, action_of, is_giving}
+use Rattle.ckd_command.specs.Commands.{ending_status, in_motion_status, unit_check_status, beginning, sight, closing}
+use Rattle.ckd_command.specs.Drive.{State, with_registers, Fault, LoadFails, SaveFails, Open, AfterBegin, Rejected, Immediate, Started, AfterLook, Ready, Passed, Failed, Closed, begin, look, given, length_of, close, saving, left_by, begin_program, drive_of, first_drive, number_under, track_under, is_written, tells_equipment_check, no_sense}
+use Rattle.ckd_drive.specs.declared.answers.Begun.{Begun}
 use Rattle.ckd_drive.specs.declared.answers.Begun.TheVariants as begun
-use Rattle.ckd_drive.specs.declared.answers.Look.{Look as LookAnswer}
+use Rattle.ckd_drive.specs.declared.answers.Look.{Look}
 use Rattle.ckd_drive.specs.declared.answers.Look.TheVariants as looked
 use Rattle.ckd_drive.specs.declared.answers.Phase.{Phase}
 use Rattle.ckd_drive.specs.declared.answers.Phase.TheVariants as phase
-use Rattle.ckd_position.specs.declared.areas.Position.TheVariants.{AtIndex}
-use Rattle.ckd_sense.specs.declared.sense_bytes.TheConstants.Sense.{ZERO}
-use Rattle.ckd_sense.specs.Masks.{mask_of_byte}
-use Rattle.ckd_drive.specs.declared.registers.Registers.{Registers}
-use Rattle.ckd_drive.specs.declared.registers.Lap.TheVariants.{First}
-use Rattle.ckd_drive.specs.Tables.{action_of, is_giving}
-use Rattle.ckd_drive.specs.Commands.{ending_status, in_motion_status, unit_check_status}
-use Rattle.ckd_drive.specs.Drive.{Volume, Drive, State, with_registers, Fault, LoadFails, SaveFails, Open, Begun, Look, Closed, begin, look, given, length_of, close, saving, left_by, begin_program, drive_of, number_under, is_written}
-use Rattle.ckd_drive.specs.Drive as drive
 
--- What is being done: nothing; a command that is over and waits for its end, with its unit status and whether the arm
--- moves; or one that works, with the bytes that passed, and how many more the last look allows, where it allows any to pass.
+-- How far a drive is with a command: there is none; one is over, and waits for its end; one looks for its area; or one has
+-- found it, and these bytes have passed, and so many more may by what the last look allowed.
 pub data Work : Type 0 where
   Idle : Work
-  Over : (unit : ℕ) (motion : Bool) → Work
-  Working : (opened : Opened) (passed : List ℕ) (left : Option ℕ) → Work
+  Over : (ending : DriveEnding) → Work
+  Looking : (opened : Opened) → Work
+  Passing : (opened : Opened) (passed : List ℕ) (left : ℕ) → Work
 
 pub record DriveState : Type 0 where
   pub image : ImageState
   pub state : State
-  -- whether a command began since the drive was made or last settled
-  pub began : Bool
   pub work : Work
 
 abbrev pub open_at : DriveState → Opened → Open
 open_at d o = record { opened = o; state = d.state }
-
--- The fault that a call met, by what the image counted: none where no call of its store failed; else a failed load, or a
--- failed saving, which left what stands in the slot of the track that was under the arm.
-abbrev pub fault_met : (old new : DriveState) → Option Fault
-fault_met old new =
-    if new.image.failures == old.image.failures then None
-    else (if new.image.saves == old.image.saves then Some LoadFails
-    else Some (SaveFails (slice_index_or new.image.slots (number_under old.state) [])))
-
--- what a call makes of the store, at most: one load, one saving, one failure; no saving where no track is written
-pub record MakesAtMost (old new : DriveState) : Type 0 where
-  pub loads : new.image.loads ≤ old.image.loads + 1
-  pub saves : new.image.saves ≤ old.image.saves + 1
-  pub failures : new.image.failures ≤ old.image.failures + 1
-  pub loads_stay : old.image.loads ≤ new.image.loads
-  pub saves_stay : old.image.saves ≤ new.image.saves
-  pub failures_stay : old.image.failures ≤ new.image.failures
-  pub header : new.image.header ≡ old.image.header
-  pub geometry : new.image.geometry ≡ old.image.geometry
-  pub unwritten : is_written old.state ≡ false → new.image.saves ≡ old.image.saves
-
--- what a call that looks at no track makes of the store, at most: one saving; nothing where no track is written
-pub record SavesAtMost (old new : DriveState) : Type 0 where
-  pub at_most : MakesAtMost old new
-  pub loads : new.image.loads ≡ old.image.loads
-  pub unwritten : is_written old.state ≡ false → new.image ≡ old.image
-
--- Begin.
-
-abbrev pub immediate_status : (motion : Bool) → ℕ
-immediate_status motion = if motion then in_motion_status else ending_status
-
-abbrev pub after_begun : Begun → DriveState → DriveState
-after_begun (drive.Rejected s) d = record d { state = s; began = true }
-after_begun (drive.Immediate s motion) d = record d { state = s; began = true; work = Over (immediate_status motion) motion }
-after_begun (drive.Started o) d = record d { state = o.state; began = true; work = Working o.opened [] None }
-
-abbrev pub after_begin : Option Fault → (code : ℕ) → DriveState → DriveState
-after_begin f code d = after_begun (begin f code d.state) d
-
--- Look.
-
-abbrev pub after_sight : Look → List ℕ → DriveState → DriveState
-after_sight (drive.Ready o) b d = record d { state = o.state; work = Working o.opened b (Some (length_of o b - length b)) }
-after_sight (drive.Passed o) b d = record d { state = o.state; work = Working o.opened b None }
-after_sight (drive.Failed s) b d = record d { state = s; work = Over unit_check_status false }
-
-abbrev pub look_of : Option Fault → DriveState → Work → Look
-look_of f d (Working o b left) = look f (open_at d o)
-look_of f d w = drive.Failed d.state
-
-abbrev pub passed_of : Work → List ℕ
-passed_of (Working o b left) = b
-passed_of w = []
-
-abbrev pub after_look : Option Fault → DriveState → DriveState
-after_look f d = after_sight (look_of f d d.work) (passed_of d.work) d
-
--- Bytes.
-
-abbrev pub moved_on : List ℕ → Work → Work
-moved_on more (Working o b (Some left)) = Working o (b ++ more) (Some (left - length more))
-moved_on more w = w
-
-abbrev pub left_of : Work → ℕ
-left_of (Working o b (Some left)) = left
-left_of w = 0
-
-abbrev pub gives_now : Work → Bool
-gives_now (Working o b (Some left)) = is_giving (action_of o.command)
-gives_now w = false
-
-abbrev pub takes_now : Work → Bool
-takes_now (Working o b (Some left)) = not (is_giving (action_of o.command))
-takes_now w = false
-
-abbrev pub given_now : DriveState → Work → List ℕ
-given_now d (Working o b left) = given (open_at d o)
-given_now d w = []
-
--- End.
-
-abbrev pub closed_of : Option Fault → DriveState → Work → Closed
-closed_of f d (Working o b left) = close f (open_at d o) b
-closed_of f d (Over unit motion) = record { state = d.state; unit = record { 0 = unit }; motion = motion }
-closed_of f d Idle = record { state = d.state; unit = record { 0 = ending_status }; motion = false }
-
-abbrev pub after_end : Option Fault → DriveState → DriveState
-after_end f d = record d { state = (closed_of f d d.work).state; work = Idle }
-
-abbrev pub ending_of : Closed → DriveEnding
-ending_of c = record { unit = c.unit; motion = c.motion }
 
 -- What may be called.
 
@@ -137,32 +44,119 @@ is_idle Idle = true
 is_idle w = false
 
 abbrev pub is_working : Work → Bool
-is_working (Working o b left) = true
+is_working (Looking o) = true
+is_working (Passing o b left) = true
 is_working w = false
 
 abbrev pub may_end : Work → Bool
-may_end (Working o b (Some left)) = true
-may_end (Over unit motion) = true
+may_end (Over e) = true
+may_end (Passing o b left) = true
 may_end w = false
 
--- How far a command is.
+abbrev pub passed_of : Work → List ℕ
+passed_of (Passing o b left) = b
+passed_of w = []
 
-abbrev pub phase_of_transfer : (gives : Bool) → (left : ℕ) → Phase
-phase_of_transfer gives left = if gives then phase.Gives left else phase.Takes left
+abbrev pub left_of : Work → ℕ
+left_of (Passing o b left) = left
+left_of w = 0
+
+abbrev pub gives_now : Work → Bool
+gives_now (Passing o b left) = is_giving (action_of o.command)
+gives_now w = false
+
+abbrev pub takes_now : Work → Bool
+takes_now (Passing o b left) = not (is_giving (action_of o.command))
+takes_now w = false
+
+-- How far a command is, as it is told to those who call.
+
+abbrev pub phase_of_transfer : (gives : Bool) (passed left : ℕ) → Phase
+phase_of_transfer gives passed left = if gives then phase.Gives passed left else phase.Takes passed left
 
 abbrev pub phase_of : Work → Phase
 phase_of Idle = phase.Idle
-phase_of (Over unit motion) = phase.Over
-phase_of (Working o b None) = phase.Looking
-phase_of (Working o b (Some left)) = phase_of_transfer (is_giving (action_of o.command)) left
+phase_of (Over e) = phase.Over
+phase_of (Looking o) = phase.Looking
+phase_of (Passing o b left) = phase_of_transfer (is_giving (action_of o.command)) (length b) left
 
--- what may be called while a command is so far
+-- what may be called while a command is so far: begin, begin_program, clear_sense and settle; end and settle; look and
+-- settle; give of so many bytes, look and end; take of so many, look and end; and settle where none has passed
 abbrev pub Allows : Phase → Work → Type 0
 Allows phase.Idle w = (is_idle w ≡ true) × (passed_of w ≡ [])
 Allows phase.Over w = (may_end w ≡ true) × (passed_of w ≡ [])
-Allows phase.Looking w = is_working w ≡ true
-Allows (phase.Gives left) w = (is_working w ≡ true) × (may_end w ≡ true) × (gives_now w ≡ true) × (left_of w ≡ left)
-Allows (phase.Takes left) w = (is_working w ≡ true) × (may_end w ≡ true) × (takes_now w ≡ true) × (left_of w ≡ left)
+Allows phase.Looking w = (is_working w ≡ true) × (passed_of w ≡ [])
+Allows (phase.Gives passed left) w =
+    (is_working w ≡ true) × (may_end w ≡ true) × (gives_now w ≡ true) × (length (passed_of w) ≡ passed) × (left_of w ≡ left) × (passed ≡ 0 → passed_of w ≡ [])
+Allows (phase.Takes passed left) w =
+    (is_working w ≡ true) × (may_end w ≡ true) × (takes_now w ≡ true) × (length (passed_of w) ≡ passed) × (left_of w ≡ left) × (passed ≡ 0 → passed_of w ≡ [])
+
+-- Begin.
+
+abbrev pub immediate_ending : (motion : Bool) → DriveEnding
+immediate_ending motion = record { unit = record { 0 = if motion then in_motion_status else ending_status }; motion = motion }
+
+abbrev pub after_begun : AfterBegin → DriveState → DriveState
+after_begun (Rejected s) d = record d { state = s }
+after_begun (Immediate s motion) d = record d { state = s; work = Over (immediate_ending motion) }
+after_begun (Started o) d = record d { state = o.state; work = Looking o.opened }
+
+abbrev pub after_begin : Option Fault → (code : ℕ) → DriveState → DriveState
+after_begin f code d = after_begun (begin f code d.state) d
+
+abbrev pub answer_of_begin : AfterBegin → Begun
+answer_of_begin (Rejected s) = begun.Rejected
+answer_of_begin (Immediate s motion) = begun.Immediate
+answer_of_begin (Started o) = begun.Started
+
+-- Look.
+
+-- a command that ended in a look, whose sense bytes tell why
+abbrev pub failed_ending : DriveEnding
+failed_ending = record { unit = record { 0 = unit_check_status }; motion = false }
+
+abbrev pub after_sight : AfterLook → DriveState → DriveState
+after_sight (Ready o) d = record d { state = o.state; work = Passing o.opened [] (length_of o []) }
+after_sight (Passed o) d = record d { state = o.state; work = Looking o.opened }
+after_sight (Failed s) d = record d { state = s; work = Over failed_ending }
+
+-- a command that looks for its area looks at the track under the arm; one that has found it tells how many bytes more may
+-- pass, and looks at no track
+abbrev pub after_look_of : Option Fault → DriveState → Work → DriveState
+after_look_of f d (Looking o) = after_sight (look f (open_at d o)) d
+after_look_of f d (Passing o b left) = record d { work = Passing o b (length_of (open_at d o) b - length b) }
+after_look_of f d w = d
+
+abbrev pub after_look : Option Fault → DriveState → DriveState
+after_look f d = after_look_of f d d.work
+
+abbrev pub answer_of_look : Work → Look
+answer_of_look (Passing o b left) = looked.Ready left
+answer_of_look (Looking o) = looked.Passed
+answer_of_look w = looked.Failed
+
+-- Bytes.
+
+abbrev pub moved_on : List ℕ → Work → Work
+moved_on more (Passing o b left) = Passing o (b ++ more) (left - length more)
+moved_on more w = w
+
+abbrev pub given_now : DriveState → Work → List ℕ
+given_now d (Passing o b left) = given (open_at d o)
+given_now d w = []
+
+-- End.
+
+abbrev pub closed_of : Option Fault → DriveState → Work → Closed
+closed_of f d (Passing o b left) = close f (open_at d o) b
+closed_of f d (Over e) = record { state = d.state; unit = e.unit; motion = e.motion }
+closed_of f d w = record { state = d.state; unit = record { 0 = ending_status }; motion = false }
+
+abbrev pub after_end : Option Fault → DriveState → DriveState
+after_end f d = record d { state = (closed_of f d d.work).state; work = Idle }
+
+abbrev pub ending_of : Closed → DriveEnding
+ending_of c = record { unit = c.unit; motion = c.motion }
 
 -- Settle, and the next program.
 
@@ -174,7 +168,7 @@ abbrev pub settled_state : Option Fault → State → State
 settled_state f s = saving (left_by f s.mark) s (λ lost. lost) (record s { mark = settled_mark s.mark })
 
 abbrev pub after_settle : Option Fault → DriveState → DriveState
-after_settle f d = record d { state = settled_state f d.state; began = false; work = Idle }
+after_settle f d = record d { state = settled_state f d.state; work = Idle }
 
 -- a track that is written stays to be saved
 abbrev pub owed_mark : Mark → Mark
@@ -184,37 +178,89 @@ owed_mark m = mark.Saved
 abbrev pub begun_program : State → State
 begun_program s = record (begin_program (drive_of s)) { mark = owed_mark s.mark }
 
--- What is answered.
+-- Calls of the store.
 
-abbrev pub with_image : DriveState → ImageState → DriveState
-with_image d i = record d { image = i }
+-- a written track is left, and saved first, as a command sends the arm to cylinder 0, head 0;
+abbrev pub goes_to_cylinder_zero : Beginning → Bool
+goes_to_cylinder_zero (ToCylinderZero r o) = true
+goes_to_cylinder_zero b = false
 
-abbrev pub answer_of_begin : Begun → Answer
-answer_of_begin (drive.Rejected s) = begun.Rejected
-answer_of_begin (drive.Immediate s motion) = begun.Immediate
-answer_of_begin (drive.Started o) = begun.Started
+abbrev pub begin_saves : (code : ℕ) → DriveState → Bool
+begin_saves code d = is_written d.state && goes_to_cylinder_zero (beginning code d.state.registers)
 
--- with so many bytes left, where some may pass
-abbrev pub answer_of_look : Look → Work → LookAnswer
-answer_of_look (drive.Ready o) w = looked.Ready (left_of w)
-answer_of_look (drive.Passed o) w = looked.Passed
-answer_of_look (drive.Failed s) w = looked.Failed
+-- as a look goes on at the next head;
+abbrev pub goes_to_next_head : Sight → Bool
+goes_to_next_head (NextHead r) = true
+goes_to_next_head s = false
+
+abbrev pub look_saves_of : DriveState → Work → Bool
+look_saves_of d (Looking o) =
+    is_written d.state && goes_to_next_head (sight d.state.volume.geometry (track_under d.state) o d.state.registers)
+look_saves_of d w = false
+
+abbrev pub look_saves : DriveState → Bool
+look_saves d = look_saves_of d d.work
+
+-- and as a seek ends with a good address
+abbrev pub end_saves_of : DriveState → Work → Bool
+end_saves_of d (Passing o b left) =
+    is_written d.state && (closing d.state.volume.geometry (track_under d.state) o d.state.registers b).moves_off
+end_saves_of d w = false
+
+abbrev pub end_saves : DriveState → Bool
+end_saves d = end_saves_of d d.work
+
+-- a track is loaded only where a command looks for an area
+abbrev pub is_next : Aim → Bool
+is_next (Next kind) = true
+is_next a = false
+
+abbrev pub look_loads_of : Work → Bool
+look_loads_of (Looking o) = is_next (aim o.command)
+look_loads_of w = false
+
+abbrev pub look_loads : DriveState → Bool
+look_loads d = look_loads_of d.work
+
+-- What a call makes of the store: a saving exactly where a written track is left or settled; else a load at most, and only
+-- where one may be; and no call fails but one of these.
+pub record CallsStore (may_load must_save : Bool) (old new : DriveState) : Type 0 where
+  pub loads : (new.image.loads ≡ old.image.loads) ⊎ ((may_load ≡ true) × (must_save ≡ false) × (new.image.loads ≡ old.image.loads + 1))
+  pub saves : new.image.saves ≡ old.image.saves + (if must_save then 1 else 0)
+  pub failures : (new.image.failures ≡ old.image.failures)
+      ⊎ ((new.image.failures ≡ old.image.failures + 1) × ((must_save ≡ true) ⊎ (new.image.loads ≡ old.image.loads + 1)))
+  pub slots : must_save ≡ false → new.image.slots ≡ old.image.slots
+  pub untouched : must_save ≡ false → new.image.loads ≡ old.image.loads → new.image ≡ old.image
+  pub header : new.image.header ≡ old.image.header
+  pub geometry : new.image.geometry ≡ old.image.geometry
+
+-- The fault that a call met, by what the image counted: none where no call of its store failed; else a failed load, or a
+-- failed saving, which left what stands in the slot of the track that was under the arm.
+abbrev pub fault_met : (old new : DriveState) → Option Fault
+fault_met old new =
+    if new.image.failures == old.image.failures then None
+    else (if new.image.saves == old.image.saves then Some LoadFails
+    else Some (SaveFails (slice_index_or new.image.slots (number_under old.state) [])))
+
+-- Where a call of the store failed, the sense has equipment check, nothing is left to be saved, and this is so; where none
+-- failed, equipment check is not gained.
+pub record Reports (so : Type 0) (old new : DriveState) : Type 0 where
+  pub failed : (new.image.failures ≡ old.image.failures)
+      ⊎ (so × (tells_equipment_check new.state.registers.sense ≡ true) × (is_written new.state ≡ false))
+  pub good : new.image.failures ≡ old.image.failures → tells_equipment_check new.state.registers.sense ≡ true
+      → tells_equipment_check old.state.registers.sense ≡ true
 
 -- A new drive.
-
-abbrev pub first_drive : Volume → Drive
-first_drive v = record { volume = v; cylinder = 0; head = 0; sense = ZERO }
-
-abbrev pub first_registers : Registers
-first_registers = record { cylinder = 0; head = 0; sense = ZERO; position = AtIndex; file_mask = mask_of_byte 0x00; mask_set = false; credit = None; lap = First }
 
 abbrev pub new_drive : ImageState → DriveState
 new_drive i = record {
   image = i;
   state = begin_program (first_drive (record { geometry = i.geometry; slots = i.slots }));
-  began = false;
   work = Idle;
 }
 
 abbrev pub without_sense : State → State
-without_sense s = with_registers s (record s.registers { sense = ZERO })
+without_sense s = with_registers s (record s.registers { sense = no_sense })
+
+abbrev pub with_image : DriveState → ImageState → DriveState
+with_image d i = record d { image = i }

@@ -26,14 +26,26 @@ pub enum Look {
 /// its condition.
 #[derive(Clone, Copy, Debug, PartialEq, Eq)]
 pub enum Phase {
-    /// No command is open: `begin`, `begin_program`, `clear_sense` and `settle`.
+    /// No command is open: `begin`, `begin_program`, `clear_sense` and `settle`, and `into_image` where no track is written.
     Idle,
     /// A command is over: `end`, or `settle` in its place.
     Over,
-    /// A command works, and its area is not found yet, or the index passed: `look`.
+    /// A command works, and its area is not found yet, or the index passed: `look`, or `settle` to cut it.
     Looking,
-    /// A command works, and may be given so many bytes by the drive: `give` of no more than these, `look` and `end`.
-    Gives(usize),
-    /// A command works, and takes so many bytes: `take` of no more than these, `look` and `end`.
-    Takes(usize),
+    /// A command works, and the drive gives bytes: `give` of no more than are left, `look` and `end`; or `settle` to cut it,
+    /// where none has passed.
+    Gives {
+        /// How many bytes have passed.
+        passed: usize,
+        /// How many more may pass by the last look.
+        left: usize,
+    },
+    /// A command works, and the drive takes bytes: `take` of no more than are left, `look` and `end`; or `settle` to cut it,
+    /// where none has passed.
+    Takes {
+        /// How many bytes have passed.
+        passed: usize,
+        /// How many more may pass by the last look.
+        left: usize,
+    },
 }

@@ -3,21 +3,22 @@
 ghost use Rattle.std.specs.Prelude.{◌≡◌, ◌≤◌, ◌<◌, ◌+◌, ◌-◌, ◌^◌, ◌++◌, Some, None, true, false, [], length, slice_range, IfOk, IfErr, OnOk, OnErr, Option};
 ghost use Rattle.ckd_sense.specs.SenseBytes.{sense_bytes};
 ghost use Rattle.ckd_image.specs.Store.{Counts};
-ghost use Rattle.ckd_drive.specs.Half.{next_progress, NextLeft};
-ghost use Rattle.ckd_drive.specs.declared.places.Stage.TheVariants.{Working};
-ghost use Rattle.ckd_drive.specs.Drive.{unsaved as unsaved_track, begin as begin_of};
-ghost use Rattle.ckd_drive.specs.Work.{DriveState, fault_met, MakesAtMost, SavesAtMost, after_begin, after_look, look_of, moved_on, left_of, gives_now, takes_now, given_now, passed_of, closed_of, after_end, ending_of, is_idle, is_working, may_end, after_settle, begun_program, answer_of_begin, answer_of_look, with_image, new_drive, without_sense, phase_of, Allows};
+ghost use Rattle.ckd_command.specs.Drive.{unsaved as unsaved_track, begin as begin_of, is_written as is_track_written};
+ghost use Rattle.ckd_drive.specs.declared.answers.Begun.TheVariants as begun;
+ghost use Rattle.ckd_drive.specs.declared.places.Stage.TheVariants.{Passing};
+ghost use Rattle.ckd_drive.specs.Half.{next_progress};
+ghost use Rattle.ckd_drive.specs.Work.{DriveState, Over, CallsStore, Reports, fault_met, begin_saves, look_loads, look_saves, end_saves, failed_ending, after_begin, after_look, moved_on, left_of, gives_now, takes_now, given_now, passed_of, closed_of, after_end, ending_of, is_idle, is_working, may_end, after_settle, begun_program, answer_of_begin, answer_of_look, with_image, new_drive, without_sense, phase_of, Allows};
 
 use crate::answers::{Begun, Look, Phase};
 use crate::places::{Place, Progress, Stage};
-use crate::registers::{Mark, Registers};
-use crate::stages::{ENDED, UNIT_CHECK};
-use crate::steps::DriveEnding;
+use crate::stages::UNIT_CHECK;
 use crate::trace::Trace;
-use crate::{beginning, leaving, looking, placing, stages, starting, tables, taking};
+use crate::{leaving, looking, placing, stages, starting, taking};
 use ckd_cache::TrackCache;
-use ckd_image::image::Image;
-use ckd_image::store::{ImageStore, StoreFault};
+use ckd_command::registers::{Mark, Registers};
+use ckd_command::steps::DriveEnding;
+use ckd_command::{beginning, tables};
+use ckd_image::{Image, ImageStore, StoreFault};
 use ckd_sense::Sense;
 use std::alloc::{AllocError, Global};
 use std::marker::Model;
@@ -33,8 +34,6 @@ pub struct Drive<S: ImageStore> {
     before: Trace,
     /// The bytes that passed in the command.
     passed: Trace,
-    /// Whether a command began since the drive was made or last settled.
-    began: bool,
 }
 
 impl<S: ImageStore> Model for Drive<S> {
@@ -43,30 +42,23 @@ impl<S: ImageStore> Model for Drive<S> {
 
     ghost Value = { DriveState };
 
-    ghost view = { λ d. state_of d.cache d.registers d.mark d.stage d.before.bytes d.passed.bytes d.began };
+    ghost view = { λ d. state_of d.cache d.registers d.mark d.stage d.before.bytes d.passed.bytes };
 
-    ghost invariant = { λ d. Stands d.cache d.registers d.mark d.stage d.before.bytes d.passed.bytes d.began };
+    ghost invariant = { λ d. Stands d.cache d.registers d.mark d.stage d.before.bytes d.passed.bytes };
 }
 
 // So many bytes more have passed, and the rest have this place.
 fn moved_on_by(p: Progress, n: usize, place: Place) -> Stage
-    requires left { NextLeft p.left n }
+    requires left { n ≤ p.left }
     requires moved { p.moved + n < 2 ^ 32 }
-    ensures { result ≡ Working (next_progress p n place) }
+    ensures { result ≡ Passing (next_progress p n place) }
 {
-    Stage::Working(Progress {
+    Stage::Passing(Progress {
         opened: p.opened,
         moved: p.moved + n,
-        left: p.left.map(|left| left - n),
+        left: p.left - n,
         place,
     })
-}
-
-fn copy(from: &[u8], at: usize, into: &mut [u8])
-    requires { at + length into.old ≤ length from.now }
-    ensures { into.new ≡ slice_range from.now at (at + length into.old) }
-{
-    into.copy_from_slice(&from[at..at + into.len()]);
 }
 
 impl<S: ImageStore> Drive<S> {
@@ -91,7 +83,6 @@ impl<S: ImageStore> Drive<S> {
             stage: Stage::Idle,
             before: Trace::new(),
             passed: Trace::new(),
-            began: false,
         })
     }
 
@@ -106,10 +97,9 @@ impl<S: ImageStore> Drive<S> {
         requires { is_idle self.old.work ≡ true }
         ensures state { self.new ≡ with_image (after_begin (fault_met self.old self.new) code self.old) self.new.image }
         ensures answer { result ≡ answer_of_begin (begin_of (fault_met self.old self.new) code self.old.state) }
-        ensures calls { SavesAtMost self.old self.new }
+        ensures calls { CallsStore false (begin_saves code self.old) self.old self.new }
+        ensures reported { Reports (result ≡ begun.Rejected) self.old self.new }
     {
-        self.began = true;
-        self.passed = Trace::new();
         let begun = beginning::begin(code, self.registers);
         self.stage = starting::start(&mut self.cache, &mut self.registers, &mut self.mark, begun);
         stages::begun(self.stage)
@@ -120,26 +110,25 @@ impl<S: ImageStore> Drive<S> {
     /// `Ready`: so many bytes may pass; a formatting write asks for the count area first, and for key and data once that
     /// came. `Passed`: the index passed, and another look is next. `Failed`: the command is over, and the sense bytes tell
     /// why. The track is loaded where it is not at hand, and one that was written is saved before the next head's
-    /// (component descriptions, 'Multiple-Track Operation' and 'No Record Found').
+    /// (component descriptions, 'Multiple-Track Operation' and 'No Record Found'). A command that has found its area looks
+    /// at no track: the look tells how many bytes more may pass.
     pub fn look(&mut self) -> Look
         requires { is_working self.old.work ≡ true }
         ensures state { self.new ≡ with_image (after_look (fault_met self.old self.new) self.old) self.new.image }
-        ensures answer { result ≡ answer_of_look (look_of (fault_met self.old self.new) self.old self.old.work) self.new.work }
-        ensures calls { MakesAtMost self.old self.new }
+        ensures answer { result ≡ answer_of_look self.new.work }
+        ensures calls { CallsStore (look_loads self.old) (look_saves self.old) self.old self.new }
+        ensures reported { Reports (self.new.work ≡ Over failed_ending) self.old self.new }
     {
-        let Stage::Working(p) = self.stage else {
-            return Look::Failed;
+        let opened = match self.stage {
+            Stage::Idle | Stage::Over(_) => unreachable!(),
+            Stage::Passing(p) => {
+                self.stage = stages::ready_again(p);
+                return stages::looked(self.stage);
+            }
+            Stage::Looking(opened) => opened,
         };
-        if !placing::is_unfound(p.place) {
-            self.stage = stages::ready(p.opened, p.moved, p.place);
-            return stages::looked(self.stage);
-        }
-        self.stage = looking::look(
-            &mut self.cache,
-            &mut self.registers,
-            &mut self.mark,
-            p.opened,
-        );
+        self.passed = Trace::new();
+        self.stage = looking::look(&mut self.cache, &mut self.registers, &mut self.mark, opened);
         stages::looked(self.stage)
     }
 
@@ -151,23 +140,41 @@ impl<S: ImageStore> Drive<S> {
         ensures given { into.new ≡ slice_range (given_now self.old self.old.work) (length (passed_of self.old.work)) (length (passed_of self.old.work) + length into.old) }
         ensures moved { self.new ≡ record self.old { work = moved_on into.new self.old.work } }
     {
-        let Stage::Working(p) = self.stage else {
-            return;
+        let n = into.len();
+        into.copy_from_slice(&self.next_bytes()[..n]);
+        self.pass(n);
+    }
+
+    /// The next bytes of a read or of Sense, lent as they stand: all that may be given now.
+    pub fn next_bytes(&self) -> &[u8]
+        requires { gives_now self.now.work ≡ true }
+        ensures size { length result.now ≡ left_of self.now.work }
+        ensures bytes { result.now ≡ slice_range (given_now self.now self.now.work) (length (passed_of self.now.work)) (length (passed_of self.now.work) + left_of self.now.work) }
+    {
+        let Stage::Passing(p) = &self.stage else {
+            unreachable!();
         };
-        if let Place::Read(window, outcome) = p.place {
-            copy(self.cache.buffer().bytes(), window.start, into);
-            self.passed = self.passed.and(into);
-            self.stage = moved_on_by(
-                p,
-                into.len(),
-                Place::Read(placing::behind(window, into.len()), outcome),
-            );
-            return;
+        match &p.place {
+            Place::Sense(bytes, _) => &bytes[p.moved..p.moved + p.left],
+            Place::Read(window, _) => {
+                &self.cache.buffer().bytes()[window.start..window.start + p.left]
+            }
+            _ => unreachable!(),
         }
-        let sense = self.registers.sense;
-        copy(&sense.to_bytes(), p.moved, into);
-        self.passed = self.passed.and(into);
-        self.stage = moved_on_by(p, into.len(), p.place);
+    }
+
+    /// So many of the next bytes have passed; no more than there are.
+    pub fn pass(&mut self, n: usize)
+        requires gives { gives_now self.old.work ≡ true }
+        requires room { n ≤ left_of self.old.work }
+        ensures { self.new ≡ record self.old { work = moved_on (slice_range (given_now self.old self.old.work) (length (passed_of self.old.work)) (length (passed_of self.old.work) + n)) self.old.work } }
+    {
+        let passed = self.passed.and(&self.next_bytes()[..n]);
+        let Stage::Passing(p) = self.stage else {
+            unreachable!();
+        };
+        self.passed = passed;
+        self.stage = moved_on_by(p, n, placing::given_on(p.place, n));
     }
 
     /// Takes the next bytes of any other command: no more than the last look allows less what has passed since. What is
@@ -177,8 +184,8 @@ impl<S: ImageStore> Drive<S> {
         requires room { length bytes.now ≤ left_of self.old.work }
         ensures { self.new ≡ record self.old { work = moved_on bytes.now self.old.work } }
     {
-        let Stage::Working(p) = self.stage else {
-            return;
+        let Stage::Passing(p) = self.stage else {
+            unreachable!();
         };
         let place = taking::absorb(
             &mut self.cache,
@@ -201,15 +208,16 @@ impl<S: ImageStore> Drive<S> {
         requires { may_end self.old.work ≡ true }
         ensures state { self.new ≡ with_image (after_end (fault_met self.old self.new) self.old) self.new.image }
         ensures ending { result ≡ ending_of (closed_of (fault_met self.old self.new) self.old self.old.work) }
-        ensures calls { SavesAtMost self.old self.new }
+        ensures calls { CallsStore false (end_saves self.old) self.old self.new }
+        ensures reported { Reports (result ≡ failed_ending) self.old self.new }
     {
         let p = match self.stage {
-            Stage::Idle => return ENDED,
+            Stage::Idle | Stage::Looking(_) => unreachable!(),
             Stage::Over(ending) => {
                 self.stage = Stage::Idle;
                 return ending;
             }
-            Stage::Working(p) => p,
+            Stage::Passing(p) => p,
         };
         let outcome = placing::close(
             self.cache.geometry(),
@@ -242,10 +250,10 @@ impl<S: ImageStore> Drive<S> {
         ensures state { self.new ≡ with_image (after_settle (fault_met self.old self.new) self.old) self.new.image }
         ensures saved { self.new.image.slots ≡ self.new.state.volume.slots }
         ensures counted { Counts self.old.image.failures self.new.image.failures result }
-        ensures calls { SavesAtMost self.old self.new }
+        ensures calls { CallsStore false (is_track_written self.old.state) self.old self.new }
+        ensures reported { Reports (unsaved_track self.new.state ≡ Some (self.old.state.registers.cylinder, self.old.state.registers.head)) self.old self.new }
     {
         self.stage = Stage::Idle;
-        self.began = false;
         match self.cache.save() {
             Ok(()) => {
                 self.mark = placing::settled_mark(self.mark);
@@ -277,14 +285,25 @@ impl<S: ImageStore> Drive<S> {
         match self.stage {
             Stage::Idle => Phase::Idle,
             Stage::Over(_) => Phase::Over,
-            Stage::Working(p) => match p.left {
-                None => Phase::Looking,
-                Some(left) if tables::is_giving(tables::action(p.opened.command)) => {
-                    Phase::Gives(left)
+            Stage::Looking(_) => Phase::Looking,
+            Stage::Passing(p) if tables::is_giving(tables::action(p.opened.command)) => {
+                Phase::Gives {
+                    passed: p.moved,
+                    left: p.left,
                 }
-                Some(left) => Phase::Takes(left),
+            }
+            Stage::Passing(p) => Phase::Takes {
+                passed: p.moved,
+                left: p.left,
             },
         }
+    }
+
+    /// Whether the track under the arm was written, and is not saved.
+    pub fn is_written(&self) -> bool
+        ensures { result ≡ is_track_written self.now.state }
+    {
+        matches!(self.mark, Mark::Written)
     }
 
     /// The six sense bytes.
@@ -315,9 +334,11 @@ impl<S: ImageStore> Drive<S> {
         }
     }
 
-    /// The image, which holds the drive's volume.
+    /// The image, which holds the drive's volume: where no command is open, and the track under the arm is not written or was
+    /// saved since.
     pub fn into_image(self) -> Image<S>
-        requires { self.began ≡ false }
+        requires idle { is_idle self.work ≡ true }
+        requires saved { is_track_written self.state ≡ false }
         ensures image { result ≡ self.image }
         ensures volume { result.slots ≡ self.state.volume.slots }
     {
@@ -328,7 +349,6 @@ impl<S: ImageStore> Drive<S> {
             stage: _,
             before: _,
             passed: _,
-            began: _,
         } = self;
         cache.into_image()
     }

@@ -2,13 +2,13 @@
 
 ghost use Rattle.std.specs.Prelude.{◌≡◌, None, OnOk, OnErr};
 ghost use Rattle.ckd_sense.specs.declared.sense_bytes.TheConstants.Sense.{STORE_FAULT};
-ghost use Rattle.ckd_drive.specs.Commands.{with_cause as joined_with_cause};
+ghost use Rattle.ckd_command.specs.Commands.{with_cause as joined_with_cause};
 ghost use Rattle.ckd_drive.specs.Stages.{Leaves, Loses};
 
-use crate::beginning;
-use crate::registers::{Mark, Registers};
 use ckd_cache::TrackCache;
-use ckd_image::store::{ImageStore, StoreFault};
+use ckd_command::beginning;
+use ckd_command::registers::{Mark, Registers};
+use ckd_image::{ImageStore, StoreFault};
 use ckd_sense::Sense;
 
 /// The registers where a load failed.

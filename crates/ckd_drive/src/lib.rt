@@ -3,18 +3,13 @@
 #![tactic(auto)]
 
 pub mod answers;
-mod beginning;
-mod closing;
 pub mod drive;
+pub mod laws;
 mod leaving;
 mod looking;
 mod places;
 mod placing;
-pub mod registers;
-mod sight;
 mod stages;
 mod starting;
-pub mod steps;
-mod tables;
 mod taking;
 mod trace;

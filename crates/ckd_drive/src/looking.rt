@@ -1,19 +1,21 @@
 //! A command looks for its area.
 
-ghost use Rattle.std.specs.Prelude.{◌≡◌, [], true, Some};
-ghost use Rattle.ckd_drive.specs.declared.steps.Aim.TheVariants.{Next};
-ghost use Rattle.ckd_drive.specs.Tables.{aim as aim_of};
+ghost use Rattle.std.specs.Prelude.{◌≡◌, [], Some};
+ghost use Rattle.ckd_command.specs.declared.steps.Aim.TheVariants.{Next};
+ghost use Rattle.ckd_command.specs.Tables.{aim as aim_of};
 ghost use Rattle.ckd_drive.specs.Half.{Stands, number};
-ghost use Rattle.ckd_drive.specs.Stages.{Looks, unlooked as not_looked};
+ghost use Rattle.ckd_drive.specs.declared.places.Stage.TheVariants.{Looking};
+ghost use Rattle.ckd_drive.specs.Stages.{Looks, IsLooked};
 
 use crate::leaving::{leave, with_store_fault};
 use crate::places::Stage;
-use crate::registers::{Mark, Registers};
-use crate::stages::{UNIT_CHECK, ready, unlooked};
-use crate::steps::{Aim, Opened, Sight};
-use crate::{placing, tables};
+use crate::placing;
+use crate::stages::{UNIT_CHECK, ready};
 use ckd_cache::TrackCache;
-use ckd_image::store::ImageStore;
+use ckd_command::registers::{Mark, Registers};
+use ckd_command::steps::{Aim, Opened, Sight};
+use ckd_command::tables;
+use ckd_image::ImageStore;
 use ckd_position::Kind;
 
 const FAILED: Stage = Stage::Over(UNIT_CHECK);
@@ -26,27 +28,28 @@ fn look_at_hand<S: ImageStore>(
     opened: Opened,
     kind: Kind,
 ) -> Stage
-    requires stands { Stands cache.old registers.old mark.old (not_looked opened) [] [] true }
+    requires stands { Stands cache.old registers.old mark.old (Looking opened) [] [] }
     requires aim { aim_of opened.command ≡ Next kind }
     requires held { cache.old.held ≡ Some (number cache.old.image.geometry registers.old) }
     ensures stage { Looks cache.old cache.new registers.old registers.new mark.old mark.new opened result }
+    ensures looked { IsLooked result }
     ensures loads { cache.new.image.loads ≡ cache.old.image.loads }
 {
     let geometry = cache.geometry();
     match placing::look_at(cache.buffer(), geometry, opened, *registers, kind) {
         Sight::Found(opened) => {
             let place = placing::place_on(cache.buffer(), opened, *registers);
-            ready(opened, 0, place)
+            ready(opened, place)
         }
         Sight::IndexPassed(next) => {
             *registers = next;
-            unlooked(opened)
+            Stage::Looking(opened)
         }
         Sight::NextHead(next) => {
             if leave(cache, registers, mark, next).is_err() {
                 return FAILED;
             }
-            unlooked(opened)
+            Stage::Looking(opened)
         }
         Sight::Missed(next) => {
             *registers = next;
@@ -63,9 +66,10 @@ fn look_for_next<S: ImageStore>(
     opened: Opened,
     kind: Kind,
 ) -> Stage
-    requires stands { Stands cache.old registers.old mark.old (not_looked opened) [] [] true }
+    requires stands { Stands cache.old registers.old mark.old (Looking opened) [] [] }
     requires aim { aim_of opened.command ≡ Next kind }
-    ensures { Looks cache.old cache.new registers.old registers.new mark.old mark.new opened result }
+    ensures stage { Looks cache.old cache.new registers.old registers.new mark.old mark.new opened result }
+    ensures looked { IsLooked result }
 {
     let track = cache
         .geometry()
@@ -84,17 +88,18 @@ pub(crate) fn look<S: ImageStore>(
     mark: &mut Mark,
     opened: Opened,
 ) -> Stage
-    requires { Stands cache.old registers.old mark.old (not_looked opened) [] [] true }
-    ensures { Looks cache.old cache.new registers.old registers.new mark.old mark.new opened result }
+    requires { Stands cache.old registers.old mark.old (Looking opened) [] [] }
+    ensures stage { Looks cache.old cache.new registers.old registers.new mark.old mark.new opened result }
+    ensures looked { IsLooked result }
 {
     match tables::aim(opened.command) {
         Aim::NoArea => {
             let place = placing::place_without_area(opened, *registers);
-            ready(opened, 0, place)
+            ready(opened, place)
         }
         Aim::Credited => {
             let place = placing::place_on(cache.buffer(), opened, *registers);
-            ready(opened, 0, place)
+            ready(opened, place)
         }
         Aim::Next(kind) => look_for_next(cache, registers, mark, opened, kind),
     }

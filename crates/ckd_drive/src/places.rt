@@ -1,16 +1,14 @@
 //! Where the bytes of a half done command stand.
 
-use crate::steps::{DriveEnding, Opened, Outcome};
 use ckd_cache::Window;
+use ckd_command::steps::{DriveEnding, Opened, Outcome};
 use std::cmp::Ordering;
 
 /// What becomes of the bytes that pass, and where in the slot those stand that are still to pass.
 #[derive(Clone, Copy, Debug, PartialEq, Eq)]
 pub enum Place {
-    /// The command has not looked yet.
-    Unfound,
-    /// The sense bytes are given, and the command then closes so.
-    Sense(Outcome),
+    /// These sense bytes are given, and the command then closes so.
+    Sense([u8; 6], Outcome),
     /// The bytes of a field are collected.
     Field([u8; 8]),
     /// These bytes are given, and the command then closes so.
@@ -34,15 +32,15 @@ pub enum Whole {
     Count([u8; 8]),
 }
 
-/// A command half done.
+/// A command half done, whose area is found.
 #[derive(Clone, Copy, Debug, PartialEq, Eq)]
 pub struct Progress {
-    /// The command, and its area as soon as that is found.
+    /// The command, and its area.
     pub opened: Opened,
     /// How many bytes passed.
     pub moved: usize,
-    /// How many more the last look allows, where it found the area.
-    pub left: Option<usize>,
+    /// How many more the last look allows.
+    pub left: usize,
     /// What becomes of them.
     pub place: Place,
 }
@@ -54,6 +52,8 @@ pub enum Stage {
     Idle,
     /// A command is over, and waits for its end.
     Over(DriveEnding),
-    /// A command works.
-    Working(Progress),
+    /// A command looks for its area.
+    Looking(Opened),
+    /// A command has found its area, and its bytes pass.
+    Passing(Progress),
 }

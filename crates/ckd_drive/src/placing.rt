@@ -6,24 +6,25 @@ ghost use Rattle.ckd_track.specs.Track.{track_of};
 ghost use Rattle.std.specs.Ordering.{nat_cmp, ordering_then};
 ghost use Rattle.std.specs.Cmp.Lexicographic.{slice_cmp};
 ghost use Rattle.ckd_position.specs.Comparisons.{accepts as accepts_order};
-ghost use Rattle.ckd_drive.specs.Tables.{action_of, aim as aim_of};
-ghost use Rattle.ckd_drive.specs.Commands.{outcome, own_home_address, sight as sight_of_track};
+ghost use Rattle.ckd_command.specs.Tables.{action_of, aim as aim_of};
+ghost use Rattle.ckd_command.specs.Commands.{outcome, own_home_address, sight as sight_of_track, whole_field, at_end as ends_behind, fails};
+ghost use Rattle.ckd_sense.specs.declared.sense_bytes.TheConstants.Sense.{WRONG_HOME_ADDRESS};
 ghost use Rattle.ckd_drive.specs.Work.{settled_mark as mark_settled, owed_mark as mark_owed};
 ghost use Rattle.ckd_track.specs.Changes.{overwritten};
-ghost use Rattle.ckd_drive.specs.declared.steps.Aim.TheVariants.{Next, NoArea};
-ghost use Rattle.ckd_drive.specs.declared.steps.Action.TheVariants.{NoTransfer};
-ghost use Rattle.ckd_drive.specs.Half.{whole_of, field_ends as field_closes, outcome_at, MovedInField, is_unfound as has_not_looked, mark_left as mark_left_by, remaining as remaining_by, field_size as size_of_field, AreaIsThere, AreaOf, IsFirstPlace, ReadsWhole};
+ghost use Rattle.ckd_command.specs.declared.steps.Aim.TheVariants.{Next, NoArea};
+ghost use Rattle.ckd_command.specs.declared.steps.Action.TheVariants.{NoTransfer};
+ghost use Rattle.ckd_drive.specs.Half.{whole_of, field_ends as field_closes, outcome_at, MovedInField, mark_left as mark_left_by, remaining as remaining_by, field_size as size_of_field, AreaIsThere, AreaOf, IsFirstPlace, ReadsWhole, MayGive, given_on as place_given};
 
-use crate::beginning::with_cause;
 use crate::places::{Place, Whole};
-use crate::registers::{Mark, Registers};
-use crate::sight::sight_of;
-use crate::steps::{Action, Opened, Outcome, Sight};
-use crate::{closing, tables};
 use ckd_cache::{TrackBuffer, Window};
-use ckd_image::geometry::Geometry;
+use ckd_command::beginning::with_cause;
+use ckd_command::registers::{Mark, Registers};
+use ckd_command::sight::sight_of;
+use ckd_command::steps::{Action, Opened, Outcome, Sight};
+use ckd_command::{closing, tables};
 use ckd_position::{Compare, Kind};
 use ckd_sense::Sense;
+use ckd_track::Geometry;
 use std::cmp::Ordering;
 
 /// How many bytes a field has that must come whole.
@@ -45,21 +46,13 @@ pub(crate) fn remaining(action: Action, place: Place, moved: usize) -> usize
     ensures { result ≡ remaining_by action place moved }
 {
     match place {
-        Place::Unfound => 0,
-        Place::Sense(_) => 6usize.saturating_sub(moved),
+        Place::Sense(_, _) => 6usize.saturating_sub(moved),
         Place::Field(_) => field_size(action).saturating_sub(moved),
         Place::Read(window, _)
         | Place::Search(window, _)
         | Place::Fill(window, _)
         | Place::Filled(window, _) => window.len,
     }
-}
-
-/// Whether the command has not looked yet.
-pub(crate) fn is_unfound(place: Place) -> bool
-    ensures { result ≡ has_not_looked place }
-{
-    matches!(place, Place::Unfound)
 }
 
 /// The mark of a track that a command leaves whose arm stays.
@@ -93,7 +86,7 @@ pub(crate) fn owed_mark(mark: Mark) -> Mark
 }
 
 /// A look at a track for the next area of this kind.
-#[tactic(auto, unfolding(crate::specs::Commands::sight))]
+#[tactic(auto, unfolding(ckd_command::specs::Commands::sight))]
 pub(crate) fn look_at(
     buffer: &TrackBuffer,
     geometry: Geometry,
@@ -146,6 +139,17 @@ pub(crate) fn behind(window: Window, n: usize) -> Window
     }
 }
 
+/// The place of the bytes that are still to be given, once so many more are.
+pub(crate) fn given_on(place: Place, n: usize) -> Place
+    requires { MayGive place n }
+    ensures { result ≡ place_given place n }
+{
+    match place {
+        Place::Read(window, outcome) => Place::Read(behind(window, n), outcome),
+        _ => place,
+    }
+}
+
 /// The field once these bytes came too.
 pub(crate) fn collected(field: [u8; 8], at: usize, bytes: &[u8]) -> [u8; 8]
     requires { at + length bytes.now ≤ 8 }
@@ -163,7 +167,10 @@ pub(crate) fn place_without_area(opened: Opened, registers: Registers) -> Place
     ensures { (slot : List ℕ) → IsFirstPlace slot opened registers result }
 {
     match tables::action(opened.command) {
-        Action::GiveSense => Place::Sense(closing::area_ends(opened, registers, false)),
+        Action::GiveSense => Place::Sense(
+            registers.sense.to_bytes(),
+            closing::area_ends(opened, registers, false),
+        ),
         _ => Place::Field([0; 8]),
     }
 }
@@ -193,6 +200,20 @@ pub(crate) fn place_on(buffer: &TrackBuffer, opened: Opened, registers: Register
     }
 }
 
+// How Write Home Address closes where the track is as it was.
+fn home_address_ends(opened: Opened, registers: Registers, bytes: &[u8]) -> Outcome
+    ensures { result ≡ outcome (whole_field (ends_behind opened registers) bytes.now 5 (fails (ends_behind opened registers) WRONG_HOME_ADDRESS)) }
+{
+    let registers = closing::at_end(opened, registers);
+    if bytes.is_empty() {
+        return closing::ends(registers, closing::ENDING);
+    }
+    if bytes.len() < 5 {
+        return closing::fails(registers, Sense::FIELD_CUT_SHORT);
+    }
+    closing::fails(registers, Sense::WRONG_HOME_ADDRESS)
+}
+
 // How a command closes that takes a field which must come whole, where these bytes of it came and the track is as it was.
 fn field_ends(geometry: Geometry, opened: Opened, registers: Registers, bytes: &[u8]) -> Outcome
     requires { length bytes.now ≤ size_of_field (action_of opened.command) }
@@ -201,6 +222,9 @@ fn field_ends(geometry: Geometry, opened: Opened, registers: Registers, bytes: &
     let action = tables::action(opened.command);
     if action == Action::SetFileMask {
         return closing::set_file_mask(registers, bytes);
+    }
+    if action == Action::WriteHomeAddress {
+        return home_address_ends(opened, registers, bytes);
     }
     if bytes.is_empty() {
         return closing::ends(registers, closing::ENDING);
@@ -211,10 +235,6 @@ fn field_ends(geometry: Geometry, opened: Opened, registers: Registers, bytes: &
     match action {
         Action::SeekCylinderAndHead => closing::seek_cylinder_and_head(geometry, registers, bytes),
         Action::SeekHead => closing::seek_head(geometry, registers, bytes),
-        Action::WriteHomeAddress => closing::fails(
-            closing::at_end(opened, registers),
-            Sense::WRONG_HOME_ADDRESS,
-        ),
         Action::Format => closing::fails(registers, Sense::RECORD_DOES_NOT_FIT),
         _ => closing::ends(registers, closing::ENDING),
     }
@@ -232,7 +252,7 @@ pub(crate) fn close(
     ensures { result ≡ outcome_at geometry registers opened moved place }
 {
     match place {
-        Place::Sense(outcome)
+        Place::Sense(_, outcome)
         | Place::Read(_, outcome)
         | Place::Fill(_, outcome)
         | Place::Filled(_, outcome) => outcome,
@@ -241,7 +261,6 @@ pub(crate) fn close(
             closing::search_ends(opened, registers, satisfied, window.len == 0)
         }
         Place::Field(field) => field_ends(geometry, opened, registers, &field[..moved]),
-        Place::Unfound => closing::ends(registers, closing::ENDING),
     }
 }
 

@@ -1,15 +1,16 @@
 //! The stages that a command comes to, and what the drive answers by them.
 
-ghost use Rattle.std.specs.Prelude.{◌≡◌, Some};
-ghost use Rattle.ckd_drive.specs.declared.places.Stage.TheVariants.{Working};
-ghost use Rattle.ckd_drive.specs.Tables.{action_of};
+ghost use Rattle.std.specs.Prelude.{◌≡◌};
+ghost use Rattle.ckd_drive.specs.declared.places.Stage.TheVariants.{Passing};
+ghost use Rattle.ckd_command.specs.Tables.{action_of};
 ghost use Rattle.ckd_drive.specs.Half.{remaining as remaining_by};
-ghost use Rattle.ckd_drive.specs.Stages.{unlooked as not_looked, begun_at, looked_at};
+ghost use Rattle.ckd_drive.specs.Stages.{IsBegun, IsLooked, begun_at, looked_at};
 
 use crate::answers::{Begun, Look};
 use crate::places::{Place, Progress, Stage};
-use crate::steps::{DriveEnding, Opened};
-use crate::{closing, placing, tables};
+use crate::placing;
+use ckd_command::steps::{DriveEnding, Opened};
+use ckd_command::{closing, tables};
 
 /// How a command ends whose arm stays.
 pub(crate) const ENDED: DriveEnding = DriveEnding {
@@ -29,50 +30,50 @@ pub(crate) const UNIT_CHECK: DriveEnding = DriveEnding {
     motion: false,
 };
 
-/// A command that has not looked yet.
-pub(crate) fn unlooked(opened: Opened) -> Stage
-    ensures { result ≡ not_looked opened }
+/// A command that has just found the place of its bytes.
+pub(crate) fn ready(opened: Opened, place: Place) -> Stage
+    ensures { result ≡ Passing (record { opened = opened; moved = 0; left = remaining_by (action_of opened.command) place 0; place = place }) }
 {
-    Stage::Working(Progress {
+    Stage::Passing(Progress {
         opened,
         moved: 0,
-        left: None,
-        place: Place::Unfound,
+        left: placing::remaining(tables::action(opened.command), place, 0),
+        place,
     })
 }
 
-/// A command of which so many bytes have passed, and the others may that have this place.
-pub(crate) fn ready(opened: Opened, moved: usize, place: Place) -> Stage
-    ensures { result ≡ Working (record { opened = opened; moved = moved; left = Some (remaining_by (action_of opened.command) place moved); place = place }) }
+/// A command of which all the bytes may pass that are known to be left.
+pub(crate) fn ready_again(p: Progress) -> Stage
+    ensures { result ≡ Passing (record p { left = remaining_by (action_of p.opened.command) p.place p.moved }) }
 {
-    Stage::Working(Progress {
-        opened,
-        moved,
-        left: Some(placing::remaining(tables::action(opened.command), place, moved)),
-        place,
+    Stage::Passing(Progress {
+        left: placing::remaining(tables::action(p.opened.command), p.place, p.moved),
+        ..p
     })
 }
 
 /// What a begin answers that came to this stage.
 pub(crate) fn begun(stage: Stage) -> Begun
+    requires { IsBegun stage }
     ensures { result ≡ begun_at stage }
 {
     match stage {
         Stage::Idle => Begun::Rejected,
         Stage::Over(_) => Begun::Immediate,
-        Stage::Working(_) => Begun::Started,
+        Stage::Looking(_) => Begun::Started,
+        Stage::Passing(_) => unreachable!(),
     }
 }
 
 /// What a look answers that came to this stage.
 pub(crate) fn looked(stage: Stage) -> Look
+    requires { IsLooked stage }
     ensures { result ≡ looked_at stage }
 {
-    let Stage::Working(p) = stage else {
-        return Look::Failed;
-    };
-    match p.left {
-        Some(left) => Look::Ready(left),
-        None => Look::Passed,
+    match stage {
+        Stage::Idle => unreachable!(),
+        Stage::Over(_) => Look::Failed,
+        Stage::Looking(_) => Look::Passed,
+        Stage::Passing(p) => Look::Ready(p.left),
     }
 }

@@ -1,18 +1,18 @@
 //! A drive starts a command.
 
-ghost use Rattle.std.specs.Prelude.{◌≡◌, [], true};
+ghost use Rattle.std.specs.Prelude.{◌≡◌, []};
 ghost use Rattle.ckd_drive.specs.declared.places.Stage.TheVariants.{Idle};
 ghost use Rattle.ckd_drive.specs.Half.{Stands, BeginsWell, number};
-ghost use Rattle.ckd_drive.specs.Stages.{Begins};
+ghost use Rattle.ckd_drive.specs.Stages.{Begins, IsBegun};
 
-use crate::beginning::moved_to;
 use crate::leaving::leave;
 use crate::places::Stage;
-use crate::registers::{Mark, Registers};
-use crate::stages::{ENDED, IN_MOTION, unlooked};
-use crate::steps::Beginning;
+use crate::stages::{ENDED, IN_MOTION};
 use ckd_cache::TrackCache;
-use ckd_image::store::ImageStore;
+use ckd_command::beginning::moved_to;
+use ckd_command::registers::{Mark, Registers};
+use ckd_command::steps::Beginning;
+use ckd_image::ImageStore;
 
 /// An idle drive starts the command that its code leads to, and this is the stage that it comes to.
 pub(crate) fn start<S: ImageStore>(
@@ -21,9 +21,10 @@ pub(crate) fn start<S: ImageStore>(
     mark: &mut Mark,
     begun: Beginning,
 ) -> Stage
-    requires idle { Stands cache.old registers.old mark.old Idle [] [] true }
+    requires idle { Stands cache.old registers.old mark.old Idle [] [] }
     requires well { BeginsWell cache.old (number cache.old.image.geometry registers.old) registers.old begun }
-    ensures { Begins cache.old cache.new registers.old registers.new mark.old mark.new begun result }
+    ensures state { Begins cache.old cache.new registers.old registers.new mark.old mark.new begun result }
+    ensures begun { IsBegun result }
 {
     match begun {
         Beginning::Rejected(next) => {
@@ -36,7 +37,7 @@ pub(crate) fn start<S: ImageStore>(
         }
         Beginning::Started(next, opened) => {
             *registers = next;
-            unlooked(opened)
+            Stage::Looking(opened)
         }
         Beginning::ToCylinderZero(next, opened) => {
             *registers = next;
@@ -45,7 +46,7 @@ pub(crate) fn start<S: ImageStore>(
             }
             match opened {
                 None => Stage::Over(IN_MOTION),
-                Some(opened) => unlooked(opened),
+                Some(opened) => Stage::Looking(opened),
             }
         }
     }

@@ -5,13 +5,14 @@ ghost use Rattle.ckd_drive.specs.declared.places.Place.TheVariants as place;
 ghost use Rattle.ckd_drive.specs.Half.{Works, MayTake, Absorbs};
 
 use crate::places::{Place, Progress, Whole};
-use crate::registers::Registers;
-use crate::steps::Outcome;
+use crate::placing;
 use crate::trace::Trace;
-use crate::{closing, placing, tables};
-use ckd_cache::{Extent, TrackCache, Window};
-use ckd_image::store::ImageStore;
-use ckd_position::{Area, Part};
+use ckd_cache::{TrackCache, Window};
+use ckd_command::registers::Registers;
+use ckd_command::steps::Outcome;
+use ckd_command::{closing, tables};
+use ckd_image::ImageStore;
+use ckd_position::{Area, Extent, Part};
 use std::cmp::Ordering;
 
 // A search compares the bytes.
@@ -145,6 +146,6 @@ pub(crate) fn absorb<S: ImageStore>(
         Place::Filled(window, outcome) => fill_on(
             cache, registers, before, passed, p, bytes, window, outcome,
         ),
-        Place::Unfound | Place::Sense(_) | Place::Read(_, _) => p.place,
+        Place::Sense(_, _) | Place::Read(_, _) => unreachable!(),
     }
 }

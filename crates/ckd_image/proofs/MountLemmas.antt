@@ -5,9 +5,10 @@ use Rattle.std.proofs.lemmas.Bool.{and_parts, or_parts, eqb-true, ltb-false, leb
 use Rattle.ckd_track.specs.declared.model.DriveModel.{DriveModel}
 use Rattle.ckd_track.specs.declared.model.DriveModel.TheVariants.{D2311, D2314}
 use Rattle.ckd_track.specs.Model.{heads_of}
-use Rattle.ckd_image.specs.declared.geometry.Geometry.{Geometry}
+use Rattle.ckd_track.specs.declared.geometries.Geometry.{Geometry}
 use Rattle.ckd_image.specs.declared.fault.MountFault.TheVariants.{NotCkdP370, Compressed, Heads, TrackSize, Split, Length}
-use Rattle.ckd_image.specs.Geometry.{IsGeometry, least_track_size, image_length, new_geometry}
+use Rattle.ckd_track.specs.Geometry.{IsGeometry, least_track_size, new_geometry}
+use Rattle.ckd_image.specs.Layout.{image_length}
 use Rattle.ckd_image.specs.Header.{image_id, heads_field, track_size_field, device_type_field, file_sequence_field, highest_cylinder_field, model_of, is_compressed, cylinders_of, with_cylinders, on_model, geometry_of, mount_of, new_header}
 
 -- a geometry, and the length of its image's file

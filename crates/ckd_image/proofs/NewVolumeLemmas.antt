@@ -8,8 +8,9 @@ use Rattle.ckd_track.specs.declared.model.DriveModel.{DriveModel}
 use Rattle.ckd_track.specs.declared.model.DriveModel.TheVariants.{D2311, D2314}
 use Rattle.ckd_track.specs.Model.{slot_size_of}
 use Rattle.ckd_track.specs.Track.{slot_of}
-use Rattle.ckd_image.specs.declared.geometry.Geometry.{Geometry}
-use Rattle.ckd_image.specs.Geometry.{tracks_of, image_length, new_geometry}
+use Rattle.ckd_track.specs.declared.geometries.Geometry.{Geometry}
+use Rattle.ckd_track.specs.Geometry.{tracks_of, new_geometry}
+use Rattle.ckd_image.specs.Layout.{image_length}
 use Rattle.ckd_image.specs.Header.{new_header, mount_of}
 use Rattle.ckd_image.specs.Store.{overwritten}
 use Rattle.ckd_image.specs.Slots.{slots_in, new_slot, new_slots}

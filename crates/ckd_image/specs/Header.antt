@@ -4,10 +4,10 @@ use Rattle.byteorder.specs.Endian.{little_number, little_bytes}
 use Rattle.ckd_track.specs.declared.model.DriveModel.{DriveModel}
 use Rattle.ckd_track.specs.declared.model.DriveModel.TheVariants.{D2311, D2314}
 use Rattle.ckd_track.specs.Model.{heads_of, slot_size_of}
-use Rattle.ckd_image.specs.declared.geometry.Geometry.{Geometry}
+use Rattle.ckd_track.specs.declared.geometries.Geometry.{Geometry}
 use Rattle.ckd_image.specs.declared.fault.MountFault.{MountFault}
 use Rattle.ckd_image.specs.declared.fault.MountFault.TheVariants.{NotCkdP370, Compressed, DeviceType, Heads, TrackSize, Split, Length}
-use Rattle.ckd_image.specs.Geometry.{least_track_size}
+use Rattle.ckd_track.specs.Geometry.{least_track_size}
 
 -- The fields. Numbers are little-endian.
 

@@ -2,10 +2,11 @@
 use Rattle.std.specs.Prelude.{◌≡◌, ℕ, ◌+◌, ◌≤◌, List, ◌++◌, length, take, drop, All, ◌==◌, ◌||◌, nat_lt, if◌then◌else◌, Result, Ok, Err, IsOk}
 use Rattle.std.specs.List.{concat}
 use Rattle.ckd_track.specs.declared.model.DriveModel.{DriveModel}
-use Rattle.ckd_image.specs.declared.geometry.Geometry.{Geometry}
+use Rattle.ckd_track.specs.declared.geometries.Geometry.{Geometry}
 use Rattle.ckd_image.specs.declared.fault.MountFault.{MountFault}
 use Rattle.ckd_image.specs.declared.fault.MountFault.TheVariants.{Length, StoreFault}
-use Rattle.ckd_image.specs.Geometry.{IsGeometry, tracks_of, image_length, new_geometry}
+use Rattle.ckd_track.specs.Geometry.{IsGeometry, tracks_of, new_geometry}
+use Rattle.ckd_image.specs.Layout.{image_length}
 use Rattle.ckd_image.specs.Header.{mount_of, new_header}
 use Rattle.ckd_image.specs.Slots.{slots_in, new_slots}
 

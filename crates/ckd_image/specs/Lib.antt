@@ -1,6 +1,6 @@
 pub mod Store
 pub mod Failing
-pub mod Geometry
+pub mod Layout
 pub mod Header
 pub mod Slots
 pub mod Image

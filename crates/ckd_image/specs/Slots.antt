@@ -4,8 +4,8 @@ use Rattle.std.specs.Prelude.{ℕ, zero, suc, ◌/◌, ◌%◌, List, [], ◌∷
 use Rattle.std.specs.List.{range_with_len}
 use Rattle.ckd_track.specs.Track.{Track, slot_of}
 use Rattle.ckd_track.specs.Model.{heads_of}
-use Rattle.ckd_image.specs.declared.geometry.Geometry.{Geometry}
-use Rattle.ckd_image.specs.Geometry.{tracks_of}
+use Rattle.ckd_track.specs.declared.geometries.Geometry.{Geometry}
+use Rattle.ckd_track.specs.Geometry.{tracks_of}
 
 -- so many slots of this size, one after the other
 unfoldable pub slots_in : ℕ → ℕ → List ℕ → List (List ℕ)

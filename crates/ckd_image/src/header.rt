@@ -6,9 +6,9 @@ ghost use Rattle.ckd_image.specs.Header.{geometry_of, on_model, cylinders_of, mo
 ghost use Rattle.byteorder.specs.Endian.{little_bytes};
 
 use crate::fault::MountFault;
-use crate::geometry::{Geometry, HEADER_LENGTH};
+use crate::layout::HEADER_LENGTH;
 use byteorder::{ByteOrder, LittleEndian};
-use ckd_track::model::DriveModel;
+use ckd_track::{DriveModel, Geometry};
 
 /// The id of an uncompressed image.
 const IMAGE_ID: [u8; 8] = *b"CKD_P370";

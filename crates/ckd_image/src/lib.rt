@@ -2,13 +2,21 @@
 #![tactic(auto)]
 
 mod count;
-pub mod failing;
-pub mod fault;
-pub mod geometry;
+mod failing;
+mod fault;
 mod header;
-pub mod image;
-pub mod memory;
+mod images;
+mod layout;
+mod memory;
 mod new_volume;
-pub mod store;
+mod store;
+
+pub use crate::failing::FailingStore;
+pub use crate::fault::MountFault;
+pub use crate::images::Image;
+pub use crate::layout::image_len;
+pub use crate::memory::MemoryStore;
+pub use crate::store::{ImageStore, StoreFault};
+
 #[cfg(test)]
 mod tests;

@@ -3,14 +3,16 @@
 ghost use Rattle.std.specs.Prelude.{◌≡◌, ◌+◌, ◌*◌, ◌<◌, ◌≤◌, max, length, OnOk, OnErr};
 ghost use Rattle.ckd_track.specs.Model.{slot_size_of};
 ghost use Rattle.ckd_track.specs.Track.{spelling, slot_of};
-ghost use Rattle.ckd_image.specs.Geometry.{tracks_of, image_length};
+ghost use Rattle.ckd_track.specs.Geometry.{tracks_of};
+ghost use Rattle.ckd_image.specs.Layout.{image_length};
 ghost use Rattle.ckd_image.specs.Slots.{new_track, new_slot};
 ghost use Rattle.ckd_image.specs.Store.{overwritten, Torn, Counts};
 ghost use Rattle.ckd_image.specs.Image.{new_file};
 
-use crate::geometry::Geometry;
 use crate::header::new_header_of;
+use crate::layout::slot_start;
 use crate::store::{ImageStore, StoreFault};
+use ckd_track::Geometry;
 
 /// The greatest track size of a new image, in bytes.
 const LARGEST_SLOT: usize = 7680;
@@ -55,7 +57,7 @@ fn write_new_slot<S: ImageStore>(
 {
     let heads = geometry.model.heads() as u32;
     spell_new_track(slot, (track / heads) as u16, (track % heads) as u16);
-    store.write_at(geometry.slot_start(track), slot)
+    store.write_at(slot_start(geometry, track), slot)
 }
 
 /// Spells a track of a new volume.

@@ -1,16 +1,16 @@
 //! Rows of the layout, refusals with the store handed back, and stores that fail.
 
 ghost use Rattle.std.specs.Prelude.{◌≡◌, ◌≤◌, ◌<◌, ◌^◌, ◌-◌, length, IfOk};
-ghost use Rattle.ckd_image.specs.Geometry.{new_geometry};
+ghost use Rattle.ckd_track.specs.Geometry.{new_geometry};
 
 use crate::count::Count;
 use crate::failing::FailingStore;
 use crate::fault::MountFault;
-use crate::geometry::{Geometry, image_len};
-use crate::image::Image;
+use crate::images::Image;
+use crate::layout::image_len;
 use crate::memory::MemoryStore;
 use crate::store::{ImageStore, StoreFault};
-use ckd_track::model::DriveModel;
+use ckd_track::{DriveModel, Geometry};
 use std::alloc::Global;
 use std::test::Fail;
 

@@ -1,3 +1,4 @@
 pub mod Comparisons
 pub mod Areas
 pub mod Looks
+pub mod Contents

@@ -4,11 +4,10 @@
 
 mod areas;
 mod comparisons;
+mod extents;
 mod looks;
 
 pub use crate::areas::{Area, Kind, Next, Part, Position};
 pub use crate::comparisons::{Compare, verdict};
+pub use crate::extents::Extent;
 pub use crate::looks::next_area;
-
-#[cfg(test)]
-mod tests;

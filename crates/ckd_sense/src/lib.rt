@@ -7,7 +7,4 @@ mod sense_bytes;
 
 pub use crate::commands::{Command, CommandCode};
 pub use crate::masks::{FileMask, Permit, SeekPermission, WritePermission};
-pub use crate::sense_bytes::Sense;
-
-#[cfg(test)]
-mod tests;
+pub use crate::sense_bytes::{Sense, each_cause_has_its_bytes};

@@ -1,7 +1,7 @@
 //! The sense bytes: why a command ended in unit check.
 
-ghost use Rattle.std.specs.Prelude.{⊤, ◌≡◌, [], ◌∷◌, codes};
-ghost use Rattle.ckd_sense.specs.SenseBytes.{joined, sense_bytes};
+ghost use Rattle.std.specs.Prelude.{⊤, ◌≡◌, map};
+ghost use Rattle.ckd_sense.specs.SenseBytes.{joined, sense_bits, sense_bytes, causes, listed_bytes, reported_bytes};
 
 use bitflags::{Flag, Flags, bitflag_items};
 
@@ -54,23 +54,7 @@ impl Flags for Sense {
 
     ghost exact = { ⊤ };
 
-    ghost table = { (codes "COMMAND_REJECT", 0x8000)
-        ∷ (codes "INTERVENTION_REQUIRED", 0x4000)
-        ∷ (codes "BUS_OUT_CHECK", 0x2000)
-        ∷ (codes "EQUIPMENT_CHECK", 0x1000)
-        ∷ (codes "DATA_CHECK", 0x0800)
-        ∷ (codes "OVERRUN", 0x0400)
-        ∷ (codes "TRACK_CONDITION_CHECK", 0x0200)
-        ∷ (codes "SEEK_CHECK", 0x0100)
-        ∷ (codes "DATA_CHECK_IN_COUNT_AREA", 0x0080)
-        ∷ (codes "TRACK_OVERRUN", 0x0040)
-        ∷ (codes "END_OF_CYLINDER", 0x0020)
-        ∷ (codes "INVALID_SEQUENCE", 0x0010)
-        ∷ (codes "NO_RECORD_FOUND", 0x0008)
-        ∷ (codes "FILE_PROTECTED", 0x0004)
-        ∷ (codes "MISSING_ADDRESS_MARKER", 0x0002)
-        ∷ (codes "OVERFLOW_INCOMPLETE", 0x0001)
-        ∷ [] };
+    ghost table = { sense_bits };
 
     ghost set_of = { λ s. s.0 };
 
@@ -144,3 +128,8 @@ impl Sense {
         self.union(other)
     }
 }
+
+/// Law: what is reported for each cause is its row of the table of causes.
+pub fn each_cause_has_its_bytes()
+    ensures { map reported_bytes causes ≡ map listed_bytes causes }
+{}

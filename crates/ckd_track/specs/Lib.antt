@@ -2,3 +2,4 @@ pub mod Track
 pub mod Model
 pub mod Charges
 pub mod Changes
+pub mod Geometry

@@ -2,15 +2,17 @@
 #![tactic(auto)]
 
 mod charges;
-pub mod fault;
+mod fault;
+mod geometries;
 mod index;
-pub mod model;
+mod model;
 mod view;
 mod walk;
 mod writes;
 
 pub use crate::charges::{charge, fits, last_charge, r0_charge, used};
 pub use crate::fault::SlotFault;
+pub use crate::geometries::Geometry;
 pub use crate::index::index_slot;
 pub use crate::model::DriveModel;
 pub use crate::view::{TrackView, read_slot, view_at};

@@ -1,23 +1,14 @@
-//! `dasd` runs decks of channel events over a drive. Without words it runs its stored deck.
+//! `dasd` formats, lists and checks CKD_P370 disk images, and runs decks of channel instructions over them.
 #![tactic(auto)]
 
-mod answer;
-mod channel;
-mod deck;
-mod drive;
-mod event;
-mod fetch;
-mod program;
-#[cfg(test)]
-mod tests;
+mod host;
 
-use crate::channel::Channel;
-use crate::deck::{RunFault, run};
-use s360_words::Storage;
-use std::io::ErrorKind;
+use crate::host::HostFiles;
+use dasd_run::{Ending, ProgramFault, obey};
+use std::alloc::Global;
+use std::io::{BufReader, BufWriter, ErrorKind};
 use std::process::ExitCode;
 use std::{env, io};
-use thiserror::Error;
 
 /// A No-Operation, which is accepted and over at once, so that no interruption is left.
 const STORED_DECK: &[u8] = b"STORE 48 00000400
@@ -27,52 +18,60 @@ SHOW 40 8
 INT
 ";
 
-/// The size of main storage, in bytes.
-const STORAGE_SIZE: u32 = 65_536;
+/// What is told of words that are no text.
+const NO_TEXT: &str = "error: a word is not UTF-8\n";
 
-/// The number of the channel.
-const CHANNEL: u8 = 1;
-
-/// The device address of the drive.
-const DEVICE: u8 = 0x90;
-
-/// Why `dasd` did not do what it was asked.
-#[derive(Clone, Copy, Debug, PartialEq, Eq, Error)]
-enum Fault {
-    /// There are words, and there is no command yet that takes any.
-    #[error("bad words")]
-    BadWords,
-    /// There is no memory for the words or for main storage.
-    #[error("out of memory")]
-    OutOfMemory,
-    /// The deck was not run, or its answers were not all written.
-    #[error(transparent)]
-    Run(RunFault),
-}
+/// What `dasd` does without words.
+const STORED_RUN: [&str; 3] = ["dasd", "run", "90=new:2311:1"];
 
 fn main(rt: HostRuntime) -> ExitCode {
-    let Err(fault) = run_stored_deck(&rt) else {
-        return ExitCode::SUCCESS;
-    };
-    let _ = eprintln!(rt; "dasd: {fault}");
-    if fault == Fault::BadWords {
-        ExitCode::from(2)
-    } else {
-        ExitCode::FAILURE
+    match answer(&rt) {
+        Ok(Ending::Done) => ExitCode::SUCCESS,
+        Ok(Ending::Findings) => ExitCode::FAILURE,
+        Err(ProgramFault::Words(text)) => {
+            let _ = eprint!(rt; "{text}");
+            ExitCode::from(2)
+        }
+        Err(fault) => {
+            let _ = eprintln!(rt; "dasd: {fault}");
+            ExitCode::from(fault.status())
+        }
     }
 }
 
-fn run_stored_deck(rt: &HostRuntime) -> Result<(), Fault> {
-    let words = match env::args(rt) {
-        Ok(words) => words,
-        Err(fault) if fault.kind() == ErrorKind::OutOfMemory => return Err(Fault::OutOfMemory),
-        Err(_) => return Err(Fault::BadWords),
-    };
-    if words.len() > 1 {
-        return Err(Fault::BadWords);
+// Does what the words of the host ask, or else the stored run.
+fn answer(rt: &HostRuntime) -> Result<Ending, ProgramFault> {
+    let alloc = rt.alloc();
+    let words = host_words(rt)?;
+    let mut list = Vec::new(alloc);
+    for word in &words {
+        list.push(word.as_str()).map_err(|_| ProgramFault::OutOfMemory)?;
     }
-    let storage = Storage::new(rt.alloc(), STORAGE_SIZE).map_err(|_| Fault::OutOfMemory)?;
-    let mut channel = Channel::new(CHANNEL, DEVICE, storage);
-    let mut deck = STORED_DECK;
-    run(rt.alloc(), &mut deck, &mut io::writer(rt), &mut channel).map_err(Fault::Run)
+    let mut files = HostFiles::new(rt);
+    let Ok(mut writer) = BufWriter::new(alloc, io::writer(rt)) else {
+        return Err(ProgramFault::OutOfMemory);
+    };
+    if list.len() > 1 {
+        obey(alloc, list.as_slice(), &mut files, &mut rt.reader(), &mut writer)
+    } else {
+        obey(alloc, &STORED_RUN, &mut files, &mut &STORED_DECK[..], &mut writer)
+    }
+}
+
+// The words that the host gave, the program's name first.
+fn host_words(rt: &HostRuntime) -> Result<Vec<String>, ProgramFault> {
+    let mut list = Vec::new(rt.alloc());
+    match env::args(rt) {
+        Ok(words) => {
+            for word in words {
+                list.push(word).map_err(|_| ProgramFault::OutOfMemory)?;
+            }
+            Ok(list)
+        }
+        Err(fault) if fault.kind() == ErrorKind::OutOfMemory => Err(ProgramFault::OutOfMemory),
+        Err(_) => match NO_TEXT.to_string(rt.alloc()) {
+            Ok(text) => Err(ProgramFault::Words(text)),
+            Err(_) => Err(ProgramFault::OutOfMemory),
+        },
+    }
 }

@@ -3,7 +3,7 @@ use Rattle.std.proofs.Common.{◌≡◌, ℕ, zero, suc, ◌+◌, ◌*◌, ◌/�
 use Rattle.std.proofs.lemmas.Bool.{eqb-true}
 use Rattle.std.specs.Prelude.{replicate, filter}
 use Rattle.s360_words.specs.Storage.{Change, csw_stored, Bytes, KeyOf}
-use Rattle.s360_program.specs.Scripts.{units, OneUnit, Script}
+use Rattle.s360_runs.specs.Scripts.{units, OneUnit, Script}
 use Rattle.s360_laws.specs.Events.{Exchange, Hio, Condition, Reset, Sio, StepBy, Stepped, Interrupt, Interrupted, Store, WasKept, SetKey, Tio, CswStored, StatusStored, Tch, Answer, HasArrived, Arrive, WasReset, Show, Shown, FaultAfter}
 use Rattle.s360_laws.specs.History.{units_ahead, script_ahead, fate_ahead, acts, own_change, where_over, Changes, acts_of, Program, turns_of}
 use Rattle.s360_laws.specs.Machine.{units_with}

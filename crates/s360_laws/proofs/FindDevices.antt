@@ -2,9 +2,9 @@
 use Rattle.std.proofs.Common.{◌≡◌, ℕ, ◌+◌, ◌*◌, refl, sym, ap, ◌∙◌, arith, true, false, Bool, cond, ◌==◌, List, [], ◌∷◌, map, Option, Some, None}
 use Rattle.std.proofs.lemmas.Bool.{eq-eqb, eqb-true, eqb-false}
 use Rattle.std.specs.Prelude.{find, option_map}
-use Rattle.ckd_drive.specs.Drive.{Drive}
+use Rattle.ckd_command.specs.Drive.{IdleDrive}
 use Rattle.s360_laws.specs.Machine.{Device, Machine, address_of, device_at}
-use Rattle.s360_laws.specs.Soundness.{AreDistinct}
+use Rattle.s360_laws.specs.Soundness.{AreDistinct, device_for}
 use Rattle.s360_laws.specs.declared.arm.Arm.{Arm}
 
 -- Numbers and tests.
@@ -67,10 +67,10 @@ distinct_map g k (v ∷ vs) h =
 abbrev pub set_arm : Arm → Device → Device
 set_arm arm v = record v { arm = arm }
 
-abbrev pub set_both : Arm → Drive → Device → Device
+abbrev pub set_both : Arm → IdleDrive → Device → Device
 set_both arm d v = record v { arm = arm; drive = d }
 
-abbrev pub set_drive : Drive → Device → Device
+abbrev pub set_drive : IdleDrive → Device → Device
 set_drive d v = record v { drive = d }
 
 pub keeps_one : (d : ℕ) (f : Device → Device) → Keeps f → Keeps (λ v. cond (v.device == d) (f v) v)
@@ -107,10 +107,6 @@ unit_after n d u f k vs = found_map (λ d. 256 * n + d == u) _ (keeps_one d f k)
     go : (x : Option Device) → Has (λ v. 256 * n + v.device == u) x → option_map (λ v. cond (v.device == d) (f v) v) x ≡ cond (256 * n + d == u) (option_map f x) x
     go None h = none (256 * n + d == u)
     go (Some v) h = ap (λ b. Some (cond b (f v) v)) (same_test v h) ∙ both (256 * n + d == u) (f v) v
-
--- the device of an address
-abbrev pub device_for : Machine → ℕ → Option Device
-device_for m u = find (λ d. address_of m d.device == u) m.devices
 
 -- the unit at an address, by its device
 pub at_device : (m : Machine) (d u : ℕ) (y : Option Device) → address_of m d ≡ u → device_at m d ≡ y → device_for m u ≡ y

@@ -4,7 +4,7 @@ use Rattle.std.proofs.lemmas.Bool.{eq-eqb, eqb-true}
 use Rattle.s360_words.specs.Storage.{Change, Bytes, is_within, KeyOf}
 use Rattle.s360_words.specs.declared.flags.TheConstants.UnitStatus.{CHANNEL_END}
 use Rattle.s360_words.specs.declared.words.Csw.{Csw}
-use Rattle.s360_program.specs.Status.{tells}
+use Rattle.s360_runs.specs.Status.{tells}
 use Rattle.s360_laws.specs.Events.{Answer, Event, FaultAfter, Sio, Condition, Tio, CswStored, Store, Hio, Tch, StepBy, Arrive, Interrupt, Reset, SetKey, Show, HasArrived, WasKept, Input}
 use Rattle.s360_laws.specs.Ledger.{HeldAnswer, ends_holding, HeldAnswers, HeldUntilStored}
 use Rattle.s360_laws.specs.Machine.{Machine, react, test_io, Pending, with_csw, arrive, Device, is_in_motion, with_arm, with_change, device_at, exchanges}

@@ -6,22 +6,22 @@ use Rattle.s360_words.specs.Storage.{Storage, changed, status_stored, Change, By
 use Rattle.s360_words.specs.declared.flags.ChannelStatus.{ChannelStatus}
 use Rattle.s360_words.specs.declared.flags.TheConstants.UnitStatus.{CHANNEL_END, DEVICE_END}
 use Rattle.s360_words.specs.declared.flags.UnitStatus.{UnitStatus}
-use Rattle.ckd_drive.specs.Drive.{unsaved, Drive}
-use Rattle.s360_program.specs.Endings.{Ending}
-use Rattle.s360_program.specs.Laws.{IsFirstUnit}
-use Rattle.s360_program.specs.Runs.{Start, run}
-use Rattle.s360_program.specs.Scripts.{units}
-use Rattle.s360_program.specs.Starts.{first, First, ImmediateStart, BadStart, RejectedStart, AcceptedStart}
-use Rattle.s360_program.specs.Status.{normal_end, tells, no_unit_status, no_channel_status}
-use Rattle.s360_program.proofs.EndStatus.{IsGood, RunGood, good_run}
-use Rattle.s360_program.proofs.FirstUnits.{first_is_unit}
+use Rattle.ckd_command.specs.Drive.{unsaved, IdleDrive}
+use Rattle.s360_runs.specs.Endings.{Ending}
+use Rattle.s360_runs.specs.Laws.{IsFirstUnit}
+use Rattle.s360_runs.specs.Runs.{Start, run}
+use Rattle.s360_runs.specs.Scripts.{units}
+use Rattle.s360_runs.specs.Starts.{first, First, ImmediateStart, BadStart, RejectedStart, AcceptedStart}
+use Rattle.s360_runs.specs.Status.{normal_end, tells, no_unit_status, no_channel_status}
+use Rattle.s360_runs.proofs.EndStatus.{IsGood, RunGood, good_run}
+use Rattle.s360_runs.proofs.FirstUnits.{first_is_unit}
 use Rattle.s360_laws.specs.Events.{FaultAfter, Reset, WasReset, Sio, StatusStored, Store, Arrive, Tio, Interrupt, Hio, Condition, WasKept, SetKey, Event, Tch, StepBy, HasArrived, Show}
 use Rattle.s360_laws.specs.Machine.{Device, at_rest, Machine, all_at_rest, address_of, device_at, with_device, arm_after, start_of, started, start_device, test_device, lowest, has_arrived, arrive, lower, interrupt_device, with_status, with_change, react, start_io, Idle, test_io, halt_io, fault_in}
-use Rattle.s360_laws.specs.Soundness.{device_owes, AreDistinct, arm_owes}
+use Rattle.s360_laws.specs.Soundness.{device_for, device_owes, AreDistinct, arm_owes}
 use Rattle.s360_laws.specs.declared.arm.Arm.{Arm}
 use Rattle.s360_laws.specs.declared.arm.Arm.TheVariants.{AtRest, InMotion, Arrived}
 use Rattle.s360_laws.specs.declared.condition.ConditionCode.TheVariants.{Three}
-use Rattle.s360_laws.proofs.FindDevices.{found_map, distinct_map, no, device_for, at_device, set_both, unit_after, keeps_one, set_drive}
+use Rattle.s360_laws.proofs.FindDevices.{found_map, distinct_map, no, at_device, set_both, unit_after, keeps_one, set_drive}
 use Rattle.s360_laws.proofs.Owing.{Fine, Balance, silent, same_owed, nothing, distinct_arm, device_end_told, either_fine, arrive_fine}
 use Rattle.s360_laws.proofs.Shapes.{idle}
 
@@ -45,11 +45,11 @@ sound_unit m a d u v e at h = at_device m d u (Some v) (e ∙ eqb-true a u h) at
 pub tested : (m : Machine) (a d u : ℕ) → address_of m d ≡ a → (address_of m d == u) ≡ (a == u)
 tested m a d u e = ap (λ k. k == u) e
 
-pub end_set : (m : Machine) (arm : Arm) (w : Drive) (d a u : ℕ) (s : Storage) → address_of m d ≡ a → device_for (record (with_device d (set_both arm w) m) { storage = s }) u ≡ cond (a == u) (option_map (set_both arm w) (device_for m u)) (device_for m u)
+pub end_set : (m : Machine) (arm : Arm) (w : IdleDrive) (d a u : ℕ) (s : Storage) → address_of m d ≡ a → device_for (record (with_device d (set_both arm w) m) { storage = s }) u ≡ cond (a == u) (option_map (set_both arm w) (device_for m u)) (device_for m u)
 end_set m arm w d a u s e = unit_after m.channel d u (set_both arm w) (λ v. refl) m.devices ∙ ap (λ b. cond b (option_map (set_both arm w) (device_for m u)) (device_for m u)) (tested m a d u e)
 
 -- a program ended at (units 1): its channel end, and its device end or its motion
-pub first_owes : (b c : Bool) (arm : Arm) (w : Drive) (y : Option Device) → cond c 1 0 + arm_owes arm ≡ 1 → (b ≡ true → (v : Device) × (y ≡ Some v))
+pub first_owes : (b c : Bool) (arm : Arm) (w : IdleDrive) (y : Option Device) → cond c 1 0 + arm_owes arm ≡ 1 → (b ≡ true → (v : Device) × (y ≡ Some v))
     → cond (b && c) 1 0 + (0 + device_owes (cond b (option_map (set_both arm w) y) y)) ≡ cond b 1 (0 + device_owes y)
 first_owes true c arm w y h k = ap (λ y. cond c 1 0 + (0 + device_owes (option_map (set_both arm w) y))) (k refl).1 ∙ ap (λ n. cond c 1 0 + n) (zero-add _) ∙ h
 first_owes false c arm w y h k = zero-add _
@@ -84,7 +84,7 @@ FirstGood s (ImmediateStart e) = IsGood e × ((e.csw.unit ≡ CHANNEL_END) ⊎ (
 FirstGood s f = Unit {0}
 
 pub first_good : (s : Start) (f : First) → first s ≡ f → FirstGood s f
-first_good s f h = go f (subst (λ f. IsFirstUnit s f (run (units 1) s)) h (first_is_unit s))
+first_good s f h = go f (subst (λ f. IsFirstUnit s f (run (units 1) s)) h (first_is_unit s).unit_is)
   where
     go : (f : First) → IsFirstUnit s f (run (units 1) s) → FirstGood s f
     go BadStart r = tt

@@ -1,21 +1,21 @@
 -- The ledger over lists of events.
-use Rattle.std.proofs.Common.{◌≡◌, ℕ, ◌+◌, ◌≤◌, refl, sym, ap, subst, ◌∙◌, arith, true, false, Bool, cond, ◌&&◌, ◌||◌, ◌==◌, List, [], ◌∷◌, Option, Some, None}
+use Rattle.std.proofs.Common.{◌≡◌, ℕ, ◌+◌, ◌≤◌, refl, sym, ap, subst, ◌∙◌, arith, zero-add, true, false, Bool, cond, ◌&&◌, ◌||◌, ◌==◌, List, [], ◌∷◌, Option, Some, None}
 use Rattle.std.proofs.lemmas.Bool.{eqb-true}
 use Rattle.std.specs.Prelude.{fold}
 use Rattle.s360_words.specs.declared.flags.TheConstants.UnitStatus.{CHANNEL_END, DEVICE_END}
-use Rattle.s360_program.specs.Status.{tells}
+use Rattle.s360_runs.specs.Status.{tells}
 use Rattle.s360_laws.specs.Events.{Event, FaultAfter, Input}
 use Rattle.s360_laws.specs.History.{Runs}
-use Rattle.s360_laws.specs.Ledger.{Since, SinceBeginning, SinceAcceptance, SinceReset, later, counted, is_reset, is_accepted, since, times_stored, AtMostOnce, ExactlyOnce, ChannelEndFirst, NoneAfterReset}
+use Rattle.s360_laws.specs.Ledger.{Since, SinceBeginning, SinceAcceptance, SinceReset, later, counted, is_reset, is_accepted, due, EndsPend, AtMostOnce, ExactlyOnce, ChannelEndFirst, NoneAfterReset}
 use Rattle.s360_laws.specs.Machine.{Machine, Subchannel, Idle, Working, Pending, react, exchanges, after_all, Device, address_of, device_at}
-use Rattle.s360_laws.specs.Soundness.{IsSound, IsSoundIn, AreDistinct, StaysSound, device_owes, arm_owes, IdleIsSound}
+use Rattle.s360_laws.specs.Soundness.{owes_channel_end, owes_device_end, channel_owes, device_for, IsSound, IsSoundIn, AreDistinct, StaysSound, device_owes, arm_owes, IdleIsSound}
 use Rattle.s360_laws.specs.declared.arm.Arm.{Arm}
 use Rattle.s360_laws.specs.declared.arm.Arm.TheVariants.{AtRest, InMotion, Arrived}
-use Rattle.s360_laws.proofs.FindDevices.{device_for, at_device}
+use Rattle.s360_laws.proofs.FindDevices.{at_device}
 use Rattle.s360_laws.proofs.LedgerIdle.{idle_fine}
 use Rattle.s360_laws.proofs.LedgerPending.{pending_fine}
 use Rattle.s360_laws.proofs.LedgerWorking.{working_fine}
-use Rattle.s360_laws.proofs.Owing.{Rest, Fine, owes_channel_end, owes_device_end, channel_owes}
+use Rattle.s360_laws.proofs.Owing.{Rest, Fine}
 use Rattle.s360_laws.proofs.Serial.{good}
 
 -- Any event.
@@ -51,28 +51,26 @@ stays_sound m [] h = h
 stays_sound m (e ∷ es) h = stays_sound (react e.0 e.1 m).1 es (stays m e.0 e.1 h)
 
 -- what is stored and owed together, by what came last
-abbrev pub Holds : Since → ℕ → ℕ → Type 0
-Holds SinceBeginning n o = n + o ≤ 1
-Holds SinceAcceptance n o = n + o ≡ 1
-Holds SinceReset n o = n + o ≡ 0
+abbrev pub Holds : ℕ → Since → ℕ → ℕ → Type 0
+Holds b s n o = n + o ≡ due b s
 
-pub holds_next : (s : Since) (r a : Bool) (n t o o_two : ℕ) → Holds s n o → t + o_two ≡ cond r 0 (cond a 1 o)
-    → Holds (cond r SinceReset (cond a SinceAcceptance s)) (cond (r || a) 0 n + t) o_two
-holds_next s true a n t o o_two h e = omega arith
-holds_next s false true n t o o_two h e = omega arith
-holds_next SinceBeginning false false n t o o_two h e = omega arith
-holds_next SinceAcceptance false false n t o o_two h e = omega arith
-holds_next SinceReset false false n t o o_two h e = omega arith
+pub holds_next : (b : ℕ) (s : Since) (r a : Bool) (n t o o_two : ℕ) → Holds b s n o → t + o_two ≡ cond r 0 (cond a 1 o)
+    → Holds b (cond r SinceReset (cond a SinceAcceptance s)) (cond (r || a) 0 n + t) o_two
+holds_next b s true a n t o o_two h e = omega arith
+holds_next b s false true n t o o_two h e = omega arith
+holds_next b SinceBeginning false false n t o o_two h e = omega arith
+holds_next b SinceAcceptance false false n t o o_two h e = omega arith
+holds_next b SinceReset false false n t o o_two h e = omega arith
 
-pub holds_all : (u : ℕ) (es : List Input) (m : Machine) (s : Since) (c d : ℕ) → IsSound m → Holds s c (owes_channel_end u m) → Holds s d (owes_device_end u m)
-    → Holds (fold (later u) s (exchanges es m)) (fold (counted CHANNEL_END u) c (exchanges es m)) (owes_channel_end u (after_all es m))
-    × Holds (fold (later u) s (exchanges es m)) (fold (counted DEVICE_END u) d (exchanges es m)) (owes_device_end u (after_all es m))
-holds_all u [] m s c d h hc hd = (hc, hd)
-holds_all u (e ∷ es) m s c d h hc hd =
-    let b = (fine m e.0 e.1 h).2 u in
-    holds_all u es (react e.0 e.1 m).1 (later u s (e.0, e.1, (react e.0 e.1 m).0)) (counted CHANNEL_END u c (e.0, e.1, (react e.0 e.1 m).0)) (counted DEVICE_END u d (e.0, e.1, (react e.0 e.1 m).0)) (stays m e.0 e.1 h)
-    (holds_next s (is_reset (e.0, e.1, (react e.0 e.1 m).0)) (is_accepted u (e.0, e.1, (react e.0 e.1 m).0)) c _ _ _ hc b.0)
-    (holds_next s (is_reset (e.0, e.1, (react e.0 e.1 m).0)) (is_accepted u (e.0, e.1, (react e.0 e.1 m).0)) d _ _ _ hd b.1)
+pub holds_all : (u b q : ℕ) (es : List Input) (m : Machine) (s : Since) (c d : ℕ) → IsSound m → Holds b s c (owes_channel_end u m) → Holds q s d (owes_device_end u m)
+    → Holds b (fold (later u) s (exchanges es m)) (fold (counted CHANNEL_END u) c (exchanges es m)) (owes_channel_end u (after_all es m))
+    × Holds q (fold (later u) s (exchanges es m)) (fold (counted DEVICE_END u) d (exchanges es m)) (owes_device_end u (after_all es m))
+holds_all u b q [] m s c d h hc hd = (hc, hd)
+holds_all u b q (e ∷ es) m s c d h hc hd =
+    let k = (fine m e.0 e.1 h).2 u in
+    holds_all u b q es (react e.0 e.1 m).1 (later u s (e.0, e.1, (react e.0 e.1 m).0)) (counted CHANNEL_END u c (e.0, e.1, (react e.0 e.1 m).0)) (counted DEVICE_END u d (e.0, e.1, (react e.0 e.1 m).0)) (stays m e.0 e.1 h)
+    (holds_next b s (is_reset (e.0, e.1, (react e.0 e.1 m).0)) (is_accepted u (e.0, e.1, (react e.0 e.1 m).0)) c _ _ _ hc k.0)
+    (holds_next q s (is_reset (e.0, e.1, (react e.0 e.1 m).0)) (is_accepted u (e.0, e.1, (react e.0 e.1 m).0)) d _ _ _ hd k.1)
 
 -- What a sound machine owes.
 
@@ -108,49 +106,48 @@ owed m (Pending p csw) u h = go (address_of m p == u) (tells csw.unit DEVICE_END
 pub owed_by : (m : Machine) (u : ℕ) → IsSound m → (owes_channel_end u m ≤ owes_device_end u m) × (owes_device_end u m ≤ 1)
 owed_by m u h = owed m m.subchannel u (sound_parts m m.subchannel h.1).1
 
-pub holds_from : (u : ℕ) (es : List Input) (m : Machine) → IsSound m
-    → Holds (since u (exchanges es m)) (times_stored CHANNEL_END u (exchanges es m)) (owes_channel_end u (after_all es m))
-    × Holds (since u (exchanges es m)) (times_stored DEVICE_END u (exchanges es m)) (owes_device_end u (after_all es m))
-holds_from u es m h =
-    let o = owed_by m u h in
-    holds_all u es m SinceBeginning 0 0 h (first_of (owes_channel_end u m) (owes_device_end u m) o.0 o.1).0 (first_of (owes_channel_end u m) (owes_device_end u m) o.0 o.1).1
-  where
-    first_of : (c d : ℕ) → c ≤ d → d ≤ 1 → (0 + c ≤ 1) × (0 + d ≤ 1)
-    first_of c d p q = (omega arith, omega arith)
+pub ends_pend : EndsPend
+ends_pend m es u h = holds_all u (owes_channel_end u m) (owes_device_end u m) es m SinceBeginning 0 0 h (zero-add _) (zero-add _)
 
-pub most : (s : Since) (n o : ℕ) → Holds s n o → n ≤ 1
-most SinceBeginning n o h = omega arith
-most SinceAcceptance n o h = omega arith
-most SinceReset n o h = omega arith
+most : (b : ℕ) (s : Since) (n o : ℕ) → b ≤ 1 → Holds b s n o → n ≤ 1
+most b SinceBeginning n o l h = omega arith
+most b SinceAcceptance n o l h = omega arith
+most b SinceReset n o l h = omega arith
 
 pub at_most_once : AtMostOnce
-at_most_once m es u h = let k = holds_from u es m h in (most _ _ _ k.0, most _ _ _ k.1)
+at_most_once m es u h =
+    let k = ends_pend m es u h in
+    let o = owed_by m u h in
+    (most _ _ _ _ (both _ _ o.0 o.1) k.0, most _ _ _ _ o.1 k.1)
+  where
+    both : (c d : ℕ) → c ≤ d → d ≤ 1 → c ≤ 1
+    both c d p q = omega arith
 
-pub exactly : (s : Since) (n o : ℕ) → Holds s n o → s ≡ SinceAcceptance → n + o ≡ 1
-exactly s n o h e = subst (λ s. Holds s n o) e h
+pub exactly : (b : ℕ) (s : Since) (n o : ℕ) → Holds b s n o → s ≡ SinceAcceptance → n + o ≡ 1
+exactly b s n o h e = subst (λ s. Holds b s n o) e h
 
 pub exactly_once : ExactlyOnce
 exactly_once m es e u h s a =
-    let k = holds_from u es m h in
+    let k = ends_pend m es u h in
     let z = ((fine (after_all es m) e.0 e.1 (stays_sound m es h)).2 u).2 a in
-    (full _ _ (exactly _ _ _ k.0 s) z.0, full _ _ (exactly _ _ _ k.1 s) z.1)
+    (full _ _ (exactly _ _ _ _ k.0 s) z.0, full _ _ (exactly _ _ _ _ k.1 s) z.1)
   where
     full : (n o : ℕ) → n + o ≡ 1 → o ≡ 0 → n ≡ 1
     full n o p q = omega arith
 
 pub channel_end_first : ChannelEndFirst
 channel_end_first m es u h s =
-    let k = holds_from u es m h in
-    not_after _ _ _ _ (exactly _ _ _ k.0 s) (exactly _ _ _ k.1 s) (owed_by (after_all es m) u (stays_sound m es h)).0
+    let k = ends_pend m es u h in
+    not_after _ _ _ _ (exactly _ _ _ _ k.0 s) (exactly _ _ _ _ k.1 s) (owed_by (after_all es m) u (stays_sound m es h)).0
   where
     not_after : (c d o p : ℕ) → c + o ≡ 1 → d + p ≡ 1 → o ≤ p → d ≤ c
     not_after c d o p x y z = omega arith
 
 pub none_after_reset : NoneAfterReset
-none_after_reset m es u h s = let k = holds_from u es m h in (none _ _ _ k.0 s, none _ _ _ k.1 s)
+none_after_reset m es u h s = let k = ends_pend m es u h in (none _ _ _ _ k.0 s, none _ _ _ _ k.1 s)
   where
-    none : (s : Since) (n o : ℕ) → Holds s n o → s ≡ SinceReset → n ≡ 0
-    none s n o h e = let z : n + o ≡ 0 = subst (λ s. Holds s n o) e h in omega arith
+    none : (b : ℕ) (s : Since) (n o : ℕ) → Holds b s n o → s ≡ SinceReset → n ≡ 0
+    none b s n o h e = let z : n + o ≡ 0 = subst (λ s. Holds b s n o) e h in omega arith
 
 pub idle_sound : IdleIsSound
 idle_sound m h ds = (ds, subst (IsSoundIn m) (sym h) tt)

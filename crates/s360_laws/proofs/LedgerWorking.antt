@@ -5,25 +5,25 @@ use Rattle.std.specs.Prelude.{option_map}
 use Rattle.s360_words.specs.Storage.{Storage, is_within, Bytes, KeyOf}
 use Rattle.s360_words.specs.declared.flags.TheConstants.UnitStatus.{DEVICE_END, CHANNEL_END}
 use Rattle.s360_words.specs.declared.words.Csw.{Csw}
-use Rattle.ckd_drive.specs.Drive.{Drive, Fault}
-use Rattle.s360_program.specs.Endings.{Ending, Outcome, Ended, NotEnded}
-use Rattle.s360_program.specs.Runs.{run}
-use Rattle.s360_program.specs.Scripts.{Script}
-use Rattle.s360_program.specs.Status.{tells}
-use Rattle.s360_program.proofs.EndStatus.{IsGood, RunGood, AsksGood, good_run}
+use Rattle.ckd_command.specs.Drive.{IdleDrive, Fault}
+use Rattle.s360_runs.specs.Endings.{Ending, Outcome, Ended, NotEnded}
+use Rattle.s360_runs.specs.Runs.{run}
+use Rattle.s360_runs.specs.Scripts.{Script}
+use Rattle.s360_runs.specs.Status.{tells}
+use Rattle.s360_runs.proofs.EndStatus.{IsGood, RunGood, AsksGood, good_run}
 use Rattle.s360_laws.specs.Events.{FaultAfter, Hio, Condition, StepBy, Interrupt, Store, WasKept, SetKey, Event, Sio, Tio, Tch, Arrive, HasArrived, Reset, Show}
 use Rattle.s360_laws.specs.Machine.{ended, Device, Machine, device_at, Pending, arm_after, address_of, cut, fault_in, stepped, asked_by, interrupt_program, start_of, run_of, goes_on, react, units_with, arrive, Working, unsaved_at}
-use Rattle.s360_laws.specs.Soundness.{device_owes, arm_owes, AreDistinct, IsRunning}
+use Rattle.s360_laws.specs.Soundness.{owes_channel_end, owes_device_end, device_for, device_owes, arm_owes, AreDistinct, IsRunning}
 use Rattle.s360_laws.specs.declared.arm.Arm.TheVariants.{InMotion, AtRest}
 use Rattle.s360_laws.specs.declared.condition.ConditionCode.TheVariants.{Two, Three}
-use Rattle.s360_laws.proofs.FindDevices.{no, set_both, device_of, device_for, distinct_map, keeps_one}
+use Rattle.s360_laws.proofs.FindDevices.{no, set_both, device_of, distinct_map, keeps_one}
 use Rattle.s360_laws.proofs.LedgerIdle.{end_set, sound_unit, reset_fine}
-use Rattle.s360_laws.proofs.Owing.{Rest, owes_channel_end, owes_device_end, Fine, nothing, silent, either_fine, arrive_fine}
+use Rattle.s360_laws.proofs.Owing.{Rest, Fine, nothing, silent, either_fine, arrive_fine}
 use Rattle.s360_laws.proofs.Shapes.{working}
 
 -- Working.
 
-pub ended_owes : (b c motion : Bool) (w : Drive) (y : Option Device) → c ≡ not motion → (b ≡ true → (v : Device) × (y ≡ Some v)) → (b ≡ true → device_owes y ≡ 0)
+pub ended_owes : (b c motion : Bool) (w : IdleDrive) (y : Option Device) → c ≡ not motion → (b ≡ true → (v : Device) × (y ≡ Some v)) → (b ≡ true → device_owes y ≡ 0)
     → 0 + (cond (b && c) 1 0 + device_owes (cond b (option_map (set_both (cond motion InMotion AtRest) w) y) y)) ≡ cond b 1 0 + device_owes y
 ended_owes true c motion w y q k z =
     ap (λ y. 0 + (cond c 1 0 + device_owes (option_map (set_both (cond motion InMotion AtRest) w) y))) (k refl).1 ∙ ap (λ c. 0 + (cond c 1 0 + arm_owes (cond motion InMotion AtRest))) q ∙ all motion ∙ sym (ap (λ n. 1 + n) (z refl))

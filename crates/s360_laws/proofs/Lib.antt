@@ -18,3 +18,6 @@ pub mod Held
 pub mod Starting
 pub mod MachineFaults
 pub mod NoFaultTold
+pub mod Headlines
+pub mod Arms
+pub mod KeptSlots

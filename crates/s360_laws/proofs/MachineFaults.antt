@@ -2,15 +2,15 @@
 use Rattle.std.proofs.Common.{◌≡◌, ℕ, zero, suc, ◌+◌, ◌-◌, ◌/◌, refl, sym, ap, subst, ◌∙◌, arith, true, false, Bool, cond, ◌==◌, List, [], ◌∷◌, ◌++◌, Option, Some, None, ◌⊎◌, inl, inr, append_assoc}
 use Rattle.std.specs.Prelude.{find, option_map, map}
 use Rattle.s360_words.specs.Storage.{Storage}
-use Rattle.ckd_drive.specs.Drive.{Fault, Drive, SaveFails, LoadFails}
-use Rattle.s360_program.specs.Endings.{Outcome, Ended, Ending, NotEnded, Standing}
-use Rattle.s360_program.specs.Faults.{OutcomeByFault, NextByFault, EndsByFault}
-use Rattle.s360_program.specs.Runs.{Start, run}
-use Rattle.s360_program.specs.Scripts.{Script, OneUnit, units, units_in}
-use Rattle.s360_program.specs.Units.{unit, Phase, StandsAt, Next, standing_in, outcome_of, on_next, walk, GoesOn, EndsIn}
-use Rattle.s360_program.proofs.FaultsMet.{same_outcome, fault_ends_unit, fault_ends_cut}
-use Rattle.s360_program.proofs.Standing.{goes_by}
-use Rattle.s360_program.proofs.Walks.{units_in_two}
+use Rattle.ckd_command.specs.Drive.{Fault, IdleDrive, SaveFails, LoadFails}
+use Rattle.s360_runs.specs.Endings.{Outcome, Ended, Ending, NotEnded, Standing}
+use Rattle.s360_runs.specs.Faults.{OutcomeByFault, NextByFault, EndsByFault}
+use Rattle.s360_runs.specs.Runs.{Start, run}
+use Rattle.s360_runs.specs.Scripts.{Script, OneUnit, units, units_in}
+use Rattle.s360_runs.specs.Units.{unit, ProgramPhase, StandsAt, Next, standing_in, outcome_of, on_next, walk, GoesOn, EndsIn}
+use Rattle.s360_runs.proofs.FaultsMet.{same_outcome, fault_or_not, fault_ends_cut}
+use Rattle.s360_runs.proofs.Standing.{goes_by}
+use Rattle.s360_runs.proofs.Walks.{units_in_two}
 use Rattle.s360_laws.specs.Events.{Answer, FaultAfter, Stepped, StepBy, Condition, Hio, WasReset, Reset, Sio, Tio, Tch, Arrive, Interrupt, Store, SetKey, Show}
 use Rattle.s360_laws.specs.History.{Runs}
 use Rattle.s360_laws.specs.Machine.{cut, ended, units_failing, Device, Machine, device_at, arm_after, stepped, start_of, react, Subchannel, Idle, Pending, Working, run_of, unsaved_at, address_of, all_at_rest, at_rest}
@@ -27,14 +27,14 @@ use Rattle.s360_laws.proofs.StepUnits.{units_count, stood}
 
 -- the run with the fault is the run without it; or it ended in the unit with the fault
 abbrev MetAt : Fault → ℕ → Outcome → Type 0
-MetAt f n o = (before : Drive) × OutcomeByFault f n before o
+MetAt f n o = (before : IdleDrive) × OutcomeByFault f n before o
 
 abbrev MetOr : Start → Script → Script → Fault → ℕ → Type 0
 MetOr s with_fault without f n = (run with_fault s ≡ run without s) ⊎ MetAt f n (run with_fault s)
 
 -- over a unit that is met, or is not
-by_unit : (s : Start) (script rest : Script) (f : Fault) (key : ℕ) (g : Phase) → StandsAt s script key g
-    → (unit (Some f) key g ≡ unit None key g) ⊎ NextByFault f ((standing_in key g).cut None).drive (unit (Some f) key g)
+by_unit : (s : Start) (script rest : Script) (f : Fault) (key : ℕ) (g : ProgramPhase) → StandsAt s script key g
+    → (unit (Some f) key g ≡ unit None key g) ⊎ NextByFault f key g (unit (Some f) key g)
     → MetOr s (script ++ OneUnit (Some f) ∷ rest) (script ++ OneUnit None ∷ rest) f (units_in script + 1)
 by_unit s script rest f key g st (inl same) = inl (st (OneUnit (Some f) ∷ rest) ∙ ap (λ n. outcome_of (script ++ OneUnit (Some f) ∷ rest) key (on_next rest n (walk rest key))) same
     ∙ same_outcome (script ++ OneUnit (Some f) ∷ rest) (script ++ OneUnit None ∷ rest) key (on_next rest (unit None key g) (walk rest key)) counts ∙ sym (st (OneUnit None ∷ rest)))
@@ -43,23 +43,23 @@ by_unit s script rest f key g st (inl same) = inl (st (OneUnit (Some f) ∷ rest
     counts = let a = units_in_two script (OneUnit (Some f) ∷ rest) in let b = units_in_two script (OneUnit None ∷ rest) in omega arith
 by_unit s script rest f key g st (inr met) = inr (ended (unit (Some f) key g) met (st (OneUnit (Some f) ∷ rest)))
   where
-    before : Drive
+    before : IdleDrive
     before = ((standing_in key g).cut None).drive
 
     used : units_in (script ++ OneUnit (Some f) ∷ rest) - units_in rest ≡ units_in script + 1
     used = let a = units_in_two script (OneUnit (Some f) ∷ rest) in omega arith
 
-    ended : (n : Next) → NextByFault f ((standing_in key g).cut None).drive n
+    ended : (n : Next) → NextByFault f key g n
         → run (script ++ OneUnit (Some f) ∷ rest) s ≡ outcome_of (script ++ OneUnit (Some f) ∷ rest) key (on_next rest n (walk rest key))
         → MetAt f (units_in script + 1) (run (script ++ OneUnit (Some f) ∷ rest) s)
     ended (GoesOn p) met r = absurd met
-    ended (EndsIn st_two e) met r = (((standing_in key g).cut None).drive, subst (OutcomeByFault f (units_in script + 1) ((standing_in key g).cut None).drive) (sym r) (used, met))
+    ended (EndsIn st_two e) met r = (((standing_in key g).cut None).drive, subst (OutcomeByFault f (units_in script + 1) ((standing_in key g).cut None).drive) (sym r) (used, met.0))
 
 -- over the units before it
-failing_or : (k after : ℕ) (s : Start) (script : Script) (f : Fault) (key : ℕ) (g : Phase) → StandsAt s script key g
+failing_or : (k after : ℕ) (s : Start) (script : Script) (f : Fault) (key : ℕ) (g : ProgramPhase) → StandsAt s script key g
     → MetOr s (script ++ units_failing k after f) (script ++ units k) f (units_in script + suc after)
 failing_or zero after s script f key g st = inl refl
-failing_or (suc k) zero s script f key g st = by_unit s script (units k) f key g st (fault_ends_unit f key g)
+failing_or (suc k) zero s script f key g st = by_unit s script (units k) f key g st (fault_or_not f key g)
 failing_or (suc k) (suc after) s script f key g st = go (unit None key g) refl (λ p st. failing_or k after s (script ++ OneUnit None ∷ []) f key p st)
   where
     same_number : units_in (script ++ OneUnit None ∷ []) + suc after ≡ units_in script + suc (suc after)
@@ -79,7 +79,7 @@ failing_or (suc k) (suc after) s script f key g st = go (unit None key g) refl (
         (subst (λ l. MetOr s ((script ++ OneUnit None ∷ []) ++ units_failing k after f) l f (units_in script + suc (suc after))) (append_assoc script (OneUnit None ∷ []) (units k))
         (subst (MetOr s ((script ++ OneUnit None ∷ []) ++ units_failing k after f) ((script ++ OneUnit None ∷ []) ++ units k) f) same_number h))
 
-    go : (n : Next) → unit None key g ≡ n → ((p : Phase) → StandsAt s (script ++ OneUnit None ∷ []) key p
+    go : (n : Next) → unit None key g ≡ n → ((p : ProgramPhase) → StandsAt s (script ++ OneUnit None ∷ []) key p
         → MetOr s ((script ++ OneUnit None ∷ []) ++ units_failing k after f) ((script ++ OneUnit None ∷ []) ++ units k) f (units_in (script ++ OneUnit None ∷ []) + suc after))
         → MetOr s (script ++ OneUnit None ∷ units_failing k after f) (script ++ OneUnit None ∷ units k) f (units_in script + suc (suc after))
     go (GoesOn p) at next = shifted (next p (goes_by s script (OneUnit None ∷ []) key g p st (ap (λ n. on_next [] n (walk [] key)) at)))
@@ -98,7 +98,7 @@ device_after d f k vs v at =
     found_map (λ n. n == d) _ (keeps_one d f k) vs ∙ ap (option_map (λ w. cond (w.device == d) (f w) w)) at
     ∙ ap (λ b. Some (cond b (f v) v)) (subst (Has (λ w. w.device == d)) at (has_found (λ w. w.device == d) vs))
 
-ended_by_fault : (m : Machine) (d : ℕ) (st : Storage) (e : Ending) (v : Device) (answer : Answer) (fault : Fault) (before : Drive) → device_at m d ≡ Some v → EndsByFault fault before e
+ended_by_fault : (m : Machine) (d : ℕ) (st : Storage) (e : Ending) (v : Device) (answer : Answer) (fault : Fault) (before : IdleDrive) → device_at m d ≡ Some v → EndsByFault fault before e
     → EndedByFault (answer, ended d st e m) answer
 ended_by_fault m d st e v answer fault before at h = record {
   answers = refl;

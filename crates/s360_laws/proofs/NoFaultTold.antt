@@ -6,17 +6,17 @@ use Rattle.s360_words.specs.Storage.{Storage, Change, Bytes, KeyOf, is_within}
 use Rattle.s360_words.specs.Words.{caw_of}
 use Rattle.s360_words.specs.declared.words.Caw.{Caw}
 use Rattle.s360_words.specs.declared.words.Csw.{Csw}
-use Rattle.ckd_drive.specs.Drive.{Drive, tells_equipment_check}
-use Rattle.s360_program.specs.Endings.{Outcome, Ended, Ending, NotEnded}
-use Rattle.s360_program.specs.Faults.{without_faults}
-use Rattle.s360_program.specs.Runs.{Start, run, run_from, start_point}
-use Rattle.s360_program.specs.Scripts.{Script, OneUnit, Outside, TakesInterruption, units}
-use Rattle.s360_program.specs.Starts.{First, BadStart, RejectedStart, ImmediateStart, AcceptedStart, first}
-use Rattle.s360_program.specs.Units.{Between, walk, Walk, StandsIn, EndsWith, outcome_of, standing_in}
-use Rattle.s360_program.specs.Unsaved.{GainsNoCheck, TellsNoFault, OutcomeTellsNoFault, FirstTellsNoFault}
-use Rattle.s360_program.proofs.FaultsMet.{goes_on_without_faults}
-use Rattle.s360_program.proofs.UnsavedTracks.{no_fault_nothing_told, unsaved_was_written}
-use Rattle.s360_program.proofs.Walks.{run_walk}
+use Rattle.ckd_command.specs.Drive.{IdleDrive, tells_equipment_check}
+use Rattle.s360_runs.specs.Endings.{Outcome, Ended, Ending, NotEnded}
+use Rattle.s360_runs.specs.Faults.{without_faults}
+use Rattle.s360_runs.specs.Runs.{Start, run, run_from, start_point}
+use Rattle.s360_runs.specs.Scripts.{Script, OneUnit, Outside, TakesInterruption, units}
+use Rattle.s360_runs.specs.Starts.{First, BadStart, RejectedStart, ImmediateStart, AcceptedStart, first}
+use Rattle.s360_runs.specs.Units.{Between, walk, Walk, StandsIn, EndsWith, outcome_of, standing_in}
+use Rattle.s360_runs.specs.Unsaved.{GainsNoCheck, TellsNoFault, OutcomeTellsNoFault, FirstTellsNoFault}
+use Rattle.s360_runs.proofs.FaultsMet.{goes_on_without_faults}
+use Rattle.s360_runs.proofs.UnsavedTracks.{no_fault_nothing_told, unsaved_was_written}
+use Rattle.s360_runs.proofs.Walks.{run_walk}
 use Rattle.s360_laws.specs.Events.{Answer, Event, StepBy, Condition, Hio, WasReset, Reset, Sio, Tio, Tch, Arrive, HasArrived, Interrupt, Store, WasKept, SetKey, Show}
 use Rattle.s360_laws.specs.History.{Runs}
 use Rattle.s360_laws.specs.Machine.{cut, Device, Machine, device_at, arm_after, started, start_device, test_device, test_io, tested, with_arm, with_ending, stepped, start_of, react, Subchannel, Idle, Pending, Working, run_of, unsaved_at, address_of, all_at_rest, at_rest, arrive, is_in_motion, has_arrived, lowest, interrupt_device, interrupt_program, asked_by, change, keep, fault_in, halt_io}
@@ -126,7 +126,7 @@ on_this : (m : Machine) (a : ℕ) (r : Answer × Machine) → Calm m r → Calm 
 on_this m a r h = either m (a / 256 == m.channel) r (Condition Three, m) h (tt, none_changed m)
 
 -- the program that runs
-abbrev OutcomeFor : Drive → Option Outcome → Type 0
+abbrev OutcomeFor : IdleDrive → Option Outcome → Type 0
 OutcomeFor d None = Unit {0}
 OutcomeFor d (Some o) = OutcomeTellsNoFault d o
 

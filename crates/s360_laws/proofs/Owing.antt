@@ -1,31 +1,16 @@
--- What a machine owes, and how an event keeps what is stored and what is owed in balance.
+-- How an event keeps what is stored and what is owed in balance.
 use Rattle.std.proofs.Common.{◌≡◌, ℕ, ◌+◌, refl, sym, ap, ◌∙◌, arith, true, false, Bool, cond, ◌&&◌, ◌==◌, Option, Some, None, zero-add}
 use Rattle.std.proofs.lemmas.Bool.{eqb-true}
-use Rattle.std.specs.Prelude.{if◌then◌else◌, option_map}
+use Rattle.std.specs.Prelude.{option_map}
 use Rattle.s360_words.specs.declared.flags.TheConstants.UnitStatus.{CHANNEL_END, DEVICE_END}
-use Rattle.s360_words.specs.declared.flags.UnitStatus.{UnitStatus}
-use Rattle.s360_program.specs.Status.{tells}
+use Rattle.s360_runs.specs.Status.{tells}
 use Rattle.s360_laws.specs.Events.{Exchange, Event, FaultAfter, Answer, Arrive, HasArrived}
 use Rattle.s360_laws.specs.Ledger.{is_reset, is_accepted, stores_end}
 use Rattle.s360_laws.specs.Machine.{Machine, Subchannel, Idle, Working, address_of, Pending, device_at, Device, with_arm, is_in_motion, arrive}
-use Rattle.s360_laws.specs.Soundness.{device_owes, AreDistinct, arm_owes}
+use Rattle.s360_laws.specs.Soundness.{device_owes, device_for, owes_channel_end, owes_device_end, AreDistinct, arm_owes}
 use Rattle.s360_laws.specs.declared.arm.Arm.{Arm}
 use Rattle.s360_laws.specs.declared.arm.Arm.TheVariants.{AtRest, Arrived, InMotion}
-use Rattle.s360_laws.proofs.FindDevices.{device_for, no, set_arm, unit_after, distinct_map, keeps_one, at_device, device_of}
-
--- What a machine owes.
-
--- whether the channel owes an end to an address: of a program that runs any, else what its CSW tells
-abbrev pub channel_owes : (end : UnitStatus) → (u : ℕ) → Machine → Subchannel → ℕ
-channel_owes end u m Idle = 0
-channel_owes end u m (Working device script) = if address_of m device == u then 1 else 0
-channel_owes end u m (Pending device csw) = if address_of m device == u && tells csw.unit end then 1 else 0
-
-abbrev pub owes_channel_end : ℕ → Machine → ℕ
-owes_channel_end u m = channel_owes CHANNEL_END u m m.subchannel
-
-abbrev pub owes_device_end : ℕ → Machine → ℕ
-owes_device_end u m = channel_owes DEVICE_END u m m.subchannel + device_owes (device_for m u)
+use Rattle.s360_laws.proofs.FindDevices.{no, set_arm, unit_after, distinct_map, keeps_one, at_device, device_of}
 
 -- What each event owes.
 
@@ -34,13 +19,13 @@ Rest m Idle = Unit {0}
 Rest m (Working d s) = device_owes (device_at m d) ≡ 0
 Rest m (Pending d csw) = (tells csw.unit CHANNEL_END ≡ true) × (cond (tells csw.unit DEVICE_END) 1 0 + device_owes (device_at m d) ≡ 1)
 
-abbrev pub due : ℕ → Exchange → ℕ → ℕ
-due u t n = cond (is_reset t) 0 (cond (is_accepted u t) 1 n)
+abbrev pub owed_by : ℕ → Exchange → ℕ → ℕ
+owed_by u t n = cond (is_reset t) 0 (cond (is_accepted u t) 1 n)
 
 abbrev pub Balance : ℕ → Exchange → Machine → Machine → Type 0
 Balance u t m m_two =
-    (cond (stores_end CHANNEL_END u t) 1 0 + owes_channel_end u m_two ≡ due u t (owes_channel_end u m))
-    × (cond (stores_end DEVICE_END u t) 1 0 + owes_device_end u m_two ≡ due u t (owes_device_end u m))
+    (cond (stores_end CHANNEL_END u t) 1 0 + owes_channel_end u m_two ≡ owed_by u t (owes_channel_end u m))
+    × (cond (stores_end DEVICE_END u t) 1 0 + owes_device_end u m_two ≡ owed_by u t (owes_device_end u m))
     × (is_accepted u t ≡ true → (owes_channel_end u m ≡ 0) × (owes_device_end u m ≡ 0))
 
 abbrev pub Fine : Machine → Event → Option FaultAfter → Answer × Machine → Type 0

@@ -2,7 +2,7 @@
 use Rattle.std.proofs.Common.{◌≡◌, ℕ, refl, sym, ap, ◌∙◌, true, false, Bool, cond, ◌==◌, List, [], ◌∷◌, ◌++◌, map, Option, Some}
 use Rattle.std.specs.Prelude.{find, option_map}
 use Rattle.s360_words.specs.Storage.{Change}
-use Rattle.ckd_drive.specs.Drive.{Drive, no_sense}
+use Rattle.ckd_command.specs.Drive.{IdleDrive, no_sense}
 use Rattle.s360_laws.specs.Events.{Exchange, Event, FaultAfter, Answer}
 use Rattle.s360_laws.specs.History.{with_drive, units_ahead, history, world_of, all_acts, acts, Runs, World, does, Changes, own_change, where_over}
 use Rattle.s360_laws.specs.Machine.{Device, at_rest, Machine, is_working}
@@ -10,10 +10,10 @@ use Rattle.s360_laws.specs.declared.arm.Arm.{Arm}
 
 -- Units as the history sees them.
 
-abbrev pub seen : Device → ℕ × Drive
+abbrev pub seen : Device → ℕ × IdleDrive
 seen u = (u.device, u.drive)
 
-pub seen_map : (f : Device → Device) (g : ℕ × Drive → ℕ × Drive) → ((u : Device) → seen (f u) ≡ g (seen u)) → (us : List Device) → map seen (map f us) ≡ map g (map seen us)
+pub seen_map : (f : Device → Device) (g : ℕ × IdleDrive → ℕ × IdleDrive) → ((u : Device) → seen (f u) ≡ g (seen u)) → (us : List Device) → map seen (map f us) ≡ map g (map seen us)
 seen_map f g h [] = refl
 seen_map f g h (u ∷ us) = ap (λ x. x ∷ map seen (map f us)) (h u) ∙ ap (λ r. g (seen u) ∷ r) (seen_map f g h us)
 
@@ -28,25 +28,25 @@ one_arm false arm u = refl
 pub arms : (arm : Arm) (device : ℕ) (us : List Device) → map seen (map (λ u. cond (u.device == device) (record u { arm = arm }) u) us) ≡ map seen us
 arms arm device us = seen_same _ (λ u. one_arm (u.device == device) arm u) us
 
-pub one_end : (b : Bool) (arm : Arm) (d : Drive) (u : Device) → seen (cond b (record u { arm = arm; drive = d }) u) ≡ cond b (u.device, d) (seen u)
+pub one_end : (b : Bool) (arm : Arm) (d : IdleDrive) (u : Device) → seen (cond b (record u { arm = arm; drive = d }) u) ≡ cond b (u.device, d) (seen u)
 one_end true arm d u = refl
 one_end false arm d u = refl
 
-pub ends : (arm : Arm) (d : Drive) (device : ℕ) (us : List Device)
+pub ends : (arm : Arm) (d : IdleDrive) (device : ℕ) (us : List Device)
     → map seen (map (λ u. cond (u.device == device) (record u { arm = arm; drive = d }) u) us) ≡ with_drive device d (map seen us)
 ends arm d device us = seen_map _ _ (λ u. one_end (u.device == device) arm d u) us
 
-pub one_drive : (b : Bool) (d : Drive) (u : Device) → seen (cond b (record u { drive = d }) u) ≡ cond b (u.device, d) (seen u)
+pub one_drive : (b : Bool) (d : IdleDrive) (u : Device) → seen (cond b (record u { drive = d }) u) ≡ cond b (u.device, d) (seen u)
 one_drive true d u = refl
 one_drive false d u = refl
 
-pub drives : (d : Drive) (device : ℕ) (us : List Device) → map seen (map (λ u. cond (u.device == device) (record u { drive = d }) u) us) ≡ with_drive device d (map seen us)
+pub drives : (d : IdleDrive) (device : ℕ) (us : List Device) → map seen (map (λ u. cond (u.device == device) (record u { drive = d }) u) us) ≡ with_drive device d (map seen us)
 drives d device us = seen_map _ _ (λ u. one_drive (u.device == device) d u) us
 
 pub rests : (us : List Device) → map seen (map at_rest us) ≡ map (λ p. (p.0, record p.1 { sense = no_sense })) (map seen us)
 rests us = seen_map at_rest _ (λ u. refl) us
 
-pub find_one : (b : Bool) (u : Device) (x : Option (ℕ × Drive)) (y : Option Device) → x ≡ option_map seen y → cond b (Some (seen u)) x ≡ option_map seen (cond b (Some u) y)
+pub find_one : (b : Bool) (u : Device) (x : Option (ℕ × IdleDrive)) (y : Option Device) → x ≡ option_map seen y → cond b (Some (seen u)) x ≡ option_map seen (cond b (Some u) y)
 find_one true u x y h = refl
 find_one false u x y h = h
 
@@ -66,7 +66,7 @@ abbrev pub Good : Machine → Event → Option FaultAfter → Answer × Machine 
 Good m e x r = Runs r.1 r.1.subchannel × Follows m e x r.0 r.1
 
 -- where the world changes by equal steps
-abbrev pub with_world : World → List (ℕ × Drive) → World
+abbrev pub with_world : World → List (ℕ × IdleDrive) → World
 with_world w ds = record w { drives = ds }
 
 pub same_after : (ahead : List Exchange) (w w_two : World) → w ≡ w_two → history w (acts ahead) ≡ history w_two (acts ahead)

@@ -3,8 +3,8 @@ use Rattle.std.proofs.Common.{◌≡◌, ℕ, ◌/◌, ◌%◌, refl, ◌∙◌,
 use Rattle.std.specs.Prelude.{is_some, filter}
 use Rattle.s360_words.specs.Storage.{Bytes, is_within, KeyOf}
 use Rattle.s360_words.specs.declared.words.Csw.{Csw}
-use Rattle.s360_program.specs.Starts.{first, First, BadStart, RejectedStart, ImmediateStart, AcceptedStart}
-use Rattle.s360_program.specs.Status.{no_unit_status, no_channel_status}
+use Rattle.s360_runs.specs.Starts.{first, First, BadStart, RejectedStart, ImmediateStart, AcceptedStart}
+use Rattle.s360_runs.specs.Status.{no_unit_status, no_channel_status}
 use Rattle.s360_laws.specs.Events.{Event, FaultAfter, Answer, Exchange, Sio, Arrive, Tio, Hio, StatusStored, Store, Condition, HasArrived, Interrupt, WasKept, SetKey, Tch, StepBy, Reset, Show, CswStored, Input}
 use Rattle.s360_laws.specs.History.{Runs, units_ahead, world_of, history, begun_act, IsSerial}
 use Rattle.s360_laws.specs.Machine.{Machine, Subchannel, react, Idle, Working, Pending, is_working, started, Device, start_device, start_of, test_device, with_status, arrive, is_in_motion, with_arm, interrupt_device, start_io, device_at, test_io, halt_io, fault_in, lowest, has_arrived, with_change, with_csw, exchanges}

@@ -4,12 +4,12 @@ use Rattle.std.specs.Prelude.{option_map, is_some, filter}
 use Rattle.s360_words.specs.Storage.{status_stored, Bytes, KeyOf, csw_stored, is_within}
 use Rattle.s360_words.specs.declared.flags.TheConstants.UnitStatus.{DEVICE_END, UNIT_CHECK, CHANNEL_END}
 use Rattle.s360_words.specs.declared.words.Csw.{Csw}
-use Rattle.s360_program.specs.Laws.{IsFirstUnit}
-use Rattle.s360_program.specs.Runs.{run}
-use Rattle.s360_program.specs.Scripts.{units}
-use Rattle.s360_program.specs.Starts.{First, first, BadStart, AcceptedStart, RejectedStart, ImmediateStart}
-use Rattle.s360_program.specs.Status.{no_unit_status, no_channel_status, normal_end, busy_device_end}
-use Rattle.s360_program.proofs.FirstUnits.{first_is_unit}
+use Rattle.s360_runs.specs.Laws.{IsFirstUnit}
+use Rattle.s360_runs.specs.Runs.{run}
+use Rattle.s360_runs.specs.Scripts.{units}
+use Rattle.s360_runs.specs.Starts.{First, first, BadStart, AcceptedStart, RejectedStart, ImmediateStart}
+use Rattle.s360_runs.specs.Status.{no_unit_status, no_channel_status, normal_end, busy_device_end}
+use Rattle.s360_runs.proofs.FirstUnits.{first_is_unit}
 use Rattle.s360_laws.specs.Events.{FaultAfter, Tio, Arrive, Hio, StatusStored, Store, Condition, HasArrived, Sio, WasKept, SetKey, Interrupt, Exchange, Event, Tch, StepBy, Reset, Show}
 use Rattle.s360_laws.specs.History.{history, world_of, acts, drive_in, does, after_first, Changes, after_rejection, Program, ByItself, after_run, after_program, start_acts, ClearsSense}
 use Rattle.s360_laws.specs.Machine.{Machine, Device, test_device, with_csw, csw_of_unit, with_status, arrive, is_in_motion, with_arm, device_at, start_of, started, with_ending, arm_after, start_device, with_change, interrupt_device, at_rest, react, start_io, Idle, test_io, halt_io, fault_in, lowest, has_arrived}
@@ -80,7 +80,7 @@ start_good a x m (Some u) at = go u.arm refl
     go : (arm : Arm) → u.arm ≡ arm → Good (idle m) (Sio a) x (start_device (a % 256) (idle m) (Some (record u { arm = arm })))
     go InMotion e = (tt, λ ahead q. refl)
     go Arrived e = (tt, λ ahead q. ap (λ ds. history (with_world (world_of (with_status busy_device_end no_channel_status m)) ds) (acts ahead)) (arms AtRest (a % 256) m.devices))
-    go AtRest e = begin_good a x m u (first (start_of m u.drive)) at refl (first_is_unit (start_of m u.drive))
+    go AtRest e = begin_good a x m u (first (start_of m u.drive)) at refl (first_is_unit (start_of m u.drive)).unit_is
 
 -- Any event while Idle.
 

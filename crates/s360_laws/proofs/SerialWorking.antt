@@ -3,12 +3,12 @@ use Rattle.std.proofs.Common.{◌≡◌, ℕ, zero, suc, ◌+◌, ◌-◌, ◌*�
 use Rattle.std.specs.Prelude.{find, option_map}
 use Rattle.s360_words.specs.Storage.{Storage, Change, changed, Bytes, KeyOf, csw_stored, is_within}
 use Rattle.s360_words.specs.declared.words.Csw.{Csw}
-use Rattle.ckd_drive.specs.Drive.{Fault}
-use Rattle.s360_program.specs.Endings.{Outcome, Ending, Ended, NotEnded, Standing}
-use Rattle.s360_program.specs.Runs.{run}
-use Rattle.s360_program.specs.Scripts.{Script, units, units_in, Outside, TakesInterruption}
-use Rattle.s360_program.specs.Units.{Phase, walk, StandsIn, standing_in, Between, phase_past, Looking, Moving, StandsAt}
-use Rattle.s360_program.proofs.Standing.{seen_there, goes_by}
+use Rattle.ckd_command.specs.Drive.{Fault}
+use Rattle.s360_runs.specs.Endings.{Outcome, Ending, Ended, NotEnded, Standing}
+use Rattle.s360_runs.specs.Runs.{run}
+use Rattle.s360_runs.specs.Scripts.{Script, units, units_in, Outside, TakesInterruption}
+use Rattle.s360_runs.specs.Units.{ProgramPhase, walk, StandsIn, standing_in, Between, phase_past, Looking, Moving, StandsAt}
+use Rattle.s360_runs.proofs.Standing.{seen_there, goes_by}
 use Rattle.s360_laws.specs.Events.{Exchange, FaultAfter, Hio, Condition, Reset, WasReset, StepBy, Interrupt, Sio, Tio, Event, Answer, Arrive, HasArrived, Store, WasKept, SetKey, Tch, Show}
 use Rattle.s360_laws.specs.History.{Fate, does, world_of, Program, after_run, after_program, after_end, World, history, script_ahead, fate_ahead, acts, where_over, units_ahead, IsCut, ClearsSense, Changes, ByItself, own_change}
 use Rattle.s360_laws.specs.Ledger.{later}
@@ -79,15 +79,15 @@ step_good x m d s k u (Ended used st e) at r h =
 
 -- what comes between two units
 
-abbrev Later : ℕ → Script → Change → Phase → Type 0
-Later key more c g = (h : Phase) × (walk more key g ≡ StandsIn h) × ((standing_in key h).storage ≡ changed c (standing_in key g).storage) × ((f : Option Fault) → ((standing_in key h).cut f).drive ≡ ((standing_in key g).cut f).drive)
+abbrev Later : ℕ → Script → Change → ProgramPhase → Type 0
+Later key more c g = (h : ProgramPhase) × (walk more key g ≡ StandsIn h) × ((standing_in key h).storage ≡ changed c (standing_in key g).storage) × ((f : Option Fault) → ((standing_in key h).cut f).drive ≡ ((standing_in key g).cut f).drive)
 
-pub later_change : (key : ℕ) (c : Change) (g : Phase) → Later key (Outside c ∷ []) c g
+pub later_change : (key : ℕ) (c : Change) (g : ProgramPhase) → Later key (Outside c ∷ []) c g
 later_change key c (Between p) = (phase_past (Outside c) (Between p), refl, refl, λ f. refl)
 later_change key c (Looking o p) = (phase_past (Outside c) (Looking o p), refl, refl, λ f. refl)
 later_change key c (Moving o p) = (phase_past (Outside c) (Moving o p), refl, refl, λ f. refl)
 
-pub later_mark : (key : ℕ) (c : Change) (g : Phase) → Later key (TakesInterruption ∷ Outside c ∷ []) c g
+pub later_mark : (key : ℕ) (c : Change) (g : ProgramPhase) → Later key (TakesInterruption ∷ Outside c ∷ []) c g
 later_mark key c (Between p) = (phase_past (Outside c) (phase_past TakesInterruption (Between p)), refl, refl, λ f. refl)
 later_mark key c (Looking o p) = (phase_past (Outside c) (phase_past TakesInterruption (Looking o p)), refl, refl, λ f. refl)
 later_mark key c (Moving o p) = (phase_past (Outside c) (phase_past TakesInterruption (Moving o p)), refl, refl, λ f. refl)
@@ -98,7 +98,7 @@ changed_run w d ByItself c a b s e = ap (λ s. record w { storage = s }) s
 changed_run w d (IsCut f) c a b s e = ap (λ s. after_end w d s (b.cut f).drive) s ∙ ap (λ v. after_end w d (changed c a.storage) v) (e f)
 
 pub between_good : (m : Machine) (d : ℕ) (s more : Script) (c : Change) (u : Device) → device_at m d ≡ Some u → IsRunning (Some (run s (start_of m u.drive)))
-    → ((key : ℕ) (g : Phase) → Later key more c g)
+    → ((key : ℕ) (g : ProgramPhase) → Later key more c g)
     → IsRunning (run_of m d (s ++ more)) × ((ahead : List Exchange) → history (world_of m) (Program d ((s ++ more) ++ script_ahead ahead) (fate_ahead ahead) ∷ acts ahead)
     ≡ history (world_of m) (Program d (s ++ where_over (units_ahead ahead) [] (more ++ script_ahead ahead)) (fate_ahead ahead) ∷ (own_change ahead c ++ acts ahead)))
 between_good m d s more c u at r later =
@@ -107,7 +107,7 @@ between_good m d s more c u at r later =
     let there = seen_there (start_of m u.drive) (s ++ more) y.0 l.0 (goes_by (start_of m u.drive) s more y.0 y.1 l.0 y.2 l.1) in
     (runs_at m d (s ++ more) u (NotEnded (standing_in y.0 l.0)) at there tt, λ ahead. go ahead (units_ahead ahead) refl y l there)
   where
-    go : (ahead : List Exchange) (n : ℕ) → units_ahead ahead ≡ n → (y : (key : ℕ) × (g : Phase) × StandsAt (start_of m u.drive) s key g) → (l : Later y.0 more c y.1)
+    go : (ahead : List Exchange) (n : ℕ) → units_ahead ahead ≡ n → (y : (key : ℕ) × (g : ProgramPhase) × StandsAt (start_of m u.drive) s key g) → (l : Later y.0 more c y.1)
         → run (s ++ more) (start_of m u.drive) ≡ NotEnded (standing_in y.0 l.0)
         → history (world_of m) (Program d ((s ++ more) ++ script_ahead ahead) (fate_ahead ahead) ∷ acts ahead)
         ≡ history (world_of m) (Program d (s ++ where_over n [] (more ++ script_ahead ahead)) (fate_ahead ahead) ∷ (where_over n (Changes c ∷ []) [] ++ acts ahead))

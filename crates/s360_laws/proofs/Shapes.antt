@@ -1,7 +1,7 @@
 -- A machine in each state of its subchannel.
 use Rattle.std.proofs.Common.{ℕ}
 use Rattle.s360_words.specs.declared.words.Csw.{Csw}
-use Rattle.s360_program.specs.Scripts.{Script}
+use Rattle.s360_runs.specs.Scripts.{Script}
 use Rattle.s360_laws.specs.Machine.{Machine, Idle, Pending, Working}
 
 abbrev pub idle : Machine → Machine

@@ -3,11 +3,11 @@ use Rattle.std.proofs.Common.{◌≡◌, ℕ, ◌+◌, ◌/◌, ◌%◌, refl, s
 use Rattle.s360_words.specs.declared.flags.TheConstants.UnitStatus.{CHANNEL_END}
 use Rattle.s360_laws.specs.Events.{Answer, Condition, Sio, FaultAfter, Event, Tio, Hio, Tch, StepBy, Arrive, Interrupt, Reset, Store, SetKey, Show}
 use Rattle.s360_laws.specs.Ledger.{NoStartWhileWorking, is_accepted, StartsAfterChannelEnd}
+use Rattle.s360_laws.specs.Soundness.{channel_owes}
 use Rattle.s360_laws.specs.Machine.{Machine, Working, Subchannel, is_working, react, Idle, Pending, start_io, after_all}
 use Rattle.s360_laws.specs.declared.condition.ConditionCode.TheVariants.{Two, Three}
 use Rattle.s360_laws.proofs.FindDevices.{no}
-use Rattle.s360_laws.proofs.LedgerLists.{holds_from, exactly}
-use Rattle.s360_laws.proofs.Owing.{channel_owes}
+use Rattle.s360_laws.proofs.LedgerLists.{ends_pend, exactly}
 use Rattle.s360_laws.proofs.Shapes.{working}
 
 no_start : (b : Bool) (m : Machine) → ◌≡◌ {A = Answer × Machine} (cond b (Condition Two, m) (Condition Three, m)) (Condition (cond b Two Three), m)
@@ -15,7 +15,7 @@ no_start true m = refl
 no_start false m = refl
 
 pub no_start_while_working : NoStartWhileWorking
-no_start_while_working m a x h = go m.subchannel h
+no_start_while_working m h a x = go m.subchannel h
   where
     go : (c : Subchannel) → is_working c ≡ true → ◌≡◌ {A = Answer × Machine} (react (Sio a) x (record m { subchannel = c })) (Condition (cond (a / 256 == m.channel) Two Three), record m { subchannel = c })
     go Idle h = no h
@@ -52,9 +52,9 @@ accepted_idle m e x v h = go m.subchannel h
 
 pub starts_after_channel_end : StartsAfterChannelEnd
 starts_after_channel_end m es e u v sound s h =
-    let k = holds_from u es m sound in
+    let k = ends_pend m es u sound in
     let idle = accepted_idle (after_all es m) e.0 e.1 v h in
-    full _ _ (exactly _ _ _ k.0 s) (ap (channel_owes CHANNEL_END u (after_all es m)) idle)
+    full _ _ (exactly _ _ _ _ k.0 s) (ap (channel_owes CHANNEL_END u (after_all es m)) idle)
   where
     full : (n o : ℕ) → n + o ≡ 1 → o ≡ 0 → n ≡ 1
     full n o p q = omega arith

@@ -3,12 +3,12 @@ use Rattle.std.proofs.Common.{true, ◌≡◌, ℕ, zero, suc, ◌+◌, ◌-◌,
 use Rattle.std.proofs.lemmas.List.Sums.{sum_by-cons}
 use Rattle.std.specs.Prelude.{option_map, sum}
 use Rattle.s360_words.specs.Storage.{Storage}
-use Rattle.ckd_drive.specs.Drive.{Fault}
-use Rattle.s360_program.specs.Endings.{Outcome, Ending, Ended, NotEnded}
-use Rattle.s360_program.specs.Runs.{run}
-use Rattle.s360_program.specs.Scripts.{units, OneUnit, Script, units_in}
-use Rattle.s360_program.specs.Units.{walk, Phase, StandsAt, Walk, StandsIn, outcome_of, standing_in, EndsWith}
-use Rattle.s360_program.proofs.Walks.{ended_stays, units_in_two}
+use Rattle.ckd_command.specs.Drive.{Fault}
+use Rattle.s360_runs.specs.Endings.{Outcome, Ending, Ended, NotEnded}
+use Rattle.s360_runs.specs.Runs.{run}
+use Rattle.s360_runs.specs.Scripts.{units, OneUnit, Script, units_in}
+use Rattle.s360_runs.specs.Units.{walk, ProgramPhase, StandsAt, Walk, StandsIn, outcome_of, standing_in, EndsWith}
+use Rattle.s360_runs.proofs.Walks.{ended_stays, units_in_two}
 use Rattle.s360_laws.specs.Events.{FaultAfter, Answer, StepBy, Stepped}
 use Rattle.s360_laws.specs.History.{Runs}
 use Rattle.s360_laws.specs.Machine.{units_failing, units_with, Machine, react, run_of, Device, device_at, start_of, stepped, Subchannel, Idle, Pending, Working, is_working}
@@ -139,7 +139,7 @@ most_stepped m d s k x v r (Ended used st e) h =
     few : (u a b k n : ℕ) → u ≡ a - n → a ≡ b + k → u - b ≤ k
     few u a b k n p q = omega arith
 
-    walk_of : ((key : ℕ) × (g : Phase) × StandsAt (start_of m v.drive) s key g) → (n : ℕ) × (used ≡ units_in (s ++ units_with k x) - n)
+    walk_of : ((key : ℕ) × (g : ProgramPhase) × StandsAt (start_of m v.drive) s key g) → (n : ℕ) × (used ≡ units_in (s ++ units_with k x) - n)
     walk_of y = go (walk (units_with k x) y.0 y.1) refl
       where
         go : (w : Walk) → walk (units_with k x) y.0 y.1 ≡ w → (n : ℕ) × (used ≡ units_in (s ++ units_with k x) - n)

@@ -1,15 +1,15 @@
 -- The units of a step, and the programs that end in one.
 use Rattle.std.proofs.Common.{◌≡◌, ℕ, zero, suc, ◌+◌, ◌-◌, ◌≤◌, refl, sym, ap, ◌∙◌, arith, [], ◌∷◌, ◌++◌, length, Option, Some, None}
 use Rattle.s360_words.specs.Storage.{Storage}
-use Rattle.ckd_drive.specs.Drive.{Fault}
-use Rattle.s360_program.specs.Endings.{Outcome, Ended, NotEnded, Ending, Standing}
-use Rattle.s360_program.specs.Faults.{without_faults}
-use Rattle.s360_program.specs.Runs.{Start, run}
-use Rattle.s360_program.specs.Scripts.{Script, units, Turn, units_in, OneUnit}
-use Rattle.s360_program.specs.Units.{Phase, StandsAt, walk, Walk, StandsIn, outcome_of, standing_in, EndsWith}
-use Rattle.s360_program.proofs.FaultsMet.{unmet_walk, same_outcome}
-use Rattle.s360_program.proofs.Standing.{stands_somewhere, ends_by, goes_by}
-use Rattle.s360_program.proofs.Walks.{exact, units_in_two}
+use Rattle.ckd_command.specs.Drive.{Fault}
+use Rattle.s360_runs.specs.Endings.{Outcome, Ended, NotEnded, Ending, Standing}
+use Rattle.s360_runs.specs.Faults.{without_faults}
+use Rattle.s360_runs.specs.Runs.{Start, run}
+use Rattle.s360_runs.specs.Scripts.{Script, units, Turn, units_in, OneUnit}
+use Rattle.s360_runs.specs.Units.{ProgramPhase, StandsAt, walk, Walk, StandsIn, outcome_of, standing_in, EndsWith}
+use Rattle.s360_runs.proofs.FaultsMet.{unmet_walk, same_outcome}
+use Rattle.s360_runs.proofs.Standing.{stands_somewhere, ends_by, goes_by}
+use Rattle.s360_runs.proofs.Walks.{exact, units_in_two}
 use Rattle.s360_laws.specs.Events.{FaultAfter}
 use Rattle.s360_laws.specs.Machine.{units_failing, units_with}
 use Rattle.s360_laws.specs.Soundness.{IsRunning}
@@ -80,15 +80,15 @@ units_count k (Some x) = failing_count k x.units x.fault
 
 -- A program that runs stands somewhere.
 
-pub stood : (s : Start) (script : Script) → IsRunning (Some (run script s)) → (key : ℕ) × (g : Phase) × StandsAt s script key g
+pub stood : (s : Start) (script : Script) → IsRunning (Some (run script s)) → (key : ℕ) × (g : ProgramPhase) × StandsAt s script key g
 stood s script r = go (run script s) refl r
   where
-    go : (o : Outcome) → run script s ≡ o → IsRunning (Some o) → (key : ℕ) × (g : Phase) × StandsAt s script key g
+    go : (o : Outcome) → run script s ≡ o → IsRunning (Some o) → (key : ℕ) × (g : ProgramPhase) × StandsAt s script key g
     go (Ended used st e) h r = absurd r
     go (NotEnded seen) h r = let y = stands_somewhere s script seen h in (y.0, y.1, y.2)
 
 -- what ends after a script that did not has used its units
-pub used_most : (s : Start) (script more : Script) (key : ℕ) (g : Phase) (used : ℕ) (st : Storage) (e : Ending) → StandsAt s script key g
+pub used_most : (s : Start) (script more : Script) (key : ℕ) (g : ProgramPhase) (used : ℕ) (st : Storage) (e : Ending) → StandsAt s script key g
     → run (script ++ more) s ≡ Ended used st e → units_in script ≤ used
 used_most s script more key g used st e h r = go (walk more key g) refl
   where
@@ -110,7 +110,7 @@ used_most s script more key g used st e h r = go (walk more key g) refl
         enough a f r u t used p q w = omega arith
 
 -- A program that ended in a step ended at its last unit that counts.
-pub ended_there : (s : Start) (script : Script) (key : ℕ) (g : Phase) (k used : ℕ) (x : Option FaultAfter) (st : Storage) (e : Ending) → StandsAt s script key g
+pub ended_there : (s : Start) (script : Script) (key : ℕ) (g : ProgramPhase) (k used : ℕ) (x : Option FaultAfter) (st : Storage) (e : Ending) → StandsAt s script key g
     → run (script ++ units_with k x) s ≡ Ended used st e → run (script ++ units_with (used - units_in script) x) s ≡ Ended used st e
 ended_there s script key g k used x st e h r = go (walk (units_with k x) key g) refl
   where
@@ -158,7 +158,7 @@ plain_step k None = plain_units k
 plain_step k (Some x) = plain_failing k x.units x.fault
 
 -- so its run goes on as without the fault
-pub unmet : (s : Start) (script : Script) (key : ℕ) (g : Phase) (k : ℕ) (x : Option FaultAfter) (seen : Standing) → StandsAt s script key g → run (script ++ units_with k x) s ≡ NotEnded seen
+pub unmet : (s : Start) (script : Script) (key : ℕ) (g : ProgramPhase) (k : ℕ) (x : Option FaultAfter) (seen : Standing) → StandsAt s script key g → run (script ++ units_with k x) s ≡ NotEnded seen
     → (more : Script) → run ((script ++ units k) ++ more) s ≡ run ((script ++ units_with k x) ++ more) s
 unmet s script key g k x seen st r more = go (walk (units_with k x) key g) refl
   where

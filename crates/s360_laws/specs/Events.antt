@@ -4,7 +4,7 @@ use Rattle.std.specs.Prelude.{ℕ, List, Bool, Option}
 use Rattle.s360_words.specs.declared.flags.ChannelStatus.{ChannelStatus}
 use Rattle.s360_words.specs.declared.flags.UnitStatus.{UnitStatus}
 use Rattle.s360_words.specs.declared.words.Csw.{Csw}
-use Rattle.ckd_drive.specs.Drive.{Fault}
+use Rattle.ckd_command.specs.Drive.{Fault}
 use Rattle.s360_laws.specs.declared.condition.ConditionCode.{ConditionCode}
 
 -- An address has the channel's number in its high byte, and that of a device in its low byte.

@@ -3,12 +3,12 @@ use Rattle.std.specs.Prelude.{◌≡◌, ℕ, zero, suc, ◌+◌, ◌%◌, List,
 use Rattle.s360_words.specs.Storage.{Change, Bytes, KeyOf, csw_stored, status_stored, Storage, caw_word, changed}
 use Rattle.s360_words.specs.declared.flags.TheConstants.UnitStatus.{BUSY, CHANNEL_END, UNIT_CHECK}
 use Rattle.s360_words.specs.declared.flags.UnitStatus.{UnitStatus}
-use Rattle.ckd_drive.specs.Drive.{Fault, Drive, no_sense}
-use Rattle.s360_program.specs.Endings.{Outcome, Ended, NotEnded}
-use Rattle.s360_program.specs.Runs.{run, Start}
-use Rattle.s360_program.specs.Scripts.{Script, units, Outside, TakesInterruption, OneUnit}
-use Rattle.s360_program.specs.Starts.{first, First, RejectedStart}
-use Rattle.s360_program.specs.Status.{tells}
+use Rattle.ckd_command.specs.Drive.{Fault, IdleDrive, no_sense}
+use Rattle.s360_runs.specs.Endings.{Outcome, Ended, NotEnded}
+use Rattle.s360_runs.specs.Runs.{run, Start}
+use Rattle.s360_runs.specs.Scripts.{Script, units, Outside, TakesInterruption, OneUnit}
+use Rattle.s360_runs.specs.Starts.{first, First, RejectedStart}
+use Rattle.s360_runs.specs.Status.{tells}
 use Rattle.s360_laws.specs.Events.{Exchange, StepBy, Stepped, Hio, Condition, Reset, Sio, Store, WasKept, SetKey, Interrupt, Interrupted, StatusStored, Tio, CswStored, Input}
 use Rattle.s360_laws.specs.Machine.{units_with, fault_in, Subchannel, Working, Machine, run_of, is_working, after_all, exchanges}
 use Rattle.s360_laws.specs.Soundness.{IsRunning}
@@ -102,15 +102,15 @@ all_acts m list = begun_act m.subchannel list ++ acts list
 -- storage, and the drive of each device
 pub record World : Type 0 where
   pub storage : Storage
-  pub drives : List (ℕ × Drive)
+  pub drives : List (ℕ × IdleDrive)
 
-abbrev pub drive_in : World → ℕ → Option (ℕ × Drive)
+abbrev pub drive_in : World → ℕ → Option (ℕ × IdleDrive)
 drive_in w device = find (λ d. d.0 == device) w.drives
 
-abbrev pub with_drive : ℕ → Drive → List (ℕ × Drive) → List (ℕ × Drive)
+abbrev pub with_drive : ℕ → IdleDrive → List (ℕ × IdleDrive) → List (ℕ × IdleDrive)
 with_drive device drive drives = map (λ d. if d.0 == device then (d.0, drive) else d) drives
 
-abbrev pub after_end : World → (device : ℕ) → Storage → Drive → World
+abbrev pub after_end : World → (device : ℕ) → Storage → IdleDrive → World
 after_end w device s drive = record { storage = s; drives = with_drive device drive w.drives }
 
 -- a program that ended or was cut; one that still runs has only changed storage
@@ -119,10 +119,10 @@ after_run w device fate (Ended used s e) = after_end w device s e.drive
 after_run w device (IsCut fault) (NotEnded seen) = after_end w device seen.storage (seen.cut fault).drive
 after_run w device ByItself (NotEnded seen) = record w { storage = seen.storage }
 
-abbrev pub start_in : World → Drive → Start
+abbrev pub start_in : World → IdleDrive → Start
 start_in w drive = record { caw = caw_word w.storage; storage = w.storage; drive = drive }
 
-abbrev pub after_program : World → (device : ℕ) → Script → Fate → Option (ℕ × Drive) → World
+abbrev pub after_program : World → (device : ℕ) → Script → Fate → Option (ℕ × IdleDrive) → World
 after_program w device script fate None = w
 after_program w device script fate (Some d) = after_run w device fate (run script (start_in w d.1))
 
@@ -130,7 +130,7 @@ abbrev pub after_first : World → (device : ℕ) → First → World
 after_first w device (RejectedStart drive) = record w { drives = with_drive device drive w.drives }
 after_first w device _ = w
 
-abbrev pub after_rejection : World → (device : ℕ) → Option (ℕ × Drive) → World
+abbrev pub after_rejection : World → (device : ℕ) → Option (ℕ × IdleDrive) → World
 after_rejection w device None = w
 after_rejection w device (Some d) = after_first w device (first (start_in w d.1))
 

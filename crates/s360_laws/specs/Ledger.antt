@@ -3,10 +3,10 @@ use Rattle.std.specs.Prelude.{◌≡◌, ◌≤◌, ℕ, ◌+◌, ◌*◌, ◌/�
 use Rattle.s360_words.specs.declared.flags.TheConstants.UnitStatus.{CHANNEL_END, BUSY, DEVICE_END}
 use Rattle.s360_words.specs.declared.flags.UnitStatus.{UnitStatus}
 use Rattle.s360_words.specs.declared.words.Csw.{Csw}
-use Rattle.s360_program.specs.Status.{tells}
+use Rattle.s360_runs.specs.Status.{tells}
 use Rattle.s360_laws.specs.Events.{Exchange, Sio, Condition, StatusStored, Reset, Tio, CswStored, Interrupt, Interrupted, Input, FaultAfter, Tch}
 use Rattle.s360_laws.specs.Machine.{exchanges, Machine, react, after_all, is_working, Pending}
-use Rattle.s360_laws.specs.Soundness.{IsSound}
+use Rattle.s360_laws.specs.Soundness.{IsSound, owes_channel_end, owes_device_end}
 use Rattle.s360_laws.specs.declared.condition.ConditionCode.TheVariants.{Zero, Two, Three, One}
 
 -- the address whose start was accepted: it runs, or it was over at once
@@ -68,6 +68,22 @@ abbrev pub AtMostOnce : Type 0
 AtMostOnce = (m : Machine) (es : List Input) (u : ℕ) → IsSound m →
     (times_stored CHANNEL_END u (exchanges es m) ≤ 1) × (times_stored DEVICE_END u (exchanges es m) ≤ 1)
 
+-- how often an end is to be stored in all: once for an accepted program, and never after a reset; what a machine owes as the list
+-- begins counts as accepted before it
+abbrev pub due : (at_beginning : ℕ) → Since → ℕ
+due owed SinceBeginning = owed
+due owed SinceAcceptance = 1
+due owed SinceReset = 0
+
+-- Each end pends until it is stored, or a reset takes it away: what was stored and what the machine owes are together what is due.
+abbrev pub Pends : Machine → List Exchange → (now : Machine) → (address : ℕ) → Type 0
+Pends m so_far now u =
+    (times_stored CHANNEL_END u so_far + owes_channel_end u now ≡ due (owes_channel_end u m) (since u so_far))
+    × (times_stored DEVICE_END u so_far + owes_device_end u now ≡ due (owes_device_end u m) (since u so_far))
+
+abbrev pub EndsPend : Type 0
+EndsPend = (m : Machine) (es : List Input) (u : ℕ) → IsSound m → Pends m (exchanges es m) (after_all es m) u
+
 -- Between two acceptances with no reset between, each end is stored exactly once.
 abbrev pub ExactlyOnce : Type 0
 ExactlyOnce = (m : Machine) (es : List Input) (e : Input) (u : ℕ) → IsSound m
@@ -93,9 +109,11 @@ StartsAfterChannelEnd = (m : Machine) (es : List Input) (e : Input) (u v : ℕ) 
     → times_stored CHANNEL_END u (exchanges es m) ≡ 1
 
 -- While a program runs, Start I/O at the channel answers 2, at any other channel 3, and changes nothing.
+abbrev pub RefusesStarts : Machine → Type 0
+RefusesStarts m = (a : ℕ) (x : Option FaultAfter) → react (Sio a) x m ≡ (Condition (if a / 256 == m.channel then Two else Three), m)
+
 abbrev pub NoStartWhileWorking : Type 0
-NoStartWhileWorking = (m : Machine) (a : ℕ) (x : Option FaultAfter) → is_working m.subchannel ≡ true
-    → react (Sio a) x m ≡ (Condition (if a / 256 == m.channel then Two else Three), m)
+NoStartWhileWorking = (m : Machine) → is_working m.subchannel ≡ true → RefusesStarts m
 
 -- While the channel end of a program that ended is owed, no program starts and the next interruption gives it.
 

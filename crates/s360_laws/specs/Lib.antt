@@ -6,3 +6,6 @@ pub mod History
 pub mod Steps
 pub mod SerialLists
 pub mod NothingTold
+pub mod Headline
+pub mod Arms
+pub mod Writes

@@ -8,12 +8,12 @@ use Rattle.s360_words.specs.declared.flags.TheConstants.ChannelStatus.{PROGRAM_C
 use Rattle.s360_words.specs.declared.flags.TheConstants.UnitStatus.{UNIT_CHECK, BUSY, DEVICE_END}
 use Rattle.s360_words.specs.declared.flags.UnitStatus.{UnitStatus}
 use Rattle.s360_words.specs.declared.words.Csw.{Csw}
-use Rattle.ckd_drive.specs.Drive.{Drive, Fault, no_sense}
-use Rattle.s360_program.specs.Endings.{Outcome, Ending, Ended, NotEnded}
-use Rattle.s360_program.specs.Runs.{Start, run}
-use Rattle.s360_program.specs.Scripts.{Script, units, OneUnit, units_in, TakesInterruption, Outside}
-use Rattle.s360_program.specs.Starts.{First, BadStart, RejectedStart, ImmediateStart, AcceptedStart, first}
-use Rattle.s360_program.specs.Status.{no_channel_status, no_unit_status, busy_device_end}
+use Rattle.ckd_command.specs.Drive.{IdleDrive, Fault, no_sense}
+use Rattle.s360_runs.specs.Endings.{Outcome, Ending, Ended, NotEnded}
+use Rattle.s360_runs.specs.Runs.{Start, run}
+use Rattle.s360_runs.specs.Scripts.{Script, units, OneUnit, units_in, TakesInterruption, Outside}
+use Rattle.s360_runs.specs.Starts.{First, BadStart, RejectedStart, ImmediateStart, AcceptedStart, first}
+use Rattle.s360_runs.specs.Status.{no_channel_status, no_unit_status, busy_device_end}
 use Rattle.s360_laws.specs.Events.{Answer, StatusStored, Store, Condition, Arrive, CswStored, FaultAfter, Stepped, HasArrived, Interrupt, Interrupted, WasReset, Reset, WasKept, Event, Sio, Tio, Hio, Tch, StepBy, SetKey, Show, Shown, Input, Exchange}
 use Rattle.s360_laws.specs.declared.arm.Arm.{Arm}
 use Rattle.s360_laws.specs.declared.arm.Arm.TheVariants.{InMotion, AtRest, Arrived}
@@ -24,7 +24,7 @@ use Rattle.s360_laws.specs.declared.condition.ConditionCode.TheVariants.{Zero, T
 pub record Device : Type 0 where
   pub device : ℕ
   pub arm : Arm
-  pub drive : Drive
+  pub drive : IdleDrive
 
 -- The subchannel is idle; or a device's program has run over this script, while the machine's storage and that device's
 -- drive are still those of its start; or the CSW of a program that ended pends.
@@ -69,7 +69,7 @@ with_status unit channel m = with_change (status_stored unit.0 channel.0) m
 abbrev pub csw_of_unit : UnitStatus → Csw
 csw_of_unit unit = record { key = 0; address = 0; unit = unit; channel = no_channel_status; count = 0 }
 
-abbrev pub start_of : Machine → Drive → Start
+abbrev pub start_of : Machine → IdleDrive → Start
 start_of m drive = record { caw = caw_word m.storage; storage = m.storage; drive = drive }
 
 -- the run of a device's program over a script, if the device is there

@@ -1,10 +1,10 @@
 -- Which tracks a reset may tell as not saved, and that without a fault no event tells of one.
 use Rattle.std.specs.Prelude.{◌≡◌, ℕ, true, Option, Some, None}
 use Rattle.s360_words.specs.declared.words.Caw.{Caw}
-use Rattle.s360_program.specs.Runs.{start_point}
-use Rattle.s360_program.specs.Scripts.{Script}
-use Rattle.s360_program.specs.Units.{Phase, Between, walk, StandsIn}
-use Rattle.s360_program.specs.Unsaved.{GainsNoCheck, has_written}
+use Rattle.s360_runs.specs.Runs.{start_point}
+use Rattle.s360_runs.specs.Scripts.{Script}
+use Rattle.s360_runs.specs.Units.{ProgramPhase, Between, walk, StandsIn}
+use Rattle.s360_runs.specs.Unsaved.{GainsNoCheck, has_written}
 use Rattle.s360_laws.specs.Events.{Answer, WasReset, Event, Reset, FaultAfter}
 use Rattle.s360_laws.specs.History.{Runs}
 use Rattle.s360_laws.specs.Machine.{Machine, Device, device_at, react, start_of, Working}
@@ -31,7 +31,7 @@ pub record HadWritten (m : Machine) : Type 0 where
   pub drive : Device
   pub is_there : device_at m device ≡ Some drive
   pub caw : Caw
-  pub phase : Phase
+  pub phase : ProgramPhase
   pub stands : walk script caw.key (Between (start_point caw (start_of m drive.drive))) ≡ StandsIn phase
   pub written : has_written phase ≡ true
 

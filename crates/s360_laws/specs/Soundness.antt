@@ -1,10 +1,11 @@
 -- Sound machines, the only ones that a channel is ever in; what they owe.
-use Rattle.std.specs.Prelude.{◌≡◌, ℕ, ◌+◌, ◌==◌, List, [], ◌∷◌, true, Option, Some, None, find, if◌then◌else◌}
+use Rattle.std.specs.Prelude.{◌≡◌, ℕ, ◌+◌, ◌==◌, ◌&&◌, List, [], ◌∷◌, true, Option, Some, None, find, if◌then◌else◌}
 use Rattle.s360_words.specs.declared.flags.TheConstants.UnitStatus.{CHANNEL_END, DEVICE_END}
-use Rattle.s360_program.specs.Endings.{Outcome, RunsOn}
-use Rattle.s360_program.specs.Status.{tells}
+use Rattle.s360_words.specs.declared.flags.UnitStatus.{UnitStatus}
+use Rattle.s360_runs.specs.Endings.{Outcome, RunsOn}
+use Rattle.s360_runs.specs.Status.{tells}
 use Rattle.s360_laws.specs.Events.{Input}
-use Rattle.s360_laws.specs.Machine.{Device, Machine, Subchannel, Idle, Working, run_of, device_at, Pending, after_all}
+use Rattle.s360_laws.specs.Machine.{Device, Machine, Subchannel, Idle, Working, run_of, address_of, device_at, Pending, after_all}
 use Rattle.s360_laws.specs.declared.arm.Arm.{Arm}
 use Rattle.s360_laws.specs.declared.arm.Arm.TheVariants.{AtRest, InMotion, Arrived}
 
@@ -22,6 +23,23 @@ arm_owes Arrived = 1
 abbrev pub device_owes : Option Device → ℕ
 device_owes None = 0
 device_owes (Some d) = arm_owes d.arm
+
+-- the device at an address
+abbrev pub device_for : Machine → (address : ℕ) → Option Device
+device_for m u = find (λ d. address_of m d.device == u) m.devices
+
+-- how often the channel owes an end to an address: each end of a program that runs, and of one that ended what its CSW tells
+abbrev pub channel_owes : (end : UnitStatus) → (address : ℕ) → Machine → Subchannel → ℕ
+channel_owes end u m Idle = 0
+channel_owes end u m (Working device script) = if address_of m device == u then 1 else 0
+channel_owes end u m (Pending device csw) = if address_of m device == u && tells csw.unit end then 1 else 0
+
+-- how often a machine owes channel end to an address; and device end, which its arm may owe
+abbrev pub owes_channel_end : (address : ℕ) → Machine → ℕ
+owes_channel_end u m = channel_owes CHANNEL_END u m m.subchannel
+
+abbrev pub owes_device_end : (address : ℕ) → Machine → ℕ
+owes_device_end u m = channel_owes DEVICE_END u m m.subchannel + device_owes (device_for m u)
 
 -- no two devices have one address
 abbrev pub AreDistinct : List Device → Type 0

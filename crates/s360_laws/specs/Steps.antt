@@ -2,9 +2,9 @@
 use Rattle.std.specs.Prelude.{◌≡◌, ◌≤◌, ◌⊎◌, ℕ, suc, ◌+◌, Bool, false, List, [], ◌∷◌, map, true, Option, Some, None, sum}
 use Rattle.s360_words.specs.declared.flags.TheConstants.UnitStatus.{UNIT_CHECK}
 use Rattle.s360_words.specs.declared.words.Csw.{Csw}
-use Rattle.ckd_drive.specs.Drive.{tells_equipment_check}
-use Rattle.s360_program.specs.Scripts.{Script}
-use Rattle.s360_program.specs.Status.{tells}
+use Rattle.ckd_command.specs.Drive.{tells_equipment_check}
+use Rattle.s360_runs.specs.Scripts.{Script}
+use Rattle.s360_runs.specs.Status.{tells}
 use Rattle.s360_laws.specs.Events.{Answer, Stepped, FaultAfter, StepBy, Input, Hio, Condition, Reset, WasReset, Event}
 use Rattle.s360_laws.specs.History.{Runs}
 use Rattle.s360_laws.specs.Machine.{Machine, react, is_working, after_all, answers, Pending, Device, device_at, Working, address_of}
@@ -92,3 +92,13 @@ meets_fault _ = false
 abbrev pub OthersMeetNone : Type 0
 OthersMeetNone = (m : Machine) (e : Event) (x : Option FaultAfter)
     → meets_fault e ≡ false → react e x m ≡ react e None m
+
+-- What a fault does to each event.
+abbrev pub FaultDoes : Machine → Event → FaultAfter → Type 0
+FaultDoes m (StepBy k) x =
+    (react (StepBy k) (Some x) m ≡ react (StepBy k) None m)
+    ⊎ EndedByFault (react (StepBy k) (Some x) m) (Stepped (suc x.units))
+FaultDoes m (Hio a) x =
+    (react (Hio a) (Some x) m ≡ react (Hio a) None m) ⊎ EndedByFault (react (Hio a) (Some x) m) (Condition Two)
+FaultDoes m Reset x = (react Reset (Some x) m ≡ react Reset None m) ⊎ ToldByReset m (react Reset (Some x) m)
+FaultDoes m e x = react e (Some x) m ≡ react e None m

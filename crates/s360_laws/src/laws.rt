@@ -2,11 +2,20 @@
 //! `specs/`, which speak of every list of events, with or without faults of the store.
 
 ghost use Rattle.s360_laws.specs.Soundness.{StaysSound, IdleIsSound};
-ghost use Rattle.s360_laws.specs.Ledger.{AtMostOnce, ExactlyOnce, ChannelEndFirst, NoneAfterReset, StartsAfterChannelEnd, NoStartWhileWorking, HeldUntilStored};
+ghost use Rattle.s360_laws.specs.Ledger.{AtMostOnce, EndsPend, ExactlyOnce, ChannelEndFirst, NoneAfterReset, StartsAfterChannelEnd, NoStartWhileWorking, HeldUntilStored};
 ghost use Rattle.s360_laws.specs.History.{IsSerial};
 ghost use Rattle.s360_laws.specs.Steps.{StepsAtMost, StepsJoin, StepsSplit, FaultEndsStep, FaultEndsHalt, FaultToldByReset, OthersMeetNone};
 ghost use Rattle.s360_laws.specs.NothingTold.{NoFaultNoneTold, ResetTellsWritten};
+ghost use Rattle.s360_laws.specs.Headline.{HeadlineHolds};
 ghost use Rattle.s360_laws.specs.SerialLists.{SameActs};
+ghost use Rattle.s360_laws.specs.Writes.{KeepsUnwritten};
+ghost use Rattle.s360_laws.specs.Arms.{ArmFollows, ArmStays, ArrivedInterrupts, HaltOfPendingStays};
+
+/// The headline: what a channel and its drives do over every list of events, with or without faults of the store. It joins the
+/// laws below.
+pub fn headline()
+    ensures { HeadlineHolds }
+{}
 
 /// A machine with no program, whose devices have distinct addresses, is sound.
 pub fn idle_is_sound()
@@ -21,6 +30,11 @@ pub fn stays_sound()
 /// The channel end and the device end of each accepted program are stored at most once.
 pub fn ends_at_most_once()
     ensures { AtMostOnce }
+{}
+
+/// Each pends until it is stored, or a reset takes it away.
+pub fn ends_pend()
+    ensures { EndsPend }
 {}
 
 /// Between two acceptances for one device, with no reset between, each is stored exactly once.
@@ -54,10 +68,36 @@ pub fn held_until_stored()
     ensures { HeldUntilStored }
 {}
 
+/// An arm that owes a device end keeps it over every event until it is stored or reset; an arm that moves arrives by Arrive alone.
+pub fn arm_follows()
+    ensures { ArmFollows }
+{}
+
+/// And so over every list of events.
+pub fn arm_stays()
+    ensures { ArmStays }
+{}
+
+/// Where nothing pends in the channel and no program runs, the next interruption is the device end of the lowest device whose
+/// arm has arrived.
+pub fn arrived_interrupts()
+    ensures { ArrivedInterrupts }
+{}
+
+/// Halt I/O on a channel status word that pends answers 0, and changes nothing at all.
+pub fn halt_of_pending_stays()
+    ensures { HaltOfPendingStays }
+{}
+
 /// Whenever no program runs, storage and drives are what the programs of the list make, each as one whole run, one
 /// after another.
 pub fn machine_is_serial()
     ensures { IsSerial }
+{}
+
+/// A slot that no program of a list may write keeps its bytes, whenever no program runs.
+pub fn keeps_unwritten()
+    ensures { KeepsUnwritten }
 {}
 
 /// A step does at most the units that it is asked for, and all of them where the program goes on.

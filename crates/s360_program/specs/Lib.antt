@@ -1,12 +1,6 @@
-pub mod Status
-pub mod Scripts
 pub mod Places
-pub mod Endings
-pub mod Transfers
-pub mod Commands
-pub mod Runs
-pub mod Starts
-pub mod Units
+pub mod Stands
+pub mod Advances
+pub mod Starting
 pub mod Laws
-pub mod Faults
-pub mod Unsaved
+pub mod Steps

@@ -1,65 +1,33 @@
--- Where the channel is in a program, and how it fetches channel command words (Principles of Operation, Input/Output
--- Operations: 'Channel Command Word', 'Chaining', 'Transfer in Channel', 'Program-Controlled Interruption').
-use Rattle.std.specs.Prelude.{ℕ, ◌+◌, ◌%◌, Bool, true, false, ◌&&◌, ◌||◌, ◌==◌, is_some, slice_get, if◌then◌else◌}
-use Rattle.s360_words.specs.declared.words.Ccw.{Ccw}
-use Rattle.s360_words.specs.Words.{interrupts, has_reserved_flags, is_transfer}
-use Rattle.s360_words.specs.Storage.{Storage, ccw_at}
-use Rattle.s360_program.specs.Scripts.{Turn, TakesInterruption}
+-- The channel's place as the code keeps it, and what it fetches.
+use Rattle.std.specs.Prelude.{◌+◌, ◌≤◌, ◌<◌, ◌^◌, if◌then◌else◌}
+use Rattle.s360_words.specs.declared.flags.TheConstants.UnitStatus.{STATUS_MODIFIER}
+use Rattle.s360_words.specs.declared.flags.UnitStatus.{UnitStatus}
+use Rattle.s360_runs.specs.Status.{tells}
+use Rattle.s360_runs.specs.Places.{Place, Fetched, NoCcw, TransferTo, GoodCcw}
+use Rattle.s360_program.specs.declared.places.Place.{Place as KeptPlace}
+use Rattle.s360_program.specs.declared.places.Fetched.{Fetched as KeptFetched}
+use Rattle.s360_program.specs.declared.places.Fetched.TheVariants as kept
 
--- What is found where a CCW is fetched: none that may stand there, which is a program check; a transfer in channel; or a
--- good one.
-pub data Fetched : Type 0 where
-  NoCcw : Fetched
-  TransferTo : (address : ℕ) → Fetched
-  GoodCcw : Ccw → Fetched
-
--- what a CCW may not have that is no transfer in channel; one that only chains data needs no valid code ('Program Check')
-abbrev pub is_invalid : (begins : Bool) → Ccw → Bool
-is_invalid begins ccw = ccw.count == 0 || has_reserved_flags ccw || (begins && ccw.code % 16 == 0)
-
-abbrev pub read_ccw : (begins : Bool) → Ccw → Fetched
-read_ccw begins ccw =
-    if is_transfer ccw then TransferTo ccw.address
-    else (if is_invalid begins ccw then NoCcw else GoodCcw ccw)
-
--- a CCW stands at a multiple of 8, within storage
-abbrev pub fetched_at : Storage → ℕ → (begins : Bool) → Fetched
-fetched_at s at begins =
-    if at % 8 == 0 && is_some (slice_get s.bytes (at + 7)) then read_ccw begins (ccw_at s at) else NoCcw
-
--- The channel's place in a program: where the next CCW is, whether it may be a transfer in channel, where the last CCW was
--- whose fetch was tried, the count left in the last good one, and whether an interruption is asked for and not yet taken.
-pub record Place : Type 0 where
-  pub next : ℕ
-  pub may_transfer : Bool
-  pub last : ℕ
-  pub residual : ℕ
-  pub interruption : Bool
-
--- neither the first CCW nor the one that a transfer leads to may be a transfer in channel ('Transfer in Channel')
-abbrev pub unless_transfer : (may_transfer : Bool) → Fetched → Fetched
-unless_transfer false (TransferTo address) = NoCcw
-unless_transfer may fetched = fetched
-
-abbrev pub fetch : Storage → Place → (begins : Bool) → Fetched
-fetch s p begins = unless_transfer p.may_transfer (fetched_at s p.next begins)
-
-abbrev pub past_ccw : Place → Ccw → Place
-past_ccw p ccw = record {
-  next = p.next + 8;
-  may_transfer = true;
-  last = p.next;
-  residual = ccw.count;
-  interruption = p.interruption || interrupts ccw;
+abbrev pub place_of : KeptPlace → Place
+place_of p = record {
+  next = p.next;
+  may_transfer = p.may_transfer;
+  last = p.last;
+  residual = p.residual;
+  interruption = p.interruption;
 }
 
-abbrev pub past_transfer : Place → (address : ℕ) → Place
-past_transfer p address = record p { next = address; may_transfer = false; last = p.next }
+abbrev pub fetched_of : KeptFetched → Fetched
+fetched_of kept.NoCcw = NoCcw
+fetched_of (kept.TransferTo address) = TransferTo address
+fetched_of (kept.GoodCcw ccw) = GoodCcw ccw
 
-abbrev pub past_no_ccw : Place → Place
-past_no_ccw p = record p { last = p.next }
+-- a word that is fetched stands within the greatest storage, and addresses have 24 bits
+abbrev pub FetchedWithin : Place → Fetched → Type 0
+FetchedWithin p NoCcw = Unit {0}
+FetchedWithin p (TransferTo address) = address < 2 ^ 24
+FetchedWithin p (GoodCcw ccw) = (p.next + 8 ≤ 2 ^ 24) × (ccw.address < 2 ^ 24)
 
--- the place behind a turn that is no unit
-abbrev pub place_past : Turn → Place → Place
-place_past TakesInterruption p = record p { interruption = false }
-place_past turn p = p
+-- status modifier passes over the next word ('Command Chaining')
+abbrev pub modified_place : Place → UnitStatus → Place
+modified_place p unit = if tells unit STATUS_MODIFIER then record p { next = p.next + 8 } else p

@@ -1,4 +1,12 @@
-//! One channel program at one drive, after its start: what it does, unit by unit, and the laws of its run.
+//! One channel program at one drive, after its start: what it does, unit by unit, and how it is cut.
 #![tactic(auto)]
 
+mod conditions;
+mod endings;
 pub mod laws;
+mod moving;
+mod places;
+pub mod program;
+mod stages;
+mod starting;
+mod units;

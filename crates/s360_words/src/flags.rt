@@ -1,7 +1,8 @@
 //! The named bits of channel command words and channel status words (Principles of Operation, Input/Output
 //! Operations, 'Channel Command Word' and 'Channel Status Word').
 
-ghost use Rattle.std.specs.Prelude.{⊤, [], ◌∷◌, codes};
+ghost use Rattle.std.specs.Prelude.{⊤};
+ghost use Rattle.s360_words.specs.Flags.{ccw_flags, unit_status_bits, channel_status_bits};
 
 use bitflags::{Flag, Flags, bitflag_items};
 
@@ -30,12 +31,7 @@ impl Flags for CcwFlags {
 
     ghost exact = { ⊤ };
 
-    ghost table = { (codes "CHAIN_DATA", 0x80)
-        ∷ (codes "CHAIN_COMMAND", 0x40)
-        ∷ (codes "SUPPRESS_LENGTH_INDICATION", 0x20)
-        ∷ (codes "SKIP", 0x10)
-        ∷ (codes "PROGRAM_CONTROLLED_INTERRUPTION", 0x08)
-        ∷ [] };
+    ghost table = { ccw_flags };
 
     ghost set_of = { λ f. f.0 };
 
@@ -82,15 +78,7 @@ impl Flags for UnitStatus {
 
     ghost exact = { ⊤ };
 
-    ghost table = { (codes "ATTENTION", 0x80)
-        ∷ (codes "STATUS_MODIFIER", 0x40)
-        ∷ (codes "CONTROL_UNIT_END", 0x20)
-        ∷ (codes "BUSY", 0x10)
-        ∷ (codes "CHANNEL_END", 0x08)
-        ∷ (codes "DEVICE_END", 0x04)
-        ∷ (codes "UNIT_CHECK", 0x02)
-        ∷ (codes "UNIT_EXCEPTION", 0x01)
-        ∷ [] };
+    ghost table = { unit_status_bits };
 
     ghost set_of = { λ f. f.0 };
 
@@ -137,15 +125,7 @@ impl Flags for ChannelStatus {
 
     ghost exact = { ⊤ };
 
-    ghost table = { (codes "PROGRAM_CONTROLLED_INTERRUPTION", 0x80)
-        ∷ (codes "INCORRECT_LENGTH", 0x40)
-        ∷ (codes "PROGRAM_CHECK", 0x20)
-        ∷ (codes "PROTECTION_CHECK", 0x10)
-        ∷ (codes "CHANNEL_DATA_CHECK", 0x08)
-        ∷ (codes "CHANNEL_CONTROL_CHECK", 0x04)
-        ∷ (codes "INTERFACE_CONTROL_CHECK", 0x02)
-        ∷ (codes "CHAINING_CHECK", 0x01)
-        ∷ [] };
+    ghost table = { channel_status_bits };
 
     ghost set_of = { λ f. f.0 };
 

@@ -4,8 +4,6 @@
 
 mod flags;
 mod main_storage;
-#[cfg(test)]
-mod tests;
 mod words;
 
 pub use crate::flags::{CcwFlags, ChannelStatus, UnitStatus};

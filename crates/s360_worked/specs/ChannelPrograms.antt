@@ -2,8 +2,8 @@
 use Rattle.std.specs.Prelude.{ℕ, List, [], ◌∷◌, ◌++◌, replicate}
 use Rattle.byteorder.specs.Endian.{big_bytes}
 use Rattle.s360_words.specs.Storage.{Storage, cleared, stored}
-use Rattle.ckd_drive.specs.Drive.{Drive}
-use Rattle.s360_program.specs.Runs.{Start}
+use Rattle.ckd_command.specs.Drive.{IdleDrive}
+use Rattle.s360_runs.specs.Runs.{Start}
 
 -- a channel command word: its code, data address, flags and count
 abbrev pub ccw : (code address flags count : ℕ) → List ℕ
@@ -14,11 +14,11 @@ abbrev pub program : (words : List ℕ) → Storage
 program words = stored (cleared 4096) 0x400 words
 
 -- its start: the channel address word has key 0
-abbrev pub start : Drive → Storage → Start
+abbrev pub start : IdleDrive → Storage → Start
 start drive storage = record { caw = 0x400; storage = storage; drive = drive }
 
 -- the same with key 1
-abbrev pub start_with_key_1 : Drive → Storage → Start
+abbrev pub start_with_key_1 : IdleDrive → Storage → Start
 start_with_key_1 drive storage = record (start drive storage) { caw = 0x1000_0400 }
 
 -- Reads and searches.

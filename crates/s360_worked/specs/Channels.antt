@@ -3,7 +3,7 @@ use Rattle.std.specs.Prelude.{ℕ, List, [], ◌∷◌, ◌++◌, map, Some, Non
 use Rattle.ckd_track.specs.Track.{Track, slot_of}
 use Rattle.ckd_track.specs.declared.fault.SlotFault.{SlotFault}
 use Rattle.ckd_sense.specs.SenseBytes.{sense_bytes}
-use Rattle.ckd_drive.specs.Drive.{Drive, Fault, LoadFails, SaveFails}
+use Rattle.ckd_command.specs.Drive.{IdleDrive, Fault, LoadFails, SaveFails}
 use Rattle.s360_words.specs.Storage.{Storage, stored}
 use Rattle.s360_laws.specs.Events.{Event, Sio, Tio, Hio, Tch, StepBy, Arrive, Interrupt, Store, SetKey, Input}
 use Rattle.s360_laws.specs.History.{World, world_of, history, all_acts}
@@ -16,7 +16,7 @@ use Rattle.s360_worked.specs.Volumes.{first_track, track_size}
 
 -- Channels.
 
-abbrev pub device_with : (device : ℕ) → Drive → Device
+abbrev pub device_with : (device : ℕ) → IdleDrive → Device
 device_with device drive = record { device = device; arm = AtRest; drive = drive }
 
 -- the channel address word at 72 has this key, and the address 400
@@ -28,11 +28,11 @@ abbrev pub channel_with : Storage → List Device → Machine
 channel_with storage devices =
     record { channel = 1; storage = with_caw 0x00 storage; subchannel = Idle; devices = devices }
 
-abbrev pub channel : Storage → Drive → Machine
+abbrev pub channel : Storage → IdleDrive → Machine
 channel storage drive = channel_with storage (device_with 0x90 drive ∷ [])
 
 -- and with key 1 in the channel address word
-abbrev pub channel_with_key_1 : Storage → Drive → Machine
+abbrev pub channel_with_key_1 : Storage → IdleDrive → Machine
 channel_with_key_1 storage drive = record (channel storage drive) { storage = with_caw 0x10 storage }
 
 -- What is seen.
@@ -42,7 +42,7 @@ pub record Glance : Type 0 where
   pub csw : List ℕ
   pub drives : List (ℕ × ℕ × List ℕ × Result Track SlotFault)
 
-abbrev pub glance_at : Drive → ℕ × ℕ × List ℕ × Result Track SlotFault
+abbrev pub glance_at : IdleDrive → ℕ × ℕ × List ℕ × Result Track SlotFault
 glance_at drive = (drive.cylinder, drive.head, sense_bytes drive.sense, track_under_arm drive)
 
 abbrev pub glance : World → Glance

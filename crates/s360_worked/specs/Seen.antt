@@ -3,9 +3,9 @@ use Rattle.std.specs.Prelude.{ℕ, ◌+◌, List, [], ◌∷◌, Option, Some, N
 use Rattle.ckd_track.specs.Track.{Track, track_of}
 use Rattle.ckd_track.specs.declared.fault.SlotFault.{SlotFault}
 use Rattle.ckd_sense.specs.SenseBytes.{sense_bytes}
-use Rattle.ckd_drive.specs.Drive.{Drive, slots_of, track_number}
+use Rattle.ckd_command.specs.Drive.{IdleDrive, slots_of, track_number}
 use Rattle.s360_words.specs.declared.words.Csw.{Csw}
-use Rattle.s360_program.specs.Endings.{Outcome, Ended, NotEnded}
+use Rattle.s360_runs.specs.Endings.{Outcome, Ended, NotEnded}
 
 -- how many units it took, the first one of Start I/O among them; its CSW; the sense bytes; and bytes of storage
 pub record Seen : Type 0 where
@@ -37,5 +37,5 @@ abbrev pub sense_of : (first second : ℕ) → List ℕ
 sense_of first second = first ∷ second ∷ 0 ∷ 0 ∷ 0 ∷ 0 ∷ []
 
 -- the track under the arm of a drive
-abbrev pub track_under_arm : Drive → Result Track SlotFault
+abbrev pub track_under_arm : IdleDrive → Result Track SlotFault
 track_under_arm drive = track_of (slice_index_or (slots_of drive) (track_number drive) [])

@@ -3,8 +3,8 @@ use Rattle.std.specs.Prelude.{ℕ, List, [], ◌∷◌, ◌++◌, map, replicate
 use Rattle.ckd_track.specs.Track.{Record, Track, slot_of}
 use Rattle.ckd_track.specs.declared.model.DriveModel.TheVariants.{D2311}
 use Rattle.ckd_image.specs.Slots.{address, new_track, new_slots}
-use Rattle.ckd_image.specs.declared.geometry.Geometry.{Geometry}
-use Rattle.ckd_drive.specs.Drive.{Drive, no_sense}
+use Rattle.ckd_track.specs.declared.geometries.Geometry.{Geometry}
+use Rattle.ckd_command.specs.Drive.{IdleDrive, no_sense}
 
 abbrev pub track_size : ℕ
 track_size = 320
@@ -13,7 +13,7 @@ abbrev pub geometry_of : (cylinders : ℕ) → Geometry
 geometry_of cylinders = record { model = D2311; cylinders = cylinders; track_size = track_size }
 
 -- a drive at cylinder 0 and head 0, over these slots
-abbrev pub drive_with : (cylinders : ℕ) → List (List ℕ) → Drive
+abbrev pub drive_with : (cylinders : ℕ) → List (List ℕ) → IdleDrive
 drive_with cylinders slots = record {
   volume = record { geometry = geometry_of cylinders; slots = slots };
   cylinder = 0;
@@ -33,7 +33,7 @@ track_with cylinder head records =
 
 -- One new cylinder.
 
-abbrev pub new_drive : Drive
+abbrev pub new_drive : IdleDrive
 new_drive = drive_with 1 (new_slots (geometry_of 1))
 
 -- Two cylinders. Cylinder 0 has three records of 80 bytes at head 0, one without data at head 1, and at heads 2 and 3 one whose
@@ -57,5 +57,5 @@ new_tracks =
     map (new_track 0) (4 ∷ 5 ∷ 6 ∷ 7 ∷ 8 ∷ 9 ∷ [])
     ++ map (new_track 1) (0 ∷ 1 ∷ 2 ∷ 3 ∷ 4 ∷ 5 ∷ 6 ∷ 7 ∷ 8 ∷ 9 ∷ [])
 
-abbrev pub written_drive : Drive
+abbrev pub written_drive : IdleDrive
 written_drive = drive_with 2 (map (slot_of track_size) (written_tracks ++ new_tracks))

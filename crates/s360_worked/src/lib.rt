@@ -7,11 +7,15 @@
 //! three records of 80 bytes; a record without data; and two records whose data begins with a channel command word. The first
 //! unit of a program is the one in which Start I/O fetches its first word; where events are given, it is not among the
 //! units that their steps tell of.
-#![tactic(auto, unfolding(ckd_drive::specs::Commands::beginning, ckd_drive::specs::Commands::sight, ckd_drive::specs::Commands::area_bytes, ckd_drive::specs::Commands::length_after, ckd_drive::specs::Commands::closing, ckd_track::specs::Track::track_of, ckd_track::specs::Track::records_from, ckd_track::specs::Track::slot_of,))]
+#![tactic(auto, unfolding(ckd_command::specs::Commands::beginning, ckd_command::specs::Commands::sight, ckd_command::specs::Commands::area_bytes, ckd_command::specs::Commands::length_after, ckd_command::specs::Commands::closing, ckd_track::specs::Track::track_of, ckd_track::specs::Track::records_from, ckd_track::specs::Track::slot_of,))]
 
 pub mod chaining;
 pub mod channel;
+pub mod instructions;
+pub mod lengths_and_cuts;
 pub mod program_controlled_interruption;
 pub mod reads_and_searches;
 pub mod store_faults;
+pub mod transfers;
+pub mod words_and_places;
 pub mod writes;

@@ -1,13 +1,13 @@
 use Rattle.std.proofs.Common.{◌≡◌, ◌∙◌, sym, Some, ℕ}
-use Rattle.ckd_drive.specs.declared.steps.Aim.TheVariants.{NoArea, Credited}
-use Rattle.ckd_drive.specs.Tables.{aim}
+use Rattle.ckd_command.specs.declared.steps.Aim.TheVariants.{NoArea, Credited}
+use Rattle.ckd_command.specs.Tables.{aim}
 use Rattle.ckd_drive.specs.Half.{number, slot_at}
 use Rattle.ckd_drive.proofs.Looks.{slot_is, first_at, credit_hand, plain_sight, credited_sight}
-use Rattle.ckd_drive.proofs.Unlooked.{found_looks}
+use Rattle.ckd_drive.proofs.FirstLooks.{found_looks}
 use Rattle.ckd_drive.proofs.looking.look.Goals as goal
 
-pub returns-in-NoArea : goal.returns-in-NoArea
-returns-in-NoArea g c =
+pub returns-in-NoArea-clause-stage : goal.returns-in-NoArea-clause-stage
+returns-in-NoArea-clause-stage g c =
     let d = c.args.cache.now in
     let r = c.args.registers.now in
     let o = c.args.opened in
@@ -15,14 +15,14 @@ returns-in-NoArea g c =
     found_looks d r c.args.mark.now o o c.place_without_area-place.result c.ready.result c.requires
     (c.place_without_area-place.ensures (slot_at d.slots (number d.image.geometry r))) (λ aimed. absurd (aimed none)) (plain_sight _ _ o r none) (plain_sight _ _ o r none) c.ready.ensures
 
-pub returns-in-Credited : goal.returns-in-Credited
-returns-in-Credited g c =
+pub returns-in-Credited-clause-stage : goal.returns-in-Credited-clause-stage
+returns-in-Credited-clause-stage g c =
     let d = c.args.cache.now in
     let r = c.args.registers.now in
     let o = c.args.opened in
     let n : ℕ = number d.image.geometry r in
     let aimed : aim o.command ≡ Credited = sym c.aim.ensures ∙ c.in-Credited.is in
-    let credit = c.requires.work.placed.2 in
+    let credit = c.requires.work.credit in
     let held : d.held ≡ Some n = (rw aimed at credit).held in
     let slot = slot_is d n c.buffer.result.now held c.buffer.ensures.slot in
     found_looks d r c.args.mark.now o o c.place_on-place.result c.ready-in-Credited.result c.requires

@@ -1,14 +1,14 @@
-use Rattle.std.proofs.Common.{◌≡◌, ◌∙◌, sym, ℕ}
+use Rattle.std.proofs.Common.{◌≡◌, ◌∙◌, sym, refl, ℕ}
 use Rattle.ckd_track.specs.Track.{track_of}
-use Rattle.ckd_drive.specs.declared.steps.Sight.TheVariants.{Found}
-use Rattle.ckd_drive.specs.Tables.{action_of}
-use Rattle.ckd_drive.specs.Commands.{sight}
+use Rattle.ckd_command.specs.declared.steps.Sight.TheVariants.{Found}
+use Rattle.ckd_command.specs.Tables.{action_of}
+use Rattle.ckd_command.specs.Commands.{sight}
 use Rattle.ckd_drive.specs.Half.{number, slot_at, ReadsWhole}
 use Rattle.ckd_drive.specs.Stages.{Leaves, Loses}
 use Rattle.ckd_drive.proofs.Sights.{look_again, found_whole}
 use Rattle.ckd_drive.proofs.Standing.{on_ok, on_err}
 use Rattle.ckd_drive.proofs.Looks.{slot_is, first_at}
-use Rattle.ckd_drive.proofs.Unlooked.{found_looks, passed_looks, missed_looks, next_looks, lost_looks}
+use Rattle.ckd_drive.proofs.FirstLooks.{found_looks, passed_looks, missed_looks, next_looks, lost_looks}
 use Rattle.ckd_drive.proofs.looking.look_at_hand.Goals as goal
 
 pub place_on-place-requires-clause-readable : goal.place_on-place-requires-clause-readable
@@ -48,7 +48,7 @@ returns-in-IndexPassed-clause-stage g c =
     let n : ℕ = number d.image.geometry r in
     let slot : c.buffer.result.now ≡ slot_at d.slots n = slot_is d n c.buffer.result.now c.requires.held c.buffer.ensures.slot in
     let sight_is : c.look_at.result ≡ sight d.image.geometry (track_of (slot_at d.slots n)) c.args.opened r = rw (c.geometry-geometry.ensures.geometry, slot) at c.look_at.ensures.sight in
-    passed_looks d r c.in-IndexPassed.next c.args.mark.now c.args.opened c.args.kind c.unlooked.result c.requires.stands c.requires.aim c.requires.held (sym sight_is ∙ c.in-IndexPassed.is) c.unlooked.ensures
+    passed_looks d r c.in-IndexPassed.next c.args.mark.now c.args.opened c.args.kind _ c.requires.stands c.requires.aim c.requires.held (sym sight_is ∙ c.in-IndexPassed.is) refl
 
 pub returns-in-Missed-clause-stage : goal.returns-in-Missed-clause-stage
 returns-in-Missed-clause-stage g c =
@@ -67,7 +67,7 @@ returns-else-is_err-clause-stage g c =
     let slot : c.buffer.result.now ≡ slot_at d.slots n = slot_is d n c.buffer.result.now c.requires.held c.buffer.ensures.slot in
     let sight_is : c.look_at.result ≡ sight d.image.geometry (track_of (slot_at d.slots n)) c.args.opened r = rw (c.geometry-geometry.ensures.geometry, slot) at c.look_at.ensures.sight in
     let left : Leaves d c.leave.new.cache c.leave.new.registers c.leave.new.mark c.in-NextHead.next = on_ok c.leave.result _ (sym c.is_err.ensures.value ∙ c.if-is_err.false) c.leave.ensures.leaves in
-    next_looks d c.leave.new.cache r c.leave.new.registers c.in-NextHead.next c.args.mark.now c.leave.new.mark c.args.opened c.args.kind c.unlooked-in-NextHead.result c.requires.stands c.requires.aim (sym sight_is ∙ c.in-NextHead.is) left c.unlooked-in-NextHead.ensures
+    next_looks d c.leave.new.cache r c.leave.new.registers c.in-NextHead.next c.args.mark.now c.leave.new.mark c.args.opened c.args.kind _ c.requires.stands c.requires.aim (sym sight_is ∙ c.in-NextHead.is) left refl
 
 pub returns-then-is_err-clause-stage : goal.returns-then-is_err-clause-stage
 returns-then-is_err-clause-stage g c =

@@ -2,11 +2,11 @@ use Rattle.std.proofs.Common.{◌≡◌, ◌∙◌, sym, ℕ, false}
 use Rattle.ckd_cache.specs.Cache.{holds, after_hold, after_failed_hold}
 use Rattle.ckd_drive.specs.Half.{number}
 use Rattle.ckd_drive.proofs.Standing.{on_ok, on_err}
-use Rattle.ckd_drive.proofs.Unlooked.{held_looks, unloaded_looks}
+use Rattle.ckd_drive.proofs.FirstLooks.{held_looks, unloaded_looks}
 use Rattle.ckd_drive.proofs.looking.look_for_next.Goals as goal
 
-pub returns : goal.returns
-returns g c =
+pub returns-clause-stage : goal.returns-clause-stage
+returns-clause-stage g c =
     let d = c.args.cache.now in
     let r = c.args.registers.now in
     let e = c.hold.new.self in
@@ -14,10 +14,10 @@ returns g c =
     let track : c.track_at-track.result ≡ n = rw c.geometry.ensures.geometry at c.track_at-track.ensures.number in
     let held : e ≡ after_hold d n = rw track at (on_ok c.hold.result (e ≡ after_hold d c.track_at-track.result) (sym c.is_err.ensures.value ∙ c.if-is_err.false) c.hold.ensures.ok) in
     let h = c.look_at_hand in
-    held_looks d e h.new.cache r h.new.registers c.args.mark.now h.new.mark c.args.opened h.result held h.ensures.loads h.ensures.stage
+    held_looks d e h.new.cache r h.new.registers c.args.mark.now h.new.mark c.args.opened c.args.kind h.result c.requires.stands c.requires.aim held h.ensures.loads h.ensures.stage
 
-pub returns-then-is_err : goal.returns-then-is_err
-returns-then-is_err g c =
+pub returns-then-is_err-clause-stage : goal.returns-then-is_err-clause-stage
+returns-then-is_err-clause-stage g c =
     let d = c.args.cache.now in
     let r = c.args.registers.now in
     let e = c.hold.new.self in

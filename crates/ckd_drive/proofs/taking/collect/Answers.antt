@@ -1,7 +1,7 @@
 use Rattle.std.proofs.Common.{◌≡◌, ◌∙◌, sym, refl, true, false, ℕ, rules}
 use Rattle.ckd_track.specs.Track.{track_of}
 use Rattle.ckd_position.specs.declared.areas.Part.TheVariants as part
-use Rattle.ckd_drive.specs.Commands.{new_record_fits}
+use Rattle.ckd_command.specs.Commands.{new_record_fits}
 use Rattle.ckd_drive.specs.Half.{number, slot_at}
 use Rattle.ckd_drive.proofs.Looks.{slot_is}
 use Rattle.ckd_drive.proofs.News.{field_stays, home_absorbs, home_held}

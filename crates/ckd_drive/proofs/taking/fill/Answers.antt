@@ -1,8 +1,8 @@
 use Rattle.std.proofs.Common.{◌≡◌, ◌∙◌, ◌<◌, [], ap, sym, ℕ, length}
 use Rattle.ckd_track.specs.Track.{track_in}
 use Rattle.ckd_track.specs.Changes.{overwritten}
-use Rattle.ckd_drive.specs.Tables.{extent_of}
-use Rattle.ckd_cache.specs.Contents.{with_record_changed, replaced}
+use Rattle.ckd_command.specs.Tables.{extent_of}
+use Rattle.ckd_position.specs.Contents.{with_record_changed, replaced}
 use Rattle.ckd_cache.specs.Buffer.{FitsSlot}
 use Rattle.ckd_cache.specs.Cache.{CacheState, slot_held, with_held}
 use Rattle.ckd_drive.specs.Half.{number, slot_at}

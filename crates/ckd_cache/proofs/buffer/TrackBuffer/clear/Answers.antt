@@ -2,7 +2,7 @@ use Rattle.std.proofs.Common.{[], ◌≡◌, ◌∙◌, length, arith, rules}
 use Rattle.std.specs.Vec.{with_items}
 use Rattle.std.proofs.lemmas.List.{with_items_is}
 use Rattle.ckd_track.specs.Track.{track_in, slot_of}
-use Rattle.ckd_cache.specs.Contents.{with_record_changed, replaced}
+use Rattle.ckd_position.specs.Contents.{with_record_changed, replaced}
 use Rattle.ckd_cache.specs.Buffer.{end_of_records}
 use Rattle.ckd_cache.proofs.AreaPlaces.{seen_index, spelled}
 use Rattle.ckd_cache.proofs.Writes.{records_are, clear_is, same_indexed}

@@ -3,7 +3,7 @@ use Rattle.std.specs.Vec.{with_items}
 use Rattle.std.proofs.lemmas.List.{with_items_is}
 use Rattle.ckd_track.specs.Track.{track_in, track_of, slot_of}
 use Rattle.ckd_track.proofs.Offsets.{are_bytes, few_records}
-use Rattle.ckd_cache.specs.Contents.{formatted}
+use Rattle.ckd_position.specs.Contents.{formatted}
 use Rattle.ckd_cache.specs.Buffer.{end_of_records, number_up_to}
 use Rattle.ckd_cache.proofs.AreaPlaces.{seen_index, spelled}
 use Rattle.ckd_cache.proofs.Writes.{read_records, format_room, format_slot, format_fits, format_indexed, kept_room, up_to_le}

@@ -1,6 +1,6 @@
 use Rattle.std.proofs.Common.{[], ℕ, List}
 use Rattle.ckd_track.specs.Track.{track_in, slot_of}
-use Rattle.ckd_cache.specs.Contents.{with_record_changed, replaced}
+use Rattle.ckd_position.specs.Contents.{with_record_changed, replaced}
 use Rattle.ckd_cache.proofs.Caches.{write_is, write_holds, size_is}
 use Rattle.ckd_cache.proofs.cache.TrackCache.clear.Goals as goal
 

@@ -1,6 +1,6 @@
 use Rattle.std.proofs.Common.{ℕ, List}
 use Rattle.ckd_track.specs.Track.{track_of, slot_of}
-use Rattle.ckd_cache.specs.Contents.{formatted}
+use Rattle.ckd_position.specs.Contents.{formatted}
 use Rattle.ckd_cache.proofs.Caches.{write_is, write_holds, size_is}
 use Rattle.ckd_cache.proofs.cache.TrackCache.format.Goals as goal
 

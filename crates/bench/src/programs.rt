@@ -1,0 +1,202 @@
+//! The works as channel programs in storage: each is built once, and its operands are stored anew for each track.
+
+use crate::machine::Machine;
+use crate::works::{
+    DATA, HEADS, LONG_DATA, READ_COUNT_KEY_AND_DATA, READ_DATA, READ_DATA_MULTI_TRACK, READ_R0,
+    RECORDS, SEARCH_HOME_ADDRESS, SEARCH_ID, SEEK, WRITE_COUNT_KEY_AND_DATA, WRITE_DATA, Work,
+};
+use s360_words::{Csw, Storage, UnitStatus};
+
+const TRANSFER_IN_CHANNEL: u8 = 0x08;
+
+const DATA_CHAINING: u8 = 0x80;
+
+const COMMAND_CHAINING: u8 = 0x40;
+
+/// Where a program begins.
+const FIRST: u32 = 0x400;
+
+/// Where its operands stand: the two bytes of a bin, two each of cylinder and head, and a record.
+const SEEK_ADDRESS: u32 = 0x200;
+
+const SEARCHED: u32 = 0x202;
+
+/// Where the count areas of new records stand, and where data goes to and comes from.
+const COUNTS: u32 = 0x300;
+
+const BUFFER: u32 = 0x2000;
+
+/// A channel program in storage, with how many channel command words are fetched in a run of it, and how many bytes pass.
+#[derive(Clone, Copy, Debug, PartialEq, Eq)]
+pub(crate) struct Program {
+    next: u32,
+    ccws: u64,
+    bytes: u64,
+}
+
+impl Program {
+    const EMPTY: Program = Program {
+        next: FIRST,
+        ccws: 0,
+        bytes: 0,
+    };
+
+    /// How many channel command words are fetched.
+    pub(crate) fn ccws(&self) -> u64 {
+        self.ccws
+    }
+
+    /// How many bytes pass.
+    pub(crate) fn bytes(&self) -> u64 {
+        self.bytes
+    }
+
+    /// The channel address word.
+    pub(crate) fn caw(&self) -> u32 {
+        FIRST
+    }
+
+    /// Whether a program that ended so did all that it has to: the last word was fetched, nothing of its count is left, and
+    /// nothing but channel end and device end is told.
+    pub(crate) fn ends_with(&self, csw: Csw) -> bool {
+        csw.address == self.next
+            && csw.count == 0
+            && csw.unit == UnitStatus(0x0C)
+            && csw.channel.0 == 0
+    }
+
+    // Stores the next word.
+    fn put(&mut self, storage: &mut Storage, code: u8, address: u32, flags: u8, count: u16) {
+        let [_, a, b, c] = address.to_be_bytes();
+        let [high, low] = count.to_be_bytes();
+        storage.put(self.next, &[code, a, b, c, flags, 0, high, low]);
+        self.next = self.next.saturating_add(8);
+    }
+
+    // Stores the next word, which is fetched once.
+    fn word(&mut self, storage: &mut Storage, code: u8, address: u32, flags: u8, count: u16) {
+        self.put(storage, code, address, flags, count);
+        self.ccws = self.ccws.saturating_add(1);
+        self.bytes = self.bytes.saturating_add(count as u64);
+    }
+
+    fn seek(&mut self, storage: &mut Storage) {
+        self.word(storage, SEEK, SEEK_ADDRESS, COMMAND_CHAINING, 6);
+    }
+
+    // A search that is satisfied at once, and passes over the transfer behind it.
+    fn search(&mut self, storage: &mut Storage, code: u8, count: u16) {
+        let at = self.next;
+        self.word(storage, code, SEARCHED, COMMAND_CHAINING, count);
+        self.put(storage, TRANSFER_IN_CHANNEL, at, 0, 0);
+    }
+
+    // A search of record 1 from the index on: record 0 is another, and the next is found.
+    fn find_first(&mut self, storage: &mut Storage) {
+        self.search(storage, SEARCH_ID, 5);
+        self.ccws = self.ccws.saturating_add(2);
+        self.bytes = self.bytes.saturating_add(5);
+    }
+
+    // So many of the same command, which end the program.
+    fn last(&mut self, storage: &mut Storage, times: u16, code: u8, count: u16) {
+        for left in (0..times).rev() {
+            let flags = if left == 0 { 0 } else { COMMAND_CHAINING };
+            self.word(storage, code, BUFFER, flags, count);
+        }
+    }
+
+    // New records behind R0: the count area of each is chained to its data.
+    fn format(&mut self, storage: &mut Storage) {
+        let mut count_area = COUNTS;
+        for left in (0..RECORDS).rev() {
+            let flags = if left == 0 { 0 } else { COMMAND_CHAINING };
+            self.word(
+                storage,
+                WRITE_COUNT_KEY_AND_DATA,
+                count_area,
+                DATA_CHAINING,
+                8,
+            );
+            self.word(storage, 0, BUFFER, flags, DATA as u16);
+            count_area = count_area.saturating_add(8);
+        }
+    }
+}
+
+impl Work {
+    // The work's program, which is stored.
+    fn program(self, storage: &mut Storage) -> Program {
+        let mut program = Program::EMPTY;
+        let records = RECORDS as u16;
+        program.seek(storage);
+        match self {
+            Work::ReadWhole => {
+                program.last(storage, records, READ_COUNT_KEY_AND_DATA, 8 + DATA as u16);
+            }
+            Work::ReadCylinder => {
+                program.last(storage, HEADS * records, READ_DATA_MULTI_TRACK, DATA as u16);
+            }
+            Work::ReadLong => {
+                program.find_first(storage);
+                program.last(storage, 1, READ_DATA, LONG_DATA as u16);
+            }
+            Work::ReadFromHomeAddress => {
+                program.search(storage, SEARCH_HOME_ADDRESS, 4);
+                program.word(storage, READ_R0, BUFFER, COMMAND_CHAINING, 16);
+                program.last(storage, records, READ_DATA, DATA as u16);
+            }
+            Work::Update => {
+                program.find_first(storage);
+                program.last(storage, 1, WRITE_DATA, DATA as u16);
+            }
+            Work::Format => {
+                program.search(storage, SEARCH_ID, 5);
+                program.format(storage);
+            }
+            _ => {
+                program.find_first(storage);
+                program.last(storage, records, READ_DATA, DATA as u16);
+            }
+        }
+        program
+    }
+
+    // The record that the work searches for.
+    fn searched(self) -> u8 {
+        if self == Work::Format { 0 } else { 1 }
+    }
+
+    /// Does the work once by channel programs.
+    pub(crate) fn run_programs(self, machine: &mut Machine, cylinders: u16) {
+        let program = self.program(machine.storage());
+        let heads = if self == Work::ReadCylinder { 1 } else { HEADS };
+        for cylinder in 0..cylinders {
+            for head in 0..heads {
+                self.put_operands(machine.storage(), cylinder, head);
+                machine.run(&program);
+            }
+        }
+    }
+
+    // Stores what the program names of the track.
+    fn put_operands(self, storage: &mut Storage, cylinder: u16, head: u16) {
+        let [c0, c1] = cylinder.to_be_bytes();
+        let [h0, h1] = head.to_be_bytes();
+        storage.put(SEEK_ADDRESS, &[0, 0, c0, c1, h0, h1, self.searched()]);
+        if self == Work::Format {
+            put_count_areas(storage, [c0, c1, h0, h1]);
+        }
+    }
+}
+
+// Stores the count areas of the records of a track.
+fn put_count_areas(storage: &mut Storage, track: [u8; 4]) {
+    let [c0, c1, h0, h1] = track;
+    let [d0, d1] = (DATA as u16).to_be_bytes();
+    let mut at = COUNTS;
+    for record in 1..=RECORDS {
+        storage.put(at, &[c0, c1, h0, h1, record, 0, d0, d1]);
+        at = at.saturating_add(8);
+    }
+}

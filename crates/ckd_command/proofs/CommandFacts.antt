@@ -1,0 +1,252 @@
+-- How a command begins, looks and closes, whatever the drive remembers and whatever the track holds.
+use Rattle.std.proofs.Common.{◌≡◌, ℕ, refl, ap, ◌∙◌, true, false, Bool, cond, List, [], ◌∷◌, Option, Some, None, ◌⊎◌, inl, inr}
+use Rattle.std.specs.Prelude.{bit_and, Ok, Err, not, ◌&&◌, ◌==◌, ◌+◌, length, nat_lt, slice_range, take, bytes_eq}
+use Rattle.std.proofs.lemmas.Nat.{and_or_apart, and_or_self}
+use Rattle.s360_words.specs.Words.{has}
+use Rattle.ckd_track.specs.Track.{Record, Track, track_or_none}
+use Rattle.ckd_track.specs.Model.{heads_of}
+use Rattle.ckd_track.specs.Changes.{bare_track}
+use Rattle.ckd_track.specs.declared.geometries.Geometry.{Geometry}
+use Rattle.ckd_position.specs.Areas.{next_of_kind}
+use Rattle.ckd_position.specs.Comparisons.{is_satisfied}
+use Rattle.ckd_position.specs.declared.areas.Area.{Area}
+use Rattle.ckd_position.specs.declared.areas.Next.{Next as NextArea}
+use Rattle.ckd_position.specs.declared.areas.Next.TheVariants as next
+use Rattle.ckd_sense.specs.Commands.{decoded}
+use Rattle.ckd_sense.specs.Masks.{allows_head_change, is_write, permit_of}
+use Rattle.ckd_sense.specs.declared.commands.Command.{Command}
+use Rattle.ckd_sense.specs.declared.commands.Command.TheVariants as command
+use Rattle.ckd_sense.specs.declared.commands.CommandCode.{CommandCode}
+use Rattle.ckd_sense.specs.declared.masks.Permit.{Permit}
+use Rattle.ckd_sense.specs.declared.masks.Permit.TheVariants.{Yes, NoWrite, NoSeek}
+use Rattle.ckd_sense.specs.declared.sense_bytes.Sense.{Sense}
+use Rattle.ckd_sense.specs.declared.sense_bytes.TheConstants.Sense as cause
+use Rattle.ckd_command.specs.declared.registers.Registers.{Registers}
+use Rattle.ckd_command.specs.declared.registers.Lap.{Lap}
+use Rattle.ckd_command.specs.declared.registers.Lap.TheVariants.{First, Second}
+use Rattle.ckd_command.specs.declared.steps.Aim.{Aim}
+use Rattle.ckd_command.specs.declared.steps.Aim.TheVariants.{NoArea, Next, Credited}
+use Rattle.ckd_command.specs.declared.steps.Opened.{Opened}
+use Rattle.ckd_command.specs.declared.steps.Beginning.{Beginning}
+use Rattle.ckd_command.specs.declared.steps.Beginning.TheVariants.{Rejected, Immediate, Started, ToCylinderZero}
+use Rattle.ckd_command.specs.declared.steps.Sight.{Sight}
+use Rattle.ckd_command.specs.declared.steps.Sight.TheVariants.{Found, IndexPassed, NextHead, Missed}
+use Rattle.ckd_command.specs.Tables.{aim, action_of, extent_of, comparison, ends_with_data, needs_readable}
+use Rattle.ckd_position.specs.Contents.{Sighted, has_no_data, replaced, formatted, kept, is_readable}
+use Rattle.ckd_command.specs.Commands.{Closing, ends, fails, writes, closing, close_by, whole_field, with_cause, at_end, seek_cylinder_and_head, seek_head, set_file_mask, search, search_ends, area_bytes, end_of_area, update, updated, format, format_ends, new_record_fits, write_home_address, own_home_address, home_address_ends, ending_status, unit_exception_status, number, beginning, begin_decoded, begin_allowed, started, cleared, refusal, refusal_under, is_out_of_sequence, sight, look_for, sight_of, next_head, turned}
+
+-- Equipment check, which tells of the store alone.
+
+abbrev pub tells_store : Registers → Bool
+tells_store r = has r.sense.0 cause.EQUIPMENT_CHECK.0
+
+-- the cause of a fault of the store tells of it
+pub store_fault_is_told : (r : Registers) → tells_store (with_cause r cause.STORE_FAULT) ≡ true
+store_fault_is_told r = ap (λ n. not (n == 0)) (and_or_self cause.EQUIPMENT_CHECK.0 r.sense.0)
+
+-- it is not told where it was not told before
+abbrev pub NotTold : Registers → Registers → Type 0
+NotTold before after = tells_store before ≡ false → tells_store after ≡ false
+
+-- no other cause tells of it
+with_other : (r : Registers) (bits : ℕ) → bit_and bits cause.EQUIPMENT_CHECK.0 ≡ 0 → NotTold r (with_cause r (record { 0 = bits }))
+with_other r bits h e = ap (λ n. not (n == 0)) (and_or_apart cause.EQUIPMENT_CHECK.0 r.sense.0 bits h) ∙ e
+
+-- How a command closes.
+
+-- with channel end, and device end unless the arm still moves; no track is written without a byte, nor by a command that is no
+-- write; and equipment check is not told
+pub record IsClosing (before : Registers) (b : List ℕ) (write : Bool) (c : Closing) : Type 0 where
+  pub channel_end : has c.unit 0x08 ≡ true
+  pub device_end : has c.unit 0x04 ≡ not c.motion
+  pub written : (c.written ≡ None) ⊎ ((b ≡ [] → ⊥) × (write ≡ true))
+  pub not_told : NotTold before c.registers
+
+plain : (r s : Registers) (b : List ℕ) (w : Bool) → NotTold r s → IsClosing r b w (ends s ending_status)
+plain r s b w h = record { channel_end = refl; device_end = refl; written = inl refl; not_told = h }
+
+check : (r s : Registers) (b : List ℕ) (w : Bool) (bits : ℕ) → bit_and bits cause.EQUIPMENT_CHECK.0 ≡ 0 → NotTold r s → IsClosing r b w (fails s (record { 0 = bits }))
+check r s b w bits h k = record { channel_end = refl; device_end = refl; written = inl refl; not_told = λ e. with_other s bits h (k e) }
+
+writing : (r : Registers) (x : ℕ) (b : List ℕ) (t : Track) (c : Closing) → IsClosing r (x ∷ b) true c → IsClosing r (x ∷ b) true (writes t c)
+writing r x b t c h = record { channel_end = h.channel_end; device_end = h.device_end; written = inr (λ e. absurd (cc), refl); not_told = h.not_told }
+
+either : (r : Registers) (b : List ℕ) (w a : Bool) (x y : Closing) → IsClosing r b w x → IsClosing r b w y → IsClosing r b w (cond a x y)
+either r b w true x y p q = p
+either r b w false x y p q = q
+
+-- a field that must come whole, where the registers have gone on without telling anything
+whole_from : (r s : Registers) (b : List ℕ) (w : Bool) (size : ℕ) (c : Closing) → NotTold r s → ((x : ℕ) (rest : List ℕ) → b ≡ x ∷ rest → IsClosing r b w c) → IsClosing r b w (whole_field s b size c)
+whole_from r s [] w size c k h = plain r s [] w k
+whole_from r s (x ∷ b) w size c k h =
+    either r (x ∷ b) w (length (x ∷ b) == 0) (ends s ending_status) (cond (nat_lt (length (x ∷ b)) size) (fails s cause.FIELD_CUT_SHORT) c) (plain r s (x ∷ b) w k)
+    (either r (x ∷ b) w (nat_lt (length (x ∷ b)) size) (fails s cause.FIELD_CUT_SHORT) c (check r s (x ∷ b) w cause.FIELD_CUT_SHORT.0 refl k) (h x b refl))
+
+whole : (r : Registers) (b : List ℕ) (w : Bool) (size : ℕ) (c : Closing) → ((x : ℕ) (rest : List ℕ) → b ≡ x ∷ rest → IsClosing r b w c) → IsClosing r b w (whole_field r b size c)
+whole r b w size c h = whole_from r r b w size c (λ e. e) h
+
+seeks : (g : Geometry) (r : Registers) (b : List ℕ) (w : Bool) → IsClosing r b w (seek_cylinder_and_head g r b)
+seeks g r b w =
+    let cylinder = number (slice_range b 2 4) in
+    let head = number (slice_range b 4 6) in
+    either r b w (number (take 2 b) == 0 && nat_lt cylinder g.cylinders && nat_lt head (heads_of g.model)) _ _
+    (record { channel_end = refl; device_end = refl; written = inl refl; not_told = λ e. e }) (check r r b w cause.SEEK_ADDRESS_OUTSIDE.0 refl (λ e. e))
+
+head_seeks : (g : Geometry) (r : Registers) (b : List ℕ) (w : Bool) → IsClosing r b w (seek_head g r b)
+head_seeks g r b w =
+    let head = number (slice_range b 4 6) in
+    either r b w (nat_lt head (heads_of g.model)) _ _
+    (record { channel_end = refl; device_end = refl; written = inl refl; not_told = λ e. e }) (check r r b w cause.SEEK_ADDRESS_OUTSIDE.0 refl (λ e. e))
+
+masks : (r : Registers) (b : List ℕ) (w : Bool) → IsClosing r b w (set_file_mask r b)
+masks r [] w = plain r r [] w (λ e. e)
+masks r (x ∷ b) w = record { channel_end = refl; device_end = refl; written = inl refl; not_told = λ e. e }
+
+searches : (t : Sighted) (o : Opened) (r : Registers) (b : List ℕ) (w : Bool) → IsClosing r b w (search t o r b)
+searches t o r b w = go (nat_lt 0 (length b) && is_satisfied (comparison o.command) (area_bytes t o r) b) _
+  where
+    go : (satisfied all : Bool) → IsClosing r b w (search_ends o r satisfied all)
+    go true all = record { channel_end = refl; device_end = refl; written = inl refl; not_told = λ e. e }
+    go false all = record { channel_end = refl; device_end = refl; written = inl refl; not_told = λ e. e }
+
+area_end : (t : Sighted) (o : Opened) (r : Registers) (b : List ℕ) (w : Bool) → IsClosing r b w (end_of_area t o r)
+area_end t o r b w = go (ends_with_data (extent_of o.command) && has_no_data t o.area)
+  where
+    go : (x : Bool) → IsClosing r b w (ends (at_end o r) (cond x unit_exception_status ending_status))
+    go true = record { channel_end = refl; device_end = refl; written = inl refl; not_told = λ e. e }
+    go false = record { channel_end = refl; device_end = refl; written = inl refl; not_told = λ e. e }
+
+updates : (change : Record → Record) (t : Sighted) (o : Opened) (r : Registers) (b : List ℕ) → IsClosing r b true (update change t o r b)
+updates change t o r [] = area_end t o r [] true
+updates change t o r (x ∷ b) =
+    let end = area_end t o r (x ∷ b) true in
+    either r (x ∷ b) true (length (x ∷ b) == 0) (end_of_area t o r) (updated t o.area change (end_of_area t o r)) end (go t o.area (end_of_area t o r) end)
+  where
+    go : (t : Sighted) (a : Option Area) (c : Closing) → IsClosing r (x ∷ b) true c → IsClosing r (x ∷ b) true (updated t a change c)
+    go (Ok t) (Some a) c h = writing r x b _ c h
+    go (Ok t) None c h = h
+    go (Err fault) a c h = h
+
+formats : (g : Geometry) (t : Sighted) (o : Opened) (r : Registers) (x : ℕ) (b : List ℕ) → IsClosing r (x ∷ b) true (format g t o r (x ∷ b))
+formats g t o r x b = either r (x ∷ b) true (new_record_fits g t o (x ∷ b)) (writes (formatted t o.area (x ∷ b)) (format_ends r (length (kept t o.area)))) (fails r cause.RECORD_DOES_NOT_FIT)
+    (writing r x b _ (format_ends r (length (kept t o.area))) (record { channel_end = refl; device_end = refl; written = inl refl; not_told = λ e. e }))
+    (check r r (x ∷ b) true cause.RECORD_DOES_NOT_FIT.0 refl (λ e. e))
+
+homes : (o : Opened) (r : Registers) (x : ℕ) (b : List ℕ) → IsClosing r (x ∷ b) true (write_home_address o r (x ∷ b))
+homes o r x b = either r (x ∷ b) true (bytes_eq (x ∷ b) (own_home_address r)) (writes (bare_track (x ∷ b)) (home_address_ends o r)) (fails (at_end o r) cause.WRONG_HOME_ADDRESS)
+    (writing r x b _ (home_address_ends o r) (record { channel_end = refl; device_end = refl; written = inl refl; not_told = λ e. e }))
+    (check r (at_end o r) (x ∷ b) true cause.WRONG_HOME_ADDRESS.0 refl (λ e. e))
+
+closes : (c : Command) (g : Geometry) (t : Sighted) (o : Opened) (r : Registers) (b : List ℕ) → IsClosing r b (is_write c) (close_by (action_of c) g t o r b)
+closes command.Seek g t o r b = whole r b _ 6 _ (λ x rest e. seeks g r b _)
+closes command.SeekCylinder g t o r b = whole r b _ 6 _ (λ x rest e. seeks g r b _)
+closes command.SeekHead g t o r b = whole r b _ 6 _ (λ x rest e. head_seeks g r b _)
+closes command.SetFileMask g t o r b = masks r b _
+closes command.SearchHomeAddressEqual g t o r b = searches t o r b _
+closes command.SearchIdEqual g t o r b = searches t o r b _
+closes command.SearchIdHigh g t o r b = searches t o r b _
+closes command.SearchIdEqualOrHigh g t o r b = searches t o r b _
+closes command.SearchKeyEqual g t o r b = searches t o r b _
+closes command.SearchKeyHigh g t o r b = searches t o r b _
+closes command.SearchKeyEqualOrHigh g t o r b = searches t o r b _
+closes command.WriteHomeAddress g t o r b = whole_from r (at_end o r) b true 5 (write_home_address o r b) (λ e. e) (home_of b)
+  where
+    home_of : (b : List ℕ) (x : ℕ) (rest : List ℕ) → b ≡ x ∷ rest → IsClosing r b true (write_home_address o r b)
+    home_of [] x rest e = absurd (cc)
+    home_of (y ∷ b) x rest e = homes o r y b
+closes command.WriteR0 g t o r b = whole r b true 8 (format g t o r b) (format_of b)
+  where
+    format_of : (b : List ℕ) (x : ℕ) (rest : List ℕ) → b ≡ x ∷ rest → IsClosing r b true (format g t o r b)
+    format_of [] x rest e = absurd (cc)
+    format_of (y ∷ b) x rest e = formats g t o r y b
+closes command.WriteCountKeyAndData g t o r b = whole r b true 8 (format g t o r b) (format_of b)
+  where
+    format_of : (b : List ℕ) (x : ℕ) (rest : List ℕ) → b ≡ x ∷ rest → IsClosing r b true (format g t o r b)
+    format_of [] x rest e = absurd (cc)
+    format_of (y ∷ b) x rest e = formats g t o r y b
+closes command.WriteData g t o r b = updates (replaced (extent_of o.command) b) t o r b
+closes command.WriteKeyAndData g t o r b = updates (replaced (extent_of o.command) b) t o r b
+closes _ g t o r b = area_end t o r b _
+
+pub closing_facts : (g : Geometry) (t : Sighted) (o : Opened) (r : Registers) (b : List ℕ) → IsClosing r b (is_write o.command) (closing g t o r b)
+unfolding closing
+closing_facts g t o r b = closes o.command g t o r b
+
+-- How a command begins: equipment check is not told.
+
+abbrev pub BeginsSilent : Registers → Beginning → Type 0
+BeginsSilent before (Rejected r) = NotTold before r
+BeginsSilent before (Immediate r) = NotTold before r
+BeginsSilent before (Started r o) = NotTold before r
+BeginsSilent before (ToCylinderZero r o) = NotTold before r
+
+cleared_silent : (c : Command) (r : Registers) → NotTold r (cleared c r)
+cleared_silent command.Sense r e = e
+cleared_silent _ r e = refl
+
+starts_silent : (c : Command) (before r : Registers) (o : Opened) → NotTold before r → BeginsSilent before (started c r o)
+starts_silent command.NoOperation before r o h = h
+starts_silent command.Recalibrate before r o h = h
+starts_silent command.ReadIpl before r o h = h
+starts_silent _ before r o h = h
+
+-- a command is refused for a cause that does not tell of the store
+abbrev IsOther : Option Sense → Type 0
+IsOther (Some s) = bit_and s.0 cause.EQUIPMENT_CHECK.0 ≡ 0
+IsOther None = Unit {0}
+
+refusals : (p : Permit) (c : Command) (r : Registers) → IsOther (refusal_under p c r)
+refusals NoWrite c r = refl
+refusals NoSeek c r = refl
+refusals Yes c r = go (is_out_of_sequence c r)
+  where
+    go : (b : Bool) → IsOther (cond b (Some cause.OUT_OF_SEQUENCE) None)
+    go true = refl
+    go false = tt
+
+allowed_silent : (c : CommandCode) (r : Registers) (x : Option Sense) → IsOther x → BeginsSilent r (begin_allowed c r x)
+allowed_silent c r (Some s) h = λ e. with_other (cleared c.command r) s.0 h (cleared_silent c.command r e)
+allowed_silent c r None h = starts_silent c.command r (cleared c.command r) _ (cleared_silent c.command r)
+
+decoded_silent : (c : Option CommandCode) (r : Registers) → BeginsSilent r (begin_decoded c r)
+decoded_silent None r = λ e. refl
+decoded_silent (Some c) r = allowed_silent c r (refusal c.command r) (refusals (permit_of r.file_mask c.command) c.command r)
+
+pub beginning_silent : (code : ℕ) (r : Registers) → BeginsSilent r (beginning code r)
+unfolding beginning
+beginning_silent code r = decoded_silent (decoded code) r
+
+-- How it looks: equipment check is not told.
+
+abbrev pub SightSilent : Registers → Sight → Type 0
+SightSilent before (Found o) = Unit {0}
+SightSilent before (IndexPassed r) = NotTold before r
+SightSilent before (NextHead r) = NotTold before r
+SightSilent before (Missed r) = NotTold before r
+
+silent_either : (before : Registers) (a : Bool) (x y : Sight) → SightSilent before x → SightSilent before y → SightSilent before (cond a x y)
+silent_either before true x y p q = p
+silent_either before false x y p q = q
+
+turns_silent : (r : Registers) (lap : Lap) → SightSilent r (turned r lap)
+turns_silent r First = λ e. e
+turns_silent r Second = with_other r cause.NO_RECORD_FOUND.0 refl
+
+heads_silent : (g : Geometry) (r : Registers) → SightSilent r (next_head g r)
+heads_silent g r =
+    silent_either r (not (allows_head_change r.file_mask)) _ _ (with_other r cause.HEAD_CHANGE_NOT_ALLOWED.0 refl)
+    (silent_either r (r.head + 1 == heads_of g.model) _ _ (with_other r cause.END_OF_CYLINDER.0 refl) (λ e. e))
+
+next_silent : (g : Geometry) (o : Opened) (r : Registers) (n : NextArea) → SightSilent r (sight_of g o r n)
+next_silent g o r (next.Found a) = tt
+next_silent g o r next.IndexPassed = silent_either r o.multi_track (next_head g r) (turned r r.lap) (heads_silent g r) (turns_silent r r.lap)
+
+sights : (g : Geometry) (t : Sighted) (o : Opened) (r : Registers) (a : Aim) → SightSilent r (look_for g t o r a)
+sights g t o r (Next kind) = silent_either r (needs_readable (action_of o.command) && not (is_readable t)) _ (sight_of g o r (next_of_kind (track_or_none t) r.position kind))
+    (with_other r cause.UNREADABLE_TRACK.0 refl) (next_silent g o r (next_of_kind (track_or_none t) r.position kind))
+sights g t o r NoArea = tt
+sights g t o r Credited = tt
+
+pub sight_silent : (g : Geometry) (t : Sighted) (o : Opened) (r : Registers) → SightSilent r (sight g t o r)
+unfolding sight
+sight_silent g t o r = sights g t o r (aim o.command)

@@ -1,0 +1,93 @@
+-- How many bytes pass in a command: it gives all those of its area, and no command gets shorter by bytes that pass.
+use Rattle.std.proofs.Common.{◌≡◌, ℕ, ◌+◌, ◌≤◌, refl, sym, ap, subst, ◌∙◌, arith, true, false, Bool, not, ◌||◌, List, ◌++◌, nat_lt, length, length-append}
+use Rattle.std.specs.Prelude.{if◌then◌else◌, slice_index}
+use Rattle.std.proofs.lemmas.Bool.Decides.{nat_tests}
+use Rattle.std.proofs.lemmas.List.{get_or_append_left}
+use Rattle.ckd_command.specs.declared.registers.Registers.{Registers}
+use Rattle.ckd_command.specs.declared.steps.Action.{Action}
+use Rattle.ckd_command.specs.declared.steps.Action.TheVariants as action
+use Rattle.ckd_command.specs.declared.steps.Opened.{Opened}
+use Rattle.ckd_command.specs.Tables.{action_of, is_giving}
+use Rattle.ckd_command.specs.Commands.{format_length, length_for, length_after, new_record_fits}
+use Rattle.ckd_command.specs.Drive.{Open, gives, given, length_of, track_under}
+use Rattle.ckd_position.specs.Contents.{Sighted, kept}
+use Rattle.ckd_track.specs.Charges.{has_room}
+use Rattle.ckd_track.specs.Track.{key_length, data_length, body_length}
+use Rattle.ckd_track.specs.declared.geometries.Geometry.{Geometry}
+
+length_by : (a : Action) (g : Geometry) (t : Sighted) (o : Opened) (r : Registers) (b : List ℕ) → action_of o.command ≡ a → length_after g t o r b ≡ length_for a g t o r b
+unfolding length_after
+length_by a g t o r b is = rw is refl
+
+length_in : (a : Action) (o : Open) (b : List ℕ) → action_of o.opened.command ≡ a → length_of o b ≡ length_for a o.state.volume.geometry (track_under o.state) o.opened o.state.registers b
+length_in a o b is = length_by a o.state.volume.geometry (track_under o.state) o.opened o.state.registers b is
+
+-- what a command gives is the whole of its area
+pub gives_length : (o : Open) (b : List ℕ) → gives o ≡ true → length_of o b ≡ length (given o)
+gives_length o b g = go (action_of o.opened.command) refl g
+  where
+    never : ◌≡◌ {A = Bool} false true → ⊥
+    never h = cc
+
+    go : (a : Action) → action_of o.opened.command ≡ a → is_giving a ≡ true → length_of o b ≡ length (given o)
+    go action.GiveSense e h = length_in action.GiveSense o b e
+    go action.Read e h = length_in action.Read o b e
+    go action.NoTransfer e h = absurd (never h)
+    go action.SeekCylinderAndHead e h = absurd (never h)
+    go action.SeekHead e h = absurd (never h)
+    go action.SetFileMask e h = absurd (never h)
+    go action.Search e h = absurd (never h)
+    go action.WriteHomeAddress e h = absurd (never h)
+    go action.Format e h = absurd (never h)
+    go action.Update e h = absurd (never h)
+
+eight_least : (c : Bool) (n : ℕ) → 8 ≤ (if c then 8 else 8 + n)
+eight_least true n = omega arith
+eight_least false n = omega arith
+
+equal_le : (x y : ℕ) → x ≡ y → x ≤ y
+equal_le x y e = omega arith
+
+not_short : (n : ℕ) → 8 ≤ n → nat_lt n 8 ≡ false
+not_short n h = grind (arith, nat_tests)
+
+-- the length of a formatting write is 8, until the count area tells it, which later bytes do not change
+format_grows : (g : Geometry) (t : Sighted) (o : Opened) (b more : List ℕ) → format_length g t o b ≤ format_length g t o (b ++ more)
+format_grows g t o b more = go (nat_lt (length b) 8) refl
+  where
+    go : (short : Bool) → nat_lt (length b) 8 ≡ short → format_length g t o b ≤ format_length g t o (b ++ more)
+    go true k = subst (λ n. n ≤ format_length g t o (b ++ more)) (sym (ap (λ s. if s || not (new_record_fits g t o b) then 8 else 8 + body_length b) k)) (eight_least (nat_lt (length (b ++ more)) 8 || not (new_record_fits g t o (b ++ more))) (body_length (b ++ more)))
+    go false k =
+        let long : 8 ≤ length b = grind (arith, nat_tests) in
+        let sum : length (b ++ more) ≡ length b + length more = length-append b more in
+        let still : nat_lt (length (b ++ more)) 8 ≡ false = not_short (length (b ++ more)) (omega arith) in
+        let five : slice_index (b ++ more) 5 ≡ slice_index b 5 = get_or_append_left b more 0 5 (omega arith) in
+        let six : slice_index (b ++ more) 6 ≡ slice_index b 6 = get_or_append_left b more 0 6 (omega arith) in
+        let seven : slice_index (b ++ more) 7 ≡ slice_index b 7 = get_or_append_left b more 0 7 (omega arith) in
+        let told : data_length (b ++ more) ≡ data_length b = rw (six, seven) refl in
+        let same : format_length g t o b ≡ format_length g t o (b ++ more) =
+        ap (λ s. if s || not (new_record_fits g t o b) then 8 else 8 + body_length b) (k ∙ sym still)
+        ∙ ap (λ n. if nat_lt (length (b ++ more)) 8 || not (has_room g.model (kept t o.area) n (data_length b)) then 8 else 8 + (n + data_length b)) (sym five)
+        ∙ ap (λ n. if nat_lt (length (b ++ more)) 8 || not (has_room g.model (kept t o.area) (key_length (b ++ more)) n) then 8 else 8 + (key_length (b ++ more) + n)) (sym told) in
+        equal_le (format_length g t o b) (format_length g t o (b ++ more)) same
+
+pub length_grows : (o : Open) (b more : List ℕ) → length_of o b ≤ length_of o (b ++ more)
+length_grows o b more = go (action_of o.opened.command) refl
+  where
+    same : (a : Action) → action_of o.opened.command ≡ a
+        → length_for a o.state.volume.geometry (track_under o.state) o.opened o.state.registers b ≡ length_for a o.state.volume.geometry (track_under o.state) o.opened o.state.registers (b ++ more)
+        → length_of o b ≤ length_of o (b ++ more)
+    same a e h = equal_le (length_of o b) (length_of o (b ++ more)) (length_in a o b e ∙ h ∙ sym (length_in a o (b ++ more) e))
+
+    go : (a : Action) → action_of o.opened.command ≡ a → length_of o b ≤ length_of o (b ++ more)
+    go action.Format e = subst (λ n. n ≤ length_of o (b ++ more)) (sym (length_in action.Format o b e))
+        (subst (λ n. format_length o.state.volume.geometry (track_under o.state) o.opened b ≤ n) (sym (length_in action.Format o (b ++ more) e)) (format_grows o.state.volume.geometry (track_under o.state) o.opened b more))
+    go action.GiveSense e = same action.GiveSense e refl
+    go action.Read e = same action.Read e refl
+    go action.NoTransfer e = same action.NoTransfer e refl
+    go action.SeekCylinderAndHead e = same action.SeekCylinderAndHead e refl
+    go action.SeekHead e = same action.SeekHead e refl
+    go action.SetFileMask e = same action.SetFileMask e refl
+    go action.Search e = same action.Search e refl
+    go action.WriteHomeAddress e = same action.WriteHomeAddress e refl
+    go action.Update e = same action.Update e refl

@@ -1,0 +1,5 @@
+pub mod CommandFacts
+pub mod Arms
+pub mod Marks
+pub mod Stable
+pub mod Lengths

@@ -1,0 +1,101 @@
+-- What the parts of a command come to without a fault they come to with a failed saving too, which is met later: where the track
+-- is still written, so that none was saved.
+use Rattle.std.proofs.Common.{◌≡◌, refl, sym, ap, subst, ◌∙◌, true, false, Bool, List, ℕ, Option, Some, None}
+use Rattle.ckd_command.specs.declared.steps.Aim.{Aim}
+use Rattle.ckd_command.specs.declared.steps.Aim.TheVariants.{NoArea, Next, Credited}
+use Rattle.ckd_command.specs.declared.steps.Opened.{Opened}
+use Rattle.ckd_command.specs.declared.steps.Beginning.{Beginning}
+use Rattle.ckd_command.specs.declared.steps.Beginning.TheVariants as beginning
+use Rattle.ckd_command.specs.declared.steps.Sight.{Sight}
+use Rattle.ckd_command.specs.declared.steps.Sight.TheVariants as sight
+use Rattle.ckd_command.specs.Tables.{aim}
+use Rattle.ckd_command.specs.Commands.{Closing, closing}
+use Rattle.ckd_command.specs.Commands as commands
+use Rattle.ckd_command.specs.Drive.{State, Fault, SaveFails, left_by, lost, saving, moving_off, with_registers, is_written, Open, track_under, AfterBegin, Rejected, Immediate, Started, begin, begun, at_cylinder_zero, AfterLook, Passed, look, looked, look_for, Closed, failed, close, closed, closed_moving}
+
+never : {P : Type 0} → ◌≡◌ {A = Bool} false true → P
+never h = absurd (cc)
+
+-- a track that is left is written no more, whether it could be saved or not
+left_behind : {A : Type 0} (P : A → Type 0) (f : Option Fault) (s : State) (fails : State → A) (goes : A) → P goes → ((left : List ℕ) → P (fails (lost s left))) → P (moving_off f s fails goes)
+left_behind P f s fails goes h k = go (left_by f s.mark)
+  where
+    go : (left : Option (List ℕ)) → P (saving left s fails goes)
+    go None = h
+    go (Some left) = k left
+
+-- Begin.
+
+abbrev pub begun_state : AfterBegin → State
+begun_state (Rejected s) = s
+begun_state (Immediate s motion) = s
+begun_state (Started o) = o.state
+
+-- whether a beginning sends the arm to cylinder 0, head 0
+abbrev pub moves_arm : Beginning → Bool
+moves_arm (beginning.ToCylinderZero r o) = true
+moves_arm b = false
+
+begun_moved : (f : Option Fault) (s : State) (b : Beginning) → moves_arm b ≡ true → is_written (begun_state (begun f s b)) ≡ false
+begun_moved f s (beginning.Rejected r) h = never h
+begun_moved f s (beginning.Immediate r) h = never h
+begun_moved f s (beginning.Started r o) h = never h
+begun_moved f s (beginning.ToCylinderZero r o) h =
+    left_behind (λ b. is_written (begun_state b) ≡ false) f (with_registers s r) Rejected (at_cylinder_zero s r o) (at_zero o) (λ left. refl)
+  where
+    at_zero : (o : Option Opened) → is_written (begun_state (at_cylinder_zero s r o)) ≡ false
+    at_zero None = refl
+    at_zero (Some o) = refl
+
+pub begin_moved : (f : Option Fault) (code : ℕ) (s : State) → moves_arm (commands.beginning code s.registers) ≡ true → is_written (begun_state (begin f code s)) ≡ false
+begin_moved f code s h = begun_moved f s (commands.beginning code s.registers) h
+
+begun_stable : (s : State) (b : Beginning) (left : List ℕ) → is_written (begun_state (begun None s b)) ≡ true → begun (Some (SaveFails left)) s b ≡ begun None s b
+begun_stable s (beginning.Rejected r) left h = refl
+begun_stable s (beginning.Immediate r) left h = refl
+begun_stable s (beginning.Started r o) left h = refl
+begun_stable s (beginning.ToCylinderZero r o) left h = never (sym (begun_moved None s (beginning.ToCylinderZero r o) refl) ∙ h)
+
+pub begin_stable : (code : ℕ) (s : State) (left : List ℕ) (b : AfterBegin) → begin None code s ≡ b → is_written (begun_state b) ≡ true → begin (Some (SaveFails left)) code s ≡ b
+begin_stable code s left b e h =
+    begun_stable s (commands.beginning code s.registers) left (ap (λ b. is_written (begun_state b)) e ∙ h) ∙ e
+
+-- Look. Where the index did not pass, no track was left.
+
+abbrev pub NotPassed : AfterLook → Type 0
+NotPassed (Passed o) = ⊥
+NotPassed _ = Unit {0}
+
+looked_stable : (left : List ℕ) (o : Open) (s : Sight) → NotPassed (looked None o s) → looked (Some (SaveFails left)) o s ≡ looked None o s
+looked_stable left o (sight.Found opened) h = refl
+looked_stable left o (sight.IndexPassed r) h = refl
+looked_stable left o (sight.NextHead r) h = absurd h
+looked_stable left o (sight.Missed r) h = refl
+
+look_for_stable : (left : List ℕ) (o : Open) (a : Aim) (s : Sight) → NotPassed (look_for None o a s) → look_for (Some (SaveFails left)) o a s ≡ look_for None o a s
+look_for_stable left o (Next kind) s h = looked_stable left o s h
+look_for_stable left o NoArea s h = looked_stable left o s h
+look_for_stable left o Credited s h = looked_stable left o s h
+
+pub look_stable : (left : List ℕ) (o : Open) (l : AfterLook) → look None o ≡ l → NotPassed l → look (Some (SaveFails left)) o ≡ l
+look_stable left o l e h = look_for_stable left o (aim o.opened.command) _ (subst NotPassed (sym e) h) ∙ e
+
+-- Close.
+
+closed_moved : (f : Option Fault) (s : State) (c : Closing) (m : Bool) → m ≡ true → is_written (closed f s c m).state ≡ false
+closed_moved f s c true h = left_behind (λ c. is_written c.state ≡ false) f s failed (closed_moving s c) refl (λ left. refl)
+closed_moved f s c false h = never h
+
+pub close_moved : (f : Option Fault) (o : Open) (b : List ℕ) → (closing o.state.volume.geometry (track_under o.state) o.opened o.state.registers b).moves_off ≡ true → is_written (close f o b).state ≡ false
+close_moved f o b h = closed_moved f o.state (closing o.state.volume.geometry (track_under o.state) o.opened o.state.registers b) _ h
+
+closed_stable : (s : State) (c : Closing) (left : List ℕ) (m : Bool) → is_written (closed None s c m).state ≡ true → closed (Some (SaveFails left)) s c m ≡ closed None s c m
+closed_stable s c left true h = never (sym (closed_moved None s c true refl) ∙ h)
+closed_stable s c left false h = refl
+
+pub close_stable : (o : Open) (b left : List ℕ) (c : Closed) → close None o b ≡ c → is_written c.state ≡ true → close (Some (SaveFails left)) o b ≡ c
+close_stable o b left c e h =
+    go (closing o.state.volume.geometry (track_under o.state) o.opened o.state.registers b) (ap (λ (c : Closed). is_written c.state) e ∙ h) ∙ e
+  where
+    go : (c : Closing) → is_written (closed None o.state c c.moves_off).state ≡ true → closed (Some (SaveFails left)) o.state c c.moves_off ≡ closed None o.state c c.moves_off
+    go c h = closed_stable o.state c left c.moves_off h

@@ -1,0 +1,169 @@
+//! The commands as tables (component descriptions of the 2841 and the 2314, the sections of the commands).
+
+ghost use Rattle.std.specs.Prelude.{◌≡◌};
+ghost use Rattle.ckd_command.specs.Tables.{aim as aim_of, credited as credited_area, credit_of_search as credit_left, action_of, extent_of, is_search as searches, comparison as comparison_of, area_left as left_area, ends_with_data as tells_of_data, is_giving as gives};
+
+use crate::registers::Credit;
+use crate::steps::{Action, Aim};
+use ckd_position::{Area, Compare, Extent, Kind, Part};
+use ckd_sense::Command;
+
+/// What a command works on.
+pub fn aim(command: Command) -> Aim
+    ensures { result ≡ aim_of command }
+{
+    match command {
+        Command::SearchHomeAddressEqual | Command::ReadHomeAddress | Command::WriteHomeAddress => {
+            Aim::Next(Kind::HomeAddress)
+        }
+        Command::SearchIdEqual | Command::SearchIdHigh | Command::SearchIdEqualOrHigh => Aim::Next(
+            Kind::AnyCount,
+        ),
+        Command::SearchKeyEqual | Command::SearchKeyHigh | Command::SearchKeyEqualOrHigh =>
+            Aim::Next(Kind::Key),
+        Command::ReadIpl => Aim::Next(Kind::FirstData),
+        Command::ReadR0 => Aim::Next(Kind::FirstCount),
+        Command::ReadCount | Command::ReadCountKeyAndData => Aim::Next(Kind::LaterCount),
+        Command::ReadData => Aim::Next(Kind::Data),
+        Command::ReadKeyAndData => Aim::Next(Kind::KeyAndData),
+        Command::WriteR0
+        | Command::WriteCountKeyAndData
+        | Command::WriteData
+        | Command::WriteKeyAndData => Aim::Credited,
+        Command::NoOperation
+        | Command::Recalibrate
+        | Command::Seek
+        | Command::SeekCylinder
+        | Command::SeekHead
+        | Command::SetFileMask
+        | Command::Sense => Aim::NoArea,
+    }
+}
+
+/// What a command does with the bytes that pass.
+pub fn action(command: Command) -> Action
+    ensures { result ≡ action_of command }
+{
+    match command {
+        Command::NoOperation | Command::Recalibrate => Action::NoTransfer,
+        Command::Seek | Command::SeekCylinder => Action::SeekCylinderAndHead,
+        Command::SeekHead => Action::SeekHead,
+        Command::SetFileMask => Action::SetFileMask,
+        Command::Sense => Action::GiveSense,
+        Command::SearchHomeAddressEqual
+        | Command::SearchIdEqual
+        | Command::SearchIdHigh
+        | Command::SearchIdEqualOrHigh
+        | Command::SearchKeyEqual
+        | Command::SearchKeyHigh
+        | Command::SearchKeyEqualOrHigh => Action::Search,
+        Command::ReadIpl
+        | Command::ReadHomeAddress
+        | Command::ReadR0
+        | Command::ReadCount
+        | Command::ReadData
+        | Command::ReadKeyAndData
+        | Command::ReadCountKeyAndData => Action::Read,
+        Command::WriteHomeAddress => Action::WriteHomeAddress,
+        Command::WriteR0 | Command::WriteCountKeyAndData => Action::Format,
+        Command::WriteData | Command::WriteKeyAndData => Action::Update,
+    }
+}
+
+/// Which bytes of its area a command gives, compares or replaces.
+pub fn extent(command: Command) -> Extent
+    ensures { result ≡ extent_of command }
+{
+    match command {
+        Command::SearchHomeAddressEqual => Extent::CylinderAndHead,
+        Command::ReadHomeAddress => Extent::HomeAddress,
+        Command::SearchIdEqual | Command::SearchIdHigh | Command::SearchIdEqualOrHigh =>
+            Extent::Identifier,
+        Command::SearchKeyEqual | Command::SearchKeyHigh | Command::SearchKeyEqualOrHigh =>
+            Extent::Key,
+        Command::ReadIpl | Command::ReadData | Command::WriteData => Extent::Data,
+        Command::ReadCount => Extent::Count,
+        Command::ReadKeyAndData | Command::WriteKeyAndData => Extent::KeyAndData,
+        Command::ReadR0 | Command::ReadCountKeyAndData => Extent::CountKeyAndData,
+        _ => Extent::Nothing,
+    }
+}
+
+/// The area behind which a command with this credit makes its record, or which it writes.
+pub fn credited(command: Command, credit: Option<Credit>) -> Option<Area>
+    ensures { result ≡ credited_area command credit }
+{
+    match (command, credit) {
+        (Command::WriteR0, Some(Credit::EqualHomeAddress)) => Some(Area::HomeAddress),
+        (Command::WriteR0, Some(Credit::WroteHomeAddress)) => Some(Area::HomeAddress),
+        (Command::WriteCountKeyAndData, Some(Credit::EqualId(i))) => Some(Area::Of(Part::Data, i)),
+        (Command::WriteCountKeyAndData, Some(Credit::EqualKey(i))) => Some(Area::Of(Part::Data, i)),
+        (Command::WriteCountKeyAndData, Some(Credit::WroteRecord(i))) => Some(Area::Of(
+            Part::Data,
+            i,
+        )),
+        (Command::WriteData, Some(Credit::EqualId(i))) => Some(Area::Of(Part::Data, i)),
+        (Command::WriteData, Some(Credit::EqualKey(i))) => Some(Area::Of(Part::Data, i)),
+        (Command::WriteKeyAndData, Some(Credit::EqualId(i))) => Some(Area::Of(Part::Data, i)),
+        _ => None,
+    }
+}
+
+/// The credit that a search leaves which found its whole area equal.
+pub fn credit_of_search(command: Command, area: Option<Area>) -> Option<Credit>
+    ensures { result ≡ credit_left command area }
+{
+    match (command, area) {
+        (Command::SearchHomeAddressEqual, Some(Area::HomeAddress)) => Some(
+            Credit::EqualHomeAddress,
+        ),
+        (Command::SearchIdEqual, Some(Area::Of(_, i))) => Some(Credit::EqualId(i)),
+        (Command::SearchKeyEqual, Some(Area::Of(_, i))) => Some(Credit::EqualKey(i)),
+        _ => None,
+    }
+}
+
+/// Whether a command is a search.
+pub fn is_search(action: Action) -> bool
+    ensures { result ≡ searches action }
+{
+    matches!(action, Action::Search)
+}
+
+/// What a search asks of its area.
+pub fn comparison(command: Command) -> Compare
+    ensures { result ≡ comparison_of command }
+{
+    match command {
+        Command::SearchIdHigh | Command::SearchKeyHigh => Compare::High,
+        Command::SearchIdEqualOrHigh | Command::SearchKeyEqualOrHigh => Compare::EqualOrHigh,
+        _ => Compare::Equal,
+    }
+}
+
+/// The area at which the position is left by a command that worked on this one.
+pub fn area_left(extent: Extent, area: Area) -> Area
+    ensures { result ≡ left_area extent area }
+{
+    match (extent, area) {
+        (Extent::CountKeyAndData, Area::Of(_, i)) => Area::Of(Part::Data, i),
+        _ => area,
+    }
+}
+
+/// Whether the bytes end with a record's data.
+pub fn ends_with_data(extent: Extent) -> bool
+    ensures { result ≡ tells_of_data extent }
+{
+    matches!(
+        extent,
+        Extent::Data | Extent::KeyAndData | Extent::CountKeyAndData
+    )
+}
+
+/// Whether the drive gives the bytes.
+pub fn is_giving(action: Action) -> bool
+    ensures { result ≡ gives action }
+{
+    matches!(action, Action::GiveSense | Action::Read)
+}

@@ -1,0 +1,265 @@
+-- A failed call of the store is reported: it follows from what the definitions say of the state, and from how often the
+-- store was called.
+use Rattle.std.proofs.Common.{◌≡◌, ◌∙◌, inl, inr, ◌⊎◌, ap, sym, refl, ℕ, ◌+◌, List, [], Bool, true, false, ◌&&◌, Option, Some, None, slice_index_or, arith}
+use Rattle.ckd_command.specs.declared.registers.Registers.{Registers}
+use Rattle.ckd_command.specs.declared.registers.Mark.{Mark}
+use Rattle.ckd_command.specs.declared.registers.Mark.TheVariants.{Saved, Written, Lost}
+use Rattle.ckd_command.specs.declared.steps.Aim.{Aim}
+use Rattle.ckd_command.specs.declared.steps.Aim.TheVariants.{NoArea, Next, Credited}
+use Rattle.ckd_command.specs.declared.steps.Beginning.{Beginning}
+use Rattle.ckd_command.specs.declared.steps.Beginning.TheVariants as beginning
+use Rattle.ckd_command.specs.declared.steps.DriveEnding.{DriveEnding}
+use Rattle.ckd_command.specs.declared.steps.Sight.{Sight}
+use Rattle.ckd_command.specs.declared.steps.Sight.TheVariants as sight
+use Rattle.ckd_command.specs.Tables.{aim}
+use Rattle.ckd_command.specs.Commands.{Closing, beginning, sight, closing}
+use Rattle.ckd_command.specs.Drive.{State, Fault, LoadFails, SaveFails, Rejected, Closed, begin, begun, looked, look_for, closed, with_registers, is_written, is_written_by, number_under, track_under, tells_equipment_check, unsaved, lost, failed, closed_by}
+use Rattle.ckd_command.proofs.CommandFacts.{NotTold, BeginsSilent, SightSilent, closing_facts, beginning_silent, sight_silent, store_fault_is_told}
+use Rattle.ckd_drive.specs.declared.answers.Begun.{Begun}
+use Rattle.ckd_drive.specs.declared.answers.Begun.TheVariants as answer
+use Rattle.ckd_drive.specs.Work.{Work, Idle, Over, Looking, Passing, DriveState, CallsStore, Reports, fault_met, with_image, open_at, after_begin, after_begun, answer_of_begin, begin_saves, goes_to_cylinder_zero, after_look, after_look_of, after_sight, look_loads, look_loads_of, look_saves, look_saves_of, goes_to_next_head, failed_ending, after_end, closed_of, ending_of, end_saves, end_saves_of, after_settle, is_next}
+use Rattle.ckd_drive.proofs.Faults.{fault_none, fault_loading, fault_saving}
+use Rattle.ckd_drive.proofs.Calls.{no_more}
+
+-- The fault that a call met, by how often it called the store.
+
+-- none; or that of a saving; or that of a load
+pub data Failure (loads saves : Bool) (old new : DriveState) : Type 0 where
+  NoFailure : (same : new.image.failures ≡ old.image.failures) → Failure loads saves old new
+  SavingFailed : (left : List ℕ) (saved : saves ≡ true) (fault : fault_met old new ≡ Some (SaveFails left)) → Failure loads saves old new
+  LoadFailed : (loaded : loads ≡ true) (more : new.image.loads ≡ old.image.loads + 1) (fault : fault_met old new ≡ Some LoadFails) → Failure loads saves old new
+
+failure_of : (loads saves : Bool) (old new : DriveState) → CallsStore loads saves old new → Failure loads saves old new
+failure_of loads saves old new k = go k.failures
+  where
+    of_load : new.image.failures ≡ old.image.failures + 1 → new.image.loads ≡ old.image.loads + 1
+        → (new.image.loads ≡ old.image.loads) ⊎ ((loads ≡ true) × (saves ≡ false) × (new.image.loads ≡ old.image.loads + 1)) → Failure loads saves old new
+    of_load more loaded (inl same) = absurd (no_more old.image.loads (sym same ∙ loaded))
+    of_load more loaded (inr x) =
+        let saved = rw x.1 at k.saves in
+        LoadFailed x.0 loaded (fault_loading old new more (omega (arith, saved)))
+
+    by : new.image.failures ≡ old.image.failures + 1 → (saves ≡ true) ⊎ (new.image.loads ≡ old.image.loads + 1) → Failure loads saves old new
+    by more (inl s) = (let saved = rw s at k.saves in SavingFailed (slice_index_or new.image.slots (number_under old.state) []) s (fault_saving old new more saved))
+    by more (inr l) = of_load more l k.loads
+
+    go : (new.image.failures ≡ old.image.failures) ⊎ ((new.image.failures ≡ old.image.failures + 1) × ((saves ≡ true) ⊎ (new.image.loads ≡ old.image.loads + 1))) → Failure loads saves old new
+    go (inl same) = NoFailure same
+    go (inr x) = by x.0 x.1
+
+-- What is told.
+
+-- what is told at the end, and is not told anew, was told before
+heard : (r q : Registers) → NotTold r q → tells_equipment_check q.sense ≡ true → tells_equipment_check r.sense ≡ true
+heard r q n e = go (tells_equipment_check r.sense) refl
+  where
+    go : (b : Bool) → tells_equipment_check r.sense ≡ b → tells_equipment_check r.sense ≡ true
+    go true is = is
+    go false is = absurd (let quiet : tells_equipment_check q.sense ≡ false = n is in cc)
+
+-- a fault is told, and nothing is left to be saved
+pub record TellsFault (s : State) : Type 0 where
+  pub told : tells_equipment_check s.registers.sense ≡ true
+  pub unwritten : is_written s ≡ false
+
+reports : (so : Type 0) (old new : DriveState) (s : State) → new.state ≡ s → TellsFault s → so → (new.image.failures ≡ old.image.failures) ⊎ (so × (tells_equipment_check new.state.registers.sense ≡ true) × (is_written new.state ≡ false))
+reports so old new s is t holds = inr (holds, ap (λ (x : State). tells_equipment_check x.registers.sense) is ∙ t.told, ap (λ (x : State). is_written x) is ∙ t.unwritten)
+
+both_hold : (a b : Bool) → (a && b) ≡ true → (a ≡ true) × (b ≡ true)
+both_hold true true e = (refl, refl)
+both_hold true false e = absurd cc
+both_hold false b e = absurd cc
+
+written_mark : (m : Mark) → is_written_by m ≡ true → m ≡ Written
+written_mark Written e = refl
+written_mark Saved e = absurd cc
+written_mark Lost e = absurd cc
+
+lost_tells : (s : State) (left : List ℕ) → TellsFault (lost s left)
+lost_tells s left = record { told = store_fault_is_told (record s.registers { credit = None }); unwritten = refl }
+
+-- Begin.
+
+begun_quiet : (d : DriveState) (b : Beginning) → BeginsSilent d.state.registers b → NotTold d.state.registers (after_begun (begun None d.state b) d).state.registers
+begun_quiet d (beginning.Rejected r) k = k
+begun_quiet d (beginning.Immediate r) k = k
+begun_quiet d (beginning.Started r o) k = k
+begun_quiet d (beginning.ToCylinderZero r None) k = k
+begun_quiet d (beginning.ToCylinderZero r (Some o)) k = k
+
+pub record LosesAtBegin (f : Option Fault) (s : State) (b : Beginning) : Type 0 where
+  pub state : State
+  pub rejected : begun f s b ≡ Rejected state
+  pub tells : TellsFault state
+
+loses_at_begin : (s : State) (b : Beginning) (left : List ℕ) → is_written s ≡ true → goes_to_cylinder_zero b ≡ true → LosesAtBegin (Some (SaveFails left)) s b
+loses_at_begin s (beginning.ToCylinderZero r o) left w e =
+    let written : s.mark ≡ Written = written_mark s.mark w in
+    record { state = lost (with_registers s r) left; rejected = rw written refl; tells = lost_tells (with_registers s r) left }
+loses_at_begin s (beginning.Rejected r) left w e = absurd cc
+loses_at_begin s (beginning.Immediate r) left w e = absurd cc
+loses_at_begin s (beginning.Started r o) left w e = absurd cc
+
+pub begin_reports : (old new : DriveState) (code : ℕ) (a : Begun)
+    → new ≡ with_image (after_begin (fault_met old new) code old) new.image → a ≡ answer_of_begin (begin (fault_met old new) code old.state) → CallsStore false (begin_saves code old) old new
+    → Reports (a ≡ answer.Rejected) old new
+begin_reports old new code a state says k = record { failed = go (failure_of false (begin_saves code old) old new k); good = quiet }
+  where
+    quiet : new.image.failures ≡ old.image.failures → tells_equipment_check new.state.registers.sense ≡ true → tells_equipment_check old.state.registers.sense ≡ true
+    quiet same told =
+        let none : fault_met old new ≡ None = fault_none old new same in
+        let is : new.state ≡ (after_begin None code old).state = ap (λ (d : DriveState). d.state) state ∙ rw none refl in
+        heard old.state.registers (after_begin None code old).state.registers (begun_quiet old (beginning code old.state.registers) (beginning_silent code old.state.registers))
+        (sym (ap (λ (x : State). tells_equipment_check x.registers.sense) is) ∙ told)
+
+    go : Failure false (begin_saves code old) old new → (new.image.failures ≡ old.image.failures) ⊎ ((a ≡ answer.Rejected) × (tells_equipment_check new.state.registers.sense ≡ true) × (is_written new.state ≡ false))
+    go (NoFailure same) = inl same
+    go (SavingFailed left saved fault) =
+        let b = both_hold (is_written old.state) (goes_to_cylinder_zero (beginning code old.state.registers)) saved in
+        let x = loses_at_begin old.state (beginning code old.state.registers) left b.0 b.1 in
+        let is : new.state ≡ x.state = ap (λ (d : DriveState). d.state) state ∙ rw (fault, x.rejected) refl in
+        reports (a ≡ answer.Rejected) old new x.state is x.tells (says ∙ rw (fault, x.rejected) refl)
+    go (LoadFailed loaded more fault) = absurd cc
+
+-- Look.
+
+look_quiet : (d : DriveState) (w : Work) → NotTold d.state.registers (after_look_of None d w).state.registers
+look_quiet d Idle = λ e. e
+look_quiet d (Over k) = λ e. e
+look_quiet d (Passing o b left) = λ e. e
+look_quiet d (Looking o) = go (aim o.command) _ (sight_silent d.state.volume.geometry (track_under d.state) o d.state.registers)
+  where
+    at : (s : Sight) → SightSilent d.state.registers s → NotTold d.state.registers (after_sight (looked None (open_at d o) s) d).state.registers
+    at (sight.Found opened) k = λ e. e
+    at (sight.IndexPassed r) k = k
+    at (sight.NextHead r) k = k
+    at (sight.Missed r) k = k
+
+    go : (a : Aim) (s : Sight) → SightSilent d.state.registers s → NotTold d.state.registers (after_sight (look_for None (open_at d o) a s) d).state.registers
+    go (Next kind) s k = at s k
+    go NoArea s k = at s k
+    go Credited s k = at s k
+
+pub record FailsAtLook (f : Option Fault) (d : DriveState) (w : Work) : Type 0 where
+  pub work : (after_look_of f d w).work ≡ Over failed_ending
+  pub tells : TellsFault (after_look_of f d w).state
+
+loses_at_look : (d : DriveState) (w : Work) (left : List ℕ) → look_saves_of d w ≡ true → FailsAtLook (Some (SaveFails left)) d w
+loses_at_look d Idle left e = absurd cc
+loses_at_look d (Over k) left e = absurd cc
+loses_at_look d (Passing o b l) left e = absurd cc
+loses_at_look d (Looking o) left e = (let x = go (aim o.command) _ both.1 in record { work = x.0; tells = x.1 })
+  where
+    both : (is_written d.state ≡ true) × (goes_to_next_head (sight d.state.volume.geometry (track_under d.state) o d.state.registers) ≡ true)
+    both = both_hold (is_written d.state) _ e
+
+    at : (s : Sight) → goes_to_next_head s ≡ true → ((after_sight (looked (Some (SaveFails left)) (open_at d o) s) d).work ≡ Over failed_ending) × TellsFault (after_sight (looked (Some (SaveFails left)) (open_at d o) s) d).state
+    at (sight.NextHead r) h = (let written : d.state.mark ≡ Written = written_mark d.state.mark both.0 in rw written (refl, lost_tells d.state left))
+    at (sight.Found opened) h = absurd cc
+    at (sight.IndexPassed r) h = absurd cc
+    at (sight.Missed r) h = absurd cc
+
+    go : (a : Aim) (s : Sight) → goes_to_next_head s ≡ true
+        → ((after_sight (look_for (Some (SaveFails left)) (open_at d o) a s) d).work ≡ Over failed_ending) × TellsFault (after_sight (look_for (Some (SaveFails left)) (open_at d o) a s) d).state
+    go (Next kind) s h = at s h
+    go NoArea s h = at s h
+    go Credited s h = at s h
+
+loads_at_look : (d : DriveState) (w : Work) → look_loads_of w ≡ true → is_written d.state ≡ false → FailsAtLook (Some LoadFails) d w
+loads_at_look d Idle e unwritten = absurd cc
+loads_at_look d (Over k) e unwritten = absurd cc
+loads_at_look d (Passing o b l) e unwritten = absurd cc
+loads_at_look d (Looking o) e unwritten = (let x = go (aim o.command) _ e in record { work = x.0; tells = x.1 })
+  where
+    go : (a : Aim) (s : Sight) → is_next a ≡ true → ((after_sight (look_for (Some LoadFails) (open_at d o) a s) d).work ≡ Over failed_ending) × TellsFault (after_sight (look_for (Some LoadFails) (open_at d o) a s) d).state
+    go (Next kind) s h = (refl, record { told = store_fault_is_told d.state.registers; unwritten = unwritten })
+    go NoArea s h = absurd cc
+    go Credited s h = absurd cc
+
+pub look_reports : (old new : DriveState)
+    → new ≡ with_image (after_look (fault_met old new) old) new.image → CallsStore (look_loads old) (look_saves old) old new → (new.image.loads ≡ old.image.loads + 1 → is_written old.state ≡ false)
+    → Reports (new.work ≡ Over failed_ending) old new
+look_reports old new state k at_hand = record { failed = go (failure_of (look_loads old) (look_saves old) old new k); good = quiet }
+  where
+    quiet : new.image.failures ≡ old.image.failures → tells_equipment_check new.state.registers.sense ≡ true → tells_equipment_check old.state.registers.sense ≡ true
+    quiet same told =
+        let none : fault_met old new ≡ None = fault_none old new same in
+        let is : new.state ≡ (after_look None old).state = ap (λ (d : DriveState). d.state) state ∙ rw none refl in
+        heard old.state.registers (after_look None old).state.registers (look_quiet old old.work) (sym (ap (λ (x : State). tells_equipment_check x.registers.sense) is) ∙ told)
+
+    fails : (f : Option Fault) → fault_met old new ≡ f → FailsAtLook f old old.work
+        → (new.image.failures ≡ old.image.failures) ⊎ ((new.work ≡ Over failed_ending) × (tells_equipment_check new.state.registers.sense ≡ true) × (is_written new.state ≡ false))
+    fails f fault x =
+        let is : new.state ≡ (after_look f old).state = ap (λ (d : DriveState). d.state) state ∙ rw fault refl in
+        let over : new.work ≡ Over failed_ending = ap (λ (d : DriveState). d.work) state ∙ rw fault x.work in
+        reports (new.work ≡ Over failed_ending) old new (after_look f old).state is x.tells over
+
+    go : Failure (look_loads old) (look_saves old) old new → (new.image.failures ≡ old.image.failures) ⊎ ((new.work ≡ Over failed_ending) × (tells_equipment_check new.state.registers.sense ≡ true) × (is_written new.state ≡ false))
+    go (NoFailure same) = inl same
+    go (SavingFailed left saved fault) = fails (Some (SaveFails left)) fault (loses_at_look old old.work left saved)
+    go (LoadFailed loaded more fault) = fails (Some LoadFails) fault (loads_at_look old old.work loaded (at_hand more))
+
+-- End.
+
+end_quiet : (d : DriveState) (w : Work) → NotTold d.state.registers (closed_of None d w).state.registers
+end_quiet d Idle = λ e. e
+end_quiet d (Over k) = λ e. e
+end_quiet d (Looking o) = λ e. e
+end_quiet d (Passing o b left) = go (closing d.state.volume.geometry (track_under d.state) o d.state.registers b) _ (closing_facts _ _ _ _ b).not_told
+  where
+    go : (c : Closing) (moves_off : Bool) → NotTold d.state.registers c.registers → NotTold d.state.registers (closed None d.state c moves_off).state.registers
+    go c true k = k
+    go c false k = k
+
+loses_at_end : (d : DriveState) (w : Work) (left : List ℕ) → end_saves_of d w ≡ true → closed_of (Some (SaveFails left)) d w ≡ failed (lost d.state left)
+loses_at_end d Idle left e = absurd cc
+loses_at_end d (Over k) left e = absurd cc
+loses_at_end d (Looking o) left e = absurd cc
+loses_at_end d (Passing o b l) left e = go (closing d.state.volume.geometry (track_under d.state) o d.state.registers b) e
+  where
+    go : (c : Closing) → (is_written d.state && c.moves_off) ≡ true → closed_by (Some (SaveFails left)) d.state c ≡ failed (lost d.state left)
+    go c h =
+        let both = both_hold (is_written d.state) c.moves_off h in
+        let written : d.state.mark ≡ Written = written_mark d.state.mark both.0 in
+        rw (both.1, written) refl
+
+pub end_reports : (old new : DriveState) (e : DriveEnding)
+    → new ≡ with_image (after_end (fault_met old new) old) new.image → e ≡ ending_of (closed_of (fault_met old new) old old.work) → CallsStore false (end_saves old) old new
+    → Reports (e ≡ failed_ending) old new
+end_reports old new e state says k = record { failed = go (failure_of false (end_saves old) old new k); good = quiet }
+  where
+    quiet : new.image.failures ≡ old.image.failures → tells_equipment_check new.state.registers.sense ≡ true → tells_equipment_check old.state.registers.sense ≡ true
+    quiet same told =
+        let none : fault_met old new ≡ None = fault_none old new same in
+        let is : new.state ≡ (after_end None old).state = ap (λ (d : DriveState). d.state) state ∙ rw none refl in
+        heard old.state.registers (after_end None old).state.registers (end_quiet old old.work) (sym (ap (λ (x : State). tells_equipment_check x.registers.sense) is) ∙ told)
+
+    go : Failure false (end_saves old) old new → (new.image.failures ≡ old.image.failures) ⊎ ((e ≡ failed_ending) × (tells_equipment_check new.state.registers.sense ≡ true) × (is_written new.state ≡ false))
+    go (NoFailure same) = inl same
+    go (SavingFailed left saved fault) =
+        let x = loses_at_end old old.work left saved in
+        let is : new.state ≡ lost old.state left = ap (λ (d : DriveState). d.state) state ∙ rw fault (ap (λ (y : Closed). y.state) x) in
+        reports (e ≡ failed_ending) old new (lost old.state left) is (lost_tells old.state left) (says ∙ rw fault (ap (λ (y : Closed). ending_of y) x))
+    go (LoadFailed loaded more fault) = absurd cc
+
+-- Settle.
+
+pub settle_reports : (old new : DriveState)
+    → new ≡ with_image (after_settle (fault_met old new) old) new.image → CallsStore false (is_written old.state) old new
+    → Reports (unsaved new.state ≡ Some (old.state.registers.cylinder, old.state.registers.head)) old new
+settle_reports old new state k = record { failed = go (failure_of false (is_written old.state) old new k); good = quiet }
+  where
+    quiet : new.image.failures ≡ old.image.failures → tells_equipment_check new.state.registers.sense ≡ true → tells_equipment_check old.state.registers.sense ≡ true
+    quiet same told =
+        let none : fault_met old new ≡ None = fault_none old new same in
+        let is : new.state ≡ (after_settle None old).state = ap (λ (d : DriveState). d.state) state ∙ rw none refl in
+        sym (ap (λ (x : State). tells_equipment_check x.registers.sense) is) ∙ told
+
+    go : Failure false (is_written old.state) old new
+        → (new.image.failures ≡ old.image.failures) ⊎ ((unsaved new.state ≡ Some (old.state.registers.cylinder, old.state.registers.head)) × (tells_equipment_check new.state.registers.sense ≡ true) × (is_written new.state ≡ false))
+    go (NoFailure same) = inl same
+    go (SavingFailed left saved fault) =
+        let written : old.state.mark ≡ Written = written_mark old.state.mark saved in
+        let is : new.state ≡ lost old.state left = ap (λ (d : DriveState). d.state) state ∙ rw (fault, written) refl in
+        reports _ old new (lost old.state left) is (lost_tells old.state left) (ap (λ (x : State). unsaved x) is)
+    go (LoadFailed loaded more fault) = absurd cc

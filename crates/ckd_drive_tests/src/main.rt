@@ -1,0 +1,33 @@
+//! Rows of commands at a drive, with what each must come to by the component descriptions of the 2841 and the 2314: bytes,
+//! unit statuses, index passes, sense bytes, and what the file of the volume holds then.
+//!
+//! The input has blocks, with an empty line between. A block that begins with `volume` says what the volumes of the rows
+//! behind it hold. Each other block is a row: a name, and a line for each call of the drive. A row is played with its bytes
+//! in pieces of several sizes, and with each call of its store failing in turn; its name is printed, with how many calls
+//! came to what they must.
+#![tactic(auto)]
+
+mod calls;
+mod outcome;
+mod pieces;
+mod row;
+mod store;
+mod volume;
+mod words;
+
+use anyhow::Result;
+use std::io;
+
+fn main(rt: HostRuntime) -> Result<()> {
+    let text = io::read_to_string(rt.alloc(), rt.reader())?;
+    let mut volume = "";
+    for block in text.as_str().split("\n\n") {
+        if block.starts_with("volume ") {
+            volume = block;
+            continue;
+        }
+        let played = outcome::play(rt.alloc(), volume, block)?;
+        println!(rt; "{}: {played}", words::name_of(block))?;
+    }
+    Ok(())
+}

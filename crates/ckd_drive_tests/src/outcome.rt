@@ -1,0 +1,185 @@
+//! What comes of a row.
+
+ghost use Rattle.std.specs.Prelude.{◌≤◌};
+
+use crate::calls::{self, RecordedDrive, new_drive, store_of};
+use crate::row::{Played, play_calls};
+use crate::store::{Calls, Failure, RowStore};
+use crate::volume::{volume_left, volume_of};
+use crate::words::{number, words_of};
+use anyhow::{Context, Result, bail};
+use ckd_drive::answers::Phase;
+use std::alloc::Global;
+use std::fmt;
+
+/// What comes of a row.
+#[derive(Clone, Copy, Debug, PartialEq, Eq)]
+pub(crate) enum Outcome {
+    /// Each of its calls comes to what it must.
+    AsItMust(usize),
+    /// After so many calls one does not, in pieces of a size.
+    Otherwise(usize, usize),
+    /// What it leaves is not what it must.
+    LeavesOther,
+    /// A call of the store that failed is not reported.
+    NotReported(u32),
+}
+
+impl fmt::Display for Outcome {
+    fn fmt<W: fmt::Write>(&self, f: &mut fmt::Formatter<W>) -> fmt::Result {
+        match self {
+            Outcome::AsItMust(calls) => write!(f, "{calls} calls"),
+            Outcome::Otherwise(calls, piece) => {
+                write!(f, "OTHERWISE after {calls} calls, in pieces of {piece}")
+            }
+            Outcome::LeavesOther => f.write_str("LEAVES OTHER bytes, or another count of calls"),
+            Outcome::NotReported(at) => write!(f, "NOT REPORTED: call {at} of the store"),
+        }
+    }
+}
+
+const PIECES: [usize; 4] = [1, 2, 7, 100];
+
+const NONE_FAILS: Failure = Failure {
+    at: 0,
+    for_good: false,
+};
+
+// Which call of the store fails in the row, as a line says: `failing 3 once`, or `failing 3 on`, which is each later one too.
+fn failure_of(alloc: Global, row: &str) -> Result<Failure> {
+    for line in row.lines() {
+        match words_of(alloc, line)?.as_slice() {
+            ["failing", at, "once"] => {
+                return Ok(Failure {
+                    at: at.parse::<u32>()?,
+                    for_good: false,
+                });
+            }
+            ["failing", at, "on"] => {
+                return Ok(Failure {
+                    at: at.parse::<u32>()?,
+                    for_good: true,
+                });
+            }
+            _ => {}
+        }
+    }
+    Ok(NONE_FAILS)
+}
+
+// Whether the store was called as a line of the row says: `reads 2 512 4096`, that is how often, and where and how long the
+// last one was.
+fn was_called(alloc: Global, line: &str, store: &RowStore) -> Result<bool> {
+    Ok(match words_of(alloc, line)?.as_slice() {
+        ["reads", count, at, len] => store.reads() == calls_of(count, at, len)?,
+        ["writes", count, at, len] => store.writes() == calls_of(count, at, len)?,
+        _ => true,
+    })
+}
+
+fn calls_of(count: &str, at: &str, len: &str) -> Result<Calls> {
+    Ok(Calls {
+        count: number(count)?,
+        at: number(at)? as u64,
+        len: number(len)?,
+    })
+}
+
+// Whether the row leaves what it must.
+fn leaves(alloc: Global, volume: &str, row: &str, store: RowStore) -> Result<bool> {
+    for line in row.lines() {
+        if !was_called(alloc, line, &store)? {
+            return Ok(false);
+        }
+    }
+    if !row.contains("\nleft ") {
+        return Ok(true);
+    }
+    let left = volume_left(alloc, volume, row)?;
+    Ok(store.into_inner().into_inner().bytes() == left.bytes())
+}
+
+// Plays a row, its bytes in pieces of a size.
+fn play_in_pieces(
+    alloc: Global,
+    volume: &str,
+    row: &str,
+    piece: usize,
+    failure: Failure,
+) -> Result<Outcome>
+    requires { 1 ≤ piece }
+{
+    let mut drive = new_drive(alloc, volume_of(alloc, volume, row)?, failure)?;
+    let played = play_calls(alloc, &mut drive, row, piece)?;
+    if !played.all {
+        return Ok(Outcome::Otherwise(played.calls, piece));
+    }
+    calls::settle(&mut drive);
+    let store = store_of(drive).context("a command is open")?;
+    if leaves(alloc, volume, row, store)? {
+        Ok(Outcome::AsItMust(played.calls))
+    } else {
+        Ok(Outcome::LeavesOther)
+    }
+}
+
+// What is told of a call of the store that fails.
+#[derive(Clone, Copy, Debug, PartialEq, Eq)]
+enum Report {
+    // There is no such call.
+    NoCall,
+    // The command in which it fails is over, or not begun, and the sense bytes have equipment check.
+    Told,
+    // All calls come to what they must, or another thing is told.
+    Silent,
+}
+
+// Plays a row of whose store a call fails.
+fn report_of(alloc: Global, volume: &str, row: &str, failure: Failure) -> Result<Report> {
+    let mut drive = new_drive(alloc, volume_of(alloc, volume, row)?, failure)?;
+    let played = play_calls(alloc, &mut drive, row, 100)?;
+    let is_over = matches!(drive.phase(), Phase::Idle | Phase::Over);
+    let settles = calls::settle(&mut drive) == Some(true);
+    let told = drive.sense()[0] & 0x10 != 0;
+    let store = store_of(drive).context("a command is open")?;
+    if store.into_inner().calls() < failure.at as u64 {
+        return Ok(Report::NoCall);
+    }
+    if told && is_over && !(played.all && settles) {
+        return Ok(Report::Told);
+    }
+    Ok(Report::Silent)
+}
+
+// Plays a row with each call of its store failing, once and for good, and answers the first that is not told.
+fn not_told(alloc: Global, volume: &str, row: &str) -> Result<Option<u32>> {
+    // the first call reads the header, as the image is mounted
+    for at in 2..100 {
+        for for_good in [false, true] {
+            match report_of(alloc, volume, row, Failure { at, for_good })? {
+                Report::NoCall => return Ok(None),
+                Report::Told => {}
+                Report::Silent => return Ok(Some(at)),
+            }
+        }
+    }
+    bail!("more calls than are tried")
+}
+
+/// Plays a row: its bytes in pieces of several sizes, and then with each call of its store failing.
+pub(crate) fn play(alloc: Global, volume: &str, row: &str) -> Result<Outcome> {
+    let failure = failure_of(alloc, row)?;
+    let mut outcome = Outcome::LeavesOther;
+    for piece in PIECES {
+        outcome = play_in_pieces(alloc, volume, row, piece, failure)?;
+        let Outcome::AsItMust(_) = outcome else {
+            return Ok(outcome);
+        };
+    }
+    if failure.at == 0 {
+        if let Some(at) = not_told(alloc, volume, row)? {
+            return Ok(Outcome::NotReported(at));
+        }
+    }
+    Ok(outcome)
+}

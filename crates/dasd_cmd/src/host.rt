@@ -1,0 +1,61 @@
+//! Files of the host.
+
+ghost use Rattle.std.specs.Prelude.{◌≡◌, ◌+◌};
+
+use dasd_jobs::{FileFault, ImageFiles};
+use ghost_data::Count;
+use std::alloc::Global;
+use std::io::ErrorKind;
+use std::{fs, io};
+
+/// The files of the host. A file is replaced by one beside it, which is written whole and then takes its name, so that a
+/// fault in the middle leaves the file as it was.
+#[derive(Drop)]
+pub struct HostFiles<'a> {
+    host: &'a HostRuntime,
+    replaced: Count,
+}
+
+impl<'a> HostFiles<'a> {
+    pub fn new(host: &'a HostRuntime) -> HostFiles<'a> {
+        HostFiles {
+            host,
+            replaced: Count::new(),
+        }
+    }
+}
+
+impl ImageFiles for HostFiles<'_> {
+    ghost replacements = { λ f. f.replaced };
+
+    fn read(&mut self, _alloc: Global, path: &str) -> Result<Vec<u8>, FileFault> {
+        fs::read(self.host, path).map_err(|fault| told(&fault))
+    }
+
+    fn replace(&mut self, alloc: Global, path: &str, bytes: &[u8]) -> Result<(), FileFault> {
+        self.replaced = self.replaced.next();
+        let beside = format!(in alloc; "{path}.new").map_err(|_| FileFault::OutOfMemory)?;
+        write_and_rename(self.host, beside.as_str(), path, bytes).map_err(|fault| told(&fault))
+    }
+}
+
+// Writes a file whole, and gives it the name of another; where that fails, it is removed.
+fn write_and_rename(host: &HostRuntime, beside: &str, path: &str, bytes: &[u8]) -> io::Result<()> {
+    let done = match fs::write(host, beside, bytes) {
+        Ok(()) => fs::rename(host, beside, path),
+        Err(fault) => Err(fault),
+    };
+    if done.is_err() {
+        let _ = fs::remove_file(host, beside);
+    }
+    done
+}
+
+// What a fault of the host is to the program.
+fn told(fault: &io::Error) -> FileFault {
+    if fault.kind() == ErrorKind::OutOfMemory {
+        FileFault::OutOfMemory
+    } else {
+        FileFault::Refused
+    }
+}

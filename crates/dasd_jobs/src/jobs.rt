@@ -1,0 +1,71 @@
+//! Formatting, listing and checking.
+
+ghost use Rattle.std.specs.Prelude.{◌≡◌};
+
+use crate::faults::{JobFault, of_volume, of_write};
+use crate::files::ImageFiles;
+use crate::mounting::{new_image, read_image};
+use ckd_track::DriveModel;
+use std::alloc::Global;
+use std::io::Write;
+
+/// Writes a new image to a path, in the place of what the file held, and prints what was formatted.
+///
+/// # Errors
+///
+/// No memory for the image; the file can't be written, which then holds what it held; or the line can't be written.
+pub fn format_file<F: ImageFiles, W: Write>(
+    alloc: Global,
+    files: &mut F,
+    writer: &mut W,
+    path: &str,
+    model: DriveModel,
+    cylinders: u16,
+) -> Result<(), JobFault> {
+    let store = new_image(alloc, model, cylinders)?.into_store();
+    files
+        .replace(alloc, path, store.bytes())
+        .map_err(|fault| of_write(fault))?;
+    let number = match model {
+        DriveModel::D2311 => 2311,
+        DriveModel::D2314 => 2314,
+    };
+    writeln!(writer, "formatted {number} {cylinders} cylinders").map_err(|_| JobFault::Write)?;
+    writer.flush().map_err(|_| JobFault::Write)
+}
+
+/// Prints the volume of the image that these files hold, in their order. No file is written.
+///
+/// # Errors
+///
+/// The first file that can't be read, or why the files hold no image, before a line is printed; or what stopped the
+/// listing, behind the lines that are printed.
+pub fn list_files<F: ImageFiles, W: Write>(
+    alloc: Global,
+    files: &mut F,
+    writer: &mut W,
+    paths: &[&str],
+) -> Result<(), JobFault>
+    ensures { F.replacements files.new ≡ F.replacements files.old }
+{
+    let mut image = read_image(alloc, files, paths)?;
+    dasd_volumes::list(alloc, &mut image, writer).map_err(|fault| of_volume(fault))
+}
+
+/// Prints the tracks of the image that these files hold which can't be read, and answers how many there are. No file is
+/// written.
+///
+/// # Errors
+///
+/// As `list_files`.
+pub fn check_files<F: ImageFiles, W: Write>(
+    alloc: Global,
+    files: &mut F,
+    writer: &mut W,
+    paths: &[&str],
+) -> Result<u32, JobFault>
+    ensures { F.replacements files.new ≡ F.replacements files.old }
+{
+    let mut image = read_image(alloc, files, paths)?;
+    dasd_volumes::check(alloc, &mut image, writer).map_err(|fault| of_volume(fault))
+}

@@ -1,0 +1,56 @@
+//! Readers and writers that fail.
+
+use std::alloc::Global;
+use std::io::{Error, ErrorKind, Read, Write};
+
+/// A deck, and whether the read behind it fails.
+#[derive(Debug, Drop)]
+pub(crate) struct DeckReader<'a> {
+    pub rest: &'a [u8],
+    pub fails: bool,
+}
+
+impl Read for DeckReader<'_> {
+    fn read(&mut self, into: &mut [u8]) -> std::io::Result<usize> {
+        if self.rest.is_empty() && self.fails {
+            return Err(Error::from(ErrorKind::Other));
+        }
+        let count = self.rest.len().min(into.len());
+        into[..count].copy_from_slice(&self.rest[..count]);
+        self.rest = &self.rest[count..];
+        Ok(count)
+    }
+}
+
+/// What was printed; and how many bytes may be, where a write behind them fails.
+#[derive(Debug, Drop)]
+pub(crate) struct LineWriter {
+    pub printed: Vec<u8>,
+    pub room: Option<usize>,
+}
+
+impl LineWriter {
+    pub fn new(alloc: Global, room: Option<usize>) -> LineWriter {
+        LineWriter {
+            printed: Vec::new(alloc),
+            room,
+        }
+    }
+}
+
+impl Write for LineWriter {
+    fn write(&mut self, bytes: &[u8]) -> std::io::Result<usize> {
+        let count = match self.room {
+            None => bytes.len(),
+            Some(room) => room.saturating_sub(self.printed.len()).min(bytes.len()),
+        };
+        match self.printed.extend_from_slice(&bytes[..count]) {
+            Ok(()) => Ok(count),
+            Err(_) => Err(Error::from(ErrorKind::OutOfMemory)),
+        }
+    }
+
+    fn flush(&mut self) -> std::io::Result<()> {
+        Ok(())
+    }
+}

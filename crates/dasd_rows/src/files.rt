@@ -1,0 +1,131 @@
+//! Files in memory.
+
+ghost use Rattle.std.specs.Prelude.{◌≡◌, ◌+◌};
+
+use anyhow::{Context, Result, bail};
+use ckd_image::{Image, MemoryStore, image_len};
+use ckd_track::DriveModel;
+use dasd_jobs::{FileFault, ImageFiles};
+use ghost_data::Count;
+use std::alloc::Global;
+
+#[derive(Debug, Drop)]
+struct File {
+    name: String,
+    bytes: Vec<u8>,
+}
+
+/// Files in memory. One whose name begins with `locked` can't be replaced.
+#[derive(Drop)]
+pub(crate) struct MemoryFiles {
+    list: Vec<File>,
+    /// The names of the files that were replaced since the last command, each with a space behind it.
+    pub replaced: String,
+    count: Count,
+}
+
+impl MemoryFiles {
+    pub fn new(alloc: Global) -> MemoryFiles {
+        MemoryFiles {
+            list: Vec::new(alloc),
+            replaced: String::new(alloc),
+            count: Count::new(),
+        }
+    }
+
+    /// The bytes of a file, if it is there.
+    pub fn bytes(&self, name: &str) -> Option<&[u8]> {
+        let file = self.list.iter().find(|file| file.name.as_str() == name)?;
+        Some(file.bytes.as_slice())
+    }
+
+    /// Makes a file, or puts these bytes in the place of all that it held.
+    pub fn put(&mut self, alloc: Global, name: &str, bytes: &[u8]) -> Result<()> {
+        put(&mut self.list, alloc, name, bytes)
+    }
+
+    /// Makes a file with a new volume.
+    pub fn put_volume(
+        &mut self,
+        alloc: Global,
+        name: &str,
+        model: &str,
+        cylinders: u16,
+    ) -> Result<()> {
+        let model = match model {
+            "2311" => DriveModel::D2311,
+            "2314" => DriveModel::D2314,
+            _ => bail!("no such model: {model}"),
+        };
+        let store = MemoryStore::zeros(alloc, image_len(model, cylinders))?;
+        match Image::format(store, model, cylinders) {
+            Ok(image) => self.put(alloc, name, image.into_store().bytes()),
+            Err((fault, _)) => bail!("{fault}"),
+        }
+    }
+
+    /// Puts bytes over those of a file from a place on.
+    pub fn patch(&mut self, alloc: Global, name: &str, at: usize, bytes: &[u8]) -> Result<()> {
+        let mut held = Vec::from_slice(alloc, self.bytes(name).context("no such file")?)?;
+        for (place, byte) in held.iter_mut().skip(at).zip(bytes) {
+            *place = *byte;
+        }
+        self.put(alloc, name, held.as_slice())
+    }
+
+    /// Takes the last bytes of a file away.
+    pub fn cut(&mut self, alloc: Global, name: &str, left: usize) -> Result<()> {
+        let held = self.bytes(name).context("no such file")?;
+        let held = Vec::from_slice(alloc, held.get(..left).context("too short")?)?;
+        self.put(alloc, name, held.as_slice())
+    }
+}
+
+impl ImageFiles for MemoryFiles {
+    ghost replacements = { λ f. f.count };
+
+    fn read(&mut self, alloc: Global, path: &str) -> Result<Vec<u8>, FileFault> {
+        match self.bytes(path) {
+            Some(bytes) => Vec::from_slice(alloc, bytes).map_err(|_| FileFault::OutOfMemory),
+            None => Err(FileFault::Refused),
+        }
+    }
+
+    fn replace(&mut self, alloc: Global, path: &str, bytes: &[u8]) -> Result<(), FileFault> {
+        self.count = self.count.next();
+        if path.starts_with("locked") {
+            return Err(FileFault::Refused);
+        }
+        match note(&mut self.list, &mut self.replaced, alloc, path, bytes) {
+            Ok(()) => Ok(()),
+            Err(_) => Err(FileFault::OutOfMemory),
+        }
+    }
+}
+
+// Makes a file of a list, or puts these bytes in the place of all that it held.
+fn put(list: &mut Vec<File>, alloc: Global, name: &str, bytes: &[u8]) -> Result<()> {
+    let bytes = Vec::from_slice(alloc, bytes)?;
+    for file in list.iter_mut() {
+        if file.name.as_str() == name {
+            file.bytes = bytes;
+            return Ok(());
+        }
+    }
+    let name = name.to_string(alloc)?;
+    list.push(File { name, bytes })?;
+    Ok(())
+}
+
+// Puts a file into a list, and its name into those that were replaced.
+fn note(
+    list: &mut Vec<File>,
+    replaced: &mut String,
+    alloc: Global,
+    path: &str,
+    bytes: &[u8],
+) -> Result<()> {
+    replaced.push_str(path)?;
+    replaced.push(' ')?;
+    put(list, alloc, path, bytes)
+}

@@ -1,0 +1,177 @@
+//! A row is played.
+
+use crate::ends::{DeckReader, LineWriter};
+use crate::files::MemoryFiles;
+use crate::words::{bytes, number};
+use anyhow::{Context, Result, bail};
+use dasd_run::{Ending, ProgramFault, obey};
+use std::alloc::Global;
+
+/// What comes of a row.
+#[derive(Debug, Drop)]
+pub(crate) enum Outcome<'a> {
+    /// Each of its commands comes to what it must.
+    AsItMust(usize),
+    /// This line is not as it must be.
+    Otherwise(&'a str),
+}
+
+/// What is there between the lines of a row.
+#[derive(Drop)]
+struct Stage {
+    files: MemoryFiles,
+    deck: Vec<u8>,
+    deck_fails: bool,
+    room: Option<usize>,
+    /// What the last command printed and is not yet looked at.
+    printed: String,
+    /// What it told on standard error, and the status.
+    told: String,
+    status: u8,
+    commands: usize,
+}
+
+/// Plays a row.
+pub(crate) fn play<'a>(alloc: Global, lines: &'a str) -> Result<Outcome<'a>> {
+    let mut stage = Stage {
+        files: MemoryFiles::new(alloc),
+        deck: Vec::new(alloc),
+        deck_fails: false,
+        room: None,
+        printed: String::new(alloc),
+        told: String::new(alloc),
+        status: 0,
+        commands: 0,
+    };
+    for line in lines.lines() {
+        if !play_line(alloc, &mut stage, line)? {
+            return Ok(Outcome::Otherwise(line));
+        }
+    }
+    if !stage.printed.is_empty() || !stage.told.is_empty() {
+        return Ok(Outcome::Otherwise("the end"));
+    }
+    Ok(Outcome::AsItMust(stage.commands))
+}
+
+// One line of a row; false where what came is not what it says.
+fn play_line(alloc: Global, stage: &mut Stage, line: &str) -> Result<bool> {
+    let (word, rest) = line.split_once(' ').unwrap_or((line, ""));
+    match word {
+        ">" => {
+            stage.deck.extend_from_slice(rest.as_bytes())?;
+            stage.deck.push(b'\n')?;
+        }
+        ">bytes" => stage
+            .deck
+            .extend_from_slice(bytes(alloc, rest)?.as_slice())?,
+        "reader" => stage.deck_fails = true,
+        "writer" => stage.room = Some(number(rest)?),
+        "dasd" => return command(alloc, stage, line),
+        "<" => return Ok(prints(alloc, stage, rest)?),
+        "!" => return tells(alloc, stage, rest),
+        "usage" => return Ok(is_usage(alloc, stage)?),
+        "status" => return Ok(stage.status as usize == number(rest)?),
+        "replaced" => return Ok(stage.files.replaced.as_str().trim_end() == rest),
+        _ => return file_line(alloc, stage, word, rest),
+    }
+    Ok(true)
+}
+
+// Does what words ask; false where the command before it left something unsaid.
+fn command(alloc: Global, stage: &mut Stage, line: &str) -> Result<bool> {
+    if !stage.printed.is_empty() || !stage.told.is_empty() {
+        return Ok(false);
+    }
+    let words: Vec<&str> = line.split(' ').collect(alloc)?;
+    let mut reader = DeckReader {
+        rest: stage.deck.as_slice(),
+        fails: stage.deck_fails,
+    };
+    let mut writer = LineWriter::new(alloc, stage.room);
+    stage.files.replaced.clear();
+    let ending = obey(
+        alloc,
+        words.as_slice(),
+        &mut stage.files,
+        &mut reader,
+        &mut writer,
+    );
+    let (status, told) = match ending {
+        Ok(Ending::Done) => (0, String::new(alloc)),
+        Ok(Ending::Findings) => (1, String::new(alloc)),
+        Err(ProgramFault::Words(text)) => (2, text),
+        Err(fault) => (fault.status(), format!(in alloc; "dasd: {fault}")?),
+    };
+    stage.status = status;
+    stage.told = told;
+    stage.printed = match std::str::from_utf8(writer.printed.as_slice()) {
+        Ok(text) => text.to_string(alloc)?,
+        Err(_) => bail!("no text"),
+    };
+    stage.deck.clear();
+    stage.deck_fails = false;
+    stage.room = None;
+    stage.commands = stage.commands.saturating_add(1);
+    Ok(true)
+}
+
+// Whether this line is printed next; `...` passes all that are left over.
+fn prints(alloc: Global, stage: &mut Stage, wanted: &str) -> Result<bool> {
+    let (is_wanted, left) = next_line(alloc, stage.printed.as_str(), wanted)?;
+    stage.printed = left;
+    Ok(is_wanted)
+}
+
+// Whether the first line is this one, and what is left behind it.
+fn next_line(alloc: Global, printed: &str, wanted: &str) -> Result<(bool, String)> {
+    if wanted == "..." {
+        return Ok((true, String::new(alloc)));
+    }
+    match printed.split_once('\n') {
+        Some((line, behind)) => Ok((line == wanted, behind.to_string(alloc)?)),
+        None => Ok((printed == wanted, String::new(alloc))),
+    }
+}
+
+// Whether this is told on standard error.
+fn tells(alloc: Global, stage: &mut Stage, wanted: &str) -> Result<bool> {
+    let is_wanted = stage.told.as_str() == wanted;
+    stage.told = String::new(alloc);
+    Ok(is_wanted)
+}
+
+// Whether a text of the words is told.
+fn is_usage(alloc: Global, stage: &mut Stage) -> Result<bool> {
+    let told = stage.told.as_str();
+    let is_usage = !told.is_empty() && !told.starts_with("dasd: ");
+    stage.told = String::new(alloc);
+    Ok(is_usage)
+}
+
+// A line that makes a file, or says what it holds.
+fn file_line(alloc: Global, stage: &mut Stage, word: &str, rest: &str) -> Result<bool> {
+    let words: Vec<&str> = rest.split(' ').collect(alloc)?;
+    let files = &mut stage.files;
+    match (word, words.as_slice()) {
+        ("file", [name, model, cylinders]) => {
+            files.put_volume(alloc, name, model, cylinders.parse::<u16>()?)?;
+        }
+        ("file", [name]) => files.put(alloc, name, &[])?,
+        ("text", [name, body]) => files.put(alloc, name, bytes(alloc, body)?.as_slice())?,
+        ("patch", [name, at, body]) => {
+            files.patch(alloc, name, number(at)?, bytes(alloc, body)?.as_slice())?;
+        }
+        ("cut", [name, left]) => files.cut(alloc, name, number(left)?)?,
+        ("length", [name, length]) => {
+            return Ok(files.bytes(name).context("no such file")?.len() == number(length)?);
+        }
+        ("holds", [name, at, body]) => {
+            let held = files.bytes(name).context("no such file")?;
+            let behind = held.get(number(at)?..).context("too short")?;
+            return Ok(behind.starts_with(bytes(alloc, body)?.as_slice()));
+        }
+        _ => bail!("what is this? {word}"),
+    }
+    Ok(true)
+}

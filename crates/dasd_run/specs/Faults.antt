@@ -1,0 +1,24 @@
+-- Which faults of the program come before any file is replaced.
+use Rattle.std.specs.Prelude.{Bool, true, false}
+use Rattle.s360_deck.specs.declared.runs.RunFault.{RunFault}
+use Rattle.s360_deck.specs.declared.runs.RunFault.TheVariants as run
+use Rattle.dasd_run.specs.declared.fault.ProgramFault.{ProgramFault}
+use Rattle.dasd_run.specs.declared.fault.ProgramFault.TheVariants as fault
+
+-- a deck was not run
+abbrev pub is_not_run : RunFault → Bool
+is_not_run (run.Deck _) = true
+is_not_run run.Read = true
+is_not_run run.Write = false
+
+-- words are wrong, a channel is not made, or its deck is not run
+abbrev pub keeps_files : ProgramFault → Bool
+keeps_files (fault.Words _) = true
+keeps_files fault.BadVolume = true
+keeps_files fault.StorageSize = true
+keeps_files fault.ChannelNumber = true
+keeps_files fault.UnitTaken = true
+keeps_files fault.TooManyUnits = true
+keeps_files (fault.Run f) = is_not_run f
+keeps_files fault.OutOfMemory = false
+keeps_files (fault.Job _) = false

@@ -1,0 +1,141 @@
+//! The commands of `dasd`.
+
+ghost use Rattle.std.specs.Prelude.{◌≡◌, true, IfErr};
+ghost use Rattle.dasd_run.specs.Faults.{keeps_files};
+
+use crate::fault::ProgramFault;
+use crate::runs::{Disks, build, finish};
+use dasd_jobs::{FileFault, ImageFiles, JobFault, check_files, format_file, list_files};
+use dasd_words::{Request, Volume, WordFault, read_words};
+use s360_deck::{DeckFault, RunFault, run};
+use std::alloc::Global;
+use std::io::{Read, Write};
+
+/// How a command ended that did what it was asked.
+#[derive(Clone, Copy, Debug, PartialEq, Eq)]
+pub enum Ending {
+    /// It has nothing to tell.
+    Done,
+    /// A volume has tracks that can't be read.
+    Findings,
+}
+
+/// Does what these words ask, the first of which is the program's name. A deck is read from `reader`, where the words name no
+/// file of it; `writer` takes what is printed.
+///
+/// # Errors
+///
+/// Wrong words, before any file is read or written; or what stopped the command. A run whose deck was not run writes no file.
+pub fn obey<F: ImageFiles, R: Read, W: Write>(
+    alloc: Global,
+    words: &[&str],
+    files: &mut F,
+    reader: &mut R,
+    writer: &mut W,
+) -> Result<Ending, ProgramFault>
+    ensures { IfErr result (λ e. keeps_files e ≡ true → F.replacements files.new ≡ F.replacements files.old) }
+{
+    let request = match read_words(alloc, words) {
+        Ok(request) => request,
+        Err(WordFault::Version(text)) => return tell(writer, text.as_str()),
+        Err(fault) => return Err(fault.into()),
+    };
+    answer(alloc, request, files, reader, writer)
+}
+
+// Does what is asked.
+fn answer<F: ImageFiles, R: Read, W: Write>(
+    alloc: Global,
+    request: Request,
+    files: &mut F,
+    reader: &mut R,
+    writer: &mut W,
+) -> Result<Ending, ProgramFault>
+    ensures { IfErr result (λ e. keeps_files e ≡ true → F.replacements files.new ≡ F.replacements files.old) }
+{
+    match request {
+        Request::Format {
+            path,
+            model,
+            cylinders,
+        } => match format_file(alloc, files, writer, path, model, cylinders) {
+            Ok(()) => Ok(Ending::Done),
+            Err(fault) => Err(ProgramFault::Job(fault)),
+        },
+        Request::List(paths) => match list_files(alloc, files, writer, paths.as_slice()) {
+            Ok(()) => Ok(Ending::Done),
+            Err(fault) => Err(ProgramFault::Job(fault)),
+        },
+        Request::Check(paths) => match check_files(alloc, files, writer, paths.as_slice()) {
+            Ok(0) => Ok(Ending::Done),
+            Ok(_) => Ok(Ending::Findings),
+            Err(fault) => Err(ProgramFault::Job(fault)),
+        },
+        Request::Run {
+            storage,
+            channel,
+            deck,
+            volumes,
+        } => {
+            let volumes = volumes.as_slice();
+            let mut channel = build(alloc, files, storage, channel, volumes)?;
+            let run = run_deck(alloc, files, reader, writer, deck, &mut channel);
+            conclude(alloc, files, volumes, channel, run)
+        }
+    }
+}
+
+// Prints a text.
+fn tell<W: Write>(writer: &mut W, text: &str) -> Result<Ending, ProgramFault> {
+    match write!(writer, "{text}") {
+        Ok(()) => match writer.flush() {
+            Ok(()) => Ok(Ending::Done),
+            Err(_) => Err(ProgramFault::Job(JobFault::Write)),
+        },
+        Err(_) => Err(ProgramFault::Job(JobFault::Write)),
+    }
+}
+
+// Runs the deck of a file, or else that of the reader.
+fn run_deck<F: ImageFiles, R: Read, W: Write>(
+    alloc: Global,
+    files: &mut F,
+    reader: &mut R,
+    writer: &mut W,
+    deck: Option<&str>,
+    channel: &mut Disks,
+) -> Result<(), RunFault>
+    ensures { F.replacements files.new ≡ F.replacements files.old }
+{
+    let Some(path) = deck else {
+        return run(alloc, reader, writer, channel);
+    };
+    match files.read(alloc, path) {
+        Ok(text) => run(alloc, &mut text.as_slice(), writer, channel),
+        Err(FileFault::OutOfMemory) => Err(RunFault::Deck(DeckFault::OutOfMemory)),
+        Err(FileFault::Refused) => Err(RunFault::Read),
+    }
+}
+
+// Writes the changed files of a run whose deck was run, and tells its fault, if it had one.
+fn conclude<F: ImageFiles>(
+    alloc: Global,
+    files: &mut F,
+    volumes: &[Volume],
+    channel: Disks,
+    run: Result<(), RunFault>,
+) -> Result<Ending, ProgramFault>
+    ensures { IfErr result (λ e. keeps_files e ≡ true → F.replacements files.new ≡ F.replacements files.old) }
+{
+    match run {
+        Ok(()) => {
+            finish(alloc, files, volumes, channel)?;
+            Ok(Ending::Done)
+        }
+        Err(RunFault::Write) => {
+            finish(alloc, files, volumes, channel)?;
+            Err(ProgramFault::Run(RunFault::Write))
+        }
+        Err(fault) => Err(ProgramFault::Run(fault)),
+    }
+}

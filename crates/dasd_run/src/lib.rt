@@ -1,0 +1,11 @@
+//! What `dasd` does with its words: a deck is run over the volumes that they name, and each command prints what it did. It is
+//! over a reader, a writer and files behind a trait, so that nothing here touches a host.
+#![tactic(auto)]
+
+mod commands;
+mod fault;
+mod runs;
+
+pub use crate::commands::{Ending, obey};
+pub use crate::fault::ProgramFault;
+pub use crate::runs::{Disks, build, finish};

@@ -1,0 +1,116 @@
+//! A channel over the volumes that words name, and what becomes of their files.
+
+ghost use Rattle.std.specs.Prelude.{◌≡◌, false, IfErr};
+ghost use Rattle.dasd_run.specs.Faults.{keeps_files};
+
+use crate::fault::{ProgramFault, of_attach, of_channel, of_storage};
+use ckd_image::Image;
+use dasd_jobs::{FileStore, ImageFiles, JobFault, new_image, read_image, write_back};
+use dasd_words::{Volume, VolumeSource};
+use s360_channel::{Channel, Finished};
+use s360_words::Storage;
+use std::alloc::Global;
+
+/// A channel over images that were read from files.
+pub type Disks = Channel<FileStore>;
+
+/// A channel with this number, over main storage of this size, with a drive for each volume in the order of the words. No
+/// file is written.
+///
+/// # Errors
+///
+/// The first of these: the size, the number, and what is wrong with the first faulty volume, which is not read, holds no
+/// image, or is not attached.
+pub fn build<F: ImageFiles>(
+    alloc: Global,
+    files: &mut F,
+    storage: u32,
+    number: u8,
+    volumes: &[Volume],
+) -> Result<Disks, ProgramFault>
+    ensures { F.replacements files.new ≡ F.replacements files.old }
+{
+    let storage = Storage::new(alloc, storage).map_err(|fault| of_storage(fault))?;
+    let mut channel = match Channel::new(number, storage) {
+        Ok(channel) => channel,
+        Err((fault, _)) => return Err(of_channel(fault)),
+    };
+    for volume in volumes {
+        attach(alloc, files, &mut channel, volume)?;
+    }
+    Ok(channel)
+}
+
+// One drive more.
+fn attach<F: ImageFiles>(
+    alloc: Global,
+    files: &mut F,
+    channel: &mut Disks,
+    volume: &Volume,
+) -> Result<(), ProgramFault>
+    ensures { F.replacements files.new ≡ F.replacements files.old }
+{
+    let image = open(alloc, files, &volume.source)?;
+    match channel.attach(alloc, volume.device, image) {
+        Ok(()) => Ok(()),
+        Err((fault, _)) => Err(of_attach(fault)),
+    }
+}
+
+// The image of a volume.
+fn open<F: ImageFiles>(
+    alloc: Global,
+    files: &mut F,
+    source: &VolumeSource,
+) -> Result<Image<FileStore>, ProgramFault>
+    ensures { F.replacements files.new ≡ F.replacements files.old }
+{
+    match source {
+        VolumeSource::Files(paths) => read_image(alloc, files, paths.as_slice()).map_err(ProgramFault::Job),
+        VolumeSource::New { model, cylinders } => {
+            new_image(alloc, *model, *cylinders).map_err(ProgramFault::Job)
+        }
+    }
+}
+
+/// Resets a channel, and writes the files of its volumes that were changed, each whole, in the order of the words, up to the
+/// first that can't be written. These are the volumes that it was built over.
+///
+/// # Errors
+///
+/// A file can't be written: it holds what it held, and so do those behind it.
+pub fn finish<F: ImageFiles>(
+    alloc: Global,
+    files: &mut F,
+    volumes: &[Volume],
+    channel: Disks,
+) -> Result<(), ProgramFault>
+    ensures { IfErr result (λ e. keeps_files e ≡ false) }
+{
+    let Finished {
+        storage: _,
+        images,
+        reset: _,
+    } = channel.finish();
+    for (volume, image) in volumes.iter().zip(images) {
+        if let Err(fault) = save(alloc, files, volume, image) {
+            return Err(ProgramFault::Job(fault));
+        }
+    }
+    Ok(())
+}
+
+// Writes the files of one volume that were changed.
+fn save<F: ImageFiles>(
+    alloc: Global,
+    files: &mut F,
+    volume: &Volume,
+    image: Option<(u8, Image<FileStore>)>,
+) -> Result<(), JobFault> {
+    match (&volume.source, image) {
+        (VolumeSource::Files(paths), Some((_, image))) => {
+            write_back(alloc, files, paths.as_slice(), image)
+        }
+        _ => Ok(()),
+    }
+}

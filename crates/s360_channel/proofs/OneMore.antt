@@ -1,0 +1,162 @@
+-- Lists of events at a channel, one event more at a time.
+use Rattle.std.proofs.Common.{◌≡◌, ◌<◌, ◌≤◌, zero, suc, take, drop, length, length-drop, get_or, ℕ, ◌+◌, List, [], ◌∷◌, ◌++◌, map, Option, Some, None, refl, sym, ap, ◌∙◌, subst, arith}
+use Rattle.s360_laws.specs.Events.{Event, Answer, Condition, StatusStored, CswStored, Stepped, HasArrived, Interrupted, WasReset, WasKept, Shown, FaultAfter, Input}
+use Rattle.s360_laws.specs.Machine.{Machine, react, answers, after_all, plain}
+use Rattle.s360_laws.proofs.Headlines.{headline}
+use Rattle.std.proofs.lemmas.List.{map_more}
+use Rattle.s360_events.specs.Seen.{event_seen, answer_seen}
+use Rattle.s360_events.specs.declared.answers.Answer as deck_answer
+use Rattle.s360_events.specs.declared.events.Event as deck_event
+use Rattle.s360_channel.specs.Calls.{Does, IsMet, Reports}
+use Rattle.s360_channel.specs.Channel.{ChannelState, StandsFor, failures_of}
+use Rattle.s360_channel.specs.Lists.{Follows, WithoutFaults, AllReported, faults_in}
+
+-- What these events did at a channel, without what follows from it.
+pub record Drove (m : Machine) (events : List Event) (given : List Answer) (old new : ChannelState) : Type 0 where
+  pub inputs : List Input
+  pub are_these : map (λ i. i.0) inputs ≡ events
+  pub faults : failures_of new ≡ failures_of old + faults_in inputs
+  pub same_answers : given ≡ answers inputs m
+  pub stands : StandsFor new (after_all inputs m)
+  pub reported : AllReported inputs m
+
+plus_none : (n : ℕ) → n ≡ n + 0
+plus_none n = omega arith
+
+-- no event
+pub drove_none : (m : Machine) (c : ChannelState) → StandsFor c m → Drove m [] [] c c
+drove_none m c stands = record {
+  inputs = [];
+  are_these = refl;
+  faults = plus_none (failures_of c);
+  same_answers = refl;
+  stands = stands;
+  reported = tt;
+}
+
+abbrev met : Option FaultAfter → ℕ
+met None = 0
+met (Some x) = 1
+
+-- the count of failures rises where a fault is met
+met_counts : (x : Option FaultAfter) (a : Answer) (old new : ChannelState) → IsMet x a old new → failures_of new ≡ failures_of old + met x
+met_counts None a old new h = h ∙ plus_none (failures_of old)
+met_counts (Some x) (Stepped done) old new h = h.0
+met_counts (Some x) (Condition c) old new h = h
+met_counts (Some x) (StatusStored u c) old new h = h
+met_counts (Some x) (CswStored c) old new h = h
+met_counts (Some x) (HasArrived a) old new h = h
+met_counts (Some x) (Interrupted i) old new h = h
+met_counts (Some x) (WasReset u) old new h = h
+met_counts (Some x) (WasKept k) old new h = h
+met_counts (Some x) (Shown s) old new h = h
+
+one_more_each : (a b c : ℕ) → a ≡ b + c → 1 + a ≡ 1 + b + c
+one_more_each a b c p = omega (arith, p)
+
+faults_one_more : (es : List Input) (e : Event) (x : Option FaultAfter) → faults_in (es ++ (e, x) ∷ []) ≡ faults_in es + met x
+faults_one_more [] e None = refl
+faults_one_more [] e (Some x) = refl
+faults_one_more ((d, None) ∷ es) e x = faults_one_more es e x
+faults_one_more ((d, Some y) ∷ es) e x = one_more_each _ _ _ (faults_one_more es e x)
+
+answers_one_more : (es : List Input) (i : Input) (m : Machine) → answers (es ++ i ∷ []) m ≡ answers es m ++ (react i.0 i.1 (after_all es m)).0 ∷ []
+answers_one_more [] i m = refl
+answers_one_more (e ∷ es) i m = ap (λ l. (react e.0 e.1 m).0 ∷ l) (answers_one_more es i (react e.0 e.1 m).1)
+
+after_one_more : (es : List Input) (i : Input) (m : Machine) → after_all (es ++ i ∷ []) m ≡ (react i.0 i.1 (after_all es m)).1
+after_one_more [] i m = refl
+after_one_more (e ∷ es) i m = after_one_more es i (react e.0 e.1 m).1
+
+reported_one_more : (es : List Input) (i : Input) (m : Machine) → AllReported es m → Reports i.0 (after_all es m) i.1 → AllReported (es ++ i ∷ []) m
+reported_one_more [] i m h r = (r, tt)
+reported_one_more (e ∷ es) i m h r = (h.0, reported_one_more es i (react e.0 e.1 m).1 h.1 r)
+
+map_one_more : {A B : Type 0} (f : A → B) (xs : List A) (x : A) → map f (xs ++ x ∷ []) ≡ map f xs ++ f x ∷ []
+map_one_more f [] x = refl
+map_one_more f (y ∷ xs) x = ap (λ l. f y ∷ l) (map_one_more f xs x)
+
+counts_join : (old mid new a b : ℕ) → mid ≡ old + a → new ≡ mid + b → new ≡ old + (a + b)
+counts_join old mid new a b p q = omega (arith, p, q)
+
+does_one_more : (m : Machine) (events : List Event) (given : List Answer) (old mid new : ChannelState) (d : Drove m events given old mid) (e : Event) (a : Answer)
+    → Does e (after_all d.inputs m) a mid new → Drove m (events ++ e ∷ []) (given ++ a ∷ []) old new
+does_one_more m events given old mid new d e a does =
+    let i : Input = (e, does.fault) in
+    record {
+      inputs = d.inputs ++ i ∷ [];
+      are_these = map_one_more (λ (i : Input). i.0) d.inputs i ∙ ap (λ l. l ++ e ∷ []) d.are_these;
+      faults = counts_join (failures_of old) (failures_of mid) (failures_of new) (faults_in d.inputs) (met does.fault) d.faults (met_counts does.fault a mid new does.met)
+          ∙ ap (λ n. failures_of old + n) (sym (faults_one_more d.inputs e does.fault));
+      same_answers = ap (λ l. l ++ a ∷ []) d.same_answers ∙ ap (λ b. answers d.inputs m ++ b ∷ []) does.answers ∙ sym (answers_one_more d.inputs i m);
+      stands = subst (StandsFor new) (sym (after_one_more d.inputs i m)) does.stands;
+      reported = reported_one_more d.inputs i m d.reported does.reports;
+    }
+
+-- one event more
+pub drove_one_more : (m : Machine) (events : List Event) (given : List Answer) (old mid new : ChannelState) (e : Event) (a : Answer)
+    → ((now : Machine) → StandsFor mid now → Does e now a mid new) → Drove m events given old mid → Drove m (events ++ e ∷ []) (given ++ a ∷ []) old new
+drove_one_more m events given old mid new e a does d =
+    does_one_more m events given old mid new d e a (does (after_all d.inputs m) d.stands)
+
+one_is_some : (n : ℕ) → 1 + n ≡ 0 → ⊥
+one_is_some n h = omega (arith, h)
+
+-- one event more of a list of a deck's events
+pub goes_on : (m : Machine) (events : List deck_event.Event) (i : ℕ) (d : deck_event.Event) (given : List deck_answer.Answer) (old mid new : ChannelState) (a : deck_answer.Answer)
+    → i < length events → ((now : Machine) → StandsFor mid now → Does (event_seen (get_or events i d)) now (answer_seen a) mid new)
+    → Drove m (map event_seen (take i events)) (map answer_seen given) old mid
+    → Drove m (map event_seen (take (i + 1) events)) (map answer_seen (given ++ a ∷ [])) old new
+goes_on m events i d given old mid new a within does drove =
+    subst (λ es. Drove m es (map answer_seen (given ++ a ∷ [])) old new) (sym (map_more event_seen events i d within))
+    (subst (λ all. Drove m (map event_seen (take i events) ++ event_seen (get_or events i d) ∷ []) all old new) (sym (map_one_more answer_seen given a))
+    (drove_one_more m _ _ old mid new _ _ does drove))
+
+-- where no fault is met, the events come without faults
+none_met : (es : List Input) → faults_in es ≡ 0 → es ≡ plain (map (λ i. i.0) es)
+none_met [] h = refl
+none_met ((e, None) ∷ es) h = ap (λ l. (e, None) ∷ l) (none_met es h)
+none_met ((e, Some x) ∷ es) h = absurd (one_is_some _ h)
+
+none_rose : (old new faults : ℕ) → new ≡ old + faults → new ≡ old → faults ≡ 0
+none_rose old new faults p q = omega (arith, p, q)
+
+are_plain : (m : Machine) (events : List Event) (given : List Answer) (old new : ChannelState) (d : Drove m events given old new) → failures_of new ≡ failures_of old → d.inputs ≡ plain events
+are_plain m events given old new d same =
+    none_met d.inputs (none_rose (failures_of old) (failures_of new) (faults_in d.inputs) d.faults same) ∙ ap plain d.are_these
+
+append_none : {A : Type 0} (xs : List A) → xs ≡ xs ++ []
+append_none [] = refl
+append_none (x ∷ xs) = ap (λ l. x ∷ l) (append_none xs)
+
+-- what follows from it
+pub drove_follows : (m : Machine) (events : List Event) (given : List Answer) (old new : ChannelState) → StandsFor old m → Drove m events given old new → Follows m events given old new
+drove_follows m events given old new stands d = record {
+  inputs = d.inputs;
+  are_these = d.are_these;
+  faults = d.faults;
+  same_answers = d.same_answers;
+  stands = d.stands;
+  reported = d.reported;
+  headline = headline m d.inputs stands.sound;
+  without_faults = λ same.
+      let plainly = are_plain m events given old new d same in
+      record {
+        same_answers = d.same_answers ∙ ap (λ es. answers es m) plainly;
+        stands = subst (λ es. StandsFor new (after_all es m)) plainly d.stands;
+        is_serial = (headline m (plain events) stands.sound).is_serial (plain events) [] (append_none (plain events));
+      };
+}
+
+-- room for the answers that are left
+pub room_for_one : {A : Type 0} (answers room i : ℕ) (events : List A) → i < length events → answers + length (drop i events) ≤ room → answers < room
+room_for_one answers room i events within h = omega (arith, length-drop i events, within, h)
+
+pub room_for_others : {A : Type 0} (answers room more i : ℕ) (events : List A) → i < length events → answers + length (drop i events) ≤ room → room ≤ more → answers + 1 + length (drop (i + 1) events) ≤ more
+room_for_others answers room more i events within h grows = omega (arith, length-drop i events, length-drop (i + 1) events, within, h, grows)
+
+pub take_past : {A : Type 0} (i : ℕ) (xs : List A) → length xs ≤ i → take i xs ≡ xs
+take_past zero [] h = refl
+take_past (suc i) [] h = refl
+take_past zero (x ∷ xs) h = absurd (omega (arith, h))
+take_past (suc i) (x ∷ xs) h = ap (λ l. x ∷ l) (take_past i xs (omega (arith, h)))

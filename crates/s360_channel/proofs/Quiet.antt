@@ -1,0 +1,39 @@
+-- An event that calls no store does what the machine does, and meets no fault.
+use Rattle.std.proofs.Common.{◌≡◌, ℕ, ◌+◌, List, [], ◌∷◌, map, fold, None, refl, sym, ap, ◌∙◌, subst}
+use Rattle.ckd_image.specs.Image.{ImageState}
+use Rattle.s360_laws.specs.Events.{Event, Answer}
+use Rattle.s360_laws.specs.Machine.{Machine}
+use Rattle.s360_laws.proofs.Headlines.{headline}
+use Rattle.s360_channel.specs.Calls.{DoesQuietly, Does, CallsNoStore}
+use Rattle.s360_channel.specs.Channel.{ChannelState, UnitState, StandsFor, failures_of}
+
+-- the failures of units are those of their images
+failures_by_images : (n : ℕ) (units : List UnitState) → fold (λ a u. a + u.drive.image.failures) n units ≡ fold (λ a i. a + i.failures) n (map (λ u. u.drive.image) units)
+failures_by_images n [] = refl
+failures_by_images n (u ∷ us) = failures_by_images (n + u.drive.image.failures) us
+
+pub none_fails : (old new : ChannelState) → CallsNoStore old new → failures_of new ≡ failures_of old
+none_fails old new same =
+    failures_by_images 0 new.units ∙ ap (λ (images : List ImageState). fold (λ a i. a + i.failures) 0 images) same ∙ sym (failures_by_images 0 old.units)
+
+pub quiet_does : (e : Event) (m : Machine) (answer : Answer) (old new : ChannelState) → StandsFor old m → DoesQuietly e m answer new → CallsNoStore old new → Does e m answer old new
+quiet_does e m answer old new stands does calls = record {
+  fault = None;
+  met = none_fails old new calls;
+  answers = does.answers;
+  stands = does.stands;
+  reports = (headline m ((e, None) ∷ []) stands.sound).no_fault_none_told [] ((e, None) ∷ []) refl e;
+}
+
+-- the same of an event and an answer that are equal to these
+pub quiet_as : (e d : Event) (m : Machine) (given answer : Answer) (new : ChannelState) → e ≡ d → given ≡ answer → DoesQuietly d m answer new → DoesQuietly e m given new
+quiet_as e d m given answer new p q does =
+    subst (λ (x : Event). DoesQuietly x m given new) (sym p) (subst (λ (y : Answer). DoesQuietly d m y new) (sym q) does)
+
+pub quiet_does_as : (e d : Event) (m : Machine) (given answer : Answer) (old new : ChannelState) → e ≡ d → given ≡ answer → StandsFor old m → DoesQuietly d m answer new → CallsNoStore old new → Does e m given old new
+quiet_does_as e d m given answer old new p q stands does calls =
+    quiet_does e m given old new stands (quiet_as e d m given answer new p q does) calls
+
+-- what is done of an event that is equal to this one
+pub does_as : (e d : Event) (m : Machine) (answer : Answer) (old new : ChannelState) → e ≡ d → Does d m answer old new → Does e m answer old new
+does_as e d m answer old new p does = subst (λ (x : Event). Does x m answer old new) (sym p) does

@@ -1,0 +1,81 @@
+-- What the machine shows that a channel stands for while a program runs.
+use Rattle.std.proofs.Common.{◌≡◌, ℕ, refl, sym, ap, subst, ◌∙◌, cond, ◌==◌, map, Option, Some, None}
+use Rattle.std.proofs.lemmas.Bool.{eq-eqb}
+use Rattle.std.specs.Prelude.{find, option_map}
+use Rattle.s360_words.specs.Storage.{Storage}
+use Rattle.ckd_command.specs.Drive.{State}
+use Rattle.ckd_drive.specs.Work as work
+use Rattle.s360_runs.specs.Endings.{NotEnded}
+use Rattle.s360_runs.specs.Places.{Place}
+use Rattle.s360_runs.specs.Runs.{run}
+use Rattle.s360_runs.specs.Scripts.{Script}
+use Rattle.s360_runs.specs.Units.{standing_in}
+use Rattle.s360_program.specs.Stands.{RunningState, phase_in, phase_by}
+use Rattle.s360_program.specs.declared.stages.Stage.{Stage}
+use Rattle.s360_program.specs.declared.stages.Stage.TheVariants as stage
+use Rattle.s360_program.proofs.Ties.{seen}
+use Rattle.s360_laws.specs.Machine as machine
+use Rattle.s360_laws.specs.Machine.{Machine, device_at, run_of, start_of, storage_of}
+use Rattle.s360_laws.specs.Soundness.{AreDistinct, IsSound, IsSoundIn, arm_owes, device_owes}
+use Rattle.s360_laws.specs.declared.arm.Arm.{Arm}
+use Rattle.s360_laws.specs.declared.arm.Arm.TheVariants.{AtRest, InMotion, Arrived}
+use Rattle.s360_laws.proofs.FindDevices.{found_map, keeps_one, set_drive}
+use Rattle.s360_channel.specs.Channel.{ChannelState, WorksFor, device_of}
+use Rattle.s360_channel.proofs.Places.{distinct_before, found_at}
+
+-- The machine of a running program.
+
+module _ (c : ChannelState) (place : ℕ) (r : RunningState) (m : Machine) (w : WorksFor c place r m) where
+  pub subchannel_of : m.subchannel ≡ machine.Working w.unit.device w.script
+  subchannel_of = ap (λ (m : Machine). m.subchannel) w.machine
+
+  pub channel_of : m.channel ≡ c.number
+  channel_of = ap (λ (m : Machine). m.channel) w.machine
+
+  pub devices_of : m.devices ≡ map (λ d. cond (d.device == w.unit.device) (set_drive w.drive d) d) (map device_of c.units)
+  devices_of = ap (λ (m : Machine). m.devices) w.machine
+
+  pub distinct_units : IsSound m → AreDistinct (map device_of c.units)
+  distinct_units sound = distinct_before _ (keeps_one w.unit.device (set_drive w.drive) (λ v. refl)) (map device_of c.units) (subst AreDistinct devices_of sound.0)
+
+  -- the device at its address has the arm of the unit, and the drive of the start
+  pub device_there : IsSound m → device_at m w.unit.device ≡ Some (record { device = w.unit.device; arm = w.unit.arm; drive = w.drive })
+  device_there sound =
+      ap (find (λ v. v.device == w.unit.device)) devices_of
+      ∙ found_map (λ d. d == w.unit.device) _ (keeps_one w.unit.device (set_drive w.drive) (λ v. refl)) (map device_of c.units)
+      ∙ ap (option_map (λ d. cond (d.device == w.unit.device) (set_drive w.drive d) d)) (found_at c.units place w.unit (distinct_units sound) w.is_there)
+      ∙ ap (λ b. Some (cond b (set_drive w.drive (device_of w.unit)) (device_of w.unit))) (eq-eqb w.unit.device w.unit.device refl)
+
+  pub run_at : IsSound m → (script : Script) → run_of m w.unit.device script ≡ Some (run script (start_of m w.drive))
+  run_at sound script = ap (option_map (λ d. run script (start_of m d.drive))) (device_there sound)
+
+  pub seen_there : IsSound m → run_of m w.unit.device w.script ≡ Some (NotEnded (standing_in r.key (phase_in r c.storage w.unit.drive)))
+  seen_there sound = run_at sound w.script ∙ ap Some (seen (start_of m w.drive) w.script r c.storage w.unit.drive w.runs)
+
+  sound_working : IsSound m → IsSoundIn m (machine.Working w.unit.device w.script)
+  sound_working sound = subst (IsSoundIn m) subchannel_of sound.1
+
+  pub arm_rests : IsSound m → w.unit.arm ≡ AtRest
+  arm_rests sound = rests w.unit.arm (ap device_owes (sym (device_there sound)) ∙ (sound_working sound).1)
+    where
+      rests : (arm : Arm) → arm_owes arm ≡ 0 → arm ≡ AtRest
+      rests AtRest h = refl
+      rests InMotion h = absurd (cc)
+      rests Arrived h = absurd (cc)
+
+-- what is seen of storage in a phase is storage
+pub storage_seen : (key : ℕ) (g : Stage) (p : Place) (s : Storage) (d : State) (w : work.Work) → (standing_in key (phase_by g p s d w)).storage ≡ s
+storage_seen key stage.Between p s d w = refl
+storage_seen key (stage.Looking ccw) p s d work.Idle = refl
+storage_seen key (stage.Looking ccw) p s d (work.Over e) = refl
+storage_seen key (stage.Looking ccw) p s d (work.Looking o) = refl
+storage_seen key (stage.Looking ccw) p s d (work.Passing o b left) = refl
+storage_seen key (stage.Moving ccw a) p s d work.Idle = refl
+storage_seen key (stage.Moving ccw a) p s d (work.Over e) = refl
+storage_seen key (stage.Moving ccw a) p s d (work.Looking o) = refl
+storage_seen key (stage.Moving ccw a) p s d (work.Passing o b left) = refl
+
+pub storage_there : (c : ChannelState) (place : ℕ) (r : RunningState) (m : Machine) → WorksFor c place r m → IsSound m → storage_of m m.subchannel ≡ c.storage
+storage_there c place r m w sound =
+    ap (storage_of m) (subchannel_of c place r m w) ∙ ap (machine.storage_after m) (seen_there c place r m w sound)
+    ∙ storage_seen r.key r.stage r.place c.storage w.unit.drive.state w.unit.drive.work

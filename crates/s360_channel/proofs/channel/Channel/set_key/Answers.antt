@@ -1,0 +1,23 @@
+use Rattle.std.proofs.Common.{◌≡◌, refl, sym, ap, subst, ◌∙◌, is_ok, Bool}
+use Rattle.s360_words.specs.Storage.{Bytes, KeyOf}
+use Rattle.s360_laws.specs.Events.{Store, SetKey}
+use Rattle.s360_channel.specs.Channel.{StandsFor}
+use Rattle.s360_channel.proofs.Kept.{does_kept, channel_kept}
+use Rattle.s360_channel.proofs.channel.Channel.set_key.Goals as goal
+use Rattle.s360_channel.proofs.channel.Channel.set_key.Goals.{then-set_key, else-set_key}
+
+-- src/processor.rt
+pub invariant_of-self : goal.invariant_of-self
+invariant_of-self g c =
+    channel_kept (SetKey c.args.at c.args.key) (KeyOf c.args.at c.args.key) (λ m. refl) (record { number = c.self.inside.number; storage = c.self.inside.storage; subchannel = c.self.inside.subchannel; units = c.self.inside.units }) c.set_key.new.self c.set_key.result c.set_key.result c.set_key.ensures.answer c.set_key.ensures.change refl c.self.invariant
+
+-- src/processor.rt
+pub returns-clause-does : goal.returns-clause-does
+returns-clause-does g c m h =
+    does_kept (SetKey c.args.at c.args.key) (KeyOf c.args.at c.args.key) (λ m. refl) (record { number = c.self.inside.number; storage = c.self.inside.storage; subchannel = c.self.inside.subchannel; units = c.self.inside.units }) c.set_key.new.self c.set_key.result (is_ok c.if-set_key.result) c.set_key.ensures.answer c.set_key.ensures.change told m (subst (λ x. StandsFor x m) (sym c.self.view_is) h)
+  where
+    told : is_ok c.if-set_key.result ≡ c.set_key.result
+    told = elim c.if-set_key.branch [
+      | then-set_key w ↦ ap is_ok w.result-is ∙ sym w.if-set_key.true
+      | else-set_key w ↦ ap is_ok w.result-is ∙ sym w.if-set_key.false
+    ]

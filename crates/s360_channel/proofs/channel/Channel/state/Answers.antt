@@ -1,0 +1,18 @@
+use Rattle.std.proofs.Common.{◌≡◌, sym, ap, subst, ◌∙◌}
+use Rattle.s360_laws.specs.Machine.{Machine}
+use Rattle.s360_channel.specs.Channel.{StandsFor, ChannelState, device_of}
+use Rattle.s360_channel.specs.Views.{view_of, drives_seen, subchannel_seen}
+use Rattle.s360_channel.specs.declared.view.View.{View}
+use Rattle.s360_channel.proofs.Parts.{last_fits}
+use Rattle.s360_channel.proofs.Shown.{view_from}
+use Rattle.s360_channel.proofs.channel.Channel.state.Goals as goal
+
+-- src/processor.rt
+pub shown-requires : goal.shown-requires
+shown-requires g c = search (last_fits)
+
+-- src/processor.rt
+pub returns : goal.returns
+returns g c m h =
+    view_from (record { number = c.self.inside.number; storage = c.self.inside.storage; subchannel = c.self.inside.subchannel; units = c.self.inside.units }) m (subst (λ x. StandsFor x m) (sym c.self.view_is) h)
+    c.subchannel_shown.result c.shown.result (c.subchannel_shown.ensures m h) c.shown.ensures

@@ -1,0 +1,17 @@
+use Rattle.std.proofs.Common.{◌≡◌, sym, ap, subst, ◌∙◌}
+use Rattle.s360_laws.specs.Machine.{Machine}
+use Rattle.s360_channel.specs.Channel.{StandsFor, ChannelState}
+use Rattle.s360_channel.proofs.Parts.{last_fits}
+use Rattle.s360_channel.proofs.Shown.{idle_shown, pending_shown, working_shown, place_there}
+use Rattle.s360_channel.proofs.channel.Channel.subchannel_shown.Goals as goal
+
+-- src/processor.rt
+pub device-requires : goal.device-requires
+device-requires g c =
+    (search (last_fits), place_there (record { number = c.self.inside.number; storage = c.self.inside.storage; subchannel = c.self.inside.subchannel; units = c.self.inside.units }) c.self.invariant.machine c.in-Working.place c.in-Working.running c.self.invariant.stands c.in-Working.is)
+
+-- src/processor.rt
+pub returns-in-Working : goal.returns-in-Working
+returns-in-Working g c m h =
+    working_shown (record { number = c.self.inside.number; storage = c.self.inside.storage; subchannel = c.self.inside.subchannel; units = c.self.inside.units }) m c.in-Working.place c.in-Working.running c.device.result c.interruption_asked.result
+    (subst (λ x. StandsFor x m) (sym c.self.view_is) h) c.in-Working.is c.device.ensures (λ w. c.interruption_asked.ensures c.self.inside.storage w.unit.drive)

@@ -1,0 +1,10 @@
+pub mod Channel
+pub mod Calls
+pub mod Lists
+pub mod Views
+pub mod UnitCalls
+pub mod Finishes
+pub mod Attaches
+pub mod Slots
+pub mod Ends
+pub mod Nexts

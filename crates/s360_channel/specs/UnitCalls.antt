@@ -1,0 +1,54 @@
+-- What a call does to the unit at a place in the order of attachment: the others stay.
+use Rattle.std.specs.Prelude.{◌≡◌, ◌≤◌, ◌+◌, ◌*◌, ℕ, List, Bool, false, Option, Some, slice_get, slice_set}
+use Rattle.s360_words.specs.Storage.{Storage}
+use Rattle.s360_words.specs.declared.words.Csw.{Csw}
+use Rattle.ckd_command.specs.Drive.{drive_of}
+use Rattle.ckd_drive.specs.Work.{DriveState, CallsStore, without_sense}
+use Rattle.s360_runs.specs.Unsaved.{has_written}
+use Rattle.s360_program.specs.Advances.{Rests, Advances, KeepsStorage, Cuts, CallsAtMost, TellsOf, CutTellsOf}
+use Rattle.s360_program.specs.Stands.{RunningState, Stands, phase_in}
+use Rattle.s360_program.specs.Starting.{IsFirst, StartsQuietly}
+use Rattle.s360_program.specs.declared.program.Advance.{Advance}
+use Rattle.s360_program.specs.declared.program.Start.{Start}
+use Rattle.s360_laws.specs.declared.arm.Arm.{Arm}
+use Rattle.s360_laws.specs.declared.arm.Arm.TheVariants.{AtRest}
+use Rattle.s360_channel.specs.Channel.{UnitState}
+
+-- the drive at a place changed so, and nothing else of any unit
+pub record DriveChanges (place : ℕ) (How : DriveState → DriveState → Type 0) (old new : List UnitState) : Type 0 where
+  pub unit : UnitState
+  pub was : slice_get old place ≡ Some unit
+  pub drive : DriveState
+  pub becomes : new ≡ slice_set old place (record unit { drive = drive })
+  pub how : How unit.drive drive
+
+-- the drive at a place is one of which this is so
+pub record DriveIs (place : ℕ) (Is : DriveState → Type 0) (units : List UnitState) : Type 0 where
+  pub unit : UnitState
+  pub is_there : slice_get units place ≡ Some unit
+  pub holds : Is unit.drive
+
+abbrev pub Starts : (caw : ℕ) → Storage → Start → DriveState → DriveState → Type 0
+Starts caw s answer old new =
+    IsFirst (record { caw = caw; storage = s; drive = drive_of old.state }) answer old new × StartsQuietly old new
+
+pub record AdvancesAt (r : RunningState) (s : Storage) (asked : ℕ) (a : Advance) (r' : RunningState) (s' : Storage) (old new : DriveState) : Type 0 where
+  pub advances : Advances r.key (phase_in r s old) asked a r' s' old new
+  pub storage : KeepsStorage s s'
+  pub calls : CallsAtMost (2 * a.done) old new
+  pub tells : TellsOf a.ending old new
+
+pub record CutsAt (r : RunningState) (told : Csw × Bool × Option (ℕ × ℕ)) (old new : DriveState) : Type 0 where
+  pub cut : (s : Storage) → Cuts r.key (phase_in r s old) told old new
+  pub calls : (s : Storage) → CallsStore false (has_written (phase_in r s old)) old new
+  pub tells : CutTellsOf told old new
+
+-- the arm of the unit at a place does this from now on
+pub record ArmChanges (place : ℕ) (arm : Arm) (old new : List UnitState) : Type 0 where
+  pub unit : UnitState
+  pub was : slice_get old place ≡ Some unit
+  pub becomes : new ≡ slice_set old place (record unit { arm = arm })
+
+-- as a reset leaves a unit
+abbrev pub at_rest_unit : UnitState → UnitState
+at_rest_unit u = record u { arm = AtRest; drive = record u.drive { state = without_sense u.drive.state } }

@@ -1,0 +1,89 @@
+//! Programs that end, by themselves or by a cut.
+
+ghost use Rattle.std.specs.Prelude.{◌≡◌, ◌<◌, ◌+◌, ◌*◌, length, is_some, position, option_map};
+ghost use Rattle.s360_channel.specs.Channel.{is_at};
+ghost use Rattle.s360_channel.specs.Ends.{IsOver, MayBeCut, CutsProgram, LosesProgram, halted_idle, storage_halted};
+
+use crate::subchannel::Subchannel;
+use crate::units::Units;
+use ckd_image::ImageStore;
+use s360_events::{Condition, Status};
+use s360_laws::arm::Arm;
+use s360_words::{ChannelStatus, Csw, Storage, UnitStatus};
+use std::mem;
+
+/// The program of the unit at a place is over: its channel status word pends, and the arm moves or rests.
+pub(crate) fn end_program<S: ImageStore>(
+    place: usize,
+    csw: Csw,
+    motion: bool,
+    subchannel: &mut Subchannel,
+    units: &mut Units<S>,
+)
+    requires { place < length units.old }
+    ensures { IsOver place csw motion units.old units.new subchannel.new }
+{
+    let device = units.device(place);
+    units.set_arm(place, if motion { Arm::InMotion } else { Arm::AtRest });
+    *subchannel = Subchannel::Pending(device, csw);
+}
+
+/// The program that runs, if one does, is cut, and is over.
+pub(crate) fn cut_program<S: ImageStore>(subchannel: &mut Subchannel, units: &mut Units<S>)
+    requires { MayBeCut subchannel.old units.old }
+    ensures { CutsProgram subchannel.old units.old units.new subchannel.new }
+{
+    match mem::replace(subchannel, Subchannel::Idle) {
+        Subchannel::Working(place, running) => {
+            let (csw, motion, _) = units.cut(place, running);
+            end_program(place, csw, motion, subchannel, units);
+        }
+        other => *subchannel = other,
+    }
+}
+
+/// Halt I/O at a device while the channel is available.
+pub(crate) fn halt_device<S: ImageStore>(
+    device: u8,
+    storage: &mut Storage,
+    units: &Units<S>,
+) -> Condition<Status>
+    ensures answer { result ≡ halted_idle (is_some (position (is_at device) units.now)) }
+    ensures storage { storage.new ≡ storage_halted (is_some (position (is_at device) units.now)) storage.old }
+{
+    if units.place_of(device).is_none() {
+        return Condition::Three;
+    }
+    let (unit, channel) = (UnitStatus(0), ChannelStatus(0));
+    storage.put_status(unit, channel);
+    Condition::Stored(Status { unit, channel })
+}
+
+/// The program that runs, if one does, is cut and lost, and the subchannel is available. Answers the address, cylinder and
+/// head of a track that could not be saved.
+pub(crate) fn lose_program<S: ImageStore>(
+    number: u8,
+    subchannel: &mut Subchannel,
+    units: &mut Units<S>,
+) -> Option<(u16, u16, u16)>
+    requires { MayBeCut subchannel.old units.old }
+    ensures idle { subchannel.new ≡ Subchannel.Idle }
+    ensures lost { LosesProgram subchannel.old number units.old units.new result }
+{
+    match mem::replace(subchannel, Subchannel::Idle) {
+        Subchannel::Working(place, running) => {
+            let device = units.device(place);
+            let (_, _, unsaved) = units.cut(place, running);
+            unsaved_at(number, device, unsaved)
+        }
+        _ => None,
+    }
+}
+
+// Address, cylinder and head of a track that was not saved.
+fn unsaved_at(number: u8, device: u8, track: Option<(u16, u16)>) -> Option<(u16, u16, u16)>
+    ensures { result ≡ option_map (λ t. (256 * number + device, t.0, t.1)) track }
+{
+    let (cylinder, head) = track?;
+    Some((number as u16 * 256 + device as u16, cylinder, head))
+}

@@ -1,0 +1,26 @@
+//! The channel: one subchannel, up to eight drives, and a storage of its own. It answers the processor's input/output
+//! instructions and lets the program that was accepted run, unit by unit.
+#![tactic(auto)]
+
+mod attaching;
+mod channel;
+mod driving;
+mod ending;
+mod events_at;
+mod faults;
+mod instructions;
+mod interrupting;
+mod processor;
+mod slots;
+mod starting;
+mod subchannel;
+mod testing;
+mod turns;
+mod unit;
+mod units;
+mod view;
+
+pub use crate::channel::{Channel, Finished, Reset};
+pub use crate::driving::drive;
+pub use crate::faults::{AttachFault, NewFault, OutsideStorage};
+pub use crate::view::{SubchannelView, View};

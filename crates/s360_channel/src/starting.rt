@@ -1,0 +1,141 @@
+//! Start I/O: the first unit of a program, and what it leaves.
+
+ghost use Rattle.std.specs.Prelude.{◌≡◌, map, Some, if◌then◌else◌};
+ghost use Rattle.s360_words.specs.Storage.{changed, status_stored};
+ghost use Rattle.ckd_command.specs.Drive.{drive_of};
+ghost use Rattle.s360_runs.specs.Starts.{first};
+ghost use Rattle.s360_runs.specs.Status.{busy_device_end, no_channel_status, with_interruption};
+ghost use Rattle.s360_laws.specs.Events as machine;
+ghost use Rattle.s360_laws.specs.Machine.{Machine, start_of, started, start_device};
+ghost use Rattle.s360_laws.specs.declared.arm.Arm.TheVariants.{InMotion, AtRest};
+ghost use Rattle.s360_events.specs.Seen.{condition_seen, status_seen, answer_seen};
+ghost use Rattle.s360_events.specs.declared.answers.Answer.TheVariants as answer;
+ghost use Rattle.s360_events.specs.declared.conditions.Condition.TheVariants.{Stored};
+ghost use Rattle.s360_program.specs.Advances.{Rests};
+ghost use Rattle.s360_channel.specs.Channel.{StandsFor, IsChannel, device_of};
+ghost use Rattle.s360_channel.specs.Calls.{DoesQuietly};
+ghost use Rattle.s360_channel.specs.Nexts.{DoesAt, of_parts};
+ghost use Rattle.s360_channel.specs.UnitCalls.{DriveIs};
+ghost use Rattle.s360_channel.specs.declared.subchannel.Subchannel.TheVariants.{Idle};
+
+use crate::subchannel::Subchannel;
+use crate::units::Units;
+use ckd_image::ImageStore;
+use s360_events::{Condition, Status};
+use s360_laws::arm::Arm;
+use s360_program::laws::accepted_stands;
+use s360_program::program::Start;
+use s360_words::{ChannelStatus, Storage, UnitStatus};
+
+/// Start I/O at an input/output address, over the parts of the channel with this number.
+pub(crate) fn start_io<S: ImageStore>(
+    address: u16,
+    number: u8,
+    storage: &mut Storage,
+    subchannel: &mut Subchannel,
+    units: &mut Units<S>,
+) -> Condition<Status>
+    requires { IsChannel (of_parts number storage.old subchannel.old units.old) }
+    ensures does { (m : Machine) → StandsFor (of_parts number storage.old subchannel.old units.old) m → DoesQuietly (machine.Sio address) m (answer_seen (answer.Sio address result)) (of_parts number storage.new subchannel.new units.new) }
+    ensures images { map (λ u. u.drive.image) units.new ≡ map (λ u. u.drive.image) units.old }
+{
+    if address / 256 != number as u16 {
+        return Condition::Three;
+    }
+    let Subchannel::Idle = subchannel else {
+        return Condition::Two;
+    };
+    let device = (address % 256) as u8;
+    let Some(place) = units.place_of(device) else {
+        return Condition::Three;
+    };
+    start_device(place, storage, subchannel, units)
+}
+
+// The drive at a place is started, or its arm keeps it busy.
+fn start_device<S: ImageStore>(
+    place: usize,
+    storage: &mut Storage,
+    subchannel: &mut Subchannel,
+    units: &mut Units<S>,
+) -> Condition<Status>
+    requires idle { subchannel.old ≡ Idle }
+    requires rests { DriveIs place Rests units.old }
+    ensures does { DoesAt place (λ u m. start_device u.device m (Some (device_of u))) (condition_seen status_seen result) storage.old units.old storage.new subchannel.new units.new }
+    ensures images { map (λ u. u.drive.image) units.new ≡ map (λ u. u.drive.image) units.old }
+{
+    match units.arm(place) {
+        Arm::InMotion => status_stored(UnitStatus::BUSY, ChannelStatus(0), storage),
+        Arm::Arrived => {
+            units.set_arm(place, Arm::AtRest);
+            status_stored(busy_device_end(), ChannelStatus(0), storage)
+        }
+        Arm::AtRest => start_program(place, storage, subchannel, units),
+    }
+}
+
+// The drive at a place does the first unit of the program that the channel address word leads to.
+fn start_program<S: ImageStore>(
+    place: usize,
+    storage: &mut Storage,
+    subchannel: &mut Subchannel,
+    units: &mut Units<S>,
+) -> Condition<Status>
+    requires idle { subchannel.old ≡ Idle }
+    requires rests { DriveIs place Rests units.old }
+    ensures does { DoesAt place (λ u m. started u.device m (first (start_of m (drive_of u.drive.state)))) (condition_seen status_seen result) storage.old units.old storage.new subchannel.new units.new }
+    ensures images { map (λ u. u.drive.image) units.new ≡ map (λ u. u.drive.image) units.old }
+{
+    accepted_stands();
+    let caw = storage.caw_word();
+    match units.start(place, caw, storage) {
+        Start::Bad => status_stored(UnitStatus(0), ChannelStatus::PROGRAM_CHECK, storage),
+        Start::Rejected => status_stored(UnitStatus::UNIT_CHECK, ChannelStatus(0), storage),
+        Start::Immediate(told, asked) => {
+            units.set_arm(place, arm_after(told.motion));
+            status_stored(told.unit, interruption_told(asked), storage)
+        }
+        Start::Accepted(running) => {
+            *subchannel = Subchannel::Working(place, running);
+            Condition::Zero
+        }
+    }
+}
+
+// Unit status and channel status are stored, and told with code 1.
+fn status_stored(
+    unit: UnitStatus,
+    channel: ChannelStatus,
+    storage: &mut Storage,
+) -> Condition<Status>
+    ensures answer { result ≡ Stored (record { unit = unit; channel = channel }) }
+    ensures storage { storage.new ≡ changed (status_stored unit.0 channel.0) storage.old }
+{
+    storage.put_status(unit, channel);
+    Condition::Stored(Status { unit, channel })
+}
+
+// Busy, and the device end that was owed.
+fn busy_device_end() -> UnitStatus
+    ensures { result ≡ busy_device_end }
+{
+    UnitStatus(UnitStatus::BUSY.0 | UnitStatus::DEVICE_END.0)
+}
+
+// What the arm does after the end of a program.
+fn arm_after(motion: bool) -> Arm
+    ensures { result ≡ (if motion then InMotion else AtRest) }
+{
+    if motion { Arm::InMotion } else { Arm::AtRest }
+}
+
+// The channel status of an ending that nothing disturbed: whether an interruption was asked for and not taken.
+fn interruption_told(asked: bool) -> ChannelStatus
+    ensures { result ≡ with_interruption asked no_channel_status }
+{
+    if asked {
+        ChannelStatus::PROGRAM_CONTROLLED_INTERRUPTION
+    } else {
+        ChannelStatus(0)
+    }
+}

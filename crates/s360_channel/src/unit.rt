@@ -1,0 +1,24 @@
+//! A drive at the channel.
+
+ghost use Rattle.std.specs.Prelude.{◌≡◌};
+
+use ckd_drive::drive::Drive;
+use ckd_image::ImageStore;
+use s360_laws::arm::Arm;
+use std::marker::Model;
+
+/// A drive, the low byte of its address, and what its arm does between programs.
+#[derive(Drop)]
+pub(crate) struct Unit<S: ImageStore> {
+    pub(crate) device: u8,
+    pub(crate) arm: Arm,
+    pub(crate) drive: Drive<S>,
+}
+
+impl<S: ImageStore> Model for Unit<S> {
+    ghost use Rattle.s360_channel.specs.Channel.{UnitState};
+
+    ghost Value = { UnitState };
+
+    ghost view = { λ u. record { device = u.device; arm = u.arm; drive = u.drive } };
+}

@@ -1,0 +1,25 @@
+//! What a channel shows of itself.
+
+use s360_laws::arm::Arm;
+use s360_words::Csw;
+
+/// The subchannel, as it is shown.
+#[derive(Clone, Copy, Debug, PartialEq, Eq)]
+pub enum SubchannelView {
+    /// Available.
+    Idle,
+    /// The program of the device with this address runs; and whether one of its words asked for an interruption that is not
+    /// yet taken.
+    Working(u8, bool),
+    /// The program of this device has ended, and this channel status word is not yet stored.
+    Pending(u8, Csw),
+}
+
+/// A channel, as it is shown.
+#[derive(Clone, Copy, Debug, PartialEq, Eq)]
+pub struct View {
+    /// The subchannel.
+    pub subchannel: SubchannelView,
+    /// The drives in the order in which they were attached: the low byte of each one's address, and its arm.
+    pub drives: [Option<(u8, Arm)>; 8],
+}

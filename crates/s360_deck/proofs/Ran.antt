@@ -1,0 +1,67 @@
+-- What a deck that was run leaves, from what its parts leave.
+use Rattle.std.proofs.Common.{◌≡◌, ℕ, List, Option, Result, Ok, Err, map, refl, sym, ap, subst, ◌∙◌}
+use Rattle.s360_events.specs.declared.answers.Answer.{Answer}
+use Rattle.s360_events.specs.declared.events.Event.{Event}
+use Rattle.s360_events.specs.Answered.{AllAnswered}
+use Rattle.s360_events.specs.Seen.{event_seen, answer_seen}
+use Rattle.s360_laws.specs.Machine.{Machine}
+use Rattle.s360_channel.specs.Channel.{ChannelState, StandsFor}
+use Rattle.s360_channel.specs.Lists.{Follows}
+use Rattle.s360_deck.specs.declared.fault.DeckFault.TheVariants.{OutOfMemory, Unknown, Operand, LineTooLong}
+use Rattle.s360_deck.specs.declared.runs.RunFault.{RunFault}
+use Rattle.s360_deck.specs.declared.runs.RunFault.TheVariants.{Deck, Read, Write}
+use Rattle.s360_deck.specs.Deck.{events_of}
+use Rattle.s360_deck.specs.Lines.{lines_text}
+use Rattle.s360_deck.specs.Runs.{Runs, StaysUnlessRun, ReadsWhole, Spells, HasRun, WritesFront}
+
+abbrev IsWrite : RunFault → Type 0
+IsWrite Write = Unit {0}
+IsWrite fault = ⊥
+
+-- what stays the same stays whatever is answered
+pub same_stays : {A : Type 0} (result : Result (Unit {0}) RunFault) (a : A) → StaysUnlessRun result a a
+same_stays (Ok done) a = tt
+same_stays (Err Write) a = tt
+same_stays (Err Read) a = refl
+same_stays (Err (Deck fault)) a = refl
+
+-- the text is no deck
+faulty : (fault : RunFault) (before after : Option (List ℕ)) (old new : ChannelState) (written_before written : Option (List ℕ)) (text : List ℕ)
+    → ReadsWhole before after text → Spells (Err fault) text → Runs (Err fault) before after old new written_before written
+faulty (Deck OutOfMemory) before after old new written_before written text h r = tt
+faulty (Deck (Unknown n)) before after old new written_before written text h r = record { text = text; is_read = h; faulty = r }
+faulty (Deck (Operand n)) before after old new written_before written text h r = record { text = text; is_read = h; faulty = r }
+faulty (Deck (LineTooLong n)) before after old new written_before written text h r = record { text = text; is_read = h; faulty = r }
+faulty Read before after old new written_before written text h r = tt
+faulty Write before after old new written_before written text h r = absurd r
+
+pub is_faulty : (fault : RunFault) (before after : Option (List ℕ)) (old new : ChannelState) (written_before written : Option (List ℕ)) (text seen : List ℕ)
+    → seen ≡ text → ReadsWhole before after text → Spells (Err fault) seen → Runs (Err fault) before after old new written_before written
+is_faulty fault before after old new written_before written text seen is h r =
+    faulty fault before after old new written_before written text h (subst (Spells (Err fault)) is r)
+
+-- the events have happened, and the lines were written, or the first bytes of them
+ran : (result : Result (Unit {0}) RunFault) (before after : Option (List ℕ)) (old new : ChannelState) (written_before written : Option (List ℕ)) (answers : List Answer)
+    → HasRun before after old new answers → WritesFront result written_before written (lines_text answers) → Runs result before after old new written_before written
+ran (Ok done) before after old new written_before written answers h w = record { answers = answers; has_run = h; lines = w }
+ran (Err Write) before after old new written_before written answers h w = record { answers = answers; has_run = h; lines = w.1 }
+ran (Err Read) before after old new written_before written answers h w = absurd (subst IsWrite (sym w.0) tt)
+ran (Err (Deck fault)) before after old new written_before written answers h w = absurd (subst IsWrite (sym w.0) tt)
+
+pub has_run : (result : Result (Unit {0}) RunFault) (before after : Option (List ℕ)) (old new : ChannelState) (written_before written : Option (List ℕ))
+    (text seen : List ℕ) (events driven : List Event) (answers told : List Answer)
+    → seen ≡ text → driven ≡ events → told ≡ answers
+    → ReadsWhole before after text → events_of seen ≡ Ok events → AllAnswered driven answers
+    → ((m : Machine) → StandsFor old m → Follows m (map event_seen driven) (map answer_seen answers) old new)
+    → WritesFront result written_before written (lines_text told) → Runs result before after old new written_before written
+has_run result before after old new written_before written text seen events driven answers told seen_is driven_is told_is h spelled answered follows w =
+    ran result before after old new written_before written answers
+    (record {
+      text = text;
+      is_read = h;
+      events = driven;
+      are_these = subst (λ t. events_of t ≡ Ok driven) seen_is (spelled ∙ ap (λ (es : List Event). Ok es) (sym driven_is));
+      answered = answered;
+      follows = follows;
+    })
+    (subst (λ all. WritesFront result written_before written (lines_text all)) told_is w)

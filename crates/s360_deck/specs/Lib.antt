@@ -1,0 +1,5 @@
+pub mod Digits
+pub mod Deck
+pub mod Lines
+pub mod Serial
+pub mod Runs

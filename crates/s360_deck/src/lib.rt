@@ -1,0 +1,20 @@
+//! Decks: texts whose lines are the events of a channel, and the lines of its answers.
+#![tactic(auto)]
+
+mod digits;
+mod fault;
+mod lines;
+mod parsing;
+mod reading;
+mod runs;
+mod serial_lists;
+mod spelling;
+mod writing;
+
+pub use crate::fault::DeckFault;
+pub use crate::lines::AnswerLine;
+pub use crate::parsing::parse;
+pub use crate::runs::{RunFault, run};
+pub use crate::serial_lists::serial;
+pub use s360_channel::drive;
+pub use s360_events::{Answer, Event};

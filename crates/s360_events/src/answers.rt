@@ -1,0 +1,32 @@
+//! What a channel answers.
+
+use crate::conditions::{Condition, Status};
+use arrayvec::ArrayVec;
+use s360_words::Csw;
+
+/// What a channel answers to an event, with what the answer's line prints.
+#[derive(Debug, Drop)]
+pub enum Answer {
+    /// To Start I/O at an address.
+    Sio(u16, Condition<Status>),
+    /// To Test I/O at an address.
+    Tio(u16, Condition<Csw>),
+    /// To Halt I/O at an address.
+    Hio(u16, Condition<Status>),
+    /// To Test Channel: 0, 1 or 2.
+    Tch(Condition<()>),
+    /// How many units were done.
+    Step(u16),
+    /// Whether the drive at an address had an arm in motion, which has arrived now.
+    Arrive(u16, bool),
+    /// The address that interrupted, if one did, and the channel status word that was stored.
+    Interrupt(Option<(u16, Csw)>),
+    /// The address, cylinder and head of a track that was written and could not be saved, if there was one.
+    Reset(Option<(u16, u16, u16)>),
+    /// Whether the bytes lay within storage, and were stored.
+    Store(bool),
+    /// Whether the block lies within storage, and has its key.
+    Key(bool),
+    /// The bytes from an address on, if they are in storage.
+    Show(u32, Option<ArrayVec<u8, 32>>),
+}

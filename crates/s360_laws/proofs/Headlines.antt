@@ -1,0 +1,48 @@
+-- The headline, from the laws that it joins.
+use Rattle.std.proofs.Common.{refl, List}
+use Rattle.s360_laws.specs.Events.{Event, FaultAfter, Input, Sio, Tio, Hio, Tch, StepBy, Arrive, Interrupt, Reset, Store, SetKey, Show}
+use Rattle.s360_laws.specs.Headline.{HeadlineHolds}
+use Rattle.s360_laws.specs.History.{Runs}
+use Rattle.s360_laws.specs.Machine.{Machine, after_all}
+use Rattle.s360_laws.specs.Soundness.{IsSound}
+use Rattle.s360_laws.specs.Steps.{FaultDoes}
+use Rattle.s360_laws.proofs.Arms.{arm_stays}
+use Rattle.s360_laws.proofs.Held.{held_until_stored}
+use Rattle.s360_laws.proofs.LedgerLists.{at_most_once, ends_pend, sound_parts, stays_sound}
+use Rattle.s360_laws.proofs.MachineFaults.{fault_ends_halt, fault_ends_step, fault_told_by_reset}
+use Rattle.s360_laws.proofs.NoFaultTold.{no_fault_none_told}
+use Rattle.s360_laws.proofs.Serial.{serial}
+use Rattle.s360_laws.proofs.Starting.{no_start_while_working}
+
+-- a sound machine's program runs
+runs : (m : Machine) → IsSound m → Runs m m.subchannel
+runs m h = (sound_parts m m.subchannel h.1).0
+
+fault_does : (m : Machine) (e : Event) (x : FaultAfter) → Runs m m.subchannel → FaultDoes m e x
+fault_does m (StepBy k) x r = fault_ends_step m k x r
+fault_does m (Hio a) x r = fault_ends_halt m a x r
+fault_does m Reset x r = fault_told_by_reset m x r
+fault_does m (Sio a) x r = refl
+fault_does m (Tio a) x r = refl
+fault_does m Tch x r = refl
+fault_does m (Arrive a) x r = refl
+fault_does m Interrupt x r = refl
+fault_does m (Store at bytes) x r = refl
+fault_does m (SetKey at key) x r = refl
+fault_does m (Show at len) x r = refl
+
+pub headline : HeadlineHolds
+headline m es sound = record {
+  no_start_while_running = λ so_far rest is working. no_start_while_working (after_all so_far m) working;
+  ends_at_most_once = λ so_far rest is u. at_most_once m so_far u sound;
+  ends_pend = λ so_far rest is u. ends_pend m so_far u sound;
+  endings_are_held = λ so_far rest is device csw pends. held_until_stored (after_all so_far m) device csw rest (now so_far) pends;
+  arms_owe = λ so_far rest is u arm later has owes along. arm_stays (after_all so_far m) rest u arm later (now so_far) has owes along;
+  is_serial = λ so_far rest is over. serial m so_far (runs m sound) over;
+  faults_end_programs = λ so_far rest is e x. fault_does (after_all so_far m) e x (runs (after_all so_far m) (now so_far));
+  no_fault_none_told = λ so_far rest is e. no_fault_none_told (after_all so_far m) e (runs (after_all so_far m) (now so_far));
+  stays_sound = λ so_far rest is. now so_far;
+}
+  where
+    now : (so_far : List Input) → IsSound (after_all so_far m)
+    now so_far = stays_sound m so_far sound

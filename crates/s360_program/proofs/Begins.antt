@@ -1,0 +1,143 @@
+-- What the beginning of a command comes to.
+use Rattle.std.proofs.Common.{◌≡◌, ◌⊎◌, inl, inr, ℕ, ◌+◌, refl, sym, ap, subst, ◌∙◌, arith, true, false, Bool, List, Option, Some, None}
+use Rattle.ckd_image.specs.Image.{ImageState}
+use Rattle.s360_words.specs.Storage.{Storage}
+use Rattle.s360_words.specs.declared.flags.TheConstants.ChannelStatus.{PROGRAM_CHECK}
+use Rattle.s360_words.specs.declared.words.Ccw.{Ccw}
+use Rattle.s360_words.specs.declared.words.Csw.{Csw}
+use Rattle.ckd_command.specs.Drive.{Fault, SaveFails, AfterBegin, Rejected, Immediate, Started, begin, drive_of, is_written, unsaved, tells_equipment_check}
+use Rattle.ckd_command.proofs.Marks.{Calm, BegunCalm, begin_calm}
+use Rattle.ckd_command.proofs.Stable.{begin_stable}
+use Rattle.s360_runs.specs.Commands.{choice, requested, Point}
+use Rattle.s360_runs.specs.Endings.{ending, failed, untouched, immediate}
+use Rattle.s360_runs.specs.Places.{Place, fetch, NoCcw, GoodCcw, past_ccw, past_no_ccw}
+use Rattle.s360_runs.specs.Status.{no_channel_status}
+use Rattle.s360_runs.specs.Units.{Between, unit, next_fetched, next_begun, next_chosen}
+use Rattle.ckd_drive.specs.Work.{DriveState, Over, fault_met, with_image, CallsStore, Reports, after_begun, after_begin, answer_of_begin, immediate_ending, closed_of, begin_saves}
+use Rattle.s360_program.specs.Advances.{IsEnding}
+use Rattle.s360_program.specs.Steps.{EndsBy, ComesBy, status_of, condition_for}
+use Rattle.ckd_drive.specs.declared.answers.Begun.TheVariants as begun
+use Rattle.s360_program.specs.declared.conditions.Condition.TheVariants as condition
+use Rattle.s360_program.specs.declared.stages.Run.{Run}
+use Rattle.s360_program.specs.declared.stages.Step.{Step}
+use Rattle.s360_program.proofs.Ends.{calm_before}
+use Rattle.s360_program.proofs.Meeting.{ends_after, ends_now, comes_after, met_none}
+
+-- What was begun, by what the drive answers.
+
+pub rejected_is : (b : AfterBegin) (d0 d1 : DriveState) → begun.Rejected ≡ answer_of_begin b → d1 ≡ with_image (after_begun b d0) d1.image → b ≡ Rejected d1.state
+rejected_is (Rejected s) d0 d1 a e = ap Rejected (sym (ap (λ (d : DriveState). d.state) e))
+rejected_is (Immediate s motion) d0 d1 a e = absurd (never a)
+  where
+    never : begun.Rejected ≡ begun.Immediate → ⊥
+    never h = cc
+rejected_is (Started o) d0 d1 a e = absurd (never a)
+  where
+    never : begun.Rejected ≡ begun.Started → ⊥
+    never h = cc
+
+pub immediate_is : (b : AfterBegin) (d0 d1 : DriveState) → begun.Immediate ≡ answer_of_begin b → d1 ≡ with_image (after_begun b d0) d1.image
+    → (motion : Bool) × (b ≡ Immediate d1.state motion) × (d1.work ≡ Over (immediate_ending motion))
+immediate_is (Rejected s) d0 d1 a e = absurd (never a)
+  where
+    never : begun.Immediate ≡ begun.Rejected → ⊥
+    never h = cc
+immediate_is (Immediate s motion) d0 d1 a e = (motion, ap (λ s. Immediate s motion) (sym (ap (λ (d : DriveState). d.state) e)), ap (λ (d : DriveState). d.work) e)
+immediate_is (Started o) d0 d1 a e = absurd (never a)
+  where
+    never : begun.Immediate ≡ begun.Started → ⊥
+    never h = cc
+
+-- a call that did not fail met no fault
+pub unfailed : (Failed : Type 0) (d0 d1 : DriveState) → (Failed → ⊥) → Reports Failed d0 d1 → d1.image.failures ≡ d0.image.failures
+unfailed Failed d0 d1 n reports = go reports.failed
+  where
+    go : (d1.image.failures ≡ d0.image.failures) ⊎ (Failed × (tells_equipment_check d1.state.registers.sense ≡ true) × (is_written d1.state ≡ false)) → d1.image.failures ≡ d0.image.failures
+    go (inl h) = h
+    go (inr h) = absurd (n h.0)
+
+-- No command is there.
+
+pub misses : (key : ℕ) (p q : Place) (s : Storage) (told : Csw × Bool) (So : Type 0) (d0 d2 : DriveState) → NoCcw ≡ fetch s p true → unsaved d0.state ≡ None
+    → CallsStore false (is_written d0.state) d0 d2 → Reports So d0 d2
+    → q ≡ past_no_ccw p → IsEnding (ending (fault_met d0 d2) key q (untouched d0.state) PROGRAM_CHECK) told d2
+    → EndsBy (λ f. unit f key (Between (record { storage = s; place = p; state = d0.state }))) told s d0 d2
+misses key p q s told So d0 d2 h saved settles tells_of past is =
+    ends_now (λ f. unit f key (Between (record { storage = s; place = p; state = d0.state }))) (untouched d0.state) key (past_no_ccw p) condition.ProgramCheck s told So d0 d2
+    (λ f. ap (next_fetched f key (record { storage = s; place = p; state = d0.state })) (sym h)) refl saved settles tells_of
+    (subst (λ q. IsEnding (ending (fault_met d0 d2) key q (untouched d0.state) PROGRAM_CHECK) told d2) past is)
+
+-- A command is there.
+
+module _ (key : ℕ) (p : Place) (s : Storage) (ccw : Ccw) (d0 d1 : DriveState) (there : GoodCcw ccw ≡ fetch s p true) (saved : unsaved d0.state ≡ None)
+    (state : d1 ≡ with_image (after_begin (fault_met d0 d1) ccw.code d0) d1.image) where
+  abbrev before : Point
+  before = record { storage = s; place = p; state = d0.state }
+
+  calm_begun : BegunCalm (tells_equipment_check (drive_of d0.state).sense ≡ false) (begin None ccw.code d0.state)
+  calm_begun = begin_calm _ ccw.code d0.state (calm_before d0 saved)
+
+  -- the drive rejects it
+  pub rejects : (told : Csw × Bool) (So : Type 0) (d2 : DriveState) → begun.Rejected ≡ answer_of_begin (begin (fault_met d0 d1) ccw.code d0.state)
+      → CallsStore false (begin_saves ccw.code d0) d0 d1 → Reports (begun.Rejected ≡ begun.Rejected) d0 d1
+      → CallsStore false (is_written d1.state) d1 d2 → Reports So d1 d2
+      → (q : Place) → q ≡ past_ccw p ccw → IsEnding (ending (fault_met d1 d2) key q (failed d1.state) no_channel_status) told d2
+      → EndsBy (λ f. unit f key (Between (record { storage = s; place = p; state = d0.state }))) told s d0 d2
+  rejects told So d2 answer calls reports settles tells_of q past is =
+      ends_after (λ f. begin f ccw.code d0.state ≡ Rejected d1.state) (begun.Rejected ≡ begun.Rejected) So (λ f. unit f key (Between before)) (failed d1.state) key (past_ccw p ccw) condition.Clear s told
+      false (begin_saves ccw.code d0) d0 d1 d2
+      (λ f at. ap (next_fetched f key before) (sym there) ∙ ap (next_begun f key (requested before ccw)) at)
+      (λ at left w. begin_stable ccw.code d0.state left (Rejected d1.state) at w)
+      (λ at. subst (BegunCalm (tells_equipment_check (drive_of d0.state).sense ≡ false)) at calm_begun)
+      (λ h. refl) (rejected_is (begin (fault_met d0 d1) ccw.code d0.state) d0 d1 answer state) refl calls reports settles tells_of
+      (subst (λ q. IsEnding (ending (fault_met d1 d2) key q (failed d1.state) no_channel_status) told d2) past is)
+
+  -- it is over at once
+  pub immediate_same : Reports (begun.Immediate ≡ begun.Rejected) d0 d1 → d1.image.failures ≡ d0.image.failures
+  immediate_same reports = unfailed (begun.Immediate ≡ begun.Rejected) d0 d1 other reports
+    where
+      other : begun.Immediate ≡ begun.Rejected → ⊥
+      other h = cc
+
+  pub immediate_calm : begun.Immediate ≡ answer_of_begin (begin (fault_met d0 d1) ccw.code d0.state) → Reports (begun.Immediate ≡ begun.Rejected) d0 d1
+      → Calm (tells_equipment_check (drive_of d0.state).sense ≡ false) d1.state
+  immediate_calm answer reports =
+      let b = immediate_is (begin (fault_met d0 d1) ccw.code d0.state) d0 d1 answer state in
+      subst (BegunCalm (tells_equipment_check (drive_of d0.state).sense ≡ false)) (ap (λ f. begin f ccw.code d0.state) (sym (met_none d0 d1 (immediate_same reports))) ∙ b.1) calm_begun
+
+  pub immediately : (r1 : Run) (a : Step) (d2 : DriveState) → begun.Immediate ≡ answer_of_begin (begin (fault_met d0 d1) ccw.code d0.state) → Reports (begun.Immediate ≡ begun.Rejected) d0 d1
+      → d2.image.loads ≡ d1.image.loads → (is_written d1.state ≡ false → is_written (closed_of None d1 d1.work).state ≡ false → d2.image ≡ d1.image)
+      → (q : Place) → q ≡ past_ccw p ccw
+      → ComesBy key (λ f. next_chosen (choice f key (record { storage = s; ccw = ccw; place = q }) (closed_of f d1 d1.work) (status_of (condition_for false (closed_of f d1 d1.work).unit)))) a r1 s d1 d2
+      → ComesBy key (λ f. unit f key (Between (record { storage = s; place = p; state = d0.state }))) a r1 s d0 d2
+  immediately r1 a d2 answer reports loads unwritten q past is =
+      comes_after (λ f. begin f ccw.code d0.state ≡ Immediate d1.state b.0) (λ f. unit f key (Between before))
+      (λ f. next_chosen (choice f key (record { storage = s; ccw = ccw; place = past_ccw p ccw }) (closed_of f d1 d1.work) (status_of (condition_for false (closed_of f d1 d1.work).unit)))) key s r1 a d0 d1 d2
+      (λ f at. ap (next_fetched f key before) (sym there) ∙ ap (next_begun f key (requested before ccw)) at ∙ chosen f)
+      none (λ left rose. stable left rose (is_written d1.state) refl) (immediate_same reports) loads (immediate_calm answer reports).quiet
+      (subst (λ q. ComesBy key (λ f. next_chosen (choice f key (record { storage = s; ccw = ccw; place = q }) (closed_of f d1 d1.work) (status_of (condition_for false (closed_of f d1 d1.work).unit)))) a r1 s d1 d2) past is)
+    where
+      b : (motion : Bool) × (begin (fault_met d0 d1) ccw.code d0.state ≡ Immediate d1.state motion) × (d1.work ≡ Over (immediate_ending motion))
+      b = immediate_is (begin (fault_met d0 d1) ccw.code d0.state) d0 d1 answer state
+
+      none : begin None ccw.code d0.state ≡ Immediate d1.state b.0
+      none = ap (λ f. begin f ccw.code d0.state) (sym (met_none d0 d1 (immediate_same reports))) ∙ b.1
+
+      closed_unwritten : is_written d1.state ≡ false → is_written (closed_of None d1 d1.work).state ≡ false
+      closed_unwritten w = ap (λ v. is_written (closed_of None d1 v).state) b.2 ∙ w
+
+      stable : (left : List ℕ) → d2.image.failures ≡ d1.image.failures + 1 → (w : Bool) → is_written d1.state ≡ w → begin (Some (SaveFails left)) ccw.code d0.state ≡ Immediate d1.state b.0
+      stable left rose true w = begin_stable ccw.code d0.state left (Immediate d1.state b.0) none w
+      stable left rose false w = absurd (never (ap (λ (i : ImageState). i.failures) (unwritten w (closed_unwritten w))) rose)
+        where
+          never : d2.image.failures ≡ d1.image.failures → d2.image.failures ≡ d1.image.failures + 1 → ⊥
+          never x y = omega arith
+
+      over : (m : Bool) → immediate d1.state m ≡ record { state = d1.state; unit = (immediate_ending m).unit; motion = m }
+      over true = refl
+      over false = refl
+
+      chosen : (f : Option Fault) → next_chosen (choice f key (requested before ccw) (immediate d1.state b.0) no_channel_status)
+          ≡ next_chosen (choice f key (record { storage = s; ccw = ccw; place = past_ccw p ccw }) (closed_of f d1 d1.work) (status_of (condition_for false (closed_of f d1 d1.work).unit)))
+      chosen f =
+          ap (λ c. next_chosen (choice f key (requested before ccw) c no_channel_status)) (over b.0 ∙ sym (ap (closed_of f d1) b.2))

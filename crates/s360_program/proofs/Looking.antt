@@ -1,0 +1,200 @@
+-- What a look for the area of a command comes to.
+use Rattle.std.proofs.Common.{◌≡◌, ℕ, zero, suc, ◌+◌, ◌<◌, ◌≤◌, refl, sym, ap, subst, ◌∙◌, arith, false, Bool, [], Option, None}
+use Rattle.s360_words.specs.Storage.{Storage}
+use Rattle.s360_words.specs.declared.words.Ccw.{Ccw}
+use Rattle.s360_words.specs.declared.words.Csw.{Csw}
+use Rattle.ckd_command.specs.declared.steps.Opened.{Opened}
+use Rattle.ckd_command.specs.Drive.{Open, Fault, AfterLook, Ready, Passed, Failed, look, length_of, drive_of, is_written, tells_equipment_check}
+use Rattle.ckd_command.proofs.Marks.{Calm, LookCalm, look_calm}
+use Rattle.ckd_command.proofs.Stable.{look_stable}
+use Rattle.ckd_drive.specs.declared.answers.Look.TheVariants as seen
+use Rattle.ckd_drive.specs.Work.{DriveState, Work, Idle, Over, Looking, Passing, fault_met, with_image, CallsStore, Reports, after_sight, after_look, after_look_of, answer_of_look, failed_ending, look_loads, look_saves}
+use Rattle.s360_runs.specs.Endings.{ending, failed}
+use Rattle.s360_runs.specs.Scripts.{units}
+use Rattle.s360_runs.specs.Status.{no_channel_status}
+use Rattle.s360_runs.specs.Transfers.{Request}
+use Rattle.s360_runs.specs.Units.{GoesOn, unit, next_looked, walk, on_next, StandsIn}
+use Rattle.s360_runs.specs.Units as phase
+use Rattle.s360_program.specs.Advances.{IsEnding}
+use Rattle.s360_program.specs.Places.{place_of}
+use Rattle.s360_program.specs.Stands.{StageFits, StageWithin, phase_by, phase_in}
+use Rattle.s360_program.specs.Steps.{run_of, Fits, EndsBy, Steps, WalksBy}
+use Rattle.s360_program.specs.declared.conditions.Condition.TheVariants as condition
+use Rattle.s360_program.specs.declared.stages.Run.{Run}
+use Rattle.s360_program.specs.declared.stages.Stage.TheVariants as stage
+use Rattle.s360_program.specs.declared.stages.Step.{Step}
+use Rattle.s360_program.specs.declared.stages.Step.TheVariants as step
+use Rattle.s360_program.proofs.Begins.{unfailed}
+use Rattle.s360_program.proofs.Ends.{calm_before}
+use Rattle.s360_program.proofs.Meeting.{ends_after, more_after, met_none}
+
+-- What was seen, by what the drive answers.
+
+failed_is : (k : AfterLook) (d0 d1 : DriveState) → seen.Failed ≡ answer_of_look d1.work → d1 ≡ with_image (after_sight k d0) d1.image → k ≡ Failed d1.state
+failed_is (Failed t) d0 d1 a e = ap Failed (sym (ap (λ (d : DriveState). d.state) e))
+failed_is (Passed q) d0 d1 a e = absurd (never (a ∙ ap (λ (d : DriveState). answer_of_look d.work) e))
+  where
+    never : seen.Failed ≡ seen.Passed → ⊥
+    never h = cc
+failed_is (Ready q) d0 d1 a e = absurd (never (a ∙ ap (λ (d : DriveState). answer_of_look d.work) e))
+  where
+    never : seen.Failed ≡ seen.Ready (length_of q []) → ⊥
+    never h = cc
+
+passed_is : (k : AfterLook) (d0 d1 : DriveState) → seen.Passed ≡ answer_of_look d1.work → d1 ≡ with_image (after_sight k d0) d1.image
+    → (q : Opened) × (k ≡ Passed (record { opened = q; state = d1.state })) × (d1.work ≡ Looking q)
+passed_is (Passed q) d0 d1 a e = (q.opened, ap (λ s. Passed (record { opened = q.opened; state = s })) (sym (ap (λ (d : DriveState). d.state) e)), ap (λ (d : DriveState). d.work) e)
+passed_is (Failed t) d0 d1 a e = absurd (never (a ∙ ap (λ (d : DriveState). answer_of_look d.work) e))
+  where
+    never : seen.Passed ≡ seen.Failed → ⊥
+    never h = cc
+passed_is (Ready q) d0 d1 a e = absurd (never (a ∙ ap (λ (d : DriveState). answer_of_look d.work) e))
+  where
+    never : seen.Passed ≡ seen.Ready (length_of q []) → ⊥
+    never h = cc
+
+ready_is : (left : ℕ) (k : AfterLook) (d0 d1 : DriveState) → seen.Ready left ≡ answer_of_look d1.work → d1 ≡ with_image (after_sight k d0) d1.image
+    → (q : Opened) × (k ≡ Ready (record { opened = q; state = d1.state })) × (d1.work ≡ Passing q [] (length_of (record { opened = q; state = d1.state }) []))
+ready_is left (Ready q) d0 d1 a e =
+    let st = ap (λ (d : DriveState). d.state) e in (
+      q.opened,
+      ap (λ s. Ready (record { opened = q.opened; state = s })) (sym st),
+      ap (λ (d : DriveState). d.work) e ∙ ap (λ s. Passing q.opened [] (length_of (record { opened = q.opened; state = s }) [])) (sym st),
+    )
+ready_is left (Failed t) d0 d1 a e = absurd (never (a ∙ ap (λ (d : DriveState). answer_of_look d.work) e))
+  where
+    never : seen.Ready left ≡ seen.Failed → ⊥
+    never h = cc
+ready_is left (Passed q) d0 d1 a e = absurd (never (a ∙ ap (λ (d : DriveState). answer_of_look d.work) e))
+  where
+    never : seen.Ready left ≡ seen.Passed → ⊥
+    never h = cc
+
+-- the drive looks for the area of a command
+pub looking_is : (ccw : Ccw) (r : Run) (d : DriveState) → Fits r d → r.stage ≡ stage.Looking ccw → (o : Opened) × (d.work ≡ Looking o)
+looking_is ccw r d fits at = go d.work (subst (λ g. StageFits g d.state d.work) at fits.stands.fits)
+  where
+    go : (w : Work) → StageFits (stage.Looking ccw) d.state w → (o : Opened) × (w ≡ Looking o)
+    go (Looking o) f = (o, refl)
+    go Idle f = absurd f
+    go (Over x) f = absurd f
+    go (Passing o b l) f = absurd f
+
+module _ (ccw : Ccw) (r : Run) (s : Storage) (d0 d1 : DriveState) (fits : Fits r d0) (at : r.stage ≡ stage.Looking ccw)
+    (state : d1 ≡ with_image (after_look (fault_met d0 d1) d0) d1.image) where
+  abbrev work : (o : Opened) × (d0.work ≡ Looking o)
+  work = looking_is ccw r d0 fits at
+
+  abbrev O : Open
+  O = record { opened = (looking_is ccw r d0 fits at).0; state = d0.state }
+
+  abbrev Q : Request
+  Q = record { storage = s; ccw = ccw; place = place_of r.place }
+
+  sighted : d1 ≡ with_image (after_sight (look (fault_met d0 d1) O) d0) d1.image
+  sighted = state ∙ ap (λ w. with_image (after_look_of (fault_met d0 d1) d0 w) d1.image) work.1
+
+  looks : phase_in (run_of r) s d0 ≡ phase.Looking O Q
+  looks = ap (λ g. phase_by g (place_of r.place) s d0.state d0.work) at ∙ ap (λ w. phase_by (stage.Looking ccw) (place_of r.place) s d0.state w) work.1
+
+  calm_look : LookCalm (tells_equipment_check (drive_of d0.state).sense ≡ false) (look None O)
+  calm_look = look_calm _ O (calm_before d0 fits.stands.saved)
+
+  pub look_fails : (told : Csw × Bool) (So : Type 0) (d2 : DriveState) → seen.Failed ≡ answer_of_look d1.work → CallsStore (look_loads d0) (look_saves d0) d0 d1
+      → Reports (d1.work ≡ Over failed_ending) d0 d1 → CallsStore false (is_written d1.state) d1 d2 → Reports So d1 d2
+      → IsEnding (ending (fault_met d1 d2) r.key (place_of r.place) (failed d1.state) no_channel_status) told d2
+      → EndsBy (λ f. unit f r.key (phase_in (run_of r) s d0)) told s d0 d2
+  look_fails told So d2 answer calls reports settles tells_of is =
+      ends_after (λ f. look f O ≡ Failed d1.state) (d1.work ≡ Over failed_ending) So (λ f. unit f r.key (phase_in (run_of r) s d0)) (failed d1.state) r.key (place_of r.place) condition.Clear s told
+      (look_loads d0) (look_saves d0) d0 d1 d2
+      (λ f h. ap (unit f r.key) looks ∙ ap (next_looked f r.key Q) h)
+      (λ h left w. look_stable left O (Failed d1.state) h tt)
+      (λ h. subst (LookCalm (tells_equipment_check (drive_of d0.state).sense ≡ false)) h calm_look)
+      (λ h. refl) (failed_is (look (fault_met d0 d1) O) d0 d1 answer sighted) refl calls reports settles tells_of is
+
+  not_over : (w : Work) (k : seen.the_data) → k ≡ answer_of_look w → (k ≡ seen.Failed → ⊥) → w ≡ Over failed_ending → ⊥
+  not_over w k e n h = n (e ∙ ap answer_of_look h)
+
+  pub look_passes : (most : ℕ) → 0 < most → seen.Passed ≡ answer_of_look d1.work → Reports (d1.work ≡ Over failed_ending) d0 d1
+      → WalksBy r.key (phase_in (run_of r) s d0) most 1 r s d0 d1
+  look_passes most some answer reports = record {
+    some = omega arith;
+    few = omega arith;
+    failures = same;
+    goes = ap (λ g. on_next [] (unit None r.key g) (walk [] r.key)) looks ∙ ap (λ l. on_next [] (next_looked None r.key Q l) (walk [] r.key)) none
+        ∙ sym (ap StandsIn (ap (λ g. phase_by g (place_of r.place) s d1.state d1.work) at ∙ ap (λ w. phase_by (stage.Looking ccw) (place_of r.place) s d1.state w) q.2));
+    same_key = refl;
+    fits = record { within = fits.within; stands = record { fits = subst (λ g. StageFits g d1.state d1.work) (sym at) (subst (StageFits (stage.Looking ccw) d1.state) (sym q.2) tt); saved = calm.saved } };
+    no_check = calm.quiet;
+  }
+    where
+      never : seen.Passed ≡ seen.Failed → ⊥
+      never h = cc
+
+      same : d1.image.failures ≡ d0.image.failures
+      same = unfailed (d1.work ≡ Over failed_ending) d0 d1 (not_over d1.work seen.Passed answer never) reports
+
+      q : (q : Opened) × (look (fault_met d0 d1) O ≡ Passed (record { opened = q; state = d1.state })) × (d1.work ≡ Looking q)
+      q = passed_is (look (fault_met d0 d1) O) d0 d1 answer sighted
+
+      none : look None O ≡ Passed (record { opened = q.0; state = d1.state })
+      none = ap (λ f. look f O) (sym (met_none d0 d1 same)) ∙ q.1
+
+      calm : Calm (tells_equipment_check (drive_of d0.state).sense ≡ false) d1.state
+      calm = subst (LookCalm (tells_equipment_check (drive_of d0.state).sense ≡ false)) none calm_look
+
+  -- the area is found, and the unit goes on
+
+  module _ (left : ℕ) (answer : seen.Ready left ≡ answer_of_look d1.work) (reports : Reports (d1.work ≡ Over failed_ending) d0 d1) where
+    never_failed : seen.Ready left ≡ seen.Failed → ⊥
+    never_failed h = cc
+
+    ready_same : d1.image.failures ≡ d0.image.failures
+    ready_same = unfailed (d1.work ≡ Over failed_ending) d0 d1 (not_over d1.work (seen.Ready left) answer never_failed) reports
+
+    abbrev ready : (q : Opened) × (look (fault_met d0 d1) O ≡ Ready (record { opened = q; state = d1.state })) × (d1.work ≡ Passing q [] (length_of (record { opened = q; state = d1.state }) []))
+    ready = ready_is left (look (fault_met d0 d1) O) d0 d1 answer sighted
+
+    ready_none : look None O ≡ Ready (record { opened = ready.0; state = d1.state })
+    ready_none = ap (λ f. look f O) (sym (met_none d0 d1 ready_same)) ∙ ready.1
+
+    ready_calm : Calm (tells_equipment_check (drive_of d0.state).sense ≡ false) d1.state
+    ready_calm = subst (LookCalm (tells_equipment_check (drive_of d0.state).sense ≡ false)) ready_none calm_look
+
+    pub look_fits : Fits (record r { stage = stage.Moving ccw ccw.address }) d1
+    look_fits = record {
+      within = record { key = fits.within.key; place = fits.within.place; stage = subst (λ g. StageWithin g (place_of r.place)) at fits.within.stage };
+      stands = record { fits = subst (StageFits (stage.Moving ccw ccw.address) d1.state) (sym ready.2) (all (length_of (record { opened = ready.0; state = d1.state }) []), λ g. just (length_of (record { opened = ready.0; state = d1.state }) [])); saved = ready_calm.saved };
+    }
+      where
+        all : (n : ℕ) → 0 + n ≤ n
+        all n = omega arith
+
+        just : (n : ℕ) → 0 + n ≡ n
+        just n = omega arith
+
+    moves : (f : Option Fault) → look f O ≡ Ready (record { opened = ready.0; state = d1.state })
+        → unit f r.key (phase_in (run_of r) s d0) ≡ unit f r.key (phase_by (stage.Moving ccw ccw.address) (place_of r.place) s d1.state d1.work)
+    moves f h =
+        ap (unit f r.key) looks ∙ ap (next_looked f r.key Q) h ∙ ap (λ w. unit f r.key (phase_by (stage.Moving ccw ccw.address) (place_of r.place) s d1.state w)) (sym ready.2)
+
+    pub look_finds : (most : ℕ) (r2 : Run) (s2 : Storage) (a : Step) (d2 : DriveState) → d2.image.loads ≡ d1.image.loads
+        → Steps r.key (phase_by (stage.Moving ccw ccw.address) (place_of r.place) s d1.state d1.work) most a r2 s2 d1 d2
+        → Steps r.key (phase_in (run_of r) s d0) most a r2 s2 d0 d2
+    look_finds most r2 s2 (step.Units n) d2 loads w = record {
+      some = w.some;
+      few = w.few;
+      failures = w.failures ∙ ready_same;
+      goes = walks n w.some ∙ w.goes;
+      same_key = w.same_key;
+      fits = w.fits;
+      no_check = λ q. w.no_check (ready_calm.quiet q);
+    }
+      where
+        walks : (n : ℕ) → 0 < n → walk (units n) r.key (phase_in (run_of r) s d0) ≡ walk (units n) r.key (phase_by (stage.Moving ccw ccw.address) (place_of r.place) s d1.state d1.work)
+        walks zero h = absurd (omega arith)
+        walks (suc n) h = ap (λ x. on_next (units n) x (walk (units n) r.key)) (moves None ready_none)
+    look_finds most r2 s2 (step.Over told) d2 loads is =
+        more_after (λ f. look f O ≡ Ready (record { opened = ready.0; state = d1.state })) (λ f. unit f r.key (phase_in (run_of r) s d0))
+        (λ f. unit f r.key (phase_by (stage.Moving ccw ccw.address) (place_of r.place) s d1.state d1.work)) s2 told d0 d1 d2
+        moves ready_none (λ left rose. look_stable left O (Ready (record { opened = ready.0; state = d1.state })) ready_none tt) ready_same loads ready_calm.quiet is

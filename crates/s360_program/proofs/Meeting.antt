@@ -1,0 +1,317 @@
+-- Faults that the calls of one unit meet together.
+use Rattle.std.proofs.Common.{◌≡◌, ◌⊎◌, inl, inr, ℕ, ◌+◌, ◌<◌, ◌≤◌, refl, sym, ap, subst, ◌∙◌, arith, true, false, Bool, not, ◌&&◌, ◌==◌, List, [], Option, Some, None}
+use Rattle.std.specs.Prelude.{slice_index_or, if◌then◌else◌}
+use Rattle.std.proofs.lemmas.Bool.Decides.{nat_tests}
+use Rattle.std.proofs.lemmas.Nat.{and_or_self}
+use Rattle.ckd_image.specs.Image.{ImageState}
+use Rattle.s360_words.specs.Storage.{Storage}
+use Rattle.s360_words.specs.Words.{has}
+use Rattle.s360_words.specs.declared.flags.TheConstants.ChannelStatus.{INCORRECT_LENGTH}
+use Rattle.s360_words.specs.declared.flags.TheConstants.UnitStatus.{UNIT_CHECK}
+use Rattle.s360_words.specs.declared.flags.UnitStatus.{UnitStatus}
+use Rattle.s360_words.specs.declared.words.Csw.{Csw}
+use Rattle.ckd_command.specs.declared.registers.Mark.{Mark}
+use Rattle.ckd_command.specs.declared.registers.Mark.TheVariants.{Saved, Written, Lost}
+use Rattle.ckd_command.specs.Drive.{IdleDrive, Closed, Fault, LoadFails, SaveFails, drive_of, is_written, is_written_by, left_by, saving, settled, with_unit_check, number_under, unsaved, tells_equipment_check}
+use Rattle.ckd_command.proofs.Marks.{Calm}
+use Rattle.s360_runs.specs.Endings.{ending, settled_ending}
+use Rattle.s360_runs.specs.Places.{Place}
+use Rattle.s360_runs.specs.Status.{tells, beside, with_interruption}
+use Rattle.s360_runs.specs.Units.{Next, EndsIn}
+use Rattle.s360_runs.specs.Unsaved.{GainsNoCheck}
+use Rattle.ckd_drive.specs.Work.{DriveState, fault_met, CallsStore, Reports}
+use Rattle.s360_program.specs.Advances.{IsEnding, TellsFault, CallsAtMost}
+use Rattle.s360_program.specs.Steps.{IsMetBy, ToldOf, EndsBy, ComesBy, status_of}
+use Rattle.s360_program.specs.declared.conditions.Condition.{Condition}
+use Rattle.s360_program.specs.declared.conditions.Condition.TheVariants as condition
+use Rattle.s360_program.specs.declared.stages.Run.{Run}
+use Rattle.s360_program.specs.declared.stages.Step.{Step}
+use Rattle.s360_program.specs.declared.stages.Step.TheVariants as step
+
+never : {P : Type 0} → ◌≡◌ {A = Bool} false true → P
+never h = absurd (cc)
+
+-- The fault that a call met.
+
+self_equal : (n : ℕ) → (n == n) ≡ true
+self_equal n = grind (arith, nat_tests)
+
+one_more : (n : ℕ) → (n + 1 == n) ≡ false
+one_more n = grind (arith, nat_tests)
+
+abbrev by_counts : (failed saved : Bool) → List ℕ → Option Fault
+by_counts failed saved left = if failed then None else (if saved then Some LoadFails else Some (SaveFails left))
+
+left_in : (d0 d1 : DriveState) → List ℕ
+left_in d0 d1 = slice_index_or d1.image.slots (number_under d0.state) []
+
+pub met_none : (d0 d1 : DriveState) → d1.image.failures ≡ d0.image.failures → fault_met d0 d1 ≡ None
+met_none d0 d1 h =
+    ap (λ n. by_counts (n == d0.image.failures) (d1.image.saves == d0.image.saves) (slice_index_or d1.image.slots (number_under d0.state) [])) h
+    ∙ ap (λ b. by_counts b (d1.image.saves == d0.image.saves) (slice_index_or d1.image.slots (number_under d0.state) [])) (self_equal d0.image.failures)
+
+pub met_by : (l m : Bool) (d0 d1 : DriveState) → CallsStore l m d0 d1 → IsMetBy (fault_met d0 d1) d0 d1
+met_by l m d0 d1 k = go m k.saves k.failures
+  where
+    left : List ℕ
+    left = slice_index_or d1.image.slots (number_under d0.state) []
+
+    failed : d1.image.failures ≡ d0.image.failures + 1 → (b : Bool) → (d1.image.saves == d0.image.saves) ≡ b → fault_met d0 d1 ≡ by_counts false b left
+    failed h b e =
+        ap (λ n. by_counts (n == d0.image.failures) (d1.image.saves == d0.image.saves) left) h
+        ∙ ap (λ b. by_counts b (d1.image.saves == d0.image.saves) left) (one_more d0.image.failures)
+        ∙ ap (λ b. by_counts false b left) e
+
+    go : (m : Bool) → d1.image.saves ≡ d0.image.saves + (if m then 1 else 0)
+        → (d1.image.failures ≡ d0.image.failures) ⊎ ((d1.image.failures ≡ d0.image.failures + 1) × ((m ≡ true) ⊎ (d1.image.loads ≡ d0.image.loads + 1)))
+        → IsMetBy (fault_met d0 d1) d0 d1
+    go m s (inl h) = subst (λ f. IsMetBy f d0 d1) (sym (met_none d0 d1 h)) h
+    go true s (inr h) =
+        subst (λ f. IsMetBy f d0 d1) (sym (failed h.0 false (ap (λ n. n == d0.image.saves) s ∙ one_more d0.image.saves))) h.0
+    go false s (inr (h, inl x)) = never x
+    go false s (inr (h, inr x)) =
+        subst (λ f. IsMetBy f d0 d1) (sym (failed h true (ap (λ n. n == d0.image.saves) (s ∙ none d0.image.saves) ∙ self_equal d0.image.saves))) (h, risen d0.image.loads d1.image.loads x)
+      where
+        none : (n : ℕ) → n + 0 ≡ n
+        none n = omega arith
+
+        risen : (a b : ℕ) → b ≡ a + 1 → a < b
+        risen a b h = omega arith
+
+-- a call that saves nothing and loads nothing leaves the image
+pub untouched : (m : Bool) (d0 d1 : DriveState) → m ≡ false → CallsStore false m d0 d1 → d1.image ≡ d0.image
+untouched m d0 d1 e k = k.untouched e (go k.loads)
+  where
+    go : (d1.image.loads ≡ d0.image.loads) ⊎ ((false ≡ true) × (m ≡ false) × (d1.image.loads ≡ d0.image.loads + 1)) → d1.image.loads ≡ d0.image.loads
+    go (inl h) = h
+    go (inr h) = never h.0
+
+-- a call that loads nothing
+pub loads_none : (m : Bool) (d0 d1 : DriveState) → CallsStore false m d0 d1 → d1.image.loads ≡ d0.image.loads
+loads_none m d0 d1 k = go k.loads
+  where
+    go : (d1.image.loads ≡ d0.image.loads) ⊎ ((false ≡ true) × (m ≡ false) × (d1.image.loads ≡ d0.image.loads + 1)) → d1.image.loads ≡ d0.image.loads
+    go (inl h) = h
+    go (inr h) = never h.0
+
+-- Settling.
+
+-- where nothing is to be saved, no saving fails
+settled_unwritten : (f : Option Fault) (c : Closed) → is_written c.state ≡ false → settled f c ≡ c
+settled_unwritten None c h = refl
+settled_unwritten (Some LoadFails) c h = refl
+settled_unwritten (Some (SaveFails left)) c h = go c.state.mark h
+  where
+    go : (m : Mark) → is_written_by m ≡ false → saving (left_by (Some (SaveFails left)) m) c.state (λ s. record c { state = s; unit = with_unit_check c.unit }) c ≡ c
+    go Saved k = refl
+    go Lost k = refl
+    go Written k = never (sym k)
+
+-- where a written track can't be saved, unit check is told
+settled_failed : (left : List ℕ) (c : Closed) → is_written c.state ≡ true → tells (settled (Some (SaveFails left)) c).unit UNIT_CHECK ≡ true
+settled_failed left c h = go c.state.mark h
+  where
+    go : (m : Mark) → is_written_by m ≡ true → tells (saving (left_by (Some (SaveFails left)) m) c.state (λ s. record c { state = s; unit = with_unit_check c.unit }) c).unit UNIT_CHECK ≡ true
+    go Saved k = never k
+    go Lost k = never k
+    go Written k = ap (λ n. not (n == 0)) (and_or_self 0x02 c.unit.0)
+
+ending_unwritten : (f g : Option Fault) (key : ℕ) (p : Place) (c : Closed) (k : Condition) → is_written c.state ≡ false → ending f key p c (status_of k) ≡ ending g key p c (status_of k)
+ending_unwritten f g key p c k h =
+    ap (λ c. settled_ending key p c (status_of k)) (settled_unwritten f c h) ∙ sym (ap (λ c. settled_ending key p c (status_of k)) (settled_unwritten g c h))
+
+-- incorrect length is not told beside unit check
+length_untold : (asked : Bool) (unit : UnitStatus) (k : Condition) → tells unit UNIT_CHECK ≡ true → has (with_interruption asked (beside unit (status_of k))).0 INCORRECT_LENGTH.0 ≡ false
+length_untold asked unit k h = ap (λ b. has (with_interruption asked (if b && is_length k then record { 0 = 0 } else status_of k)).0 INCORRECT_LENGTH.0) h ∙ go asked k
+  where
+    is_length : Condition → Bool
+    is_length k = (status_of k).0 == INCORRECT_LENGTH.0
+
+    go : (asked : Bool) (k : Condition) → has (with_interruption asked (if is_length k then record { 0 = 0 } else status_of k)).0 INCORRECT_LENGTH.0 ≡ false
+    go true condition.Clear = refl
+    go true condition.IncorrectLength = refl
+    go true condition.ProgramCheck = refl
+    go true condition.ProtectionCheck = refl
+    go false condition.Clear = refl
+    go false condition.IncorrectLength = refl
+    go false condition.ProgramCheck = refl
+    go false condition.ProtectionCheck = refl
+
+tells_fault : (f : Option Fault) (key : ℕ) (p : Place) (c : Closed) (k : Condition) (told : Csw × Bool) (d : DriveState) → tells (settled f c).unit UNIT_CHECK ≡ true
+    → tells_equipment_check d.state.registers.sense ≡ true → IsEnding (ending f key p c (status_of k)) told d → TellsFault told.0 d
+tells_fault f key p c k told d unit sense is = record {
+  unit_check = ap (λ (w : Csw). tells w.unit UNIT_CHECK) is.csw ∙ unit;
+  length = ap (λ (w : Csw). has w.channel.0 INCORRECT_LENGTH.0) is.csw ∙ length_untold p.interruption (settled f c).unit k unit;
+  equipment_check = sense;
+}
+
+-- A call of the drive, and then the end of the program: together they meet the fault of the one that failed. `At f` says that with
+-- the fault f the call comes to what it came to.
+pub ends_after : (At : Option Fault → Type 0) (Failed So : Type 0) (next : Option Fault → Next) (c : Closed) (key : ℕ) (p : Place) (k : Condition) (s : Storage) (told : Csw × Bool) (l m : Bool) (d0 d1 d2 : DriveState)
+    → ((f : Option Fault) → At f → next f ≡ EndsIn s (ending f key p c (status_of k)))
+    → (At None → (left : List ℕ) → is_written c.state ≡ true → At (Some (SaveFails left)))
+    → (At None → Calm (tells_equipment_check (drive_of d0.state).sense ≡ false) c.state)
+    → (Failed → tells c.unit UNIT_CHECK ≡ true)
+    → At (fault_met d0 d1) → c.state ≡ d1.state → CallsStore l m d0 d1 → Reports Failed d0 d1
+    → CallsStore false (is_written d1.state) d1 d2 → Reports So d1 d2
+    → IsEnding (ending (fault_met d1 d2) key p c (status_of k)) told d2 → EndsBy next told s d0 d2
+ends_after At Failed So next c key p k s told l m d0 d1 d2 nexts stable calm fails at same calls reports settles tells_of is = by_count calls.failures
+  where
+    by : (f g : Option Fault) → IsMetBy f d0 d2 → next f ≡ EndsIn s (ending g key p c (status_of k)) → IsEnding (ending g key p c (status_of k)) told d2 → ToldOf f told.0 d0 d2 → EndsBy next told s d0 d2
+    by f g m e is t = record { fault = f; met = m; ending = ending g key p c (status_of k); ends = e; is_ending = is; told_of = t }
+
+    -- the second call, where the first one did not fail
+    by_second : d1.image.failures ≡ d0.image.failures → At None → (f : Option Fault) → IsMetBy f d1 d2 → IsEnding (ending f key p c (status_of k)) told d2 → EndsBy next told s d0 d2
+    by_second h at None m is =
+        by None None (m ∙ h) (nexts None at) is
+        (record { saved = is.drive.unsaved ∙ (calm at).saved; no_check = subst (λ e. GainsNoCheck (drive_of d0.state) e) (sym is.drive.drive) (calm at).quiet })
+    by_second h at (Some LoadFails) m is = absurd (no m.1)
+      where
+        no : d1.image.loads < d2.image.loads → ⊥
+        no k = omega (arith, loads_none (is_written d1.state) d1 d2 settles)
+    by_second h at (Some (SaveFails left)) m is = by_failure settles.failures
+      where
+        never_loads : d2.image.loads ≡ d1.image.loads → d2.image.loads ≡ d1.image.loads + 1 → ⊥
+        never_loads x y = omega arith
+
+        never_same : d2.image.failures ≡ d1.image.failures → d2.image.failures ≡ d1.image.failures + 1 → ⊥
+        never_same x y = omega arith
+
+        written : is_written d1.state ≡ true → EndsBy next told s d0 d2
+        written w =
+            let cw : is_written c.state ≡ true = ap is_written same ∙ w in
+            by (Some (SaveFails left)) (Some (SaveFails left)) (m ∙ ap (λ n. n + 1) h) (nexts (Some (SaveFails left)) (stable at left cw)) is
+            (tells_fault (Some (SaveFails left)) key p c k told d2 (settled_failed left c cw) (sense tells_of.failed) is)
+          where
+            sense : (d2.image.failures ≡ d1.image.failures) ⊎ (So × (tells_equipment_check d2.state.registers.sense ≡ true) × (is_written d2.state ≡ false)) → tells_equipment_check d2.state.registers.sense ≡ true
+            sense (inl x) = absurd (never_same x m)
+            sense (inr x) = x.1
+
+        by_failure : (d2.image.failures ≡ d1.image.failures) ⊎ ((d2.image.failures ≡ d1.image.failures + 1) × ((is_written d1.state ≡ true) ⊎ (d2.image.loads ≡ d1.image.loads + 1))) → EndsBy next told s d0 d2
+        by_failure (inl x) = absurd (never_same x m)
+        by_failure (inr (x, inl w)) = written w
+        by_failure (inr (x, inr y)) = absurd (never_loads (loads_none (is_written d1.state) d1 d2 settles) y)
+
+    -- the first one failed, and nothing is saved by the second
+    moved : d2.image ≡ d1.image → (f : Option Fault) → IsMetBy f d0 d1 → IsMetBy f d0 d2
+    moved e None m = ap (λ (i : ImageState). i.failures) e ∙ m
+    moved e (Some LoadFails) m = (ap (λ (i : ImageState). i.failures) e ∙ m.0, subst (λ (i : ImageState). d0.image.loads < i.loads) (sym e) m.1)
+    moved e (Some (SaveFails left)) m = ap (λ (i : ImageState). i.failures) e ∙ m
+
+    by_first : d1.image.failures ≡ d0.image.failures + 1 → Failed → tells_equipment_check d1.state.registers.sense ≡ true → is_written d1.state ≡ false → (f : Option Fault) → At f → IsMetBy f d0 d2 → EndsBy next told s d0 d2
+    by_first rose failed sense w f at m =
+        by f (fault_met d1 d2) m (nexts f at ∙ ap (λ e. EndsIn s e) (ending_unwritten f (fault_met d1 d2) key p c k cw)) is (told_by f m)
+      where
+        cw : is_written c.state ≡ false
+        cw = ap is_written same ∙ w
+
+        kept : settled (fault_met d1 d2) c ≡ c
+        kept = settled_unwritten (fault_met d1 d2) c cw
+
+        drive : drive_of d2.state ≡ drive_of d1.state
+        drive = is.drive.drive ∙ ap (λ (c : Closed). drive_of c.state) kept ∙ ap drive_of same
+
+        check : tells_equipment_check d2.state.registers.sense ≡ true
+        check = ap (λ (d : IdleDrive). tells_equipment_check d.sense) drive ∙ sense
+
+        image : d2.image ≡ d1.image
+        image = untouched (is_written d1.state) d1 d2 w settles
+
+        never_both : d2.image.failures ≡ d0.image.failures → d2.image.failures ≡ d0.image.failures + 1 → ⊥
+        never_both x y = omega arith
+
+        told_by : (f : Option Fault) → IsMetBy f d0 d2 → ToldOf f told.0 d0 d2
+        told_by None m = absurd (never_both m (ap (λ (i : ImageState). i.failures) image ∙ rose))
+        told_by (Some f) m = tells_fault (fault_met d1 d2) key p c k told d2 (ap (λ (c : Closed). tells c.unit UNIT_CHECK) kept ∙ fails failed) check is
+
+    by_report : d1.image.failures ≡ d0.image.failures + 1 → (d1.image.failures ≡ d0.image.failures) ⊎ (Failed × (tells_equipment_check d1.state.registers.sense ≡ true) × (is_written d1.state ≡ false)) → EndsBy next told s d0 d2
+    by_report rose (inl h) = absurd (never_both h rose)
+      where
+        never_both : d1.image.failures ≡ d0.image.failures → d1.image.failures ≡ d0.image.failures + 1 → ⊥
+        never_both x y = omega arith
+    by_report rose (inr h) =
+        by_first rose h.0 h.1 h.2 (fault_met d0 d1) at (moved (untouched (is_written d1.state) d1 d2 h.2 settles) (fault_met d0 d1) (met_by l m d0 d1 calls))
+
+    by_count : (d1.image.failures ≡ d0.image.failures) ⊎ ((d1.image.failures ≡ d0.image.failures + 1) × ((m ≡ true) ⊎ (d1.image.loads ≡ d0.image.loads + 1))) → EndsBy next told s d0 d2
+    by_count (inl h) = by_second h (subst At (met_none d0 d1 h) at) (fault_met d1 d2) (met_by false (is_written d1.state) d1 d2 settles) is
+    by_count (inr h) = by_report h.0 reports.failed
+
+-- The program ends by one call of the drive, its last.
+pub ends_now : (next : Option Fault → Next) (c : Closed) (key : ℕ) (p : Place) (k : Condition) (s : Storage) (told : Csw × Bool) (So : Type 0) (d0 d2 : DriveState)
+    → ((f : Option Fault) → next f ≡ EndsIn s (ending f key p c (status_of k))) → c.state ≡ d0.state → unsaved d0.state ≡ None
+    → CallsStore false (is_written d0.state) d0 d2 → Reports So d0 d2
+    → IsEnding (ending (fault_met d0 d2) key p c (status_of k)) told d2 → EndsBy next told s d0 d2
+ends_now next c key p k s told So d0 d2 nexts same saved settles tells_of is =
+    ends_after (λ f. Unit {0}) ⊥ So next c key p k s told false false d0 d0 d2 (λ f at. nexts f) (λ at left w. tt)
+    (λ at. record { saved = ap unsaved same ∙ saved; quiet = λ q. ap (λ s. tells_equipment_check (drive_of s).sense) same ∙ q })
+    (λ x. absurd x) tt same
+    (record { loads = inl refl; saves = none d0.image.saves; failures = inl refl; slots = λ e. refl; untouched = λ e l. refl; header = refl; geometry = refl })
+    (record { failed = inl refl; good = λ h k. k }) settles tells_of is
+  where
+    none : (n : ℕ) → n ≡ n + 0
+    none n = omega arith
+
+-- A call of the drive goes well, and more calls follow.
+
+pub more_after : (At : Option Fault → Type 0) (next later : Option Fault → Next) (s : Storage) (told : Csw × Bool) (d0 d1 d2 : DriveState)
+    → ((f : Option Fault) → At f → next f ≡ later f) → At None → ((left : List ℕ) → d2.image.failures ≡ d1.image.failures + 1 → At (Some (SaveFails left)))
+    → d1.image.failures ≡ d0.image.failures → d2.image.loads ≡ d1.image.loads → GainsNoCheck (drive_of d0.state) (drive_of d1.state)
+    → EndsBy later told s d1 d2 → EndsBy next told s d0 d2
+more_after At next later s told d0 d1 d2 e at stable same loads quiet is = go is.fault is.met is.ends is.told_of
+  where
+    by : (f : Option Fault) → IsMetBy f d0 d2 → next f ≡ EndsIn s is.ending → ToldOf f told.0 d0 d2 → EndsBy next told s d0 d2
+    by f m n t = record { fault = f; met = m; ending = is.ending; ends = n; is_ending = is.is_ending; told_of = t }
+
+    go : (f : Option Fault) → IsMetBy f d1 d2 → later f ≡ EndsIn s is.ending → ToldOf f told.0 d1 d2 → EndsBy next told s d0 d2
+    go None m n t = by None (m ∙ same) (e None at ∙ n) (record { saved = t.saved; no_check = λ q. t.no_check (quiet q) })
+    go (Some LoadFails) m n t = absurd (no m.1)
+      where
+        no : d1.image.loads < d2.image.loads → ⊥
+        no k = omega (arith, loads)
+    go (Some (SaveFails left)) m n t = by (Some (SaveFails left)) (m ∙ ap (λ n. n + 1) same) (e (Some (SaveFails left)) (stable left m) ∙ n) t
+
+pub comes_after : (At : Option Fault → Type 0) (next later : Option Fault → Next) (key : ℕ) (s : Storage) (r : Run) (a : Step) (d0 d1 d2 : DriveState)
+    → ((f : Option Fault) → At f → next f ≡ later f) → At None → ((left : List ℕ) → d2.image.failures ≡ d1.image.failures + 1 → At (Some (SaveFails left)))
+    → d1.image.failures ≡ d0.image.failures → d2.image.loads ≡ d1.image.loads → GainsNoCheck (drive_of d0.state) (drive_of d1.state)
+    → ComesBy key later a r s d1 d2 → ComesBy key next a r s d0 d2
+comes_after At next later key s r (step.Units n) d0 d1 d2 e at stable same loads quiet is =
+    let w = is.1 in
+    (is.0, record { failures = w.failures ∙ same; goes = e None at ∙ w.goes; same_key = w.same_key; fits = w.fits; no_check = λ q. w.no_check (quiet q) })
+comes_after At next later key s r (step.Over told) d0 d1 d2 e at stable same loads quiet is =
+    more_after At next later s told d0 d1 d2 e at stable same loads quiet is
+
+-- How often the store is called.
+
+pub once : (l m : Bool) (d0 d1 : DriveState) → CallsStore l m d0 d1 → CallsAtMost 1 d0 d1
+once l m d0 d1 k = record { calls = go m k.saves k.loads; header = k.header; geometry = k.geometry }
+  where
+    go : (m : Bool) → d1.image.saves ≡ d0.image.saves + (if m then 1 else 0) → (d1.image.loads ≡ d0.image.loads) ⊎ ((l ≡ true) × (m ≡ false) × (d1.image.loads ≡ d0.image.loads + 1))
+        → d1.image.loads + d1.image.saves ≤ d0.image.loads + d0.image.saves + 1
+    go true s (inl x) = omega arith
+    go true s (inr x) = never (sym x.1)
+    go false s (inl x) = omega arith
+    go false s (inr x) = let y : d1.image.loads ≡ d0.image.loads + 1 = x.2 in omega arith
+
+pub both : (n k : ℕ) (d0 d1 d2 : DriveState) → CallsAtMost n d0 d1 → CallsAtMost k d1 d2 → CallsAtMost (n + k) d0 d2
+both n k d0 d1 d2 a b = record { calls = omega (arith, a.calls, b.calls); header = b.header ∙ a.header; geometry = b.geometry ∙ a.geometry }
+
+-- a call that saved leaves nothing to be saved by the next
+pub once_together : (m w : Bool) (d0 d1 d2 : DriveState) → (m ≡ true → w ≡ false) → CallsStore false m d0 d1 → CallsStore false w d1 d2 → CallsAtMost 1 d0 d2
+once_together m w d0 d1 d2 only a b = record {
+  calls = go m w only a.saves b.saves;
+  header = b.header ∙ a.header;
+  geometry = b.geometry ∙ a.geometry;
+}
+  where
+    la : d1.image.loads ≡ d0.image.loads
+    la = loads_none m d0 d1 a
+
+    lb : d2.image.loads ≡ d1.image.loads
+    lb = loads_none w d1 d2 b
+
+    go : (m w : Bool) → (m ≡ true → w ≡ false) → d1.image.saves ≡ d0.image.saves + (if m then 1 else 0) → d2.image.saves ≡ d1.image.saves + (if w then 1 else 0)
+        → d2.image.loads + d2.image.saves ≤ d0.image.loads + d0.image.saves + 1
+    go true true only x y = never (sym (only refl))
+    go true false only x y = omega (arith, la, lb)
+    go false true only x y = omega (arith, la, lb)
+    go false false only x y = omega (arith, la, lb)

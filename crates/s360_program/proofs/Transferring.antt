@@ -1,0 +1,220 @@
+-- What each way through a unit of a command whose area is found comes to.
+use Rattle.std.proofs.Common.{◌≡◌, ℕ, zero, suc, ◌+◌, ◌-◌, ◌<◌, ◌≤◌, ◌^◌, refl, sym, ap, subst, ◌∙◌, arith, true, false, Bool, not, ◌&&◌, ◌||◌, [], ◌++◌, Option, nat_lt, length, append-nil, length-append}
+use Rattle.std.specs.Prelude.{if◌then◌else◌, ◌==◌, Ok, Err}
+use Rattle.std.proofs.lemmas.Bool.Decides.{nat_tests}
+use Rattle.ckd_image.specs.Image.{ImageState}
+use Rattle.s360_words.specs.Storage.{Storage}
+use Rattle.s360_words.specs.Words.{chains_data, suppresses_length}
+use Rattle.s360_words.specs.declared.flags.TheConstants.ChannelStatus.{INCORRECT_LENGTH}
+use Rattle.s360_words.specs.declared.flags.TheConstants.UnitStatus.{UNIT_CHECK}
+use Rattle.s360_words.specs.declared.words.Ccw.{Ccw}
+use Rattle.ckd_command.specs.Drive.{State, Open, gives, Closed, Fault, length_of, close, drive_of, unsaved, tells_equipment_check}
+use Rattle.ckd_command.proofs.Lengths.{length_grows, gives_length}
+use Rattle.ckd_drive.specs.Work.{DriveState, Work, Idle, Over, Looking, Passing, closed_of, moved_on}
+use Rattle.s360_runs.specs.Commands.{choice}
+use Rattle.s360_runs.specs.Endings.{ending}
+use Rattle.s360_runs.specs.Places.{Place, fetch}
+use Rattle.s360_runs.specs.Scripts.{units}
+use Rattle.s360_runs.specs.Status.{no_channel_status, tells}
+use Rattle.s360_runs.specs.Transfers.{Transfer, Moves, Stops, Completes, chained_data, byte_or_check, check_of, needs_byte, after_bytes, next_bytes}
+use Rattle.s360_runs.specs.Units.{ProgramPhase, Moving, Next, EndsIn, unit, next_chosen, next_moved, walk, on_next, StandsIn}
+use Rattle.s360_program.specs.Places.{place_of}
+use Rattle.s360_program.specs.Stands.{StageFits, StageWithin, phase_by, phase_in}
+use Rattle.s360_program.specs.Steps.{run_of, Fits, ComesBy, Steps, WalksBy, Flows, FlowsBy, with_left, Passes, PassesBy, PassesAs, status_of, condition_for, differs}
+use Rattle.s360_program.specs.declared.conditions.Condition.{Condition}
+use Rattle.s360_program.specs.declared.conditions.Condition.TheVariants as condition
+use Rattle.s360_program.specs.declared.moving.Flow.{Flow}
+use Rattle.s360_program.specs.declared.stages.Run.{Run}
+use Rattle.s360_program.specs.declared.stages.Stage.TheVariants as stage
+use Rattle.s360_program.specs.declared.stages.Step.{Step}
+use Rattle.s360_program.specs.declared.stages.Step.TheVariants as step
+use Rattle.s360_program.proofs.Meeting.{comes_after}
+use Rattle.s360_runs.proofs.AtOnce.{at_once}
+
+-- One unit.
+
+pub unit_steps : (key : ℕ) (phase : ProgramPhase) (most : ℕ) (r : Run) (s : Storage) (a : Step) (d0 d1 : DriveState) → 0 < most → ComesBy key (λ f. unit f key phase) a r s d0 d1 → Steps key phase most a r s d0 d1
+unit_steps key phase most r s (step.Units n) d0 d1 h c =
+    let w = c.1 in
+    record {
+      some = omega (arith, c.0);
+      few = omega (arith, c.0);
+      failures = w.failures;
+      goes = ap (λ n. walk (units n) key phase) c.0 ∙ ap (λ n. on_next [] n (walk [] key)) w.goes;
+      same_key = w.same_key;
+      fits = w.fits;
+      no_check = w.no_check;
+    }
+unit_steps key phase most r s (step.Over told) d0 d1 h c = c
+
+-- the same from a drive that has only looked again
+pub unit_comes : (next later : Option Fault → Next) (key : ℕ) (s : Storage) (r : Run) (a : Step) (d0 d1 d2 : DriveState) → ((f : Option Fault) → next f ≡ later f) → d1.image ≡ d0.image → d1.state ≡ d0.state
+    → d2.image.loads ≡ d1.image.loads → ComesBy key later a r s d1 d2 → ComesBy key next a r s d0 d2
+unit_comes next later key s r a d0 d1 d2 e image state loads is =
+    comes_after (λ f. Unit {0}) next later key s r a d0 d1 d2 (λ f at. e f) tt (λ left rose. tt) (ap (λ (i : ImageState). i.failures) image) loads
+    (λ q. ap (λ (s : State). tells_equipment_check (drive_of s).sense) state ∙ q) is
+
+-- The end of a command.
+
+same_length : (r left m L : ℕ) → (left ≡ 0 → m ≡ L) → m + left ≤ L → differs r left ≡ ((m == L && nat_lt 0 r) || (r == 0 && nat_lt m L))
+same_length zero zero m L h le = let e : m ≡ L = h refl in grind (arith, nat_tests)
+same_length zero (suc left) m L h le = grind (arith, nat_tests)
+same_length (suc r) zero m L h le = let e : m ≡ L = h refl in grind (arith, nat_tests)
+same_length (suc r) (suc left) m L h le = grind (arith, nat_tests)
+
+no_byte : (r left m L : ℕ) → (left ≡ 0 → m ≡ L) → (r == 0 || left == 0) ≡ true → (nat_lt 0 r && nat_lt m L) ≡ false
+no_byte zero left m L h z = grind (arith, nat_tests)
+no_byte (suc r) zero m L h z = let e : m ≡ L = h refl in grind (arith, nat_tests)
+no_byte (suc r) (suc left) m L h z = grind (arith, nat_tests)
+
+a_byte : (r left m L : ℕ) → m + left ≤ L → (r == 0 || left == 0) ≡ false → (nat_lt 0 r && nat_lt m L) ≡ true
+a_byte zero left m L h z = grind (arith, nat_tests)
+a_byte (suc r) zero m L h z = grind (arith, nat_tests)
+a_byte (suc r) (suc left) m L h z = grind (arith, nat_tests)
+
+told_length : (b i : Bool) → (if not b && i then INCORRECT_LENGTH else no_channel_status) ≡ status_of (if i && not b then condition.IncorrectLength else condition.Clear)
+told_length true true = refl
+told_length true false = refl
+told_length false true = refl
+told_length false false = refl
+
+module _ (key : ℕ) (ccw : Ccw) (a : ℕ) (p : Place) (s : Storage) (d0 d1 : DriveState) (flow : Flow) where
+  completes_by : (f : Option Fault) (incorrect : Bool) (w : Work) → FlowsBy flow d0.state w → (p.residual == 0 && chains_data ccw) ≡ false → (p.residual == 0 || flow.left == 0) ≡ true
+      → d1 ≡ record d0 { work = with_left flow.left w } → incorrect ≡ (not (suppresses_length ccw) && differs p.residual flow.left)
+      → unit f key (phase_by (stage.Moving ccw a) p s d0.state w)
+      ≡ next_chosen (choice f key (record { storage = s; ccw = ccw; place = p }) (closed_of f d1 d1.work) (status_of (condition_for incorrect (closed_of f d1 d1.work).unit)))
+  completes_by f incorrect Idle told needs spent drive i = absurd told
+  completes_by f incorrect (Over x) told needs spent drive i = absurd told
+  completes_by f incorrect (Looking o) told needs spent drive i = absurd told
+  completes_by f incorrect (Passing o b l) told needs spent drive i =
+      let O : Open = record { opened = o; state = d0.state } in
+      let t : Transfer = record { storage = s; ccw = ccw; place = p; address = a; bytes = b } in
+      let c : Closed = close f O b in
+      ap (λ n. next_moved f key O t (if n then chained_data t (fetch s p false) else (if needs_byte O t then byte_or_check O t (check_of key O t) else Completes))) needs
+      ∙ ap (λ n. next_moved f key O t (if n then byte_or_check O t (check_of key O t) else Completes)) (no_byte p.residual flow.left (length b) (length_of O b) told.1 spent)
+      ∙ ap (λ x. next_chosen (choice f key (record { storage = s; ccw = ccw; place = p }) c (if not (tells c.unit UNIT_CHECK) && (not (suppresses_length ccw) && x) then INCORRECT_LENGTH else no_channel_status)))
+      (sym (same_length p.residual flow.left (length b) (length_of O b) told.1 told.2))
+      ∙ ap (λ x. next_chosen (choice f key (record { storage = s; ccw = ccw; place = p }) c (if not (tells c.unit UNIT_CHECK) && x then INCORRECT_LENGTH else no_channel_status))) (sym i)
+      ∙ ap (λ k. next_chosen (choice f key (record { storage = s; ccw = ccw; place = p }) c k)) (told_length (tells c.unit UNIT_CHECK) incorrect)
+      ∙ sym (ap (λ (d : DriveState). next_chosen (choice f key (record { storage = s; ccw = ccw; place = p }) (closed_of f d d.work) (status_of (condition_for incorrect (closed_of f d d.work).unit)))) drive)
+
+  pub completes : (f : Option Fault) (incorrect : Bool) → Flows flow d0 d1 → (p.residual == 0 && chains_data ccw) ≡ false → (p.residual == 0 || flow.left == 0) ≡ true
+      → incorrect ≡ (not (suppresses_length ccw) && differs p.residual flow.left)
+      → unit f key (phase_by (stage.Moving ccw a) p s d0.state d0.work)
+      ≡ next_chosen (choice f key (record { storage = s; ccw = ccw; place = p }) (closed_of f d1 d1.work) (status_of (condition_for incorrect (closed_of f d1 d1.work).unit)))
+  completes f incorrect flows needs spent i = completes_by f incorrect d0.work flows.told needs spent flows.drive i
+
+  -- a check stops it
+  checks_by : (check : Condition) (most : ℕ) (s2 : Storage) (d2 : DriveState) (w : Work) → FlowsBy flow d0.state w → (p.residual == 0 && chains_data ccw) ≡ false → (p.residual == 0 || flow.left == 0) ≡ false
+      → PassesBy key ccw a most (Err check) s s2 (record d0 { work = with_left flow.left w }) d2 (with_left flow.left w)
+      → (s2 ≡ s) × (d2.image ≡ d0.image) × (d2.state ≡ d0.state)
+      × ((f : Option Fault) → unit f key (phase_by (stage.Moving ccw a) p s d0.state w) ≡ EndsIn s2 (ending f key p (closed_of f d2 d2.work) (status_of check)))
+  checks_by check most s2 d2 Idle told needs spent h = absurd told
+  checks_by check most s2 d2 (Over x) told needs spent h = absurd told
+  checks_by check most s2 d2 (Looking o) told needs spent h = absurd told
+  checks_by check most s2 d2 (Passing o b l) told needs spent q =
+      (q.0, ap (λ (d : DriveState). d.image) q.1, ap (λ (d : DriveState). d.state) q.1, ends)
+    where
+      ends : (f : Option Fault) → unit f key (Moving (record { opened = o; state = d0.state }) (record { storage = s; ccw = ccw; place = p; address = a; bytes = b })) ≡ EndsIn s2 (ending f key p (closed_of f d2 d2.work) (status_of check))
+      ends f =
+          let O : Open = record { opened = o; state = d0.state } in
+          let t : Transfer = record { storage = s; ccw = ccw; place = p; address = a; bytes = b } in
+          ap (λ n. next_moved f key O t (if n then chained_data t (fetch s p false) else (if needs_byte O t then byte_or_check O t (check_of key O t) else Completes))) needs
+          ∙ ap (λ n. next_moved f key O t (if n then byte_or_check O t (check_of key O t) else Completes)) (a_byte p.residual flow.left (length b) (length_of O b) told.2 spent)
+          ∙ ap (λ c. next_moved f key O t (byte_or_check O t c)) (q.3 p)
+          ∙ ap (λ n. next_moved f key O t (if n then Moves (after_bytes 1 O t) else Stops t (status_of check))) q.2
+          ∙ ap (λ s. EndsIn s (ending f key p (close f O b) (status_of check))) (sym q.0)
+          ∙ ap (λ (d : DriveState). EndsIn s2 (ending f key p (closed_of f d d.work) (status_of check))) (sym q.1)
+
+  pub checks : (check : Condition) (most : ℕ) (s2 : Storage) (d2 : DriveState) → Flows flow d0 d1 → (p.residual == 0 && chains_data ccw) ≡ false → (p.residual == 0 || flow.left == 0) ≡ false
+      → Passes key ccw a most s d1 (Err check) s2 d2
+      → (s2 ≡ s) × (d2.image ≡ d0.image) × (d2.state ≡ d0.state)
+      × ((f : Option Fault) → unit f key (phase_by (stage.Moving ccw a) p s d0.state d0.work) ≡ EndsIn s2 (ending f key p (closed_of f d2 d2.work) (status_of check)))
+  checks check most s2 d2 flows needs spent h =
+      checks_by check most s2 d2 d0.work flows.told needs spent (subst (λ (d : DriveState). PassesBy key ccw a most (Err check) s s2 d d2 d.work) flows.drive h)
+
+-- Bytes.
+
+-- so many bytes pass at once
+module _ (key : ℕ) (ccw : Ccw) (a most m : ℕ) (p : Place) (s s2 : Storage) (d0 d2 : DriveState) (flow : Flow) where
+  abbrev IsPassed : Work → Type 0
+  IsPassed w =
+      (walk (units m) key (phase_by (stage.Moving ccw a) p s d0.state w) ≡ StandsIn (phase_by (stage.Moving ccw (a + m)) (record p { residual = p.residual - m }) s2 d2.state d2.work))
+      × StageFits (stage.Moving ccw (a + m)) d2.state d2.work × (d2.image ≡ d0.image) × (d2.state ≡ d0.state) × (0 < m) × (m ≤ most)
+
+  passed_by : (w : Work) → FlowsBy flow d0.state w → most ≤ flow.left → most ≤ p.residual
+      → PassesBy key ccw a most (Ok m) s s2 (record d0 { work = with_left flow.left w }) d2 (with_left flow.left w) → IsPassed w
+  passed_by Idle told ml mr q = absurd told
+  passed_by (Over x) told ml mr q = absurd told
+  passed_by (Looking o) told ml mr q = absurd told
+  passed_by (Passing o b l) told ml mr q = (
+    steps,
+    subst (λ (d : DriveState). StageFits (stage.Moving ccw (a + m)) d.state d.work) (sym k.drive) (within, exact),
+    ap (λ (d : DriveState). d.image) k.drive,
+    ap (λ (d : DriveState). d.state) k.drive,
+    q.0,
+    q.1,
+  )
+    where
+      both : (m most r : ℕ) → m ≤ most → most ≤ r → m ≤ r
+      both m most r x y = omega arith
+
+      sums : (b n left m L N : ℕ) → n ≡ m → m ≤ left → b + left ≤ L → L ≤ N → (b + n) + (left - n) ≤ N
+      sums b n left m L N e le h g = omega arith
+
+      O : Open
+      O = record { opened = o; state = d0.state }
+
+      t : Transfer
+      t = record { storage = s; ccw = ccw; place = p; address = a; bytes = b }
+
+      k : PassesAs m key O t (Passing o b flow.left) s2 (record d0 { work = Passing o b flow.left }) d2
+      k = q.2 p (both m most p.residual q.1 mr)
+
+      within : length (b ++ next_bytes m O t) + (flow.left - length (next_bytes m O t)) ≤ length_of O (b ++ next_bytes m O t)
+      within =
+          subst (λ x. x + (flow.left - length (next_bytes m O t)) ≤ length_of O (b ++ next_bytes m O t)) (sym (length-append b (next_bytes m O t)))
+          (sums (length b) (length (next_bytes m O t)) flow.left m (length_of O b) (length_of O (b ++ next_bytes m O t)) k.count (both m most flow.left q.1 ml) told.2 (length_grows O b (next_bytes m O t)))
+
+      same_sum : (b n left L N : ℕ) → n ≤ left → b + left ≡ L → L ≡ N → (b + n) + (left - n) ≡ N
+      same_sum b n left L N le h g = omega arith
+
+      few : length (next_bytes m O t) ≤ flow.left
+      few = (let le : m ≤ flow.left = both m most flow.left q.1 ml in omega (arith, k.count, le))
+
+      exact : gives O ≡ true → length (b ++ next_bytes m O t) + (flow.left - length (next_bytes m O t)) ≡ length_of O (b ++ next_bytes m O t)
+      exact = λ g.
+          subst (λ x. x + (flow.left - length (next_bytes m O t)) ≡ length_of O (b ++ next_bytes m O t)) (sym (length-append b (next_bytes m O t)))
+          (same_sum (length b) (length (next_bytes m O t)) flow.left (length_of O b) (length_of O (b ++ next_bytes m O t)) few (told.3 g) (gives_length O b g ∙ sym (gives_length O (b ++ next_bytes m O t) g)))
+
+      steps : walk (units m) key (Moving O t) ≡ StandsIn (phase_by (stage.Moving ccw (a + m)) (record p { residual = p.residual - m }) s2 d2.state d2.work)
+      steps =
+          ap (λ u. walk u key (Moving O t)) (sym (append-nil (units m)))
+          ∙ at_once m key [] O t k.may
+          ∙ ap (λ x. StandsIn (phase_by (stage.Moving ccw (a + m)) (record p { residual = p.residual - m }) x d0.state (moved_on (next_bytes m O t) (Passing o b flow.left)))) (sym k.storage)
+          ∙ ap (λ (d : DriveState). StandsIn (phase_by (stage.Moving ccw (a + m)) (record p { residual = p.residual - m }) s2 d.state d.work)) (sym k.drive)
+
+pub passes_on : (r : Run) (ccw : Ccw) (a most few m n : ℕ) (s s2 : Storage) (d0 d1 d2 : DriveState) (flow : Flow) → Fits r d0 → r.stage ≡ stage.Moving ccw a → Flows flow d0 d1
+    → few ≤ most → few ≤ r.place.residual → few ≤ flow.left → Passes r.key ccw a few s d1 (Ok m) s2 d2 → n ≡ m
+    → WalksBy r.key (phase_in (run_of r) s d0) most m (record r { place = record r.place { residual = r.place.residual - m }; stage = stage.Moving ccw (a + n) }) s2 d0 d2
+passes_on r ccw a most few m n s s2 d0 d1 d2 flow fits at flows fm fr fl h e = subst (λ n. WalksBy r.key (phase_in (run_of r) s d0) most m (record r { place = record r.place { residual = r.place.residual - m }; stage = stage.Moving ccw (a + n) }) s2 d0 d2) (sym e) (record {
+  some = x.4;
+  few = omega (arith, x.5, fm);
+  failures = ap (λ (i : ImageState). i.failures) x.2;
+  goes = ap (λ g. walk (units m) r.key (phase_by g (place_of r.place) s d0.state d0.work)) at ∙ x.0;
+  same_key = refl;
+  fits = record {
+    within = record { key = fits.within.key; place = record { next = fits.within.place.next; last = fits.within.place.last }; stage = (narrow.0, smaller a r.place.residual m (omega (arith, x.5, fr)) narrow.1) };
+    stands = record { fits = x.1; saved = ap unsaved x.3 ∙ fits.stands.saved };
+  };
+  no_check = λ q. ap (λ (s : State). tells_equipment_check (drive_of s).sense) x.3 ∙ q;
+})
+  where
+    x : IsPassed r.key ccw a few m (place_of r.place) s s2 d0 d2 flow d0.work
+    x = passed_by r.key ccw a few m (place_of r.place) s s2 d0 d2 flow d0.work flows.told fl fr (subst (λ (d : DriveState). PassesBy r.key ccw a few (Ok m) s s2 d d2 d.work) flows.drive h)
+
+    narrow : StageWithin (stage.Moving ccw a) (place_of r.place)
+    narrow = subst (λ g. StageWithin g (place_of r.place)) at fits.within.stage
+
+    smaller : (a r m : ℕ) → m ≤ r → a + r < 2 ^ 25 → (a + m) + (r - m) < 2 ^ 25
+    smaller a r m le h = omega arith

@@ -1,0 +1,209 @@
+-- What the parts of a unit come to.
+use Rattle.std.specs.Prelude.{◌≡◌, ℕ, ◌+◌, ◌≤◌, ◌<◌, [], ◌∷◌, Bool, true, false, not, ◌&&◌, ◌||◌, ◌==◌, Option, Some, None, is_none, Result, Ok, Err, length, if◌then◌else◌}
+use Rattle.s360_words.specs.Storage.{Storage}
+use Rattle.s360_words.specs.Words.{chains_command, chains_data}
+use Rattle.s360_words.specs.declared.flags.ChannelStatus.{ChannelStatus}
+use Rattle.s360_words.specs.declared.flags.TheConstants.ChannelStatus.{INCORRECT_LENGTH, PROGRAM_CHECK, PROTECTION_CHECK}
+use Rattle.s360_words.specs.declared.flags.TheConstants.UnitStatus.{UNIT_CHECK}
+use Rattle.s360_words.specs.declared.flags.UnitStatus.{UnitStatus}
+use Rattle.s360_words.specs.declared.words.Ccw.{Ccw}
+use Rattle.s360_words.specs.declared.words.Csw.{Csw}
+use Rattle.ckd_command.specs.declared.steps.DriveEnding.{DriveEnding}
+use Rattle.ckd_command.specs.Drive.{State, Open, Closed, Fault, LoadFails, SaveFails, length_of, drive_of, is_written}
+use Rattle.ckd_command.specs.Tables.{action_of, is_giving}
+use Rattle.ckd_drive.specs.Work.{DriveState, Work, Passing, passed_of, moved_on, closed_of, look_loads}
+use Rattle.s360_runs.specs.Commands.{Point}
+use Rattle.s360_runs.specs.Endings.{Ending}
+use Rattle.s360_runs.specs.Laws.{MayPass}
+use Rattle.s360_runs.specs.Places.{Place}
+use Rattle.s360_runs.specs.Scripts.{units}
+use Rattle.s360_runs.specs.Status.{tells, no_channel_status, is_clear, stops_chaining}
+use Rattle.s360_runs.specs.Transfers.{Request, Transfer, next_bytes, storage_after, check_of}
+use Rattle.s360_runs.specs.Units.{ProgramPhase, Next, GoesOn, EndsIn, unit, walk, StandsIn}
+use Rattle.s360_runs.specs.Unsaved.{GainsNoCheck}
+use Rattle.s360_program.specs.Advances.{IsEnding, TellsFault, TellsNoFault}
+use Rattle.s360_program.specs.Places.{place_of}
+use Rattle.s360_program.specs.Stands.{RunningState, LeftFits, Stands, Within, phase_in}
+use Rattle.s360_program.specs.declared.conditions.Condition.{Condition}
+use Rattle.s360_program.specs.declared.conditions.Condition.TheVariants as condition
+use Rattle.s360_program.specs.declared.moving.Flow.{Flow}
+use Rattle.s360_program.specs.declared.program.Advance.{Advance}
+use Rattle.s360_program.specs.declared.stages.Run.{Run}
+use Rattle.s360_program.specs.declared.stages.Stage.{Stage}
+use Rattle.s360_program.specs.declared.stages.Stage.TheVariants as stage
+use Rattle.s360_program.specs.declared.stages.Step.{Step}
+use Rattle.s360_program.specs.declared.stages.Step.TheVariants as step
+
+-- The running program.
+
+abbrev pub run_of : Run → RunningState
+run_of r = record { key = r.key; place = place_of r.place; stage = r.stage }
+
+pub record Fits (r : Run) (d : DriveState) : Type 0 where
+  pub within : Within (run_of r)
+  pub stands : Stands (run_of r) d
+
+-- Channel status.
+
+abbrev pub status_of : Condition → ChannelStatus
+status_of condition.Clear = no_channel_status
+status_of condition.IncorrectLength = INCORRECT_LENGTH
+status_of condition.ProgramCheck = PROGRAM_CHECK
+status_of condition.ProtectionCheck = PROTECTION_CHECK
+
+-- incorrect length is not told beside unit check
+abbrev pub condition_for : (incorrect : Bool) → UnitStatus → Condition
+condition_for incorrect unit = if incorrect && not (tells unit UNIT_CHECK) then condition.IncorrectLength else condition.Clear
+
+abbrev pub chains_after : Ccw → UnitStatus → Condition → Bool
+chains_after ccw unit c = chains_command ccw && not (stops_chaining unit) && is_clear (status_of c)
+
+-- Faults.
+
+-- calls together met this fault, by what the image counted: a failed load only where one was made
+abbrev pub IsMetBy : Option Fault → (old new : DriveState) → Type 0
+IsMetBy None old new = new.image.failures ≡ old.image.failures
+IsMetBy (Some LoadFails) old new =
+    (new.image.failures ≡ old.image.failures + 1) × (old.image.loads < new.image.loads)
+IsMetBy (Some (SaveFails left)) old new = new.image.failures ≡ old.image.failures + 1
+
+-- what is told of it at the end of the program
+abbrev pub ToldOf : Option Fault → Csw → (old new : DriveState) → Type 0
+ToldOf None csw old new = TellsNoFault old new
+ToldOf (Some f) csw old new = TellsFault csw new
+
+-- Calls of the store.
+
+-- a unit makes none: nothing is written, not by the open command either, and no area is looked for
+pub record IsQuiet (d : DriveState) : Type 0 where
+  pub unwritten : is_written d.state ≡ false
+  pub closes : is_written (closed_of None d d.work).state ≡ false
+  pub looks : look_loads d ≡ false
+
+-- Units.
+
+-- the program goes on, and no fault was met
+pub record GoesBy (key : ℕ) (next : Next) (r : Run) (s : Storage) (old new : DriveState) : Type 0 where
+  pub failures : new.image.failures ≡ old.image.failures
+  pub goes : next ≡ GoesOn (phase_in (run_of r) s new)
+  pub same_key : r.key ≡ key
+  pub fits : Fits r new
+  pub no_check : GainsNoCheck (drive_of old.state) (drive_of new.state)
+
+-- the program is over, by the fault that was met
+pub record EndsBy (next : Option Fault → Next) (told : Csw × Bool) (s : Storage) (old new : DriveState) : Type 0 where
+  pub fault : Option Fault
+  pub met : IsMetBy fault old new
+  pub ending : Ending
+  pub ends : next fault ≡ EndsIn s ending
+  pub is_ending : IsEnding ending told new
+  pub told_of : ToldOf fault told.0 old new
+
+abbrev pub ComesBy : (key : ℕ) → (Option Fault → Next) → Step → Run → Storage → (old new : DriveState) → Type 0
+ComesBy key next (step.Units n) r s old new = (n ≡ 1) × GoesBy key (next None) r s old new
+ComesBy key next (step.Over told) r s old new = EndsBy next told s old new
+
+-- so many units, and no more than were asked for
+pub record WalksBy (key : ℕ) (phase : ProgramPhase) (most n : ℕ) (r : Run) (s : Storage) (old new : DriveState) : Type 0 where
+  pub some : 0 < n
+  pub few : n ≤ most
+  pub failures : new.image.failures ≡ old.image.failures
+  pub goes : walk (units n) key phase ≡ StandsIn (phase_in (run_of r) s new)
+  pub same_key : r.key ≡ key
+  pub fits : Fits r new
+  pub no_check : GainsNoCheck (drive_of old.state) (drive_of new.state)
+
+-- units, or the one that ends the program
+abbrev pub Steps : (key : ℕ) → ProgramPhase → (most : ℕ) → Step → Run → Storage → (old new : DriveState) → Type 0
+Steps key phase most (step.Units n) r s old new = WalksBy key phase most n r s old new
+Steps key phase most (step.Over told) r s old new = EndsBy (λ f. unit f key phase) told s old new
+
+-- The parts of a unit.
+
+abbrev pub point_at : Storage → Run → DriveState → Point
+point_at s r d = record { storage = s; place = place_of r.place; state = d.state }
+
+abbrev pub request_at : Storage → Ccw → Run → Request
+request_at s ccw r = record { storage = s; ccw = ccw; place = place_of r.place }
+
+abbrev pub closed_with : State → DriveEnding → Closed
+closed_with s e = record { state = s; unit = e.unit; motion = e.motion }
+
+-- Bytes.
+
+-- the area of a command is found
+abbrev pub MovesBy : State → Work → Type 0
+MovesBy s (Passing o b left) = length b + left ≤ length_of (record { opened = o; state = s }) b
+MovesBy s w = ⊥
+
+abbrev pub IsMoving : DriveState → Type 0
+IsMoving d = MovesBy d.state d.work
+
+-- and of the bytes that the drive gives all are told as left
+abbrev pub FindsBy : State → Work → Type 0
+FindsBy s (Passing o b left) = LeftFits (record { opened = o; state = s }) b left
+FindsBy s w = ⊥
+
+abbrev pub HasFound : DriveState → Type 0
+HasFound d = FindsBy d.state d.work
+
+-- whether the drive gives or takes bytes, and how many are left; a look that tells it makes no call of the store
+abbrev pub FlowsBy : Flow → State → Work → Type 0
+FlowsBy flow s (Passing o b left) =
+    let all = length_of (record { opened = o; state = s }) b in
+    (flow.gives ≡ is_giving (action_of o.command)) × (flow.left ≡ 0 → length b ≡ all) × (length b + flow.left ≤ all)
+    × (is_giving (action_of o.command) ≡ true → length b + flow.left ≡ all)
+FlowsBy flow s w = ⊥
+
+abbrev pub with_left : ℕ → Work → Work
+with_left left (Passing o b l) = Passing o b left
+with_left left w = w
+
+pub record Flows (flow : Flow) (old new : DriveState) : Type 0 where
+  pub told : FlowsBy flow old.state old.work
+  pub drive : new ≡ record old { work = with_left flow.left old.work }
+
+abbrev pub transfer_by : Ccw → (address : ℕ) → Storage → Place → Work → Transfer
+transfer_by ccw address s p w = record { storage = s; ccw = ccw; place = p; address = address; bytes = passed_of w }
+
+-- so many bytes may pass, and storage and the drive are those behind them
+pub record PassesAs (m key : ℕ) (o : Open) (t : Transfer) (w : Work) (s_new : Storage) (d d_new : DriveState) : Type 0 where
+  pub may : MayPass m key o t
+  pub count : length (next_bytes m o t) ≡ m
+  pub storage : s_new ≡ storage_after m o t
+  pub drive : d_new ≡ record d { work = moved_on (next_bytes m o t) w }
+
+abbrev pub PassesBy : (key : ℕ) → Ccw → (address most : ℕ) → Result ℕ Condition → (s s_new : Storage) → (d d_new : DriveState) → Work → Type 0
+PassesBy key ccw address most (Ok m) s s_new d d_new (Passing o b left) =
+    (0 < m) × (m ≤ most) × ((p : Place) → m ≤ p.residual →
+    PassesAs m key (record { opened = o; state = d.state }) (transfer_by ccw address s p (Passing o b left)) (Passing o b left) s_new d d_new)
+PassesBy key ccw address most (Err c) s s_new d d_new (Passing o b left) =
+    (s_new ≡ s) × (d_new ≡ d) × (is_clear (status_of c) ≡ false)
+    × ((p : Place) → check_of key (record { opened = o; state = d.state }) (transfer_by ccw address s p (Passing o b left)) ≡ status_of c)
+PassesBy key ccw address most r s s_new d d_new w = ⊥
+
+-- bytes pass at once, at least one; or the first may not
+abbrev pub Passes : (key : ℕ) → Ccw → (address most : ℕ) → Storage → DriveState → Result ℕ Condition → Storage → DriveState → Type 0
+Passes key ccw address most s d r s_new d_new = PassesBy key ccw address most r s s_new d d_new d.work
+
+-- whether the count is spent, and the next word has a further area of the same command
+abbrev pub chains_by : Stage → Bool
+chains_by (stage.Moving ccw address) = chains_data ccw
+chains_by _ = false
+
+abbrev pub needs_area : RunningState → Bool
+needs_area r = r.place.residual == 0 && chains_by r.stage
+
+-- whether one of the count and of what the drive has left is spent, and the other is not
+abbrev pub differs : (residual left : ℕ) → Bool
+differs residual left = (not (residual == 0) && left == 0) || (residual == 0 && not (left == 0))
+
+-- Many units, and a cut.
+
+abbrev pub goes_on : Advance → Bool
+goes_on a = is_none a.ending
+
+abbrev pub has_passed : Work → Bool
+has_passed (Passing o [] left) = false
+has_passed (Passing o (byte ∷ b) left) = true
+has_passed w = false

@@ -1,0 +1,95 @@
+//! What the channel tells of a program's end, beside what the drive tells (Principles of Operation, Input/Output Operations:
+//! 'Channel Status Conditions').
+
+ghost use Rattle.std.specs.Prelude.{◌≡◌, ◌+◌, ◌<◌, ◌^◌};
+ghost use Rattle.s360_runs.specs.Endings.{csw_at};
+ghost use Rattle.s360_runs.specs.Status.{beside, with_interruption};
+ghost use Rattle.s360_program.specs.Places.{place_of};
+ghost use Rattle.s360_program.specs.Steps.{status_of, condition_for, chains_after};
+
+use crate::places::Place;
+use bitflags::Flags;
+use s360_words::{Ccw, ChannelStatus, Csw, UnitStatus};
+
+/// What the channel itself has to tell.
+#[derive(Clone, Copy, Debug, PartialEq, Eq)]
+pub enum Condition {
+    /// Nothing.
+    Clear,
+    /// The count and the drive's length differ.
+    IncorrectLength,
+    /// The program is in error.
+    ProgramCheck,
+    /// A byte of storage may not be stored into with the program's key.
+    ProtectionCheck,
+}
+
+impl Condition {
+    /// How the length of a command is told: incorrect length is not told beside unit check.
+    pub fn of_length(incorrect: bool, unit: UnitStatus) -> Condition
+        ensures { result ≡ condition_for incorrect unit }
+    {
+        if incorrect && !unit.intersects(UnitStatus::UNIT_CHECK) {
+            Condition::IncorrectLength
+        } else {
+            Condition::Clear
+        }
+    }
+
+    /// The channel status of this condition.
+    pub fn status(self) -> ChannelStatus
+        ensures { result ≡ status_of self }
+    {
+        match self {
+            Condition::Clear => ChannelStatus(0),
+            Condition::IncorrectLength => ChannelStatus::INCORRECT_LENGTH,
+            Condition::ProgramCheck => ChannelStatus::PROGRAM_CHECK,
+            Condition::ProtectionCheck => ChannelStatus::PROTECTION_CHECK,
+        }
+    }
+
+    /// The same beside the unit status of the program's end.
+    pub fn beside(self, unit: UnitStatus) -> ChannelStatus
+        ensures { result ≡ beside unit (status_of self) }
+    {
+        if unit.intersects(UnitStatus::UNIT_CHECK) && self == Condition::IncorrectLength {
+            ChannelStatus(0)
+        } else {
+            self.status()
+        }
+    }
+}
+
+/// Whether the next command follows: the word asks for it, and neither the unit status nor the channel's condition stops it.
+pub fn chains(ccw: Ccw, unit: UnitStatus, condition: Condition) -> bool
+    ensures { result ≡ chains_after ccw unit condition }
+{
+    ccw.chains_command()
+        && !(unit.intersects(UnitStatus::UNIT_CHECK) || unit.intersects(UnitStatus::UNIT_EXCEPTION))
+        && condition == Condition::Clear
+}
+
+/// An interruption that was asked for and not taken is told with the ending.
+pub fn with_interruption(asked: bool, status: ChannelStatus) -> ChannelStatus
+    ensures { result ≡ with_interruption asked status }
+{
+    if asked {
+        ChannelStatus(ChannelStatus::PROGRAM_CONTROLLED_INTERRUPTION.0 | status.0)
+    } else {
+        status
+    }
+}
+
+/// The channel status word at a place: its command address is that of the last word plus 8, and its count what is left there.
+pub fn csw_at(key: u8, place: &Place, unit: UnitStatus, channel: ChannelStatus) -> Csw
+    requires { place.now.last + 8 < 2 ^ 32 }
+    ensures { result ≡ csw_at key (place_of place.now) unit channel }
+{
+    Csw {
+        key,
+        address: (place.last + 8) % (1 << 24),
+        unit,
+        channel,
+        count: place.residual,
+    }
+}

@@ -1,0 +1,49 @@
+//! How a program ends (Principles of Operation, Input/Output Operations: 'Conclusion of Input/Output Operations').
+
+ghost use Rattle.std.specs.Prelude.{◌≡◌, ◌+◌, ◌≤◌, ◌^◌, false, [], Some};
+ghost use Rattle.ckd_command.specs.Drive.{is_written, unsaved};
+ghost use Rattle.s360_runs.specs.Endings.{ending as ending_with};
+ghost use Rattle.ckd_drive.specs.Work.{passed_of, fault_met, CallsStore, Reports};
+ghost use Rattle.s360_program.specs.Advances.{IsEnding};
+ghost use Rattle.s360_program.specs.Places.{place_of};
+ghost use Rattle.s360_program.specs.Steps.{status_of, closed_with};
+
+use crate::conditions::{Condition, csw_at, with_interruption};
+use crate::stages::Run;
+use ckd_command::steps::DriveEnding;
+use ckd_drive::drive::Drive;
+use ckd_image::ImageStore;
+use s360_words::{Csw, UnitStatus};
+
+/// No command is open, or none of its bytes has passed.
+pub const UNTOUCHED: DriveEnding = DriveEnding {
+    unit: UnitStatus(0x0C),
+    motion: false,
+};
+
+/// A command was rejected, or found no area.
+pub const FAILED: DriveEnding = DriveEnding {
+    unit: UnitStatus(0x0E),
+    motion: false,
+};
+
+/// Ends a program whose last command ended so: the drive saves the track that was written, and the channel status word tells.
+pub fn end_program<S: ImageStore>(
+    run: &Run,
+    ending: DriveEnding,
+    condition: Condition,
+    drive: &mut Drive<S>,
+) -> (Csw, bool)
+    requires passed { passed_of drive.old.work ≡ [] }
+    requires last { run.now.place.last ≤ 2 ^ 24 + 8 }
+    ensures ending { IsEnding (ending_with (fault_met drive.old drive.new) run.now.key (place_of run.now.place) (closed_with drive.old.state ending) (status_of condition)) result drive.new }
+    ensures calls { CallsStore false (is_written drive.old.state) drive.old drive.new }
+    ensures reported { Reports (unsaved drive.new.state ≡ Some (drive.old.state.registers.cylinder, drive.old.state.registers.head)) drive.old drive.new }
+{
+    let unit = match drive.settle() {
+        Ok(()) => ending.unit,
+        Err(_) => UnitStatus(ending.unit.0 | UnitStatus::UNIT_CHECK.0),
+    };
+    let channel = with_interruption(run.place.interruption, condition.beside(unit));
+    (csw_at(run.key, &run.place, unit, channel), ending.motion)
+}

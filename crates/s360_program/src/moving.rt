@@ -1,0 +1,153 @@
+//! Bytes between storage and a drive, as many at once as may pass (Principles of Operation, Input/Output Operations: 'Skipping',
+//! 'Program Check', 'Protection Check').
+
+ghost use Rattle.std.specs.Prelude.{◌≡◌, ◌<◌, ◌≤◌, ◌+◌, ◌^◌, true, false, length, slice_range, ◌||◌, ◌==◌};
+ghost use Rattle.ckd_drive.specs.Work.{left_of, gives_now, takes_now, given_now, passed_of, moved_on};
+ghost use Rattle.s360_program.specs.Advances.{KeepsStorage};
+ghost use Rattle.s360_program.specs.Steps.{Flows, HasFound, IsMoving, Passes};
+
+use crate::conditions::Condition;
+use ckd_drive::answers::{Look, Phase};
+use ckd_drive::drive::Drive;
+use ckd_image::ImageStore;
+use s360_words::{Ccw, Storage};
+
+/// Whether a drive gives the bytes of a command, or takes them, and how many are left.
+#[derive(Clone, Copy, Debug, PartialEq, Eq)]
+pub struct Flow {
+    /// Whether it gives them.
+    pub gives: bool,
+    /// How many more may pass now.
+    pub left: usize,
+}
+
+/// What a drive has or wants now. Where it wants bytes and nothing is left of its last look, another one tells: a formatting
+/// write wants more once the count area came.
+pub fn flow_of<S: ImageStore>(drive: &mut Drive<S>) -> Flow
+    requires { HasFound drive.old }
+    ensures { Flows result drive.old drive.new }
+{
+    let left = match drive.phase() {
+        Phase::Gives { passed: _, left } => return Flow { gives: true, left },
+        Phase::Takes { passed: _, left } => left,
+        Phase::Idle | Phase::Over | Phase::Looking => unreachable!(),
+    };
+    if left > 0 {
+        return Flow { gives: false, left };
+    }
+    let Look::Ready(left) = drive.look() else {
+        unreachable!()
+    };
+    Flow { gives: false, left }
+}
+
+/// Passes so many bytes at once at most, and at least one, or tells why the first may not pass.
+#[inline(always)]
+pub fn pass<S: ImageStore>(
+    gives: bool,
+    key: u8,
+    ccw: Ccw,
+    address: u32,
+    most: u16,
+    storage: &mut Storage,
+    drive: &mut Drive<S>,
+) -> Result<u16, Condition>
+    requires gives { gives ≡ gives_now drive.old.work }
+    requires some { 0 < most }
+    requires left { most ≤ left_of drive.old.work }
+    requires moving { IsMoving drive.old }
+    requires narrow { address < 2 ^ 25 }
+    requires key { key < 16 }
+    ensures passes { Passes key ccw address most storage.old drive.old result storage.new drive.new }
+    ensures storage { KeepsStorage storage.old storage.new }
+    ensures image { drive.new.image ≡ drive.old.image }
+{
+    if gives {
+        read(key, ccw, address, most, storage, drive)
+    } else {
+        write(key, ccw, address, most, storage, drive)
+    }
+}
+
+// The drive takes bytes of storage, as they stand there.
+#[inline(always)]
+fn write<S: ImageStore>(
+    _key: u8,
+    _ccw: Ccw,
+    address: u32,
+    most: u16,
+    storage: &Storage,
+    drive: &mut Drive<S>,
+) -> Result<u16, Condition>
+    requires takes { takes_now drive.old.work ≡ true }
+    requires some { 0 < most }
+    requires left { most ≤ left_of drive.old.work }
+    requires moving { IsMoving drive.old }
+    requires narrow { address < 2 ^ 25 }
+    ensures passes { Passes _key _ccw address most storage.now drive.old result storage.now drive.new }
+    ensures image { drive.new.image ≡ drive.old.image }
+{
+    let size = storage.size();
+    if address >= size {
+        return Err(Condition::ProgramCheck);
+    }
+    let m = fitting(most, size - address);
+    let Some(bytes) = storage.slice(address, u32::from(m)) else {
+        return Err(Condition::ProgramCheck);
+    };
+    drive.take(bytes);
+    Ok(m)
+}
+
+// As many of these as there is room for.
+fn fitting(most: u16, room: u32) -> u16
+    requires some { 0 < most }
+    requires room { 0 < room }
+    ensures some { 0 < result }
+    ensures most { result ≤ most }
+    ensures room { result ≤ room }
+{
+    if u32::from(most) > room {
+        room as u16
+    } else {
+        most
+    }
+}
+
+// The drive gives bytes, which go into storage, unless they are skipped.
+#[inline(always)]
+fn read<S: ImageStore>(
+    key: u8,
+    ccw: Ccw,
+    address: u32,
+    most: u16,
+    storage: &mut Storage,
+    drive: &mut Drive<S>,
+) -> Result<u16, Condition>
+    requires gives { gives_now drive.old.work ≡ true }
+    requires some { 0 < most }
+    requires left { most ≤ left_of drive.old.work }
+    requires moving { IsMoving drive.old }
+    requires narrow { address < 2 ^ 25 }
+    requires key { key < 16 }
+    ensures passes { Passes key ccw address most storage.old drive.old result storage.new drive.new }
+    ensures storage { KeepsStorage storage.old storage.new }
+    ensures image { drive.new.image ≡ drive.old.image }
+{
+    if ccw.skips() {
+        drive.pass(usize::from(most));
+        return Ok(most);
+    }
+    let m = storage.storable(address, u32::from(most), key) as u16;
+    if m == 0 {
+        return Err(if address >= storage.size() {
+            Condition::ProgramCheck
+        } else {
+            Condition::ProtectionCheck
+        });
+    }
+    let n = usize::from(m);
+    let _ = storage.put(address, &drive.next_bytes()[..n]);
+    drive.pass(n);
+    Ok(m)
+}

@@ -1,0 +1,76 @@
+//! The first command of a program, as Start I/O begins it (Principles of Operation, Input/Output Operations: 'Start I/O').
+
+ghost use Rattle.std.specs.Prelude.{Bool, ◌≡◌, ◌<◌, ◌≤◌, ◌^◌, true, false, None};
+ghost use Rattle.ckd_command.specs.Drive.{is_written, unsaved};
+ghost use Rattle.ckd_drive.specs.Work.{is_idle, may_end, immediate_ending, Over as IsOver};
+ghost use Rattle.s360_program.specs.Starting.{FirstBegun, ImmediateDone, StartsQuietly};
+
+use crate::places::Place;
+use crate::stages::{Run, Stage};
+use ckd_command::steps::DriveEnding;
+use ckd_drive::answers::Begun;
+use ckd_drive::drive::Drive;
+use ckd_image::ImageStore;
+use s360_words::{Ccw, Storage};
+
+/// What the first command comes to.
+#[derive(Clone, Copy, Debug, PartialEq, Eq)]
+pub enum First {
+    /// The drive rejects it.
+    Rejected,
+    /// It is over at once, and no other follows; and whether an interruption was asked for.
+    Immediate(DriveEnding, bool),
+    /// The program runs.
+    Accepted(Run),
+}
+
+/// Begins the first command, whose word is at this place.
+pub fn first_command<S: ImageStore>(
+    key: u8,
+    place: Place,
+    ccw: Ccw,
+    _storage: &Storage,
+    drive: &mut Drive<S>,
+) -> First
+    requires idle { is_idle drive.old.work ≡ true }
+    requires unwritten { is_written drive.old.state ≡ false }
+    requires saved { unsaved drive.old.state ≡ None }
+    requires key { key < 16 }
+    requires next { place.next ≤ 2 ^ 24 }
+    requires last { place.last ≤ 2 ^ 24 }
+    requires address { ccw.address < 2 ^ 24 }
+    requires count { place.residual < 2 ^ 16 }
+    ensures begun { FirstBegun key _storage.now ccw place result drive.old drive.new }
+    ensures quiet { StartsQuietly drive.old drive.new }
+{
+    match drive.begin(ccw.code) {
+        Begun::Rejected => First::Rejected,
+        Begun::Started => First::Accepted(Run {
+            key,
+            place,
+            stage: Stage::Looking(ccw),
+        }),
+        Begun::Immediate => immediate(key, place, ccw, drive),
+    }
+}
+
+// An immediate command: the next one follows, or the program is over.
+fn immediate<S: ImageStore>(key: u8, place: Place, ccw: Ccw, drive: &mut Drive<S>) -> First
+    requires may { may_end drive.old.work ≡ true }
+    requires unwritten { is_written drive.old.state ≡ false }
+    requires key { key < 16 }
+    requires next { place.next ≤ 2 ^ 24 }
+    requires last { place.last ≤ 2 ^ 24 }
+    ensures { (motion : Bool) → drive.old.work ≡ IsOver (immediate_ending motion) → ImmediateDone key ccw place motion result drive.old drive.new }
+{
+    let ending = drive.end();
+    if ccw.chains_command() {
+        return First::Accepted(Run {
+            key,
+            place,
+            stage: Stage::Between,
+        });
+    }
+    let _ = drive.settle();
+    First::Immediate(ending, place.interruption)
+}

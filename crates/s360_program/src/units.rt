@@ -1,0 +1,308 @@
+//! A running channel program, unit by unit (Principles of Operation, Input/Output Operations).
+
+ghost use Rattle.std.specs.Prelude.{◌≡◌, ◌⊎◌, ◌<◌, ◌≤◌, ◌+◌, ◌*◌, ◌^◌, ◌&&◌, ◌||◌, ◌==◌, not, true, false, None, is_some};
+ghost use Rattle.s360_words.specs.Words.{chains_data, suppresses_length};
+ghost use Rattle.ckd_command.specs.Drive.{is_written, unsaved};
+ghost use Rattle.s360_runs.specs.Commands.{choice};
+ghost use Rattle.s360_runs.specs.Endings.{ending as ending_with};
+ghost use Rattle.s360_runs.specs.Units.{unit, next_chosen, Between, EndsIn, standing_in};
+ghost use Rattle.s360_runs.specs.Unsaved.{has_written};
+ghost use Rattle.s360_words.specs.Storage.{Storage as StorageState};
+ghost use Rattle.ckd_drive.specs.Work.{is_idle, may_end, closed_of, CallsStore};
+ghost use Rattle.s360_program.specs.Advances.{Advances, CallsAtMost, KeepsStorage, NeedNoStore, TellsOf};
+ghost use Rattle.s360_program.specs.Stands.{phase_in, Within};
+ghost use Rattle.s360_program.specs.Steps.{run_of, Fits, IsQuiet, ComesBy, EndsBy, Steps, has_passed, goes_on, point_at, request_at, status_of, condition_for, differs, needs_area as wants_area};
+
+use crate::conditions::{Condition, chains};
+use crate::endings::{FAILED, UNTOUCHED, end_program};
+use crate::moving::{flow_of, pass};
+use crate::places::Fetched;
+use crate::program::Advance;
+use crate::stages::{Run, Stage, Step};
+use ckd_drive::answers::{Begun, Look, Phase};
+use ckd_drive::drive::Drive;
+use ckd_image::ImageStore;
+use s360_words::{Ccw, Csw, Storage};
+
+impl Run {
+    /// Does so many units, unless the program ends before.
+    pub fn advance<S: ImageStore>(
+        &mut self,
+        units: u16,
+        storage: &mut Storage,
+        drive: &mut Drive<S>,
+    ) -> Advance
+        requires { Fits self.old drive.old }
+        ensures advances { Advances self.old.key (phase_in (run_of self.old) storage.old drive.old) units result (run_of self.new) storage.new drive.old drive.new }
+        ensures within { goes_on result ≡ true → Within (run_of self.new) }
+        ensures storage { KeepsStorage storage.old storage.new }
+        ensures calls { CallsAtMost (2 * result.done) drive.old drive.new }
+        ensures tells { TellsOf result.ending drive.old drive.new }
+        ensures quiet { NeedNoStore self.old.key (phase_in (run_of self.old) storage.old drive.old) result.done → drive.new.image ≡ drive.old.image }
+    {
+        let mut done = 0;
+        while done < units {
+            match self.step(units - done, storage, drive) {
+                Step::Units(n) => done += n,
+                Step::Over(ending) => {
+                    return Advance {
+                        done: done + 1,
+                        ending: Some(ending),
+                    };
+                }
+            }
+        }
+        Advance { done, ending: None }
+    }
+
+    /// Cuts the program: the open command is closed by the bytes that have passed, where any have.
+    pub fn cut<S: ImageStore>(&self, drive: &mut Drive<S>) -> (Csw, bool)
+        requires { Fits self.now drive.old }
+        ensures cut { (s : StorageState) → EndsBy (λ f. EndsIn s ((standing_in self.now.key (phase_in (run_of self.now) s drive.old)).cut f)) result s drive.old drive.new }
+        ensures calls { (s : StorageState) → CallsStore false (has_written (phase_in (run_of self.now) s drive.old)) drive.old drive.new }
+        ensures lost { (drive.new.image.failures ≡ drive.old.image.failures) ⊎ (is_some (unsaved drive.new.state) ≡ true) }
+    {
+        if !has_passed(drive) {
+            return end_program(self, UNTOUCHED, Condition::Clear, drive);
+        }
+        let ending = drive.end();
+        end_program(self, ending, Condition::Clear, drive)
+    }
+
+    /// Does one unit, or more where bytes pass together, and at most as many as are asked for.
+    pub fn step<S: ImageStore>(
+        &mut self,
+        most: u16,
+        storage: &mut Storage,
+        drive: &mut Drive<S>,
+    ) -> Step
+        requires some { 0 < most }
+        requires fits { Fits self.old drive.old }
+        ensures steps { Steps self.old.key (phase_in (run_of self.old) storage.old drive.old) most result self.new storage.new drive.old drive.new }
+        ensures storage { KeepsStorage storage.old storage.new }
+        ensures calls { CallsAtMost 2 drive.old drive.new }
+        ensures quiet { IsQuiet drive.old → drive.new.image ≡ drive.old.image }
+    {
+        match self.stage {
+            Stage::Between => self.next_command(storage, drive),
+            Stage::Looking(ccw) => self.look(ccw, most, storage, drive),
+            Stage::Moving(ccw, address) => self.transfer(ccw, address, most, storage, drive),
+        }
+    }
+
+    // The fetch of a word that begins a command.
+    fn next_command<S: ImageStore>(&mut self, storage: &Storage, drive: &mut Drive<S>) -> Step
+        requires fits { Fits self.old drive.old }
+        requires idle { is_idle drive.old.work ≡ true }
+        requires stage { self.old.stage ≡ Stage.Between }
+        ensures comes { ComesBy self.old.key (λ f. unit f self.old.key (Between (point_at storage.now self.old drive.old))) result self.new storage.now drive.old drive.new }
+        ensures calls { CallsAtMost 2 drive.old drive.new }
+        ensures quiet { IsQuiet drive.old → drive.new.image ≡ drive.old.image }
+    {
+        let ccw = match self.place.fetch(storage, true) {
+            Fetched::NoCcw => {
+                self.place.miss();
+                return Step::Over(end_program(self, UNTOUCHED, Condition::ProgramCheck, drive));
+            }
+            Fetched::TransferTo(address) => {
+                self.place.transfer(address);
+                return Step::Units(1);
+            }
+            Fetched::GoodCcw(ccw) => ccw,
+        };
+        self.place.pass(ccw);
+        match drive.begin(ccw.code) {
+            Begun::Rejected => Step::Over(end_program(self, FAILED, Condition::Clear, drive)),
+            Begun::Immediate => self.conclude(ccw, false, storage, drive),
+            Begun::Started => {
+                self.stage = Stage::Looking(ccw);
+                Step::Units(1)
+            }
+        }
+    }
+
+    // The end of a command, and the choice of the next; whether its length is incorrect is known.
+    #[inline(always)]
+    fn conclude<S: ImageStore>(
+        &mut self,
+        ccw: Ccw,
+        incorrect: bool,
+        _storage: &Storage,
+        drive: &mut Drive<S>,
+    ) -> Step
+        requires key { self.old.key < 16 }
+        requires next { self.old.place.next ≤ 2 ^ 24 }
+        requires last { self.old.place.last ≤ 2 ^ 24 + 8 }
+        requires may { may_end drive.old.work ≡ true }
+        requires saved { unsaved drive.old.state ≡ None }
+        ensures comes { ComesBy self.old.key (λ f. next_chosen (choice f self.old.key (request_at _storage.now ccw self.old) (closed_of f drive.old drive.old.work) (status_of (condition_for incorrect (closed_of f drive.old drive.old.work).unit)))) result self.new _storage.now drive.old drive.new }
+        ensures loads { drive.new.image.loads ≡ drive.old.image.loads }
+        ensures calls { CallsAtMost 1 drive.old drive.new }
+        ensures unwritten { is_written drive.old.state ≡ false → is_written (closed_of None drive.old drive.old.work).state ≡ false → drive.new.image ≡ drive.old.image }
+    {
+        let ending = drive.end();
+        let condition = Condition::of_length(incorrect, ending.unit);
+        if !chains(ccw, ending.unit, condition) {
+            return Step::Over(end_program(self, ending, condition, drive));
+        }
+        self.place.modify(ending.unit);
+        self.stage = Stage::Between;
+        Step::Units(1)
+    }
+
+    // A check closes the command by the bytes that passed, and ends the program.
+    fn stop<S: ImageStore>(
+        &mut self,
+        condition: Condition,
+        _storage: &Storage,
+        drive: &mut Drive<S>,
+    ) -> Step
+        requires last { self.old.place.last ≤ 2 ^ 24 + 8 }
+        requires may { may_end drive.old.work ≡ true }
+        requires saved { unsaved drive.old.state ≡ None }
+        ensures comes { ComesBy self.old.key (λ f. EndsIn _storage.now (ending_with f self.old.key (run_of self.old).place (closed_of f drive.old drive.old.work) (status_of condition))) result self.new _storage.now drive.old drive.new }
+        ensures loads { drive.new.image.loads ≡ drive.old.image.loads }
+        ensures calls { CallsAtMost 1 drive.old drive.new }
+        ensures quiet { IsQuiet drive.old → drive.new.image ≡ drive.old.image }
+    {
+        let ending = drive.end();
+        Step::Over(end_program(self, ending, condition, drive))
+    }
+
+    // A look for the area of a command; where it is found the unit goes on.
+    fn look<S: ImageStore>(
+        &mut self,
+        ccw: Ccw,
+        most: u16,
+        storage: &mut Storage,
+        drive: &mut Drive<S>,
+    ) -> Step
+        requires some { 0 < most }
+        requires fits { Fits self.old drive.old }
+        requires stage { self.old.stage ≡ Stage.Looking ccw }
+        ensures steps { Steps self.old.key (phase_in (run_of self.old) storage.old drive.old) most result self.new storage.new drive.old drive.new }
+        ensures storage { KeepsStorage storage.old storage.new }
+        ensures calls { CallsAtMost 2 drive.old drive.new }
+        ensures quiet { IsQuiet drive.old → drive.new.image ≡ drive.old.image }
+    {
+        match drive.look() {
+            Look::Failed => Step::Over(end_program(self, FAILED, Condition::Clear, drive)),
+            Look::Passed => Step::Units(1),
+            Look::Ready(_) => {
+                self.stage = Stage::Moving(ccw, ccw.address);
+                self.transfer(ccw, ccw.address, most, storage, drive)
+            }
+        }
+    }
+
+    // Bytes of a command whose area is found: as many as may pass; or the next word has a further area; or the command ends.
+    #[inline(always)]
+    fn transfer<S: ImageStore>(
+        &mut self,
+        ccw: Ccw,
+        address: u32,
+        most: u16,
+        storage: &mut Storage,
+        drive: &mut Drive<S>,
+    ) -> Step
+        requires some { 0 < most }
+        requires fits { Fits self.old drive.old }
+        requires stage { self.old.stage ≡ Stage.Moving ccw address }
+        ensures steps { Steps self.old.key (phase_in (run_of self.old) storage.old drive.old) most result self.new storage.new drive.old drive.new }
+        ensures storage { KeepsStorage storage.old storage.new }
+        ensures loads { drive.new.image.loads ≡ drive.old.image.loads }
+        ensures calls { CallsAtMost 1 drive.old drive.new }
+        ensures quiet { IsQuiet drive.old → drive.new.image ≡ drive.old.image }
+    {
+        if needs_area(self.place.residual, ccw) {
+            return self.next_area(storage, drive);
+        }
+        let flow = flow_of(drive);
+        if is_spent(self.place.residual, flow.left) {
+            let incorrect = is_incorrect(ccw, self.place.residual, flow.left);
+            return self.conclude(ccw, incorrect, storage, drive);
+        }
+        let most = least(most, self.place.residual, flow.left);
+        match pass(flow.gives, self.key, ccw, address, most, storage, drive) {
+            Ok(m) => {
+                self.place.residual -= m;
+                self.stage = Stage::Moving(ccw, address + u32::from(m));
+                Step::Units(m)
+            }
+            Err(condition) => self.stop(condition, storage, drive),
+        }
+    }
+
+    // The fetch of a word that has a further area of the command that works.
+    fn next_area<S: ImageStore>(&mut self, storage: &Storage, drive: &mut Drive<S>) -> Step
+        requires fits { Fits self.old drive.old }
+        requires needs { wants_area (run_of self.old) ≡ true }
+        ensures comes { ComesBy self.old.key (λ f. unit f self.old.key (phase_in (run_of self.old) storage.now drive.old)) result self.new storage.now drive.old drive.new }
+        ensures loads { drive.new.image.loads ≡ drive.old.image.loads }
+        ensures calls { CallsAtMost 1 drive.old drive.new }
+        ensures quiet { IsQuiet drive.old → drive.new.image ≡ drive.old.image }
+    {
+        match self.place.fetch(storage, false) {
+            Fetched::NoCcw => {
+                self.place.miss();
+                self.stop(Condition::ProgramCheck, storage, drive)
+            }
+            Fetched::TransferTo(address) => {
+                self.place.transfer(address);
+                Step::Units(1)
+            }
+            Fetched::GoodCcw(ccw) => {
+                self.place.pass(ccw);
+                self.stage = Stage::Moving(ccw, ccw.address);
+                Step::Units(1)
+            }
+        }
+    }
+}
+
+// Whether a byte of the open command has passed.
+fn has_passed<S: ImageStore>(drive: &Drive<S>) -> bool
+    ensures { result ≡ has_passed drive.now.work }
+{
+    match drive.phase() {
+        Phase::Gives { passed, left: _ } | Phase::Takes { passed, left: _ } => passed > 0,
+        Phase::Idle | Phase::Over | Phase::Looking => false,
+    }
+}
+
+// Whether the next word has a further area of the same command.
+fn needs_area(residual: u16, ccw: Ccw) -> bool
+    ensures { result ≡ (residual == 0 && chains_data ccw) }
+{
+    residual == 0 && ccw.chains_data()
+}
+
+// Whether no more byte passes.
+fn is_spent(residual: u16, left: usize) -> bool
+    ensures { result ≡ (residual == 0 || left == 0) }
+{
+    residual == 0 || left == 0
+}
+
+// Whether the count and the bytes that are left differ, and the word does not suppress telling it.
+fn is_incorrect(ccw: Ccw, residual: u16, left: usize) -> bool
+    ensures { result ≡ (not (suppresses_length ccw) && differs residual left) }
+{
+    !ccw.suppresses_length() && (residual == 0) != (left == 0)
+}
+
+// The least of three numbers.
+fn least(most: u16, residual: u16, left: usize) -> u16
+    requires some { (0 < most) × (0 < residual) × (0 < left) }
+    ensures some { 0 < result }
+    ensures most { result ≤ most }
+    ensures residual { result ≤ residual }
+    ensures left { result ≤ left }
+{
+    let few = most.min(residual);
+    if usize::from(few) > left {
+        left as u16
+    } else {
+        few
+    }
+}

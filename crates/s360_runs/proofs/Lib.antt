@@ -1,0 +1,13 @@
+pub mod Walks
+pub mod Standing
+pub mod AtOnce
+pub mod DriveTerms
+pub mod DriveFacts
+pub mod EndStatus
+pub mod FaultsMet
+pub mod FirstUnits
+pub mod UnsavedTracks
+pub mod FailedLoads
+pub mod KeptTracks
+pub mod ScriptMarks
+pub mod Sizes

@@ -1,0 +1,122 @@
+-- Which calls of the image's store the units and the cuts of a program make. A load is made only where the drive looks for an
+-- area; a save, only where the arm or the head leaves a track that was written, or the program ends at one.
+use Rattle.std.specs.Prelude.{ℕ, List, Bool, true, false, not, ◌&&◌, ◌||◌, None}
+use Rattle.s360_words.specs.declared.flags.ChannelStatus.{ChannelStatus}
+use Rattle.ckd_command.specs.Commands.{Closing, beginning, closing, sight}
+use Rattle.ckd_command.specs.Drive.{Closed, Fault, LoadFails, SaveFails, Open, is_written, track_under, AfterBegin, Rejected, Immediate, Started, begin, AfterLook, Ready, Passed, Failed, look, close}
+use Rattle.ckd_command.specs.Tables.{aim}
+use Rattle.ckd_command.specs.declared.steps.Aim.{Aim}
+use Rattle.ckd_command.specs.declared.steps.Aim.TheVariants.{Next as NextArea}
+use Rattle.ckd_command.specs.declared.steps.Beginning.{Beginning}
+use Rattle.ckd_command.specs.declared.steps.Beginning.TheVariants.{ToCylinderZero}
+use Rattle.ckd_command.specs.declared.steps.Sight.{Sight}
+use Rattle.ckd_command.specs.declared.steps.Sight.TheVariants.{NextHead}
+use Rattle.s360_runs.specs.Commands.{Point, goes_on_chaining, length_status, requested}
+use Rattle.s360_runs.specs.Endings.{closed_by_cut, immediate}
+use Rattle.s360_runs.specs.Places.{fetch, Fetched, NoCcw, TransferTo, GoodCcw}
+use Rattle.s360_runs.specs.Status.{no_channel_status}
+use Rattle.s360_runs.specs.Transfers.{Request, Transfer, TransferUnit, Moves, Stops, Completes, first_transfer, request_of, transfer_unit}
+use Rattle.s360_runs.specs.Units.{ProgramPhase, Between, Looking, Moving, state_in}
+
+-- Loads.
+
+abbrev pub is_next : Aim → Bool
+is_next (NextArea kind) = true
+is_next _ = false
+
+-- whether a command looks for an area of the track
+abbrev pub looks_for_area : Open → Bool
+looks_for_area o = is_next (aim o.opened.command)
+
+abbrev pub loads : ProgramPhase → Bool
+loads (Looking o r) = looks_for_area o
+loads phase = false
+
+-- Whether the arm or the head leaves the track in a unit: as Recalibrate or Read IPL begins, as the next head follows with the
+-- multi-track bit, or as a seek ends.
+
+abbrev pub leaves_as_it_begins : Beginning → Bool
+leaves_as_it_begins (ToCylinderZero r o) = true
+leaves_as_it_begins _ = false
+
+abbrev pub leaves_fetched : Point → Fetched → Bool
+leaves_fetched p (GoodCcw ccw) = leaves_as_it_begins (beginning ccw.code p.state.registers)
+leaves_fetched p _ = false
+
+abbrev pub goes_to_next_head : Sight → Bool
+goes_to_next_head (NextHead r) = true
+goes_to_next_head _ = false
+
+abbrev pub leaves_looking : Open → Bool
+leaves_looking o = goes_to_next_head (sight o.state.volume.geometry (track_under o.state) o.opened o.state.registers)
+
+abbrev pub closing_of : Open → List ℕ → Closing
+closing_of o b = closing o.state.volume.geometry (track_under o.state) o.opened o.state.registers b
+
+abbrev pub leaves_moved : Open → Transfer → TransferUnit → Bool
+leaves_moved o t (Moves next) = false
+leaves_moved o t (Stops next check) = (closing_of o t.bytes).moves_off
+leaves_moved o t Completes = (closing_of o t.bytes).moves_off
+
+abbrev pub leaves : (key : ℕ) → ProgramPhase → Bool
+leaves key (Between p) = leaves_fetched p (fetch p.storage p.place true)
+leaves key (Looking o r) = leaves_looking o
+leaves key (Moving o t) = leaves_moved o t (transfer_unit key o t)
+
+-- Whether the program ends in a unit with the track under the arm written.
+
+abbrev pub ends_written_by : Request → Closed → ChannelStatus → Bool
+ends_written_by r c channel = not (goes_on_chaining r c channel) && is_written c.state
+
+abbrev pub ends_written_begun : Request → AfterBegin → Bool
+ends_written_begun r (Rejected s) = is_written s
+ends_written_begun r (Immediate s motion) = ends_written_by r (immediate s motion) no_channel_status
+ends_written_begun r (Started o) = false
+
+abbrev pub ends_written_fetched : Point → Fetched → Bool
+ends_written_fetched p NoCcw = is_written p.state
+ends_written_fetched p (TransferTo address) = false
+ends_written_fetched p (GoodCcw ccw) = ends_written_begun (requested p ccw) (begin None ccw.code p.state)
+
+abbrev pub ends_written_moved : Open → Transfer → TransferUnit → Bool
+ends_written_moved o t (Moves next) = false
+ends_written_moved o t (Stops next check) = is_written (close None o t.bytes).state
+ends_written_moved o t Completes =
+    let c = close None o t.bytes in ends_written_by (request_of t) c (length_status o t c)
+
+abbrev pub ends_written_looked : (key : ℕ) → Request → AfterLook → Bool
+ends_written_looked key r (Failed s) = is_written s
+ends_written_looked key r (Passed o) = false
+ends_written_looked key r (Ready o) = let t = first_transfer r in ends_written_moved o t (transfer_unit key o t)
+
+abbrev pub ends_written : (key : ℕ) → ProgramPhase → Bool
+ends_written key (Between p) = ends_written_fetched p (fetch p.storage p.place true)
+ends_written key (Looking o r) = ends_written_looked key r (look None o)
+ends_written key (Moving o t) = ends_written_moved o t (transfer_unit key o t)
+
+-- Saves.
+
+abbrev pub saves : (key : ℕ) → ProgramPhase → Bool
+saves key phase = (leaves key phase && is_written (state_in phase)) || ends_written key phase
+
+-- and a cut: a seek that all its bytes came for leaves the track
+abbrev pub leaves_by_cut : ProgramPhase → Bool
+leaves_by_cut (Moving o t) = (closing_of o t.bytes).moves_off
+leaves_by_cut phase = false
+
+abbrev pub ends_written_by_cut : ProgramPhase → Bool
+ends_written_by_cut (Moving o t) = is_written (closed_by_cut None o t.bytes).state
+ends_written_by_cut phase = is_written (state_in phase)
+
+abbrev pub saves_by_cut : ProgramPhase → Bool
+saves_by_cut phase = (leaves_by_cut phase && is_written (state_in phase)) || ends_written_by_cut phase
+
+-- Whether a unit meets a fault, and whether a cut does: exactly where it makes that call.
+
+abbrev pub meets : Fault → (key : ℕ) → ProgramPhase → Bool
+meets LoadFails key phase = loads phase
+meets (SaveFails left) key phase = saves key phase
+
+abbrev pub cut_meets : Fault → ProgramPhase → Bool
+cut_meets LoadFails phase = false
+cut_meets (SaveFails left) phase = saves_by_cut phase

@@ -1,0 +1,135 @@
+//! The laws of channel programs. Each function here does nothing: what it ensures is a law of the definitions in
+//! `specs/`, which speak of every start, every script and every fault of the store.
+
+ghost use Rattle.s360_runs.specs.Laws.{RunIsWalk, WalkGoesOn, WalkEndsAtUnit, EndedStays, StandsAtStart, StandsSomewhere, StandsAfterWalk, EndsAfterWalk, EndingIsEnd, CutIsEnd, FirstIsUnit, PassAtOnce};
+ghost use Rattle.s360_runs.specs.Unsaved.{WritesByCommands, UnsavedWasWritten, NoFaultNothingTold};
+ghost use Rattle.s360_runs.specs.Writes.{WritesUnderArm, RunKeeps, MarkIsOfScript, KeepsSize};
+ghost use Rattle.s360_runs.specs.Faults.{FaultEndsUnit, FailedLoad, FaultEndsPhase, FaultEndsProgram, FaultEndsCut, GoesOnWithoutFaults};
+
+/// The run of a program, command by command, is its walk from the start, unit by unit.
+pub fn run_is_walk()
+    ensures { RunIsWalk }
+{}
+
+/// A walk over a longer script goes on where the walk over the shorter one stands; one that is over stays as it is.
+pub fn walk_goes_on()
+    ensures { WalkGoesOn }
+{}
+
+/// A walk that is over was over at the last unit that it used, and not before.
+pub fn walk_ends_at_unit()
+    ensures { WalkEndsAtUnit }
+{}
+
+/// A program that ended has the same ending over every longer script.
+pub fn ended_stays()
+    ensures { EndedStays }
+{}
+
+/// As it begins, a program stands at its first fetch.
+pub fn stands_at_start()
+    ensures { StandsAtStart }
+{}
+
+/// A program that has not ended stands in a phase, and what is seen of it is what is seen of the phase.
+pub fn stands_somewhere()
+    ensures { StandsSomewhere }
+{}
+
+/// From where a program stands, a walk to a phase leaves it standing there.
+pub fn stands_after_walk()
+    ensures { StandsAfterWalk }
+{}
+
+/// From where a program stands, a walk to an end is the end of its run, with all units of the script used.
+pub fn ends_after_walk()
+    ensures { EndsAfterWalk }
+{}
+
+/// A program that ends by itself has channel end, and device end unless it leaves the arm moving.
+pub fn ending_is_end()
+    ensures { EndingIsEnd }
+{}
+
+/// So has a program that is cut.
+pub fn cut_is_end()
+    ensures { CutIsEnd }
+{}
+
+/// Bytes that may pass one after another pass at once, where nothing comes between their units.
+pub fn bytes_pass_at_once()
+    ensures { PassAtOnce }
+{}
+
+/// A fault of the store that a unit meets ends the program in that unit.
+pub fn fault_ends_unit()
+    ensures { FaultEndsUnit }
+{}
+
+/// The same of a run: unit check and equipment check tell of the fault, and at most one slot is lost.
+pub fn fault_ends_program()
+    ensures { FaultEndsProgram }
+{}
+
+/// The same of a cut.
+pub fn fault_ends_cut()
+    ensures { FaultEndsCut }
+{}
+
+/// A program that goes on has met no fault.
+pub fn goes_on_without_faults()
+    ensures { GoesOnWithoutFaults }
+{}
+
+/// Only a write of which a byte has passed writes a track.
+pub fn writes_by_commands()
+    ensures { WritesByCommands }
+{}
+
+/// A track that is told as not saved was written by the program, and not saved since.
+pub fn unsaved_was_written()
+    ensures { UnsavedWasWritten }
+{}
+
+/// Without a fault no track is told as not saved, and the sense gains no equipment check.
+pub fn no_fault_nothing_told()
+    ensures { NoFaultNothingTold }
+{}
+
+/// What Start I/O makes of a start is the first unit of its run.
+pub fn first_is_unit()
+    ensures { FirstIsUnit }
+{}
+
+/// A load that fails ends the command with unit check and the sense bytes 10 00: no byte has passed, no check is met, no index has
+/// passed, and nothing else changes.
+pub fn failed_load()
+    ensures { FailedLoad }
+{}
+
+/// A cut meets a fault exactly where it saves.
+pub fn fault_ends_phase()
+    ensures { FaultEndsPhase }
+{}
+
+/// A unit of a program, or a cut, with or without a fault, changes at most the track under the arm; and that only where the
+/// program has written it and it is not saved since.
+pub fn writes_under_arm()
+    ensures { WritesUnderArm }
+{}
+
+/// A program keeps every track that none of its units may write.
+pub fn run_keeps()
+    ensures { RunKeeps }
+{}
+
+/// Whether the track under the arm is written and not saved since is read off the units of the script: one has closed a write,
+/// and none since has left the track.
+pub fn mark_is_of_script()
+    ensures { MarkIsOfScript }
+{}
+
+/// Of storage a program changes bytes, and not their number.
+pub fn storage_keeps_its_size()
+    ensures { KeepsSize }
+{}
