@@ -45,16 +45,29 @@ fn answer(rt: &HostRuntime) -> Result<Ending, ProgramFault> {
     let words = host_words(rt)?;
     let mut list = Vec::new(alloc);
     for word in &words {
-        list.push(word.as_str()).map_err(|_| ProgramFault::OutOfMemory)?;
+        list.push(word.as_str())
+            .map_err(|_| ProgramFault::OutOfMemory)?;
     }
     let mut files = HostFiles::new(rt);
     let Ok(mut writer) = BufWriter::new(alloc, io::writer(rt)) else {
         return Err(ProgramFault::OutOfMemory);
     };
     if list.len() > 1 {
-        obey(alloc, list.as_slice(), &mut files, &mut rt.reader(), &mut writer)
+        obey(
+            alloc,
+            list.as_slice(),
+            &mut files,
+            &mut rt.reader(),
+            &mut writer,
+        )
     } else {
-        obey(alloc, &STORED_RUN, &mut files, &mut &STORED_DECK[..], &mut writer)
+        obey(
+            alloc,
+            &STORED_RUN,
+            &mut files,
+            &mut &STORED_DECK[..],
+            &mut writer,
+        )
     }
 }
 

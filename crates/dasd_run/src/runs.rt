@@ -66,7 +66,9 @@ fn open<F: ImageFiles>(
     ensures { F.replacements files.new ≡ F.replacements files.old }
 {
     match source {
-        VolumeSource::Files(paths) => read_image(alloc, files, paths.as_slice()).map_err(ProgramFault::Job),
+        VolumeSource::Files(paths) => read_image(alloc, files, paths.as_slice()).map_err(
+            ProgramFault::Job,
+        ),
         VolumeSource::New { model, cylinders } => {
             new_image(alloc, *model, *cylinders).map_err(ProgramFault::Job)
         }

@@ -152,7 +152,9 @@ fn holds_slot(bytes: &[u8], geometry: Geometry, slot: &Slot) -> bool {
 fn slot_of(bytes: &[u8], geometry: Geometry, cylinder: u16, head: u16) -> Option<&[u8]> {
     let size = geometry.track_size as usize;
     let heads = usize::from(geometry.model.heads());
-    let track = usize::from(cylinder).checked_mul(heads)?.checked_add(usize::from(head))?;
+    let track = usize::from(cylinder)
+        .checked_mul(heads)?
+        .checked_add(usize::from(head))?;
     let from = track.checked_mul(size)?.checked_add(512)?;
     bytes.get(from..from.checked_add(size)?)
 }

@@ -10,8 +10,8 @@ ghost use Rattle.s360_channel.specs.Calls.{DoesQuietly, Does, CallsNoStore, Call
 
 use crate::channel::Channel;
 use crate::ending::{cut_program, halt_device};
-use crate::subchannel::Subchannel;
 use crate::starting::start_io;
+use crate::subchannel::Subchannel;
 use crate::testing::test_io;
 use ckd_image::ImageStore;
 use s360_events::{Condition, Status};

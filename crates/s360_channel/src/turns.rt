@@ -8,8 +8,8 @@ ghost use Rattle.s360_channel.specs.Calls.{DoesQuietly, Does, CallsNoStore, Call
 
 use crate::channel::{Channel, Reset};
 use crate::ending::{end_program, lose_program};
-use crate::subchannel::Subchannel;
 use crate::interrupting::{arrive, interrupt};
+use crate::subchannel::Subchannel;
 use ckd_image::ImageStore;
 use s360_words::Csw;
 
