@@ -1,0 +1,43 @@
+//! How far a long job has come.
+
+use std::fmt;
+
+/// An image of at most so many bytes is done at once, and nothing is shown of it.
+const SMALL_IMAGE: u64 = 4_194_304;
+
+/// What a job over a large image is about.
+#[derive(Clone, Copy, Debug, PartialEq, Eq)]
+pub enum Stage {
+    /// A new volume of so many cylinders is made.
+    Formatting(u16),
+    /// The image of a volume of so many cylinders is written.
+    Writing(u16),
+    /// A cylinder of so many is checked; the first has the number 1.
+    Checking(u16, u16),
+}
+
+impl fmt::Display for Stage {
+    fn fmt<W: fmt::Write>(&self, f: &mut fmt::Formatter<W>) -> fmt::Result {
+        match self {
+            Stage::Formatting(cylinders) => write!(f, "formatting {cylinders} cylinders"),
+            Stage::Writing(cylinders) => write!(f, "writing {cylinders} cylinders"),
+            Stage::Checking(cylinder, cylinders) => {
+                write!(f, "checking cylinder {cylinder} of {cylinders}")
+            }
+        }
+    }
+}
+
+/// A line that shows what a job is about while it goes on, beside what it prints.
+pub trait Progress {
+    /// The line shows this from now on.
+    fn show(&mut self, stage: Stage);
+
+    /// The line shows nothing from now on.
+    fn clear(&mut self);
+}
+
+/// Whether a job over an image of so many bytes takes long enough to be shown.
+pub fn is_large(bytes: u64) -> bool {
+    bytes > SMALL_IMAGE
+}
