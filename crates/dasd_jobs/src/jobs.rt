@@ -2,16 +2,15 @@
 
 ghost use Rattle.std.specs.Prelude.{◌≡◌};
 
-use crate::faults::{JobFault, of_volume, of_write};
+use crate::faults::{JobFault, of_write};
 use crate::files::ImageFiles;
 use crate::mounting::{new_image, read_image};
-use ckd_image::image_len;
-use ckd_track::DriveModel;
+use ckd_track::{DriveModel, Geometry};
 use dasd_volumes::{Progress, Stage, is_large};
 use std::alloc::Global;
 use std::io::Write;
 
-/// Writes a new image to a path, in the place of what the file held, and prints what was formatted. Of a large image it shows
+/// Writes a new image to a path, in the place of what the file held, and prints what was formatted. Of a large volume it shows
 /// what it is about, and clears that before it prints.
 ///
 /// # Errors
@@ -46,7 +45,7 @@ fn write_new<F: ImageFiles, P: Progress>(
     model: DriveModel,
     cylinders: u16,
 ) -> Result<(), JobFault> {
-    let shows = is_large(image_len(model, cylinders));
+    let shows = is_large(Geometry::new(model, cylinders));
     if shows {
         progress.show(Stage::Formatting(cylinders));
     }
@@ -74,10 +73,10 @@ pub fn list_files<F: ImageFiles, W: Write>(
     ensures { F.replacements files.new ≡ F.replacements files.old }
 {
     let mut image = read_image(alloc, files, paths)?;
-    dasd_volumes::list(alloc, &mut image, writer).map_err(|fault| of_volume(fault))
+    dasd_volumes::list(alloc, &mut image, writer).map_err(JobFault::from)
 }
 
-/// Prints the tracks of the image that these files hold which can't be read, and answers how many there are. Of a large image
+/// Prints the tracks of the image that these files hold which can't be read, and answers how many there are. Of a large volume
 /// it shows each cylinder, and clears that before it ends. No file is written.
 ///
 /// # Errors
@@ -95,5 +94,5 @@ pub fn check_files<F: ImageFiles, W: Write, P: Progress>(
     let mut image = read_image(alloc, files, paths)?;
     let checked = dasd_volumes::check(alloc, &mut image, writer, progress);
     progress.clear();
-    checked.map_err(|fault| of_volume(fault))
+    checked.map_err(JobFault::from)
 }

@@ -21,7 +21,7 @@ pub enum Ending {
 }
 
 /// Does what these words ask, the first of which is the program's name. A deck is read from `reader`, where the words name no
-/// file of it; `writer` takes what is printed, and `progress` what is shown while a job over a large image goes on.
+/// file of it; `writer` takes what is printed, and `progress` what is shown while a job over a large volume goes on.
 ///
 /// # Errors
 ///

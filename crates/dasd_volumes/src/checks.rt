@@ -3,13 +3,13 @@
 use crate::fault::VolumeFault;
 use crate::progress::{Progress, Stage, is_large};
 use crate::text::TrackAddress;
-use ckd_image::{Image, ImageStore, image_len};
+use ckd_image::{Image, ImageStore};
 use ckd_track::read_slot;
 use std::alloc::Global;
 use std::io::Write;
 
 /// Prints each track of an image's volume that can't be read, with why, and then how many there are, which it answers. Of a
-/// large image it shows each cylinder, and clears what it shows before it prints.
+/// large volume it shows each cylinder, and clears what it shows before it prints.
 ///
 /// # Errors
 ///
@@ -21,7 +21,7 @@ pub fn check<S: ImageStore, W: Write, P: Progress>(
     progress: &mut P,
 ) -> Result<u32, VolumeFault> {
     let geometry = image.geometry();
-    let shows = is_large(image_len(geometry.model, geometry.cylinders));
+    let shows = is_large(geometry);
     let mut slot = vec![in alloc; 0u8; geometry.track_size as usize].map_err(
         |_| VolumeFault::OutOfMemory,
     )?;

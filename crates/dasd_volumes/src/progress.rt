@@ -1,11 +1,12 @@
 //! How far a long job has come.
 
+use ckd_track::Geometry;
 use std::fmt;
 
-/// An image of at most so many bytes is done at once, and nothing is shown of it.
-const SMALL_IMAGE: u64 = 4_194_304;
+/// A volume of at most so many bytes is done at once, and nothing is shown of it.
+const SMALL_VOLUME: u64 = 4_194_304;
 
-/// What a job over a large image is about.
+/// What a job over a large volume is about.
 #[derive(Clone, Copy, Debug, PartialEq, Eq)]
 pub enum Stage {
     /// A new volume of so many cylinders is made.
@@ -37,7 +38,7 @@ pub trait Progress {
     fn clear(&mut self);
 }
 
-/// Whether a job over an image of so many bytes takes long enough to be shown.
-pub fn is_large(bytes: u64) -> bool {
-    bytes > SMALL_IMAGE
+/// Whether a job over the tracks of a volume takes long enough to be shown.
+pub fn is_large(geometry: Geometry) -> bool {
+    geometry.tracks() as u64 * geometry.track_size as u64 > SMALL_VOLUME
 }
