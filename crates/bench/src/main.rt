@@ -1,11 +1,13 @@
-//! `bench` does fixed works over a volume in memory, at a drive alone and by whole channel programs from storage, so that what
-//! they take can be measured. `bench A 10` does a work ten times over a full volume at a drive alone, `bench programs A 10` by channel
-//! programs. Without words it does each work once over a small volume, and prints the same on every machine: how many
-//! commands ended, how many bytes passed, and how many commands ended in unit check; of programs, how many channel command words
-//! were fetched, how many bytes passed, and how many programs ended otherwise than they must. With words it prints channel
-//! command words, or commands, and bytes a second too.
+//! `bench` does fixed works over a volume in memory: at a drive alone, by whole channel programs from storage, and by the same
+//! programs at a channel, so that what they take can be measured. `bench A 10` does a work ten times over a full volume at a drive
+//! alone, `bench programs A 10` by channel programs, and `bench channel A 10` at a channel; a number behind these is how many
+//! units a program is asked for at a time, in the place of 65535. Without words it does each work once over a small volume, and
+//! prints the same on every machine: how many commands ended, how many bytes passed, and how many commands ended in unit check;
+//! of programs, how many channel command words were fetched, how many bytes passed, and how many programs ended otherwise than
+//! they must. With words it prints channel command words, or commands, and bytes a second too.
 #![tactic(auto)]
 
+mod channel;
 mod commands;
 mod machine;
 mod programs;
@@ -13,7 +15,9 @@ mod tally;
 mod volume;
 mod works;
 
-use crate::machine::Machine;
+use crate::channel::ChannelMachine;
+use crate::machine::DriveMachine;
+use crate::programs::Machine;
 use crate::volume::Disk;
 use crate::works::{PROGRAMS, WORKS, Work};
 use std::env;
@@ -28,35 +32,39 @@ const SMALL: u16 = 2;
 /// The most passes of one run.
 const MOST_PASSES: u32 = 100_000;
 
+/// How many units a program is asked for at a time, where the words say nothing else.
+const UNITS: u16 = 65535;
+
+/// What does a work.
+#[derive(Clone, Copy, Debug, PartialEq, Eq)]
+enum Way {
+    /// A drive alone.
+    Drive,
+    /// Channel programs, which are asked for so many units at a time.
+    Programs(u16),
+    /// Channel programs at a channel, so many units at a time.
+    Channel(u16),
+}
+
 /// What the words ask for.
 #[derive(Clone, Copy, Debug, PartialEq, Eq)]
 enum Wish {
-    /// Each work once, over a small volume.
+    /// Each work once in each way, over a small volume.
     Each,
-    /// One work so often at a drive alone, over a full volume.
-    AtDrive(Work, u32),
-    /// One work so often by channel programs, over a full volume.
-    ByPrograms(Work, u32),
+    /// One work so often in one way, over a full volume.
+    One(Work, Way, u32),
 }
 
 fn main(rt: HostRuntime) -> ExitCode {
     let done = match asked_for(&rt) {
-        Some(Wish::Each) => {
-            WORKS
-                .iter()
-                .all(|work| at_drive(&rt, *work, SMALL, 1).is_some())
-                && PROGRAMS
-                    .iter()
-                    .all(|work| by_programs(&rt, *work, SMALL, 1).is_some())
-        }
-        Some(Wish::AtDrive(work, passes)) => {
-            prints_speed(&rt, at_drive(&rt, work, FULL, passes), "commands")
-        }
-        Some(Wish::ByPrograms(work, passes)) => {
-            prints_speed(&rt, by_programs(&rt, work, FULL, passes), "CCWs")
+        Some(Wish::Each) => do_each(&rt),
+        Some(Wish::One(work, way, passes)) => {
+            prints_speed(&rt, do_work(&rt, work, way, FULL, passes), way)
         }
         None => {
-            let _ = eprintln!(rt; "usage: bench [[programs] A|B|C|D|S|U|W|R|I|F PASSES]");
+            let _ = eprintln!(rt;
+                "usage: bench [W PASSES | programs|channel W PASSES [UNITS]], W one of A B C D S U W R I F"
+            );
             return ExitCode::from(2);
         }
     };
@@ -74,19 +82,28 @@ fn asked_for(rt: &HostRuntime) -> Option<Wish> {
     let Some(first) = words.next() else {
         return Some(Wish::Each);
     };
-    let by_programs = first.as_str() == "programs";
-    let letter = if by_programs { words.next()? } else { first };
+    let is_named = matches!(first.as_str(), "programs" | "channel");
+    let letter = if is_named {
+        words.next()?
+    } else {
+        first.clone().ok()?
+    };
     let work = Work::of_letter(letter.as_str())?;
     let passes: u32 = words.next()?.as_str().parse().ok()?;
-    if passes > MOST_PASSES || words.next().is_some() {
+    let units: u16 = match words.next() {
+        Some(word) if is_named => word.as_str().parse().ok()?,
+        Some(_) => return None,
+        None => UNITS,
+    };
+    if passes > MOST_PASSES || units == 0 || words.next().is_some() {
         return None;
     }
-    if !by_programs {
-        return Some(Wish::AtDrive(work, passes));
-    }
-    PROGRAMS
-        .contains(&work)
-        .then_some(Wish::ByPrograms(work, passes))
+    let way = match first.as_str() {
+        "programs" => Way::Programs(units),
+        "channel" => Way::Channel(units),
+        _ => Way::Drive,
+    };
+    (!is_named || PROGRAMS.contains(&work)).then_some(Wish::One(work, way, passes))
 }
 
 /// How much was done in which time.
@@ -107,29 +124,66 @@ impl Speed {
 }
 
 /// Prints what was done in a second; whether there is something to print, and it was printed.
-fn prints_speed(rt: &HostRuntime, speed: Option<Speed>, items: &str) -> bool {
+fn prints_speed(rt: &HostRuntime, speed: Option<Speed>, way: Way) -> bool {
     let Some(speed) = speed else {
         return false;
+    };
+    let items = if way == Way::Drive {
+        "commands"
+    } else {
+        "CCWs"
     };
     let (many, bytes) = (speed.a_second(speed.items), speed.a_second(speed.bytes));
     println!(rt; "{many} {items} a second, {bytes} bytes a second").is_ok()
 }
 
-/// A new volume with the records that a work reads.
-fn disk_for(rt: &HostRuntime, work: Work, cylinders: u16) -> Option<Disk> {
+/// Does each work once in each way; whether all were done and told.
+fn do_each(rt: &HostRuntime) -> bool {
+    let all = |works: &[Work], way: Way| -> bool {
+        works
+            .iter()
+            .all(|work| do_work(rt, *work, way, SMALL, 1).is_some())
+    };
+    all(&WORKS, Way::Drive)
+        && all(&PROGRAMS, Way::Programs(UNITS))
+        && all(&PROGRAMS, Way::Channel(UNITS))
+}
+
+/// Does a work so often, over a new volume of so many cylinders, and prints what it came to; none where there was no memory for
+/// the volume, no clock, or the line was not printed.
+fn do_work(rt: &HostRuntime, work: Work, way: Way, cylinders: u16, passes: u32) -> Option<Speed> {
     let Some(mut disk) = Disk::new(rt.alloc(), cylinders) else {
-        let _ = eprintln!(rt; "bench: out of memory");
-        return None;
+        return no_memory(rt);
     };
     work.prepare(&mut disk, cylinders);
     disk.reset_tally();
-    Some(disk)
+    match way {
+        Way::Drive => at_drive(rt, work, disk, cylinders, passes),
+        Way::Programs(units) => match DriveMachine::new(rt.alloc(), disk, units) {
+            Some(machine) => by_programs(rt, work, machine, " by programs", cylinders, passes),
+            None => no_memory(rt),
+        },
+        Way::Channel(units) => match ChannelMachine::new(rt.alloc(), disk, units) {
+            Some(machine) => by_programs(rt, work, machine, " at a channel", cylinders, passes),
+            None => no_memory(rt),
+        },
+    }
 }
 
-/// Does a work so often at a drive alone, over a new volume of so many cylinders, and prints what it came to; none where there
-/// was no memory for the volume, no clock, or the line was not printed.
-fn at_drive(rt: &HostRuntime, work: Work, cylinders: u16, passes: u32) -> Option<Speed> {
-    let mut disk = disk_for(rt, work, cylinders)?;
+/// Tells that there is no memory.
+fn no_memory(rt: &HostRuntime) -> Option<Speed> {
+    let _ = eprintln!(rt; "bench: out of memory");
+    None
+}
+
+/// Does a work so often at a drive alone.
+fn at_drive(
+    rt: &HostRuntime,
+    work: Work,
+    mut disk: Disk,
+    cylinders: u16,
+    passes: u32,
+) -> Option<Speed> {
     let began = Instant::now(rt).ok()?;
     for _ in 0..passes {
         work.run(&mut disk, cylinders);
@@ -144,20 +198,22 @@ fn at_drive(rt: &HostRuntime, work: Work, cylinders: u16, passes: u32) -> Option
     })
 }
 
-/// Does a work so often by channel programs.
-fn by_programs(rt: &HostRuntime, work: Work, cylinders: u16, passes: u32) -> Option<Speed> {
-    let disk = disk_for(rt, work, cylinders)?;
-    let Some(mut machine) = Machine::new(rt.alloc(), disk) else {
-        let _ = eprintln!(rt; "bench: out of memory");
-        return None;
-    };
+/// Does a work so often by channel programs, where these run.
+fn by_programs<M: Machine + Drop>(
+    rt: &HostRuntime,
+    work: Work,
+    mut machine: M,
+    place: &str,
+    cylinders: u16,
+    passes: u32,
+) -> Option<Speed> {
     let began = Instant::now(rt).ok()?;
     for _ in 0..passes {
         work.run_programs(&mut machine, cylinders);
     }
     let time = began.elapsed(rt).ok()?;
     let tally = machine.tally();
-    println!(rt; "{work} by programs: {tally}").ok()?;
+    println!(rt; "{work}{place}: {tally}").ok()?;
     Some(Speed {
         items: tally.ccws(),
         bytes: tally.bytes(),

@@ -1,11 +1,11 @@
 //! The works as channel programs in storage: each is built once, and its operands are stored anew for each track.
 
-use crate::machine::Machine;
+use crate::tally::ProgramTally;
 use crate::works::{
     DATA, HEADS, LONG_DATA, READ_COUNT_KEY_AND_DATA, READ_DATA, READ_DATA_MULTI_TRACK, READ_R0,
     RECORDS, SEARCH_HOME_ADDRESS, SEARCH_ID, SEEK, WRITE_COUNT_KEY_AND_DATA, WRITE_DATA, Work,
 };
-use s360_words::{Csw, Storage, UnitStatus};
+use s360_words::{Csw, UnitStatus};
 
 const TRANSFER_IN_CHANNEL: u8 = 0x08;
 
@@ -25,6 +25,24 @@ const SEARCHED: u32 = 0x202;
 const COUNTS: u32 = 0x300;
 
 const BUFFER: u32 = 0x2000;
+
+/// The bytes of storage.
+pub(crate) const SIZE: u32 = 65536;
+
+/// How often a program is asked for units before it is given up.
+pub(crate) const MOST_CALLS: u32 = 1_000_000;
+
+/// A storage and a drive, at which channel programs run.
+pub(crate) trait Machine {
+    /// Stores bytes from an address on.
+    fn store(&mut self, at: u32, bytes: &[u8]);
+
+    /// Runs a program to its end.
+    fn run(&mut self, program: &Program);
+
+    /// What the programs came to.
+    fn tally(&self) -> ProgramTally;
+}
 
 /// A channel program in storage, with how many channel command words are fetched in a run of it, and how many bytes pass.
 #[derive(Clone, Copy, Debug, PartialEq, Eq)]
@@ -66,59 +84,59 @@ impl Program {
     }
 
     // Stores the next word.
-    fn put(&mut self, storage: &mut Storage, code: u8, address: u32, flags: u8, count: u16) {
+    fn put<M: Machine>(&mut self, machine: &mut M, code: u8, address: u32, flags: u8, count: u16) {
         let [_, a, b, c] = address.to_be_bytes();
         let [high, low] = count.to_be_bytes();
-        storage.put(self.next, &[code, a, b, c, flags, 0, high, low]);
+        machine.store(self.next, &[code, a, b, c, flags, 0, high, low]);
         self.next = self.next.saturating_add(8);
     }
 
     // Stores the next word, which is fetched once.
-    fn word(&mut self, storage: &mut Storage, code: u8, address: u32, flags: u8, count: u16) {
-        self.put(storage, code, address, flags, count);
+    fn word<M: Machine>(&mut self, machine: &mut M, code: u8, address: u32, flags: u8, count: u16) {
+        self.put(machine, code, address, flags, count);
         self.ccws = self.ccws.saturating_add(1);
         self.bytes = self.bytes.saturating_add(count as u64);
     }
 
-    fn seek(&mut self, storage: &mut Storage) {
-        self.word(storage, SEEK, SEEK_ADDRESS, COMMAND_CHAINING, 6);
+    fn seek<M: Machine>(&mut self, machine: &mut M) {
+        self.word(machine, SEEK, SEEK_ADDRESS, COMMAND_CHAINING, 6);
     }
 
     // A search that is satisfied at once, and passes over the transfer behind it.
-    fn search(&mut self, storage: &mut Storage, code: u8, count: u16) {
+    fn search<M: Machine>(&mut self, machine: &mut M, code: u8, count: u16) {
         let at = self.next;
-        self.word(storage, code, SEARCHED, COMMAND_CHAINING, count);
-        self.put(storage, TRANSFER_IN_CHANNEL, at, 0, 0);
+        self.word(machine, code, SEARCHED, COMMAND_CHAINING, count);
+        self.put(machine, TRANSFER_IN_CHANNEL, at, 0, 0);
     }
 
     // A search of record 1 from the index on: record 0 is another, and the next is found.
-    fn find_first(&mut self, storage: &mut Storage) {
-        self.search(storage, SEARCH_ID, 5);
+    fn find_first<M: Machine>(&mut self, machine: &mut M) {
+        self.search(machine, SEARCH_ID, 5);
         self.ccws = self.ccws.saturating_add(2);
         self.bytes = self.bytes.saturating_add(5);
     }
 
     // So many of the same command, which end the program.
-    fn last(&mut self, storage: &mut Storage, times: u16, code: u8, count: u16) {
+    fn last<M: Machine>(&mut self, machine: &mut M, times: u16, code: u8, count: u16) {
         for left in (0..times).rev() {
             let flags = if left == 0 { 0 } else { COMMAND_CHAINING };
-            self.word(storage, code, BUFFER, flags, count);
+            self.word(machine, code, BUFFER, flags, count);
         }
     }
 
     // New records behind R0: the count area of each is chained to its data.
-    fn format(&mut self, storage: &mut Storage) {
+    fn format<M: Machine>(&mut self, machine: &mut M) {
         let mut count_area = COUNTS;
         for left in (0..RECORDS).rev() {
             let flags = if left == 0 { 0 } else { COMMAND_CHAINING };
             self.word(
-                storage,
+                machine,
                 WRITE_COUNT_KEY_AND_DATA,
                 count_area,
                 DATA_CHAINING,
                 8,
             );
-            self.word(storage, 0, BUFFER, flags, DATA as u16);
+            self.word(machine, 0, BUFFER, flags, DATA as u16);
             count_area = count_area.saturating_add(8);
         }
     }
@@ -126,37 +144,37 @@ impl Program {
 
 impl Work {
     // The work's program, which is stored.
-    fn program(self, storage: &mut Storage) -> Program {
+    fn program<M: Machine>(self, machine: &mut M) -> Program {
         let mut program = Program::EMPTY;
         let records = RECORDS as u16;
-        program.seek(storage);
+        program.seek(machine);
         match self {
             Work::ReadWhole => {
-                program.last(storage, records, READ_COUNT_KEY_AND_DATA, 8 + DATA as u16);
+                program.last(machine, records, READ_COUNT_KEY_AND_DATA, 8 + DATA as u16);
             }
             Work::ReadCylinder => {
-                program.last(storage, HEADS * records, READ_DATA_MULTI_TRACK, DATA as u16);
+                program.last(machine, HEADS * records, READ_DATA_MULTI_TRACK, DATA as u16);
             }
             Work::ReadLong => {
-                program.find_first(storage);
-                program.last(storage, 1, READ_DATA, LONG_DATA as u16);
+                program.find_first(machine);
+                program.last(machine, 1, READ_DATA, LONG_DATA as u16);
             }
             Work::ReadFromHomeAddress => {
-                program.search(storage, SEARCH_HOME_ADDRESS, 4);
-                program.word(storage, READ_R0, BUFFER, COMMAND_CHAINING, 16);
-                program.last(storage, records, READ_DATA, DATA as u16);
+                program.search(machine, SEARCH_HOME_ADDRESS, 4);
+                program.word(machine, READ_R0, BUFFER, COMMAND_CHAINING, 16);
+                program.last(machine, records, READ_DATA, DATA as u16);
             }
             Work::Update => {
-                program.find_first(storage);
-                program.last(storage, 1, WRITE_DATA, DATA as u16);
+                program.find_first(machine);
+                program.last(machine, 1, WRITE_DATA, DATA as u16);
             }
             Work::Format => {
-                program.search(storage, SEARCH_ID, 5);
-                program.format(storage);
+                program.search(machine, SEARCH_ID, 5);
+                program.format(machine);
             }
             _ => {
-                program.find_first(storage);
-                program.last(storage, records, READ_DATA, DATA as u16);
+                program.find_first(machine);
+                program.last(machine, records, READ_DATA, DATA as u16);
             }
         }
         program
@@ -168,35 +186,35 @@ impl Work {
     }
 
     /// Does the work once by channel programs.
-    pub(crate) fn run_programs(self, machine: &mut Machine, cylinders: u16) {
-        let program = self.program(machine.storage());
+    pub(crate) fn run_programs<M: Machine>(self, machine: &mut M, cylinders: u16) {
+        let program = self.program(machine);
         let heads = if self == Work::ReadCylinder { 1 } else { HEADS };
         for cylinder in 0..cylinders {
             for head in 0..heads {
-                self.put_operands(machine.storage(), cylinder, head);
+                self.put_operands(machine, cylinder, head);
                 machine.run(&program);
             }
         }
     }
 
     // Stores what the program names of the track.
-    fn put_operands(self, storage: &mut Storage, cylinder: u16, head: u16) {
+    fn put_operands<M: Machine>(self, machine: &mut M, cylinder: u16, head: u16) {
         let [c0, c1] = cylinder.to_be_bytes();
         let [h0, h1] = head.to_be_bytes();
-        storage.put(SEEK_ADDRESS, &[0, 0, c0, c1, h0, h1, self.searched()]);
+        machine.store(SEEK_ADDRESS, &[0, 0, c0, c1, h0, h1, self.searched()]);
         if self == Work::Format {
-            put_count_areas(storage, [c0, c1, h0, h1]);
+            put_count_areas(machine, [c0, c1, h0, h1]);
         }
     }
 }
 
 // Stores the count areas of the records of a track.
-fn put_count_areas(storage: &mut Storage, track: [u8; 4]) {
+fn put_count_areas<M: Machine>(machine: &mut M, track: [u8; 4]) {
     let [c0, c1, h0, h1] = track;
     let [d0, d1] = (DATA as u16).to_be_bytes();
     let mut at = COUNTS;
     for record in 1..=RECORDS {
-        storage.put(at, &[c0, c1, h0, h1, record, 0, d0, d1]);
+        machine.store(at, &[c0, c1, h0, h1, record, 0, d0, d1]);
         at = at.saturating_add(8);
     }
 }

@@ -1,12 +1,15 @@
-//! Files of the host.
+//! Files of the host, and its terminal.
 
 ghost use Rattle.std.specs.Prelude.{◌≡◌, ◌+◌};
 
-use dasd_jobs::{FileFault, ImageFiles};
+use dasd_jobs::{FileFault, ImageFiles, Progress, Stage};
 use ghost_data::Count;
 use std::alloc::Global;
-use std::io::ErrorKind;
+use std::io::{ErrorKind, IsTerminal};
 use std::{fs, io};
+
+/// What erases the rest of a terminal's line.
+const ERASE_BEHIND: &str = "\u{1B}[K";
 
 /// The files of the host. A file is replaced by one beside it, which is written whole and then takes its name, so that a
 /// fault in the middle leaves the file as it was.
@@ -57,5 +60,39 @@ fn told(fault: &io::Error) -> FileFault {
         FileFault::OutOfMemory
     } else {
         FileFault::Refused
+    }
+}
+
+/// A line of standard error, where that is a terminal; it is written over by the next, and is nothing elsewhere.
+#[derive(Drop)]
+pub struct TerminalLine<'a> {
+    host: &'a HostRuntime,
+    is_terminal: bool,
+    is_shown: bool,
+}
+
+impl<'a> TerminalLine<'a> {
+    pub fn new(host: &'a HostRuntime) -> TerminalLine<'a> {
+        TerminalLine {
+            host,
+            is_terminal: host.stderr().is_terminal(),
+            is_shown: false,
+        }
+    }
+}
+
+impl Progress for TerminalLine<'_> {
+    fn show(&mut self, stage: Stage) {
+        if self.is_terminal {
+            let _ = eprint!(self.host; "\r{stage}{ERASE_BEHIND}");
+            self.is_shown = true;
+        }
+    }
+
+    fn clear(&mut self) {
+        if self.is_shown {
+            let _ = eprint!(self.host; "\r{ERASE_BEHIND}");
+            self.is_shown = false;
+        }
     }
 }

@@ -3,7 +3,7 @@
 
 mod host;
 
-use crate::host::HostFiles;
+use crate::host::{HostFiles, TerminalLine};
 use dasd_run::{Ending, ProgramFault, obey};
 use std::alloc::Global;
 use std::io::{BufReader, BufWriter, ErrorKind};
@@ -49,6 +49,7 @@ fn answer(rt: &HostRuntime) -> Result<Ending, ProgramFault> {
             .map_err(|_| ProgramFault::OutOfMemory)?;
     }
     let mut files = HostFiles::new(rt);
+    let mut progress = TerminalLine::new(rt);
     let Ok(mut writer) = BufWriter::new(alloc, io::writer(rt)) else {
         return Err(ProgramFault::OutOfMemory);
     };
@@ -59,6 +60,7 @@ fn answer(rt: &HostRuntime) -> Result<Ending, ProgramFault> {
             &mut files,
             &mut rt.reader(),
             &mut writer,
+            &mut progress,
         )
     } else {
         obey(
@@ -67,6 +69,7 @@ fn answer(rt: &HostRuntime) -> Result<Ending, ProgramFault> {
             &mut files,
             &mut &STORED_DECK[..],
             &mut writer,
+            &mut progress,
         )
     }
 }

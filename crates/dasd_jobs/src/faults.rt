@@ -41,11 +41,12 @@ pub(crate) fn of_write(fault: FileFault) -> JobFault {
     }
 }
 
-/// What a fault of a listing is to a job.
-pub(crate) fn of_volume(fault: VolumeFault) -> JobFault {
-    match fault {
-        VolumeFault::OutOfMemory => JobFault::OutOfMemory,
-        VolumeFault::Store => JobFault::Store,
-        VolumeFault::Write => JobFault::Write,
+impl From<VolumeFault> for JobFault {
+    fn from(fault: VolumeFault) -> JobFault {
+        match fault {
+            VolumeFault::OutOfMemory => JobFault::OutOfMemory,
+            VolumeFault::Store => JobFault::Store,
+            VolumeFault::Write => JobFault::Write,
+        }
     }
 }

@@ -13,3 +13,4 @@ pub use crate::files::{FileFault, ImageFiles};
 pub use crate::jobs::{check_files, format_file, list_files};
 pub use crate::mounting::{new_image, read_image, write_back};
 pub use crate::store::FileStore;
+pub use dasd_volumes::{Progress, Stage};

@@ -1,5 +1,7 @@
-//! Readers and writers that fail.
+//! Readers and writers that fail, and a line that is kept.
 
+use anyhow::Result;
+use dasd_jobs::{Progress, Stage};
 use std::alloc::Global;
 use std::io::{Error, ErrorKind, Read, Write};
 
@@ -52,5 +54,53 @@ impl Write for LineWriter {
 
     fn flush(&mut self) -> std::io::Result<()> {
         Ok(())
+    }
+}
+
+/// Each line that was shown, and whether the last still is; none is kept where there is no memory for it.
+#[derive(Debug, Drop)]
+pub(crate) struct ShownLines {
+    alloc: Global,
+    lines: String,
+    is_shown: bool,
+}
+
+impl ShownLines {
+    pub fn new(alloc: Global) -> ShownLines {
+        ShownLines {
+            alloc,
+            lines: String::new(alloc),
+            is_shown: false,
+        }
+    }
+
+    /// The lines; and one more where the last was not cleared.
+    pub fn into_lines(self) -> Result<String> {
+        let ShownLines {
+            alloc: _,
+            mut lines,
+            is_shown,
+        } = self;
+        if is_shown {
+            lines.push_str("is still shown\n")?;
+        }
+        Ok(lines)
+    }
+
+    fn keep(&mut self, stage: Stage) -> Result<()> {
+        let line = format!(in self.alloc; "{stage}\n")?;
+        self.lines.push_str(line.as_str())?;
+        Ok(())
+    }
+}
+
+impl Progress for ShownLines {
+    fn show(&mut self, stage: Stage) {
+        let _ = self.keep(stage);
+        self.is_shown = true;
+    }
+
+    fn clear(&mut self) {
+        self.is_shown = false;
     }
 }

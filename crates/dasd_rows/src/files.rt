@@ -15,7 +15,8 @@ struct File {
     bytes: Vec<u8>,
 }
 
-/// Files in memory. One whose name begins with `locked` can't be replaced.
+/// Files in memory. One whose name begins with `locked` can't be replaced, and for one whose name begins with `vast` there is
+/// no memory.
 #[derive(Drop)]
 pub(crate) struct MemoryFiles {
     list: Vec<File>,
@@ -86,6 +87,7 @@ impl ImageFiles for MemoryFiles {
 
     fn read(&mut self, alloc: Global, path: &str) -> Result<Vec<u8>, FileFault> {
         match self.bytes(path) {
+            Some(_) if path.starts_with("vast") => Err(FileFault::OutOfMemory),
             Some(bytes) => Vec::from_slice(alloc, bytes).map_err(|_| FileFault::OutOfMemory),
             None => Err(FileFault::Refused),
         }
@@ -95,6 +97,9 @@ impl ImageFiles for MemoryFiles {
         self.count = self.count.next();
         if path.starts_with("locked") {
             return Err(FileFault::Refused);
+        }
+        if path.starts_with("vast") {
+            return Err(FileFault::OutOfMemory);
         }
         match note(&mut self.list, &mut self.replaced, alloc, path, bytes) {
             Ok(()) => Ok(()),

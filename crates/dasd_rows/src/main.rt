@@ -6,6 +6,7 @@
 #![tactic(auto)]
 
 mod ends;
+mod failing;
 mod files;
 mod row;
 mod words;

@@ -1,6 +1,7 @@
 //! A row is played.
 
-use crate::ends::{DeckReader, LineWriter};
+use crate::ends::{DeckReader, LineWriter, ShownLines};
+use crate::failing::over_failing;
 use crate::files::MemoryFiles;
 use crate::words::{bytes, number};
 use anyhow::{Context, Result, bail};
@@ -25,10 +26,19 @@ struct Stage {
     room: Option<usize>,
     /// What the last command printed and is not yet looked at.
     printed: String,
+    /// What it showed while it went on, and is not yet looked at.
+    shown: String,
     /// What it told on standard error, and the status.
     told: String,
     status: u8,
     commands: usize,
+}
+
+impl Stage {
+    // Whether the last command came to something that no line has said.
+    fn is_unsaid(&self) -> bool {
+        !self.printed.is_empty() || !self.shown.is_empty() || !self.told.is_empty()
+    }
 }
 
 /// Plays a row.
@@ -39,6 +49,7 @@ pub(crate) fn play<'a>(alloc: Global, lines: &'a str) -> Result<Outcome<'a>> {
         deck_fails: false,
         room: None,
         printed: String::new(alloc),
+        shown: String::new(alloc),
         told: String::new(alloc),
         status: 0,
         commands: 0,
@@ -48,7 +59,7 @@ pub(crate) fn play<'a>(alloc: Global, lines: &'a str) -> Result<Outcome<'a>> {
             return Ok(Outcome::Otherwise(line));
         }
     }
-    if !stage.printed.is_empty() || !stage.told.is_empty() {
+    if stage.is_unsaid() {
         return Ok(Outcome::Otherwise("the end"));
     }
     Ok(Outcome::AsItMust(stage.commands))
@@ -68,8 +79,11 @@ fn play_line(alloc: Global, stage: &mut Stage, line: &str) -> Result<bool> {
         "reader" => stage.deck_fails = true,
         "writer" => stage.room = Some(number(rest)?),
         "dasd" => return command(alloc, stage, line),
+        "failing" => return failing(alloc, stage, rest),
         "<" => return Ok(prints(alloc, stage, rest)?),
+        "~" => return shows(alloc, stage, rest),
         "!" => return tells(alloc, stage, rest),
+        "says" => return Ok(stage.told.as_str().contains(rest)),
         "usage" => return Ok(is_usage(alloc, stage)?),
         "status" => return Ok(stage.status as usize == number(rest)?),
         "replaced" => return Ok(stage.files.replaced.as_str().trim_end() == rest),
@@ -80,7 +94,7 @@ fn play_line(alloc: Global, stage: &mut Stage, line: &str) -> Result<bool> {
 
 // Does what words ask; false where the command before it left something unsaid.
 fn command(alloc: Global, stage: &mut Stage, line: &str) -> Result<bool> {
-    if !stage.printed.is_empty() || !stage.told.is_empty() {
+    if stage.is_unsaid() {
         return Ok(false);
     }
     let words: Vec<&str> = line.split(' ').collect(alloc)?;
@@ -89,6 +103,7 @@ fn command(alloc: Global, stage: &mut Stage, line: &str) -> Result<bool> {
         fails: stage.deck_fails,
     };
     let mut writer = LineWriter::new(alloc, stage.room);
+    let mut progress = ShownLines::new(alloc);
     stage.files.replaced.clear();
     let ending = obey(
         alloc,
@@ -96,30 +111,69 @@ fn command(alloc: Global, stage: &mut Stage, line: &str) -> Result<bool> {
         &mut stage.files,
         &mut reader,
         &mut writer,
+        &mut progress,
     );
-    let (status, told) = match ending {
+    let ending = match ending {
         Ok(Ending::Done) => (0, String::new(alloc)),
         Ok(Ending::Findings) => (1, String::new(alloc)),
-        Err(ProgramFault::Words(text)) => (2, text),
-        Err(fault) => (fault.status(), format!(in alloc; "dasd: {fault}")?),
+        Err(fault) => status_of(alloc, fault)?,
     };
-    stage.status = status;
-    stage.told = told;
+    keep(alloc, stage, ending, writer, progress)?;
+    stage.deck.clear();
+    stage.deck_fails = false;
+    stage.room = None;
+    Ok(true)
+}
+
+// Lists or checks a volume whose store fails.
+fn failing(alloc: Global, stage: &mut Stage, words: &str) -> Result<bool> {
+    let (job, read) = words.split_once(' ').context("which read?")?;
+    let mut writer = LineWriter::new(alloc, stage.room);
+    let ending = match over_failing(alloc, job, read.parse::<u32>()?, &mut writer)? {
+        None => (0, String::new(alloc)),
+        Some(fault) => status_of(alloc, fault)?,
+    };
+    keep(alloc, stage, ending, writer, ShownLines::new(alloc))?;
+    Ok(true)
+}
+
+// The status and the text of a fault.
+fn status_of(alloc: Global, fault: ProgramFault) -> Result<(u8, String)> {
+    match fault {
+        ProgramFault::Words(text) => Ok((2, text)),
+        fault => Ok((fault.status(), format!(in alloc; "dasd: {fault}")?)),
+    }
+}
+
+// Keeps what a command came to, until lines have said it.
+fn keep(
+    alloc: Global,
+    stage: &mut Stage,
+    ending: (u8, String),
+    writer: LineWriter,
+    progress: ShownLines,
+) -> Result<()> {
+    (stage.status, stage.told) = ending;
     stage.printed = match std::str::from_utf8(writer.printed.as_slice()) {
         Ok(text) => text.to_string(alloc)?,
         Err(_) => bail!("no text"),
     };
-    stage.deck.clear();
-    stage.deck_fails = false;
-    stage.room = None;
+    stage.shown = progress.into_lines()?;
     stage.commands = stage.commands.saturating_add(1);
-    Ok(true)
+    Ok(())
 }
 
 // Whether this line is printed next; `...` passes all that are left over.
 fn prints(alloc: Global, stage: &mut Stage, wanted: &str) -> Result<bool> {
     let (is_wanted, left) = next_line(alloc, stage.printed.as_str(), wanted)?;
     stage.printed = left;
+    Ok(is_wanted)
+}
+
+// Whether this line is shown next.
+fn shows(alloc: Global, stage: &mut Stage, wanted: &str) -> Result<bool> {
+    let (is_wanted, left) = next_line(alloc, stage.shown.as_str(), wanted)?;
+    stage.shown = left;
     Ok(is_wanted)
 }
 

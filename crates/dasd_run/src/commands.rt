@@ -5,7 +5,7 @@ ghost use Rattle.dasd_run.specs.Faults.{keeps_files};
 
 use crate::fault::ProgramFault;
 use crate::runs::{Disks, build, finish};
-use dasd_jobs::{FileFault, ImageFiles, JobFault, check_files, format_file, list_files};
+use dasd_jobs::{FileFault, ImageFiles, JobFault, Progress, check_files, format_file, list_files};
 use dasd_words::{Request, Volume, WordFault, read_words};
 use s360_deck::{DeckFault, RunFault, run};
 use std::alloc::Global;
@@ -21,17 +21,18 @@ pub enum Ending {
 }
 
 /// Does what these words ask, the first of which is the program's name. A deck is read from `reader`, where the words name no
-/// file of it; `writer` takes what is printed.
+/// file of it; `writer` takes what is printed, and `progress` what is shown while a job over a large volume goes on.
 ///
 /// # Errors
 ///
 /// Wrong words, before any file is read or written; or what stopped the command. A run whose deck was not run writes no file.
-pub fn obey<F: ImageFiles, R: Read, W: Write>(
+pub fn obey<F: ImageFiles, R: Read, W: Write, P: Progress>(
     alloc: Global,
     words: &[&str],
     files: &mut F,
     reader: &mut R,
     writer: &mut W,
+    progress: &mut P,
 ) -> Result<Ending, ProgramFault>
     ensures { IfErr result (λ e. keeps_files e ≡ true → F.replacements files.new ≡ F.replacements files.old) }
 {
@@ -40,16 +41,17 @@ pub fn obey<F: ImageFiles, R: Read, W: Write>(
         Err(WordFault::Version(text)) => return tell(writer, text.as_str()),
         Err(fault) => return Err(fault.into()),
     };
-    answer(alloc, request, files, reader, writer)
+    answer(alloc, request, files, reader, writer, progress)
 }
 
 // Does what is asked.
-fn answer<F: ImageFiles, R: Read, W: Write>(
+fn answer<F: ImageFiles, R: Read, W: Write, P: Progress>(
     alloc: Global,
     request: Request,
     files: &mut F,
     reader: &mut R,
     writer: &mut W,
+    progress: &mut P,
 ) -> Result<Ending, ProgramFault>
     ensures { IfErr result (λ e. keeps_files e ≡ true → F.replacements files.new ≡ F.replacements files.old) }
 {
@@ -58,7 +60,7 @@ fn answer<F: ImageFiles, R: Read, W: Write>(
             path,
             model,
             cylinders,
-        } => match format_file(alloc, files, writer, path, model, cylinders) {
+        } => match format_file(alloc, files, writer, progress, path, model, cylinders) {
             Ok(()) => Ok(Ending::Done),
             Err(fault) => Err(ProgramFault::Job(fault)),
         },
@@ -66,7 +68,13 @@ fn answer<F: ImageFiles, R: Read, W: Write>(
             Ok(()) => Ok(Ending::Done),
             Err(fault) => Err(ProgramFault::Job(fault)),
         },
-        Request::Check(paths) => match check_files(alloc, files, writer, paths.as_slice()) {
+        Request::Check(paths) => match check_files(
+            alloc,
+            files,
+            writer,
+            progress,
+            paths.as_slice(),
+        ) {
             Ok(0) => Ok(Ending::Done),
             Ok(_) => Ok(Ending::Findings),
             Err(fault) => Err(ProgramFault::Job(fault)),

@@ -94,6 +94,7 @@ fn dasd_command<'a>(alloc: Global) -> Result<Command<'a>, AllocError> {
     Command::new(alloc, "dasd")
         .about("Formats, lists and checks CKD_P370 disk images, and runs decks over them")
         .version("1.0")
+        .after_help("Example: dasd run 90=new:2311:1 < deck.txt")
         .subcommand_required(true)
         .subcommand(format_command(alloc)?)?
         .subcommand(listing_command(
