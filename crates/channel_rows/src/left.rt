@@ -2,7 +2,7 @@
 
 use crate::stage::Disks;
 use crate::store::{Calls, RowStore};
-use crate::volume::volume_left;
+use crate::volume::Volumes;
 use crate::words::{byte, bytes, number, storage_address, unit_address, words_of};
 use anyhow::{Result, bail};
 use ckd_image::Image;
@@ -60,7 +60,7 @@ impl Left {
     pub(crate) fn differs<'a>(
         &self,
         alloc: Global,
-        text: &str,
+        volumes: &Volumes,
         row: &'a str,
     ) -> Result<Option<&'a str>> {
         let mut is_unsaved_named = false;
@@ -73,7 +73,7 @@ impl Left {
         }
         for drive in &self.drives {
             let (line, volume) = attached(alloc, row, drive.device)?;
-            let wanted = volume_left(alloc, text, row, volume, drive.device)?;
+            let wanted = volumes.left(alloc, row, volume, drive.device)?;
             if drive.volume.as_slice() != wanted.bytes() {
                 return Ok(Some(line));
             }

@@ -3,6 +3,7 @@
 use crate::calls::call;
 use crate::ends::{DeckReader, LineWriter};
 use crate::stage::{DriveFailure, Stage};
+use crate::volume::Volumes;
 use crate::words::{bytes, number};
 use anyhow::{Result, bail};
 use s360_deck::{DeckFault, RunFault, run};
@@ -34,7 +35,7 @@ impl Player {
     }
 
     /// Does what a line of a row says, and answers whether all is so far as it must be.
-    pub(crate) fn does(&mut self, alloc: Global, text: &str, line: &str) -> Result<bool> {
+    pub(crate) fn does(&mut self, alloc: Global, volumes: &Volumes, line: &str) -> Result<bool> {
         let (word, rest) = line.split_once(' ').unwrap_or((line, ""));
         if self.takes(alloc, word, rest)? {
             return Ok(true);
@@ -49,7 +50,7 @@ impl Player {
             "<" => self.prints(alloc, rest),
             "!" => self.tells(alloc, rest),
             _ if says_the_end(word) => Ok(true),
-            _ => self.acts(alloc, text, line),
+            _ => self.acts(alloc, volumes, line),
         }
     }
 
@@ -74,6 +75,32 @@ impl Player {
     // Whether something was printed or told that no line said.
     fn is_unsaid(&self) -> bool {
         !self.printed.is_empty() || !self.stage.told.is_empty()
+    }
+
+    /// Does what a line of a row asks, and adds what is printed to these answers, whatever they must be.
+    pub(crate) fn follows(
+        &mut self,
+        alloc: Global,
+        volumes: &Volumes,
+        line: &str,
+        answers: &mut String,
+    ) -> Result<()> {
+        let (word, rest) = line.split_once(' ').unwrap_or((line, ""));
+        if self.takes(alloc, word, rest)? {
+            return Ok(());
+        }
+        if self.is_deck {
+            self.run(alloc)?;
+            answers.push_str(self.printed.as_str())?;
+            self.printed.clear();
+        }
+        self.makes(alloc, volumes, line)
+    }
+
+    /// Does what a line asks that makes a drive or stores bytes, and no more.
+    pub(crate) fn makes(&mut self, alloc: Global, volumes: &Volumes, line: &str) -> Result<()> {
+        self.stage.makes(alloc, volumes, line)?;
+        Ok(())
     }
 
     // Runs the deck.
@@ -115,11 +142,11 @@ impl Player {
     }
 
     // Does what a line asks of the channel.
-    fn acts(&mut self, alloc: Global, text: &str, line: &str) -> Result<bool> {
+    fn acts(&mut self, alloc: Global, volumes: &Volumes, line: &str) -> Result<bool> {
         if self.is_unsaid() {
             return Ok(false);
         }
-        if let Some(kept) = self.stage.makes(alloc, text, line)? {
+        if let Some(kept) = self.stage.makes(alloc, volumes, line)? {
             return Ok(kept);
         }
         match line.split_once(' ') {

@@ -1,7 +1,7 @@
 //! A channel and its drives, as the lines of a row make them.
 
 use crate::store::{Failure, RowStore};
-use crate::volume::volume_named;
+use crate::volume::Volumes;
 use crate::words::{byte, bytes, number, storage_address, unit_address, words_of};
 use anyhow::{Context, Result, bail};
 use ckd_image::{Image, MemoryStore};
@@ -44,15 +44,15 @@ impl Stage {
 
     /// Does what a line asks that makes a channel or a drive, or stores bytes. None where the line asks another thing; false
     /// where a store is refused.
-    pub(crate) fn makes(&mut self, alloc: Global, text: &str, line: &str) -> Result<Option<bool>> {
+    pub(crate) fn makes(&mut self, alloc: Global, volumes: &Volumes, line: &str) -> Result<Option<bool>> {
         match words_of(alloc, line)?.as_slice() {
             ["channel", channel, size] => self.make_channel(alloc, channel, size)?,
             ["attach", device, volume] => {
                 let failure = self.failure_at(byte(device)?);
-                self.attach(alloc, text, device, volume, failure)?;
+                self.attach(alloc, volumes, device, volume, failure)?;
             }
             ["attach", device, volume, "failing", at, how] => {
-                self.attach(alloc, text, device, volume, failure_of(at, how)?)?;
+                self.attach(alloc, volumes, device, volume, failure_of(at, how)?)?;
             }
             ["at", at, body] => {
                 let body = bytes(alloc, body)?;
@@ -94,17 +94,18 @@ impl Stage {
     fn attach(
         &mut self,
         alloc: Global,
-        text: &str,
+        volumes: &Volumes,
         device: &str,
         volume: &str,
         failure: Failure,
     ) -> Result<()> {
-        let store = RowStore::new(volume_named(alloc, text, volume)?, failure);
+        let held = MemoryStore::new(alloc, volumes.bytes(volume)?)?;
+        let store = RowStore::new(held, failure);
         let image = match Image::mount(store) {
             Ok(image) => image,
             Err((fault, store)) => {
                 self.told = format!(in alloc; "{fault}")?;
-                return same(alloc, text, volume, store.into_inner());
+                return same(volumes, volume, store.into_inner());
             }
         };
         match self.channel.attach(alloc, byte(device)?, image) {
@@ -112,7 +113,7 @@ impl Stage {
             Err((AttachFault::OutOfMemory(_), _)) => bail!("out of memory"),
             Err((fault, image)) => {
                 self.told = format!(in alloc; "{fault}")?;
-                same(alloc, text, volume, image.into_store().into_inner())
+                same(volumes, volume, image.into_store().into_inner())
             }
         }
     }
@@ -155,8 +156,8 @@ fn failure_of(at: &str, how: &str) -> Result<Failure> {
 }
 
 // That a store holds what the volume with this name holds.
-fn same(alloc: Global, text: &str, volume: &str, store: MemoryStore) -> Result<()> {
-    if store.bytes() != volume_named(alloc, text, volume)?.bytes() {
+fn same(volumes: &Volumes, volume: &str, store: MemoryStore) -> Result<()> {
+    if store.bytes() != volumes.bytes(volume)? {
         bail!("another image comes back");
     }
     Ok(())

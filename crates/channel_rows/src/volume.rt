@@ -7,20 +7,100 @@ use ckd_track::{DriveModel, Geometry};
 use std::alloc::Global;
 
 /// The length of the header, behind which the slots stand.
-pub(crate) const HEADER: usize = 512;
+const HEADER: usize = 512;
 
-// The block of the volume with this name, and what it is: `volume X 2311 2`.
-fn block_of<'a>(alloc: Global, text: &'a str, name: &str) -> Result<(&'a str, Geometry)> {
-    for block in text.split("\n\n") {
-        let first = block.lines().next().unwrap_or("");
-        if let ["volume", named, model, cylinders] = words_of(alloc, first)?.as_slice() {
-            if *named == name {
-                let geometry = Geometry::new(model_of(model)?, cylinders.parse::<u16>()?);
-                return Ok((block, geometry));
+/// A volume that rows have at their drives.
+#[derive(Drop)]
+struct Volume<'a> {
+    name: &'a str,
+    geometry: Geometry,
+    store: MemoryStore,
+}
+
+/// The volumes that rows name.
+#[derive(Drop)]
+pub(crate) struct Volumes<'a> {
+    list: Vec<Volume<'a>>,
+}
+
+impl<'a> Volumes<'a> {
+    /// The volumes of a text: of its blocks that begin as `volume X 2311 2`.
+    pub(crate) fn of(alloc: Global, text: &'a str) -> Result<Volumes<'a>> {
+        let mut list = Vec::new(alloc);
+        for block in text.split("\n\n") {
+            if let Some(volume) = read_volume(alloc, block)? {
+                list.push(volume)?;
             }
         }
+        Ok(Volumes { list })
     }
-    bail!("no such volume: {name}")
+
+    fn named(&self, name: &str) -> Result<&Volume<'a>> {
+        for volume in &self.list {
+            if volume.name == name {
+                return Ok(volume);
+            }
+        }
+        bail!("no such volume: {name}")
+    }
+
+    /// What the volume with this name holds.
+    pub(crate) fn bytes(&self, name: &str) -> Result<&[u8]> {
+        Ok(self.named(name)?.store.bytes())
+    }
+
+    /// The volume with this name, as a row leaves it at a drive by its lines such as `left 90 0 21 D7*80`.
+    pub(crate) fn left(
+        &self,
+        alloc: Global,
+        row: &str,
+        name: &str,
+        device: u8,
+    ) -> Result<MemoryStore> {
+        let geometry = self.named(name)?.geometry;
+        let mut store = MemoryStore::new(alloc, self.bytes(name)?)?;
+        for line in row.lines() {
+            if let ["left", at_device, track, at, body] = words_of(alloc, line)?.as_slice() {
+                if byte(at_device)? == device {
+                    put(
+                        &mut store,
+                        geometry,
+                        track,
+                        at,
+                        bytes(alloc, body)?.as_slice(),
+                    )?;
+                }
+            }
+        }
+        Ok(store)
+    }
+}
+
+// The volume of a block, if it is that of one: its lines such as `track 0 21 C1*80` say a track, a place in its slot, and bytes.
+fn read_volume<'a>(alloc: Global, block: &'a str) -> Result<Option<Volume<'a>>> {
+    let first = block.lines().next().unwrap_or("");
+    let words = words_of(alloc, first)?;
+    let ["volume", name, model, cylinders] = words.as_slice() else {
+        return Ok(None);
+    };
+    let geometry = Geometry::new(model_of(model)?, cylinders.parse::<u16>()?);
+    let mut store = new_volume(alloc, geometry)?;
+    for line in block.lines() {
+        if let ["track", track, at, body] = words_of(alloc, line)?.as_slice() {
+            put(
+                &mut store,
+                geometry,
+                track,
+                at,
+                bytes(alloc, body)?.as_slice(),
+            )?;
+        }
+    }
+    Ok(Some(Volume {
+        name: *name,
+        geometry,
+        store,
+    }))
 }
 
 fn model_of(word: &str) -> Result<DriveModel> {
@@ -31,7 +111,10 @@ fn model_of(word: &str) -> Result<DriveModel> {
     }
 }
 
-fn new_volume(alloc: Global, model: DriveModel, cylinders: u16) -> Result<MemoryStore> {
+fn new_volume(alloc: Global, geometry: Geometry) -> Result<MemoryStore> {
+    let Geometry {
+        model, cylinders, ..
+    } = geometry;
     let store = MemoryStore::zeros(alloc, image_len(model, cylinders))?;
     match Image::format(store, model, cylinders) {
         Ok(image) => Ok(image.into_store()),
@@ -57,48 +140,4 @@ fn put(
     }
     store.write_at(at, bytes)?;
     Ok(())
-}
-
-/// The volume with this name, as its block says: `track 0 21 C1*80` are a track, a place in its slot, and bytes.
-pub(crate) fn volume_named(alloc: Global, text: &str, name: &str) -> Result<MemoryStore> {
-    let (block, geometry) = block_of(alloc, text, name)?;
-    let mut store = new_volume(alloc, geometry.model, geometry.cylinders)?;
-    for line in block.lines() {
-        if let ["track", track, at, body] = words_of(alloc, line)?.as_slice() {
-            put(
-                &mut store,
-                geometry,
-                track,
-                at,
-                bytes(alloc, body)?.as_slice(),
-            )?;
-        }
-    }
-    Ok(store)
-}
-
-/// The volume with this name as a row leaves it at a drive, by its lines such as `left 90 0 21 D7*80`.
-pub(crate) fn volume_left(
-    alloc: Global,
-    text: &str,
-    row: &str,
-    name: &str,
-    device: u8,
-) -> Result<MemoryStore> {
-    let (_, geometry) = block_of(alloc, text, name)?;
-    let mut store = volume_named(alloc, text, name)?;
-    for line in row.lines() {
-        if let ["left", at_device, track, at, body] = words_of(alloc, line)?.as_slice() {
-            if byte(at_device)? == device {
-                put(
-                    &mut store,
-                    geometry,
-                    track,
-                    at,
-                    bytes(alloc, body)?.as_slice(),
-                )?;
-            }
-        }
-    }
-    Ok(store)
 }
