@@ -1,7 +1,7 @@
 //! Calls of a channel that a deck has no words for: any address of 16 bits, any place in storage, and what the channel shows.
 
 use crate::stage::Disks;
-use crate::words::{byte, bytes, number, storage_address, unit_address, words_of};
+use crate::words::{byte, bytes, storage_address, unit_address, words_of};
 use anyhow::{Result, bail};
 use s360_channel::SubchannelView;
 use s360_deck::AnswerLine;
@@ -60,7 +60,7 @@ pub(crate) fn line_of(alloc: Global, answer: &Answer) -> Result<String> {
 }
 
 fn peek(alloc: Global, channel: &Disks, at: &str, len: &str) -> Result<String> {
-    match channel.peek(storage_address(at)?, number(len)? as u32) {
+    match channel.peek(storage_address(at)?, len.parse::<u32>()?) {
         None => Ok("outside\n".to_string(alloc)?),
         Some(bytes) => {
             let digits = hex::encode_upper(alloc, bytes)?;

@@ -32,7 +32,12 @@ enum Report {
 }
 
 /// Plays a row with each call of the store of a drive failing, and answers the first that is not told as it must be.
-pub(crate) fn sweep(alloc: Global, volumes: &Volumes, row: &str, device: u8) -> Result<Option<String>> {
+pub(crate) fn sweep(
+    alloc: Global,
+    volumes: &Volumes,
+    row: &str,
+    device: u8,
+) -> Result<Option<String>> {
     let Some(sound) = play_course(alloc, volumes, row, device, None)? else {
         bail!("no image");
     };
@@ -70,7 +75,9 @@ fn play_course(
     let Player { stage, .. } = player;
     let mut channel = stage.channel;
     let sense = match start_sense(&mut channel, CHANNEL | u16::from(device)) {
-        true => channel.peek(0x710, 1).and_then(|bytes| bytes.first().copied()),
+        true => channel
+            .peek(0x710, 1)
+            .and_then(|bytes| bytes.first().copied()),
         false => None,
     };
     Ok(Some(Course {
@@ -141,8 +148,9 @@ fn told_by_reset(faulty: &Course) -> Report {
 // starts.
 fn told_by_csw(alloc: Global, lines: &[&str], faulty: &Course) -> Result<Report> {
     for line in lines {
-        if let ["INT", _, _, status] | ["TIO", _, "CC", "1", _, status] =
-            words_of(alloc, line)?.as_slice()
+        if let ["INT", _, _, status] | ["TIO", _, "CC", "1", _, status] = words_of(
+            alloc, line,
+        )?.as_slice()
         {
             let [unit, channel, _, _] = u32::from_str_radix(status, 16)?.to_be_bytes();
             if unit & 0x02 == 0 || channel & 0x40 != 0 {

@@ -89,10 +89,8 @@ impl Left {
         Ok(match words {
             ["holds", at, body] => {
                 let body = bytes(alloc, body)?;
-                let held = self
-                    .storage
-                    .slice(storage_address(at)?, body.len() as u32);
-                held == Some(body.as_slice())
+                let len = u32::try_from(body.len()).unwrap_or(u32::MAX);
+                self.storage.slice(storage_address(at)?, len) == Some(body.as_slice())
             }
             ["unsaved", address, cylinder, head] => {
                 let track = (
@@ -137,7 +135,9 @@ pub(crate) fn attached<'a>(alloc: Global, row: &'a str, device: u8) -> Result<(&
 
 fn drive_of(alloc: Global, device: u8, image: Image<RowStore>) -> Result<LeftDrive> {
     let store = image.into_store();
-    let (calls, reads, writes) = (store.calls(), store.reads(), store.writes());
+    let (reads, writes) = (store.reads(), store.writes());
+    let store = store.into_inner();
+    let calls = store.calls();
     let volume = Vec::from_slice(alloc, store.into_inner().bytes())?;
     Ok(LeftDrive {
         device,

@@ -13,7 +13,12 @@ use std::alloc::Global;
 
 /// Plays the events of a row one more at a time, each step unit by unit, and answers which is the first that calls the store
 /// of a drive too often.
-pub(crate) fn too_often(alloc: Global, volumes: &Volumes, row: &str, device: u8) -> Result<Option<usize>> {
+pub(crate) fn too_often(
+    alloc: Global,
+    volumes: &Volumes,
+    row: &str,
+    device: u8,
+) -> Result<Option<usize>> {
     // the mount reads the header
     let mut before = 1;
     for count in 1..1000 {
@@ -47,7 +52,7 @@ fn calls_of(
         return Ok(Some((calls, most)));
     }
     let last = Failure {
-        at: calls as u32,
+        at: u32::try_from(calls).unwrap_or(u32::MAX),
         for_good: false,
     };
     let failing = walk(alloc, volumes, row, count, Some((device, last)))?;
@@ -83,12 +88,7 @@ fn walk(
 }
 
 // The events of a line, so many of them at most; how many are left then, and how often the last may call the store.
-fn events(
-    alloc: Global,
-    player: &mut Player,
-    line: &str,
-    rest: usize,
-) -> Result<(usize, u64)> {
+fn events(alloc: Global, player: &mut Player, line: &str, rest: usize) -> Result<(usize, u64)> {
     let events = parse(alloc, line.as_bytes())?;
     let event = events.as_slice().first().context("no event")?;
     let channel = &mut player.stage.channel;

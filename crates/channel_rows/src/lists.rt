@@ -1,15 +1,17 @@
 //! Serial lists: what they are, and that they come to the same.
 
+ghost use Rattle.s360_events.specs.Answered.{AllAnswered};
+
 use crate::calls::line_of;
 use crate::left::Left;
 use crate::row::Player;
 use crate::stage::Stage;
 use crate::volume::Volumes;
 use anyhow::{Result, bail};
-use s360_deck::{parse, serial};
 use s360_channel::drive;
+use s360_deck::{parse, serial};
 use s360_events::{Answer, Condition, Event};
-use std::alloc::Global;
+use std::alloc::{AllocError, Global};
 
 /// Plays a row whose deck behind the line `serial` is driven, and then its serial list on a fresh channel: the answers, the
 /// list's events, and their answers must be those that the row says, and storage and volumes the same.
@@ -23,7 +25,7 @@ pub(crate) fn play_list<'a>(
     let mut second = set_up(alloc, volumes, row)?;
     let events = events_of(alloc, deck, "> ")?;
     let answers = drive(alloc, &mut first.channel, events.as_slice())?;
-    let list = serial(alloc, events.as_slice(), answers.as_slice())?;
+    let list = list_of(alloc, events.as_slice(), answers.as_slice())?;
     let kept = drive(alloc, &mut second.channel, list.as_slice())?;
     let answers = lines_of(alloc, answers.as_slice())?;
     if let Some(line) = other_line(deck, "< ", answers.as_str()) {
@@ -62,9 +64,9 @@ pub(crate) fn play_cuts(alloc: Global, volumes: &Volumes, row: &str) -> Result<O
                 Course::Ended => return Ok(None),
                 Course::Same => {}
                 Course::Other(what) => {
-                    return Ok(Some(
-                        format!(in alloc; "behind {steps} steps, reset {reset}: {what}")?,
-                    ));
+                    return Ok(Some(format!(in alloc;
+                        "behind {steps} steps, reset {reset}: {what}"
+                    )?));
                 }
             }
         }
@@ -84,7 +86,7 @@ fn cut_behind(
     let mut second = set_up(alloc, volumes, row)?;
     let events = cut_events(alloc, steps, reset)?;
     let answers = drive(alloc, &mut first.channel, events.as_slice())?;
-    let list = serial(alloc, events.as_slice(), answers.as_slice())?;
+    let list = list_of(alloc, events.as_slice(), answers.as_slice())?;
     let kept = drive(alloc, &mut second.channel, list.as_slice())?;
     let (answers, units) = kept_lines(alloc, answers.as_slice())?;
     let (kept, kept_units) = kept_lines(alloc, kept.as_slice())?;
@@ -134,6 +136,14 @@ fn kept_lines(alloc: Global, answers: &[Answer]) -> Result<(String, u64)> {
         }
     }
     Ok((lines, units))
+}
+
+// The serial list of events and of what a channel answered to them.
+#[tactic(auto, using(crate::proofs::Fit::all_fit))]
+fn list_of(alloc: Global, events: &[Event], answers: &[Answer]) -> Result<Vec<Event>, AllocError>
+    requires { AllAnswered events.now answers.now }
+{
+    serial(alloc, events, answers)
 }
 
 // A channel as the lines of a row before its list make it.

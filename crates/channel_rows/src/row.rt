@@ -61,9 +61,7 @@ impl Player {
                 self.deck.extend_from_slice(rest.as_bytes())?;
                 self.deck.push(b'\n')?;
             }
-            ">bytes" => self
-                .deck
-                .extend_from_slice(bytes(alloc, rest)?.as_slice())?,
+            ">bytes" => self.deck.extend_from_slice(bytes(alloc, rest)?.as_slice())?,
             "reader" => self.reader_fails = true,
             "writer" => self.room = Some(number(rest)?),
             _ => return Ok(false),
@@ -130,7 +128,9 @@ impl Player {
     // Whether this line is printed next.
     fn prints(&mut self, alloc: Global, wanted: &str) -> Result<bool> {
         let (is_wanted, left) = next_line(alloc, self.printed.as_str(), wanted)?;
-        self.printed = left;
+        if is_wanted {
+            self.printed = left;
+        }
         Ok(is_wanted)
     }
 

@@ -1,8 +1,8 @@
 //! A channel and its drives, as the lines of a row make them.
 
-use crate::store::{Failure, RowStore};
+use crate::store::{Failure, RowStore, row_store};
 use crate::volume::Volumes;
-use crate::words::{byte, bytes, number, storage_address, unit_address, words_of};
+use crate::words::{byte, bytes, storage_address, unit_address, words_of};
 use anyhow::{Context, Result, bail};
 use ckd_image::{Image, MemoryStore};
 use s360_channel::{AttachFault, Channel};
@@ -44,7 +44,12 @@ impl Stage {
 
     /// Does what a line asks that makes a channel or a drive, or stores bytes. None where the line asks another thing; false
     /// where a store is refused.
-    pub(crate) fn makes(&mut self, alloc: Global, volumes: &Volumes, line: &str) -> Result<Option<bool>> {
+    pub(crate) fn makes(
+        &mut self,
+        alloc: Global,
+        volumes: &Volumes,
+        line: &str,
+    ) -> Result<Option<bool>> {
         match words_of(alloc, line)?.as_slice() {
             ["channel", channel, size] => self.make_channel(alloc, channel, size)?,
             ["attach", device, volume] => {
@@ -74,14 +79,15 @@ impl Stage {
 
     // Makes another channel, or tells why there is none; then its storage must come back as it was.
     fn make_channel(&mut self, alloc: Global, channel: &str, size: &str) -> Result<()> {
-        let mut storage = Storage::new(alloc, number(size)? as u32)?;
+        let size = size.parse::<u32>()?;
+        let mut storage = Storage::new(alloc, size)?;
         if !storage.put(8, &[0x5A]) {
             bail!("too small");
         }
-        match Channel::new(number(channel)? as u8, storage) {
+        match Channel::new(channel.parse::<u8>()?, storage) {
             Ok(channel) => self.channel = channel,
             Err((fault, storage)) => {
-                if storage.byte(8) != Some(0x5A) || storage.size() as usize != number(size)? {
+                if storage.byte(8) != Some(0x5A) || storage.size() != size {
                     bail!("another storage comes back");
                 }
                 self.told = format!(in alloc; "{fault}")?;
@@ -100,12 +106,12 @@ impl Stage {
         failure: Failure,
     ) -> Result<()> {
         let held = MemoryStore::new(alloc, volumes.bytes(volume)?)?;
-        let store = RowStore::new(held, failure);
+        let store = row_store(held, failure);
         let image = match Image::mount(store) {
             Ok(image) => image,
             Err((fault, store)) => {
                 self.told = format!(in alloc; "{fault}")?;
-                return same(volumes, volume, store.into_inner());
+                return same(volumes, volume, store.into_inner().into_inner());
             }
         };
         match self.channel.attach(alloc, byte(device)?, image) {
@@ -113,7 +119,11 @@ impl Stage {
             Err((AttachFault::OutOfMemory(_), _)) => bail!("out of memory"),
             Err((fault, image)) => {
                 self.told = format!(in alloc; "{fault}")?;
-                same(volumes, volume, image.into_store().into_inner())
+                same(
+                    volumes,
+                    volume,
+                    image.into_store().into_inner().into_inner(),
+                )
             }
         }
     }

@@ -33,18 +33,18 @@ pub(crate) struct Failure {
     pub for_good: bool,
 }
 
-/// The store of a row: it keeps a record of its calls, and one of them fails where that is asked.
+/// A store that keeps a record of its calls.
 #[derive(Drop)]
-pub(crate) struct RowStore {
-    store: FailingStore,
+pub(crate) struct Recorder<S: ImageStore> {
+    store: S,
     reads: Calls,
     writes: Calls,
 }
 
-impl RowStore {
-    pub(crate) fn new(store: MemoryStore, failure: Failure) -> RowStore {
-        RowStore {
-            store: FailingStore::new(store, u64::from(failure.at), failure.for_good),
+impl<S: ImageStore> Recorder<S> {
+    pub(crate) fn new(store: S) -> Recorder<S> {
+        Recorder {
+            store,
             reads: NO_CALLS,
             writes: NO_CALLS,
         }
@@ -58,26 +58,20 @@ impl RowStore {
         self.writes
     }
 
-    /// How many calls there were.
-    pub(crate) fn calls(&self) -> u64 {
-        self.store.calls()
-    }
-
-    /// The store within.
-    pub(crate) fn into_inner(self) -> MemoryStore {
-        let RowStore {
+    pub(crate) fn into_inner(self) -> S {
+        let Recorder {
             store,
             reads: _,
             writes: _,
         } = self;
-        store.into_inner()
+        store
     }
 }
 
-impl ImageStore for RowStore {
-    ghost content = { λ r. r.store.store.content };
+impl<S: ImageStore> ImageStore for Recorder<S> {
+    ghost content = { λ r. S.content r.store };
 
-    ghost failures = { λ r. r.store.store.failures + r.store.made_to_fail };
+    ghost failures = { λ r. S.failures r.store };
 
     fn len(&self) -> u64 {
         self.store.len()
@@ -92,4 +86,11 @@ impl ImageStore for RowStore {
         self.writes = self.writes.and(at, bytes.len());
         self.store.write_at(at, bytes)
     }
+}
+
+/// The store of a row: it keeps a record of its calls, and one of them fails where that is asked.
+pub(crate) type RowStore = Recorder<FailingStore>;
+
+pub(crate) fn row_store(store: MemoryStore, failure: Failure) -> RowStore {
+    Recorder::new(FailingStore::new(store, u64::from(failure.at), failure.for_good))
 }

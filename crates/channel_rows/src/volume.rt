@@ -113,7 +113,9 @@ fn model_of(word: &str) -> Result<DriveModel> {
 
 fn new_volume(alloc: Global, geometry: Geometry) -> Result<MemoryStore> {
     let Geometry {
-        model, cylinders, ..
+        model,
+        cylinders,
+        ..
     } = geometry;
     let store = MemoryStore::zeros(alloc, image_len(model, cylinders))?;
     match Image::format(store, model, cylinders) {
