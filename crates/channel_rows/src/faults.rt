@@ -1,0 +1,190 @@
+//! Each call of a drive's store fails in turn, once and for good, and each failure must be told.
+
+use crate::left::{Left, attached};
+use crate::row::Player;
+use crate::stage::{DriveFailure, start_sense};
+use crate::store::Failure;
+use crate::volume::Volumes;
+use crate::words::words_of;
+use anyhow::{Result, bail};
+use std::alloc::Global;
+
+/// The high byte of the addresses of a row's drives.
+const CHANNEL: u16 = 0x0100;
+
+// What was answered in a row, and what it left.
+#[derive(Drop)]
+struct Course {
+    answers: String,
+    // The first sense byte of the drive, where a Sense can start behind the row.
+    sense: Option<u8>,
+    left: Left,
+}
+
+// What is told of a call that fails.
+#[derive(Clone, Copy, Debug, PartialEq, Eq)]
+enum Report {
+    // There is no such call.
+    NoCall,
+    Told,
+    // Why it is not told.
+    Silent(&'static str),
+}
+
+/// Plays a row with each call of the store of a drive failing, and answers the first that is not told as it must be.
+pub(crate) fn sweep(
+    alloc: Global,
+    volumes: &Volumes,
+    row: &str,
+    device: u8,
+) -> Result<Option<String>> {
+    let Some(sound) = play_course(alloc, volumes, row, device, None)? else {
+        bail!("no image");
+    };
+    for at in 1..100 {
+        for for_good in [false, true] {
+            let failure = Failure { at, for_good };
+            match report_of(alloc, volumes, row, &sound, device, failure)? {
+                Report::NoCall => return Ok(None),
+                Report::Told => {}
+                Report::Silent(why) => {
+                    return Ok(Some(format!(in alloc; "call {at}, {for_good}: {why}")?));
+                }
+            }
+        }
+    }
+    bail!("more calls than are tried")
+}
+
+// Plays a row. None where an image is not mounted since its store fails.
+fn play_course(
+    alloc: Global,
+    volumes: &Volumes,
+    row: &str,
+    device: u8,
+    failing: DriveFailure,
+) -> Result<Option<Course>> {
+    let mut player = Player::new(alloc, failing)?;
+    let mut answers = String::new(alloc);
+    for line in row.lines().skip(1) {
+        player.follows(alloc, volumes, line, &mut answers)?;
+        if player.stage.told.as_str() == "store fault" {
+            return Ok(None);
+        }
+    }
+    let Player { stage, .. } = player;
+    let mut channel = stage.channel;
+    let sense = match start_sense(&mut channel, CHANNEL | u16::from(device)) {
+        true => channel
+            .peek(0x710, 1)
+            .and_then(|bytes| bytes.first().copied()),
+        false => None,
+    };
+    Ok(Some(Course {
+        answers,
+        sense,
+        left: Left::of(alloc, channel)?,
+    }))
+}
+
+// What is told where a call of a drive's store fails, beside a course without faults.
+fn report_of(
+    alloc: Global,
+    volumes: &Volumes,
+    row: &str,
+    sound: &Course,
+    device: u8,
+    failure: Failure,
+) -> Result<Report> {
+    let Some(faulty) = play_course(alloc, volumes, row, device, Some((device, failure)))? else {
+        // the first call reads the header, as the image is mounted
+        return Ok(match failure.at {
+            1 => Report::Told,
+            _ => Report::Silent("it is not mounted"),
+        });
+    };
+    if faulty.left.drive(device)?.calls < u64::from(failure.at) {
+        return Ok(match faulty.answers.as_str() == sound.answers.as_str() {
+            true => Report::NoCall,
+            false => Report::Silent("other answers without a fault"),
+        });
+    }
+    if !others_stay(alloc, volumes, row, sound, &faulty)? {
+        return Ok(Report::Silent("another track is changed"));
+    }
+    told(alloc, sound, &faulty)
+}
+
+// What the answers tell of a fault: they are the same up to it.
+fn told(alloc: Global, sound: &Course, faulty: &Course) -> Result<Report> {
+    let lines: Vec<&str> = sound.answers.as_str().lines().collect(alloc)?;
+    let mut behind: Vec<&str> = Vec::new(alloc);
+    for (place, line) in faulty.answers.as_str().lines().enumerate() {
+        if !behind.is_empty() || lines.get(place) != Some(&line) {
+            behind.push(line)?;
+        }
+    }
+    Ok(match behind.as_slice() {
+        [] if faulty.left.unsaved.is_some() => Report::Told,
+        // the program ends in this unit as it does without the fault: the sense bytes tell it
+        [] => told_by_csw(alloc, lines.as_slice(), faulty)?,
+        [first, ..] if first.starts_with("RESET UNSAVED") => told_by_reset(faulty),
+        [first, second, ..] if first.starts_with("STEP") && *second == "RESET CLEAN" => {
+            told_by_reset(faulty)
+        }
+        lines => told_by_csw(alloc, lines, faulty)?,
+    })
+}
+
+// The sense bytes are zero behind a reset, and a program starts.
+fn told_by_reset(faulty: &Course) -> Report {
+    match faulty.sense {
+        Some(0) => Report::Told,
+        _ => Report::Silent("sense bytes behind a reset"),
+    }
+}
+
+// The next channel status word has unit check, and no incorrect length; the sense bytes have equipment check, and a program
+// starts.
+fn told_by_csw(alloc: Global, lines: &[&str], faulty: &Course) -> Result<Report> {
+    for line in lines {
+        if let ["INT", _, _, status] | ["TIO", _, "CC", "1", _, status] = words_of(
+            alloc, line,
+        )?.as_slice()
+        {
+            let [unit, channel, _, _] = u32::from_str_radix(status, 16)?.to_be_bytes();
+            if unit & 0x02 == 0 || channel & 0x40 != 0 {
+                return Ok(Report::Silent("no unit check, or incorrect length"));
+            }
+            return Ok(match faulty.sense {
+                Some(sense) if sense & 0x10 != 0 => Report::Told,
+                _ => Report::Silent("no equipment check"),
+            });
+        }
+    }
+    Ok(Report::Silent("no channel status word"))
+}
+
+// Whether each track that is as it was, where no call fails, is so where one fails.
+fn others_stay(
+    alloc: Global,
+    volumes: &Volumes,
+    row: &str,
+    sound: &Course,
+    faulty: &Course,
+) -> Result<bool> {
+    for drive in &sound.left.drives {
+        let (_, name) = attached(alloc, row, drive.device)?;
+        let first = volumes.bytes(name)?;
+        let last = faulty.left.drive(drive.device)?;
+        let slots = first.chunks(512);
+        let sound_slots = drive.volume.as_slice().chunks(512);
+        let faulty_slots = last.volume.as_slice().chunks(512);
+        for ((first, sound), faulty) in slots.zip(sound_slots).zip(faulty_slots) {
+            if first == sound && first != faulty {
+                return Ok(false);
+            }
+        }
+    }
+    Ok(true)
+}

@@ -1,0 +1,174 @@
+//! A channel and its drives, as the lines of a row make them.
+
+use crate::store::{Failure, RowStore, row_store};
+use crate::volume::Volumes;
+use crate::words::{byte, bytes, storage_address, unit_address, words_of};
+use anyhow::{Context, Result, bail};
+use ckd_image::{Image, MemoryStore};
+use s360_channel::{AttachFault, Channel};
+use s360_events::Condition;
+use s360_words::Storage;
+use std::alloc::Global;
+
+pub(crate) type Disks = Channel<RowStore>;
+
+/// The call of a drive's store that fails, beside those that a row itself names.
+pub(crate) type DriveFailure = Option<(u8, Failure)>;
+
+const NONE_FAILS: Failure = Failure {
+    at: 0,
+    for_good: false,
+};
+
+/// A channel, and what was told of the last thing that it refused.
+#[derive(Drop)]
+pub(crate) struct Stage {
+    pub channel: Disks,
+    pub failing: DriveFailure,
+    pub told: String,
+}
+
+impl Stage {
+    /// Channel 1 with storage of 65,536 bytes, and no drives.
+    pub(crate) fn new(alloc: Global, failing: DriveFailure) -> Result<Stage> {
+        let storage = Storage::new(alloc, 65_536)?;
+        match Channel::new(1, storage) {
+            Ok(channel) => Ok(Stage {
+                channel,
+                failing,
+                told: String::new(alloc),
+            }),
+            Err((fault, _)) => bail!("{fault}"),
+        }
+    }
+
+    /// Does what a line asks that makes a channel or a drive, or stores bytes. None where the line asks another thing; false
+    /// where a store is refused.
+    pub(crate) fn makes(
+        &mut self,
+        alloc: Global,
+        volumes: &Volumes,
+        line: &str,
+    ) -> Result<Option<bool>> {
+        match words_of(alloc, line)?.as_slice() {
+            ["channel", channel, size] => self.make_channel(alloc, channel, size)?,
+            ["attach", device, volume] => {
+                let failure = self.failure_at(byte(device)?);
+                self.attach(alloc, volumes, device, volume, failure)?;
+            }
+            ["attach", device, volume, "failing", at, how] => {
+                self.attach(alloc, volumes, device, volume, failure_of(at, how)?)?;
+            }
+            ["at", at, body] => {
+                let body = bytes(alloc, body)?;
+                let kept = self.channel.poke(storage_address(at)?, body.as_slice());
+                return Ok(Some(kept.is_ok()));
+            }
+            _ => return Ok(None),
+        }
+        Ok(Some(true))
+    }
+
+    // The call that fails of the store of this drive, where the row names none.
+    fn failure_at(&self, device: u8) -> Failure {
+        match self.failing {
+            Some((failing, failure)) if failing == device => failure,
+            _ => NONE_FAILS,
+        }
+    }
+
+    // Makes another channel, or tells why there is none; then its storage must come back as it was.
+    fn make_channel(&mut self, alloc: Global, channel: &str, size: &str) -> Result<()> {
+        let size = size.parse::<u32>()?;
+        let mut storage = Storage::new(alloc, size)?;
+        if !storage.put(8, &[0x5A]) {
+            bail!("too small");
+        }
+        match Channel::new(channel.parse::<u8>()?, storage) {
+            Ok(channel) => self.channel = channel,
+            Err((fault, storage)) => {
+                if storage.byte(8) != Some(0x5A) || storage.size() != size {
+                    bail!("another storage comes back");
+                }
+                self.told = format!(in alloc; "{fault}")?;
+            }
+        }
+        Ok(())
+    }
+
+    // Attaches a drive, or tells why it is not; then its image must come back as it was.
+    fn attach(
+        &mut self,
+        alloc: Global,
+        volumes: &Volumes,
+        device: &str,
+        volume: &str,
+        failure: Failure,
+    ) -> Result<()> {
+        let held = MemoryStore::new(alloc, volumes.bytes(volume)?)?;
+        let store = row_store(held, failure);
+        let image = match Image::mount(store) {
+            Ok(image) => image,
+            Err((fault, store)) => {
+                self.told = format!(in alloc; "{fault}")?;
+                return same(volumes, volume, store.into_inner().into_inner());
+            }
+        };
+        match self.channel.attach(alloc, byte(device)?, image) {
+            Ok(()) => Ok(()),
+            Err((AttachFault::OutOfMemory(_), _)) => bail!("out of memory"),
+            Err((fault, image)) => {
+                self.told = format!(in alloc; "{fault}")?;
+                same(
+                    volumes,
+                    volume,
+                    image.into_store().into_inner().into_inner(),
+                )
+            }
+        }
+    }
+
+    /// Whether a Sense at an input/output address starts, runs to its end, and gives these bytes. It has its word at 700, and
+    /// leaves the channel address word there.
+    pub(crate) fn senses(&mut self, alloc: Global, address: &str, wanted: &str) -> Result<bool> {
+        let address = unit_address(address)?;
+        let wanted = bytes(alloc, wanted)?;
+        if !start_sense(&mut self.channel, address) {
+            return Ok(false);
+        }
+        Ok(self.channel.peek(0x710, 6) == Some(wanted.as_slice()))
+    }
+}
+
+/// Whether a Sense at an input/output address starts and runs to its end. Its bytes are at 710 then.
+pub(crate) fn start_sense(channel: &mut Disks, address: u16) -> bool {
+    let stored = channel.poke(0x700, &[4, 0, 7, 0x10, 0, 0, 0, 6]).is_ok()
+        && channel.poke(0x48, &[0, 0, 7, 0]).is_ok();
+    if !stored || channel.sio(address) != Condition::Zero || channel.step(65_535) != 7 {
+        return false;
+    }
+    match channel.interrupt() {
+        Some((from, csw)) => from == address && csw.to_bytes() == [0, 0, 7, 8, 0x0C, 0, 0, 0],
+        None => false,
+    }
+}
+
+fn failure_of(at: &str, how: &str) -> Result<Failure> {
+    let at = at.parse::<u32>().context("no number")?;
+    match how {
+        "once" => Ok(Failure {
+            at,
+            for_good: false,
+        }),
+        "on" => Ok(Failure { at, for_good: true }),
+        _ => bail!("how does it fail?"),
+    }
+}
+
+// That a store holds what the volume with this name holds.
+fn same(volumes: &Volumes, volume: &str, store: MemoryStore) -> Result<()> {
+    if store.bytes() != volumes.bytes(volume)? {
+        bail!("another image comes back");
+    }
+    Ok(())
+}
