@@ -20,7 +20,6 @@ const ADDRESS: u16 = 0x0190;
 const CAW_ADDRESS: u32 = 72;
 
 /// A channel with one drive.
-#[derive(Drop)]
 pub(crate) struct ChannelMachine {
     channel: Channel<MemoryStore>,
     units: u16,
@@ -33,7 +32,10 @@ impl ChannelMachine {
         let storage = Storage::new(alloc, SIZE).ok()?;
         let mut channel = Channel::new(NUMBER, storage).ok()?;
         let image = disk.into_drive().into_image();
-        channel.attach(alloc, DEVICE, image).ok()?;
+        if channel.attach(alloc, DEVICE, image).is_err() {
+            let _ = channel.finish();
+            return None;
+        }
         Some(ChannelMachine {
             channel,
             units,
@@ -69,7 +71,13 @@ impl Machine for ChannelMachine {
         self.tally.add(program, ending);
     }
 
-    fn tally(&self) -> ProgramTally {
-        self.tally
+    fn end(self) -> ProgramTally {
+        let ChannelMachine {
+            channel,
+            units: _,
+            tally,
+        } = self;
+        let _ = channel.finish();
+        tally
     }
 }

@@ -54,7 +54,7 @@ impl Machine for DriveMachine {
         self.tally.add(program, ending);
     }
 
-    fn tally(&self) -> ProgramTally {
+    fn end(self) -> ProgramTally {
         self.tally
     }
 }

@@ -199,7 +199,7 @@ fn at_drive(
 }
 
 /// Does a work so often by channel programs, where these run.
-fn by_programs<M: Machine + Drop>(
+fn by_programs<M: Machine>(
     rt: &HostRuntime,
     work: Work,
     mut machine: M,
@@ -207,12 +207,12 @@ fn by_programs<M: Machine + Drop>(
     cylinders: u16,
     passes: u32,
 ) -> Option<Speed> {
-    let began = Instant::now(rt).ok()?;
+    let began = Instant::now(rt);
     for _ in 0..passes {
         work.run_programs(&mut machine, cylinders);
     }
-    let time = began.elapsed(rt).ok()?;
-    let tally = machine.tally();
+    let tally = machine.end();
+    let time = began.ok()?.elapsed(rt).ok()?;
     println!(rt; "{work}{place}: {tally}").ok()?;
     Some(Speed {
         items: tally.ccws(),

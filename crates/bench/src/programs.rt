@@ -40,8 +40,8 @@ pub(crate) trait Machine {
     /// Runs a program to its end.
     fn run(&mut self, program: &Program);
 
-    /// What the programs came to.
-    fn tally(&self) -> ProgramTally;
+    /// What the programs came to, behind the last.
+    fn end(self) -> ProgramTally;
 }
 
 /// A channel program in storage, with how many channel command words are fetched in a run of it, and how many bytes pass.
