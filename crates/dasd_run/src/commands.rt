@@ -60,25 +60,17 @@ fn answer<F: ImageFiles, R: Read, W: Write, P: Progress>(
             path,
             model,
             cylinders,
-        } => match format_file(alloc, files, writer, progress, path, model, cylinders) {
-            Ok(()) => Ok(Ending::Done),
-            Err(fault) => Err(ProgramFault::Job(fault)),
-        },
-        Request::List(paths) => match list_files(alloc, files, writer, paths.as_slice()) {
-            Ok(()) => Ok(Ending::Done),
-            Err(fault) => Err(ProgramFault::Job(fault)),
-        },
-        Request::Check(paths) => match check_files(
-            alloc,
-            files,
-            writer,
-            progress,
-            paths.as_slice(),
-        ) {
-            Ok(0) => Ok(Ending::Done),
-            Ok(_) => Ok(Ending::Findings),
-            Err(fault) => Err(ProgramFault::Job(fault)),
-        },
+        } => {
+            format_file(alloc, files, writer, progress, path, model, cylinders).map_err(
+                ProgramFault::Job,
+            )?;
+            Ok(Ending::Done)
+        }
+        Request::List(paths) => {
+            list_files(alloc, files, writer, paths.as_slice()).map_err(ProgramFault::Job)?;
+            Ok(Ending::Done)
+        }
+        Request::Check(paths) => check_volume(alloc, files, writer, progress, paths.as_slice()),
         Request::Run {
             storage,
             channel,
@@ -90,6 +82,23 @@ fn answer<F: ImageFiles, R: Read, W: Write, P: Progress>(
             let run = run_deck(alloc, files, reader, writer, deck, &mut channel);
             conclude(alloc, files, volumes, channel, run)
         }
+    }
+}
+
+// Checks the volume of these files, and says whether it has tracks that can't be read.
+fn check_volume<F: ImageFiles, W: Write, P: Progress>(
+    alloc: Global,
+    files: &mut F,
+    writer: &mut W,
+    progress: &mut P,
+    paths: &[&str],
+) -> Result<Ending, ProgramFault>
+    ensures { F.replacements files.new ≡ F.replacements files.old }
+{
+    match check_files(alloc, files, writer, progress, paths) {
+        Ok(0) => Ok(Ending::Done),
+        Ok(_) => Ok(Ending::Findings),
+        Err(fault) => Err(ProgramFault::Job(fault)),
     }
 }
 
