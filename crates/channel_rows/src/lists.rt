@@ -150,11 +150,8 @@ fn list_of(alloc: Global, events: &[Event], answers: &[Answer]) -> Result<Vec<Ev
 fn set_up(alloc: Global, volumes: &Volumes, row: &str) -> Result<Stage> {
     let mut player = Player::new(alloc, None)?;
     for line in row.lines().skip(1) {
-        if line == "serial" || line == "cuts" {
-            break;
-        }
         if !player.does(alloc, volumes, line)? {
-            bail!("otherwise before its list: {line}");
+            bail!("otherwise before its list");
         }
     }
     let Player { stage, .. } = player;

@@ -76,13 +76,13 @@ fn main(rt: HostRuntime) -> Result<()> {
 
 // Plays a row, and answers what is not as it must be.
 fn play(alloc: Global, volumes: &Volumes, row: &str) -> Result<Option<String>> {
-    if let Some((_, deck)) = row.split_once("\nserial\n") {
+    if let Some((row, deck)) = row.split_once("\nserial\n") {
         return match lists::play_list(alloc, volumes, row, deck)? {
             Some(line) => Ok(Some(line.to_string(alloc)?)),
             None => Ok(None),
         };
     }
-    if row.trim_end().ends_with("\ncuts") {
+    if let Some(row) = row.trim_end().strip_suffix("\ncuts") {
         return lists::play_cuts(alloc, volumes, row);
     }
     let mut player = Player::new(alloc, None)?;
