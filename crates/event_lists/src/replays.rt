@@ -1,0 +1,78 @@
+//! A list of events, and its serial list at a fresh channel.
+
+use crate::disks::{Disk, Failure, Left, TestChannel, channel_over, finish};
+use crate::history::{History, is_serial};
+use anyhow::Result;
+use s360_deck::{Answer, Event, drive, serial};
+use std::alloc::Global;
+use std::fmt;
+
+/// How the serial list of a list compares with it.
+#[derive(Clone, Copy, Debug, PartialEq, Eq)]
+pub(crate) enum Comparison {
+    /// It does the same.
+    Same,
+    /// It has what changes nothing, or is not in order.
+    NotSerial,
+    /// Its answers are others.
+    OtherAnswers,
+    /// It leaves another storage.
+    OtherStorage,
+    /// It leaves other images.
+    OtherImages,
+}
+
+impl fmt::Display for Comparison {
+    fn fmt<W: fmt::Write>(&self, f: &mut fmt::Formatter<W>) -> fmt::Result {
+        f.write_str(match self {
+            Comparison::Same => "the same",
+            Comparison::NotSerial => "no serial list",
+            Comparison::OtherAnswers => "other answers",
+            Comparison::OtherStorage => "another storage",
+            Comparison::OtherImages => "other images",
+        })
+    }
+}
+
+/// Drives a fresh channel over these disks through a list, and through its serial list.
+pub(crate) fn compare_lists(
+    alloc: Global,
+    size: u32,
+    disks: &[Disk],
+    events: &[Event],
+) -> Result<Comparison> {
+    let mut channel = channel_over(alloc, size, disks, Failure::NONE)?;
+    let answers = drive(alloc, &mut channel, events)?;
+    compare_with_serial(alloc, disks, events, answers.as_slice(), channel)
+}
+
+/// Drives a fresh channel over these disks through the serial list of a list to which a channel gave these answers.
+pub(crate) fn compare_with_serial(
+    alloc: Global,
+    disks: &[Disk],
+    events: &[Event],
+    answers: &[Answer],
+    channel: TestChannel,
+) -> Result<Comparison> {
+    let list = serial(alloc, events, answers)?;
+    let left = finish(alloc, channel)?;
+    let mut fresh = channel_over(alloc, left.storage.size(), disks, Failure::NONE)?;
+    let again = drive(alloc, &mut fresh, list.as_slice())?;
+    if !is_serial(list.as_slice(), again.as_slice()) {
+        return Ok(Comparison::NotSerial);
+    }
+    if History::of(alloc, answers)? != History::of(alloc, again.as_slice())? {
+        return Ok(Comparison::OtherAnswers);
+    }
+    Ok(what_differs(&left, &finish(alloc, fresh)?))
+}
+
+fn what_differs(one: &Left, another: &Left) -> Comparison {
+    if !one.has_same_storage(another) {
+        return Comparison::OtherStorage;
+    }
+    if !one.has_same_images(another) {
+        return Comparison::OtherImages;
+    }
+    Comparison::Same
+}
