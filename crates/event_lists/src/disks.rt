@@ -1,5 +1,6 @@
 //! Disks in memory, and channels over them.
 
+use crate::watched::{Watch, WatchedStore};
 use anyhow::{Result, bail};
 use ckd_image::{FailingStore, Image, ImageStore, MemoryStore, image_len};
 use ckd_track::{DriveModel, Geometry};
@@ -9,6 +10,9 @@ use std::alloc::Global;
 
 /// The length of an image's header, behind which the slots stand.
 const HEADER_LENGTH: u64 = 512;
+
+/// The bytes of storage.
+const STORAGE: u32 = 8_192;
 
 /// A disk at the low byte of an input/output address, and the bytes of its image.
 #[derive(Drop)]
@@ -41,8 +45,8 @@ impl Failure {
     };
 }
 
-/// A channel over stores that fail as they are told.
-pub(crate) type TestChannel = Channel<FailingStore>;
+/// A channel over stores that are watched, and fail as they are told.
+pub(crate) type TestChannel<'a> = Channel<WatchedStore<'a>>;
 
 /// The image of a new volume.
 pub(crate) fn new_volume(alloc: Global, model: DriveModel, cylinders: u16) -> Result<MemoryStore> {
@@ -99,25 +103,31 @@ fn length_of(area: &[u8]) -> [u8; 2] {
     (area.len().min(65_535) as u16).to_be_bytes()
 }
 
-/// A channel 1 with so many bytes of storage, over copies of these disks.
-pub(crate) fn channel_over(
+/// A channel 1 over copies of these disks.
+pub(crate) fn channel_over<'a>(
     alloc: Global,
-    size: u32,
+    watch: &'a Watch,
     disks: &[Disk],
     failure: Failure,
-) -> Result<TestChannel> {
-    let storage = Storage::new(alloc, size)?;
+) -> Result<TestChannel<'a>> {
+    let storage = Storage::new(alloc, STORAGE)?;
     let mut channel = match Channel::new(1, storage) {
         Ok(channel) => channel,
         Err((fault, _)) => bail!("{fault}"),
     };
     for disk in disks {
-        attach(alloc, &mut channel, disk, failure)?;
+        attach(alloc, watch, &mut channel, disk, failure)?;
     }
     Ok(channel)
 }
 
-fn attach(alloc: Global, channel: &mut TestChannel, disk: &Disk, failure: Failure) -> Result<()> {
+fn attach<'a>(
+    alloc: Global,
+    watch: &'a Watch,
+    channel: &mut TestChannel<'a>,
+    disk: &Disk,
+    failure: Failure,
+) -> Result<()> {
     let at = if failure.device == disk.device {
         failure.at
     } else {
@@ -125,7 +135,7 @@ fn attach(alloc: Global, channel: &mut TestChannel, disk: &Disk, failure: Failur
     };
     let copy = MemoryStore::new(alloc, disk.content.bytes())?;
     let store = FailingStore::new(copy, u64::from(at), failure.for_good);
-    let image = match Image::mount(store) {
+    let image = match Image::mount(WatchedStore { store, watch }) {
         Ok(image) => image,
         Err((fault, _)) => bail!("{fault}"),
     };
@@ -148,8 +158,6 @@ pub(crate) struct Left {
 pub(crate) struct Content {
     pub device: u8,
     pub geometry: Geometry,
-    /// How many reads and writes its store was asked for.
-    pub calls: u64,
     pub store: MemoryStore,
 }
 
@@ -169,13 +177,12 @@ pub(crate) fn finish(alloc: Global, channel: TestChannel) -> Result<Left> {
     })
 }
 
-fn content_of(device: u8, image: Image<FailingStore>) -> Content {
+fn content_of(device: u8, image: Image<WatchedStore>) -> Content {
     let geometry = image.geometry();
-    let store = image.into_store();
+    let WatchedStore { store, watch: _ } = image.into_store();
     Content {
         device,
         geometry,
-        calls: store.calls(),
         store: store.into_inner(),
     }
 }

@@ -2,13 +2,12 @@
 
 use crate::disks::{Disk, Failure, channel_over};
 use crate::replays::{Comparison, compare_lists};
+use crate::tally::Tally;
+use crate::watched::Watch;
 use anyhow::{Result, bail};
 use s360_deck::{Answer, Event, drive, parse};
 use std::alloc::Global;
 use std::fmt;
-
-/// The bytes of storage.
-const STORAGE: u32 = 65_536;
 
 /// The address whose programs are cut.
 const DEVICE: u16 = 0x190;
@@ -38,39 +37,6 @@ impl fmt::Display for Cut {
     }
 }
 
-/// How many lists were tried, and how many came out as they must.
-#[derive(Clone, Copy, Debug, PartialEq, Eq)]
-pub(crate) struct Tally {
-    pub tried: u32,
-    pub right: u32,
-}
-
-impl Tally {
-    pub(crate) const NONE: Tally = Tally { tried: 0, right: 0 };
-
-    /// One more.
-    pub(crate) fn and(self, right: bool) -> Tally {
-        Tally {
-            tried: self.tried.saturating_add(1),
-            right: self.right.saturating_add(u32::from(right)),
-        }
-    }
-
-    /// Those of both.
-    pub(crate) fn with(self, other: Tally) -> Tally {
-        Tally {
-            tried: self.tried.saturating_add(other.tried),
-            right: self.right.saturating_add(other.right),
-        }
-    }
-}
-
-impl fmt::Display for Tally {
-    fn fmt<W: fmt::Write>(&self, f: &mut fmt::Formatter<W>) -> fmt::Result {
-        write!(f, "{} of {}", self.right, self.tried)
-    }
-}
-
 /// Cuts the program of a deck behind each of its units.
 pub(crate) fn cut_at_each_unit(
     alloc: Global,
@@ -82,7 +48,7 @@ pub(crate) fn cut_at_each_unit(
     let mut tally = Tally::NONE;
     for units in 1..units_of(alloc, disks, before.as_slice())?.saturating_add(1) {
         let list = cut_behind(alloc, before.as_slice(), units, cut)?;
-        let comparison = compare_lists(alloc, STORAGE, disks, list.as_slice())?;
+        let comparison = compare_lists(alloc, disks, list.as_slice())?;
         tally = tally.and(comparison == Comparison::Same);
     }
     Ok(tally)
@@ -101,7 +67,8 @@ fn begun(alloc: Global, deck: &str) -> Result<Vec<Event>> {
 fn units_of(alloc: Global, disks: &[Disk], before: &[Event]) -> Result<u16> {
     let mut events = copies(alloc, before)?;
     events.push(Event::Step(MOST_UNITS))?;
-    let mut channel = channel_over(alloc, STORAGE, disks, Failure::NONE)?;
+    let watch = Watch::new();
+    let mut channel = channel_over(alloc, &watch, disks, Failure::NONE)?;
     match drive(alloc, &mut channel, events.as_slice())?.last() {
         Some(Answer::Step(done)) => Ok(done.saturating_add(1)),
         _ => bail!("no step"),

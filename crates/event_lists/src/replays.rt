@@ -1,7 +1,8 @@
 //! A list of events, and its serial list at a fresh channel.
 
-use crate::disks::{Disk, Failure, Left, TestChannel, channel_over, finish};
+use crate::disks::{Disk, Failure, Left, channel_over, finish};
 use crate::history::{History, is_serial};
+use crate::watched::Watch;
 use anyhow::Result;
 use s360_deck::{Answer, Event, drive, serial};
 use std::alloc::Global;
@@ -34,37 +35,35 @@ impl fmt::Display for Comparison {
     }
 }
 
-/// Drives a fresh channel over these disks through a list, and through its serial list.
-pub(crate) fn compare_lists(
-    alloc: Global,
-    size: u32,
-    disks: &[Disk],
-    events: &[Event],
-) -> Result<Comparison> {
-    let mut channel = channel_over(alloc, size, disks, Failure::NONE)?;
+/// Drives a fresh channel over these disks through a list, and another through its serial list.
+pub(crate) fn compare_lists(alloc: Global, disks: &[Disk], events: &[Event]) -> Result<Comparison> {
+    let watch = Watch::new();
+    let mut channel = channel_over(alloc, &watch, disks, Failure::NONE)?;
     let answers = drive(alloc, &mut channel, events)?;
-    compare_with_serial(alloc, disks, events, answers.as_slice(), channel)
+    let list = serial(alloc, events, answers.as_slice())?;
+    let left = finish(alloc, channel)?;
+    compare_with_serial(alloc, disks, answers.as_slice(), list.as_slice(), &left)
 }
 
-/// Drives a fresh channel over these disks through the serial list of a list to which a channel gave these answers.
-pub(crate) fn compare_with_serial(
+// Drives a fresh channel over these disks through a serial list, and compares it with the answers that were given to the list
+// itself, and with what that has left.
+fn compare_with_serial(
     alloc: Global,
     disks: &[Disk],
-    events: &[Event],
     answers: &[Answer],
-    channel: TestChannel,
+    list: &[Event],
+    left: &Left,
 ) -> Result<Comparison> {
-    let list = serial(alloc, events, answers)?;
-    let left = finish(alloc, channel)?;
-    let mut fresh = channel_over(alloc, left.storage.size(), disks, Failure::NONE)?;
-    let again = drive(alloc, &mut fresh, list.as_slice())?;
-    if !is_serial(list.as_slice(), again.as_slice()) {
+    let watch = Watch::new();
+    let mut channel = channel_over(alloc, &watch, disks, Failure::NONE)?;
+    let again = drive(alloc, &mut channel, list)?;
+    if !is_serial(list, again.as_slice()) {
         return Ok(Comparison::NotSerial);
     }
     if History::of(alloc, answers)? != History::of(alloc, again.as_slice())? {
         return Ok(Comparison::OtherAnswers);
     }
-    Ok(what_differs(&left, &finish(alloc, fresh)?))
+    Ok(what_differs(left, &finish(alloc, channel)?))
 }
 
 fn what_differs(one: &Left, another: &Left) -> Comparison {
