@@ -37,7 +37,7 @@ pub(crate) fn watch_list(
     alloc: Global,
     disks: &[Disk],
     events: &[Event],
-) -> Result<core::result::Result<u32, Breach>> {
+) -> Result<std::result::Result<u32, Breach>> {
     let whole = Watch::new();
     let mut driven = channel_over(alloc, &whole, disks, Failure::NONE)?;
     let answers = drive(alloc, &mut driven, events)?;
@@ -62,7 +62,7 @@ fn watch_event(
     channel: &mut TestChannel,
     ledger: &mut Ledger,
     event: &Event,
-) -> core::result::Result<Answer, Breach> {
+) -> std::result::Result<Answer, Breach> {
     let before = channel.state();
     let calls = watch.calls();
     let answer = channel.react(event);

@@ -44,7 +44,7 @@ pub(crate) struct Machine {
 pub(crate) fn mount(
     alloc: Global,
     bytes: &[u8],
-) -> Result<core::result::Result<Image<MemoryStore>, MountFault>> {
+) -> Result<std::result::Result<Image<MemoryStore>, MountFault>> {
     match Image::mount(MemoryStore::new(alloc, bytes)?) {
         Ok(image) => Ok(Ok(image)),
         Err((fault, store)) => {
