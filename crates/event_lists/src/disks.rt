@@ -30,7 +30,7 @@ pub(crate) struct Record<'a> {
 }
 
 /// Which call of which disk's store fails, counted from 1 on, and whether each later one does; with 0 none fails.
-#[derive(Clone, Copy, Debug, PartialEq, Eq)]
+#[derive(Clone, Copy, PartialEq, Eq)]
 pub(crate) struct Failure {
     pub device: u8,
     pub at: u32,
@@ -196,10 +196,9 @@ impl Left {
     /// Whether the images are the same.
     pub(crate) fn has_same_images(&self, other: &Left) -> bool {
         self.contents.len() == other.contents.len()
-            && self
-                .contents
-                .iter()
-                .zip(other.contents.iter())
-                .all(|(one, another)| one.store.bytes() == another.store.bytes())
+            && self.contents.iter().zip(other.contents.iter()).all(|(one, another)| one
+                .store
+                .bytes()
+                == another.store.bytes())
     }
 }

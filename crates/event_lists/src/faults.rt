@@ -14,7 +14,7 @@ use std::fmt;
 const MOST_UNITS: u16 = 300;
 
 /// What came of a list over stores of which a call fails.
-#[derive(Clone, Copy, Debug, PartialEq, Eq)]
+#[derive(Clone, Copy, PartialEq, Eq)]
 pub(crate) enum Ending {
     /// There was no such call, and all is as without faults.
     NoCall,
@@ -44,7 +44,7 @@ impl fmt::Display for Ending {
 }
 
 /// What an event came to at the channel whose store fails.
-#[derive(Clone, Copy, Debug, PartialEq, Eq)]
+#[derive(Clone, Copy, PartialEq, Eq)]
 enum Met {
     /// No fault yet.
     Nothing,
@@ -192,17 +192,19 @@ fn other_tracks(one: &Left, other: &Left) -> usize {
 
 // How many slots are others, and the header.
 fn count_others(one: &[u8], other: &[u8], size: usize) -> usize {
-    let (Some((header, slots)), Some((other_header, other_slots))) =
-        (one.split_at_checked(512), other.split_at_checked(512))
-    else {
+    let (Some((header, slots)), Some((other_header, other_slots))) = (
+        one.split_at_checked(512),
+        other.split_at_checked(512),
+    ) else {
         return 2;
     };
     let mut others = usize::from(header != other_header);
     let mut slots = slots;
     let mut other_slots = other_slots;
-    while let (Some((slot, rest)), Some((other_slot, other_rest))) =
-        (slots.split_at_checked(size), other_slots.split_at_checked(size))
-    {
+    while let (Some((slot, rest)), Some((other_slot, other_rest))) = (
+        slots.split_at_checked(size),
+        other_slots.split_at_checked(size),
+    ) {
         others = others.saturating_add(usize::from(slot != other_slot));
         slots = rest;
         other_slots = other_rest;

@@ -6,7 +6,7 @@ use s360_events::Condition;
 use std::alloc::Global;
 
 /// What changed something: the arms that arrived, and each other answer with the number of units that were done before it.
-#[derive(Debug, Drop, PartialEq, Eq)]
+#[derive(Drop, PartialEq, Eq)]
 pub(crate) struct History {
     arrivals: String,
     others: String,
@@ -64,7 +64,7 @@ pub(crate) fn changes_nothing(answer: &Answer) -> bool {
 }
 
 // Where a list is, among the steps of a program.
-#[derive(Clone, Copy, Debug, PartialEq, Eq)]
+#[derive(Clone, Copy, PartialEq, Eq)]
 enum Place {
     BeforeSteps,
     BehindSteps,

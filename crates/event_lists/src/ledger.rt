@@ -7,14 +7,14 @@ use s360_events::Condition;
 use s360_laws::arm::Arm;
 use s360_words::UnitStatus;
 
-/// The addresses that are watched: those of the drives of all lists.
-pub(crate) const FIRST: u16 = 0x190;
-
 /// How many addresses are watched.
 const WATCHED: usize = 4;
 
+/// These addresses: those of the drives of all lists.
+const ADDRESSES: [u16; WATCHED] = [0x190, 0x191, 0x192, 0x193];
+
 /// What came last for an address.
-#[derive(Clone, Copy, Debug, PartialEq, Eq)]
+#[derive(Clone, Copy, PartialEq, Eq)]
 enum Since {
     Nothing,
     Acceptance,
@@ -22,7 +22,7 @@ enum Since {
 }
 
 /// How often the ends of an address were stored since its last accepted program, or the last reset.
-#[derive(Clone, Copy, Debug, PartialEq, Eq)]
+#[derive(Clone, Copy, PartialEq, Eq)]
 struct Entry {
     since: Since,
     channel_ends: u8,
@@ -62,7 +62,7 @@ impl Entry {
 }
 
 /// The counts of a list.
-#[derive(Clone, Copy, Debug, PartialEq, Eq)]
+#[derive(Clone, Copy, PartialEq, Eq)]
 pub(crate) struct Ledger {
     entries: [Entry; WATCHED],
     /// How many programs were accepted.
@@ -101,19 +101,18 @@ impl Ledger {
 
     // Whether the channel end of each accepted program is stored.
     fn may_accept(&self) -> bool {
-        self.entries
-            .iter()
-            .all(|entry| entry.since != Since::Acceptance || entry.channel_ends == 1)
+        self.entries.iter().all(|entry| entry.since != Since::Acceptance || entry.channel_ends == 1)
     }
 
     fn entry(&mut self, address: u16) -> Option<&mut Entry> {
-        self.entries.get_mut(usize::from(address.checked_sub(FIRST)?))
+        let place = ADDRESSES.iter().position(|watched| *watched == address)?;
+        self.entries.get_mut(place)
     }
 
     /// Whether what was stored and what the channel shows as owed are together what is due, for each address.
     pub(crate) fn is_balanced(&self, view: &View) -> bool {
-        self.entries.iter().zip(FIRST..).all(|(entry, address)| {
-            let (channel_owes, device_owes) = owed(view, address);
+        self.entries.iter().zip(ADDRESSES.iter()).all(|(entry, address)| {
+            let (channel_owes, device_owes) = owed(view, *address);
             entry.is_balanced(channel_owes, device_owes)
         })
     }

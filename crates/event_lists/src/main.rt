@@ -92,7 +92,9 @@ fn play_random_lists(rt: &HostRuntime) -> Result<()> {
         }
     }
     println!(rt; "lists by chance: {serial} as their serial lists")?;
-    println!(rt; "lists by chance, with {programs} programs: {watched} with answers that may come")?;
+    println!(rt;
+        "lists by chance, with {programs} programs: {watched} with answers that may come"
+    )?;
     Ok(())
 }
 
@@ -125,7 +127,7 @@ fn random_failure(chance: &mut Chance, drives: u32) -> Failure {
     let device = chance.below(drives).min(255) as u8;
     Failure {
         device: device.saturating_add(0x90),
-        at: chance.below(5).saturating_add(2),
+        at: chance.below(3).saturating_add(2),
         for_good: chance.percent(50),
     }
 }

@@ -19,10 +19,11 @@ const OTHER: u16 = 0x191;
 const MOST_UNITS: u16 = 250;
 
 /// What is done before each deck: the other arm is sent on its way.
-const BEFORE: &[u8] = b"STORE 48 000003F8\nSTORE 3F8 1300000000000001\nSIO 191\nSTORE 48 00000400\n";
+const BEFORE: &[u8] =
+    b"STORE 48 000003F8\nSTORE 3F8 1300000000000001\nSIO 191\nSTORE 48 00000400\n";
 
 /// How a program is cut.
-#[derive(Clone, Copy, Debug, PartialEq, Eq)]
+#[derive(Clone, Copy, PartialEq, Eq)]
 pub(crate) enum Cut {
     Halt,
     Reset,

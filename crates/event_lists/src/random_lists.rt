@@ -1,8 +1,6 @@
 //! Lists of events by chance.
 
-use crate::chains::{
-    AREAS, HOME_ADDRESSES, IDENTIFIERS, MASKS, RECORDS, SEEKS, Words, chain,
-};
+use crate::chains::{AREAS, HOME_ADDRESSES, IDENTIFIERS, MASKS, RECORDS, SEEKS, Words, chain};
 use crate::chance::Chance;
 use anyhow::Result;
 use s360_events::{Event, ShowCount, StorageKey};

@@ -9,7 +9,7 @@ use std::alloc::Global;
 use std::fmt;
 
 /// How the serial list of a list compares with it.
-#[derive(Clone, Copy, Debug, PartialEq, Eq)]
+#[derive(Clone, Copy, PartialEq, Eq)]
 pub(crate) enum Comparison {
     /// It does the same.
     Same,
@@ -36,6 +36,7 @@ impl fmt::Display for Comparison {
 }
 
 /// Drives a fresh channel over these disks through a list, and another through its serial list.
+#[tactic(auto, using(crate::proofs::Fitting::all_fit))]
 pub(crate) fn compare_lists(alloc: Global, disks: &[Disk], events: &[Event]) -> Result<Comparison> {
     let watch = Watch::new();
     let mut channel = channel_over(alloc, &watch, disks, Failure::NONE)?;

@@ -3,7 +3,7 @@
 use std::fmt;
 
 /// How many lists were tried, and how many came out as they must.
-#[derive(Clone, Copy, Debug, PartialEq, Eq)]
+#[derive(Clone, Copy)]
 pub(crate) struct Tally {
     pub tried: u32,
     pub right: u32,

@@ -75,8 +75,17 @@ fn worked_volume(alloc: Global) -> Result<MemoryStore> {
     put_track(alloc, &mut store, geometry, 0, 1, &[without_key(1, &[])])?;
     let sense = [0x04, 0, 0x06, 0, 0, 0, 0, 6];
     put_track(alloc, &mut store, geometry, 0, 2, &[without_key(1, &sense)])?;
-    let second = [0, 0, 6, 0, 0, 0, 0, 8, 0xE1, 0xE1, 0xE1, 0xE1, 0xE1, 0xE1, 0xE1, 0xE1];
-    put_track(alloc, &mut store, geometry, 0, 3, &[without_key(1, &second)])?;
+    let second = [
+        0, 0, 6, 0, 0, 0, 0, 8, 0xE1, 0xE1, 0xE1, 0xE1, 0xE1, 0xE1, 0xE1, 0xE1,
+    ];
+    put_track(
+        alloc,
+        &mut store,
+        geometry,
+        0,
+        3,
+        &[without_key(1, &second)],
+    )?;
     Ok(store)
 }
 

@@ -1,5 +1,7 @@
 //! Stores whose calls are counted for a whole channel.
 
+ghost use Rattle.std.specs.Prelude.{◌+◌};
+
 use ckd_image::{FailingStore, ImageStore, StoreFault};
 use std::cell::Cell;
 

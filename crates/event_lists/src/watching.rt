@@ -9,7 +9,7 @@ use std::alloc::Global;
 use std::fmt;
 
 /// What is wrong with an answer.
-#[derive(Clone, Copy, Debug, PartialEq, Eq)]
+#[derive(Clone, Copy, PartialEq, Eq)]
 pub(crate) enum Breach {
     /// It is not that which `drive` gives.
     Driven,

@@ -8,7 +8,7 @@ use s360_deck::{DeckFault, RunFault};
 use std::alloc::Global;
 
 /// How many lines were cut, and how many decks with such a line came out as they must.
-#[derive(Clone, Copy, Debug, PartialEq, Eq)]
+#[derive(Clone, Copy)]
 pub(crate) struct CutLines {
     pub tally: Tally,
     /// How many of them were refused.

@@ -4,7 +4,7 @@ use std::alloc::Global;
 use std::io::{Error, ErrorKind, Read, Write};
 
 /// Bytes that are read in pieces, and how many reads there were.
-#[derive(Debug, Drop)]
+#[derive(Drop)]
 pub(crate) struct Pieces<'a> {
     pub rest: &'a [u8],
     /// The most bytes that a read gives.
@@ -40,7 +40,7 @@ impl Read for Pieces<'_> {
 }
 
 /// Line feeds without an end.
-#[derive(Debug, Drop)]
+#[derive(Drop)]
 pub(crate) struct Endless {
     /// The most bytes that a read gives.
     pub most: usize,
@@ -57,7 +57,7 @@ impl Read for Endless {
 }
 
 /// What was written; a write takes so many bytes at most, and behind so many in all it fails.
-#[derive(Debug, Drop)]
+#[derive(Drop)]
 pub(crate) struct Room {
     pub written: Vec<u8>,
     pub most: usize,

@@ -23,13 +23,19 @@ fn main(rt: HostRuntime) -> Result<()> {
     let file = new_file(alloc)?;
     let file = file.as_slice();
     let cut = cut_lines(alloc, file, deck.as_str())?;
-    println!(rt; "lines cut at every byte: {}, of which {} are refused", cut.tally, cut.refused)?;
+    println!(rt;
+        "lines cut at every byte: {}, of which {} are refused",
+        cut.tally, cut.refused
+    )?;
     let deck = deck.as_bytes();
     println!(rt; "reads in pieces: {}", read_in_pieces(alloc, file, deck)?)?;
     println!(rt; "reads failing in turn: {}", fail_reads(alloc, file, deck)?)?;
     println!(rt; "reads without an end: {}", read_endlessly(alloc, file)?)?;
     println!(rt; "writes in pieces: {}", write_in_pieces(alloc, file, deck)?)?;
-    println!(rt; "writes failing in turn: {}", fail_writes(alloc, file, deck)?)?;
+    println!(rt;
+        "writes failing in turn: {}",
+        fail_writes(alloc, file, deck)?
+    )?;
     println!(rt; "texts at the limits: {}", try_limits(alloc, file)?)?;
     Ok(())
 }

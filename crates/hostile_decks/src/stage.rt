@@ -17,7 +17,7 @@ const STORAGE: u32 = 4_096;
 pub(crate) const ALL: usize = 1_000_000;
 
 /// What came of a deck.
-#[derive(Debug, Drop)]
+#[derive(Drop)]
 pub(crate) struct Came {
     pub fault: Option<RunFault>,
     pub written: Vec<u8>,

@@ -26,7 +26,7 @@ pub(crate) const AREA: u32 = 0x600;
 const SENSE: u32 = 0x480;
 
 /// What a program came to.
-#[derive(Clone, Copy, Debug, PartialEq, Eq)]
+#[derive(Clone, Copy, PartialEq, Eq)]
 pub(crate) struct Ended {
     pub unit: u8,
     pub channel: u8,

@@ -12,7 +12,7 @@ use dasd_volumes::check;
 use std::alloc::Global;
 
 /// What was tried over slots.
-#[derive(Clone, Copy, Debug, PartialEq, Eq)]
+#[derive(Clone, Copy)]
 pub(crate) struct Tallies {
     pub views: Tally,
     pub reads: Tally,

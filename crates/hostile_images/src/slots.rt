@@ -8,7 +8,7 @@ use std::alloc::Global;
 const CAPACITY: usize = 3_625;
 
 /// A record in a slot: where its count area begins, and the lengths of its key and its data.
-#[derive(Clone, Copy, Debug, PartialEq, Eq)]
+#[derive(Clone, Copy)]
 pub(crate) struct Place {
     pub at: usize,
     pub key_length: usize,
@@ -47,7 +47,7 @@ impl Place {
 }
 
 /// What a slot spells.
-#[derive(Debug, Drop)]
+#[derive(Drop)]
 pub(crate) struct Spelled {
     /// The records that are whole, one after another.
     pub places: Vec<Place>,

@@ -3,7 +3,7 @@
 use std::fmt;
 
 /// How many cases were tried, and how many came out as they must.
-#[derive(Clone, Copy, Debug, PartialEq, Eq)]
+#[derive(Clone, Copy)]
 pub(crate) struct Tally {
     tried: u32,
     right: u32,

@@ -30,7 +30,11 @@ pub(crate) fn new_file(alloc: Global) -> Result<Vec<u8>> {
 /// The file of a volume whose first slot is another.
 pub(crate) fn file_with(alloc: Global, file: &[u8], slot: &[u8]) -> Result<Vec<u8>> {
     let mut store = MemoryStore::new(alloc, file)?;
-    store.write_at(HEADER_LENGTH as u64, slot)?;
+    let at = HEADER_LENGTH as u64;
+    if at > store.len() {
+        bail!("no slot");
+    }
+    store.write_at(at, slot)?;
     Ok(Vec::from_slice(alloc, store.bytes())?)
 }
 
