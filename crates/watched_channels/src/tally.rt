@@ -4,16 +4,16 @@ use std::fmt;
 
 /// How many lists were tried, and how many came out as they must.
 #[derive(Clone, Copy)]
-pub(crate) struct Tally {
+pub struct Tally {
     pub tried: u32,
     pub right: u32,
 }
 
 impl Tally {
-    pub(crate) const NONE: Tally = Tally { tried: 0, right: 0 };
+    pub const NONE: Tally = Tally { tried: 0, right: 0 };
 
     /// One more.
-    pub(crate) fn and(self, right: bool) -> Tally {
+    pub fn and(self, right: bool) -> Tally {
         Tally {
             tried: self.tried.saturating_add(1),
             right: self.right.saturating_add(u32::from(right)),
@@ -21,7 +21,7 @@ impl Tally {
     }
 
     /// Those of both.
-    pub(crate) fn with(self, other: Tally) -> Tally {
+    pub fn with(self, other: Tally) -> Tally {
         Tally {
             tried: self.tried.saturating_add(other.tried),
             right: self.right.saturating_add(other.right),

@@ -1,12 +1,11 @@
 //! Lists of events, one by one: what each answer must be, and how many calls of the stores each event may make.
 
-use crate::disks::{Disk, Failure, TestChannel, channel_over};
 use crate::ledger::{Ledger, may_answer};
-use crate::watched::Watch;
 use anyhow::Result;
 use s360_deck::{Answer, AnswerLine, Event, drive};
 use std::alloc::Global;
 use std::fmt;
+use watched_channels::{Disk, Failure, TestChannel, Watch, channel_over};
 
 /// What is wrong with an answer.
 #[derive(Clone, Copy, PartialEq, Eq)]

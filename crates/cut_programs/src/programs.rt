@@ -1,13 +1,10 @@
 //! Programs that are halted, or reset, behind each of their units.
 
-use crate::disks::{Disk, Failure, channel_over};
-use crate::replays::{Comparison, compare_lists};
-use crate::tally::Tally;
-use crate::watched::Watch;
 use anyhow::{Result, bail};
 use s360_deck::{Answer, Event, drive, parse};
 use std::alloc::Global;
 use std::fmt;
+use watched_channels::{Comparison, Disk, Failure, Tally, Watch, channel_over, compare_lists};
 
 /// The address whose programs are cut.
 const DEVICE: u16 = 0x190;

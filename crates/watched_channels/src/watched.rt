@@ -7,13 +7,13 @@ use std::cell::Cell;
 
 /// How many reads and writes the stores of a channel were asked for, and how many of them failed.
 #[derive(Drop)]
-pub(crate) struct Watch {
+pub struct Watch {
     calls: Cell<u64>,
     failed: Cell<u64>,
 }
 
 impl Watch {
-    pub(crate) fn new() -> Watch {
+    pub fn new() -> Watch {
         Watch {
             calls: Cell::new(0),
             failed: Cell::new(0),
@@ -21,12 +21,12 @@ impl Watch {
     }
 
     /// How many calls there were.
-    pub(crate) fn calls(&self) -> u64 {
+    pub fn calls(&self) -> u64 {
         self.calls.get()
     }
 
     /// Whether a call has failed.
-    pub(crate) fn has_failed(&self) -> bool {
+    pub fn has_failed(&self) -> bool {
         self.failed.get() > 0
     }
 
@@ -40,7 +40,7 @@ impl Watch {
 
 /// A store whose calls are counted together with those of others.
 #[derive(Drop)]
-pub(crate) struct WatchedStore<'a> {
+pub struct WatchedStore<'a> {
     pub store: FailingStore,
     pub watch: &'a Watch,
 }

@@ -1,14 +1,13 @@
 //! Lists of events over stores of which a call fails.
 
-use crate::disks::{Disk, Failure, Left, TestChannel, channel_over, finish};
-use crate::random_lists::FREE;
-use crate::watched::Watch;
+use crate::lists::FREE;
 use crate::watching::most_calls;
 use anyhow::Result;
 use s360_channel::SubchannelView;
 use s360_deck::{Answer, Event};
 use std::alloc::Global;
 use std::fmt;
+use watched_channels::{Disk, Failure, Left, TestChannel, Watch, channel_over, finish};
 
 /// The most units of a step that are done one by one, and at all.
 const MOST_UNITS: u16 = 300;

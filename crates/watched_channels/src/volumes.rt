@@ -7,7 +7,7 @@ use ckd_track::{DriveModel, Geometry};
 use std::alloc::Global;
 
 /// A 2311 with records of 80 bytes, one without data, and channel command words as data; and a new 2311.
-pub(crate) fn worked_disks(alloc: Global) -> Result<Vec<Disk>> {
+pub fn worked_disks(alloc: Global) -> Result<Vec<Disk>> {
     let mut disks = Vec::new(alloc);
     disks.push(Disk {
         device: 0x90,
@@ -22,7 +22,7 @@ pub(crate) fn worked_disks(alloc: Global) -> Result<Vec<Disk>> {
 
 /// So many disks, of both models: the two of `worked_disks`' kinds, and two with keys, records without data, tracks nearly full
 /// and tracks that can't be read.
-pub(crate) fn many_disks(alloc: Global, drives: u32) -> Result<Vec<Disk>> {
+pub fn many_disks(alloc: Global, drives: u32) -> Result<Vec<Disk>> {
     let mut disks = Vec::new(alloc);
     for device in 0..drives.min(4) as u8 {
         let content = match device {

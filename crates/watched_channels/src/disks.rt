@@ -16,14 +16,14 @@ const STORAGE: u32 = 8_192;
 
 /// A disk at the low byte of an input/output address, and the bytes of its image.
 #[derive(Drop)]
-pub(crate) struct Disk {
+pub struct Disk {
     pub device: u8,
     pub content: MemoryStore,
 }
 
 /// A record of a track; its identifier has the track's own cylinder and head.
 #[derive(Clone, Copy)]
-pub(crate) struct Record<'a> {
+pub struct Record<'a> {
     pub number: u8,
     pub key: &'a [u8],
     pub data: &'a [u8],
@@ -31,14 +31,14 @@ pub(crate) struct Record<'a> {
 
 /// Which call of which disk's store fails, counted from 1 on, and whether each later one does; with 0 none fails.
 #[derive(Clone, Copy, PartialEq, Eq)]
-pub(crate) struct Failure {
+pub struct Failure {
     pub device: u8,
     pub at: u32,
     pub for_good: bool,
 }
 
 impl Failure {
-    pub(crate) const NONE: Failure = Failure {
+    pub const NONE: Failure = Failure {
         device: 0,
         at: 0,
         for_good: false,
@@ -46,10 +46,10 @@ impl Failure {
 }
 
 /// A channel over stores that are watched, and fail as they are told.
-pub(crate) type TestChannel<'a> = Channel<WatchedStore<'a>>;
+pub type TestChannel<'a> = Channel<WatchedStore<'a>>;
 
 /// The image of a new volume.
-pub(crate) fn new_volume(alloc: Global, model: DriveModel, cylinders: u16) -> Result<MemoryStore> {
+pub fn new_volume(alloc: Global, model: DriveModel, cylinders: u16) -> Result<MemoryStore> {
     let store = MemoryStore::zeros(alloc, image_len(model, cylinders))?;
     match Image::format(store, model, cylinders) {
         Ok(image) => Ok(image.into_store()),
@@ -58,7 +58,7 @@ pub(crate) fn new_volume(alloc: Global, model: DriveModel, cylinders: u16) -> Re
 }
 
 /// Spells a track with these records behind the usual record 0 into the slot of a new volume.
-pub(crate) fn put_track(
+pub fn put_track(
     alloc: Global,
     store: &mut MemoryStore,
     geometry: Geometry,
@@ -104,7 +104,7 @@ fn length_of(area: &[u8]) -> [u8; 2] {
 }
 
 /// A channel 1 over copies of these disks.
-pub(crate) fn channel_over<'a>(
+pub fn channel_over<'a>(
     alloc: Global,
     watch: &'a Watch,
     disks: &[Disk],
@@ -147,7 +147,7 @@ fn attach<'a>(
 
 /// What is left of a channel, after its last reset.
 #[derive(Drop)]
-pub(crate) struct Left {
+pub struct Left {
     pub storage: Storage,
     pub contents: Vec<Content>,
     pub unsaved: Option<(u16, u16, u16)>,
@@ -155,14 +155,14 @@ pub(crate) struct Left {
 
 /// What is left of a disk.
 #[derive(Drop)]
-pub(crate) struct Content {
+pub struct Content {
     pub device: u8,
     pub geometry: Geometry,
     pub store: MemoryStore,
 }
 
 /// Resets a channel, and takes it apart.
-pub(crate) fn finish(alloc: Global, channel: TestChannel) -> Result<Left> {
+pub fn finish(alloc: Global, channel: TestChannel) -> Result<Left> {
     let finished = channel.finish();
     let mut contents = Vec::new(alloc);
     for entry in finished.images {
@@ -189,12 +189,12 @@ fn content_of(device: u8, image: Image<WatchedStore>) -> Content {
 
 impl Left {
     /// Whether storage is the same.
-    pub(crate) fn has_same_storage(&self, other: &Left) -> bool {
+    pub fn has_same_storage(&self, other: &Left) -> bool {
         self.storage.slice(0, self.storage.size()) == other.storage.slice(0, other.storage.size())
     }
 
     /// Whether the images are the same.
-    pub(crate) fn has_same_images(&self, other: &Left) -> bool {
+    pub fn has_same_images(&self, other: &Left) -> bool {
         self.contents.len() == other.contents.len()
             && self.contents.iter().zip(other.contents.iter()).all(|(one, another)| one
                 .store

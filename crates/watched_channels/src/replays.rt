@@ -10,7 +10,7 @@ use std::fmt;
 
 /// How the serial list of a list compares with it.
 #[derive(Clone, Copy, PartialEq, Eq)]
-pub(crate) enum Comparison {
+pub enum Comparison {
     /// It does the same.
     Same,
     /// It has what changes nothing, or is not in order.
@@ -37,7 +37,7 @@ impl fmt::Display for Comparison {
 
 /// Drives a fresh channel over these disks through a list, and another through its serial list.
 #[tactic(auto, using(crate::proofs::Fitting::all_fit))]
-pub(crate) fn compare_lists(alloc: Global, disks: &[Disk], events: &[Event]) -> Result<Comparison> {
+pub fn compare_lists(alloc: Global, disks: &[Disk], events: &[Event]) -> Result<Comparison> {
     let watch = Watch::new();
     let mut channel = channel_over(alloc, &watch, disks, Failure::NONE)?;
     let answers = drive(alloc, &mut channel, events)?;

@@ -1,36 +1,21 @@
-//! Lists of events at a channel, each compared with its serial list at a fresh one, and judged by what is known of any list.
-//!
-//! The input has decks, with an empty line between, each of which stores a channel program. The program is halted, and reset,
-//! behind each of its units, with other events between them. Then come lists by chance over one to four drives: their answers are
-//! looked at one by one, and of some of them a call of a store fails. For each suite it is printed how many lists were tried, and
-//! how many came out as they must.
+//! Lists of events by chance at a channel with one to four drives. Each is compared with its serial list at a fresh channel; its answers are
+//! looked at one by one, whether they may come; and in as many other lists a call of a store fails, which must be told. It is
+//! printed how many lists were tried, and how many came out as they must.
 #![tactic(auto)]
 
 mod chains;
 mod chance;
-mod disks;
 mod faults;
-mod history;
 mod ledger;
-mod programs;
-mod random_lists;
-mod replays;
-mod tally;
-mod volumes;
-mod watched;
+mod lists;
 mod watching;
 
 use crate::chance::Chance;
-use crate::disks::Failure;
 use crate::faults::{Ending, fail_list};
-use crate::programs::{Cut, cut_at_each_unit};
-use crate::random_lists::random_list;
-use crate::replays::{Comparison, compare_lists};
-use crate::tally::Tally;
-use crate::volumes::{many_disks, worked_disks};
+use crate::lists::random_list;
 use crate::watching::watch_list;
 use anyhow::Result;
-use std::io;
+use watched_channels::{Comparison, Failure, Tally, compare_lists, many_disks};
 
 /// How many lists by chance are tried over stores that do not fail.
 const LISTS: u32 = 100;
@@ -39,29 +24,8 @@ const LISTS: u32 = 100;
 const FAILING_LISTS: u32 = 100;
 
 fn main(rt: HostRuntime) -> Result<()> {
-    let text = io::read_to_string(rt.alloc(), rt.reader())?;
-    for cut in [Cut::Halt, Cut::Reset] {
-        let tally = cut_programs(&rt, text.as_str(), cut)?;
-        println!(rt; "programs {cut} behind each unit: {tally} as their serial lists")?;
-    }
     play_random_lists(&rt)?;
     play_failing_lists(&rt)
-}
-
-// Cuts the program of each deck behind each of its units.
-fn cut_programs(rt: &HostRuntime, text: &str, cut: Cut) -> Result<Tally> {
-    let alloc = rt.alloc();
-    let disks = worked_disks(alloc)?;
-    let mut all = Tally::NONE;
-    for deck in text.split("\n\n") {
-        let tally = cut_at_each_unit(alloc, disks.as_slice(), deck, cut)?;
-        if tally.right < tally.tried {
-            println!(rt; "{deck}")?;
-            println!(rt; "{cut}: {tally}")?;
-        }
-        all = all.with(tally);
-    }
-    Ok(all)
 }
 
 // Lists by chance over stores that do not fail.
