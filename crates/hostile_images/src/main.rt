@@ -13,14 +13,11 @@ mod tally;
 mod volumes;
 
 use crate::headers::{OTHERS, mount_headers, mount_prefixes};
-use crate::odd_slots::odd_slots;
+use crate::odd_slots::{odd_slots, with_empty_records};
 use crate::slot_cases::Tallies;
 use crate::volumes::{Record, new_file, slot_of, with_byte};
 use anyhow::Result;
 use std::alloc::Global;
-
-/// The bytes of the worked slots that spell their tracks, and some behind.
-const USED: usize = 312;
 
 fn main(rt: HostRuntime) -> Result<()> {
     let alloc = rt.alloc();
@@ -60,7 +57,7 @@ fn replace_bytes(alloc: Global, file: &[u8]) -> Result<Tallies> {
             record(3, &[], &[0xC3; 80]),
         ];
         let slot = slot_of(alloc, &records)?;
-        for at in 0..USED {
+        for at in 0..slot.len() {
             for other in OTHERS {
                 let changed = with_byte(alloc, slot.as_slice(), at, other)?;
                 let changed = changed.as_slice();
@@ -86,6 +83,12 @@ fn try_odd_slots(alloc: Global, file: &[u8]) -> Result<Tallies> {
         for sought in [identifier(0), identifier(1), [0, 0, 0, 1, 0xF3]] {
             tallies.try_slot(alloc, file, slot.as_slice(), sought, sought)?;
         }
+    }
+    // behind the first of these there is room for another record, behind the last there is none
+    let many = with_empty_records(alloc, 100)?;
+    for number in 0..100 {
+        let sought = identifier(number);
+        tallies.try_slot(alloc, file, many.as_slice(), sought, sought)?;
     }
     Ok(tallies)
 }

@@ -13,7 +13,7 @@ pub(crate) fn odd_slots(alloc: Global) -> Result<Vec<Vec<u8>>> {
     }
     slots.push(filled(alloc, usual_record(alloc)?)?)?;
     for length in [
-        65_535, 4_068, 4_067, 4_066, 4_060, 4_059, 4_058, 3_625, 3_500,
+        65_535, 4_068, 4_067, 4_066, 4_060, 4_059, 4_058, 3_625, 3_380, 3_379,
     ] {
         slots.push(with_long_record(alloc, length)?)?;
     }
@@ -34,8 +34,8 @@ fn with_long_record(alloc: Global, length: u16) -> Result<Vec<u8>> {
     filled(alloc, slot)
 }
 
-// A slot with so many records without data; their identifiers count on from record 0.
-fn with_empty_records(alloc: Global, records: u16) -> Result<Vec<u8>> {
+/// A slot with so many records without data; their identifiers count on from record 0.
+pub(crate) fn with_empty_records(alloc: Global, records: u16) -> Result<Vec<u8>> {
     let mut slot = usual_record(alloc)?;
     for number in 0..records {
         let [high, low] = number.to_be_bytes();

@@ -18,10 +18,10 @@ use anyhow::Result;
 use watched_channels::{Comparison, Failure, Tally, compare_lists, many_disks};
 
 /// How many lists by chance are tried over stores that do not fail.
-const LISTS: u32 = 100;
+const LISTS: u32 = 3_000;
 
 /// How many over stores of which a call fails.
-const FAILING_LISTS: u32 = 100;
+const FAILING_LISTS: u32 = 3_000;
 
 fn main(rt: HostRuntime) -> Result<()> {
     play_random_lists(&rt)?;

@@ -46,7 +46,7 @@ impl Failure {
 }
 
 /// A channel over stores that are watched, and fail as they are told.
-pub type TestChannel<'a> = Channel<WatchedStore<'a>>;
+pub type TestChannel<'a> = Channel<WatchedStore<'a, FailingStore>>;
 
 /// The image of a new volume.
 pub fn new_volume(alloc: Global, model: DriveModel, cylinders: u16) -> Result<MemoryStore> {
@@ -177,7 +177,7 @@ pub fn finish(alloc: Global, channel: TestChannel) -> Result<Left> {
     })
 }
 
-fn content_of(device: u8, image: Image<WatchedStore>) -> Content {
+fn content_of(device: u8, image: Image<WatchedStore<FailingStore>>) -> Content {
     let geometry = image.geometry();
     let WatchedStore { store, watch: _ } = image.into_store();
     Content {

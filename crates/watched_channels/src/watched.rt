@@ -1,8 +1,6 @@
 //! Stores whose calls are counted for a whole channel.
 
-ghost use Rattle.std.specs.Prelude.{◌+◌};
-
-use ckd_image::{FailingStore, ImageStore, StoreFault};
+use ckd_image::{ImageStore, StoreFault};
 use std::cell::Cell;
 
 /// How many reads and writes the stores of a channel were asked for, and how many of them failed.
@@ -40,15 +38,15 @@ impl Watch {
 
 /// A store whose calls are counted together with those of others.
 #[derive(Drop)]
-pub struct WatchedStore<'a> {
-    pub store: FailingStore,
+pub struct WatchedStore<'a, S: ImageStore> {
+    pub store: S,
     pub watch: &'a Watch,
 }
 
-impl ImageStore for WatchedStore<'_> {
-    ghost content = { λ w. w.store.store.content };
+impl<S: ImageStore> ImageStore for WatchedStore<'_, S> {
+    ghost content = { λ w. S.content w.store };
 
-    ghost failures = { λ w. w.store.store.failures + w.store.made_to_fail };
+    ghost failures = { λ w. S.failures w.store };
 
     fn len(&self) -> u64 {
         self.store.len()
