@@ -4,6 +4,7 @@ use crate::disks::{Disk, Failure, Left, channel_over, finish};
 use crate::history::{History, is_serial};
 use crate::watched::Watch;
 use anyhow::Result;
+use s360_channel::View;
 use s360_deck::{Answer, Event, drive, serial};
 use std::alloc::Global;
 use std::fmt;
@@ -17,6 +18,8 @@ pub enum Comparison {
     NotSerial,
     /// Its answers are others.
     OtherAnswers,
+    /// It leaves another program, or other arms.
+    OtherState,
     /// It leaves another storage.
     OtherStorage,
     /// It leaves other images.
@@ -29,6 +32,7 @@ impl fmt::Display for Comparison {
             Comparison::Same => "the same",
             Comparison::NotSerial => "no serial list",
             Comparison::OtherAnswers => "other answers",
+            Comparison::OtherState => "another state",
             Comparison::OtherStorage => "another storage",
             Comparison::OtherImages => "other images",
         })
@@ -42,18 +46,28 @@ pub fn compare_lists(alloc: Global, disks: &[Disk], events: &[Event]) -> Result<
     let mut channel = channel_over(alloc, &watch, disks, Failure::NONE)?;
     let answers = drive(alloc, &mut channel, events)?;
     let list = serial(alloc, events, answers.as_slice())?;
-    let left = finish(alloc, channel)?;
-    compare_with_serial(alloc, disks, answers.as_slice(), list.as_slice(), &left)
+    let came = Came {
+        answers,
+        view: channel.state(),
+        left: finish(alloc, channel)?,
+    };
+    compare_with_serial(alloc, disks, list.as_slice(), &came)
 }
 
-// Drives a fresh channel over these disks through a serial list, and compares it with the answers that were given to the list
-// itself, and with what that has left.
+// What a list came to: its answers, what the channel showed behind it, and what it left.
+#[derive(Drop)]
+struct Came {
+    answers: Vec<Answer>,
+    view: View,
+    left: Left,
+}
+
+// Drives a fresh channel over these disks through a serial list, and compares it with what the list itself came to.
 fn compare_with_serial(
     alloc: Global,
     disks: &[Disk],
-    answers: &[Answer],
     list: &[Event],
-    left: &Left,
+    came: &Came,
 ) -> Result<Comparison> {
     let watch = Watch::new();
     let mut channel = channel_over(alloc, &watch, disks, Failure::NONE)?;
@@ -61,10 +75,13 @@ fn compare_with_serial(
     if !is_serial(list, again.as_slice()) {
         return Ok(Comparison::NotSerial);
     }
-    if History::of(alloc, answers)? != History::of(alloc, again.as_slice())? {
+    if History::of(alloc, came.answers.as_slice())? != History::of(alloc, again.as_slice())? {
         return Ok(Comparison::OtherAnswers);
     }
-    Ok(what_differs(left, &finish(alloc, channel)?))
+    if channel.state() != came.view {
+        return Ok(Comparison::OtherState);
+    }
+    Ok(what_differs(&came.left, &finish(alloc, channel)?))
 }
 
 fn what_differs(one: &Left, another: &Left) -> Comparison {
