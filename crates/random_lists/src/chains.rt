@@ -59,7 +59,10 @@ pub(crate) fn chain(chance: &mut Chance, at: u32) -> Words {
     if chain.chance.percent(40) {
         chain.write();
     }
-    while chain.words.len() < 96 && chain.chance.percent(75) {
+    for _ in 0..12 {
+        if chain.words.len() >= 96 || !chain.chance.percent(75) {
+            break;
+        }
         chain.phrase();
     }
     let count = chain.near(80);

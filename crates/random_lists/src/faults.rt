@@ -200,16 +200,16 @@ fn count_others(one: &[u8], other: &[u8], size: usize) -> usize {
     let mut others = usize::from(header != other_header);
     let mut slots = slots;
     let mut other_slots = other_slots;
-    while let (Some((slot, rest)), Some((other_slot, other_rest))) = (
-        slots.split_at_checked(size),
-        other_slots.split_at_checked(size),
-    ) {
+    for _ in 0..slots.len() {
+        let (Some((slot, rest)), Some((other_slot, other_rest))) = (
+            slots.split_at_checked(size),
+            other_slots.split_at_checked(size),
+        ) else {
+            break;
+        };
         others = others.saturating_add(usize::from(slot != other_slot));
         slots = rest;
         other_slots = other_rest;
-        if slots.is_empty() {
-            break;
-        }
     }
     others
 }
