@@ -1,0 +1,41 @@
+//! Hostile decks: a good deck, which is the input, with lines cut at every byte; readers that give little, fail or never end; writers
+//! that fail behind every byte; and texts at the limits. For each suite it is printed how many cases were tried, and how many came
+//! out as they must.
+#![tactic(auto)]
+
+mod cuts;
+mod ends;
+mod limits;
+mod stage;
+mod streams;
+mod tally;
+
+use crate::cuts::cut_lines;
+use crate::limits::try_limits;
+use crate::stage::new_file;
+use crate::streams::{fail_reads, fail_writes, read_endlessly, read_in_pieces, write_in_pieces};
+use anyhow::Result;
+use std::io;
+
+fn main(rt: HostRuntime) -> Result<()> {
+    let alloc = rt.alloc();
+    let deck = io::read_to_string(alloc, rt.reader())?;
+    let file = new_file(alloc)?;
+    let file = file.as_slice();
+    let cut = cut_lines(alloc, file, deck.as_str())?;
+    println!(rt;
+        "lines cut at every byte: {}, of which {} are refused",
+        cut.tally, cut.refused
+    )?;
+    let deck = deck.as_bytes();
+    println!(rt; "reads in pieces: {}", read_in_pieces(alloc, file, deck)?)?;
+    println!(rt; "reads failing in turn: {}", fail_reads(alloc, file, deck)?)?;
+    println!(rt; "reads without an end: {}", read_endlessly(alloc, file)?)?;
+    println!(rt; "writes in pieces: {}", write_in_pieces(alloc, file, deck)?)?;
+    println!(rt;
+        "writes failing in turn: {}",
+        fail_writes(alloc, file, deck)?
+    )?;
+    println!(rt; "texts at the limits: {}", try_limits(alloc, file)?)?;
+    Ok(())
+}

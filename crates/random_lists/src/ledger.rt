@@ -1,0 +1,210 @@
+//! What each answer must be by those before it, and what the channel shows: no start while a program runs or its channel end
+//! is owed, and each channel end and device end stored once.
+
+use s360_channel::{SubchannelView, View};
+use s360_deck::{Answer, Event};
+use s360_events::Condition;
+use s360_laws::arm::Arm;
+use s360_words::UnitStatus;
+
+/// How many addresses are watched.
+const WATCHED: usize = 4;
+
+/// These addresses: those of the drives of all lists.
+const ADDRESSES: [u16; WATCHED] = [0x190, 0x191, 0x192, 0x193];
+
+/// What came last for an address.
+#[derive(Clone, Copy, PartialEq, Eq)]
+enum Since {
+    Nothing,
+    Acceptance,
+    Reset,
+}
+
+/// How often the ends of an address were stored since its last accepted program, or the last reset.
+#[derive(Clone, Copy, PartialEq, Eq)]
+struct Entry {
+    since: Since,
+    channel_ends: u8,
+    device_ends: u8,
+}
+
+impl Entry {
+    const NEW: Entry = Entry {
+        since: Since::Nothing,
+        channel_ends: 0,
+        device_ends: 0,
+    };
+
+    fn begun(since: Since) -> Entry {
+        Entry {
+            since,
+            channel_ends: 0,
+            device_ends: 0,
+        }
+    }
+
+    fn store(&mut self, status: UnitStatus) {
+        if status.0 & 0x08 != 0 {
+            self.channel_ends = self.channel_ends.saturating_add(1);
+        }
+        if status.0 & 0x04 != 0 {
+            self.device_ends = self.device_ends.saturating_add(1);
+        }
+    }
+
+    // Whether what was stored and what is owed are together what is due.
+    fn is_balanced(&self, channel_owes: u8, device_owes: u8) -> bool {
+        let due = u8::from(self.since == Since::Acceptance);
+        self.channel_ends.saturating_add(channel_owes) == due
+            && self.device_ends.saturating_add(device_owes) == due
+    }
+}
+
+/// The counts of a list.
+#[derive(Clone, Copy, PartialEq, Eq)]
+pub(crate) struct Ledger {
+    entries: [Entry; WATCHED],
+    /// How many programs were accepted.
+    pub programs: u32,
+}
+
+impl Ledger {
+    pub(crate) fn new() -> Ledger {
+        Ledger {
+            entries: [Entry::NEW; WATCHED],
+            programs: 0,
+        }
+    }
+
+    /// Takes an answer in; whether it may come now.
+    pub(crate) fn takes(&mut self, answer: &Answer) -> bool {
+        if let Answer::Reset(_) = answer {
+            self.entries = [Entry::begun(Since::Reset); WATCHED];
+        }
+        if let Some(address) = accepted(answer) {
+            if !self.may_accept() {
+                return false;
+            }
+            self.programs = self.programs.saturating_add(1);
+            if let Some(entry) = self.entry(address) {
+                *entry = Entry::begun(Since::Acceptance);
+            }
+        }
+        if let Some((address, status)) = stored(answer) {
+            if let Some(entry) = self.entry(address) {
+                entry.store(status);
+            }
+        }
+        true
+    }
+
+    // Whether the channel end of each accepted program is stored.
+    fn may_accept(&self) -> bool {
+        self.entries.iter().all(|entry| entry.since != Since::Acceptance || entry.channel_ends == 1)
+    }
+
+    fn entry(&mut self, address: u16) -> Option<&mut Entry> {
+        let place = ADDRESSES.iter().position(|watched| *watched == address)?;
+        self.entries.get_mut(place)
+    }
+
+    /// Whether what was stored and what the channel shows as owed are together what is due, for each address.
+    pub(crate) fn is_balanced(&self, view: &View) -> bool {
+        self.entries.iter().zip(ADDRESSES.iter()).all(|(entry, address)| {
+            let (channel_owes, device_owes) = owed(view, *address);
+            entry.is_balanced(channel_owes, device_owes)
+        })
+    }
+}
+
+// The address whose program was accepted: it runs, or was over at once.
+fn accepted(answer: &Answer) -> Option<u16> {
+    match answer {
+        Answer::Sio(address, Condition::Zero) => Some(*address),
+        Answer::Sio(address, Condition::Stored(status)) => {
+            (status.unit.0 & 0x18 == 0x08).then_some(*address)
+        }
+        _ => None,
+    }
+}
+
+// The address whose unit status was stored.
+fn stored(answer: &Answer) -> Option<(u16, UnitStatus)> {
+    match answer {
+        Answer::Sio(address, Condition::Stored(status)) => Some((*address, status.unit)),
+        Answer::Tio(address, Condition::Stored(csw)) => Some((*address, csw.unit)),
+        Answer::Interrupt(Some((address, csw))) => Some((*address, csw.unit)),
+        _ => None,
+    }
+}
+
+// How often channel end and device end are owed to an address.
+fn owed(view: &View, address: u16) -> (u8, u8) {
+    let device = (address % 256) as u8;
+    let moves = view.drives.iter().any(|drive| is_moved(drive, device));
+    let by_arm = u8::from(moves);
+    match view.subchannel {
+        SubchannelView::Working(working, _) if working == device => (1, by_arm.saturating_add(1)),
+        SubchannelView::Pending(pending, csw) if pending == device => {
+            let by_channel = u8::from(csw.unit.0 & 0x04 != 0);
+            (1, by_arm.saturating_add(by_channel))
+        }
+        _ => (0, by_arm),
+    }
+}
+
+fn is_moved(drive: &Option<(u8, Arm)>, device: u8) -> bool {
+    match drive {
+        Some((number, arm)) => *number == device && *arm != Arm::AtRest,
+        None => false,
+    }
+}
+
+/// Whether an event may be answered so by a channel 1 that showed this before.
+pub(crate) fn may_answer(before: &View, event: &Event, answer: &Answer) -> bool {
+    match before.subchannel {
+        SubchannelView::Idle => !matches!(answer, Answer::Tch(Condition::Two)),
+        SubchannelView::Working(_, _) => may_answer_working(event, answer),
+        SubchannelView::Pending(device, csw) => match (event, answer) {
+            (Event::Sio(address), Answer::Sio(_, condition)) if *address / 256 == 1 => {
+                *condition == Condition::Two
+            }
+            (Event::Tio(address), Answer::Tio(_, condition)) if *address / 256 == 1 => {
+                if *address % 256 == u16::from(device) {
+                    *condition == Condition::Stored(csw)
+                } else {
+                    *condition == Condition::Two
+                }
+            }
+            (Event::Tch, Answer::Tch(condition)) => *condition == Condition::Stored(()),
+            (Event::Interrupt, Answer::Interrupt(given)) => {
+                *given == Some((u16::from(device).saturating_add(256), csw))
+            }
+            (Event::Hio(address), Answer::Hio(_, condition)) if *address / 256 == 1 => {
+                *condition == Condition::Zero
+            }
+            _ => true,
+        },
+    }
+}
+
+// While a program runs.
+fn may_answer_working(event: &Event, answer: &Answer) -> bool {
+    match (event, answer) {
+        (Event::Sio(address), Answer::Sio(_, condition)) => *condition == busy_or_none(*address),
+        (Event::Tio(address), Answer::Tio(_, condition)) => *condition == busy_or_none(*address),
+        (Event::Hio(address), Answer::Hio(_, condition)) => *condition == busy_or_none(*address),
+        (Event::Tch, Answer::Tch(condition)) => *condition == Condition::Two,
+        _ => true,
+    }
+}
+
+// 2 at the channel, 3 at another one.
+fn busy_or_none<T>(address: u16) -> Condition<T> {
+    if address / 256 == 1 {
+        Condition::Two
+    } else {
+        Condition::Three
+    }
+}

@@ -1,0 +1,97 @@
+//! Lists of events by chance at a channel with one to four drives. Each is compared with its serial list at a fresh channel; its answers are
+//! looked at one by one, whether they may come; and in as many other lists a call of a store fails, which must be told. It is
+//! printed how many lists were tried, and how many came out as they must.
+#![tactic(auto)]
+
+mod chains;
+mod chance;
+mod faults;
+mod ledger;
+mod lists;
+mod watching;
+
+use crate::chance::Chance;
+use crate::faults::{Ending, fail_list};
+use crate::lists::random_list;
+use crate::watching::watch_list;
+use anyhow::Result;
+use watched_channels::{Comparison, Failure, Tally, compare_lists, many_disks};
+
+/// How many lists by chance are tried over stores that do not fail.
+const LISTS: u32 = 3_000;
+
+/// How many over stores of which a call fails.
+const FAILING_LISTS: u32 = 3_000;
+
+fn main(rt: HostRuntime) -> Result<()> {
+    play_random_lists(&rt)?;
+    play_failing_lists(&rt)
+}
+
+// Lists by chance over stores that do not fail.
+fn play_random_lists(rt: &HostRuntime) -> Result<()> {
+    let alloc = rt.alloc();
+    let mut serial = Tally::NONE;
+    let mut watched = Tally::NONE;
+    let mut programs: u32 = 0;
+    for number in 0..LISTS {
+        let mut chance = Chance::new(u64::from(number));
+        let drives = chance.below(4).saturating_add(1);
+        let disks = many_disks(alloc, drives)?;
+        let list = random_list(alloc, &mut chance, drives)?;
+        let comparison = compare_lists(alloc, disks.as_slice(), list.as_slice())?;
+        serial = serial.and(comparison == Comparison::Same);
+        if comparison != Comparison::Same {
+            println!(rt; "list {number}: {comparison}")?;
+        }
+        match watch_list(alloc, disks.as_slice(), list.as_slice())? {
+            Ok(accepted) => {
+                watched = watched.and(true);
+                programs = programs.saturating_add(accepted);
+            }
+            Err(breach) => {
+                watched = watched.and(false);
+                println!(rt; "list {number}: {breach}")?;
+            }
+        }
+    }
+    println!(rt; "lists by chance: {serial} as their serial lists")?;
+    println!(rt;
+        "lists by chance, with {programs} programs: {watched} with answers that may come"
+    )?;
+    Ok(())
+}
+
+// Lists by chance over stores of which a call fails.
+fn play_failing_lists(rt: &HostRuntime) -> Result<()> {
+    let alloc = rt.alloc();
+    let mut told = Tally::NONE;
+    let mut no_call: u32 = 0;
+    for number in 0..FAILING_LISTS {
+        let mut chance = Chance::new(u64::from(number).saturating_add(1_000_000));
+        let drives = chance.below(4).saturating_add(1);
+        let disks = many_disks(alloc, drives)?;
+        let list = random_list(alloc, &mut chance, drives)?;
+        let failure = random_failure(&mut chance, drives);
+        match fail_list(alloc, disks.as_slice(), list.as_slice(), failure)? {
+            Ending::NoCall => no_call = no_call.saturating_add(1),
+            Ending::Told => told = told.and(true),
+            ending => {
+                told = told.and(false);
+                println!(rt; "list {number} with a fault: {ending}")?;
+            }
+        }
+    }
+    println!(rt; "lists by chance with a fault: {told} told; {no_call} met none")?;
+    Ok(())
+}
+
+// A call of a drive's store; the first one is that of the mount.
+fn random_failure(chance: &mut Chance, drives: u32) -> Failure {
+    let device = chance.below(drives).min(255) as u8;
+    Failure {
+        device: device.saturating_add(0x90),
+        at: chance.below(3).saturating_add(2),
+        for_good: chance.percent(50),
+    }
+}

@@ -1,0 +1,16 @@
+//! For tests: channels over disks in memory whose stores are watched and fail as they are told, and lists of events that are compared with
+//! their serial lists.
+#![tactic(auto)]
+
+mod disks;
+mod history;
+mod replays;
+mod tally;
+mod volumes;
+mod watched;
+
+pub use crate::disks::{Content, Disk, Failure, Left, TestChannel, channel_over, finish};
+pub use crate::replays::{Comparison, compare_lists};
+pub use crate::tally::Tally;
+pub use crate::volumes::{many_disks, worked_disks};
+pub use crate::watched::{Watch, WatchedStore};

@@ -1,0 +1,36 @@
+//! Counts of what was tried.
+
+use std::fmt;
+
+/// How many lists were tried, and how many came out as they must.
+#[derive(Clone, Copy)]
+pub struct Tally {
+    pub tried: u32,
+    pub right: u32,
+}
+
+impl Tally {
+    pub const NONE: Tally = Tally { tried: 0, right: 0 };
+
+    /// One more.
+    pub fn and(self, right: bool) -> Tally {
+        Tally {
+            tried: self.tried.saturating_add(1),
+            right: self.right.saturating_add(u32::from(right)),
+        }
+    }
+
+    /// Those of both.
+    pub fn with(self, other: Tally) -> Tally {
+        Tally {
+            tried: self.tried.saturating_add(other.tried),
+            right: self.right.saturating_add(other.right),
+        }
+    }
+}
+
+impl fmt::Display for Tally {
+    fn fmt<W: fmt::Write>(&self, f: &mut fmt::Formatter<W>) -> fmt::Result {
+        write!(f, "{} of {}", self.right, self.tried)
+    }
+}
