@@ -26,7 +26,7 @@
 //! | `! read fault` | what is told of a refusal |
 //! | `sense 190 100000000000` | a Sense starts, runs to its end, and gives these bytes |
 //! | `holds 600 C1*80` | what storage holds in the end |
-//! | `left 90 0 29 D7*30` | what a track of the volume has from a place of its slot on; all else is as it was |
+//! | `left 90 0 29 E7*30` | what a track of the volume has from a place of its slot on; all else is as it was |
 //! | `calls 90 3`, `reads 90 2 512 4096` | how often the store was called in all; or read or written, and where and how much at last |
 //! | `unsaved 190 0000 0000` | a track that the last reset can not save |
 //! | `serial` | behind it stands a deck; `=` its serial list, and `~` the answers to that |

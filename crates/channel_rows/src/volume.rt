@@ -49,7 +49,7 @@ impl<'a> Volumes<'a> {
         Ok(self.named(name)?.store.bytes())
     }
 
-    /// The volume with this name, as a row leaves it at a drive by its lines such as `left 90 0 21 D7*80`.
+    /// The volume with this name, as a row leaves it at a drive by its lines such as `left 90 0 21 E7*80`.
     pub(crate) fn left(
         &self,
         alloc: Global,
