@@ -8,7 +8,7 @@ use crate::volumes::{HEADER_LENGTH, file_with};
 use anyhow::{Result, bail};
 use ckd_image::{Image, MemoryStore};
 use ckd_track::read_slot;
-use dasd_volumes::check;
+use dasd_volumes::{Progress, Stage, check};
 use std::alloc::Global;
 
 /// What was tried over slots.
@@ -93,11 +93,21 @@ fn leaves_written(
     Ok(right && machine.into_store()?.bytes() == wanted.as_slice())
 }
 
+// A line at which nobody looks.
+#[derive(Clone, Copy)]
+struct Unseen;
+
+impl Progress for Unseen {
+    fn show(&mut self, _stage: Stage) {}
+
+    fn clear(&mut self) {}
+}
+
 // Whether a check of the volume tells the first track's fault, and no other.
 fn is_checked(alloc: Global, file: &[u8], spelled: &Spelled) -> Result<bool> {
     let mut image = mounted(alloc, file)?;
     let mut printed = Vec::new(alloc);
-    let findings = check(alloc, &mut image, &mut printed)?;
+    let findings = check(alloc, &mut image, &mut printed, &mut Unseen)?;
     let (wanted, text) = match spelled.fault {
         Some(fault) => (1, format!(in alloc; "0000 0000 {fault}\n1 findings\n")?),
         None => (0, format!(in alloc; "0 findings\n")?),
