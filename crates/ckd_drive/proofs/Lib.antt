@@ -1,4 +1,3 @@
-pub mod Walks
 pub mod Sights
 pub mod Beginnings
 pub mod Standing

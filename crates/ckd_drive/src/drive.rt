@@ -12,7 +12,6 @@ ghost use Rattle.ckd_drive.specs.Work.{DriveState, Over, CallsStore, Reports, fa
 use crate::answers::{Begun, Look, Phase};
 use crate::places::{Place, Progress, Stage};
 use crate::stages::UNIT_CHECK;
-use crate::trace::Trace;
 use crate::{leaving, looking, placing, stages, starting, taking};
 use ckd_cache::TrackCache;
 use ckd_command::registers::{Mark, Registers};
@@ -20,6 +19,7 @@ use ckd_command::steps::DriveEnding;
 use ckd_command::{beginning, tables};
 use ckd_image::{Image, ImageStore, StoreFault};
 use ckd_sense::Sense;
+use ghost_data::Trace;
 use std::alloc::{AllocError, Global};
 use std::marker::Model;
 

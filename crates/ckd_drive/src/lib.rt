@@ -12,4 +12,3 @@ mod placing;
 mod stages;
 mod starting;
 mod taking;
-mod trace;

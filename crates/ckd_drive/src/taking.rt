@@ -6,13 +6,13 @@ ghost use Rattle.ckd_drive.specs.Half.{Works, MayTake, Absorbs};
 
 use crate::places::{Place, Progress, Whole};
 use crate::placing;
-use crate::trace::Trace;
 use ckd_cache::{TrackCache, Window};
 use ckd_command::registers::Registers;
 use ckd_command::steps::Outcome;
 use ckd_command::{closing, tables};
 use ckd_image::ImageStore;
 use ckd_position::{Area, Extent, Part};
+use ghost_data::Trace;
 use std::cmp::Ordering;
 
 // A search compares the bytes.
