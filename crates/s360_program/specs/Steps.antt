@@ -13,7 +13,7 @@ use Rattle.ckd_command.specs.Drive.{State, Open, Closed, Fault, LoadFails, SaveF
 use Rattle.ckd_command.specs.Tables.{action_of, is_giving}
 use Rattle.ckd_drive.specs.Work.{DriveState, Work, Passing, passed_of, moved_on, closed_of, look_loads}
 use Rattle.s360_runs.specs.Commands.{Point}
-use Rattle.s360_runs.specs.Endings.{Ending}
+use Rattle.s360_runs.specs.Endings.{Ending, csw_at}
 use Rattle.s360_runs.specs.Laws.{MayPass}
 use Rattle.s360_runs.specs.Places.{Place}
 use Rattle.s360_runs.specs.Scripts.{units}
@@ -28,6 +28,7 @@ use Rattle.s360_program.specs.declared.conditions.Condition.{Condition}
 use Rattle.s360_program.specs.declared.conditions.Condition.TheVariants as condition
 use Rattle.s360_program.specs.declared.moving.Flow.{Flow}
 use Rattle.s360_program.specs.declared.program.Advance.{Advance}
+use Rattle.s360_program.specs.declared.stages.Ended.{Ended}
 use Rattle.s360_program.specs.declared.stages.Run.{Run}
 use Rattle.s360_program.specs.declared.stages.Stage.{Stage}
 use Rattle.s360_program.specs.declared.stages.Stage.TheVariants as stage
@@ -99,9 +100,13 @@ pub record EndsBy (next : Option Fault → Next) (told : Csw × Bool) (s : Stora
   pub is_ending : IsEnding ending told new
   pub told_of : ToldOf fault told.0 old new
 
+-- what is told of a program that ended: its key, and where the channel is in it, are the run's
+abbrev pub told_of : Run → Ended → Csw × Bool
+told_of r e = (record (csw_at r.key (place_of r.place) e.unit e.channel) { count = e.count }, e.motion)
+
 abbrev pub ComesBy : (key : ℕ) → (Option Fault → Next) → Step → Run → Storage → (old new : DriveState) → Type 0
 ComesBy key next (step.Units n) r s old new = (n ≡ 1) × GoesBy key (next None) r s old new
-ComesBy key next (step.Over told) r s old new = EndsBy next told s old new
+ComesBy key next (step.Over e) r s old new = EndsBy next (told_of r e) s old new
 
 -- so many units, and no more than were asked for
 pub record WalksBy (key : ℕ) (phase : ProgramPhase) (most n : ℕ) (r : Run) (s : Storage) (old new : DriveState) : Type 0 where
@@ -116,7 +121,7 @@ pub record WalksBy (key : ℕ) (phase : ProgramPhase) (most n : ℕ) (r : Run) (
 -- units, or the one that ends the program
 abbrev pub Steps : (key : ℕ) → ProgramPhase → (most : ℕ) → Step → Run → Storage → (old new : DriveState) → Type 0
 Steps key phase most (step.Units n) r s old new = WalksBy key phase most n r s old new
-Steps key phase most (step.Over told) r s old new = EndsBy (λ f. unit f key phase) told s old new
+Steps key phase most (step.Over e) r s old new = EndsBy (λ f. unit f key phase) (told_of r e) s old new
 
 -- The parts of a unit.
 

@@ -6,10 +6,10 @@ ghost use Rattle.s360_runs.specs.Endings.{ending as ending_with};
 ghost use Rattle.ckd_drive.specs.Work.{passed_of, fault_met, CallsStore, Reports};
 ghost use Rattle.s360_program.specs.Advances.{IsEnding};
 ghost use Rattle.s360_program.specs.Places.{place_of};
-ghost use Rattle.s360_program.specs.Steps.{status_of, closed_with};
+ghost use Rattle.s360_program.specs.Steps.{status_of, closed_with, told_of};
 
 use crate::conditions::{Condition, csw_at, with_interruption};
-use crate::stages::Run;
+use crate::stages::{Ended, Run};
 use ckd_command::steps::DriveEnding;
 use ckd_drive::drive::Drive;
 use ckd_image::ImageStore;
@@ -27,16 +27,17 @@ pub const FAILED: DriveEnding = DriveEnding {
     motion: false,
 };
 
-/// Ends a program whose last command ended so: the drive saves the track that was written, and the channel status word tells.
+/// Ends a program whose last command ended so: the drive saves the track that was written.
+#[inline(always)]
 pub fn end_program<S: ImageStore>(
     run: &Run,
     ending: DriveEnding,
     condition: Condition,
     drive: &mut Drive<S>,
-) -> (Csw, bool)
+) -> Ended
     requires passed { passed_of drive.old.work ≡ [] }
     requires last { run.now.place.last ≤ 2 ^ 24 + 8 }
-    ensures ending { IsEnding (ending_with (fault_met drive.old drive.new) run.now.key (place_of run.now.place) (closed_with drive.old.state ending) (status_of condition)) result drive.new }
+    ensures ending { IsEnding (ending_with (fault_met drive.old drive.new) run.now.key (place_of run.now.place) (closed_with drive.old.state ending) (status_of condition)) (told_of run.now result) drive.new }
     ensures calls { CallsStore false (is_written drive.old.state) drive.old drive.new }
     ensures reported { Reports (unsaved drive.new.state ≡ Some (drive.old.state.registers.cylinder, drive.old.state.registers.head)) drive.old drive.new }
 {
@@ -45,5 +46,23 @@ pub fn end_program<S: ImageStore>(
         Err(_) => UnitStatus(ending.unit.0 | UnitStatus::UNIT_CHECK.0),
     };
     let channel = with_interruption(run.place.interruption, condition.beside(unit));
-    (csw_at(run.key, &run.place, unit, channel), ending.motion)
+    Ended {
+        count: run.place.residual,
+        unit,
+        channel,
+        motion: ending.motion,
+    }
+}
+
+/// The channel status word of a program that ended so, where it stands, and whether the arm still moves.
+#[inline(always)]
+pub fn told(run: &Run, ended: Ended) -> (Csw, bool)
+    requires last { run.now.place.last ≤ 2 ^ 24 + 8 }
+    ensures { result ≡ told_of run.now ended }
+{
+    let csw = Csw {
+        count: ended.count,
+        ..csw_at(run.key, &run.place, ended.unit, ended.channel)
+    };
+    (csw, ended.motion)
 }

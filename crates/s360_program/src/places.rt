@@ -92,7 +92,9 @@ impl Place {
         self.next += 8;
         self.may_transfer = true;
         self.residual = ccw.count;
-        self.interruption = self.interruption || ccw.interrupts();
+        if ccw.interrupts() {
+            self.interruption = true;
+        }
     }
 
     /// Goes to where a transfer in channel leads.

@@ -1,7 +1,7 @@
 //! What a running program keeps, and what units of it come to.
 
 use crate::places::Place;
-use s360_words::{Ccw, Csw};
+use s360_words::{Ccw, ChannelStatus, UnitStatus};
 
 /// What comes next.
 #[derive(Clone, Copy, Debug, PartialEq, Eq)]
@@ -25,11 +25,24 @@ pub struct Run {
     pub stage: Stage,
 }
 
+/// What a program's end tells beside where the channel is in it. It is small, since each unit's outcome has room for it.
+#[derive(Clone, Copy, Debug, PartialEq, Eq)]
+pub struct Ended {
+    /// The count that is left.
+    pub count: u16,
+    /// The unit status.
+    pub unit: UnitStatus,
+    /// The channel status.
+    pub channel: ChannelStatus,
+    /// Whether the arm still moves.
+    pub motion: bool,
+}
+
 /// What units came to.
 #[derive(Clone, Copy, Debug, PartialEq, Eq)]
 pub enum Step {
     /// So many were done, and the program goes on.
     Units(u16),
-    /// One was done, and the program is over with this channel status word; and whether the arm still moves.
-    Over((Csw, bool)),
+    /// One was done, and the program is over.
+    Over(Ended),
 }

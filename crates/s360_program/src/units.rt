@@ -14,7 +14,7 @@ ghost use Rattle.s360_program.specs.Stands.{phase_in, Within};
 ghost use Rattle.s360_program.specs.Steps.{run_of, Fits, IsQuiet, ComesBy, EndsBy, Steps, has_passed, goes_on, point_at, request_at, status_of, condition_for, differs, needs_area as wants_area};
 
 use crate::conditions::{Condition, chains};
-use crate::endings::{FAILED, UNTOUCHED, end_program};
+use crate::endings::{FAILED, UNTOUCHED, end_program, told};
 use crate::moving::{flow_of, pass};
 use crate::places::Fetched;
 use crate::program::Advance;
@@ -40,19 +40,22 @@ impl Run {
         ensures tells { TellsOf result.ending drive.old drive.new }
         ensures quiet { NeedNoStore self.old.key (phase_in (run_of self.old) storage.old drive.old) result.done → drive.new.image ≡ drive.old.image }
     {
-        let mut done = 0;
-        while done < units {
-            match self.step(units - done, storage, drive) {
-                Step::Units(n) => done += n,
-                Step::Over(ending) => {
+        let mut left = units;
+        while left > 0 {
+            match self.step(left, storage, drive) {
+                Step::Units(n) => left -= n,
+                Step::Over(ended) => {
                     return Advance {
-                        done: done + 1,
-                        ending: Some(ending),
+                        done: units - left + 1,
+                        ending: Some(told(self, ended)),
                     };
                 }
             }
         }
-        Advance { done, ending: None }
+        Advance {
+            done: units - left,
+            ending: None,
+        }
     }
 
     /// Cuts the program: the open command is closed by the bytes that have passed, where any have.
@@ -63,10 +66,12 @@ impl Run {
         ensures lost { (drive.new.image.failures ≡ drive.old.image.failures) ⊎ (is_some (unsaved drive.new.state) ≡ true) }
     {
         if !has_passed(drive) {
-            return end_program(self, UNTOUCHED, Condition::Clear, drive);
+            let ended = end_program(self, UNTOUCHED, Condition::Clear, drive);
+            return told(self, ended);
         }
         let ending = drive.end();
-        end_program(self, ending, Condition::Clear, drive)
+        let ended = end_program(self, ending, Condition::Clear, drive);
+        told(self, ended)
     }
 
     /// Does one unit, or more where bytes pass together, and at most as many as are asked for.
@@ -214,15 +219,16 @@ impl Run {
         ensures calls { CallsAtMost 1 drive.old drive.new }
         ensures quiet { IsQuiet drive.old → drive.new.image ≡ drive.old.image }
     {
-        if needs_area(self.place.residual, ccw) {
-            return self.next_area(storage, drive);
+        let residual = self.place.residual;
+        if residual == 0 {
+            return self.spend(ccw, address, storage, drive);
         }
         let flow = flow_of(drive);
-        if is_spent(self.place.residual, flow.left) {
-            let incorrect = is_incorrect(ccw, self.place.residual, flow.left);
+        if flow.left == 0 {
+            let incorrect = is_incorrect(ccw, residual, 0);
             return self.conclude(ccw, incorrect, storage, drive);
         }
-        let most = least(most, self.place.residual, flow.left);
+        let most = least(most, residual, flow.left);
         match pass(flow.gives, self.key, ccw, address, most, storage, drive) {
             Ok(m) => {
                 self.place.residual -= m;
@@ -231,6 +237,31 @@ impl Run {
             }
             Err(condition) => self.stop(condition, storage, drive),
         }
+    }
+
+    // The count is spent: the next word has a further area, or the command ends.
+    #[inline(always)]
+    fn spend<S: ImageStore>(
+        &mut self,
+        ccw: Ccw,
+        _address: u32,
+        storage: &Storage,
+        drive: &mut Drive<S>,
+    ) -> Step
+        requires fits { Fits self.old drive.old }
+        requires stage { self.old.stage ≡ Stage.Moving ccw _address }
+        requires residual { self.old.place.residual ≡ 0 }
+        ensures comes { ComesBy self.old.key (λ f. unit f self.old.key (phase_in (run_of self.old) storage.now drive.old)) result self.new storage.now drive.old drive.new }
+        ensures loads { drive.new.image.loads ≡ drive.old.image.loads }
+        ensures calls { CallsAtMost 1 drive.old drive.new }
+        ensures quiet { IsQuiet drive.old → drive.new.image ≡ drive.old.image }
+    {
+        if ccw.chains_data() {
+            return self.next_area(storage, drive);
+        }
+        let flow = flow_of(drive);
+        let incorrect = is_incorrect(ccw, 0, flow.left);
+        self.conclude(ccw, incorrect, storage, drive)
     }
 
     // The fetch of a word that has a further area of the command that works.
@@ -268,20 +299,6 @@ fn has_passed<S: ImageStore>(drive: &Drive<S>) -> bool
         Phase::Gives { passed, left: _ } | Phase::Takes { passed, left: _ } => passed > 0,
         Phase::Idle | Phase::Over | Phase::Looking => false,
     }
-}
-
-// Whether the next word has a further area of the same command.
-fn needs_area(residual: u16, ccw: Ccw) -> bool
-    ensures { result ≡ (residual == 0 && chains_data ccw) }
-{
-    residual == 0 && ccw.chains_data()
-}
-
-// Whether no more byte passes.
-fn is_spent(residual: u16, left: usize) -> bool
-    ensures { result ≡ (residual == 0 || left == 0) }
-{
-    residual == 0 || left == 0
 }
 
 // Whether the count and the bytes that are left differ, and the word does not suppress telling it.

@@ -8,18 +8,18 @@ use Rattle.s360_program.specs.Stands.{phase_in}
 use Rattle.s360_program.specs.Steps.{run_of, Fits}
 use Rattle.s360_program.proofs.stages.Run.advance.Given as goal
 
-abbrev pub invariant-loop-done : goal.invariant-loop-done
-invariant-loop-done g l = record {
-  within : l.done ≤ l.units;
+abbrev pub invariant-loop-left : goal.invariant-loop-left
+invariant-loop-left g l = record {
+  within : l.left ≤ l.units;
   failures : l.drive.image.failures ≡ l.fn.drive.image.failures;
   key : l.self.key ≡ l.fn.self.key;
   fits : Fits l.self l.drive;
   no_check : GainsNoCheck (drive_of l.fn.drive.state) (drive_of l.drive.state);
   storage : KeepsStorage l.fn.storage l.storage;
-  calls : CallsAtMost (2 * l.done) l.fn.drive l.drive;
-  walked : walk (units l.done) l.fn.self.key (phase_in (run_of l.fn.self) l.fn.storage l.fn.drive) ≡ StandsIn (phase_in (run_of l.self) l.storage l.drive);
-  quiet : NeedNoStore l.fn.self.key (phase_in (run_of l.fn.self) l.fn.storage l.fn.drive) l.done → l.drive.image ≡ l.fn.drive.image;
+  calls : CallsAtMost (2 * (l.units - l.left)) l.fn.drive l.drive;
+  walked : walk (units (l.units - l.left)) l.fn.self.key (phase_in (run_of l.fn.self) l.fn.storage l.fn.drive) ≡ StandsIn (phase_in (run_of l.self) l.storage l.drive);
+  quiet : NeedNoStore l.fn.self.key (phase_in (run_of l.fn.self) l.fn.storage l.fn.drive) (l.units - l.left) → l.drive.image ≡ l.fn.drive.image;
 }
 
-abbrev pub decreases-loop-done : goal.decreases-loop-done
-decreases-loop-done g l = l.units - l.done
+abbrev pub decreases-loop-left : goal.decreases-loop-left
+decreases-loop-left g l = l.left

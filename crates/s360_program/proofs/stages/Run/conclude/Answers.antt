@@ -10,7 +10,7 @@ returns-then-not-chains-clause-comes g c =
     let e = c.end-ending in
     let k = c.of_length-condition in
     let p = c.end_program in
-    concludes a.self.now.key (place_of a.self.now.place) k.result a._storage.now p.result _ a.drive.now e.new.self p.new.drive e.result c.requires.saved
+    concludes a.self.now.key (place_of a.self.now.place) k.result a._storage.now _ _ a.drive.now e.new.self p.new.drive e.result c.requires.saved
     e.ensures.state e.ensures.ending e.ensures.calls e.ensures.reported p.ensures.calls p.ensures.reported p.ensures.ending
     a.ccw a.incorrect k.ensures (sym c.chains.ensures ∙ c.if-not-chains.true)
 

@@ -7,7 +7,7 @@ returns-in-Failed-clause-steps g c =
     let a = c.args in
     let l = c.in-Failed.ensures in
     let p = c.end_program in
-    look_fails a.ccw a.self.now a.storage.now a.drive.now c.look.new.self c.requires.fits c.requires.stage l.state p.result _ p.new.drive l.answer l.calls l.reported p.ensures.calls p.ensures.reported p.ensures.ending
+    look_fails a.ccw a.self.now a.storage.now a.drive.now c.look.new.self c.requires.fits c.requires.stage l.state _ _ p.new.drive l.answer l.calls l.reported p.ensures.calls p.ensures.reported p.ensures.ending
 
 pub returns-in-Passed-clause-steps : goal.returns-in-Passed-clause-steps
 returns-in-Passed-clause-steps g c =

@@ -7,7 +7,7 @@ pub returns-in-NoCcw-clause-comes : goal.returns-in-NoCcw-clause-comes
 returns-in-NoCcw-clause-comes g c =
     let a = c.args in
     let p = c.end_program in
-    misses a.self.now.key (place_of a.self.now.place) (place_of c.miss.new.self) a.storage.now p.result _ a.drive.now p.new.drive c.in-NoCcw.ensures.fetched c.requires.fits.stands.saved
+    misses a.self.now.key (place_of a.self.now.place) (place_of c.miss.new.self) a.storage.now _ _ a.drive.now p.new.drive c.in-NoCcw.ensures.fetched c.requires.fits.stands.saved
     p.ensures.calls p.ensures.reported c.miss.ensures p.ensures.ending
 
 pub returns-in-Rejected-clause-comes : goal.returns-in-Rejected-clause-comes
@@ -16,7 +16,7 @@ returns-in-Rejected-clause-comes g c =
     let b = c.in-Rejected.ensures in
     let p = c.end_program-in-Rejected in
     rejects a.self.now.key (place_of a.self.now.place) a.storage.now c.in-GoodCcw.ccw a.drive.now c.begin.new.self c.in-GoodCcw.ensures.fetched c.requires.fits.stands.saved b.state
-    p.result _ p.new.drive b.answer b.calls b.reported p.ensures.calls p.ensures.reported (place_of c.pass.new.self) c.pass.ensures p.ensures.ending
+    _ _ p.new.drive b.answer b.calls b.reported p.ensures.calls p.ensures.reported (place_of c.pass.new.self) c.pass.ensures p.ensures.ending
 
 pub returns-in-Immediate-clause-comes : goal.returns-in-Immediate-clause-comes
 returns-in-Immediate-clause-comes g c =

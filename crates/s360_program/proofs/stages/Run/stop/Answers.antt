@@ -7,5 +7,5 @@ returns-clause-comes g c =
     let a = c.args in
     let e = c.end-ending in
     let p = c.end_program in
-    stops a.self.now.key (place_of a.self.now.place) a.condition a._storage.now p.result _ a.drive.now e.new.self p.new.drive e.result c.requires.saved
+    stops a.self.now.key (place_of a.self.now.place) a.condition a._storage.now _ _ a.drive.now e.new.self p.new.drive e.result c.requires.saved
     e.ensures.state e.ensures.ending e.ensures.calls e.ensures.reported p.ensures.calls p.ensures.reported p.ensures.ending

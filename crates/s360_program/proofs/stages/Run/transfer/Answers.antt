@@ -10,22 +10,6 @@ use Rattle.s360_program.specs.declared.stages.Stage.TheVariants as stage
 use Rattle.s360_program.proofs.Transferring.{completes, checks, passes_on, unit_comes, unit_steps}
 use Rattle.s360_program.proofs.stages.Run.transfer.Goals as goal
 
-pub returns-then-is_spent-clause-steps : goal.returns-then-is_spent-clause-steps
-returns-then-is_spent-clause-steps g c =
-    let a = c.args in
-    let r = a.self.now in
-    let d0 = a.drive.now in
-    let f = c.flow_of-flow in
-    let e = c.conclude in
-    let i = c.is_incorrect-incorrect in
-    subst (λ g. Steps r.key (phase_by g (place_of r.place) a.storage.now d0.state d0.work) a.most e.result e.new.self a.storage.now d0 e.new.drive) (sym c.requires.stage)
-    (unit_steps r.key (phase_by (stage.Moving a.ccw a.address) (place_of r.place) a.storage.now d0.state d0.work) a.most e.new.self a.storage.now e.result d0 e.new.drive c.requires.some
-    (unit_comes (λ x. unit x r.key (phase_by (stage.Moving a.ccw a.address) (place_of r.place) a.storage.now d0.state d0.work))
-    (λ x. next_chosen (choice x r.key (record { storage = a.storage.now; ccw = a.ccw; place = place_of r.place }) (closed_of x f.new.drive f.new.drive.work) (status_of (condition_for i.result (closed_of x f.new.drive f.new.drive.work).unit))))
-    r.key a.storage.now e.new.self e.result d0 f.new.drive e.new.drive
-    (λ x. completes r.key a.ccw a.address (place_of r.place) a.storage.now d0 f.new.drive f.result x i.result f.ensures (sym c.needs_area.ensures ∙ c.if-needs_area.false) (sym c.is_spent.ensures ∙ c.if-is_spent.true) i.ensures)
-    (ap (λ (d : DriveState). d.image) f.ensures.drive) (ap (λ (d : DriveState). d.state) f.ensures.drive) e.ensures.loads e.ensures.comes))
-
 pub returns-in-Ok-clause-steps : goal.returns-in-Ok-clause-steps
 returns-in-Ok-clause-steps g c =
     let a = c.args in
