@@ -18,7 +18,7 @@ use Rattle.s360_runs.specs.Units as phase
 use Rattle.s360_program.specs.Advances.{IsEnding}
 use Rattle.s360_program.specs.Places.{place_of}
 use Rattle.s360_program.specs.Stands.{StageFits, StageWithin, phase_by, phase_in}
-use Rattle.s360_program.specs.Steps.{run_of, Fits, EndsBy, Steps, WalksBy}
+use Rattle.s360_program.specs.Steps.{run_of, Fits, EndsBy, Steps, WalksBy, told_of}
 use Rattle.s360_program.specs.declared.conditions.Condition.TheVariants as condition
 use Rattle.s360_program.specs.declared.stages.Run.{Run}
 use Rattle.s360_program.specs.declared.stages.Stage.TheVariants as stage
@@ -194,7 +194,7 @@ module _ (ccw : Ccw) (r : Run) (s : Storage) (d0 d1 : DriveState) (fits : Fits r
         walks : (n : ℕ) → 0 < n → walk (units n) r.key (phase_in (run_of r) s d0) ≡ walk (units n) r.key (phase_by (stage.Moving ccw ccw.address) (place_of r.place) s d1.state d1.work)
         walks zero h = absurd (omega arith)
         walks (suc n) h = ap (λ x. on_next (units n) x (walk (units n) r.key)) (moves None ready_none)
-    look_finds most r2 s2 (step.Over told) d2 loads is =
+    look_finds most r2 s2 (step.Over ended) d2 loads is =
         more_after (λ f. look f O ≡ Ready (record { opened = ready.0; state = d1.state })) (λ f. unit f r.key (phase_in (run_of r) s d0))
-        (λ f. unit f r.key (phase_by (stage.Moving ccw ccw.address) (place_of r.place) s d1.state d1.work)) s2 told d0 d1 d2
+        (λ f. unit f r.key (phase_by (stage.Moving ccw ccw.address) (place_of r.place) s d1.state d1.work)) s2 (told_of r2 ended) d0 d1 d2
         moves ready_none (λ left rose. look_stable left O (Ready (record { opened = ready.0; state = d1.state })) ready_none tt) ready_same loads ready_calm.quiet is

@@ -21,7 +21,7 @@ use Rattle.s360_runs.specs.Units.{Next, EndsIn}
 use Rattle.s360_runs.specs.Unsaved.{GainsNoCheck}
 use Rattle.ckd_drive.specs.Work.{DriveState, fault_met, CallsStore, Reports}
 use Rattle.s360_program.specs.Advances.{IsEnding, TellsFault, CallsAtMost}
-use Rattle.s360_program.specs.Steps.{IsMetBy, ToldOf, EndsBy, ComesBy, status_of}
+use Rattle.s360_program.specs.Steps.{IsMetBy, ToldOf, EndsBy, ComesBy, told_of, status_of}
 use Rattle.s360_program.specs.declared.conditions.Condition.{Condition}
 use Rattle.s360_program.specs.declared.conditions.Condition.TheVariants as condition
 use Rattle.s360_program.specs.declared.stages.Run.{Run}
@@ -277,8 +277,8 @@ pub comes_after : (At : Option Fault → Type 0) (next later : Option Fault → 
 comes_after At next later key s r (step.Units n) d0 d1 d2 e at stable same loads quiet is =
     let w = is.1 in
     (is.0, record { failures = w.failures ∙ same; goes = e None at ∙ w.goes; same_key = w.same_key; fits = w.fits; no_check = λ q. w.no_check (quiet q) })
-comes_after At next later key s r (step.Over told) d0 d1 d2 e at stable same loads quiet is =
-    more_after At next later s told d0 d1 d2 e at stable same loads quiet is
+comes_after At next later key s r (step.Over ended) d0 d1 d2 e at stable same loads quiet is =
+    more_after At next later s (told_of r ended) d0 d1 d2 e at stable same loads quiet is
 
 -- How often the store is called.
 

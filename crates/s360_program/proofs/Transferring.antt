@@ -45,7 +45,7 @@ unit_steps key phase most r s (step.Units n) d0 d1 h c =
       fits = w.fits;
       no_check = w.no_check;
     }
-unit_steps key phase most r s (step.Over told) d0 d1 h c = c
+unit_steps key phase most r s (step.Over ended) d0 d1 h c = c
 
 -- the same from a drive that has only looked again
 pub unit_comes : (next later : Option Fault → Next) (key : ℕ) (s : Storage) (r : Run) (a : Step) (d0 d1 d2 : DriveState) → ((f : Option Fault) → next f ≡ later f) → d1.image ≡ d0.image → d1.state ≡ d0.state
@@ -71,6 +71,27 @@ a_byte : (r left m L : ℕ) → m + left ≤ L → (r == 0 || left == 0) ≡ fal
 a_byte zero left m L h z = grind (arith, nat_tests)
 a_byte (suc r) zero m L h z = grind (arith, nat_tests)
 a_byte (suc r) (suc left) m L h z = grind (arith, nat_tests)
+
+-- how the count stands, as the definitions ask for it
+pub is_counted : (r : ℕ) (b : Bool) → 0 < r → (r == 0 && b) ≡ false
+is_counted zero b h = absurd (omega arith)
+is_counted (suc r) b h = grind (arith, nat_tests)
+
+pub no_chain : (r : ℕ) (b : Bool) → b ≡ false → (r == 0 && b) ≡ false
+no_chain zero b h = h
+no_chain (suc r) b h = grind (arith, nat_tests)
+
+pub no_count : (r left : ℕ) → r ≡ 0 → (r == 0 || left == 0) ≡ true
+no_count r left h = ap (λ r. r == 0 || left == 0) h
+
+pub no_more : (r left : ℕ) → left ≡ 0 → (r == 0 || left == 0) ≡ true
+no_more zero left h = refl
+no_more (suc r) left h = grind (arith, nat_tests)
+
+pub some_more : (r left : ℕ) → 0 < r → 0 < left → (r == 0 || left == 0) ≡ false
+some_more zero left h k = absurd (omega arith)
+some_more (suc r) zero h k = absurd (omega arith)
+some_more (suc r) (suc left) h k = grind (arith, nat_tests)
 
 told_length : (b i : Bool) → (if not b && i then INCORRECT_LENGTH else no_channel_status) ≡ status_of (if i && not b then condition.IncorrectLength else condition.Clear)
 told_length true true = refl

@@ -82,12 +82,11 @@ pub fn with_interruption(asked: bool, status: ChannelStatus) -> ChannelStatus
 
 /// The channel status word at a place: its command address is that of the last word plus 8, and its count what is left there.
 pub fn csw_at(key: u8, place: &Place, unit: UnitStatus, channel: ChannelStatus) -> Csw
-    requires { place.now.last + 8 < 2 ^ 32 }
     ensures { result ≡ csw_at key (place_of place.now) unit channel }
 {
     Csw {
         key,
-        address: (place.last + 8) % (1 << 24),
+        address: (place.last % (1 << 24) + 8) % (1 << 24),
         unit,
         channel,
         count: place.residual,

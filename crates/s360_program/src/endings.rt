@@ -35,8 +35,7 @@ pub fn end_program<S: ImageStore>(
     condition: Condition,
     drive: &mut Drive<S>,
 ) -> Ended
-    requires passed { passed_of drive.old.work ≡ [] }
-    requires last { run.now.place.last ≤ 2 ^ 24 + 8 }
+    requires { passed_of drive.old.work ≡ [] }
     ensures ending { IsEnding (ending_with (fault_met drive.old drive.new) run.now.key (place_of run.now.place) (closed_with drive.old.state ending) (status_of condition)) (told_of run.now result) drive.new }
     ensures calls { CallsStore false (is_written drive.old.state) drive.old drive.new }
     ensures reported { Reports (unsaved drive.new.state ≡ Some (drive.old.state.registers.cylinder, drive.old.state.registers.head)) drive.old drive.new }
@@ -57,7 +56,6 @@ pub fn end_program<S: ImageStore>(
 /// The channel status word of a program that ended so, where it stands, and whether the arm still moves.
 #[inline(always)]
 pub fn told(run: &Run, ended: Ended) -> (Csw, bool)
-    requires last { run.now.place.last ≤ 2 ^ 24 + 8 }
     ensures { result ≡ told_of run.now ended }
 {
     let csw = Csw {

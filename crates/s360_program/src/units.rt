@@ -162,7 +162,6 @@ impl Run {
         _storage: &Storage,
         drive: &mut Drive<S>,
     ) -> Step
-        requires last { self.old.place.last ≤ 2 ^ 24 + 8 }
         requires may { may_end drive.old.work ≡ true }
         requires saved { unsaved drive.old.state ≡ None }
         ensures comes { ComesBy self.old.key (λ f. EndsIn _storage.now (ending_with f self.old.key (run_of self.old).place (closed_of f drive.old drive.old.work) (status_of condition))) result self.new _storage.now drive.old drive.new }
