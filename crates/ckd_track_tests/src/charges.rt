@@ -1,9 +1,10 @@
 //! What records take of a track, and whether another fits.
 
-use crate::words::{model_of, record_before};
+use crate::record_before;
 use anyhow::{Result, bail};
 use ckd_track::{last_charge, r0_charge, read_slot};
 use std::alloc::Global;
+use test_rows::model_of;
 
 /// What a drive is like.
 pub(crate) fn drive(alloc: Global, model: &str) -> Result<String> {

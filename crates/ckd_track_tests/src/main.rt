@@ -23,13 +23,12 @@
 mod charges;
 mod reads;
 mod tables;
-mod words;
 mod writes;
 
-use crate::words::{bytes, words_of};
 use anyhow::Result;
 use std::alloc::Global;
 use std::io;
+use test_rows::{bytes, number, words_of};
 
 fn main(rt: HostRuntime) -> Result<()> {
     let text = io::read_to_string(rt.alloc(), rt.reader())?;
@@ -59,4 +58,12 @@ fn answer(alloc: Global, slot: &[u8], line: &str) -> Result<String> {
         ["alike"] => tables::alike(alloc, slot),
         words => writes::written(alloc, slot, words),
     }
+}
+
+// The record behind which another is to stand; none, `-`, where that is to be the only one.
+fn record_before(word: &str) -> Result<Option<usize>> {
+    if word == "-" {
+        return Ok(None);
+    }
+    Ok(Some(number(word)?))
 }
