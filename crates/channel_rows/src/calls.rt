@@ -1,30 +1,29 @@
 //! Calls of a channel that a deck has no words for: any address of 16 bits, any place in storage, and what the channel shows.
 
 use crate::stage::Disks;
-use crate::words::{byte, bytes, storage_address, unit_address, words_of};
 use anyhow::{Result, bail};
-use s360_channel::SubchannelView;
+use s360_channel::{SubchannelView, View};
 use s360_deck::AnswerLine;
 use s360_events::Answer;
 use std::alloc::Global;
+use std::fmt;
+use test_rows::{address, byte, bytes, unit_address, words_of};
 
 /// Makes the call that these words ask for, and tells its answer in a line.
 pub(crate) fn call(alloc: Global, channel: &mut Disks, line: &str) -> Result<String> {
     let words = words_of(alloc, line)?;
-    let answer = match words.as_slice() {
-        ["state"] => return state(alloc, channel),
-        ["peek", at, len] => return peek(alloc, channel, at, len),
+    match words.as_slice() {
+        ["state"] => {
+            let shown = Shown(channel.state());
+            Ok(format!(in alloc; "{shown}\n")?)
+        }
+        ["peek", at, len] => peek(alloc, channel, at, len),
         ["poke", at, body] => {
-            let body = bytes(alloc, body)?;
-            Answer::Store(channel.poke(storage_address(at)?, body.as_slice()).is_ok())
+            let kept = channel.poke(address(at)?, bytes(alloc, body)?.as_slice());
+            line_of(alloc, &Answer::Store(kept.is_ok()))
         }
-        ["key", at, key] => {
-            let key = byte(key)? % 16;
-            Answer::Key(channel.set_key(storage_address(at)?, key).is_ok())
-        }
-        words => call_unit(channel, words)?,
-    };
-    line_of(alloc, &answer)
+        words => line_of(alloc, &call_unit(channel, words)?),
+    }
 }
 
 fn call_unit(channel: &mut Disks, words: &[&str]) -> Result<Answer> {
@@ -40,6 +39,10 @@ fn call_unit(channel: &mut Disks, words: &[&str]) -> Result<Answer> {
         ["hio", address] => {
             let address = unit_address(address)?;
             Answer::Hio(address, channel.hio(address))
+        }
+        ["key", at, key] => {
+            let key = byte(key)? % 16;
+            Answer::Key(channel.set_key(address(at)?, key).is_ok())
         }
         ["tch"] => Answer::Tch(channel.tch()),
         ["arrive", address] => {
@@ -60,7 +63,7 @@ pub(crate) fn line_of(alloc: Global, answer: &Answer) -> Result<String> {
 }
 
 fn peek(alloc: Global, channel: &Disks, at: &str, len: &str) -> Result<String> {
-    match channel.peek(storage_address(at)?, len.parse::<u32>()?) {
+    match channel.peek(address(at)?, len.parse::<u32>()?) {
         None => Ok("outside\n".to_string(alloc)?),
         Some(bytes) => {
             let digits = hex::encode_upper(alloc, bytes)?;
@@ -70,25 +73,35 @@ fn peek(alloc: Global, channel: &Disks, at: &str, len: &str) -> Result<String> {
 }
 
 // What the channel shows: `working 91, 90 InMotion, 91 AtRest`.
-fn state(alloc: Global, channel: &Disks) -> Result<String> {
-    let view = channel.state();
-    let mut shown = match view.subchannel {
-        SubchannelView::Idle => "idle".to_string(alloc)?,
-        SubchannelView::Working(device, false) => format!(in alloc; "working {device:02X}")?,
-        SubchannelView::Working(device, true) => {
-            format!(in alloc; "working {device:02X} and asks")?
+#[derive(Clone, Copy)]
+struct Shown(View);
+
+impl fmt::Display for Shown {
+    fn fmt<W: fmt::Write>(&self, f: &mut fmt::Formatter<W>) -> fmt::Result {
+        let View { subchannel, drives } = &self.0;
+        write!(f, "{}", ShownSubchannel(*subchannel))?;
+        for drive in drives {
+            if let Some((device, arm)) = drive {
+                write!(f, ", {device:02X} {arm:?}")?;
+            }
         }
-        SubchannelView::Pending(device, csw) => {
-            let csw = hex::encode_upper(alloc, csw.to_bytes())?;
-            format!(in alloc; "pending {device:02X} {csw}")?
-        }
-    };
-    for drive in view.drives {
-        if let Some((device, arm)) = drive {
-            let drive = format!(in alloc; ", {device:02X} {arm:?}")?;
-            shown.push_str(drive.as_str())?;
+        Ok(())
+    }
+}
+
+#[derive(Clone, Copy)]
+struct ShownSubchannel(SubchannelView);
+
+impl fmt::Display for ShownSubchannel {
+    fn fmt<W: fmt::Write>(&self, f: &mut fmt::Formatter<W>) -> fmt::Result {
+        match self.0 {
+            SubchannelView::Idle => f.write_str("idle"),
+            SubchannelView::Working(device, false) => write!(f, "working {device:02X}"),
+            SubchannelView::Working(device, true) => write!(f, "working {device:02X} and asks"),
+            SubchannelView::Pending(device, csw) => {
+                let csw = u64::from_be_bytes(csw.to_bytes());
+                write!(f, "pending {device:02X} {csw:016X}")
+            }
         }
     }
-    shown.push('\n')?;
-    Ok(shown)
 }

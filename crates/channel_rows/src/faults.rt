@@ -3,11 +3,10 @@
 use crate::left::{Left, attached};
 use crate::row::Player;
 use crate::stage::{DriveFailure, start_sense};
-use crate::store::Failure;
 use crate::volume::Volumes;
-use crate::words::words_of;
 use anyhow::{Result, bail};
 use std::alloc::Global;
+use test_rows::{Failure, words_of};
 
 /// The high byte of the addresses of a row's drives.
 const CHANNEL: u16 = 0x0100;
@@ -41,10 +40,20 @@ pub(crate) fn sweep(
     let Some(sound) = play_course(alloc, volumes, row, device, None)? else {
         bail!("no image");
     };
+    silent_call(alloc, volumes, row, &sound, device)
+}
+
+// The first call of the store of a drive that is not told where it fails, beside a course without faults.
+fn silent_call(
+    alloc: Global,
+    volumes: &Volumes,
+    row: &str,
+    sound: &Course,
+    device: u8,
+) -> Result<Option<String>> {
     for at in 1..100 {
         for for_good in [false, true] {
-            let failure = Failure { at, for_good };
-            match report_of(alloc, volumes, row, &sound, device, failure)? {
+            match report_of(alloc, volumes, row, sound, device, Failure { at, for_good })? {
                 Report::NoCall => return Ok(None),
                 Report::Told => {}
                 Report::Silent(why) => {
@@ -96,44 +105,71 @@ fn report_of(
     device: u8,
     failure: Failure,
 ) -> Result<Report> {
-    let Some(faulty) = play_course(alloc, volumes, row, device, Some((device, failure)))? else {
+    match play_course(alloc, volumes, row, device, Some((device, failure)))? {
+        Some(faulty) => report_beside(alloc, volumes, row, sound, &faulty, device, failure.at),
         // the first call reads the header, as the image is mounted
-        return Ok(match failure.at {
-            1 => Report::Told,
-            _ => Report::Silent("it is not mounted"),
-        });
-    };
-    if faulty.left.drive(device)?.calls < u64::from(failure.at) {
+        None if failure.at == 1 => Ok(Report::Told),
+        None => Ok(Report::Silent("it is not mounted")),
+    }
+}
+
+// What is told where a call fails, by a course beside one without faults.
+fn report_beside(
+    alloc: Global,
+    volumes: &Volumes,
+    row: &str,
+    sound: &Course,
+    faulty: &Course,
+    device: u8,
+    at: u32,
+) -> Result<Report> {
+    if faulty.left.drive(device)?.calls < u64::from(at) {
         return Ok(match faulty.answers.as_str() == sound.answers.as_str() {
             true => Report::NoCall,
             false => Report::Silent("other answers without a fault"),
         });
     }
-    if !others_stay(alloc, volumes, row, sound, &faulty)? {
+    if !others_stay(alloc, volumes, row, sound, faulty)? {
         return Ok(Report::Silent("another track is changed"));
     }
-    told(alloc, sound, &faulty)
+    told(alloc, sound, faulty)
 }
 
 // What the answers tell of a fault: they are the same up to it.
 fn told(alloc: Global, sound: &Course, faulty: &Course) -> Result<Report> {
-    let lines: Vec<&str> = sound.answers.as_str().lines().collect(alloc)?;
-    let mut behind: Vec<&str> = Vec::new(alloc);
-    for (place, line) in faulty.answers.as_str().lines().enumerate() {
-        if !behind.is_empty() || lines.get(place) != Some(&line) {
-            behind.push(line)?;
+    let lines: Vec<&str> = faulty.answers.as_str().lines().collect(alloc)?;
+    let same = same_lines(sound.answers.as_str(), faulty.answers.as_str());
+    match lines.as_slice().get(same..).unwrap_or(&[]) {
+        [] if faulty.left.unsaved.is_some() => Ok(Report::Told),
+        [] => {
+            // the program ends in this unit as it does without the fault: the sense bytes tell it
+            let lines: Vec<&str> = sound.answers.as_str().lines().collect(alloc)?;
+            told_by_csw(alloc, lines.as_slice(), faulty)
         }
+        behind if is_reset(behind) => Ok(told_by_reset(faulty)),
+        behind => told_by_csw(alloc, behind, faulty),
     }
-    Ok(match behind.as_slice() {
-        [] if faulty.left.unsaved.is_some() => Report::Told,
-        // the program ends in this unit as it does without the fault: the sense bytes tell it
-        [] => told_by_csw(alloc, lines.as_slice(), faulty)?,
-        [first, ..] if first.starts_with("RESET UNSAVED") => told_by_reset(faulty),
-        [first, second, ..] if first.starts_with("STEP") && *second == "RESET CLEAN" => {
-            told_by_reset(faulty)
+}
+
+// How many lines are the same, up to the first that is not.
+fn same_lines(one: &str, other: &str) -> usize {
+    let mut same: usize = 0;
+    for (line, other) in one.lines().zip(other.lines()) {
+        if line != other {
+            break;
         }
-        lines => told_by_csw(alloc, lines, faulty)?,
-    })
+        same = same.saturating_add(1);
+    }
+    same
+}
+
+// Whether these answers are those of a reset that could not save a track, or that was clean behind a step.
+fn is_reset(lines: &[&str]) -> bool {
+    match lines {
+        [first, ..] if first.starts_with("RESET UNSAVED") => true,
+        [first, second, ..] => first.starts_with("STEP") && *second == "RESET CLEAN",
+        _ => false,
+    }
 }
 
 // The sense bytes are zero behind a reset, and a program starts.
@@ -175,16 +211,25 @@ fn others_stay(
 ) -> Result<bool> {
     for drive in &sound.left.drives {
         let (_, name) = attached(alloc, row, drive.device)?;
-        let first = volumes.bytes(name)?;
         let last = faulty.left.drive(drive.device)?;
-        let slots = first.chunks(512);
-        let sound_slots = drive.volume.as_slice().chunks(512);
-        let faulty_slots = last.volume.as_slice().chunks(512);
-        for ((first, sound), faulty) in slots.zip(sound_slots).zip(faulty_slots) {
-            if first == sound && first != faulty {
-                return Ok(false);
-            }
+        let first = volumes.bytes(name)?;
+        if !blocks_stay(first, drive.volume.as_slice(), last.volume.as_slice()) {
+            return Ok(false);
         }
     }
     Ok(true)
+}
+
+// Whether each block that is as it was, where no call fails, is so where one fails.
+fn blocks_stay(first: &[u8], sound: &[u8], faulty: &[u8]) -> bool {
+    let blocks = first
+        .chunks(512)
+        .zip(sound.chunks(512))
+        .zip(faulty.chunks(512));
+    for ((first, sound), faulty) in blocks {
+        if first == sound && first != faulty {
+            return false;
+        }
+    }
+    true
 }

@@ -1,13 +1,12 @@
 //! What a row leaves: storage, volumes, and what its stores saw.
 
 use crate::stage::Disks;
-use crate::store::{Calls, RowStore};
 use crate::volume::Volumes;
-use crate::words::{byte, bytes, number, storage_address, unit_address, words_of};
 use anyhow::{Result, bail};
 use ckd_image::Image;
 use s360_words::Storage;
 use std::alloc::Global;
+use test_rows::{Calls, RowStore, address, byte, bytes, unit_address, words_of};
 
 /// What came out of a channel.
 #[derive(Drop)]
@@ -65,18 +64,13 @@ impl Left {
     ) -> Result<Option<&'a str>> {
         let mut is_unsaved_named = false;
         for line in row.lines() {
-            let words = words_of(alloc, line)?;
-            is_unsaved_named = is_unsaved_named || words.first() == Some(&"unsaved");
-            if !self.is_so(alloc, words.as_slice())? {
+            is_unsaved_named = is_unsaved_named || line.starts_with("unsaved ");
+            if !self.is_so(alloc, line)? {
                 return Ok(Some(line));
             }
         }
-        for drive in &self.drives {
-            let (line, volume) = attached(alloc, row, drive.device)?;
-            let wanted = volumes.left(alloc, row, volume, drive.device)?;
-            if drive.volume.as_slice() != wanted.bytes() {
-                return Ok(Some(line));
-            }
+        if let Some(line) = self.other_volume(alloc, volumes, row)? {
+            return Ok(Some(line));
         }
         if self.unsaved.is_some() && !is_unsaved_named {
             return Ok(Some("unsaved none"));
@@ -84,39 +78,83 @@ impl Left {
         Ok(None)
     }
 
-    // Whether it is so as a line says.
-    fn is_so(&self, alloc: Global, words: &[&str]) -> Result<bool> {
-        Ok(match words {
-            ["holds", at, body] => {
-                let body = bytes(alloc, body)?;
-                let len = u32::try_from(body.len()).unwrap_or(u32::MAX);
-                self.storage.slice(storage_address(at)?, len) == Some(body.as_slice())
+    // The line that attaches the first drive whose volume is not left as the row says.
+    fn other_volume<'a>(
+        &self,
+        alloc: Global,
+        volumes: &Volumes,
+        row: &'a str,
+    ) -> Result<Option<&'a str>> {
+        for drive in &self.drives {
+            let (line, volume) = attached(alloc, row, drive.device)?;
+            let wanted = volumes.left(alloc, row, volume, drive.device)?;
+            if drive.volume.as_slice() != wanted.bytes() {
+                return Ok(Some(line));
             }
+        }
+        Ok(None)
+    }
+
+    // Whether it is so as a line says.
+    fn is_so(&self, alloc: Global, line: &str) -> Result<bool> {
+        match words_of(alloc, line)?.as_slice() {
+            ["holds", at, body] => self.holds(address(at)?, bytes(alloc, body)?.as_slice()),
             ["unsaved", address, cylinder, head] => {
                 let track = (
                     unit_address(address)?,
                     unit_address(cylinder)?,
                     unit_address(head)?,
                 );
-                self.unsaved == Some(track)
+                Ok(self.unsaved == Some(track))
             }
-            _ => self.were_called(words)?,
-        })
+            ["calls" | "reads" | "writes", device, ..] => {
+                let told = self.drive(byte(device)?)?.told(alloc, line)?;
+                Ok(told.as_str() == line)
+            }
+            _ => Ok(true),
+        }
     }
 
-    // Whether the stores were called as a line says.
-    fn were_called(&self, words: &[&str]) -> Result<bool> {
-        Ok(match words {
-            ["calls", device, count] => {
-                self.drive(byte(device)?)?.calls == number(count)? as u64
+    // Whether storage holds these bytes from an address on.
+    fn holds(&self, at: u32, bytes: &[u8]) -> Result<bool> {
+        let len = u32::try_from(bytes.len())?;
+        Ok(self.storage.slice(at, len) == Some(bytes))
+    }
+
+    /// Whether the other has the same storage and volumes, and the same unsaved track.
+    pub(crate) fn is_same(&self, other: &Left) -> bool {
+        let size = self.storage.size();
+        if self.storage.slice(0, size) != other.storage.slice(0, size)
+            || self.unsaved != other.unsaved
+            || self.drives.len() != other.drives.len()
+        {
+            return false;
+        }
+        for (drive, other) in self.drives.iter().zip(other.drives.iter()) {
+            if drive.device != other.device || drive.volume.as_slice() != other.volume.as_slice() {
+                return false;
             }
-            ["reads", device, count, at, len] => {
-                self.drive(byte(device)?)?.reads == calls_of(count, at, len)?
-            }
-            ["writes", device, count, at, len] => {
-                self.drive(byte(device)?)?.writes == calls_of(count, at, len)?
-            }
-            _ => true,
+        }
+        true
+    }
+}
+
+impl LeftDrive {
+    // The line that says how often its store was called, read or written, as this line does.
+    fn told(&self, alloc: Global, line: &str) -> Result<String> {
+        let LeftDrive {
+            device,
+            calls,
+            reads,
+            writes,
+            ..
+        } = self;
+        Ok(if line.starts_with("calls ") {
+            format!(in alloc; "calls {device:02X} {calls}")?
+        } else if line.starts_with("reads ") {
+            format!(in alloc; "reads {device:02X} {reads}")?
+        } else {
+            format!(in alloc; "writes {device:02X} {writes}")?
         })
     }
 }
@@ -145,13 +183,5 @@ fn drive_of(alloc: Global, device: u8, image: Image<RowStore>) -> Result<LeftDri
         reads,
         writes,
         volume,
-    })
-}
-
-fn calls_of(count: &str, at: &str, len: &str) -> Result<Calls> {
-    Ok(Calls {
-        count: number(count)?,
-        at: number(at)? as u64,
-        len: number(len)?,
     })
 }

@@ -3,13 +3,13 @@
 
 use crate::left::Left;
 use crate::row::Player;
-use crate::stage::DriveFailure;
-use crate::store::Failure;
+use crate::stage::{Disks, DriveFailure};
 use crate::volume::Volumes;
 use anyhow::{Context, Result, bail};
 use s360_deck::parse;
 use s360_events::{Answer, Event};
 use std::alloc::Global;
+use test_rows::Failure;
 
 /// Plays the events of a row one more at a time, each step unit by unit, and answers which is the first that calls the store
 /// of a drive too often.
@@ -62,6 +62,29 @@ fn calls_of(
     }))
 }
 
+// A row is walked through: so many events are left, and the last one may have called the store so often.
+#[derive(Drop)]
+struct Progress {
+    player: Player,
+    rest: usize,
+    most: u64,
+}
+
+impl Progress {
+    // Does what a line asks that makes something, or the events of a line.
+    fn walk_line(&mut self, alloc: Global, volumes: &Volumes, line: &str) -> Result<()> {
+        match line.strip_prefix("> ") {
+            Some(event) if self.rest > 0 => {
+                let channel = &mut self.player.stage.channel;
+                (self.rest, self.most) = events(alloc, channel, event, self.rest)?;
+                Ok(())
+            }
+            Some(_) => Ok(()),
+            None => self.player.makes(alloc, volumes, line),
+        }
+    }
+}
+
 // What the first events of a row leave, and how often the last of them may have called the store.
 fn walk(
     alloc: Global,
@@ -70,28 +93,23 @@ fn walk(
     count: usize,
     failing: DriveFailure,
 ) -> Result<Option<(Left, u64)>> {
-    let mut player = Player::new(alloc, failing)?;
-    let mut rest = count;
-    let mut most = 0;
+    let mut progress = Progress {
+        player: Player::new(alloc, failing)?,
+        rest: count,
+        most: 0,
+    };
     for line in row.lines().skip(1) {
-        match line.strip_prefix("> ") {
-            Some(event) if rest > 0 => (rest, most) = events(alloc, &mut player, event, rest)?,
-            Some(_) => {}
-            None => player.makes(alloc, volumes, line)?,
-        }
+        progress.walk_line(alloc, volumes, line)?;
     }
-    if rest > 0 {
-        return Ok(None);
-    }
-    let Player { stage, .. } = player;
-    Ok(Some((Left::of(alloc, stage.channel)?, most)))
+    let Progress { player, rest, most } = progress;
+    let left = player.left(alloc)?;
+    Ok(if rest > 0 { None } else { Some((left, most)) })
 }
 
 // The events of a line, so many of them at most; how many are left then, and how often the last may call the store.
-fn events(alloc: Global, player: &mut Player, line: &str, rest: usize) -> Result<(usize, u64)> {
+fn events(alloc: Global, channel: &mut Disks, line: &str, rest: usize) -> Result<(usize, u64)> {
     let events = parse(alloc, line.as_bytes())?;
     let event = events.as_slice().first().context("no event")?;
-    let channel = &mut player.stage.channel;
     if let Event::Step(units) = event {
         let mut rest = rest;
         for _ in 0..*units {

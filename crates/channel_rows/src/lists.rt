@@ -13,6 +13,32 @@ use s360_deck::{parse, serial};
 use s360_events::{Answer, Condition, Event};
 use std::alloc::{AllocError, Global};
 
+// A list of events on a channel, and its serial list on a fresh one.
+#[derive(Drop)]
+struct Played {
+    answers: Vec<Answer>,
+    list: Vec<Event>,
+    // The answers to the serial list.
+    kept: Vec<Answer>,
+    // Whether both leave the same storage and volumes.
+    leave_the_same: bool,
+}
+
+// Drives a list of events and its serial list, each on a channel as the lines of a row make it.
+fn play_both(alloc: Global, volumes: &Volumes, row: &str, events: &[Event]) -> Result<Played> {
+    let mut first = set_up(alloc, volumes, row)?;
+    let mut second = set_up(alloc, volumes, row)?;
+    let answers = drive(alloc, &mut first.channel, events)?;
+    let list = list_of(alloc, events, answers.as_slice())?;
+    let kept = drive(alloc, &mut second.channel, list.as_slice())?;
+    Ok(Played {
+        answers,
+        list,
+        kept,
+        leave_the_same: same_left(alloc, first, second)?,
+    })
+}
+
 /// Plays a row whose deck behind the line `serial` is driven, and then its serial list on a fresh channel: the answers, the
 /// list's events, and their answers must be those that the row says, and storage and volumes the same.
 pub(crate) fn play_list<'a>(
@@ -21,28 +47,24 @@ pub(crate) fn play_list<'a>(
     row: &'a str,
     deck: &'a str,
 ) -> Result<Option<&'a str>> {
-    let mut first = set_up(alloc, volumes, row)?;
-    let mut second = set_up(alloc, volumes, row)?;
     let events = events_of(alloc, deck, "> ")?;
-    let answers = drive(alloc, &mut first.channel, events.as_slice())?;
-    let list = list_of(alloc, events.as_slice(), answers.as_slice())?;
-    let kept = drive(alloc, &mut second.channel, list.as_slice())?;
-    let answers = lines_of(alloc, answers.as_slice())?;
+    let played = play_both(alloc, volumes, row, events.as_slice())?;
+    let answers = lines_of(alloc, played.answers.as_slice())?;
     if let Some(line) = other_line(deck, "< ", answers.as_str()) {
         return Ok(Some(line));
     }
-    let wanted = spelled(alloc, events_of(alloc, deck, "= ")?.as_slice())?;
-    if spelled(alloc, list.as_slice())?.as_str() != wanted.as_str() {
-        return Ok(Some("the serial list"));
-    }
-    let kept = lines_of(alloc, kept.as_slice())?;
+    let kept = lines_of(alloc, played.kept.as_slice())?;
     if let Some(line) = other_line(deck, "~ ", kept.as_str()) {
         return Ok(Some(line));
     }
-    match same_left(alloc, first, second)? {
-        true => Ok(None),
-        false => Ok(Some("what is left")),
+    let wanted = spelled(alloc, events_of(alloc, deck, "= ")?.as_slice())?;
+    if spelled(alloc, played.list.as_slice())?.as_str() != wanted.as_str() {
+        return Ok(Some("the serial list"));
     }
+    Ok(match played.leave_the_same {
+        true => None,
+        false => Some("what is left"),
+    })
 }
 
 // What comes of a program that is cut, and of its serial list.
@@ -82,23 +104,18 @@ fn cut_behind(
     steps: u16,
     reset: bool,
 ) -> Result<Course> {
-    let mut first = set_up(alloc, volumes, row)?;
-    let mut second = set_up(alloc, volumes, row)?;
     let events = cut_events(alloc, steps, reset)?;
-    let answers = drive(alloc, &mut first.channel, events.as_slice())?;
-    let list = list_of(alloc, events.as_slice(), answers.as_slice())?;
-    let kept = drive(alloc, &mut second.channel, list.as_slice())?;
-    let (answers, units) = kept_lines(alloc, answers.as_slice())?;
-    let (kept, kept_units) = kept_lines(alloc, kept.as_slice())?;
-    if units < u64::from(steps) {
-        return Ok(Course::Ended);
-    }
-    if answers.as_str() != kept.as_str() || units != kept_units {
-        return Ok(Course::Other("answers"));
-    }
-    Ok(match same_left(alloc, first, second)? {
-        true => Course::Same,
-        false => Course::Other("what is left"),
+    let played = play_both(alloc, volumes, row, events.as_slice())?;
+    let (answers, units) = kept_lines(alloc, played.answers.as_slice())?;
+    let (kept, kept_units) = kept_lines(alloc, played.kept.as_slice())?;
+    Ok(if units < u64::from(steps) {
+        Course::Ended
+    } else if answers.as_str() != kept.as_str() || units != kept_units {
+        Course::Other("answers")
+    } else if !played.leave_the_same {
+        Course::Other("what is left")
+    } else {
+        Course::Same
     })
 }
 
@@ -206,16 +223,5 @@ fn other_line<'a>(deck: &'a str, prefix: &str, came: &str) -> Option<&'a str> {
 fn same_left(alloc: Global, first: Stage, second: Stage) -> Result<bool> {
     let first = Left::of(alloc, first.channel)?;
     let second = Left::of(alloc, second.channel)?;
-    let size = first.storage.size();
-    if first.storage.slice(0, size) != second.storage.slice(0, size)
-        || first.unsaved != second.unsaved
-    {
-        return Ok(false);
-    }
-    for drive in &first.drives {
-        if drive.volume.as_slice() != second.drive(drive.device)?.volume.as_slice() {
-            return Ok(false);
-        }
-    }
-    Ok(true)
+    Ok(first.is_same(&second))
 }

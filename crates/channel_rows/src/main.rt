@@ -43,17 +43,14 @@ mod limits;
 mod lists;
 mod row;
 mod stage;
-mod store;
 mod volume;
-mod words;
 
-use crate::left::Left;
 use crate::row::Player;
 use crate::volume::Volumes;
-use crate::words::byte;
 use anyhow::Result;
 use std::alloc::Global;
 use std::io;
+use test_rows::byte;
 
 fn main(rt: HostRuntime) -> Result<()> {
     let text = io::read_to_string(rt.alloc(), rt.reader())?;
@@ -85,22 +82,22 @@ fn play(alloc: Global, volumes: &Volumes, row: &str) -> Result<Option<String>> {
     if let Some(row) = row.trim_end().strip_suffix("\ncuts") {
         return lists::play_cuts(alloc, volumes, row);
     }
+    match play_lines(alloc, volumes, row)? {
+        None => try_faults(alloc, volumes, row),
+        other => Ok(other),
+    }
+}
+
+// Plays the lines of a row, and answers what is not as it must be, also of what they leave.
+fn play_lines(alloc: Global, volumes: &Volumes, row: &str) -> Result<Option<String>> {
     let mut player = Player::new(alloc, None)?;
-    for line in row.lines().skip(1) {
-        if !player.does(alloc, volumes, line)? {
-            let came = player.printed.as_str();
-            let told = player.stage.told.as_str();
-            return Ok(Some(format!(in alloc; "{line}; came: {came}{told}")?));
-        }
+    if let Some(other) = player.plays(alloc, volumes, row)? {
+        return Ok(Some(other));
     }
-    if !player.is_over(alloc)? {
-        return Ok(Some("the end".to_string(alloc)?));
-    }
-    let Player { stage, .. } = player;
-    let left = Left::of(alloc, stage.channel)?;
+    let left = player.left(alloc)?;
     match left.differs(alloc, volumes, row)? {
         Some(line) => Ok(Some(line.to_string(alloc)?)),
-        None => try_faults(alloc, volumes, row),
+        None => Ok(None),
     }
 }
 

@@ -2,12 +2,13 @@
 
 use crate::calls::call;
 use crate::ends::{DeckReader, LineWriter};
+use crate::left::Left;
 use crate::stage::{DriveFailure, Stage};
 use crate::volume::Volumes;
-use crate::words::{bytes, number};
 use anyhow::{Result, bail};
 use s360_deck::{DeckFault, RunFault, run};
 use std::alloc::Global;
+use test_rows::{bytes, number};
 
 /// What a row does, and what is there between its lines.
 #[derive(Drop)]
@@ -31,6 +32,25 @@ impl Player {
             reader_fails: false,
             room: None,
             printed: String::new(alloc),
+        })
+    }
+
+    /// Does what the lines of a row say, and answers what is not as it must be.
+    pub(crate) fn plays(
+        &mut self,
+        alloc: Global,
+        volumes: &Volumes,
+        row: &str,
+    ) -> Result<Option<String>> {
+        for line in row.lines().skip(1) {
+            if !self.does(alloc, volumes, line)? {
+                let (came, told) = (self.printed.as_str(), self.stage.told.as_str());
+                return Ok(Some(format!(in alloc; "{line}; came: {came}{told}")?));
+            }
+        }
+        Ok(match self.is_over(alloc)? {
+            true => None,
+            false => Some("the end".to_string(alloc)?),
         })
     }
 
@@ -160,6 +180,12 @@ impl Player {
             },
             _ => bail!("what is this? {line}"),
         }
+    }
+
+    /// What the row leaves.
+    pub(crate) fn left(self, alloc: Global) -> Result<Left> {
+        let Player { stage, .. } = self;
+        Left::of(alloc, stage.channel)
     }
 
     /// Runs what is left of the deck, and answers whether nothing was printed or told that no line said.

@@ -1,14 +1,13 @@
 //! A channel and its drives, as the lines of a row make them.
 
-use crate::store::{Failure, RowStore, row_store};
 use crate::volume::Volumes;
-use crate::words::{byte, bytes, storage_address, unit_address, words_of};
 use anyhow::{Context, Result, bail};
 use ckd_image::{Image, MemoryStore};
 use s360_channel::{AttachFault, Channel};
 use s360_events::Condition;
 use s360_words::Storage;
 use std::alloc::Global;
+use test_rows::{Failure, RowStore, address, byte, bytes, row_store, unit_address, words_of};
 
 pub(crate) type Disks = Channel<RowStore>;
 
@@ -50,23 +49,35 @@ impl Stage {
         volumes: &Volumes,
         line: &str,
     ) -> Result<Option<bool>> {
-        match words_of(alloc, line)?.as_slice() {
-            ["channel", channel, size] => self.make_channel(alloc, channel, size)?,
-            ["attach", device, volume] => {
-                let failure = self.failure_at(byte(device)?);
-                self.attach(alloc, volumes, device, volume, failure)?;
-            }
-            ["attach", device, volume, "failing", at, how] => {
-                self.attach(alloc, volumes, device, volume, failure_of(at, how)?)?;
-            }
-            ["at", at, body] => {
-                let body = bytes(alloc, body)?;
-                let kept = self.channel.poke(storage_address(at)?, body.as_slice());
-                return Ok(Some(kept.is_ok()));
-            }
+        let (word, rest) = line.split_once(' ').unwrap_or((line, ""));
+        match word {
+            "channel" => self.make_channel(alloc, rest)?,
+            "attach" => self.attach_line(alloc, volumes, rest)?,
+            "at" => return Ok(Some(self.stores(alloc, rest)?)),
             _ => return Ok(None),
         }
         Ok(Some(true))
+    }
+
+    // Whether the processor can store bytes at a place: `400 C1*80+00`.
+    fn stores(&mut self, alloc: Global, line: &str) -> Result<bool> {
+        let (at, body) = line.split_once(' ').context("no bytes")?;
+        let body = bytes(alloc, body)?;
+        Ok(self.channel.poke(address(at)?, body.as_slice()).is_ok())
+    }
+
+    // Attaches a drive as a line says: `90 X`, or `90 X failing 3 on`.
+    fn attach_line(&mut self, alloc: Global, volumes: &Volumes, line: &str) -> Result<()> {
+        match words_of(alloc, line)?.as_slice() {
+            [device, volume] => {
+                let device = byte(device)?;
+                self.attach(alloc, volumes, device, volume, self.failure_at(device))
+            }
+            [device, volume, "failing", at, how] => {
+                self.attach(alloc, volumes, byte(device)?, volume, failure_of(at, how)?)
+            }
+            _ => bail!("what is attached?"),
+        }
     }
 
     // The call that fails of the store of this drive, where the row names none.
@@ -78,13 +89,14 @@ impl Stage {
     }
 
     // Makes another channel, or tells why there is none; then its storage must come back as it was.
-    fn make_channel(&mut self, alloc: Global, channel: &str, size: &str) -> Result<()> {
-        let size = size.parse::<u32>()?;
+    fn make_channel(&mut self, alloc: Global, line: &str) -> Result<()> {
+        let (number, size) = line.split_once(' ').context("no size")?;
+        let (number, size) = (number.parse::<u8>()?, size.parse::<u32>()?);
         let mut storage = Storage::new(alloc, size)?;
         if !storage.put(8, &[0x5A]) {
             bail!("too small");
         }
-        match Channel::new(channel.parse::<u8>()?, storage) {
+        match Channel::new(number, storage) {
             Ok(channel) => self.channel = channel,
             Err((fault, storage)) => {
                 if storage.byte(8) != Some(0x5A) || storage.size() != size {
@@ -101,29 +113,38 @@ impl Stage {
         &mut self,
         alloc: Global,
         volumes: &Volumes,
-        device: &str,
+        device: u8,
         volume: &str,
         failure: Failure,
     ) -> Result<()> {
-        let held = MemoryStore::new(alloc, volumes.bytes(volume)?)?;
-        let store = row_store(held, failure);
-        let image = match Image::mount(store) {
-            Ok(image) => image,
-            Err((fault, store)) => {
-                self.told = format!(in alloc; "{fault}")?;
-                return same(volumes, volume, store.into_inner().into_inner());
-            }
+        let Some(image) = self.mount(alloc, volumes, volume, failure)? else {
+            return Ok(());
         };
-        match self.channel.attach(alloc, byte(device)?, image) {
+        match self.channel.attach(alloc, device, image) {
             Ok(()) => Ok(()),
             Err((AttachFault::OutOfMemory(_), _)) => bail!("out of memory"),
             Err((fault, image)) => {
                 self.told = format!(in alloc; "{fault}")?;
-                same(
-                    volumes,
-                    volume,
-                    image.into_store().into_inner().into_inner(),
-                )
+                same(volumes, volume, image.into_store())
+            }
+        }
+    }
+
+    // Mounts an image, or tells why it is not mounted; then its store must come back as it was.
+    fn mount(
+        &mut self,
+        alloc: Global,
+        volumes: &Volumes,
+        volume: &str,
+        failure: Failure,
+    ) -> Result<Option<Image<RowStore>>> {
+        let held = MemoryStore::new(alloc, volumes.bytes(volume)?)?;
+        match Image::mount(row_store(held, failure)) {
+            Ok(image) => Ok(Some(image)),
+            Err((fault, store)) => {
+                self.told = format!(in alloc; "{fault}")?;
+                same(volumes, volume, store)?;
+                Ok(None)
             }
         }
     }
@@ -166,8 +187,8 @@ fn failure_of(at: &str, how: &str) -> Result<Failure> {
 }
 
 // That a store holds what the volume with this name holds.
-fn same(volumes: &Volumes, volume: &str, store: MemoryStore) -> Result<()> {
-    if store.bytes() != volumes.bytes(volume)? {
+fn same(volumes: &Volumes, volume: &str, store: RowStore) -> Result<()> {
+    if store.into_inner().into_inner().bytes() != volumes.bytes(volume)? {
         bail!("another image comes back");
     }
     Ok(())

@@ -1,13 +1,10 @@
 //! The volumes of rows.
 
-use crate::words::{byte, bytes, number, words_of};
-use anyhow::{Context, Result, bail};
-use ckd_image::{Image, ImageStore, MemoryStore, image_len};
-use ckd_track::{DriveModel, Geometry};
+use anyhow::{Result, bail};
+use ckd_image::MemoryStore;
+use ckd_track::Geometry;
 use std::alloc::Global;
-
-/// The length of the header, behind which the slots stand.
-const HEADER: usize = 512;
+use test_rows::{model_of, new_volume, put_lines, words_of};
 
 /// A volume that rows have at their drives.
 #[derive(Drop)]
@@ -57,21 +54,10 @@ impl<'a> Volumes<'a> {
         name: &str,
         device: u8,
     ) -> Result<MemoryStore> {
-        let geometry = self.named(name)?.geometry;
-        let mut store = MemoryStore::new(alloc, self.bytes(name)?)?;
-        for line in row.lines() {
-            if let ["left", at_device, track, at, body] = words_of(alloc, line)?.as_slice() {
-                if byte(at_device)? == device {
-                    put(
-                        &mut store,
-                        geometry,
-                        track,
-                        at,
-                        bytes(alloc, body)?.as_slice(),
-                    )?;
-                }
-            }
-        }
+        let volume = self.named(name)?;
+        let mut store = MemoryStore::new(alloc, volume.store.bytes())?;
+        let prefix = format!(in alloc; "left {device:02X} ")?;
+        put_lines(alloc, &mut store, volume.geometry, row, prefix.as_str())?;
         Ok(store)
     }
 }
@@ -85,61 +71,10 @@ fn read_volume<'a>(alloc: Global, block: &'a str) -> Result<Option<Volume<'a>>> 
     };
     let geometry = Geometry::new(model_of(model)?, cylinders.parse::<u16>()?);
     let mut store = new_volume(alloc, geometry)?;
-    for line in block.lines() {
-        if let ["track", track, at, body] = words_of(alloc, line)?.as_slice() {
-            put(
-                &mut store,
-                geometry,
-                track,
-                at,
-                bytes(alloc, body)?.as_slice(),
-            )?;
-        }
-    }
+    put_lines(alloc, &mut store, geometry, block, "track ")?;
     Ok(Some(Volume {
         name: *name,
         geometry,
         store,
     }))
-}
-
-fn model_of(word: &str) -> Result<DriveModel> {
-    match word {
-        "2311" => Ok(DriveModel::D2311),
-        "2314" => Ok(DriveModel::D2314),
-        _ => bail!("no such model: {word}"),
-    }
-}
-
-fn new_volume(alloc: Global, geometry: Geometry) -> Result<MemoryStore> {
-    let Geometry {
-        model,
-        cylinders,
-        ..
-    } = geometry;
-    let store = MemoryStore::zeros(alloc, image_len(model, cylinders))?;
-    match Image::format(store, model, cylinders) {
-        Ok(image) => Ok(image.into_store()),
-        Err((fault, _)) => bail!("{fault}"),
-    }
-}
-
-// Puts bytes from a place on into the slot of a track.
-fn put(
-    store: &mut MemoryStore,
-    geometry: Geometry,
-    track: &str,
-    at: &str,
-    bytes: &[u8],
-) -> Result<()> {
-    let at = number(track)?
-        .checked_mul(geometry.track_size as usize)
-        .and_then(|slot| slot.checked_add(HEADER))
-        .context("no such track")?
-        .saturating_add(number(at)?) as u64;
-    if at > store.len() {
-        bail!("past the end");
-    }
-    store.write_at(at, bytes)?;
-    Ok(())
 }

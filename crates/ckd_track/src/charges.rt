@@ -132,6 +132,3 @@ pub fn fits(model: DriveModel, view: &TrackView, after: Option<usize>, kl: u8, d
         }
     }
 }
-
-#[cfg(test)]
-mod tests;

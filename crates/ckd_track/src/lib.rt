@@ -20,6 +20,3 @@ pub use crate::writes::{
     data_offset_of, end_offset_of, overwrite, put_data, put_end_mark, put_key_data, put_record,
     write_ha,
 };
-
-#[cfg(test)]
-mod tests;

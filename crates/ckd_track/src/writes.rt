@@ -152,6 +152,3 @@ pub fn put_key_data(slot: &mut [u8], i: usize, body: &[u8])
     let at = record_place(slot, i);
     rewrite(slot, at + COUNT_LENGTH, body);
 }
-
-#[cfg(test)]
-mod tests;

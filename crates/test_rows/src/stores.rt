@@ -1,12 +1,16 @@
-//! The stores of rows.
+//! A store that keeps a record of its calls, and of which one fails where that is asked.
 
 use ckd_image::{FailingStore, ImageStore, MemoryStore, StoreFault};
+use std::fmt;
 
 /// How often calls of a kind were made, and where and how long the last was.
 #[derive(Clone, Copy, Debug, PartialEq, Eq)]
-pub(crate) struct Calls {
+pub struct Calls {
+    /// The number of calls.
     pub count: usize,
+    /// The first byte of the store that the last one touched.
     pub at: u64,
+    /// How many bytes it touched.
     pub len: usize,
 }
 
@@ -26,23 +30,32 @@ impl Calls {
     }
 }
 
+impl fmt::Display for Calls {
+    fn fmt<W: fmt::Write>(&self, f: &mut fmt::Formatter<W>) -> fmt::Result {
+        write!(f, "{} {} {}", self.count, self.at, self.len)
+    }
+}
+
 /// Which call of a store fails, counted from 1 on, and whether each later one does; with 0 none fails.
 #[derive(Clone, Copy, Debug, PartialEq, Eq)]
-pub(crate) struct Failure {
+pub struct Failure {
+    /// The number of the call.
     pub at: u32,
+    /// Whether each later call fails too.
     pub for_good: bool,
 }
 
 /// A store that keeps a record of its calls.
 #[derive(Drop)]
-pub(crate) struct Recorder<S: ImageStore> {
+pub struct Recorder<S: ImageStore> {
     store: S,
     reads: Calls,
     writes: Calls,
 }
 
 impl<S: ImageStore> Recorder<S> {
-    pub(crate) fn new(store: S) -> Recorder<S> {
+    /// A record of a store's calls, of which none was made.
+    pub fn new(store: S) -> Recorder<S> {
         Recorder {
             store,
             reads: NO_CALLS,
@@ -50,15 +63,18 @@ impl<S: ImageStore> Recorder<S> {
         }
     }
 
-    pub(crate) fn reads(&self) -> Calls {
+    /// How often it was read.
+    pub fn reads(&self) -> Calls {
         self.reads
     }
 
-    pub(crate) fn writes(&self) -> Calls {
+    /// How often it was written.
+    pub fn writes(&self) -> Calls {
         self.writes
     }
 
-    pub(crate) fn into_inner(self) -> S {
+    /// The store.
+    pub fn into_inner(self) -> S {
         let Recorder {
             store,
             reads: _,
@@ -89,8 +105,9 @@ impl<S: ImageStore> ImageStore for Recorder<S> {
 }
 
 /// The store of a row: it keeps a record of its calls, and one of them fails where that is asked.
-pub(crate) type RowStore = Recorder<FailingStore>;
+pub type RowStore = Recorder<FailingStore>;
 
-pub(crate) fn row_store(store: MemoryStore, failure: Failure) -> RowStore {
+/// The store of a row over bytes in memory.
+pub fn row_store(store: MemoryStore, failure: Failure) -> RowStore {
     Recorder::new(FailingStore::new(store, u64::from(failure.at), failure.for_good))
 }

@@ -1,0 +1,107 @@
+//! The volumes of rows.
+
+use crate::words::{bytes, model_of, number, words_of};
+use anyhow::{Result, bail};
+use ckd_image::{Image, ImageStore, MemoryStore, image_len};
+use ckd_track::Geometry;
+use std::alloc::Global;
+
+// The length of the header, behind which the slots stand.
+const HEADER: u64 = 512;
+
+/// A formatted volume.
+///
+/// # Errors
+///
+/// Fails where the geometry is refused, and where memory runs out.
+pub fn new_volume(alloc: Global, geometry: Geometry) -> Result<MemoryStore> {
+    let Geometry {
+        model,
+        cylinders,
+        ..
+    } = geometry;
+    let store = MemoryStore::zeros(alloc, image_len(model, cylinders))?;
+    match Image::format(store, model, cylinders) {
+        Ok(image) => Ok(image.into_store()),
+        Err((fault, _)) => bail!("{fault}"),
+    }
+}
+
+// What the first line of a volume's block asks for: `volume 2311 2`.
+fn geometry_of(alloc: Global, block: &str) -> Result<Geometry> {
+    for line in block.lines() {
+        if let ["volume", model, cylinders] = words_of(alloc, line)?.as_slice() {
+            return Ok(Geometry::new(model_of(model)?, cylinders.parse::<u16>()?));
+        }
+    }
+    bail!("no volume")
+}
+
+/// Puts what the lines of a block say that begin so, as `track 0 21 C1*80` with `track `: a track, a place in its slot, and
+/// bytes.
+///
+/// # Errors
+///
+/// Fails where such a line is spelled otherwise, where its bytes do not stand in the store, and where memory runs out.
+pub fn put_lines(
+    alloc: Global,
+    store: &mut MemoryStore,
+    geometry: Geometry,
+    block: &str,
+    prefix: &str,
+) -> Result<()> {
+    for line in block.lines() {
+        if let Some(words) = line.strip_prefix(prefix) {
+            put(alloc, store, geometry, words)?;
+        }
+    }
+    Ok(())
+}
+
+// Puts bytes from a place on into the slot of a track.
+fn put(alloc: Global, store: &mut MemoryStore, geometry: Geometry, line: &str) -> Result<()> {
+    let words = words_of(alloc, line)?;
+    let [track, at, body] = words.as_slice() else {
+        bail!("no track, place and bytes");
+    };
+    let body = bytes(alloc, body)?;
+    let at = place_of(geometry, number(track)?, number(at)?);
+    if at > store.len() {
+        bail!("past the end");
+    }
+    store.write_at(at, body.as_slice())?;
+    Ok(())
+}
+
+// Where a place in the slot of a track stands in the file.
+fn place_of(geometry: Geometry, track: usize, at: usize) -> u64 {
+    (track as u64)
+        .saturating_mul(geometry.track_size as u64)
+        .saturating_add(HEADER)
+        .saturating_add(at as u64)
+}
+
+/// The volume of a row, as its own block and that of its volumes say.
+///
+/// # Errors
+///
+/// Fails where a block is spelled otherwise, and where memory runs out.
+pub fn volume_of(alloc: Global, volume: &str, row: &str) -> Result<MemoryStore> {
+    let geometry = geometry_of(alloc, volume)?;
+    let mut store = new_volume(alloc, geometry)?;
+    put_lines(alloc, &mut store, geometry, volume, "track ")?;
+    put_lines(alloc, &mut store, geometry, row, "track ")?;
+    Ok(store)
+}
+
+/// The volume that a row leaves, as its lines say that begin with `left`.
+///
+/// # Errors
+///
+/// Fails where a block is spelled otherwise, and where memory runs out.
+pub fn volume_left(alloc: Global, volume: &str, row: &str) -> Result<MemoryStore> {
+    let mut store = volume_of(alloc, volume, row)?;
+    let geometry = geometry_of(alloc, volume)?;
+    put_lines(alloc, &mut store, geometry, row, "left ")?;
+    Ok(store)
+}

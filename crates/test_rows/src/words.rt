@@ -1,0 +1,119 @@
+//! The words of rows.
+
+use anyhow::{Context, Result, bail};
+use ckd_track::DriveModel;
+use std::alloc::Global;
+
+/// The words of a line.
+///
+/// # Errors
+///
+/// Fails where memory runs out.
+pub fn words_of(alloc: Global, line: &str) -> Result<Vec<&str>> {
+    Ok(line.split_whitespace().collect(alloc)?)
+}
+
+/// The name of a row, which is its first line.
+pub fn name_of(row: &str) -> &str {
+    row.lines().next().unwrap_or("")
+}
+
+/// A byte, as two hexadecimal digits.
+///
+/// # Errors
+///
+/// Fails where the word is none.
+pub fn byte(word: &str) -> Result<u8> {
+    u8::from_str_radix(word, 16).context("no byte")
+}
+
+/// An address in storage, or another word of four bytes, in hexadecimal digits.
+///
+/// # Errors
+///
+/// Fails where the word is none.
+pub fn address(word: &str) -> Result<u32> {
+    u32::from_str_radix(word, 16).context("no address")
+}
+
+/// An input/output address, or another number of two bytes, in hexadecimal digits.
+///
+/// # Errors
+///
+/// Fails where the word is none.
+pub fn unit_address(word: &str) -> Result<u16> {
+    u16::from_str_radix(word, 16).context("no address")
+}
+
+/// A decimal number.
+///
+/// # Errors
+///
+/// Fails where the word is none.
+pub fn number(word: &str) -> Result<usize> {
+    word.parse::<usize>().context("no number")
+}
+
+/// A drive: `2311` or `2314`.
+///
+/// # Errors
+///
+/// Fails at any other word.
+pub fn model_of(word: &str) -> Result<DriveModel> {
+    match word {
+        "2311" => Ok(DriveModel::D2311),
+        "2314" => Ok(DriveModel::D2314),
+        _ => bail!("no such model: {word}"),
+    }
+}
+
+/// Bytes: hexadecimal digits, of which a part may be followed by how often it stands there, as in `0000+C1*80`; or none, `-`.
+///
+/// # Errors
+///
+/// Fails where the word is spelled otherwise, and where memory runs out.
+pub fn bytes(alloc: Global, word: &str) -> Result<Vec<u8>> {
+    let mut bytes = Vec::new(alloc);
+    if word == "-" {
+        return Ok(bytes);
+    }
+    for part in word.split('+') {
+        let (digits, times) = part.split_once('*').unwrap_or((part, "1"));
+        let digits = hex::decode(alloc, digits)?;
+        for _ in 0..number(times)? {
+            bytes.extend_from_slice(digits.as_slice())?;
+        }
+    }
+    Ok(bytes)
+}
+
+/// How bytes are spelled: each with how often it stands there, as in `00*2+C1*80`; or none, `-`.
+///
+/// # Errors
+///
+/// Fails where memory runs out.
+pub fn spelled(alloc: Global, bytes: &[u8]) -> Result<String> {
+    let mut text = String::new(alloc);
+    for run in bytes.chunk_by(|one, other| one == other) {
+        if !text.is_empty() {
+            text.push('+')?;
+        }
+        text.push_str(spelled_run(alloc, run)?.as_str())?;
+    }
+    if text.is_empty() {
+        text.push('-')?;
+    }
+    Ok(text)
+}
+
+// One byte, and how often it stands there.
+fn spelled_run(alloc: Global, run: &[u8]) -> Result<String> {
+    Ok(match run {
+        [byte] => format!(in alloc; "{byte:02X}")?,
+        [byte, ..] => {
+            let times = run.len();
+            format!(in alloc; "{byte:02X}*{times}")?
+        }
+        [] => String::new(alloc),
+    })
+}
