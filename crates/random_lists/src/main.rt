@@ -68,42 +68,67 @@ fn play_random_lists(rt: &HostRuntime) -> Result<()> {
 
 // Lists by chance over stores of which calls fail.
 fn play_failing_lists(rt: &HostRuntime) -> Result<()> {
-    let alloc = rt.alloc();
-    let mut told = Tally::NONE;
-    let mut past = Tally::NONE;
-    let mut faults: u32 = 0;
+    let mut lists = FailingLists::NONE;
     for number in 0..FAILING_LISTS {
-        let mut chance = Chance::new(u64::from(number).saturating_add(1_000_000));
-        let drives = chance.below(4).saturating_add(1);
-        let disks = many_disks(alloc, drives)?;
-        let list = random_list(alloc, &mut chance, drives)?;
-        let failure = random_failure(&mut chance, drives);
-        match fail_list(alloc, disks.as_slice(), list.as_slice(), failure)? {
-            Ending::NoCall => continue,
-            Ending::Told => told = told.and(true),
-            ending => {
-                told = told.and(false);
-                println!(rt; "list {number} with a fault: {ending}")?;
-            }
-        }
-        match go_on(alloc, disks.as_slice(), list.as_slice(), failure)? {
-            Ok(met) => {
-                past = past.and(true);
-                faults = faults.saturating_add(met);
-            }
-            Err(breach) => {
-                past = past.and(false);
-                println!(rt; "list {number} past a fault: {breach}")?;
-            }
-        }
+        lists.play(rt, number)?;
     }
+    let FailingLists {
+        told,
+        past,
+        faults,
+        no_call,
+    } = lists;
     println!(rt;
-        "lists by chance with a fault: {told} as without it, but for what could not be saved"
+        "lists by chance with a fault: {told} as without it up to there; {no_call} met none"
     )?;
     println!(rt;
         "lists by chance past their faults: {past} with answers that may come, and {faults} faults told"
     )?;
     Ok(())
+}
+
+// What came of such lists.
+#[derive(Clone, Copy)]
+struct FailingLists {
+    told: Tally,
+    past: Tally,
+    faults: u32,
+    no_call: u32,
+}
+
+impl FailingLists {
+    const NONE: FailingLists = FailingLists {
+        told: Tally::NONE,
+        past: Tally::NONE,
+        faults: 0,
+        no_call: 0,
+    };
+
+    // One list more.
+    fn play(&mut self, rt: &HostRuntime, number: u32) -> Result<()> {
+        let alloc = rt.alloc();
+        let mut chance = Chance::new(u64::from(number).saturating_add(1_000_000));
+        let drives = chance.below(4).saturating_add(1);
+        let disks = many_disks(alloc, drives)?;
+        let list = random_list(alloc, &mut chance, drives)?;
+        let failure = random_failure(&mut chance, list.as_slice());
+        let ending = fail_list(alloc, disks.as_slice(), list.as_slice(), failure)?;
+        if ending == Ending::NoCall {
+            self.no_call = self.no_call.saturating_add(1);
+            return Ok(());
+        }
+        self.told = self.told.and(ending == Ending::Told);
+        if ending != Ending::Told {
+            println!(rt; "list {number} with a fault: {ending}")?;
+        }
+        let came = go_on(alloc, disks.as_slice(), list.as_slice(), failure)?;
+        self.past = self.past.and(came.is_ok());
+        match came {
+            Ok(met) => self.faults = self.faults.saturating_add(met),
+            Err(breach) => println!(rt; "list {number} past a fault: {breach}")?,
+        }
+        Ok(())
+    }
 }
 
 // Does a list past its faults; how many it met, or what is wrong.
@@ -124,12 +149,21 @@ fn go_on(
     }
 }
 
-// A call of a drive's store; the first one is that of the mount.
-fn random_failure(chance: &mut Chance, drives: u32) -> Failure {
-    let device = chance.below(drives).min(255) as u8;
+// A call of the store of the drive that a list starts first; the first call is that of the mount.
+fn random_failure(chance: &mut Chance, list: &[Event]) -> Failure {
     Failure {
-        device: device.saturating_add(0x90),
+        device: started_first(list),
         at: chance.below(3).saturating_add(2),
         for_good: chance.percent(50),
     }
+}
+
+// The low byte of the address that a list starts first.
+fn started_first(list: &[Event]) -> u8 {
+    for event in list {
+        if let Event::Sio(address) = event {
+            return (*address % 256) as u8;
+        }
+    }
+    0
 }
