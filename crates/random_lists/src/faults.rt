@@ -179,8 +179,10 @@ fn is_only_lost(
 ) -> Result<bool> {
     for (one, other) in one.contents.iter().zip(other.contents.iter()) {
         let others = other_slots(alloc, one, other)?;
-        let may_differ = |at: &u64| one.device == device && Some(*at) == lost;
-        if !others.iter().all(may_differ) {
+        if !others
+            .iter()
+            .all(|at| one.device == device && Some(*at) == lost)
+        {
             return Ok(false);
         }
     }
@@ -212,7 +214,7 @@ pub(crate) fn keeps_slots(alloc: Global, device: u8, watched: &Watched) -> Resul
 
 // Where the slots begin that are others, and the header at 0.
 fn other_slots(alloc: Global, one: &Content, other: &Content) -> Result<Vec<u64>> {
-    let size = one.geometry.track_size as usize;
+    let size = (one.geometry.track_size as usize).max(1);
     let mut others = Vec::new(alloc);
     let (header, slots) = parts(one.store.bytes());
     let (other_header, other_slots) = parts(other.store.bytes());

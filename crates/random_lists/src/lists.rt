@@ -49,6 +49,9 @@ fn add_program(chance: &mut Chance, drives: u32, events: &mut Vec<Event>) -> Res
         events.push(random_event(chance, drives))?;
     }
     events.push(Event::Step(units(chance)))?;
+    if chance.percent(8) {
+        events.push(Event::Reset)?;
+    }
     events.push(Event::Interrupt)?;
     events.push(Event::Arrive(address))?;
     events.push(Event::Interrupt)?;
