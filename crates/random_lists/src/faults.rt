@@ -1,13 +1,16 @@
 //! Lists of events over stores of which a call fails.
 
-use crate::lists::FREE;
-use crate::watching::most_calls;
+use crate::telling::has_equipment_check;
+use crate::watching::{Watched, most_calls};
 use anyhow::Result;
 use s360_channel::SubchannelView;
 use s360_deck::{Answer, Event};
 use std::alloc::Global;
 use std::fmt;
-use watched_channels::{Disk, Failure, Left, TestChannel, Watch, channel_over, finish};
+use watched_channels::{Content, Disk, Failure, Left, TestChannel, Watch, channel_over, finish};
+
+/// The length of an image's header, behind which the slots stand.
+const HEADER_LENGTH: usize = 512;
 
 /// The most units of a step that are done one by one, and at all.
 const MOST_UNITS: u16 = 300;
@@ -71,19 +74,25 @@ pub(crate) fn fail_list(
             Met::Nothing => {}
             Met::Calls => return Ok(Ending::Calls),
             Met::AtReset(None) => return Ok(Ending::NotTold),
-            Met::AtReset(Some(_)) => return judge(alloc, plain, failing),
+            Met::AtReset(Some(_)) => return judge(
+                alloc,
+                failure.device,
+                watch.lost(),
+                plain,
+                failing,
+            ),
             Met::InProgram => {
-                if !is_told(&mut failing) {
+                if !has_equipment_check(&mut failing) {
                     return Ok(Ending::NotTold);
                 }
-                return judge(alloc, plain, failing);
+                return judge(alloc, failure.device, watch.lost(), plain, failing);
             }
         }
         if plain.state() != failing.state() {
             return Ok(Ending::OtherWithoutFault);
         }
     }
-    end(alloc, &watch, plain, failing)
+    end(alloc, &watch, failure.device, plain, failing)
 }
 
 // An event at both channels; a step unit by unit, until a call fails.
@@ -119,56 +128,39 @@ fn react(watch: &Watch, failing: &mut TestChannel, event: &Event) -> Met {
     }
 }
 
-// Whether the program is over with unit check and without incorrect length, and the sense bytes have equipment check.
-fn is_told(failing: &mut TestChannel) -> bool {
-    let SubchannelView::Pending(device, csw) = failing.state().subchannel else {
-        return false;
-    };
-    if csw.unit.0 & 0x02 == 0 || csw.channel.0 & 0x40 != 0 {
-        return false;
-    }
-    let address = u16::from(device).saturating_add(0x100);
-    let _ = failing.interrupt();
-    let _ = failing.arrive(address);
-    let _ = failing.tio(address);
-    has_equipment_check(failing, address)
-}
-
-// Whether a Sense program gives equipment check.
-fn has_equipment_check(failing: &mut TestChannel, address: u16) -> bool {
-    let [_, a0, a1, a2] = FREE.to_be_bytes();
-    let [_, b0, b1, b2] = FREE.saturating_add(8).to_be_bytes();
-    let _ = failing.poke(0x48, &[0, a0, a1, a2]);
-    let _ = failing.poke(FREE, &[0x04, b0, b1, b2, 0, 0, 0, 6]);
-    let _ = failing.sio(address);
-    let _ = failing.step(100);
-    match failing.peek(FREE.saturating_add(8), 1) {
-        Some([sense]) => *sense & 0x10 != 0,
-        _ => false,
-    }
-}
-
-// What is left after the first call that failed: at most one track is another.
-fn judge(alloc: Global, plain: TestChannel, failing: TestChannel) -> Result<Ending> {
+// What is left after the first call that failed: at most the track is another that could not be saved.
+fn judge(
+    alloc: Global,
+    disk: u8,
+    lost: Option<u64>,
+    plain: TestChannel,
+    failing: TestChannel,
+) -> Result<Ending> {
     let plain = finish(alloc, plain)?;
     let failing = finish(alloc, failing)?;
-    if other_tracks(&plain, &failing) > 1 {
-        return Ok(Ending::OtherTracks);
+    if is_only_lost(alloc, disk, lost, &plain, &failing)? {
+        return Ok(Ending::Told);
     }
-    Ok(Ending::Told)
+    Ok(Ending::OtherTracks)
 }
 
 // What is left where no event of the list met a fault; the last reset may meet it.
-fn end(alloc: Global, watch: &Watch, plain: TestChannel, failing: TestChannel) -> Result<Ending> {
+fn end(
+    alloc: Global,
+    watch: &Watch,
+    disk: u8,
+    plain: TestChannel,
+    failing: TestChannel,
+) -> Result<Ending> {
     let plain = finish(alloc, plain)?;
     let failing = finish(alloc, failing)?;
     if watch.has_failed() {
         return Ok(if failing.unsaved.is_none() {
             Ending::NotTold
-        } else if other_tracks(&plain, &failing) > 1 {
-            Ending::OtherTracks
-        } else {
+        } else if is_only_lost(alloc, disk, watch.lost(), &plain, &failing)? {
             Ending::Told
+        } else {
+            Ending::OtherTracks
         });
     }
     if plain.has_same_images(&failing) && plain.has_same_storage(&failing) {
@@ -177,39 +169,71 @@ fn end(alloc: Global, watch: &Watch, plain: TestChannel, failing: TestChannel) -
     Ok(Ending::OtherWithoutFault)
 }
 
-// How many tracks of all disks are others, the header counted as one too.
-fn other_tracks(one: &Left, other: &Left) -> usize {
-    one.contents
-        .iter()
-        .zip(other.contents.iter())
-        .map(|(one, other)| {
-            let size = one.geometry.track_size as usize;
-            count_others(one.store.bytes(), other.store.bytes(), size)
-        })
-        .fold(0, |all: usize, few| all.saturating_add(few))
+// Whether all images are the same but for the slot of this disk that begins here.
+fn is_only_lost(
+    alloc: Global,
+    device: u8,
+    lost: Option<u64>,
+    one: &Left,
+    other: &Left,
+) -> Result<bool> {
+    for (one, other) in one.contents.iter().zip(other.contents.iter()) {
+        let others = other_slots(alloc, one, other)?;
+        if !others
+            .iter()
+            .all(|at| one.device == device && Some(*at) == lost)
+        {
+            return Ok(false);
+        }
+    }
+    Ok(true)
 }
 
-// How many slots are others, and the header.
-fn count_others(one: &[u8], other: &[u8], size: usize) -> usize {
-    let (Some((header, slots)), Some((other_header, other_slots))) = (
-        one.split_at_checked(512),
-        other.split_at_checked(512),
-    ) else {
-        return 2;
+/// Whether a disk whose store fails for good has the slots behind all events that it had behind the first fault, but for those that
+/// could not be saved.
+pub(crate) fn keeps_slots(alloc: Global, device: u8, watched: &Watched) -> Result<bool> {
+    let Some(first) = &watched.first else {
+        return Ok(true);
     };
-    let mut others = usize::from(header != other_header);
-    let mut slots = slots;
-    let mut other_slots = other_slots;
-    for _ in 0..slots.len() {
-        let (Some((slot, rest)), Some((other_slot, other_rest))) = (
-            slots.split_at_checked(size),
-            other_slots.split_at_checked(size),
-        ) else {
-            break;
-        };
-        others = others.saturating_add(usize::from(slot != other_slot));
-        slots = rest;
-        other_slots = other_rest;
+    let (Some(one), Some(other)) = (
+        first
+            .contents
+            .iter()
+            .find(|content| content.device == device),
+        watched
+            .left
+            .contents
+            .iter()
+            .find(|content| content.device == device),
+    ) else {
+        return Ok(false);
+    };
+    let others = other_slots(alloc, one, other)?;
+    Ok(others.iter().all(|at| watched.lost.as_slice().contains(at)))
+}
+
+// Where the slots begin that are others, and the header at 0.
+fn other_slots(alloc: Global, one: &Content, other: &Content) -> Result<Vec<u64>> {
+    let size = (one.geometry.track_size as usize).max(1);
+    let mut others = Vec::new(alloc);
+    let (header, slots) = parts(one.store.bytes());
+    let (other_header, other_slots) = parts(other.store.bytes());
+    if header != other_header || slots.len() != other_slots.len() {
+        others.push(0)?;
     }
-    others
+    let mut at: u64 = HEADER_LENGTH as u64;
+    for (slot, other) in slots.chunks(size).zip(other_slots.chunks(size)) {
+        if slot != other {
+            others.push(at)?;
+        }
+        at = at.saturating_add(size as u64);
+    }
+    Ok(others)
+}
+
+// The header of an image, and its slots.
+fn parts(image: &[u8]) -> (&[u8], &[u8]) {
+    image
+        .split_at_checked(HEADER_LENGTH)
+        .unwrap_or((image, &[]))
 }

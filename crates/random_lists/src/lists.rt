@@ -9,6 +9,9 @@ use std::alloc::Global;
 /// Where chains stand, each of which has 128 bytes.
 const CHAINS: u32 = 0x400;
 
+/// A Recalibrate by itself: channel end comes at once, and device end when the arm has arrived.
+const MOVE: [u8; 8] = [0x13, 0, 0, 0, 0x20, 0, 0, 1];
+
 /// Where the channel address word stands.
 const ADDRESS_WORD: u32 = 0x48;
 
@@ -26,6 +29,8 @@ pub(crate) fn random_list(alloc: Global, chance: &mut Chance, drives: u32) -> Re
     for _ in 0..turns {
         if chance.percent(40) {
             add_program(chance, drives, &mut events)?;
+        } else if chance.percent(10) {
+            add_moving_arm(chance, drives, &mut events)?;
         } else {
             events.push(random_event(chance, drives))?;
         }
@@ -44,9 +49,34 @@ fn add_program(chance: &mut Chance, drives: u32, events: &mut Vec<Event>) -> Res
         events.push(random_event(chance, drives))?;
     }
     events.push(Event::Step(units(chance)))?;
+    if chance.percent(8) {
+        events.push(Event::Reset)?;
+    }
     events.push(Event::Interrupt)?;
     events.push(Event::Arrive(address))?;
     events.push(Event::Interrupt)?;
+    Ok(())
+}
+
+// An arm is sent on its way, and arrives, while the program of a drive runs and others are tested.
+fn add_moving_arm(chance: &mut Chance, drives: u32, events: &mut Vec<Event>) -> Result<()> {
+    let moving = unit_address(chance, drives);
+    events.push(Event::Interrupt)?;
+    events.push(stored(CHAINS, &MOVE))?;
+    let [_, a0, a1, a2] = CHAINS.to_be_bytes();
+    events.push(stored(ADDRESS_WORD, &[0, a0, a1, a2]))?;
+    events.push(Event::Sio(moving))?;
+    events.push(store_chain(chance, 1))?;
+    events.push(store_address_word(chance))?;
+    events.push(Event::Sio(unit_address(chance, drives)))?;
+    for _ in 0..chance.below(4) {
+        events.push(Event::Step(chance.below(4).min(65_535) as u16))?;
+        events.push(match chance.below(3) {
+            0 => Event::Arrive(moving),
+            1 => Event::Tio(moving),
+            _ => Event::Tio(unit_address(chance, drives)),
+        })?;
+    }
     Ok(())
 }
 

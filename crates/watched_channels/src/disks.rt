@@ -14,11 +14,28 @@ const HEADER_LENGTH: u64 = 512;
 /// The bytes of storage.
 const STORAGE: u32 = 8_192;
 
-/// A disk at the low byte of an input/output address, and the bytes of its image.
+/// A disk at the low byte of an input/output address, its model, and the bytes of its image.
 #[derive(Drop)]
 pub struct Disk {
     pub device: u8,
+    pub model: DriveModel,
     pub content: MemoryStore,
+}
+
+impl Disk {
+    /// The input/output address of the disk, and the cylinder and head of the track whose slot begins at this place of its image.
+    pub fn track_at(&self, at: u64) -> (u16, u16, u16) {
+        let size = u64::from(Geometry::new(self.model, 1).track_size);
+        let track = at
+            .saturating_sub(HEADER_LENGTH)
+            .checked_div(size)
+            .unwrap_or(0);
+        let track = track.min(65_535) as u16;
+        let heads = self.model.heads();
+        let cylinder = track.checked_div(heads).unwrap_or(0);
+        let head = track.checked_rem(heads).unwrap_or(0);
+        (u16::from(self.device).saturating_add(0x100), cylinder, head)
+    }
 }
 
 /// A record of a track; its identifier has the track's own cylinder and head.

@@ -11,10 +11,12 @@ pub fn worked_disks(alloc: Global) -> Result<Vec<Disk>> {
     let mut disks = Vec::new(alloc);
     disks.push(Disk {
         device: 0x90,
+        model: DriveModel::D2311,
         content: worked_volume(alloc)?,
     })?;
     disks.push(Disk {
         device: 0x91,
+        model: DriveModel::D2311,
         content: new_volume(alloc, DriveModel::D2311, 1)?,
     })?;
     Ok(disks)
@@ -25,14 +27,21 @@ pub fn worked_disks(alloc: Global) -> Result<Vec<Disk>> {
 pub fn many_disks(alloc: Global, drives: u32) -> Result<Vec<Disk>> {
     let mut disks = Vec::new(alloc);
     for device in 0..drives.min(4) as u8 {
-        let content = match device {
-            0 => worked_volume(alloc)?,
-            1 => keyed_volume(alloc, DriveModel::D2311, 1_600)?,
-            2 => new_volume(alloc, DriveModel::D2311, 1)?,
-            _ => keyed_volume(alloc, DriveModel::D2314, 3_300)?,
+        let (model, content) = match device {
+            0 => (DriveModel::D2311, worked_volume(alloc)?),
+            1 => (
+                DriveModel::D2311,
+                keyed_volume(alloc, DriveModel::D2311, 1_600)?,
+            ),
+            2 => (DriveModel::D2311, new_volume(alloc, DriveModel::D2311, 1)?),
+            _ => (
+                DriveModel::D2314,
+                keyed_volume(alloc, DriveModel::D2314, 3_300)?,
+            ),
         };
         disks.push(Disk {
             device: device.saturating_add(0x90),
+            model,
             content,
         })?;
     }

@@ -8,6 +8,7 @@ use std::cell::Cell;
 pub struct Watch {
     calls: Cell<u64>,
     failed: Cell<u64>,
+    lost: Cell<Option<u64>>,
 }
 
 impl Watch {
@@ -15,6 +16,7 @@ impl Watch {
         Watch {
             calls: Cell::new(0),
             failed: Cell::new(0),
+            lost: Cell::new(None),
         }
     }
 
@@ -23,15 +25,27 @@ impl Watch {
         self.calls.get()
     }
 
+    /// How many of them failed.
+    pub fn failed(&self) -> u64 {
+        self.failed.get()
+    }
+
     /// Whether a call has failed.
     pub fn has_failed(&self) -> bool {
         self.failed.get() > 0
     }
 
-    fn count(&self, came: &Result<(), StoreFault>) {
+    /// Where in its image the slot begins whose write failed, if the last call that failed was a write.
+    pub fn lost(&self) -> Option<u64> {
+        self.lost.get()
+    }
+
+    // Counts a call; what is lost where it failed.
+    fn count(&self, came: &Result<(), StoreFault>, lost: Option<u64>) {
         self.calls.set(self.calls.get().saturating_add(1));
         if came.is_err() {
             self.failed.set(self.failed.get().saturating_add(1));
+            self.lost.set(lost);
         }
     }
 }
@@ -54,13 +68,13 @@ impl<S: ImageStore> ImageStore for WatchedStore<'_, S> {
 
     fn read_at(&mut self, at: u64, into: &mut [u8]) -> Result<(), StoreFault> {
         let came = self.store.read_at(at, into);
-        self.watch.count(&came);
+        self.watch.count(&came, None);
         came
     }
 
     fn write_at(&mut self, at: u64, bytes: &[u8]) -> Result<(), StoreFault> {
         let came = self.store.write_at(at, bytes);
-        self.watch.count(&came);
+        self.watch.count(&came, Some(at));
         came
     }
 }

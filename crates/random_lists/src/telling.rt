@@ -1,0 +1,70 @@
+//! How a call of a store that fails is told.
+
+use crate::lists::FREE;
+use s360_channel::{SubchannelView, View};
+use s360_deck::Answer;
+use watched_channels::{Disk, TestChannel};
+
+/// Whether an event tells so many faults: none where none was met, and otherwise one. A step and a halt tell it by unit check, a reset by
+/// the track that is lost.
+pub(crate) fn tells(
+    disks: &[Disk],
+    answer: &Answer,
+    view: &View,
+    faults: u64,
+    lost: Option<u64>,
+) -> bool {
+    match (answer, faults) {
+        (Answer::Reset(unsaved), 0) => unsaved.is_none(),
+        (Answer::Reset(unsaved), 1) => names(disks, *unsaved, lost),
+        (Answer::Step(_) | Answer::Hio(_, _), 1) => has_unit_check(view),
+        (_, faults) => faults == 0,
+    }
+}
+
+// Whether a reset names the track whose slot begins at this place of its image.
+fn names(disks: &[Disk], unsaved: Option<(u16, u16, u16)>, lost: Option<u64>) -> bool {
+    let (Some((address, cylinder, head)), Some(at)) = (unsaved, lost) else {
+        return false;
+    };
+    disks
+        .iter()
+        .any(|disk| disk.track_at(at) == (address, cylinder, head))
+}
+
+/// Whether a program is over with unit check and without incorrect length.
+fn has_unit_check(view: &View) -> bool {
+    match view.subchannel {
+        SubchannelView::Pending(_, csw) => csw.unit.0 & 0x02 != 0 && csw.channel.0 & 0x40 == 0,
+        _ => false,
+    }
+}
+
+/// Whether a program is over with unit check and without incorrect length, and its device's sense bytes have equipment check.
+pub(crate) fn has_equipment_check(channel: &mut TestChannel) -> bool {
+    let SubchannelView::Pending(device, _) = channel.state().subchannel else {
+        return false;
+    };
+    if !has_unit_check(&channel.state()) {
+        return false;
+    }
+    let address = u16::from(device).saturating_add(0x100);
+    let _ = channel.interrupt();
+    let _ = channel.arrive(address);
+    let _ = channel.tio(address);
+    senses_equipment_check(channel, address)
+}
+
+// Whether a Sense program gives equipment check.
+fn senses_equipment_check(channel: &mut TestChannel, address: u16) -> bool {
+    let [_, a0, a1, a2] = FREE.to_be_bytes();
+    let [_, b0, b1, b2] = FREE.saturating_add(8).to_be_bytes();
+    let _ = channel.poke(0x48, &[0, a0, a1, a2]);
+    let _ = channel.poke(FREE, &[0x04, b0, b1, b2, 0, 0, 0, 6]);
+    let _ = channel.sio(address);
+    let _ = channel.step(100);
+    match channel.peek(FREE.saturating_add(8), 1) {
+        Some([sense]) => *sense & 0x10 != 0,
+        _ => false,
+    }
+}
