@@ -2,12 +2,12 @@
 
 ghost use Rattle.std.specs.Prelude.{◌≤◌, length};
 
-use crate::store::{Failure, RowStore, row_store};
 use anyhow::{Result, bail};
 use ckd_drive::answers::{Begun, Look, Phase};
 use ckd_drive::drive::Drive;
 use ckd_image::{Image, MemoryStore};
 use std::alloc::Global;
+use test_rows::{Failure, RowStore, row_store};
 
 pub(crate) type RecordedDrive = Drive<RowStore>;
 

@@ -4,13 +4,11 @@ ghost use Rattle.std.specs.Prelude.{◌≤◌};
 
 use crate::calls::{self, RecordedDrive, new_drive, store_of};
 use crate::row::{Played, play_calls};
-use crate::store::{Calls, Failure, RowStore};
-use crate::volume::{volume_left, volume_of};
-use crate::words::{number, words_of};
 use anyhow::{Context, Result, bail};
 use ckd_drive::answers::Phase;
 use std::alloc::Global;
 use std::fmt;
+use test_rows::{Calls, Failure, RowStore, number, volume_left, volume_of, words_of};
 
 /// What comes of a row.
 #[derive(Clone, Copy, Debug, PartialEq, Eq)]

@@ -4,10 +4,10 @@ ghost use Rattle.std.specs.Prelude.{◌≤◌};
 
 use crate::calls::{self, RecordedDrive};
 use crate::pieces::{gives, takes};
-use crate::words::{byte, bytes, number, words_of};
 use anyhow::{Result, bail};
 use ckd_drive::answers::{Begun, Look, Phase};
 use std::alloc::Global;
+use test_rows::{byte, bytes, number, words_of};
 
 /// The unit status where only the channel end has come, and the arm still moves; and with unit check.
 const MOVING: u8 = 0x08;

@@ -9,7 +9,6 @@ mod ends;
 mod failing;
 mod files;
 mod row;
-mod words;
 
 use crate::row::{Outcome, play};
 use anyhow::Result;

@@ -3,10 +3,10 @@
 use crate::ends::{DeckReader, LineWriter, ShownLines};
 use crate::failing::over_failing;
 use crate::files::MemoryFiles;
-use crate::words::{bytes, number};
 use anyhow::{Context, Result, bail};
 use dasd_run::{Ending, ProgramFault, obey};
 use std::alloc::Global;
+use test_rows::{bytes, number};
 
 /// What comes of a row.
 #[derive(Debug, Drop)]

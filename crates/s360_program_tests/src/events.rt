@@ -1,11 +1,11 @@
 //! What is done in a row, and what it must come to.
 
 use crate::machine::{Machine, Started};
-use crate::words::{address, byte, bytes, status_word, words_of};
 use anyhow::{Result, bail};
 use s360_words::Csw;
 use std::alloc::Global;
 use std::fmt;
+use test_rows::{address, byte, bytes, words_of};
 
 /// The unit status where only the channel end has come, and the arm still moves.
 const MOVING: u8 = 0x08;
@@ -177,4 +177,11 @@ impl Player {
         }
         self.processor(alloc, words.as_slice())
     }
+}
+
+// A channel status word, as two times eight hexadecimal digits.
+fn status_word(first: &str, second: &str) -> Result<[u8; 8]> {
+    let [a, b, c, d] = address(first)?.to_be_bytes();
+    let [e, f, g, h] = address(second)?.to_be_bytes();
+    Ok([a, b, c, d, e, f, g, h])
 }

@@ -4,7 +4,6 @@ ghost use Rattle.std.specs.Option.{IfSome};
 ghost use Rattle.s360_program.specs.Stands.{Stands};
 ghost use Rattle.s360_program_tests.specs.Standing.{if-stands-prop};
 
-use crate::store::RowStore;
 use anyhow::{Result, bail};
 use ckd_drive::answers::Phase;
 use ckd_drive::drive::Drive;
@@ -12,6 +11,7 @@ use ckd_image::Image;
 use s360_program::program::{Advance, Running, Start};
 use s360_words::{Csw, Storage};
 use std::alloc::Global;
+use test_rows::RowStore;
 
 /// The bytes of storage.
 const SIZE: u32 = 65536;

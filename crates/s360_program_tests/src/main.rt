@@ -11,12 +11,10 @@ mod events;
 mod machine;
 mod outcome;
 mod row;
-mod store;
-mod volume;
-mod words;
 
 use anyhow::Result;
 use std::io;
+use test_rows::name_of;
 
 fn main(rt: HostRuntime) -> Result<()> {
     let text = io::read_to_string(rt.alloc(), rt.reader())?;
@@ -27,7 +25,7 @@ fn main(rt: HostRuntime) -> Result<()> {
             continue;
         }
         let played = outcome::play(rt.alloc(), volume, block)?;
-        println!(rt; "{}: {played}", words::name_of(block))?;
+        println!(rt; "{}: {played}", name_of(block))?;
     }
     Ok(())
 }

@@ -2,12 +2,10 @@
 
 use crate::events::Player;
 use crate::machine::{all_bytes, new_storage};
-use crate::store::{Calls, Failure, RowStore};
-use crate::volume::volume_left;
-use crate::words::{address, bytes, number, words_of};
 use anyhow::{Result, bail};
 use s360_words::Storage;
 use std::alloc::Global;
+use test_rows::{Calls, Failure, RowStore, address, bytes, number, volume_left, words_of};
 
 // Whether a line does nothing: it says what the volume holds, which call of the store fails, or what is left in the end.
 fn does_nothing(line: &str) -> bool {
