@@ -28,7 +28,8 @@ pub const FAILED: DriveEnding = DriveEnding {
 };
 
 /// Ends a program whose last command ended so: the drive saves the track that was written.
-#[inline(always)]
+// Out of the way of the units that go on, which it made slower.
+#[inline(never)]
 pub fn end_program<S: ImageStore>(
     run: &Run,
     ending: DriveEnding,
