@@ -1,7 +1,7 @@
 //! What the channel tells of a program's end, beside what the drive tells (Principles of Operation, Input/Output Operations:
 //! 'Channel Status Conditions').
 
-ghost use Rattle.std.specs.Prelude.{◌≡◌, ◌+◌, ◌<◌, ◌^◌};
+ghost use Rattle.std.specs.Prelude.{◌≡◌};
 ghost use Rattle.s360_runs.specs.Endings.{csw_at};
 ghost use Rattle.s360_runs.specs.Status.{beside, with_interruption};
 ghost use Rattle.s360_program.specs.Places.{place_of};

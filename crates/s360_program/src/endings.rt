@@ -1,6 +1,6 @@
 //! How a program ends (Principles of Operation, Input/Output Operations: 'Conclusion of Input/Output Operations').
 
-ghost use Rattle.std.specs.Prelude.{◌≡◌, ◌+◌, ◌≤◌, ◌^◌, false, [], Some};
+ghost use Rattle.std.specs.Prelude.{◌≡◌, false, [], Some};
 ghost use Rattle.ckd_command.specs.Drive.{is_written, unsaved};
 ghost use Rattle.s360_runs.specs.Endings.{ending as ending_with};
 ghost use Rattle.ckd_drive.specs.Work.{passed_of, fault_met, CallsStore, Reports};

@@ -1,4 +1,4 @@
-use Rattle.std.proofs.Common.{◌≡◌, ◌∙◌, ◌&&◌, not, sym, ap, subst}
+use Rattle.std.proofs.Common.{◌∙◌, ◌&&◌, not, sym, ap, subst}
 use Rattle.s360_words.specs.Words.{suppresses_length}
 use Rattle.ckd_drive.specs.Work.{DriveState, closed_of}
 use Rattle.s360_runs.specs.Commands.{choice}
