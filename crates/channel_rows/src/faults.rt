@@ -30,17 +30,19 @@ enum Report {
     Silent(&'static str),
 }
 
-/// Plays a row with each call of the store of a drive failing, and answers the first that is not told as it must be.
+/// Plays a row with each call of the store of a drive failing, and answers the first that is not told as it must be; counts
+/// those that were tried.
 pub(crate) fn sweep(
     alloc: Global,
     volumes: &Volumes,
     row: &str,
     device: u8,
+    tried: &mut u32,
 ) -> Result<Option<String>> {
     let Some(sound) = play_course(alloc, volumes, row, device, None)? else {
         bail!("no image");
     };
-    silent_call(alloc, volumes, row, &sound, device)
+    silent_call(alloc, volumes, row, &sound, device, tried)
 }
 
 // The first call of the store of a drive that is not told where it fails, beside a course without faults.
@@ -50,12 +52,13 @@ fn silent_call(
     row: &str,
     sound: &Course,
     device: u8,
+    tried: &mut u32,
 ) -> Result<Option<String>> {
     for at in 1..100 {
         for for_good in [false, true] {
             match report_of(alloc, volumes, row, sound, device, Failure { at, for_good })? {
                 Report::NoCall => return Ok(None),
-                Report::Told => {}
+                Report::Told => *tried = tried.saturating_add(1),
                 Report::Silent(why) => {
                     return Ok(Some(format!(in alloc; "call {at}, {for_good}: {why}")?));
                 }

@@ -32,7 +32,8 @@
 //! | `serial` | behind it stands a deck; `=` its serial list, and `~` the answers to that |
 //! | `cuts` | the program is cut at each of its units, and done again by its serial list |
 //!
-//! For each row its name is printed, with `ok` or the first line that is not as it must be.
+//! For each row its name is printed, with `ok` or the first line that is not as it must be; and in the end how many calls of a
+//! store failed in turn, each of which was told.
 #![tactic(auto)]
 
 mod calls;
@@ -55,12 +56,13 @@ use test_rows::byte;
 fn main(rt: HostRuntime) -> Result<()> {
     let text = io::read_to_string(rt.alloc(), rt.reader())?;
     let volumes = Volumes::of(rt.alloc(), text.as_str())?;
+    let mut tried = 0;
     for row in text.as_str().split("\n\n") {
         if row.starts_with("volume ") {
             continue;
         }
         let name = row.lines().next().unwrap_or("");
-        match play(rt.alloc(), &volumes, row)? {
+        match play(rt.alloc(), &volumes, row, &mut tried)? {
             None => println!(rt; "{name}: ok")?,
             Some(other) => {
                 print!(rt; "{name}: OTHERWISE at: ")?;
@@ -68,11 +70,12 @@ fn main(rt: HostRuntime) -> Result<()> {
             }
         }
     }
+    println!(rt; "calls of a store that failed, each told: {tried}")?;
     Ok(())
 }
 
-// Plays a row, and answers what is not as it must be.
-fn play(alloc: Global, volumes: &Volumes, row: &str) -> Result<Option<String>> {
+// Plays a row, and answers what is not as it must be; counts the calls of a store that failed.
+fn play(alloc: Global, volumes: &Volumes, row: &str, tried: &mut u32) -> Result<Option<String>> {
     if let Some((row, deck)) = row.split_once("\nserial\n") {
         return match lists::play_list(alloc, volumes, row, deck)? {
             Some(line) => Ok(Some(line.to_string(alloc)?)),
@@ -83,7 +86,7 @@ fn play(alloc: Global, volumes: &Volumes, row: &str) -> Result<Option<String>> {
         return lists::play_cuts(alloc, volumes, row);
     }
     match play_lines(alloc, volumes, row)? {
-        None => try_faults(alloc, volumes, row),
+        None => try_faults(alloc, volumes, row, tried),
         other => Ok(other),
     }
 }
@@ -102,10 +105,15 @@ fn play_lines(alloc: Global, volumes: &Volumes, row: &str) -> Result<Option<Stri
 }
 
 // Plays a row with faults, and event by event, where its lines ask that.
-fn try_faults(alloc: Global, volumes: &Volumes, row: &str) -> Result<Option<String>> {
+fn try_faults(
+    alloc: Global,
+    volumes: &Volumes,
+    row: &str,
+    tried: &mut u32,
+) -> Result<Option<String>> {
     for line in row.lines() {
         let came = match line.split_once(' ') {
-            Some(("sweep", device)) => faults::sweep(alloc, volumes, row, byte(device)?)?,
+            Some(("sweep", device)) => faults::sweep(alloc, volumes, row, byte(device)?, tried)?,
             Some(("limits", device)) => {
                 match limits::too_often(alloc, volumes, row, byte(device)?)? {
                     Some(count) => Some(format!(in alloc; "event {count}")?),
