@@ -15,7 +15,7 @@ use Rattle.ckd_position.specs.declared.areas.Part.{Part}
 use Rattle.ckd_position.specs.declared.extents.Extent.{Extent}
 use Rattle.ckd_position.specs.declared.extents.Extent.TheVariants as extent
 use Rattle.ckd_position.specs.Contents.{Sighted, bytes_of, record_on, records_on, is_readable}
-use Rattle.ckd_cache.specs.Buffer.{Lies, Tabled, IsRead, IsIndexed, HasBytes, StandsThere, home_address_place, record_place}
+use Rattle.ckd_cache.specs.Buffer.{Lies, Tabled, IsRead, IsIndexed, IsBuffer, HasBytes, StandsThere, home_address_place, record_place}
 
 pub read_as : (slot : List ℕ) → Spells slot (track_in slot) → 5 ≤ length slot
 read_as slot s = omega (arith, ap length (home_is slot (track_in slot) s), length-take 5 slot, s.home_address)
@@ -147,6 +147,9 @@ table_past slot offsets n i t le =
 -- the buffer's facts, of the slot as callers see it
 pub seen_index : (slot now offsets : List ℕ) (records : Option ℕ) → slot ≡ now → IsIndexed slot offsets records → IsIndexed now offsets records
 seen_index slot now offsets records e i = (let P : List ℕ → Type 0 = λ s. IsIndexed s offsets records in subst P e i)
+
+pub seen_buffer : (slot now offsets : List ℕ) (records : Option ℕ) (zeros_from : ℕ) → slot ≡ now → IsBuffer slot offsets records zeros_from → IsBuffer now offsets records zeros_from
+seen_buffer slot now offsets records zeros_from e i = (let P : List ℕ → Type 0 = λ s. IsBuffer s offsets records zeros_from in subst P e i)
 
 pub read_by : (slot table : List ℕ) (answer : Result ℕ SlotFault) (t : Sighted) → ((i : ℕ) → Fits w8 (get_or slot i 0)) → track_of slot ≡ t → answer ≡ number_of_records t
     → IfOk answer (λ n. offsets_of slot ≡ Ok (take n table)) → IfOk answer (λ n. n ≤ length table) → IsRead slot table (result_ok answer)

@@ -1,4 +1,5 @@
 pub mod AreaPlaces
 pub mod Writes
+pub mod Zeros
 pub mod Updates
 pub mod Caches

@@ -1,5 +1,5 @@
 -- Slots whose area is written bit by bit.
-use Rattle.std.proofs.Common.{◌≡◌, ◌∙◌, ap, sym, subst, refl, ℕ, zero, suc, ◌+◌, ◌-◌, ◌≤◌, ◌<◌, List, ◌∷◌, ◌++◌, length, take, drop, flat_map, replicate, length-append, length-take, drop-drop, append_assoc, Ok, arith}
+use Rattle.std.proofs.Common.{◌≡◌, ◌∙◌, ap, sym, subst, refl, ℕ, zero, suc, ◌+◌, ◌-◌, ◌≤◌, ◌<◌, max, true, false, Option, Some, None, List, ◌∷◌, ◌++◌, length, take, drop, flat_map, replicate, length-append, length-take, drop-drop, append_assoc, Ok, arith}
 use Rattle.std.proofs.lemmas.List.{length-replicate, drop_at, take-append-drop}
 use Rattle.ckd_track.specs.Track.{Track, track_of, track_in, track_or_none, record_in, record_offsets, record_bytes, spelling, slot_of, end_mark}
 use Rattle.ckd_track.specs.Changes.{end_offset, overwritten, ended_at}
@@ -8,8 +8,9 @@ use Rattle.ckd_track.proofs.Rewritten.{length-overwritten, overwritten-middle}
 use Rattle.ckd_position.specs.declared.areas.Area.TheVariants.{Of}
 use Rattle.ckd_position.specs.declared.areas.Part.{Part}
 use Rattle.ckd_position.specs.declared.extents.Extent.{Extent}
-use Rattle.ckd_position.specs.Contents.{padded, replaced, with_record_changed}
-use Rattle.ckd_cache.specs.Buffer.{FitsSlot, IsUpdate, SameRecords}
+use Rattle.ckd_position.specs.Contents.{is_readable, padded, replaced, with_record_changed}
+use Rattle.ckd_cache.specs.Buffer.{FitsSlot, IsUpdate, SameRecords, IsIndexed, IsBuffer}
+use Rattle.ckd_cache.proofs.Zeros.{drop_over, zero_over}
 use Rattle.ckd_cache.proofs.Writes.{update_is, update_offset, update_length}
 
 -- Behind its records a slot that was made of a track has the end mark and zeros.
@@ -27,16 +28,6 @@ spelled_length : (t : Track) → length (spelling t) ≡ end_offset t + 8
 spelled_length t =
     let F = flat_map record_bytes t.records in
     omega (arith, length-append t.home_address (F ++ end_mark), length-append F end_mark)
-
-drop_over : (s : List ℕ) (off e : ℕ) (b : List ℕ) → off + length b ≤ e → e ≤ length s → drop e (overwritten s off b) ≡ drop e s
-drop_over s off e b le room =
-    let k : ℕ = e - (off + length b) in
-    let e_is : e ≡ off + length b + k = omega (arith, le) in
-    let front : length (take off s ++ b) ≡ off + length b = omega (arith, length-append (take off s) b, length-take off s, le, room) in
-    let is : overwritten s off b ≡ (take off s ++ b) ++ drop (off + length b) s = sym (append_assoc (take off s) b (drop (off + length b) s)) in
-    let first : drop (off + length b) (overwritten s off b) ≡ drop (off + length b) s = rw is (drop_at (take off s ++ b) (drop (off + length b) s) (off + length b) front) in
-    let P : ℕ → Type 0 = λ m. drop m (overwritten s off b) ≡ drop m s in
-    subst P (sym e_is) (sym (drop-drop k (off + length b) (overwritten s off b)) ∙ ap (λ (x : List ℕ). drop k x) first ∙ drop-drop k (off + length b) s)
 
 ended_same : (size : ℕ) (t : Track) (off : ℕ) (b : List ℕ) → length (slot_of size t) ≡ size → off + length b ≤ end_offset t → end_offset t + 8 ≤ size
     → ended_at (overwritten (slot_of size t) off b) (end_offset t) ≡ overwritten (slot_of size t) off b
@@ -103,3 +94,19 @@ same_records size old new t reads f is offs =
     let read = slot_of_reads size t f.home_address f.records in
     let same : track_in (slot_of size t) ≡ t = ap track_or_none read in
     subst P (sym is) (record { old_read = reads; spells = rw same (slot_of_spells size t f.home_address f.records); read = rw same read; offsets = rw same offs })
+
+-- A slot and its table where other bytes were put that leave the records in their places.
+pub put_indexed : (old new offsets : List ℕ) (records : Option ℕ) → IsIndexed old offsets records → SameRecords old new → length new ≡ length old → IsIndexed new offsets records
+put_indexed old new offsets (Some n) x s long = record {
+  room = rw long x.room;
+  size = rw long x.size;
+  read = record { read = s.read; spells = s.spells; within = x.read.within; table = x.read.table ∙ sym s.offsets };
+}
+put_indexed old new offsets None x s long = absurd (let no : is_readable (track_of old) ≡ false = x.read in let yes = ap is_readable s.old_read in cc)
+
+pub put_buffer : (old offsets : List ℕ) (records : Option ℕ) (zeros_from at : ℕ) (b : List ℕ) → IsBuffer old offsets records zeros_from → at + length b ≤ length old → SameRecords old (overwritten old at b)
+    → IsBuffer (overwritten old at b) offsets records (max zeros_from (at + length b))
+put_buffer old offsets records zeros_from at b x room s = record {
+  indexed = put_indexed old (overwritten old at b) offsets records x.indexed s (length-overwritten old at b room);
+  cleared = zero_over old at b zeros_from (max zeros_from (at + length b)) x.cleared (omega arith) (omega arith) (omega (arith, x.cleared.within, room));
+}

@@ -354,6 +354,16 @@ clear_is e slot (Of part i) w end u s there p last =
     let F : Track → Type 0 = λ x. FitsSlot (length slot) x in
     (rw (place.0, place.1, last, end_is t) (k.law ∙ ap (slot_of (length slot)) same), subst F same k.fits, ap record_offsets (sym same) ∙ k.offsets)
 
+-- the place of an update lies before the end mark
+pub window_within : (e : Extent) (slot : List ℕ) (area : Area) (w : Window) (end : ℕ) → (let t = track_in slot in IsUpdate e → Spells slot t → IsRecordOf t area → IsPlaceOf e t area w → end ≡ end_of_records t (length t.records) → w.start + w.len ≤ end)
+window_within e slot HomeAddress w end u s there p last = absurd there
+window_within e slot (Of part i) w end u s there p last =
+    let t = track_in slot in
+    let n = update_length e (record_in t i) in
+    let place = update_place e t part i w u there p in
+    let k = update_is e slot t part i (replicate n 0) u s there (length-replicate {A = ℕ} n 0) in
+    omega (arith, place.0, place.1, last, end_is t, k.within, length-replicate {A = ℕ} n 0)
+
 -- What fits.
 pub fits_room : (model : DriveModel) (slot : List ℕ) (before : Option ℕ) (after : Option Area) (count : List ℕ) → Spells slot (track_in slot) → length count ≡ 8 → kept_records before (track_in slot) ≡ kept (track_of slot) after
     → has_room model (kept_records before (track_in slot)) (key_length count) (data_length count) ≡ true → length (spelling (formatted (track_of slot) after count)) ≤ capacity_of model + 37

@@ -1,5 +1,5 @@
 -- One slot at hand, and a table of its records.
-use Rattle.std.specs.Prelude.{◌≡◌, ℕ, ◌+◌, ◌-◌, ◌/◌, ◌≤◌, ◌<◌, ◌^◌, List, false, Option, Some, None, Ok, length, take, flat_map, slice_range, slice_index, All}
+use Rattle.std.specs.Prelude.{◌≡◌, ℕ, ◌+◌, ◌-◌, ◌/◌, ◌≤◌, ◌<◌, ◌^◌, List, false, Option, Some, None, Ok, length, take, drop, flat_map, replicate, slice_range, slice_index, All}
 use Rattle.ckd_track.specs.Track.{Track, IsRecord, Spells, track_of, track_in, record_offsets, record_in, record_bytes, spelling}
 use Rattle.ckd_position.specs.declared.areas.Area.{Area}
 use Rattle.ckd_position.specs.declared.areas.Area.TheVariants.{HomeAddress, Of}
@@ -29,6 +29,16 @@ pub record IsIndexed (slot offsets : List ℕ) (records : Option ℕ) : Type 0 w
   pub room : (length slot - 5) / 8 ≤ length offsets
   pub size : length slot < 2 ^ 32
   pub read : IsRead slot offsets records
+
+-- from there on all bytes are zero
+pub record IsZeroFrom (slot : List ℕ) (from : ℕ) : Type 0 where
+  pub within : from ≤ length slot
+  pub zeros : drop from slot ≡ replicate (length slot - from) 0
+
+-- a slot with its table, of which only the bytes before an offset can be other than zero
+pub record IsBuffer (slot offsets : List ℕ) (records : Option ℕ) (zeros_from : ℕ) : Type 0 where
+  pub indexed : IsIndexed slot offsets records
+  pub cleared : IsZeroFrom slot zeros_from
 
 -- where these bytes of the home address stand
 abbrev pub home_address_place : Extent → Window

@@ -1,6 +1,6 @@
 //! The slot of one track at hand, with a table of where its records stand.
 
-ghost use Rattle.std.specs.Prelude.{◌≡◌, ◌≤◌, ◌<◌, ◌+◌, ◌-◌, ◌/◌, ◌^◌, ◌++◌, length, take, drop, replicate, bytes_eq, false, slice_index_or, IfOk, OnOk, OnErr, Ok, Some, [], true, IsSome};
+ghost use Rattle.std.specs.Prelude.{◌≡◌, ◌≤◌, ◌<◌, ◌+◌, ◌-◌, ◌/◌, ◌^◌, ◌++◌, ◌==◌, max, length, take, drop, replicate, bytes_eq, false, slice_index_or, IfOk, OnOk, OnErr, Ok, Some, [], true, IsSome};
 ghost use Rattle.ckd_track.specs.Track.{track_of, track_in, track_or_none, no_track, spelling, slot_of, end_mark, body_length as body_length_of, key_length as key_length_of, data_length as data_length_of, IsRecord};
 ghost use Rattle.ckd_track.specs.Geometry.{tracks_of};
 ghost use Rattle.ckd_position.specs.Areas.{next_of_kind, IsOnTrack, IfFound};
@@ -9,12 +9,12 @@ ghost use Rattle.ckd_track.specs.Charges.{has_room};
 ghost use Rattle.ckd_track.specs.Model.{capacity_of};
 ghost use Rattle.std.specs.Option.{ForSome};
 ghost use Rattle.ckd_position.specs.Contents.{records_on, bytes_of, is_readable as reads, has_no_data as lacks_data, formatted as track_formatted, with_record_changed, replaced, kept as kept_on, record_before as before_of};
-ghost use Rattle.ckd_cache.specs.Buffer.{Lies, HasBytes, IsPlaceOf, StandsThere, home_address_place, record_place, IsRead, end_of_records, number_up_to, IsRecordOf, SameRecords, FitsSlot, IsUpdate};
+ghost use Rattle.ckd_cache.specs.Buffer.{Lies, HasBytes, IsPlaceOf, StandsThere, home_address_place, record_place, IsRead, end_of_records, number_up_to, IsRecordOf, SameRecords, FitsSlot, IsUpdate, IsZeroFrom};
 
 use crate::windows::Window;
 use ckd_image::{Image, ImageStore, StoreFault};
 use ckd_position::{Area, Extent, Kind, Next, Position, next_area};
-use ckd_track::{DriveModel, fits, index_slot, overwrite, put_end_mark, view_at, write_ha};
+use ckd_track::{DriveModel, fits, index_slot, overwrite, view_at};
 use std::alloc::{AllocError, Global};
 use std::marker::Model;
 
@@ -30,17 +30,19 @@ pub struct TrackBuffer {
     offsets: Vec<u32>,
     /// How many records it has, or `None` where it does not read whole.
     records: Option<usize>,
+    /// From here on all bytes of the slot are zero, so that nothing is left there to be cleared.
+    zeros_from: usize,
 }
 
 impl Model for TrackBuffer {
     ghost use Rattle.std.specs.Prelude.{List, ℕ};
-    ghost use Rattle.ckd_cache.specs.Buffer.{IsIndexed};
+    ghost use Rattle.ckd_cache.specs.Buffer.{IsBuffer};
 
     ghost Value = { List ℕ };
 
     ghost view = { λ b. b.slot.items };
 
-    ghost invariant = { λ b. IsIndexed b.slot.items b.offsets.items b.records };
+    ghost invariant = { λ b. IsBuffer b.slot.items b.offsets.items b.records b.zeros_from };
 }
 
 // Notes where the records stand, and answers how many there are if the slot reads whole.
@@ -67,25 +69,50 @@ fn clear(slot: &mut [u8], at: usize, n: usize)
     slot[at..at + n].fill(0);
 }
 
+// The end mark at an offset, and zeros behind it, where only zeros stand from some place on.
+fn put_end(slot: &mut [u8], at: usize, zeros_from: usize)
+    requires room { at + 8 ≤ length slot.old }
+    requires zeros { IsZeroFrom slot.old (max zeros_from (at + 8)) }
+    ensures { slot.new ≡ ended_at slot.old at }
+{
+    let behind = at + COUNT_LENGTH;
+    overwrite(slot, at, &[0xff; COUNT_LENGTH]);
+    if behind < zeros_from {
+        clear(slot, behind, zeros_from - behind);
+    }
+}
+
+// The home address, and behind it the end mark and zeros.
+fn put_home_address(slot: &mut [u8], home_address: &[u8; 5], zeros_from: usize)
+    requires room { 13 ≤ length slot.old }
+    requires zeros { IsZeroFrom slot.old zeros_from }
+    ensures { slot.new ≡ ended_at (overwritten slot.old 0 home_address.now) 5 }
+{
+    overwrite(slot, 0, home_address);
+    put_end(slot, HOME_ADDRESS_LENGTH, zeros_from);
+}
+
 // A record of these count bytes at an offset, with so many zeros as its key and data; behind it the end mark and zeros.
-fn put_new(slot: &mut [u8], at: usize, count: &[u8; 8], body: usize)
-    requires { at + 8 + body + 8 ≤ length slot.old }
+fn put_new(slot: &mut [u8], at: usize, count: &[u8; 8], body: usize, zeros_from: usize)
+    requires room { at + 8 + body + 8 ≤ length slot.old }
+    requires zeros { IsZeroFrom slot.old zeros_from }
     ensures { slot.new ≡ ended_at (overwritten (overwritten slot.old at count.now) (at + 8) (replicate body 0)) (at + 8 + body) }
 {
     let end = at + COUNT_LENGTH + body;
     overwrite(slot, at, count);
     clear(slot, at + COUNT_LENGTH, body);
-    put_end_mark(slot, end);
+    put_end(slot, end, zeros_from);
 }
 
 // Zeros in a window, and behind the end mark.
-fn clear_window(slot: &mut [u8], window: Window, end: usize)
-    requires window { window.start + window.len ≤ length slot.old }
+fn clear_window(slot: &mut [u8], window: Window, end: usize, zeros_from: usize)
+    requires window { window.start + window.len ≤ end }
     requires end { end + 8 ≤ length slot.old }
+    requires zeros { IsZeroFrom slot.old zeros_from }
     ensures { slot.new ≡ ended_at (overwritten slot.old window.start (replicate window.len 0)) end }
 {
     clear(slot, window.start, window.len);
-    put_end_mark(slot, end);
+    put_end(slot, end, zeros_from);
 }
 
 // How many records stand before one that is made behind this one.
@@ -157,6 +184,20 @@ fn record_window(slot: &[u8], at: usize, extent: Extent) -> Window
     Window { start, len }
 }
 
+// The same, and whether the record has no data.
+#[inline(always)]
+fn record_part(slot: &[u8], at: usize, extent: Extent) -> (Window, bool)
+    requires room { at + 8 ≤ length slot.now }
+    requires size { length slot.now < 2 ^ 32 }
+    ensures place { result.0 ≡ record_place extent at (key_length_of (drop at slot.now)) (data_length_of (drop at slot.now)) }
+    ensures no_data { result.1 ≡ (data_length_of (drop at slot.now) == 0) }
+{
+    (
+        record_window(slot, at, extent),
+        record_window(slot, at, Extent::Data).len == 0,
+    )
+}
+
 impl TrackBuffer {
     /// A buffer for slots of this size, and a table that has room for the records of any of them.
     ///
@@ -174,6 +215,7 @@ impl TrackBuffer {
             slot,
             offsets,
             records,
+            zeros_from: size,
         })
     }
 
@@ -202,6 +244,7 @@ impl TrackBuffer {
         ensures length { length self.new ≡ length self.old }
     {
         let answer = image.load(track, &mut self.slot);
+        self.zeros_from = self.slot.len();
         self.records = index(&self.slot, &mut self.offsets);
         answer
     }
@@ -231,13 +274,7 @@ impl TrackBuffer {
         ensures lies { Lies self.now result (bytes_of extent (track_of self.now) area) }
         ensures place { IsPlaceOf extent (track_in self.now) area result }
     {
-        match area {
-            Area::HomeAddress => home_address_window(extent),
-            Area::Of(_, i) => match self.offset_of(i) {
-                Some(at) => record_window(&self.slot, at, extent),
-                None => Window { start: 0, len: 0 },
-            },
-        }
+        self.part(extent, area).0
     }
 
     /// Whether the area's record has no data, or is not there.
@@ -245,11 +282,24 @@ impl TrackBuffer {
         requires { reads (track_of self.now) ≡ true }
         ensures { result ≡ lacks_data (track_of self.now) (Some area) }
     {
+        self.part(Extent::Nothing, area).1
+    }
+
+    /// Where these bytes of an area stand, an empty part where there are none; and whether its record has no data, or is
+    /// not there.
+    #[inline(always)]
+    pub fn part(&self, extent: Extent, area: Area) -> (Window, bool)
+        requires readable { reads (track_of self.now) ≡ true }
+        requires on_track { HasBytes extent (track_of self.now) area }
+        ensures lies { Lies self.now result.0 (bytes_of extent (track_of self.now) area) }
+        ensures place { IsPlaceOf extent (track_in self.now) area result.0 }
+        ensures no_data { result.1 ≡ lacks_data (track_of self.now) (Some area) }
+    {
         match area {
-            Area::HomeAddress => false,
+            Area::HomeAddress => (home_address_window(extent), false),
             Area::Of(_, i) => match self.offset_of(i) {
-                Some(at) => record_window(&self.slot, at, Extent::Data).len == 0,
-                None => true,
+                Some(at) => record_part(&self.slot, at, extent),
+                None => (Window { start: 0, len: 0 }, true),
             },
         }
     }
@@ -326,8 +376,9 @@ impl TrackBuffer {
         ensures slot { self.new ≡ slot_of (length self.old) (bare_track home_address) }
         ensures size { length self.new ≡ length self.old }
     {
-        write_ha(&mut self.slot, home_address);
+        put_home_address(&mut self.slot, &home_address, self.zeros_from);
         self.records = Some(0);
+        self.zeros_from = HOME_ADDRESS_LENGTH + COUNT_LENGTH;
     }
 
     /// Writes a record of these count bytes behind the kept ones, with zeros in its key and data, removes all records
@@ -344,9 +395,10 @@ impl TrackBuffer {
         let kept = records_up_to(self.before(after));
         let at = self.end_of(kept);
         let body = body_length(&count);
-        put_new(&mut self.slot, at, &count, body);
+        put_new(&mut self.slot, at, &count, body, self.zeros_from);
         self.offsets[kept] = at as u32;
         self.records = Some(kept + 1);
+        self.zeros_from = at + COUNT_LENGTH + body + COUNT_LENGTH;
         kept
     }
 
@@ -361,7 +413,8 @@ impl TrackBuffer {
     {
         let window = self.window(extent, area);
         let end = self.end_of(self.records.unwrap_or(0));
-        clear_window(&mut self.slot, window, end);
+        clear_window(&mut self.slot, window, end, self.zeros_from);
+        self.zeros_from = end + COUNT_LENGTH;
     }
 
     /// Puts other bytes into the slot, where its records stay in their places.
@@ -372,5 +425,6 @@ impl TrackBuffer {
         ensures size { length self.new ≡ length self.old }
     {
         overwrite(&mut self.slot, at, bytes);
+        self.zeros_from = self.zeros_from.max(at + bytes.len());
     }
 }

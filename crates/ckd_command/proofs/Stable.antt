@@ -4,10 +4,10 @@ use Rattle.std.proofs.Common.{◌≡◌, refl, sym, ap, subst, ◌∙◌, true, 
 use Rattle.ckd_command.specs.declared.steps.Aim.{Aim}
 use Rattle.ckd_command.specs.declared.steps.Aim.TheVariants.{NoArea, Next, Credited}
 use Rattle.ckd_command.specs.declared.steps.Opened.{Opened}
-use Rattle.ckd_command.specs.declared.steps.Beginning.{Beginning}
-use Rattle.ckd_command.specs.declared.steps.Beginning.TheVariants as beginning
-use Rattle.ckd_command.specs.declared.steps.Sight.{Sight}
-use Rattle.ckd_command.specs.declared.steps.Sight.TheVariants as sight
+use Rattle.ckd_command.specs.Beginnings.{Beginning}
+use Rattle.ckd_command.specs.Beginnings as beginning
+use Rattle.ckd_command.specs.Sights.{Sight}
+use Rattle.ckd_command.specs.Sights as sight
 use Rattle.ckd_command.specs.Tables.{aim}
 use Rattle.ckd_command.specs.Commands.{Closing, closing}
 use Rattle.ckd_command.specs.Commands as commands

@@ -32,11 +32,9 @@ use Rattle.ckd_command.specs.declared.registers.Lap.TheVariants.{First, Second}
 use Rattle.ckd_command.specs.declared.steps.Aim.{Aim}
 use Rattle.ckd_command.specs.declared.steps.Aim.TheVariants.{Next, Credited}
 use Rattle.ckd_command.specs.declared.steps.Opened.{Opened}
-use Rattle.ckd_command.specs.declared.steps.Outcome.{Outcome}
-use Rattle.ckd_command.specs.declared.steps.Beginning.{Beginning}
-use Rattle.ckd_command.specs.declared.steps.Beginning.TheVariants.{Rejected, Immediate, Started, ToCylinderZero}
-use Rattle.ckd_command.specs.declared.steps.Sight.{Sight}
-use Rattle.ckd_command.specs.declared.steps.Sight.TheVariants.{Found, IndexPassed, NextHead, Missed}
+use Rattle.ckd_command.specs.Beginnings.{Beginning, Rejected, Immediate, Started, ToCylinderZero}
+use Rattle.ckd_command.specs.Sights.{Sight, Found, IndexPassed, NextHead, Missed}
+use Rattle.ckd_command.specs.Steps.{Outcome, moved_to}
 use Rattle.ckd_command.specs.declared.steps.Action.{Action}
 use Rattle.ckd_command.specs.declared.steps.Action.TheVariants as action
 use Rattle.ckd_position.specs.declared.extents.Extent.{Extent}
@@ -84,10 +82,6 @@ with_cause r cause = record r { sense = joined r.sense cause }
 -- the track at its index, on the first turn for what begins next
 abbrev pub at_index : Registers → Registers
 at_index r = record r { position = AtIndex; lap = First }
-
--- the arm at another track, which stands at its index
-abbrev pub moved_to : Registers → (cylinder head : ℕ) → Registers
-moved_to r cylinder head = record r { cylinder = cylinder; head = head; position = AtIndex; lap = First }
 
 -- Begin.
 

@@ -19,13 +19,14 @@ use Rattle.ckd_command.specs.declared.registers.Lap.TheVariants.{First}
 use Rattle.ckd_command.specs.declared.steps.Aim.{Aim}
 use Rattle.ckd_command.specs.declared.steps.Aim.TheVariants.{Next}
 use Rattle.ckd_command.specs.declared.steps.Opened.{Opened}
-use Rattle.ckd_command.specs.declared.steps.Beginning.{Beginning}
-use Rattle.ckd_command.specs.declared.steps.Sight.{Sight}
-use Rattle.ckd_command.specs.declared.steps.Beginning.TheVariants as beginning
-use Rattle.ckd_command.specs.declared.steps.Sight.TheVariants as sight
+use Rattle.ckd_command.specs.Beginnings.{Beginning}
+use Rattle.ckd_command.specs.Sights.{Sight}
+use Rattle.ckd_command.specs.Beginnings as beginning
+use Rattle.ckd_command.specs.Sights as sight
 use Rattle.ckd_command.specs.Tables.{aim, action_of, is_giving}
 use Rattle.ckd_position.specs.Contents.{Sighted}
-use Rattle.ckd_command.specs.Commands.{Closing, beginning, sight, area_bytes, length_after, closing, with_cause, moved_to, program_start, unit_check_status}
+use Rattle.ckd_command.specs.Commands.{Closing, beginning, sight, area_bytes, length_after, closing, with_cause, program_start, unit_check_status}
+use Rattle.ckd_command.specs.Steps.{moved_to}
 
 -- A volume: a slot for each track, cylinder by cylinder and head by head.
 pub record Volume : Type 0 where

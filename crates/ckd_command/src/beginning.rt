@@ -3,46 +3,39 @@
 
 ghost use Rattle.std.specs.Prelude.{◌≡◌, ◌<◌};
 ghost use Rattle.ckd_command.specs.Drive.{first_registers as at_first};
-ghost use Rattle.ckd_command.specs.Commands.{beginning, cleared as cleared_by, refusal as refusal_of, is_out_of_sequence as out_of_sequence, is_credited, with_cause as joined_with_cause, program_start as start_of_program, moved_to as arm_at, at_index as track_at_index, sense_after_begin, started as started_by};
+ghost use Rattle.ckd_command.specs.Commands.{beginning, cleared, refusal as refusal_of, is_out_of_sequence as out_of_sequence, is_credited, with_cause, program_start as start_of_program, at_index, sense_after_begin, started as started_by};
+ghost use Rattle.ckd_command.specs.Beginnings.{Rejected};
+ghost use Rattle.ckd_command.specs.declared.registers.Registers.{Registers};
+ghost use Rattle.ckd_command.specs.Steps.{moved_to, begun_as};
 
 use crate::registers::{Lap, Registers};
-use crate::steps::{Aim, Beginning, Opened};
+use crate::steps::{Aim, Opened, Start};
 use crate::tables;
 use ckd_position::Position;
 use ckd_sense::{Command, CommandCode, FileMask, Permit, Sense};
 
-/// The registers with one more cause told by the sense bytes.
-pub fn with_cause(registers: Registers, cause: Sense) -> Registers
-    ensures { result ≡ joined_with_cause registers cause }
+/// One more cause is told by the sense bytes.
+pub fn add_cause(registers: &mut Registers, cause: Sense)
+    ensures { registers.new ≡ with_cause registers.old cause }
 {
-    Registers {
-        sense: registers.sense.joined_with(cause),
-        ..registers
-    }
+    registers.sense = registers.sense.joined_with(cause);
 }
 
-/// The track at its index, on the first turn for what begins next.
-pub fn at_index(registers: Registers) -> Registers
-    ensures { result ≡ track_at_index registers }
+/// The track stands at its index, on the first turn for what begins next.
+pub fn to_index(registers: &mut Registers)
+    ensures { registers.new ≡ at_index registers.old }
 {
-    Registers {
-        position: Position::AtIndex,
-        lap: Lap::First,
-        ..registers
-    }
+    registers.position = Position::AtIndex;
+    registers.lap = Lap::First;
 }
 
-/// The arm at another track, which stands at its index.
-pub fn moved_to(registers: Registers, cylinder: u16, head: u16) -> Registers
-    ensures { result ≡ arm_at registers cylinder head }
+/// The arm stands at another track, and that at its index.
+pub fn move_to(registers: &mut Registers, cylinder: u16, head: u16)
+    ensures { registers.new ≡ moved_to registers.old cylinder head }
 {
-    Registers {
-        cylinder,
-        head,
-        position: Position::AtIndex,
-        lap: Lap::First,
-        ..registers
-    }
+    registers.cylinder = cylinder;
+    registers.head = head;
+    to_index(registers);
 }
 
 /// What a drive remembers at first.
@@ -61,18 +54,14 @@ pub fn first_registers() -> Registers
     }
 }
 
-/// Where a channel program begins.
-pub fn program_start(registers: Registers) -> Registers
-    ensures { result ≡ start_of_program registers }
+/// A channel program begins.
+pub fn start_program(registers: &mut Registers)
+    ensures { registers.new ≡ start_of_program registers.old }
 {
-    Registers {
-        position: Position::AtIndex,
-        file_mask: FileMask::from_byte(0x00),
-        mask_set: false,
-        credit: None,
-        lap: Lap::First,
-        ..registers
-    }
+    to_index(registers);
+    registers.file_mask = FileMask::from_byte(0x00);
+    registers.mask_set = false;
+    registers.credit = None;
 }
 
 // Sense gives the sense bytes and leaves them; every other command makes them zero.
@@ -87,24 +76,18 @@ fn sense_as_begun(command: Command, sense: Sense) -> Sense
 }
 
 // What every command takes away as it begins.
-fn cleared(command: Command, registers: Registers) -> Registers
-    ensures { result ≡ cleared_by command registers }
+fn clear(command: Command, registers: &mut Registers)
+    ensures { registers.new ≡ cleared command registers.old }
 {
-    let lap = if tables::is_search(tables::action(command)) {
-        registers.lap
-    } else {
-        Lap::First
-    };
-    Registers {
-        sense: sense_as_begun(command, registers.sense),
-        credit: None,
-        lap,
-        ..registers
+    if !tables::is_search(tables::action(command)) {
+        registers.lap = Lap::First;
     }
+    registers.sense = sense_as_begun(command, registers.sense);
+    registers.credit = None;
 }
 
-fn is_out_of_sequence(command: Command, registers: Registers) -> bool
-    ensures { result ≡ out_of_sequence command registers }
+fn is_out_of_sequence(command: Command, registers: &Registers) -> bool
+    ensures { result ≡ out_of_sequence command registers.now }
 {
     match tables::aim(command) {
         Aim::Credited => tables::credited(command, registers.credit).is_none(),
@@ -113,8 +96,8 @@ fn is_out_of_sequence(command: Command, registers: Registers) -> bool
 }
 
 // Why a command is not begun.
-fn refusal(command: Command, registers: Registers) -> Option<Sense>
-    ensures { result ≡ refusal_of command registers }
+fn refusal(command: Command, registers: &Registers) -> Option<Sense>
+    ensures { result ≡ refusal_of command registers.now }
 {
     match registers.file_mask.permits(command) {
         Permit::NoWrite => Some(Sense::WRITE_NOT_ALLOWED),
@@ -123,21 +106,30 @@ fn refusal(command: Command, registers: Registers) -> Option<Sense>
     }
 }
 
-fn started(command: Command, registers: Registers, opened: Opened) -> Beginning
-    ensures { result ≡ started_by command registers opened }
+// The command is not begun, for this cause.
+fn rejected(command: Command, registers: &mut Registers, cause: Sense) -> Start
+    ensures { begun_as result registers.new ≡ Rejected (with_cause (cleared command registers.old) cause) }
+{
+    clear(command, registers);
+    add_cause(registers, cause);
+    Start::Rejected
+}
+
+fn started(command: Command, opened: Opened) -> Start
+    ensures { (r : Registers) → begun_as result r ≡ started_by command r opened }
 {
     match command {
-        Command::NoOperation => Beginning::Immediate(registers),
-        Command::Recalibrate => Beginning::ToCylinderZero(registers, None),
-        Command::ReadIpl => Beginning::ToCylinderZero(registers, Some(opened)),
-        _ => Beginning::Started(registers, opened),
+        Command::NoOperation => Start::Immediate,
+        Command::Recalibrate => Start::ToCylinderZero(None),
+        Command::ReadIpl => Start::ToCylinderZero(Some(opened)),
+        _ => Start::Works(opened),
     }
 }
 
-/// What a command code leads to.
+/// What a command code leads to, beside what the drive remembers then.
 #[tactic(auto, unfolding(crate::specs::Commands::beginning))]
-pub fn begin(code: u8, registers: Registers) -> Beginning
-    ensures { result ≡ beginning code registers }
+pub fn begin(code: u8, registers: &mut Registers) -> Start
+    ensures { begun_as result registers.new ≡ beginning code registers.old }
 {
     let Some(
         CommandCode {
@@ -146,18 +138,16 @@ pub fn begin(code: u8, registers: Registers) -> Beginning
         },
     ) = Command::decode(code)
     else {
-        return Beginning::Rejected(with_cause(
-            cleared(Command::NoOperation, registers),
-            Sense::INVALID_COMMAND,
-        ));
+        return rejected(Command::NoOperation, registers, Sense::INVALID_COMMAND);
     };
     if let Some(cause) = refusal(command, registers) {
-        return Beginning::Rejected(with_cause(cleared(command, registers), cause));
+        return rejected(command, registers, cause);
     }
     let opened = Opened {
         command,
         multi_track,
         area: tables::credited(command, registers.credit),
     };
-    started(command, cleared(command, registers), opened)
+    clear(command, registers);
+    started(command, opened)
 }

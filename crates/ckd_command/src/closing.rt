@@ -2,11 +2,12 @@
 //! of the commands).
 
 ghost use Rattle.std.specs.Prelude.{◌≡◌, ◌<◌, ◌+◌, ◌≤◌, false, true, length, slice_range, take, bytes_eq};
-ghost use Rattle.ckd_command.specs.Commands.{outcome, ends as ends_with, fails as fails_by, at_end as registers_at_end, position_left, search_ends as search_closes, area_ends as area_closes, format_ends as format_closes, home_address_ends as home_address_closes, set_file_mask as mask_closes, seek_head as seek_head_closes, seek_cylinder_and_head as seek_closes, own_home_address as address_of, number as number_of};
+ghost use Rattle.ckd_command.specs.Commands.{outcome, fails as fails_by, at_end as registers_at_end, position_left, search_ends as search_closes, area_ends as area_closes, format_ends as format_closes, home_address_ends as home_address_closes, set_file_mask as mask_closes, seek_head as seek_head_closes, seek_cylinder_and_head as seek_closes, own_home_address as address_of, number as number_of};
+ghost use Rattle.ckd_command.specs.Steps.{closed_as, ClosedStays};
 
-use crate::beginning::{moved_to, with_cause};
+use crate::beginning::add_cause;
 use crate::registers::{Credit, Registers};
-use crate::steps::{DriveEnding, Opened, Outcome};
+use crate::steps::{Closed, DriveEnding, Opened};
 use crate::tables;
 use ckd_position::{Area, Part, Position};
 use ckd_sense::{FileMask, Sense};
@@ -26,108 +27,90 @@ const SATISFIED: UnitStatus = UnitStatus(0x4C);
 /// Channel end alone: the arm still moves.
 pub const IN_MOTION: UnitStatus = UnitStatus(0x08);
 
-/// The command ends with this status, and the arm stays.
-pub fn ends(registers: Registers, unit: UnitStatus) -> Outcome
-    ensures { result ≡ outcome (ends_with registers unit.0) }
-{
-    Outcome {
-        registers,
-        ending: DriveEnding {
-            unit,
-            motion: false,
-        },
-        moves_off: false,
-    }
-}
-
 /// The command ends in unit check, for this cause.
-pub fn fails(registers: Registers, cause: Sense) -> Outcome
-    ensures { result ≡ outcome (fails_by registers cause) }
+pub fn fails(registers: &mut Registers, cause: Sense) -> Closed
+    ensures closes { closed_as result registers.new ≡ outcome (fails_by registers.old cause) }
+    ensures stays { ClosedStays result registers.old registers.new }
 {
-    ends(with_cause(registers, cause), UNIT_CHECK)
+    add_cause(registers, cause);
+    Closed::Stays(UNIT_CHECK)
 }
 
 /// The registers where a command ends on its area.
-pub fn at_end(opened: Opened, registers: Registers) -> Registers
-    ensures { result ≡ registers_at_end opened registers }
+pub fn at_end(opened: &Opened, registers: &mut Registers)
+    ensures { registers.new ≡ registers_at_end opened.now registers.old }
 {
-    match opened.area {
-        None => registers,
-        Some(area) => Registers {
-            position: Position::At(tables::area_left(tables::extent(opened.command), area)),
-            ..registers
-        },
+    if let Some(area) = opened.area {
+        registers.position = Position::At(tables::area_left(tables::extent(opened.command), area));
     }
 }
 
 /// A search closes.
-pub fn search_ends(opened: Opened, registers: Registers, satisfied: bool, whole: bool) -> Outcome
-    ensures { result ≡ outcome (search_closes opened registers satisfied whole) }
+pub fn search_ends(
+    opened: &Opened,
+    registers: &mut Registers,
+    satisfied: bool,
+    whole: bool,
+) -> Closed
+    ensures closes { closed_as result registers.new ≡ outcome (search_closes opened.now registers.old satisfied whole) }
+    ensures stays { ClosedStays result registers.old registers.new }
 {
+    at_end(opened, registers);
     if !satisfied {
-        return ends(at_end(opened, registers), ENDING);
+        return Closed::Stays(ENDING);
     }
-    let credit = if whole {
+    registers.credit = if whole {
         tables::credit_of_search(opened.command, opened.area)
     } else {
         None
     };
-    let registers = Registers {
-        credit,
-        ..at_end(opened, registers)
-    };
-    ends(registers, SATISFIED)
+    Closed::Stays(SATISFIED)
 }
 
 /// A read or an update closes, or a command that works on no area.
-pub fn area_ends(opened: Opened, registers: Registers, no_data: bool) -> Outcome
-    ensures { result ≡ outcome (area_closes opened registers no_data) }
+pub fn area_ends(opened: &Opened, registers: &mut Registers, no_data: bool) -> Closed
+    ensures closes { closed_as result registers.new ≡ outcome (area_closes opened.now registers.old no_data) }
+    ensures stays { ClosedStays result registers.old registers.new }
 {
-    let tells = tables::ends_with_data(tables::extent(opened.command));
-    let unit = if tells && no_data {
-        UNIT_EXCEPTION
+    at_end(opened, registers);
+    if no_data && tables::ends_with_data(tables::extent(opened.command)) {
+        Closed::Stays(UNIT_EXCEPTION)
     } else {
-        ENDING
-    };
-    ends(at_end(opened, registers), unit)
+        Closed::Stays(ENDING)
+    }
 }
 
 /// A formatting write closes that made this record.
-pub fn format_ends(registers: Registers, new: usize) -> Outcome
-    ensures { result ≡ outcome (format_closes registers new) }
+pub fn format_ends(registers: &mut Registers, new: usize) -> Closed
+    ensures closes { closed_as result registers.new ≡ outcome (format_closes registers.old new) }
+    ensures stays { ClosedStays result registers.old registers.new }
 {
-    let registers = Registers {
-        position: Position::At(Area::Of(Part::Data, new)),
-        credit: Some(Credit::WroteRecord(new)),
-        ..registers
-    };
-    ends(registers, ENDING)
+    registers.position = Position::At(Area::Of(Part::Data, new));
+    registers.credit = Some(Credit::WroteRecord(new));
+    Closed::Stays(ENDING)
 }
 
 /// Write Home Address closes that changed the track.
-pub fn home_address_ends(opened: Opened, registers: Registers) -> Outcome
-    ensures { result ≡ outcome (home_address_closes opened registers) }
+pub fn home_address_ends(opened: &Opened, registers: &mut Registers) -> Closed
+    ensures closes { closed_as result registers.new ≡ outcome (home_address_closes opened.now registers.old) }
+    ensures stays { ClosedStays result registers.old registers.new }
 {
-    let registers = Registers {
-        credit: Some(Credit::WroteHomeAddress),
-        ..at_end(opened, registers)
-    };
-    ends(registers, ENDING)
+    at_end(opened, registers);
+    registers.credit = Some(Credit::WroteHomeAddress);
+    Closed::Stays(ENDING)
 }
 
 /// Set File Mask closes with these bytes, one or none.
-pub fn set_file_mask(registers: Registers, bytes: &[u8]) -> Outcome
-    ensures { result ≡ outcome (mask_closes registers bytes.now) }
+pub fn set_file_mask(registers: &mut Registers, bytes: &[u8]) -> Closed
+    ensures closes { closed_as result registers.new ≡ outcome (mask_closes registers.old bytes.now) }
+    ensures stays { ClosedStays result registers.old registers.new }
 {
     let Some(byte) = bytes.first() else {
-        return ends(registers, ENDING);
+        return Closed::Stays(ENDING);
     };
-    let registers = Registers {
-        file_mask: FileMask::from_byte(*byte),
-        mask_set: true,
-        ..registers
-    };
-    ends(registers, ENDING)
+    registers.file_mask = FileMask::from_byte(*byte);
+    registers.mask_set = true;
+    Closed::Stays(ENDING)
 }
 
 // A big-endian number of two bytes at this place.
@@ -140,9 +123,14 @@ fn number_at(bytes: &[u8], at: usize) -> u16
 }
 
 /// Seek and Seek Cylinder close with a whole address.
-pub fn seek_cylinder_and_head(geometry: Geometry, registers: Registers, address: &[u8]) -> Outcome
+pub fn seek_cylinder_and_head(
+    geometry: Geometry,
+    registers: &mut Registers,
+    address: &[u8],
+) -> Closed
     requires { length address.now ≡ 6 }
-    ensures { result ≡ outcome (seek_closes geometry registers address.now) }
+    ensures closes { closed_as result registers.new ≡ outcome (seek_closes geometry registers.old address.now) }
+    ensures stays { ClosedStays result registers.old registers.new }
 {
     let cylinder = number_at(address, 2);
     let head = number_at(address, 4);
@@ -152,29 +140,34 @@ pub fn seek_cylinder_and_head(geometry: Geometry, registers: Registers, address:
     {
         return fails(registers, Sense::SEEK_ADDRESS_OUTSIDE);
     }
-    Outcome {
-        registers: moved_to(registers, cylinder, head),
-        ending: DriveEnding {
+    Closed::Moves(
+        cylinder,
+        head,
+        DriveEnding {
             unit: IN_MOTION,
             motion: true,
         },
-        moves_off: true,
-    }
+    )
 }
 
 /// Seek Head closes with a whole address.
-pub fn seek_head(geometry: Geometry, registers: Registers, address: &[u8]) -> Outcome
+pub fn seek_head(geometry: Geometry, registers: &mut Registers, address: &[u8]) -> Closed
     requires { length address.now ≡ 6 }
-    ensures { result ≡ outcome (seek_head_closes geometry registers address.now) }
+    ensures closes { closed_as result registers.new ≡ outcome (seek_head_closes geometry registers.old address.now) }
+    ensures stays { ClosedStays result registers.old registers.new }
 {
     let head = number_at(address, 4);
     if head >= geometry.model.heads() {
         return fails(registers, Sense::SEEK_ADDRESS_OUTSIDE);
     }
-    Outcome {
-        moves_off: true,
-        ..ends(moved_to(registers, registers.cylinder, head), ENDING)
-    }
+    Closed::Moves(
+        registers.cylinder,
+        head,
+        DriveEnding {
+            unit: ENDING,
+            motion: false,
+        },
+    )
 }
 
 /// The home address of the track under the arm, as Write Home Address must give it.

@@ -3,53 +3,66 @@
 
 ghost use Rattle.std.specs.Prelude.{◌≡◌, ◌<◌, Some, None};
 ghost use Rattle.ckd_track.specs.Model.{heads_of};
-ghost use Rattle.ckd_command.specs.Commands.{turned as turned_by, next_head as at_next_head, sight_of as sight_by};
+ghost use Rattle.ckd_command.specs.Commands.{turned as turned_by, next_head as at_next_head, sight_of as sight_by, at_index, with_cause};
+ghost use Rattle.ckd_command.specs.Sights.{Missed};
+ghost use Rattle.ckd_command.specs.Steps.{seen_as, SeenStays};
+ghost use Rattle.ckd_command.specs.declared.steps.Opened.{Opened};
 
-use crate::beginning::{at_index, moved_to, with_cause};
+use crate::beginning::{add_cause, to_index};
 use crate::registers::{Lap, Registers};
-use crate::steps::{Opened, Sight};
+use crate::steps::{Opened, Seen};
 use ckd_position::{Next, Position};
 use ckd_sense::Sense;
 use ckd_track::Geometry;
 
+// The command ends for this cause, with the track at its index.
+fn missed(registers: &mut Registers, cause: Sense) -> Seen
+    ensures stays { SeenStays result registers.old registers.new }
+    ensures seen { (o : Opened) → seen_as result o registers.new ≡ Missed (with_cause (at_index registers.old) cause) }
+{
+    to_index(registers);
+    add_cause(registers, cause);
+    Seen::Missed
+}
+
 // The index passes on the same track.
-fn turned(registers: Registers) -> Sight
-    ensures { result ≡ turned_by registers registers.lap }
+fn turned(registers: &mut Registers) -> Seen
+    ensures stays { SeenStays result registers.old registers.new }
+    ensures seen { (o : Opened) → seen_as result o registers.new ≡ turned_by registers.old registers.old.lap }
 {
     match registers.lap {
-        Lap::First => Sight::IndexPassed(Registers {
-            position: Position::AtIndex,
-            lap: Lap::Second,
-            ..registers
-        }),
-        Lap::Second => Sight::Missed(with_cause(at_index(registers), Sense::NO_RECORD_FOUND)),
+        Lap::First => {
+            registers.position = Position::AtIndex;
+            registers.lap = Lap::Second;
+            Seen::IndexPassed
+        }
+        Lap::Second => missed(registers, Sense::NO_RECORD_FOUND),
     }
 }
 
 // The index passes, and a command with the multi-track bit goes on at the next head.
-fn next_head(geometry: Geometry, registers: Registers) -> Sight
-    requires { registers.head < heads_of geometry.model }
-    ensures { result ≡ at_next_head geometry registers }
+fn next_head(geometry: Geometry, registers: &mut Registers) -> Seen
+    requires { registers.old.head < heads_of geometry.model }
+    ensures seen { (o : Opened) → seen_as result o registers.new ≡ at_next_head geometry registers.old }
+    ensures stays { SeenStays result registers.old registers.new }
 {
     if !registers.file_mask.head_change() {
-        return Sight::Missed(with_cause(at_index(registers), Sense::HEAD_CHANGE_NOT_ALLOWED));
+        return missed(registers, Sense::HEAD_CHANGE_NOT_ALLOWED);
     }
     if registers.head + 1 == geometry.model.heads() {
-        return Sight::Missed(with_cause(at_index(registers), Sense::END_OF_CYLINDER));
+        return missed(registers, Sense::END_OF_CYLINDER);
     }
-    Sight::NextHead(moved_to(registers, registers.cylinder, registers.head + 1))
+    Seen::NextHead
 }
 
-/// What a look leads to that found this area next, or none behind the position.
-pub fn sight_of(geometry: Geometry, opened: Opened, registers: Registers, next: Next) -> Sight
-    requires { registers.head < heads_of geometry.model }
-    ensures { result ≡ sight_by geometry opened registers next }
+/// What a look leads to that found this area next, or none behind the position, beside what the drive remembers then.
+pub fn sight_of(geometry: Geometry, opened: &Opened, registers: &mut Registers, next: Next) -> Seen
+    requires { registers.old.head < heads_of geometry.model }
+    ensures seen { seen_as result opened.now registers.new ≡ sight_by geometry opened.now registers.old next }
+    ensures stays { SeenStays result registers.old registers.new }
 {
     match next {
-        Next::Found(area) => Sight::Found(Opened {
-            area: Some(area),
-            ..opened
-        }),
+        Next::Found(area) => Seen::Found(area),
         Next::IndexPassed if opened.multi_track => next_head(geometry, registers),
         Next::IndexPassed => turned(registers),
     }

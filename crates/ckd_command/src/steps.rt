@@ -1,6 +1,5 @@
 //! What the parts of a command lead to, as far as the registers tell.
 
-use crate::registers::Registers;
 use ckd_position::{Area, Kind};
 use ckd_sense::Command;
 use s360_words::UnitStatus;
@@ -52,31 +51,31 @@ pub struct Opened {
     pub area: Option<Area>,
 }
 
-/// What a command code leads to.
+/// What a command code leads to, beside what the drive remembers then.
 #[derive(Clone, Copy, Debug, PartialEq, Eq)]
-pub enum Beginning {
+pub enum Start {
     /// The command is not begun: the sense tells why.
-    Rejected(Registers),
+    Rejected,
     /// The command is over at once, and no byte passes.
-    Immediate(Registers),
+    Immediate,
     /// The command works.
-    Started(Registers, Opened),
+    Works(Opened),
     /// The arm goes to cylinder 0, head 0 first. Then a command that has no more to do is over at once with the arm in
     /// motion, and another works there.
-    ToCylinderZero(Registers, Option<Opened>),
+    ToCylinderZero(Option<Opened>),
 }
 
-/// What a look at the track under the arm leads to.
+/// What a look at the track under the arm leads to, beside what the drive remembers then.
 #[derive(Clone, Copy, Debug, PartialEq, Eq)]
-pub enum Sight {
-    /// The area is found, or none is looked for.
-    Found(Opened),
+pub enum Seen {
+    /// This area is found.
+    Found(Area),
     /// The index passed, and the looks go on at the index of the same track.
-    IndexPassed(Registers),
-    /// The index passed, and the looks go on at the index of the next head's track.
-    NextHead(Registers),
+    IndexPassed,
+    /// The index passed, and the looks go on at the index of the next head's track, for which the arm has still to leave this one.
+    NextHead,
     /// The command ends: the sense tells why.
-    Missed(Registers),
+    Missed,
 }
 
 /// How a command ends, as the channel sees it.
@@ -88,13 +87,11 @@ pub struct DriveEnding {
     pub motion: bool,
 }
 
-/// How a command closes, but for what it wrote.
+/// How a command closes, beside what it wrote and what the drive remembers then.
 #[derive(Clone, Copy, Debug, PartialEq, Eq)]
-pub struct Outcome {
-    /// What the drive remembers.
-    pub registers: Registers,
-    /// What the channel sees.
-    pub ending: DriveEnding,
-    /// Whether the arm or the head leaves the track, which is saved first.
-    pub moves_off: bool,
+pub enum Closed {
+    /// With this unit status, and the arm stays.
+    Stays(UnitStatus),
+    /// The arm or the head has still to leave the track, which is saved first, for this cylinder and head; it then ends so.
+    Moves(u16, u16, DriveEnding),
 }

@@ -2,7 +2,7 @@
 use Rattle.std.proofs.Common.{◌≡◌, ◌∙◌, inl, inr, ap, sym, refl, ℕ, ◌+◌, List, Bool, true, false, ◌||◌, ◌&&◌, arith}
 use Rattle.ckd_command.specs.declared.registers.Registers.{Registers}
 use Rattle.ckd_command.specs.declared.registers.Mark.{Mark}
-use Rattle.ckd_drive.specs.declared.places.Stage.{Stage}
+use Rattle.ckd_drive.specs.Stage.{Stage}
 use Rattle.ckd_cache.specs.Cache.{CacheState, saved, after_save, after_failed_save, after_failed_hold}
 use Rattle.ckd_command.specs.Drive.{is_written_by}
 use Rattle.ckd_drive.specs.Work.{DriveState, CallsStore}

@@ -12,13 +12,10 @@ use Rattle.ckd_command.specs.declared.registers.Mark.TheVariants.{Saved, Written
 use Rattle.ckd_command.specs.declared.steps.Action.{Action}
 use Rattle.ckd_command.specs.declared.steps.Action.TheVariants as action
 use Rattle.ckd_command.specs.declared.steps.Opened.{Opened}
-use Rattle.ckd_command.specs.declared.steps.Outcome.{Outcome}
+use Rattle.ckd_command.specs.Steps.{Outcome}
 use Rattle.ckd_cache.specs.declared.windows.Window.{Window}
-use Rattle.ckd_drive.specs.declared.places.Place.{Place}
-use Rattle.ckd_drive.specs.declared.places.Place.TheVariants.{Sense, Field, Read, Search, Fill, Filled}
-use Rattle.ckd_drive.specs.declared.places.Progress.{Progress}
-use Rattle.ckd_drive.specs.declared.places.Stage.{Stage}
-use Rattle.ckd_drive.specs.declared.places.Stage.TheVariants.{Idle, Passing}
+use Rattle.ckd_drive.specs.Places.{Place, Sense, Field, Read, Search, Fill, Filled, Progress}
+use Rattle.ckd_drive.specs.Stage.{Stage, Idle, Passing}
 use Rattle.ckd_command.specs.Tables.{action_of}
 use Rattle.ckd_position.specs.Contents.{Sighted}
 use Rattle.ckd_command.specs.Commands.{Closing, IsAtTrack, area_bytes, closing, close_by, outcome, search_ends, area_ends, own_home_address, new_record_fits, number as number_of}

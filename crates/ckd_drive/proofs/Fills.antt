@@ -11,11 +11,9 @@ use Rattle.ckd_position.specs.declared.areas.Part.{Part}
 use Rattle.ckd_command.specs.declared.registers.Registers.{Registers}
 use Rattle.ckd_position.specs.declared.extents.Extent.{Extent}
 use Rattle.ckd_command.specs.declared.steps.Opened.{Opened}
-use Rattle.ckd_command.specs.declared.steps.Outcome.{Outcome}
+use Rattle.ckd_command.specs.Steps.{Outcome}
 use Rattle.ckd_cache.specs.declared.windows.Window.{Window}
-use Rattle.ckd_drive.specs.declared.places.Place.{Place}
-use Rattle.ckd_drive.specs.declared.places.Place.TheVariants.{Filled}
-use Rattle.ckd_drive.specs.declared.places.Progress.{Progress}
+use Rattle.ckd_drive.specs.Places.{Place, Filled, Progress}
 use Rattle.ckd_position.specs.Contents.{Sighted, is_readable, padded, replaced, with_record_changed}
 use Rattle.ckd_command.specs.Commands.{length_after, closing, outcome}
 use Rattle.ckd_cache.specs.Buffer.{FitsSlot, IsUpdate, SameRecords}

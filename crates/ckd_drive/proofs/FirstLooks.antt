@@ -10,12 +10,9 @@ use Rattle.ckd_command.specs.declared.registers.Mark.{Mark}
 use Rattle.ckd_command.specs.declared.registers.Mark.TheVariants.{Saved, Written, Lost}
 use Rattle.ckd_command.specs.declared.steps.Aim.TheVariants.{Next}
 use Rattle.ckd_command.specs.declared.steps.Opened.{Opened}
-use Rattle.ckd_command.specs.declared.steps.Sight.{Sight}
-use Rattle.ckd_command.specs.declared.steps.Sight.TheVariants.{Found, IndexPassed, NextHead, Missed}
-use Rattle.ckd_drive.specs.declared.places.Place.{Place}
-use Rattle.ckd_drive.specs.declared.places.Progress.{Progress}
-use Rattle.ckd_drive.specs.declared.places.Stage.{Stage}
-use Rattle.ckd_drive.specs.declared.places.Stage.TheVariants.{Idle, Over, Looking, Passing}
+use Rattle.ckd_command.specs.Sights.{Sight, Found, IndexPassed, NextHead, Missed}
+use Rattle.ckd_drive.specs.Places.{Place, Progress}
+use Rattle.ckd_drive.specs.Stage.{Stage, Idle, Over, Looking, Passing}
 use Rattle.ckd_command.specs.Tables.{aim}
 use Rattle.ckd_command.specs.Commands.{sight, with_cause}
 use Rattle.ckd_command.specs.Drive.{AfterLook, Ready, Passed, Failed, LoadFails, SaveFails, is_written_by, look as look_by}

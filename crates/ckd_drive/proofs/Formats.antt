@@ -17,8 +17,7 @@ use Rattle.ckd_position.specs.declared.extents.Extent.TheVariants as extent
 use Rattle.ckd_command.specs.declared.steps.Opened.{Opened}
 use Rattle.ckd_drive.specs.declared.places.Whole.TheVariants as whole
 use Rattle.ckd_cache.specs.declared.windows.Window.{Window}
-use Rattle.ckd_drive.specs.declared.places.Place.TheVariants.{Field, Filled}
-use Rattle.ckd_drive.specs.declared.places.Progress.{Progress}
+use Rattle.ckd_drive.specs.Places.{Field, Filled, Progress}
 use Rattle.ckd_command.specs.Tables.{action_of}
 use Rattle.ckd_position.specs.Contents.{Sighted, is_readable, new_record, formatted, kept, padded, replaced, with_key_and_data, with_record_changed}
 use Rattle.ckd_command.specs.Commands.{Closing, length_after, closing, outcome, own_home_address, new_record_fits, format_ends, writes}

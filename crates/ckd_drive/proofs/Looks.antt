@@ -8,12 +8,9 @@ use Rattle.ckd_command.specs.declared.steps.Aim.TheVariants.{NoArea, Credited}
 use Rattle.ckd_command.specs.declared.steps.Action.{Action}
 use Rattle.ckd_command.specs.declared.steps.Action.TheVariants as action
 use Rattle.ckd_command.specs.declared.steps.Opened.{Opened}
-use Rattle.ckd_command.specs.declared.steps.Sight.TheVariants.{Found}
-use Rattle.ckd_drive.specs.declared.places.Place.{Place}
-use Rattle.ckd_drive.specs.declared.places.Place.TheVariants.{Sense, Field, Read, Search, Fill, Filled}
-use Rattle.ckd_drive.specs.declared.places.Progress.{Progress}
-use Rattle.ckd_drive.specs.declared.places.Stage.{Stage}
-use Rattle.ckd_drive.specs.declared.places.Stage.TheVariants.{Looking, Passing}
+use Rattle.ckd_command.specs.Sights.{Found}
+use Rattle.ckd_drive.specs.Places.{Place, Sense, Field, Read, Search, Fill, Filled, Progress}
+use Rattle.ckd_drive.specs.Stage.{Stage, Looking, Passing}
 use Rattle.ckd_command.specs.Tables.{action_of, aim}
 use Rattle.ckd_position.specs.Contents.{Sighted, is_readable}
 use Rattle.ckd_command.specs.Commands.{IsAtTrack, sight, length_after}

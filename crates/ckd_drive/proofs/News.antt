@@ -10,14 +10,12 @@ use Rattle.ckd_command.specs.declared.registers.Registers.{Registers}
 use Rattle.ckd_command.specs.declared.steps.Action.{Action}
 use Rattle.ckd_command.specs.declared.steps.Action.TheVariants as action
 use Rattle.ckd_command.specs.declared.steps.Opened.{Opened}
-use Rattle.ckd_command.specs.declared.steps.Outcome.{Outcome}
-use Rattle.ckd_command.specs.declared.steps.Sight.TheVariants.{Found}
+use Rattle.ckd_command.specs.Steps.{Outcome}
+use Rattle.ckd_command.specs.Sights.{Found}
 use Rattle.ckd_drive.specs.declared.places.Whole.{Whole}
 use Rattle.ckd_drive.specs.declared.places.Whole.TheVariants as whole
 use Rattle.ckd_cache.specs.declared.windows.Window.{Window}
-use Rattle.ckd_drive.specs.declared.places.Place.{Place}
-use Rattle.ckd_drive.specs.declared.places.Place.TheVariants.{Sense, Field, Read, Search, Fill, Filled}
-use Rattle.ckd_drive.specs.declared.places.Progress.{Progress}
+use Rattle.ckd_drive.specs.Places.{Place, Sense, Field, Read, Search, Fill, Filled, Progress}
 use Rattle.ckd_command.specs.Tables.{action_of}
 use Rattle.ckd_position.specs.Contents.{Sighted, padded}
 use Rattle.ckd_command.specs.Commands.{Closing, sight, length_after, closing, outcome, own_home_address, home_address_ends, writes}

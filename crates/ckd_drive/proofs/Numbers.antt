@@ -6,7 +6,7 @@ use Rattle.ckd_track.specs.declared.geometries.Geometry.{Geometry}
 use Rattle.ckd_track.specs.Geometry.{tracks_of}
 use Rattle.ckd_command.specs.declared.registers.Registers.{Registers}
 use Rattle.ckd_command.specs.declared.registers.Mark.{Mark}
-use Rattle.ckd_drive.specs.declared.places.Stage.{Stage}
+use Rattle.ckd_drive.specs.Stage.{Stage}
 use Rattle.ckd_command.specs.Commands.{IsAtTrack}
 use Rattle.ckd_cache.specs.Cache.{CacheState}
 use Rattle.ckd_drive.specs.Half.{Stands, number}

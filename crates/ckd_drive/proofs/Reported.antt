@@ -6,11 +6,11 @@ use Rattle.ckd_command.specs.declared.registers.Mark.{Mark}
 use Rattle.ckd_command.specs.declared.registers.Mark.TheVariants.{Saved, Written, Lost}
 use Rattle.ckd_command.specs.declared.steps.Aim.{Aim}
 use Rattle.ckd_command.specs.declared.steps.Aim.TheVariants.{NoArea, Next, Credited}
-use Rattle.ckd_command.specs.declared.steps.Beginning.{Beginning}
-use Rattle.ckd_command.specs.declared.steps.Beginning.TheVariants as beginning
+use Rattle.ckd_command.specs.Beginnings.{Beginning}
+use Rattle.ckd_command.specs.Beginnings as beginning
 use Rattle.ckd_command.specs.declared.steps.DriveEnding.{DriveEnding}
-use Rattle.ckd_command.specs.declared.steps.Sight.{Sight}
-use Rattle.ckd_command.specs.declared.steps.Sight.TheVariants as sight
+use Rattle.ckd_command.specs.Sights.{Sight}
+use Rattle.ckd_command.specs.Sights as sight
 use Rattle.ckd_command.specs.Tables.{aim}
 use Rattle.ckd_command.specs.Commands.{Closing, beginning, sight, closing}
 use Rattle.ckd_command.specs.Drive.{State, Fault, LoadFails, SaveFails, Rejected, Closed, begin, begun, looked, look_for, closed, with_registers, is_written, is_written_by, number_under, track_under, tells_equipment_check, unsaved, lost, failed, closed_by}

@@ -4,10 +4,8 @@ use Rattle.ckd_command.specs.declared.registers.Registers.{Registers}
 use Rattle.ckd_command.specs.declared.steps.Opened.{Opened}
 use Rattle.ckd_command.specs.declared.registers.Mark.{Mark}
 use Rattle.ckd_command.specs.declared.registers.Mark.TheVariants.{Written, Lost}
-use Rattle.ckd_drive.specs.declared.places.Place.{Place}
-use Rattle.ckd_drive.specs.declared.places.Place.TheVariants.{Sense, Field, Read, Search, Fill, Filled}
-use Rattle.ckd_drive.specs.declared.places.Stage.{Stage}
-use Rattle.ckd_drive.specs.declared.places.Stage.TheVariants.{Idle, Over, Looking, Passing}
+use Rattle.ckd_drive.specs.Places.{Place, Sense, Field, Read, Search, Fill, Filled}
+use Rattle.ckd_drive.specs.Stage.{Stage, Idle, Over, Looking, Passing}
 use Rattle.ckd_command.specs.Drive.{SaveFails}
 use Rattle.ckd_cache.specs.Cache.{CacheState, after_save, after_failed_save}
 use Rattle.ckd_drive.specs.Work.{DriveState, passed_of, fault_met, with_image, after_settle, settled_mark}

@@ -24,11 +24,11 @@ use Rattle.ckd_command.specs.declared.steps.Action.TheVariants as action
 use Rattle.ckd_position.specs.declared.extents.Extent.{Extent}
 use Rattle.ckd_position.specs.declared.extents.Extent.TheVariants as extent
 use Rattle.ckd_command.specs.declared.steps.Opened.{Opened}
-use Rattle.ckd_command.specs.declared.steps.Sight.{Sight}
-use Rattle.ckd_command.specs.declared.steps.Sight.TheVariants.{Found, IndexPassed, NextHead, Missed}
+use Rattle.ckd_command.specs.Sights.{Sight, Found, IndexPassed, NextHead, Missed}
 use Rattle.ckd_command.specs.Tables.{aim, action_of, needs_readable}
 use Rattle.ckd_position.specs.Contents.{Sighted, is_readable}
-use Rattle.ckd_command.specs.Commands.{IsAtTrack, sight, sight_of, look_for, next_head, turned, moved_to, at_index, with_cause}
+use Rattle.ckd_command.specs.Commands.{IsAtTrack, sight, sight_of, look_for, next_head, turned, at_index, with_cause}
+use Rattle.ckd_command.specs.Steps.{moved_to}
 use Rattle.ckd_sense.specs.declared.sense_bytes.TheConstants.Sense as cause
 use Rattle.ckd_cache.specs.Buffer.{HasBytes}
 use Rattle.ckd_drive.specs.Half.{AreaIsThere, ReadsWhole, SightKeeps}

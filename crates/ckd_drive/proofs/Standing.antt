@@ -9,12 +9,12 @@ use Rattle.ckd_image.specs.declared.store.StoreFault.{StoreFault}
 use Rattle.ckd_command.specs.declared.registers.Registers.{Registers}
 use Rattle.ckd_command.specs.declared.registers.Mark.{Mark}
 use Rattle.ckd_command.specs.declared.registers.Mark.TheVariants.{Saved, Lost}
-use Rattle.ckd_drive.specs.declared.places.Stage.{Stage}
-use Rattle.ckd_drive.specs.declared.places.Stage.TheVariants.{Idle, Over, Looking, Passing}
-use Rattle.ckd_command.specs.Commands.{IsAtTrack, moved_to}
+use Rattle.ckd_drive.specs.Stage.{Stage, Idle, Over, Looking, Passing}
+use Rattle.ckd_command.specs.Commands.{IsAtTrack}
+use Rattle.ckd_command.specs.Steps.{moved_to}
 use Rattle.ckd_cache.specs.Cache.{CacheState, IsVolume, saved, after_save, after_failed_save, after_failed_hold}
 use Rattle.ckd_drive.specs.Work.{DriveState, is_idle}
-use Rattle.ckd_command.specs.declared.steps.Beginning.{Beginning}
+use Rattle.ckd_command.specs.Beginnings.{Beginning}
 use Rattle.ckd_command.specs.Commands.{beginning}
 use Rattle.ckd_drive.proofs.Beginnings.{begins_well}
 use Rattle.ckd_drive.specs.Half.{Stands, StageIs, state_of, BeginsWell, CreditIs, number, is_filled, work_of}

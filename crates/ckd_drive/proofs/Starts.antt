@@ -3,12 +3,11 @@ use Rattle.std.proofs.Common.{◌≡◌, ◌∙◌, ap, sym, refl, ℕ, List, []
 use Rattle.ckd_command.specs.declared.registers.Registers.{Registers}
 use Rattle.ckd_command.specs.declared.registers.Mark.{Mark}
 use Rattle.ckd_command.specs.declared.registers.Mark.TheVariants.{Saved, Written, Lost}
-use Rattle.ckd_command.specs.declared.steps.Beginning.{Beginning}
-use Rattle.ckd_command.specs.declared.steps.Beginning.TheVariants.{ToCylinderZero}
+use Rattle.ckd_command.specs.Beginnings.{Beginning, ToCylinderZero}
 use Rattle.ckd_command.specs.declared.steps.Opened.{Opened}
-use Rattle.ckd_drive.specs.declared.places.Stage.{Stage}
-use Rattle.ckd_drive.specs.declared.places.Stage.TheVariants.{Idle, Over, Looking, Passing}
-use Rattle.ckd_command.specs.Commands.{beginning, moved_to}
+use Rattle.ckd_drive.specs.Stage.{Stage, Idle, Over, Looking, Passing}
+use Rattle.ckd_command.specs.Commands.{beginning}
+use Rattle.ckd_command.specs.Steps.{moved_to}
 use Rattle.ckd_command.specs.Drive.{AfterBegin, Rejected, Immediate, Started, SaveFails, begin, is_written_by}
 use Rattle.ckd_cache.specs.Cache.{CacheState, after_save, after_failed_save}
 use Rattle.ckd_drive.specs.Work.{DriveState, fault_met, after_begun, after_begin, answer_of_begin, begin_saves, immediate_ending, is_idle}

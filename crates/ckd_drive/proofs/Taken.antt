@@ -2,10 +2,8 @@
 use Rattle.std.proofs.Common.{◌≡◌, ◌∙◌, ap, sym, refl, ℕ, ◌≤◌, List, ◌++◌, Bool, true, false, not, ◌||◌, length}
 use Rattle.ckd_command.specs.declared.registers.Registers.{Registers}
 use Rattle.ckd_command.specs.declared.registers.Mark.{Mark}
-use Rattle.ckd_drive.specs.declared.places.Place.{Place}
-use Rattle.ckd_drive.specs.declared.places.Progress.{Progress}
-use Rattle.ckd_drive.specs.declared.places.Stage.{Stage}
-use Rattle.ckd_drive.specs.declared.places.Stage.TheVariants.{Passing}
+use Rattle.ckd_drive.specs.Places.{Place, Progress}
+use Rattle.ckd_drive.specs.Stage.{Stage, Passing}
 use Rattle.ckd_command.specs.Tables.{action_of, is_giving}
 use Rattle.ckd_cache.specs.Cache.{CacheState}
 use Rattle.ckd_drive.specs.Work as work

@@ -5,9 +5,8 @@ use Rattle.ckd_command.specs.declared.registers.Registers.{Registers}
 use Rattle.ckd_command.specs.declared.registers.Mark.{Mark}
 use Rattle.ckd_command.specs.declared.registers.Mark.TheVariants.{Saved, Lost}
 use Rattle.ckd_command.specs.declared.steps.Opened.{Opened}
-use Rattle.ckd_command.specs.declared.steps.Beginning.{Beginning}
-use Rattle.ckd_drive.specs.declared.places.Stage.{Stage}
-use Rattle.ckd_drive.specs.declared.places.Stage.TheVariants.{Idle, Over, Looking, Passing}
+use Rattle.ckd_command.specs.Beginnings.{Beginning}
+use Rattle.ckd_drive.specs.Stage.{Stage, Idle, Over, Looking, Passing}
 use Rattle.ckd_drive.specs.declared.answers.Begun.{Begun}
 use Rattle.ckd_drive.specs.declared.answers.Begun.TheVariants as begun
 use Rattle.ckd_drive.specs.declared.answers.Look.{Look}
@@ -18,15 +17,6 @@ use Rattle.ckd_command.specs.Drive as drive
 use Rattle.ckd_cache.specs.Cache.{CacheState, after_save, after_failed_save}
 use Rattle.ckd_drive.specs.Work.{DriveState, CallsStore, fault_met, with_image, after_begun, after_look, goes_to_cylinder_zero, look_loads, look_saves}
 use Rattle.ckd_drive.specs.Half.{Stands, state_of}
-
--- a begin comes to no stage in which bytes pass, and a look to none in which there is no command
-abbrev pub IsBegun : Stage → Type 0
-IsBegun (Passing p) = ⊥
-IsBegun s = Unit {0}
-
-abbrev pub IsLooked : Stage → Type 0
-IsLooked Idle = ⊥
-IsLooked s = Unit {0}
 
 -- what a begin answers, by the stage that it came to
 abbrev pub begun_at : Stage → Begun

@@ -5,12 +5,10 @@ use Rattle.ckd_command.specs.declared.registers.Mark.{Mark}
 use Rattle.ckd_command.specs.declared.registers.Mark.TheVariants as mark
 use Rattle.ckd_command.specs.declared.steps.Aim.{Aim}
 use Rattle.ckd_command.specs.declared.steps.Aim.TheVariants.{Next}
-use Rattle.ckd_command.specs.declared.steps.Beginning.{Beginning}
-use Rattle.ckd_command.specs.declared.steps.Beginning.TheVariants.{ToCylinderZero}
+use Rattle.ckd_command.specs.Beginnings.{Beginning, ToCylinderZero}
 use Rattle.ckd_command.specs.declared.steps.DriveEnding.{DriveEnding}
 use Rattle.ckd_command.specs.declared.steps.Opened.{Opened}
-use Rattle.ckd_command.specs.declared.steps.Sight.{Sight}
-use Rattle.ckd_command.specs.declared.steps.Sight.TheVariants.{NextHead}
+use Rattle.ckd_command.specs.Sights.{Sight, NextHead}
 use Rattle.ckd_command.specs.Tables.{aim, action_of, is_giving}
 use Rattle.ckd_command.specs.Commands.{ending_status, in_motion_status, unit_check_status, beginning, sight, closing}
 use Rattle.ckd_command.specs.Drive.{State, with_registers, Fault, LoadFails, SaveFails, Open, AfterBegin, Rejected, Immediate, Started, AfterLook, Ready, Passed, Failed, Closed, begin, look, given, length_of, close, saving, left_by, begin_program, drive_of, first_drive, number_under, track_under, is_written, tells_equipment_check, no_sense}

@@ -5,20 +5,18 @@ ghost use Rattle.ckd_sense.specs.SenseBytes.{sense_bytes};
 ghost use Rattle.ckd_image.specs.Store.{Counts};
 ghost use Rattle.ckd_command.specs.Drive.{unsaved as unsaved_track, begin as begin_of, is_written as is_track_written};
 ghost use Rattle.ckd_drive.specs.declared.answers.Begun.TheVariants as begun;
-ghost use Rattle.ckd_drive.specs.declared.places.Stage.TheVariants.{Passing};
-ghost use Rattle.ckd_drive.specs.Half.{next_progress};
 ghost use Rattle.ckd_drive.specs.Work.{DriveState, Over, CallsStore, Reports, fault_met, begin_saves, look_loads, look_saves, end_saves, failed_ending, after_begin, after_look, moved_on, left_of, gives_now, takes_now, given_now, passed_of, closed_of, after_end, ending_of, is_idle, is_working, may_end, after_settle, begun_program, answer_of_begin, answer_of_look, with_image, new_drive, without_sense, phase_of, Allows};
 
 use crate::answers::{Begun, Look, Phase};
 use crate::places::{Place, Progress, Stage};
-use crate::stages::UNIT_CHECK;
+use crate::stages::{ENDED, IN_MOTION, UNIT_CHECK};
 use crate::{leaving, looking, placing, stages, starting, taking};
 use ckd_cache::TrackCache;
 use ckd_command::registers::{Mark, Registers};
-use ckd_command::steps::DriveEnding;
+use ckd_command::steps::{Closed, DriveEnding, Opened};
 use ckd_command::{beginning, tables};
 use ckd_image::{Image, ImageStore, StoreFault};
-use ckd_sense::Sense;
+use ckd_sense::{Command, Sense};
 use ghost_data::Trace;
 use std::alloc::{AllocError, Global};
 use std::marker::Model;
@@ -30,6 +28,10 @@ pub struct Drive<S: ImageStore> {
     registers: Registers,
     mark: Mark,
     stage: Stage,
+    /// The command that works, if one does.
+    opened: Opened,
+    /// How far its bytes are, if they pass.
+    progress: Progress,
     /// The slot under the arm as it was before the command wrote to it.
     before: Trace,
     /// The bytes that passed in the command.
@@ -39,26 +41,13 @@ pub struct Drive<S: ImageStore> {
 impl<S: ImageStore> Model for Drive<S> {
     ghost use Rattle.ckd_drive.specs.Work.{DriveState};
     ghost use Rattle.ckd_drive.specs.Half.{state_of, Stands};
+    ghost use Rattle.ckd_drive.specs.Held.{stage_seen};
 
     ghost Value = { DriveState };
 
-    ghost view = { λ d. state_of d.cache d.registers d.mark d.stage d.before.bytes d.passed.bytes };
+    ghost view = { λ d. state_of d.cache d.registers d.mark (stage_seen d.registers d.opened d.progress d.stage) d.before.bytes d.passed.bytes };
 
-    ghost invariant = { λ d. Stands d.cache d.registers d.mark d.stage d.before.bytes d.passed.bytes };
-}
-
-// So many bytes more have passed, and the rest have this place.
-fn moved_on_by(p: Progress, n: usize, place: Place) -> Stage
-    requires left { n ≤ p.left }
-    requires moved { p.moved + n < 2 ^ 32 }
-    ensures { result ≡ Passing (next_progress p n place) }
-{
-    Stage::Passing(Progress {
-        opened: p.opened,
-        moved: p.moved + n,
-        left: p.left - n,
-        place,
-    })
+    ghost invariant = { λ d. Stands d.cache d.registers d.mark (stage_seen d.registers d.opened d.progress d.stage) d.before.bytes d.passed.bytes };
 }
 
 impl<S: ImageStore> Drive<S> {
@@ -81,6 +70,16 @@ impl<S: ImageStore> Drive<S> {
             registers: beginning::first_registers(),
             mark: Mark::Saved,
             stage: Stage::Idle,
+            opened: Opened {
+                command: Command::NoOperation,
+                multi_track: false,
+                area: None,
+            },
+            progress: Progress {
+                moved: 0,
+                left: 0,
+                place: Place::Field([0; 8]),
+            },
             before: Trace::new(),
             passed: Trace::new(),
         })
@@ -100,8 +99,13 @@ impl<S: ImageStore> Drive<S> {
         ensures calls { CallsStore false (begin_saves code self.old) self.old self.new }
         ensures reported { Reports (result ≡ begun.Rejected) self.old self.new }
     {
-        let begun = beginning::begin(code, self.registers);
-        self.stage = starting::start(&mut self.cache, &mut self.registers, &mut self.mark, begun);
+        self.stage = starting::start(
+            &mut self.cache,
+            &mut self.registers,
+            &mut self.mark,
+            &mut self.opened,
+            code,
+        );
         stages::begun(self.stage)
     }
 
@@ -119,17 +123,23 @@ impl<S: ImageStore> Drive<S> {
         ensures calls { CallsStore (look_loads self.old) (look_saves self.old) self.old self.new }
         ensures reported { Reports (self.new.work ≡ Over failed_ending) self.old self.new }
     {
-        let opened = match self.stage {
-            Stage::Idle | Stage::Over(_) => unreachable!(),
-            Stage::Passing(p) => {
-                self.stage = stages::ready_again(p);
-                return stages::looked(self.stage);
+        match self.stage {
+            Stage::Idle | Stage::Ended | Stage::InMotion | Stage::Failed => unreachable!(),
+            Stage::Passing => {
+                stages::make_ready(tables::action(self.opened.command), &mut self.progress);
+                return Look::Ready(self.progress.left);
             }
-            Stage::Looking(opened) => opened,
-        };
+            Stage::Looking => {}
+        }
         self.passed = Trace::new();
-        self.stage = looking::look(&mut self.cache, &mut self.registers, &mut self.mark, opened);
-        stages::looked(self.stage)
+        self.stage = looking::look(
+            &mut self.cache,
+            &mut self.registers,
+            &mut self.mark,
+            &mut self.opened,
+            &mut self.progress,
+        );
+        stages::looked(self.stage, self.progress.left)
     }
 
     /// Gives the next bytes of a read or of Sense: as many as are asked for, and no more than the last look allows less
@@ -151,11 +161,12 @@ impl<S: ImageStore> Drive<S> {
         ensures size { length result.now ≡ left_of self.now.work }
         ensures bytes { result.now ≡ slice_range (given_now self.now self.now.work) (length (passed_of self.now.work)) (length (passed_of self.now.work) + left_of self.now.work) }
     {
-        let Stage::Passing(p) = &self.stage else {
+        let Stage::Passing = self.stage else {
             unreachable!();
         };
+        let p = &self.progress;
         match &p.place {
-            Place::Sense(bytes, _) => &bytes[p.moved..p.moved + p.left],
+            Place::Sense(bytes) => &bytes[p.moved..p.moved + p.left],
             Place::Read(window, _) => {
                 &self.cache.buffer().bytes()[window.start..window.start + p.left]
             }
@@ -170,11 +181,13 @@ impl<S: ImageStore> Drive<S> {
         ensures { self.new ≡ record self.old { work = moved_on (slice_range (given_now self.old self.old.work) (length (passed_of self.old.work)) (length (passed_of self.old.work) + n)) self.old.work } }
     {
         let passed = self.passed.and(&self.next_bytes()[..n]);
-        let Stage::Passing(p) = self.stage else {
+        self.passed = passed;
+        let Stage::Passing = self.stage else {
             unreachable!();
         };
-        self.passed = passed;
-        self.stage = moved_on_by(p, n, placing::given_on(p.place, n));
+        placing::give_on(&mut self.progress.place, n);
+        self.progress.moved += n;
+        self.progress.left -= n;
     }
 
     /// Takes the next bytes of any other command: no more than the last look allows less what has passed since. What is
@@ -184,19 +197,21 @@ impl<S: ImageStore> Drive<S> {
         requires room { length bytes.now ≤ left_of self.old.work }
         ensures { self.new ≡ record self.old { work = moved_on bytes.now self.old.work } }
     {
-        let Stage::Passing(p) = self.stage else {
+        let Stage::Passing = self.stage else {
             unreachable!();
         };
-        let place = taking::absorb(
+        taking::absorb(
             &mut self.cache,
-            self.registers,
+            &self.registers,
             &mut self.before,
             &self.passed,
-            p,
+            &self.opened,
+            &mut self.progress,
             bytes,
         );
         self.passed = self.passed.and(bytes);
-        self.stage = moved_on_by(p, bytes.len(), place);
+        self.progress.moved += bytes.len();
+        self.progress.left -= bytes.len();
     }
 
     /// Ends the command by the bytes that have passed, however few they are; it is over, or its area is found. Answers the
@@ -211,32 +226,52 @@ impl<S: ImageStore> Drive<S> {
         ensures calls { CallsStore false (end_saves self.old) self.old self.new }
         ensures reported { Reports (result ≡ failed_ending) self.old self.new }
     {
-        let p = match self.stage {
-            Stage::Idle | Stage::Looking(_) => unreachable!(),
-            Stage::Over(ending) => {
+        match self.stage {
+            Stage::Idle | Stage::Looking => unreachable!(),
+            Stage::Ended => {
                 self.stage = Stage::Idle;
-                return ending;
+                return ENDED;
             }
-            Stage::Passing(p) => p,
-        };
-        let outcome = placing::close(
+            Stage::InMotion => {
+                self.stage = Stage::Idle;
+                return IN_MOTION;
+            }
+            Stage::Failed => {
+                self.stage = Stage::Idle;
+                return UNIT_CHECK;
+            }
+            Stage::Passing => {}
+        }
+        let closed = placing::close(
             self.cache.geometry(),
-            self.registers,
-            p.opened,
-            p.moved,
-            p.place,
+            &self.opened,
+            &mut self.registers,
+            self.progress.moved,
+            &self.progress.place,
         );
         self.stage = Stage::Idle;
-        if !outcome.moves_off {
-            self.mark = placing::mark_left(p.place, self.mark);
-            self.registers = outcome.registers;
-            return outcome.ending;
+        match closed {
+            Closed::Stays(unit) => {
+                self.mark = placing::mark_left(&self.progress.place, self.mark);
+                DriveEnding {
+                    unit,
+                    motion: false,
+                }
+            }
+            Closed::Moves(cylinder, head, ending) => {
+                let left = leaving::leave(
+                    &mut self.cache,
+                    &mut self.registers,
+                    &mut self.mark,
+                    cylinder,
+                    head,
+                );
+                if left.is_err() {
+                    return UNIT_CHECK;
+                }
+                ending
+            }
         }
-        let next = outcome.registers;
-        if leaving::leave(&mut self.cache, &mut self.registers, &mut self.mark, next).is_err() {
-            return UNIT_CHECK;
-        }
-        outcome.ending
     }
 
     /// Saves the track if it was written. A command that is open, of which no byte has passed, is open no more.
@@ -260,7 +295,7 @@ impl<S: ImageStore> Drive<S> {
                 Ok(())
             }
             Err(fault) => {
-                self.registers = leaving::lost(self.registers);
+                leaving::lose(&mut self.registers);
                 self.mark = Mark::Lost;
                 Err(fault)
             }
@@ -273,7 +308,7 @@ impl<S: ImageStore> Drive<S> {
         requires { is_idle self.old.work ≡ true }
         ensures { self.new ≡ record self.old { state = begun_program self.old.state } }
     {
-        self.registers = beginning::program_start(self.registers);
+        beginning::start_program(&mut self.registers);
         self.mark = placing::owed_mark(self.mark);
     }
 
@@ -282,17 +317,18 @@ impl<S: ImageStore> Drive<S> {
         ensures phase { result ≡ phase_of self.now.work }
         ensures allows { Allows result self.now.work }
     {
+        let p = &self.progress;
         match self.stage {
             Stage::Idle => Phase::Idle,
-            Stage::Over(_) => Phase::Over,
-            Stage::Looking(_) => Phase::Looking,
-            Stage::Passing(p) if tables::is_giving(tables::action(p.opened.command)) => {
+            Stage::Ended | Stage::InMotion | Stage::Failed => Phase::Over,
+            Stage::Looking => Phase::Looking,
+            Stage::Passing if tables::is_giving(tables::action(self.opened.command)) => {
                 Phase::Gives {
                     passed: p.moved,
                     left: p.left,
                 }
             }
-            Stage::Passing(p) => Phase::Takes {
+            Stage::Passing => Phase::Takes {
                 passed: p.moved,
                 left: p.left,
             },
@@ -318,10 +354,7 @@ impl<S: ImageStore> Drive<S> {
         requires { is_idle self.old.work ≡ true }
         ensures { self.new ≡ record self.old { state = without_sense self.old.state } }
     {
-        self.registers = Registers {
-            sense: Sense::ZERO,
-            ..self.registers
-        };
+        self.registers.sense = Sense::ZERO;
     }
 
     /// Cylinder and head of a track that could not be saved, until the arm leaves it or the next program begins.
@@ -347,6 +380,8 @@ impl<S: ImageStore> Drive<S> {
             registers: _,
             mark: _,
             stage: _,
+            opened: _,
+            progress: _,
             before: _,
             passed: _,
         } = self;

@@ -2,50 +2,42 @@
 
 ghost use Rattle.std.specs.Prelude.{◌≡◌, None, OnOk, OnErr};
 ghost use Rattle.ckd_sense.specs.declared.sense_bytes.TheConstants.Sense.{STORE_FAULT};
-ghost use Rattle.ckd_command.specs.Commands.{with_cause as joined_with_cause};
+ghost use Rattle.ckd_command.specs.Commands.{with_cause};
+ghost use Rattle.ckd_command.specs.Steps.{moved_to};
 ghost use Rattle.ckd_drive.specs.Stages.{Leaves, Loses};
 
 use ckd_cache::TrackCache;
-use ckd_command::beginning;
+use ckd_command::beginning::{add_cause, move_to};
 use ckd_command::registers::{Mark, Registers};
 use ckd_image::{ImageStore, StoreFault};
 use ckd_sense::Sense;
 
-/// The registers where a load failed.
-pub(crate) fn with_store_fault(registers: Registers) -> Registers
-    ensures { result ≡ joined_with_cause registers STORE_FAULT }
+/// A track is lost whose saving failed.
+pub(crate) fn lose(registers: &mut Registers)
+    ensures { registers.new ≡ with_cause (record registers.old { credit = None }) STORE_FAULT }
 {
-    beginning::with_cause(registers, Sense::STORE_FAULT)
+    registers.credit = None;
+    add_cause(registers, Sense::STORE_FAULT);
 }
 
-/// The registers where a track is lost whose saving failed.
-pub(crate) fn lost(registers: Registers) -> Registers
-    ensures { result ≡ joined_with_cause (record registers { credit = None }) STORE_FAULT }
-{
-    let registers = Registers {
-        credit: None,
-        ..registers
-    };
-    with_store_fault(registers)
-}
-
-/// Leaves the track, which is saved first if it was written; the registers are the next ones then. Where the saving
-/// fails, the track is lost and the arm stays.
+/// Leaves the track for another, which stands at its index; it is saved first if it was written. Where the saving fails,
+/// the track is lost and the arm stays.
 pub(crate) fn leave<S: ImageStore>(
     cache: &mut TrackCache<S>,
     registers: &mut Registers,
     mark: &mut Mark,
-    next: Registers,
+    cylinder: u16,
+    head: u16,
 ) -> Result<(), StoreFault>
-    ensures leaves { OnOk result (Leaves cache.old cache.new registers.new mark.new next) }
+    ensures leaves { OnOk result (Leaves cache.old cache.new registers.new mark.new (moved_to registers.old cylinder head)) }
     ensures loses { OnErr result (Loses cache.old cache.new registers.old registers.new mark.new) }
 {
     if let Err(fault) = cache.save() {
-        *registers = lost(*registers);
+        lose(registers);
         *mark = Mark::Lost;
         return Err(fault);
     }
-    *registers = next;
+    move_to(registers, cylinder, head);
     *mark = Mark::Saved;
     Ok(())
 }

@@ -4,57 +4,53 @@ ghost use Rattle.std.specs.Prelude.{◌≡◌, [], Some};
 ghost use Rattle.ckd_command.specs.declared.steps.Aim.TheVariants.{Next};
 ghost use Rattle.ckd_command.specs.Tables.{aim as aim_of};
 ghost use Rattle.ckd_drive.specs.Half.{Stands, number};
-ghost use Rattle.ckd_drive.specs.declared.places.Stage.TheVariants.{Looking};
-ghost use Rattle.ckd_drive.specs.Stages.{Looks, IsLooked};
+ghost use Rattle.ckd_drive.specs.Held.{stage_seen, IsLookedHeld};
+ghost use Rattle.ckd_drive.specs.Stage.{Looking};
+ghost use Rattle.ckd_drive.specs.Stages.{Looks};
 
-use crate::leaving::{leave, with_store_fault};
-use crate::places::Stage;
+use crate::leaving::leave;
+use crate::places::{Progress, Stage};
 use crate::placing;
-use crate::stages::{UNIT_CHECK, ready};
 use ckd_cache::TrackCache;
+use ckd_command::beginning::add_cause;
 use ckd_command::registers::{Mark, Registers};
-use ckd_command::steps::{Aim, Opened, Sight};
+use ckd_command::steps::{Aim, Opened, Seen};
 use ckd_command::tables;
 use ckd_image::ImageStore;
 use ckd_position::Kind;
-
-const FAILED: Stage = Stage::Over(UNIT_CHECK);
+use ckd_sense::Sense;
 
 // The look at the track under the arm, which is at hand.
 fn look_at_hand<S: ImageStore>(
     cache: &mut TrackCache<S>,
     registers: &mut Registers,
     mark: &mut Mark,
-    opened: Opened,
+    opened: &mut Opened,
+    progress: &mut Progress,
     kind: Kind,
 ) -> Stage
-    requires stands { Stands cache.old registers.old mark.old (Looking opened) [] [] }
-    requires aim { aim_of opened.command ≡ Next kind }
+    requires stands { Stands cache.old registers.old mark.old (Looking opened.old) [] [] }
+    requires aim { aim_of opened.old.command ≡ Next kind }
     requires held { cache.old.held ≡ Some (number cache.old.image.geometry registers.old) }
-    ensures stage { Looks cache.old cache.new registers.old registers.new mark.old mark.new opened result }
-    ensures looked { IsLooked result }
+    ensures stage { Looks cache.old cache.new registers.old registers.new mark.old mark.new opened.old (stage_seen registers.new opened.new progress.new result) }
+    ensures looked { IsLookedHeld result }
     ensures loads { cache.new.image.loads ≡ cache.old.image.loads }
 {
     let geometry = cache.geometry();
-    match placing::look_at(cache.buffer(), geometry, opened, *registers, kind) {
-        Sight::Found(opened) => {
-            let place = placing::place_on(cache.buffer(), opened, *registers);
-            ready(opened, place)
+    match placing::look_at(cache.buffer(), geometry, opened, registers, kind) {
+        Seen::Found(area) => {
+            opened.area = Some(area);
+            placing::place_on(cache.buffer(), opened, progress)
         }
-        Sight::IndexPassed(next) => {
-            *registers = next;
-            Stage::Looking(opened)
-        }
-        Sight::NextHead(next) => {
-            if leave(cache, registers, mark, next).is_err() {
-                return FAILED;
+        Seen::IndexPassed => Stage::Looking,
+        Seen::NextHead => {
+            let (cylinder, head) = (registers.cylinder, registers.head + 1);
+            if leave(cache, registers, mark, cylinder, head).is_err() {
+                return Stage::Failed;
             }
-            Stage::Looking(opened)
+            Stage::Looking
         }
-        Sight::Missed(next) => {
-            *registers = next;
-            FAILED
-        }
+        Seen::Missed => Stage::Failed,
     }
 }
 
@@ -63,22 +59,23 @@ fn look_for_next<S: ImageStore>(
     cache: &mut TrackCache<S>,
     registers: &mut Registers,
     mark: &mut Mark,
-    opened: Opened,
+    opened: &mut Opened,
+    progress: &mut Progress,
     kind: Kind,
 ) -> Stage
-    requires stands { Stands cache.old registers.old mark.old (Looking opened) [] [] }
-    requires aim { aim_of opened.command ≡ Next kind }
-    ensures stage { Looks cache.old cache.new registers.old registers.new mark.old mark.new opened result }
-    ensures looked { IsLooked result }
+    requires stands { Stands cache.old registers.old mark.old (Looking opened.old) [] [] }
+    requires aim { aim_of opened.old.command ≡ Next kind }
+    ensures stage { Looks cache.old cache.new registers.old registers.new mark.old mark.new opened.old (stage_seen registers.new opened.new progress.new result) }
+    ensures looked { IsLookedHeld result }
 {
     let track = cache
         .geometry()
         .track_at(registers.cylinder, registers.head);
     if cache.hold(track).is_err() {
-        *registers = with_store_fault(*registers);
-        return FAILED;
+        add_cause(registers, Sense::STORE_FAULT);
+        return Stage::Failed;
     }
-    look_at_hand(cache, registers, mark, opened, kind)
+    look_at_hand(cache, registers, mark, opened, progress, kind)
 }
 
 /// A command that has not looked yet looks, and this is the stage that it comes to.
@@ -86,21 +83,16 @@ pub(crate) fn look<S: ImageStore>(
     cache: &mut TrackCache<S>,
     registers: &mut Registers,
     mark: &mut Mark,
-    opened: Opened,
+    opened: &mut Opened,
+    progress: &mut Progress,
 ) -> Stage
-    requires { Stands cache.old registers.old mark.old (Looking opened) [] [] }
-    ensures stage { Looks cache.old cache.new registers.old registers.new mark.old mark.new opened result }
-    ensures looked { IsLooked result }
+    requires { Stands cache.old registers.old mark.old (Looking opened.old) [] [] }
+    ensures stage { Looks cache.old cache.new registers.old registers.new mark.old mark.new opened.old (stage_seen registers.new opened.new progress.new result) }
+    ensures looked { IsLookedHeld result }
 {
     match tables::aim(opened.command) {
-        Aim::NoArea => {
-            let place = placing::place_without_area(opened, *registers);
-            ready(opened, place)
-        }
-        Aim::Credited => {
-            let place = placing::place_on(cache.buffer(), opened, *registers);
-            ready(opened, place)
-        }
-        Aim::Next(kind) => look_for_next(cache, registers, mark, opened, kind),
+        Aim::NoArea => placing::place_without_area(opened, registers, progress),
+        Aim::Credited => placing::place_on(cache.buffer(), opened, progress),
+        Aim::Next(kind) => look_for_next(cache, registers, mark, opened, progress, kind),
     }
 }

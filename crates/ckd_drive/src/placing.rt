@@ -6,21 +6,26 @@ ghost use Rattle.ckd_track.specs.Track.{track_of};
 ghost use Rattle.std.specs.Ordering.{nat_cmp, ordering_then};
 ghost use Rattle.std.specs.Cmp.Lexicographic.{slice_cmp};
 ghost use Rattle.ckd_position.specs.Comparisons.{accepts as accepts_order};
+ghost use Rattle.ckd_command.specs.declared.registers.Registers.{Registers};
+ghost use Rattle.ckd_command.specs.declared.steps.Opened.{Opened};
 ghost use Rattle.ckd_command.specs.Tables.{action_of, aim as aim_of};
-ghost use Rattle.ckd_command.specs.Commands.{outcome, own_home_address, sight as sight_of_track, whole_field, at_end as ends_behind, fails};
+ghost use Rattle.ckd_command.specs.Commands.{outcome, own_home_address, sight as sight_of_track, whole_field, at_end as ends_behind, fails, with_cause};
+ghost use Rattle.ckd_command.specs.Steps.{seen_as, closed_as, SeenStays, ClosedStays};
 ghost use Rattle.ckd_sense.specs.declared.sense_bytes.TheConstants.Sense.{WRONG_HOME_ADDRESS};
 ghost use Rattle.ckd_drive.specs.Work.{settled_mark as mark_settled, owed_mark as mark_owed};
 ghost use Rattle.ckd_track.specs.Changes.{overwritten};
 ghost use Rattle.ckd_command.specs.declared.steps.Aim.TheVariants.{Next, NoArea};
 ghost use Rattle.ckd_command.specs.declared.steps.Action.TheVariants.{NoTransfer};
-ghost use Rattle.ckd_drive.specs.Half.{whole_of, field_ends as field_closes, outcome_at, MovedInField, mark_left as mark_left_by, remaining as remaining_by, field_size as size_of_field, AreaIsThere, AreaOf, IsFirstPlace, ReadsWhole, MayGive, given_on as place_given};
+ghost use Rattle.ckd_drive.specs.Half.{whole_of, field_ends as field_closes, outcome_at, MovedInField, mark_left as mark_left_by, remaining as remaining_by, field_size as size_of_field, AreaIsThere, AreaOf, IsFirstPlace, ReadsWhole, given_on as place_given};
+ghost use Rattle.ckd_drive.specs.Held.{place_seen, closes_by, IsReady, IsLookedHeld, MayGiveHeld};
 
-use crate::places::{Place, Whole};
+use crate::places::{Place, Progress, Stage, Whole, Written};
+use crate::stages::ready;
 use ckd_cache::{TrackBuffer, Window};
-use ckd_command::beginning::with_cause;
+use ckd_command::beginning::add_cause;
 use ckd_command::registers::{Mark, Registers};
 use ckd_command::sight::sight_of;
-use ckd_command::steps::{Action, Opened, Outcome, Sight};
+use ckd_command::steps::{Action, Closed, Opened, Seen};
 use ckd_command::{closing, tables};
 use ckd_position::{Compare, Kind};
 use ckd_sense::Sense;
@@ -42,11 +47,11 @@ pub(crate) fn field_size(action: Action) -> usize
 }
 
 /// How many bytes are still to pass, as far as that is known.
-pub(crate) fn remaining(action: Action, place: Place, moved: usize) -> usize
-    ensures { result ≡ remaining_by action place moved }
+pub(crate) fn remaining(action: Action, place: &Place, moved: usize) -> usize
+    ensures { (o : Opened) (r : Registers) → result ≡ remaining_by action (place_seen r o place.now) moved }
 {
     match place {
-        Place::Sense(_, _) => 6usize.saturating_sub(moved),
+        Place::Sense(_) => 6usize.saturating_sub(moved),
         Place::Field(_) => field_size(action).saturating_sub(moved),
         Place::Read(window, _)
         | Place::Search(window, _)
@@ -56,8 +61,8 @@ pub(crate) fn remaining(action: Action, place: Place, moved: usize) -> usize
 }
 
 /// The mark of a track that a command leaves whose arm stays.
-pub(crate) fn mark_left(place: Place, mark: Mark) -> Mark
-    ensures { result ≡ mark_left_by place mark }
+pub(crate) fn mark_left(place: &Place, mark: Mark) -> Mark
+    ensures { (o : Opened) (r : Registers) → result ≡ mark_left_by (place_seen r o place.now) mark }
 {
     match place {
         Place::Filled(_, _) => Mark::Written,
@@ -90,18 +95,20 @@ pub(crate) fn owed_mark(mark: Mark) -> Mark
 pub(crate) fn look_at(
     buffer: &TrackBuffer,
     geometry: Geometry,
-    opened: Opened,
-    registers: Registers,
+    opened: &Opened,
+    registers: &mut Registers,
     kind: Kind,
-) -> Sight
-    requires head { registers.head < heads_of geometry.model }
-    requires kind { aim_of opened.command ≡ Next kind }
-    ensures sight { result ≡ sight_of_track geometry (track_of buffer.now) opened registers }
-    ensures there { AreaIsThere (track_of buffer.now) opened result }
+) -> Seen
+    requires head { registers.old.head < heads_of geometry.model }
+    requires kind { aim_of opened.now.command ≡ Next kind }
+    ensures sight { seen_as result opened.now registers.new ≡ sight_of_track geometry (track_of buffer.now) opened.now registers.old }
+    ensures there { AreaIsThere (track_of buffer.now) opened.now (seen_as result opened.now registers.new) }
+    ensures stays { SeenStays result registers.old registers.new }
 {
     let reads_whole = tables::action(opened.command) != Action::WriteHomeAddress;
     if reads_whole && !buffer.is_readable() {
-        return Sight::Missed(with_cause(registers, Sense::UNREADABLE_TRACK));
+        add_cause(registers, Sense::UNREADABLE_TRACK);
+        return Seen::Missed;
     }
     let next = buffer.next_area(registers.position, kind);
     sight_of(geometry, opened, registers, next)
@@ -139,14 +146,13 @@ pub(crate) fn behind(window: Window, n: usize) -> Window
     }
 }
 
-/// The place of the bytes that are still to be given, once so many more are.
-pub(crate) fn given_on(place: Place, n: usize) -> Place
-    requires { MayGive place n }
-    ensures { result ≡ place_given place n }
+/// So many more bytes of this place are given.
+pub(crate) fn give_on(place: &mut Place, n: usize)
+    requires { MayGiveHeld place.old n }
+    ensures { (o : Opened) (r : Registers) → place_seen r o place.new ≡ place_given (place_seen r o place.old) n }
 {
-    match place {
-        Place::Read(window, outcome) => Place::Read(behind(window, n), outcome),
-        _ => place,
+    if let Place::Read(window, _) = place {
+        *window = behind(*window, n);
     }
 }
 
@@ -161,52 +167,59 @@ pub(crate) fn collected(field: [u8; 8], at: usize, bytes: &[u8]) -> [u8; 8]
 }
 
 /// The place of a command that works on no area.
-pub(crate) fn place_without_area(opened: Opened, registers: Registers) -> Place
-    requires aim { aim_of opened.command ≡ NoArea }
-    requires transfers { action_of opened.command ≡ NoTransfer → ⊥ }
-    ensures { (slot : List ℕ) → IsFirstPlace slot opened registers result }
+pub(crate) fn place_without_area(
+    opened: &Opened,
+    registers: &Registers,
+    progress: &mut Progress,
+) -> Stage
+    requires aim { aim_of opened.now.command ≡ NoArea }
+    requires transfers { action_of opened.now.command ≡ NoTransfer → ⊥ }
+    ensures first { (slot : List ℕ) → IsFirstPlace slot opened.now registers.now (place_seen registers.now opened.now progress.new.place) }
+    ensures ready { IsReady registers.now opened.now progress.new result }
+    ensures passing { IsLookedHeld result }
 {
-    match tables::action(opened.command) {
-        Action::GiveSense => Place::Sense(
-            registers.sense.to_bytes(),
-            closing::area_ends(opened, registers, false),
-        ),
+    let action = tables::action(opened.command);
+    let place = match action {
+        Action::GiveSense => Place::Sense(registers.sense.to_bytes()),
         _ => Place::Field([0; 8]),
-    }
+    };
+    ready(action, progress, place)
 }
 
 /// The place of a command whose area is this, or which makes its record behind it.
-pub(crate) fn place_on(buffer: &TrackBuffer, opened: Opened, registers: Registers) -> Place
-    requires aim { aim_of opened.command ≡ NoArea → ⊥ }
-    requires readable { ReadsWhole (action_of opened.command) (track_of buffer.now) }
-    requires there { AreaOf (track_of buffer.now) opened }
-    ensures { IsFirstPlace buffer.now opened registers result }
+#[inline(always)]
+pub(crate) fn place_on(buffer: &TrackBuffer, opened: &Opened, progress: &mut Progress) -> Stage
+    requires aim { aim_of opened.now.command ≡ NoArea → ⊥ }
+    requires readable { ReadsWhole (action_of opened.now.command) (track_of buffer.now) }
+    requires there { AreaOf (track_of buffer.now) opened.now }
+    ensures first { (r : Registers) → IsFirstPlace buffer.now opened.now r (place_seen r opened.now progress.new.place) }
+    ensures ready { (r : Registers) → IsReady r opened.now progress.new result }
+    ensures passing { IsLookedHeld result }
 {
     let action = tables::action(opened.command);
     if matches!(action, Action::WriteHomeAddress | Action::Format) {
-        return Place::Field([0; 8]);
+        return ready(action, progress, Place::Field([0; 8]));
     }
     let (window, no_data) = match opened.area {
-        Some(area) => (
-            buffer.window(tables::extent(opened.command), area),
-            buffer.has_no_data(area),
-        ),
+        Some(area) => buffer.part(tables::extent(opened.command), area),
         None => (Window { start: 0, len: 0 }, false),
     };
-    match action {
+    let place = match action {
         Action::Search => Place::Search(window, Ordering::Equal),
-        Action::Read => Place::Read(window, closing::area_ends(opened, registers, no_data)),
-        _ => Place::Fill(window, closing::area_ends(opened, registers, no_data)),
-    }
+        Action::Read => Place::Read(window, no_data),
+        _ => Place::Fill(window, no_data),
+    };
+    ready(action, progress, place)
 }
 
 // How Write Home Address closes where the track is as it was.
-fn home_address_ends(opened: Opened, registers: Registers, bytes: &[u8]) -> Outcome
-    ensures { result ≡ outcome (whole_field (ends_behind opened registers) bytes.now 5 (fails (ends_behind opened registers) WRONG_HOME_ADDRESS)) }
+fn home_address_ends(opened: &Opened, registers: &mut Registers, bytes: &[u8]) -> Closed
+    ensures closes { closed_as result registers.new ≡ outcome (whole_field (ends_behind opened.now registers.old) bytes.now 5 (fails (ends_behind opened.now registers.old) WRONG_HOME_ADDRESS)) }
+    ensures stays { ClosedStays result registers.old registers.new }
 {
-    let registers = closing::at_end(opened, registers);
+    closing::at_end(opened, registers);
     if bytes.is_empty() {
-        return closing::ends(registers, closing::ENDING);
+        return Closed::Stays(closing::ENDING);
     }
     if bytes.len() < 5 {
         return closing::fails(registers, Sense::FIELD_CUT_SHORT);
@@ -215,9 +228,15 @@ fn home_address_ends(opened: Opened, registers: Registers, bytes: &[u8]) -> Outc
 }
 
 // How a command closes that takes a field which must come whole, where these bytes of it came and the track is as it was.
-fn field_ends(geometry: Geometry, opened: Opened, registers: Registers, bytes: &[u8]) -> Outcome
-    requires { length bytes.now ≤ size_of_field (action_of opened.command) }
-    ensures { result ≡ outcome (field_closes (action_of opened.command) geometry opened registers bytes.now) }
+fn field_ends(
+    geometry: Geometry,
+    opened: &Opened,
+    registers: &mut Registers,
+    bytes: &[u8],
+) -> Closed
+    requires { length bytes.now ≤ size_of_field (action_of opened.now.command) }
+    ensures closes { closed_as result registers.new ≡ outcome (field_closes (action_of opened.now.command) geometry opened.now registers.old bytes.now) }
+    ensures stays { ClosedStays result registers.old registers.new }
 {
     let action = tables::action(opened.command);
     if action == Action::SetFileMask {
@@ -227,7 +246,7 @@ fn field_ends(geometry: Geometry, opened: Opened, registers: Registers, bytes: &
         return home_address_ends(opened, registers, bytes);
     }
     if bytes.is_empty() {
-        return closing::ends(registers, closing::ENDING);
+        return Closed::Stays(closing::ENDING);
     }
     if bytes.len() < field_size(action) {
         return closing::fails(registers, Sense::FIELD_CUT_SHORT);
@@ -236,28 +255,42 @@ fn field_ends(geometry: Geometry, opened: Opened, registers: Registers, bytes: &
         Action::SeekCylinderAndHead => closing::seek_cylinder_and_head(geometry, registers, bytes),
         Action::SeekHead => closing::seek_head(geometry, registers, bytes),
         Action::Format => closing::fails(registers, Sense::RECORD_DOES_NOT_FIT),
-        _ => closing::ends(registers, closing::ENDING),
+        _ => Closed::Stays(closing::ENDING),
+    }
+}
+
+// How a command closes that has written.
+fn written_ends(opened: &Opened, registers: &mut Registers, written: Written) -> Closed
+    ensures closes { closed_as result registers.new ≡ closes_by registers.old opened.now written }
+    ensures stays { ClosedStays result registers.old registers.new }
+{
+    match written {
+        Written::HomeAddress => closing::home_address_ends(opened, registers),
+        Written::Record(number) => closing::format_ends(registers, number),
+        Written::Area(no_data) => closing::area_ends(opened, registers, no_data),
     }
 }
 
 /// How a command closes, as far as it is known by the place of its bytes, so many of which have passed.
 pub(crate) fn close(
     geometry: Geometry,
-    registers: Registers,
-    opened: Opened,
+    opened: &Opened,
+    registers: &mut Registers,
     moved: usize,
-    place: Place,
-) -> Outcome
-    requires { MovedInField (action_of opened.command) moved place }
-    ensures { result ≡ outcome_at geometry registers opened moved place }
+    place: &Place,
+) -> Closed
+    requires { MovedInField (action_of opened.now.command) moved (place_seen registers.old opened.now place.now) }
+    ensures closes { closed_as result registers.new ≡ outcome_at geometry registers.old opened.now moved (place_seen registers.old opened.now place.now) }
+    ensures stays { ClosedStays result registers.old registers.new }
 {
     match place {
-        Place::Sense(_, outcome)
-        | Place::Read(_, outcome)
-        | Place::Fill(_, outcome)
-        | Place::Filled(_, outcome) => outcome,
+        Place::Sense(_) => closing::area_ends(opened, registers, false),
+        Place::Read(_, no_data) | Place::Fill(_, no_data) => closing::area_ends(
+            opened, registers, *no_data,
+        ),
+        Place::Filled(_, written) => written_ends(opened, registers, *written),
         Place::Search(window, so_far) => {
-            let satisfied = moved > 0 && accepts(tables::comparison(opened.command), so_far);
+            let satisfied = moved > 0 && accepts(tables::comparison(opened.command), *so_far);
             closing::search_ends(opened, registers, satisfied, window.len == 0)
         }
         Place::Field(field) => field_ends(geometry, opened, registers, &field[..moved]),
@@ -265,13 +298,13 @@ pub(crate) fn close(
 }
 
 /// What a field is once so many of its bytes came.
-pub(crate) fn whole(opened: Opened, registers: Registers, moved: usize, field: [u8; 8]) -> Whole
-    ensures { result ≡ whole_of (action_of opened.command) (own_home_address registers) moved field }
+pub(crate) fn whole(opened: &Opened, registers: &Registers, moved: usize, field: [u8; 8]) -> Whole
+    ensures { result ≡ whole_of (action_of opened.now.command) (own_home_address registers.now) moved field }
 {
     match tables::action(opened.command) {
         Action::WriteHomeAddress => {
             let home_address = [field[0], field[1], field[2], field[3], field[4]];
-            if moved == 5 && home_address == closing::own_home_address(registers) {
+            if moved == 5 && home_address == closing::own_home_address(*registers) {
                 Whole::HomeAddress(home_address)
             } else {
                 Whole::No

@@ -1,16 +1,18 @@
 //! The stages that a command comes to, and what the drive answers by them.
 
 ghost use Rattle.std.specs.Prelude.{◌≡◌};
-ghost use Rattle.ckd_drive.specs.declared.places.Stage.TheVariants.{Passing};
+ghost use Rattle.ckd_command.specs.declared.registers.Registers.{Registers};
+ghost use Rattle.ckd_command.specs.declared.steps.Opened.{Opened};
 ghost use Rattle.ckd_command.specs.Tables.{action_of};
 ghost use Rattle.ckd_drive.specs.Half.{remaining as remaining_by};
-ghost use Rattle.ckd_drive.specs.Stages.{IsBegun, IsLooked, begun_at, looked_at};
+ghost use Rattle.ckd_drive.specs.Held.{place_seen, stage_seen, IsReady, IsBegunHeld, IsLookedHeld};
+ghost use Rattle.ckd_drive.specs.Stages.{begun_at, looked_at};
 
 use crate::answers::{Begun, Look};
 use crate::places::{Place, Progress, Stage};
 use crate::placing;
-use ckd_command::steps::{DriveEnding, Opened};
-use ckd_command::{closing, tables};
+use ckd_command::closing;
+use ckd_command::steps::{Action, DriveEnding};
 
 /// How a command ends whose arm stays.
 pub(crate) const ENDED: DriveEnding = DriveEnding {
@@ -30,50 +32,48 @@ pub(crate) const UNIT_CHECK: DriveEnding = DriveEnding {
     motion: false,
 };
 
-/// A command that has just found the place of its bytes.
-pub(crate) fn ready(opened: Opened, place: Place) -> Stage
-    ensures { result ≡ Passing (record { opened = opened; moved = 0; left = remaining_by (action_of opened.command) place 0; place = place }) }
+/// A command of this action has just found the place of its bytes.
+pub(crate) fn ready(action: Action, progress: &mut Progress, place: Place) -> Stage
+    ensures place { progress.new.place ≡ place }
+    ensures passing { IsLookedHeld result }
+    ensures ready { (o : Opened) (r : Registers) → action ≡ action_of o.command → IsReady r o progress.new result }
 {
-    Stage::Passing(Progress {
-        opened,
-        moved: 0,
-        left: placing::remaining(tables::action(opened.command), place, 0),
-        place,
-    })
+    let left = placing::remaining(action, &place, 0);
+    progress.moved = 0;
+    progress.left = left;
+    progress.place = place;
+    Stage::Passing
 }
 
-/// A command of which all the bytes may pass that are known to be left.
-pub(crate) fn ready_again(p: Progress) -> Stage
-    ensures { result ≡ Passing (record p { left = remaining_by (action_of p.opened.command) p.place p.moved }) }
+/// All the bytes may pass that are known to be left.
+pub(crate) fn make_ready(action: Action, progress: &mut Progress)
+    ensures { (o : Opened) (r : Registers) → progress.new ≡ record progress.old { left = remaining_by action (place_seen r o progress.old.place) progress.old.moved } }
 {
-    Stage::Passing(Progress {
-        left: placing::remaining(tables::action(p.opened.command), p.place, p.moved),
-        ..p
-    })
+    progress.left = placing::remaining(action, &progress.place, progress.moved);
 }
 
 /// What a begin answers that came to this stage.
 pub(crate) fn begun(stage: Stage) -> Begun
-    requires { IsBegun stage }
-    ensures { result ≡ begun_at stage }
+    requires { IsBegunHeld stage }
+    ensures { (o : Opened) (r : Registers) (p : Progress) → result ≡ begun_at (stage_seen r o p stage) }
 {
     match stage {
         Stage::Idle => Begun::Rejected,
-        Stage::Over(_) => Begun::Immediate,
-        Stage::Looking(_) => Begun::Started,
-        Stage::Passing(_) => unreachable!(),
+        Stage::Ended | Stage::InMotion | Stage::Failed => Begun::Immediate,
+        Stage::Looking => Begun::Started,
+        Stage::Passing => unreachable!(),
     }
 }
 
-/// What a look answers that came to this stage.
-pub(crate) fn looked(stage: Stage) -> Look
-    requires { IsLooked stage }
-    ensures { result ≡ looked_at stage }
+/// What a look answers that came to this stage, with so many bytes that may pass.
+pub(crate) fn looked(stage: Stage, left: usize) -> Look
+    requires { IsLookedHeld stage }
+    ensures { (o : Opened) (r : Registers) (p : Progress) → p.left ≡ left → result ≡ looked_at (stage_seen r o p stage) }
 {
     match stage {
         Stage::Idle => unreachable!(),
-        Stage::Over(_) => Look::Failed,
-        Stage::Looking(_) => Look::Passed,
-        Stage::Passing(p) => Look::Ready(p.left),
+        Stage::Ended | Stage::InMotion | Stage::Failed => Look::Failed,
+        Stage::Looking => Look::Passed,
+        Stage::Passing => Look::Ready(left),
     }
 }

@@ -1,52 +1,51 @@
 //! A drive starts a command.
 
 ghost use Rattle.std.specs.Prelude.{◌≡◌, []};
-ghost use Rattle.ckd_drive.specs.declared.places.Stage.TheVariants.{Idle};
+ghost use Rattle.ckd_command.specs.Commands.{beginning};
+ghost use Rattle.ckd_drive.specs.declared.places.Progress.{Progress};
+ghost use Rattle.ckd_drive.specs.Stage.{Idle};
 ghost use Rattle.ckd_drive.specs.Half.{Stands, BeginsWell, number};
-ghost use Rattle.ckd_drive.specs.Stages.{Begins, IsBegun};
+ghost use Rattle.ckd_drive.specs.Held.{stage_seen, IsBegunHeld};
+ghost use Rattle.ckd_drive.specs.Stages.{Begins};
 
 use crate::leaving::leave;
 use crate::places::Stage;
-use crate::stages::{ENDED, IN_MOTION};
 use ckd_cache::TrackCache;
-use ckd_command::beginning::moved_to;
+use ckd_command::beginning;
 use ckd_command::registers::{Mark, Registers};
-use ckd_command::steps::Beginning;
+use ckd_command::steps::{Opened, Start};
 use ckd_image::ImageStore;
 
-/// An idle drive starts the command that its code leads to, and this is the stage that it comes to.
+/// An idle drive starts the command that this code leads to, and this is the stage that it comes to.
 pub(crate) fn start<S: ImageStore>(
     cache: &mut TrackCache<S>,
     registers: &mut Registers,
     mark: &mut Mark,
-    begun: Beginning,
+    opened: &mut Opened,
+    code: u8,
 ) -> Stage
     requires idle { Stands cache.old registers.old mark.old Idle [] [] }
-    requires well { BeginsWell cache.old (number cache.old.image.geometry registers.old) registers.old begun }
-    ensures state { Begins cache.old cache.new registers.old registers.new mark.old mark.new begun result }
-    ensures begun { IsBegun result }
+    requires well { BeginsWell cache.old (number cache.old.image.geometry registers.old) registers.old (beginning code registers.old) }
+    ensures state { (p : Progress) → Begins cache.old cache.new registers.old registers.new mark.old mark.new (beginning code registers.old) (stage_seen registers.new opened.new p result) }
+    ensures begun { IsBegunHeld result }
 {
-    match begun {
-        Beginning::Rejected(next) => {
-            *registers = next;
-            Stage::Idle
+    match beginning::begin(code, registers) {
+        Start::Rejected => Stage::Idle,
+        Start::Immediate => Stage::Ended,
+        Start::Works(next) => {
+            *opened = next;
+            Stage::Looking
         }
-        Beginning::Immediate(next) => {
-            *registers = next;
-            Stage::Over(ENDED)
-        }
-        Beginning::Started(next, opened) => {
-            *registers = next;
-            Stage::Looking(opened)
-        }
-        Beginning::ToCylinderZero(next, opened) => {
-            *registers = next;
-            if leave(cache, registers, mark, moved_to(next, 0, 0)).is_err() {
+        Start::ToCylinderZero(next) => {
+            if leave(cache, registers, mark, 0, 0).is_err() {
                 return Stage::Idle;
             }
-            match opened {
-                None => Stage::Over(IN_MOTION),
-                Some(opened) => Stage::Looking(opened),
+            match next {
+                None => Stage::InMotion,
+                Some(next) => {
+                    *opened = next;
+                    Stage::Looking
+                }
             }
         }
     }

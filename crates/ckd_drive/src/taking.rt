@@ -1,15 +1,17 @@
 //! What becomes of the bytes that a command takes.
 
 ghost use Rattle.std.specs.Prelude.{◌≡◌, ◌≤◌, ◌<◌, ◌+◌, ◌++◌, Some, [], true, false, length};
-ghost use Rattle.ckd_drive.specs.declared.places.Place.TheVariants as place;
+ghost use Rattle.ckd_drive.specs.Places as place;
 ghost use Rattle.ckd_drive.specs.Half.{Works, MayTake, Absorbs};
+ghost use Rattle.ckd_drive.specs.Held.{closes_by, place_seen, progress_seen};
+ghost use Rattle.ckd_command.specs.Commands.{outcome, area_ends};
 
-use crate::places::{Place, Progress, Whole};
+use crate::places::{Place, Progress, Whole, Written};
 use crate::placing;
 use ckd_cache::{TrackCache, Window};
 use ckd_command::registers::Registers;
-use ckd_command::steps::Outcome;
-use ckd_command::{closing, tables};
+use ckd_command::steps::Opened;
+use ckd_command::tables;
 use ckd_image::ImageStore;
 use ckd_position::{Area, Extent, Part};
 use ghost_data::Trace;
@@ -18,58 +20,64 @@ use std::cmp::Ordering;
 // A search compares the bytes.
 fn search<S: ImageStore>(
     cache: &TrackCache<S>,
-    registers: Registers,
+    registers: &Registers,
     before: &Trace,
     passed: &Trace,
-    p: Progress,
+    opened: &Opened,
+    p: &mut Progress,
     bytes: &[u8],
     window: Window,
     so_far: Ordering,
-) -> Place
-    requires works { Works cache.now registers before.now.bytes passed.now.bytes p }
-    requires may { MayTake p bytes.now }
-    requires at { p.place ≡ place.Search window so_far }
-    ensures { Absorbs cache.now cache.now registers before.now.bytes before.now.bytes passed.now.bytes p bytes.now result }
+)
+    requires works { Works cache.now registers.now before.now.bytes passed.now.bytes (progress_seen registers.now opened.now p.old) }
+    requires may { MayTake (progress_seen registers.now opened.now p.old) bytes.now }
+    requires at { place_seen registers.now opened.now p.old.place ≡ place.Search window so_far }
+    ensures absorbs { Absorbs cache.now cache.now registers.now before.now.bytes before.now.bytes passed.now.bytes (progress_seen registers.now opened.now p.old) bytes.now (place_seen registers.now opened.now p.new.place) }
+    ensures moved { p.new.moved ≡ p.old.moved }
+    ensures left { p.new.left ≡ p.old.left }
 {
     let so_far = placing::compared(so_far, cache.buffer().bytes(), window, bytes);
-    Place::Search(placing::behind(window, bytes.len()), so_far)
+    p.place = Place::Search(placing::behind(window, bytes.len()), so_far);
 }
 
 // A field is collected, and once it came whole the track is changed where that is allowed.
 fn collect<S: ImageStore>(
     cache: &mut TrackCache<S>,
-    registers: Registers,
+    registers: &Registers,
     before: &mut Trace,
     passed: &Trace,
-    p: Progress,
+    opened: &Opened,
+    p: &mut Progress,
     bytes: &[u8],
     field: [u8; 8],
-) -> Place
-    requires works { Works cache.old registers before.old.bytes passed.now.bytes p }
-    requires may { MayTake p bytes.now }
-    requires at { p.place ≡ place.Field field }
-    ensures { Absorbs cache.old cache.new registers before.old.bytes before.new.bytes passed.now.bytes p bytes.now result }
+)
+    requires works { Works cache.old registers.now before.old.bytes passed.now.bytes (progress_seen registers.now opened.now p.old) }
+    requires may { MayTake (progress_seen registers.now opened.now p.old) bytes.now }
+    requires at { place_seen registers.now opened.now p.old.place ≡ place.Field field }
+    ensures absorbs { Absorbs cache.old cache.new registers.now before.old.bytes before.new.bytes passed.now.bytes (progress_seen registers.now opened.now p.old) bytes.now (place_seen registers.now opened.now p.new.place) }
+    ensures moved { p.new.moved ≡ p.old.moved }
+    ensures left { p.new.left ≡ p.old.left }
 {
     let field = placing::collected(field, p.moved, bytes);
-    match placing::whole(p.opened, registers, p.moved + bytes.len(), field) {
-        Whole::No => Place::Field(field),
+    match placing::whole(opened, registers, p.moved + bytes.len(), field) {
+        Whole::No => p.place = Place::Field(field),
         Whole::HomeAddress(home_address) => {
             *before = Trace::of(cache.buffer().bytes());
             cache.write_home_address(home_address);
-            let rest = Window { start: 5, len: 0 };
-            Place::Filled(rest, closing::home_address_ends(p.opened, registers))
+            p.place = Place::Filled(Window { start: 5, len: 0 }, Written::HomeAddress);
         }
         Whole::Count(count) => {
             let model = cache.geometry().model;
-            if !cache.buffer().fits(model, p.opened.area, count) {
-                return Place::Field(field);
+            if !cache.buffer().fits(model, opened.area, count) {
+                p.place = Place::Field(field);
+                return;
             }
             *before = Trace::of(cache.buffer().bytes());
-            let number = cache.format(p.opened.area, count);
+            let number = cache.format(opened.area, count);
             let rest = cache
                 .buffer()
                 .window(Extent::KeyAndData, Area::Of(Part::Data, number));
-            Place::Filled(rest, closing::format_ends(registers, number))
+            p.place = Place::Filled(rest, Written::Record(number));
         }
     }
 }
@@ -77,75 +85,86 @@ fn collect<S: ImageStore>(
 // The bytes of an area are replaced: those that came by their own, the others by zeros.
 fn fill<S: ImageStore>(
     cache: &mut TrackCache<S>,
-    registers: Registers,
+    registers: &Registers,
     before: &mut Trace,
     passed: &Trace,
-    p: Progress,
+    opened: &Opened,
+    p: &mut Progress,
     bytes: &[u8],
     window: Window,
-    outcome: Outcome,
-) -> Place
-    requires works { Works cache.old registers before.old.bytes passed.now.bytes p }
-    requires may { MayTake p bytes.now }
-    requires at { p.place ≡ place.Fill window outcome }
-    ensures { Absorbs cache.old cache.new registers before.old.bytes before.new.bytes passed.now.bytes p bytes.now result }
+    no_data: bool,
+)
+    requires works { Works cache.old registers.now before.old.bytes passed.now.bytes (progress_seen registers.now opened.now p.old) }
+    requires may { MayTake (progress_seen registers.now opened.now p.old) bytes.now }
+    requires at { place_seen registers.now opened.now p.old.place ≡ place.Fill window (outcome (area_ends opened.now registers.now no_data)) }
+    ensures absorbs { Absorbs cache.old cache.new registers.now before.old.bytes before.new.bytes passed.now.bytes (progress_seen registers.now opened.now p.old) bytes.now (place_seen registers.now opened.now p.new.place) }
+    ensures moved { p.new.moved ≡ p.old.moved }
+    ensures left { p.new.left ≡ p.old.left }
 {
     if bytes.is_empty() {
-        return Place::Fill(window, outcome);
+        p.place = Place::Fill(window, no_data);
+        return;
     }
-    let Some(area) = p.opened.area else {
-        return Place::Fill(window, outcome);
+    let Some(area) = opened.area else {
+        p.place = Place::Fill(window, no_data);
+        return;
     };
     *before = Trace::of(cache.buffer().bytes());
-    cache.clear(tables::extent(p.opened.command), area);
+    cache.clear(tables::extent(opened.command), area);
     cache.put(window.start, bytes);
-    Place::Filled(placing::behind(window, bytes.len()), outcome)
+    p.place = Place::Filled(placing::behind(window, bytes.len()), Written::Area(no_data));
 }
 
 // More bytes of an area that is being written.
 fn fill_on<S: ImageStore>(
     cache: &mut TrackCache<S>,
-    registers: Registers,
+    registers: &Registers,
     before: &Trace,
     passed: &Trace,
-    p: Progress,
+    opened: &Opened,
+    p: &mut Progress,
     bytes: &[u8],
     window: Window,
-    outcome: Outcome,
-) -> Place
-    requires works { Works cache.old registers before.now.bytes passed.now.bytes p }
-    requires may { MayTake p bytes.now }
-    requires at { p.place ≡ place.Filled window outcome }
-    ensures { Absorbs cache.old cache.new registers before.now.bytes before.now.bytes passed.now.bytes p bytes.now result }
+    written: Written,
+)
+    requires works { Works cache.old registers.now before.now.bytes passed.now.bytes (progress_seen registers.now opened.now p.old) }
+    requires may { MayTake (progress_seen registers.now opened.now p.old) bytes.now }
+    requires at { place_seen registers.now opened.now p.old.place ≡ place.Filled window (closes_by registers.now opened.now written) }
+    ensures absorbs { Absorbs cache.old cache.new registers.now before.now.bytes before.now.bytes passed.now.bytes (progress_seen registers.now opened.now p.old) bytes.now (place_seen registers.now opened.now p.new.place) }
+    ensures moved { p.new.moved ≡ p.old.moved }
+    ensures left { p.new.left ≡ p.old.left }
 {
     cache.put(window.start, bytes);
-    Place::Filled(placing::behind(window, bytes.len()), outcome)
+    p.place = Place::Filled(placing::behind(window, bytes.len()), written);
 }
 
-/// A command that has found its area takes these bytes, and the rest have the place that is answered.
+/// A command that has found its area takes these bytes, and the rest have the place that is left.
 pub(crate) fn absorb<S: ImageStore>(
     cache: &mut TrackCache<S>,
-    registers: Registers,
+    registers: &Registers,
     before: &mut Trace,
     passed: &Trace,
-    p: Progress,
+    opened: &Opened,
+    p: &mut Progress,
     bytes: &[u8],
-) -> Place
-    requires works { Works cache.old registers before.old.bytes passed.now.bytes p }
-    requires may { MayTake p bytes.now }
-    ensures { Absorbs cache.old cache.new registers before.old.bytes before.new.bytes passed.now.bytes p bytes.now result }
+)
+    requires works { Works cache.old registers.now before.old.bytes passed.now.bytes (progress_seen registers.now opened.now p.old) }
+    requires may { MayTake (progress_seen registers.now opened.now p.old) bytes.now }
+    ensures absorbs { Absorbs cache.old cache.new registers.now before.old.bytes before.new.bytes passed.now.bytes (progress_seen registers.now opened.now p.old) bytes.now (place_seen registers.now opened.now p.new.place) }
+    ensures moved { p.new.moved ≡ p.old.moved }
+    ensures left { p.new.left ≡ p.old.left }
 {
     match p.place {
         Place::Search(window, so_far) => search(
-            cache, registers, before, passed, p, bytes, window, so_far,
+            cache, registers, before, passed, opened, p, bytes, window, so_far,
         ),
-        Place::Field(field) => collect(cache, registers, before, passed, p, bytes, field),
-        Place::Fill(window, outcome) => fill(
-            cache, registers, before, passed, p, bytes, window, outcome,
+        Place::Field(field) => collect(cache, registers, before, passed, opened, p, bytes, field),
+        Place::Fill(window, no_data) => fill(
+            cache, registers, before, passed, opened, p, bytes, window, no_data,
         ),
-        Place::Filled(window, outcome) => fill_on(
-            cache, registers, before, passed, p, bytes, window, outcome,
+        Place::Filled(window, written) => fill_on(
+            cache, registers, before, passed, opened, p, bytes, window, written,
         ),
-        Place::Sense(_, _) | Place::Read(_, _) => unreachable!(),
+        Place::Sense(_) | Place::Read(_, _) => unreachable!(),
     }
 }

@@ -12,10 +12,10 @@ use Rattle.ckd_command.specs.declared.registers.Registers.{Registers}
 use Rattle.ckd_command.specs.declared.steps.Aim.{Aim}
 use Rattle.ckd_command.specs.declared.steps.Aim.TheVariants.{NoArea, Next, Credited}
 use Rattle.ckd_command.specs.declared.steps.Opened.{Opened}
-use Rattle.ckd_command.specs.declared.steps.Beginning.{Beginning}
-use Rattle.ckd_command.specs.declared.steps.Beginning.TheVariants as beginning
-use Rattle.ckd_command.specs.declared.steps.Sight.{Sight}
-use Rattle.ckd_command.specs.declared.steps.Sight.TheVariants as sight
+use Rattle.ckd_command.specs.Beginnings.{Beginning}
+use Rattle.ckd_command.specs.Beginnings as beginning
+use Rattle.ckd_command.specs.Sights.{Sight}
+use Rattle.ckd_command.specs.Sights as sight
 use Rattle.ckd_command.specs.Tables.{aim}
 use Rattle.ckd_command.specs.Commands.{Closing, beginning, sight}
 use Rattle.ckd_command.specs.Drive.{IdleDrive, State, is_written, is_written_by, drive_of, number_under, slot_under, track_under, Fault, LoadFails, SaveFails, left_by, lost, saving, moving_off, moved, with_registers, with_store_fault, Open, state_of, AfterBegin, Rejected, Immediate, Started, begin, begun, at_cylinder_zero, AfterLook, Ready, Passed, Failed, look, looked, look_for, with_written, Closed, failed, close, closed, closed_by, closed_moving, settled, with_unit_check, unsaved_by}

@@ -8,10 +8,10 @@ use Rattle.ckd_command.specs.declared.registers.Registers.{Registers}
 use Rattle.ckd_command.specs.declared.steps.Aim.{Aim}
 use Rattle.ckd_command.specs.declared.steps.Aim.TheVariants.{NoArea, Next as NextArea, Credited}
 use Rattle.ckd_command.specs.declared.steps.Opened.{Opened}
-use Rattle.ckd_command.specs.declared.steps.Beginning.{Beginning}
-use Rattle.ckd_command.specs.declared.steps.Beginning.TheVariants as beginning
-use Rattle.ckd_command.specs.declared.steps.Sight.{Sight}
-use Rattle.ckd_command.specs.declared.steps.Sight.TheVariants as sight
+use Rattle.ckd_command.specs.Beginnings.{Beginning}
+use Rattle.ckd_command.specs.Beginnings as beginning
+use Rattle.ckd_command.specs.Sights.{Sight}
+use Rattle.ckd_command.specs.Sights as sight
 use Rattle.ckd_command.specs.Commands.{Closing, beginning, sight, closing}
 use Rattle.ckd_command.specs.Tables.{aim}
 use Rattle.ckd_command.specs.Drive.{State, Fault, is_written, track_under, Open, state_of, AfterBegin, Rejected, Immediate, Started, begin, begun, at_cylinder_zero, AfterLook, Ready, Passed, Failed, look, look_for, looked, moved, with_registers, Closed, close, closed, closed_moving, with_written, failed as close_failed}

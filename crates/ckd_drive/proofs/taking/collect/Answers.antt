@@ -3,62 +3,63 @@ use Rattle.ckd_track.specs.Track.{track_of}
 use Rattle.ckd_position.specs.declared.areas.Part.TheVariants as part
 use Rattle.ckd_command.specs.Commands.{new_record_fits}
 use Rattle.ckd_drive.specs.Half.{number, slot_at}
+use Rattle.ckd_drive.specs.Held.{progress_seen}
 use Rattle.ckd_drive.proofs.Looks.{slot_is}
 use Rattle.ckd_drive.proofs.News.{field_stays, home_absorbs, home_held}
 use Rattle.ckd_drive.proofs.Fills.{there}
 use Rattle.ckd_drive.proofs.Formats.{format_goes, format_stays, format_absorbs, room_is, written}
 use Rattle.ckd_drive.proofs.taking.collect.Goals as goal
 
-pub returns-in-No : goal.returns-in-No
-returns-in-No g c = field_stays c.args.cache.now c.args.registers c.args.before.now.bytes c.args.passed.now.bytes c.args.p c.args.bytes.now c.args.field _ c.requires.works c.requires.may c.requires.at c.collected-field.ensures (sym c.whole.ensures ∙ c.in-No.is)
+pub returns-in-No-clause-absorbs : goal.returns-in-No-clause-absorbs
+returns-in-No-clause-absorbs g c = field_stays c.args.cache.now c.args.registers.now c.args.before.now.bytes c.args.passed.now.bytes (progress_seen c.args.registers.now c.args.opened.now c.args.p.now) c.args.bytes.now c.args.field _ c.requires.works c.requires.may c.requires.at c.collected-field.ensures (sym c.whole.ensures ∙ c.in-No.is)
 
-pub returns-in-HomeAddress : goal.returns-in-HomeAddress
-returns-in-HomeAddress g c =
+pub returns-in-HomeAddress-clause-absorbs : goal.returns-in-HomeAddress-clause-absorbs
+returns-in-HomeAddress-clause-absorbs g c =
     let d = c.args.cache.now in
-    let r = c.args.registers in
+    let r = c.args.registers.now in
     let n : ℕ = number d.image.geometry r in
     let is = sym c.whole.ensures ∙ c.in-HomeAddress.is in
-    let held = home_held d r c.args.before.now.bytes c.args.passed.now.bytes c.args.p c.args.bytes.now c.args.field c.collected-field.result c.in-HomeAddress.home_address c.requires.works c.requires.may c.requires.at is in
+    let held = home_held d r c.args.before.now.bytes c.args.passed.now.bytes (progress_seen c.args.registers.now c.args.opened.now c.args.p.now) c.args.bytes.now c.args.field c.collected-field.result c.in-HomeAddress.home_address c.requires.works c.requires.may c.requires.at is in
     let slot : c.of.result.bytes ≡ slot_at d.slots n = c.of.ensures ∙ c.bytes.ensures ∙ slot_is d n c.buffer.result.now held c.buffer.ensures.slot in
-    rw (slot, c.home_address_ends.ensures, c.write_home_address.ensures)
-    (home_absorbs d r c.args.before.now.bytes c.args.passed.now.bytes c.args.p c.args.bytes.now c.args.field c.collected-field.result c.in-HomeAddress.home_address _ c.requires.works c.requires.may c.requires.at c.collected-field.ensures is refl)
+    rw (slot, c.write_home_address.ensures)
+    (home_absorbs d r c.args.before.now.bytes c.args.passed.now.bytes (progress_seen c.args.registers.now c.args.opened.now c.args.p.now) c.args.bytes.now c.args.field c.collected-field.result c.in-HomeAddress.home_address _ c.requires.works c.requires.may c.requires.at c.collected-field.ensures is refl)
 
-pub returns-then-not-fits : goal.returns-then-not-fits
-returns-then-not-fits g c =
+pub returns-then-not-fits-clause-absorbs : goal.returns-then-not-fits-clause-absorbs
+returns-then-not-fits-clause-absorbs g c =
     let d = c.args.cache.now in
-    let r = c.args.registers in
+    let r = c.args.registers.now in
     let n : ℕ = number d.image.geometry r in
     let is = sym c.whole.ensures ∙ c.in-Count.is in
-    let k = format_goes d r c.args.before.now.bytes c.args.passed.now.bytes c.args.p c.args.bytes.now c.args.field c.collected-field.result c.in-Count.count c.requires.works c.requires.may c.requires.at c.collected-field.ensures (search rules) is in
+    let k = format_goes d r c.args.before.now.bytes c.args.passed.now.bytes (progress_seen c.args.registers.now c.args.opened.now c.args.p.now) c.args.bytes.now c.args.field c.collected-field.result c.in-Count.count c.requires.works c.requires.may c.requires.at c.collected-field.ensures (search rules) is in
     let slot : c.buffer-in-Count.result.now ≡ slot_at d.slots n = slot_is d n c.buffer-in-Count.result.now k.at_hand.held c.buffer-in-Count.ensures.slot in
-    let no : new_record_fits d.image.geometry (track_of (slot_at d.slots n)) c.args.p.opened c.in-Count.count ≡ false =
-    sym (room_is d n c.args.p.opened c.buffer-in-Count.result.now c.in-Count.count c.fits.result slot (rw c.geometry-model.ensures.geometry at c.fits.ensures.value)) ∙ c.if-not-fits.true in
-    format_stays d r c.args.before.now.bytes c.args.passed.now.bytes c.args.p c.args.bytes.now c.args.field c.collected-field.result c.in-Count.count c.requires.works c.requires.may c.requires.at c.collected-field.ensures k no
+    let no : new_record_fits d.image.geometry (track_of (slot_at d.slots n)) c.args.opened.now c.in-Count.count ≡ false =
+    sym (room_is d n c.args.opened.now c.buffer-in-Count.result.now c.in-Count.count c.fits.result slot (rw c.geometry-model.ensures.geometry at c.fits.ensures.value)) ∙ c.if-not-fits.true in
+    format_stays d r c.args.before.now.bytes c.args.passed.now.bytes (progress_seen c.args.registers.now c.args.opened.now c.args.p.now) c.args.bytes.now c.args.field c.collected-field.result c.in-Count.count c.requires.works c.requires.may c.requires.at c.collected-field.ensures k no
 
 pub window-rest-requires-clause-readable : goal.window-rest-requires-clause-readable
 window-rest-requires-clause-readable g c =
     let d = c.args.cache.now in
-    let r = c.args.registers in
+    let r = c.args.registers.now in
     let n : ℕ = number d.image.geometry r in
     let is = sym c.whole.ensures ∙ c.in-Count.is in
-    let k = format_goes d r c.args.before.now.bytes c.args.passed.now.bytes c.args.p c.args.bytes.now c.args.field c.collected-field.result c.in-Count.count c.requires.works c.requires.may c.requires.at c.collected-field.ensures (search rules) is in
-    let w = written d c.format-number.new.self n c.args.p.opened c.in-Count.count c.buffer-in-Count-3.result.now c.format-number.result k.at_hand.held (there d r c.args.before.now.bytes c.args.passed.now.bytes c.args.p c.requires.works)
+    let k = format_goes d r c.args.before.now.bytes c.args.passed.now.bytes (progress_seen c.args.registers.now c.args.opened.now c.args.p.now) c.args.bytes.now c.args.field c.collected-field.result c.in-Count.count c.requires.works c.requires.may c.requires.at c.collected-field.ensures (search rules) is in
+    let w = written d c.format-number.new.self n c.args.opened.now c.in-Count.count c.buffer-in-Count-3.result.now c.format-number.result k.at_hand.held (there d r c.args.before.now.bytes c.args.passed.now.bytes (progress_seen c.args.registers.now c.args.opened.now c.args.p.now) c.requires.works)
     c.format-number.ensures.slot c.format-number.ensures.number c.format-number.ensures.fits c.buffer-in-Count-3.ensures.slot in
     w.readable
 
-pub returns-else-not-fits : goal.returns-else-not-fits
-returns-else-not-fits g c =
+pub returns-else-not-fits-clause-absorbs : goal.returns-else-not-fits-clause-absorbs
+returns-else-not-fits-clause-absorbs g c =
     let d = c.args.cache.now in
-    let r = c.args.registers in
+    let r = c.args.registers.now in
     let n : ℕ = number d.image.geometry r in
     let is = sym c.whole.ensures ∙ c.in-Count.is in
-    let k = format_goes d r c.args.before.now.bytes c.args.passed.now.bytes c.args.p c.args.bytes.now c.args.field c.collected-field.result c.in-Count.count c.requires.works c.requires.may c.requires.at c.collected-field.ensures (search rules) is in
-    let w = written d c.format-number.new.self n c.args.p.opened c.in-Count.count c.buffer-in-Count-3.result.now c.format-number.result k.at_hand.held (there d r c.args.before.now.bytes c.args.passed.now.bytes c.args.p c.requires.works)
+    let k = format_goes d r c.args.before.now.bytes c.args.passed.now.bytes (progress_seen c.args.registers.now c.args.opened.now c.args.p.now) c.args.bytes.now c.args.field c.collected-field.result c.in-Count.count c.requires.works c.requires.may c.requires.at c.collected-field.ensures (search rules) is in
+    let w = written d c.format-number.new.self n c.args.opened.now c.in-Count.count c.buffer-in-Count-3.result.now c.format-number.result k.at_hand.held (there d r c.args.before.now.bytes c.args.passed.now.bytes (progress_seen c.args.registers.now c.args.opened.now c.args.p.now) c.requires.works)
     c.format-number.ensures.slot c.format-number.ensures.number c.format-number.ensures.fits c.buffer-in-Count-3.ensures.slot in
     let old : c.of-in-Count.result.bytes ≡ slot_at d.slots n = c.of-in-Count.ensures ∙ c.bytes-in-Count.ensures ∙ slot_is d n c.buffer-in-Count-2.result.now k.at_hand.held c.buffer-in-Count-2.ensures.slot in
     let slot : c.buffer-in-Count.result.now ≡ slot_at d.slots n = slot_is d n c.buffer-in-Count.result.now k.at_hand.held c.buffer-in-Count.ensures.slot in
-    let yes : new_record_fits d.image.geometry (track_of (slot_at d.slots n)) c.args.p.opened c.in-Count.count ≡ true =
-    sym (room_is d n c.args.p.opened c.buffer-in-Count.result.now c.in-Count.count c.fits.result slot (rw c.geometry-model.ensures.geometry at c.fits.ensures.value)) ∙ c.if-not-fits.false in
-    rw (old, c.format_ends.ensures, w.whole)
-    (format_absorbs d r c.args.before.now.bytes c.args.passed.now.bytes c.args.p c.args.bytes.now c.args.field c.collected-field.result c.in-Count.count _ part.Data c.format-number.result c.window-rest.result c.requires.works c.requires.may c.requires.at k
+    let yes : new_record_fits d.image.geometry (track_of (slot_at d.slots n)) c.args.opened.now c.in-Count.count ≡ true =
+    sym (room_is d n c.args.opened.now c.buffer-in-Count.result.now c.in-Count.count c.fits.result slot (rw c.geometry-model.ensures.geometry at c.fits.ensures.value)) ∙ c.if-not-fits.false in
+    rw (old, w.whole)
+    (format_absorbs d r c.args.before.now.bytes c.args.passed.now.bytes (progress_seen c.args.registers.now c.args.opened.now c.args.p.now) c.args.bytes.now c.args.field c.collected-field.result c.in-Count.count _ part.Data c.format-number.result c.window-rest.result c.requires.works c.requires.may c.requires.at k
     (record { fits = yes; last = w.last; room = w.room; made = w.made; place = rw w.slot_is at c.window-rest.ensures.place }))

@@ -1,24 +1,35 @@
-use Rattle.std.proofs.Common.{[], ◌≡◌, ◌∙◌, length, arith, rules}
+use Rattle.std.proofs.Common.{[], ◌≡◌, ◌∙◌, ℕ, length, replicate, arith, rules}
 use Rattle.std.specs.Vec.{with_items}
-use Rattle.std.proofs.lemmas.List.{with_items_is}
+use Rattle.std.proofs.lemmas.List.{with_items_is, length-replicate}
 use Rattle.ckd_track.specs.Track.{track_in, slot_of}
 use Rattle.ckd_position.specs.Contents.{with_record_changed, replaced}
 use Rattle.ckd_cache.specs.Buffer.{end_of_records}
 use Rattle.ckd_cache.proofs.AreaPlaces.{seen_index, spelled}
-use Rattle.ckd_cache.proofs.Writes.{records_are, clear_is, same_indexed}
+use Rattle.ckd_cache.proofs.Writes.{records_are, clear_is, same_indexed, window_within}
+use Rattle.ckd_cache.proofs.Zeros.{ended_zeros}
 use Rattle.ckd_cache.proofs.buffer.TrackBuffer.clear.Goals as goal
 
 pub end_of-end-requires-clause-there : goal.end_of-end-requires-clause-there
 end_of-end-requires-clause-there c =
     let i = c.self.inside in
-    let x = seen_index i.slot.items c.args.self.now i.offsets.items i.records c.self.view_is c.self.invariant in
+    let x = seen_index i.slot.items c.args.self.now i.offsets.items i.records c.self.view_is c.self.invariant.indexed in
     omega (arith, records_are c.args.self.now i.offsets.items i.records c.unwrap_or.result x c.requires.readable c.unwrap_or.ensures)
+
+pub clear_window-requires-clause-window : goal.clear_window-requires-clause-window
+clear_window-requires-clause-window c =
+    let i = c.self.inside in
+    let s = c.args.self.now in
+    let x = seen_index i.slot.items s i.offsets.items i.records c.self.view_is c.self.invariant.indexed in
+    let sp = (spelled s i.offsets.items i.records x c.requires.readable).1 in
+    let n = records_are s i.offsets.items i.records c.unwrap_or.result x c.requires.readable c.unwrap_or.ensures in
+    let end : c.end_of-end.result ≡ end_of_records (track_in s) (length (track_in s).records) = rw n at c.end_of-end.ensures.place in
+    window_within c.args.extent s c.args.area c.window-window.result c.end_of-end.result c.requires.update sp c.requires.there c.window-window.ensures.place end
 
 pub invariant_of-self : goal.invariant_of-self
 invariant_of-self c =
     let i = c.self.inside in
     let s = c.args.self.now in
-    let x = seen_index i.slot.items s i.offsets.items i.records c.self.view_is c.self.invariant in
+    let x = seen_index i.slot.items s i.offsets.items i.records c.self.view_is c.self.invariant.indexed in
     let sp = (spelled s i.offsets.items i.records x c.requires.readable).1 in
     let n = records_are s i.offsets.items i.records c.unwrap_or.result x c.requires.readable c.unwrap_or.ensures in
     let end : c.end_of-end.result ≡ end_of_records (track_in s) (length (track_in s).records) = rw n at c.end_of-end.ensures.place in
@@ -26,13 +37,18 @@ invariant_of-self c =
     let old : c.deref_mut.result.now ≡ s = c.deref_mut.ensures.value ∙ c.self.view_is in
     let done : c.clear_window.new.slot ≡ slot_of (length s) (with_record_changed (replaced c.args.extent []) c.args.area (track_in s)) = rw old at c.clear_window.ensures ∙ k.0 in
     let items : (with_items i.slot c.clear_window.new.slot).items ≡ c.clear_window.new.slot = with_items_is i.slot c.clear_window.new.slot (search rules) in
-    rw (items, done) (same_indexed s i.offsets.items i.records (with_record_changed (replaced c.args.extent []) c.args.area (track_in s)) x c.requires.readable k.1 k.2)
+    let within = window_within c.args.extent s c.args.area c.window-window.result c.end_of-end.result c.requires.update sp c.requires.there c.window-window.ensures.place end in
+    let many = length-replicate {A = ℕ} c.window-window.result.len 0 in
+    rw items (record {
+      indexed = rw done (same_indexed s i.offsets.items i.records (with_record_changed (replaced c.args.extent []) c.args.area (track_in s)) x c.requires.readable k.1 k.2);
+      cleared = ended_zeros s c.window-window.result.start (replicate c.window-window.result.len 0) c.end_of-end.result c.clear_window.new.slot (omega (arith, many, within, c.end_of-end.ensures.room)) c.end_of-end.ensures.room (rw old at c.clear_window.ensures);
+    })
 
 pub returns-clause-slot : goal.returns-clause-slot
 returns-clause-slot c =
     let i = c.self.inside in
     let s = c.args.self.now in
-    let x = seen_index i.slot.items s i.offsets.items i.records c.self.view_is c.self.invariant in
+    let x = seen_index i.slot.items s i.offsets.items i.records c.self.view_is c.self.invariant.indexed in
     let sp = (spelled s i.offsets.items i.records x c.requires.readable).1 in
     let n = records_are s i.offsets.items i.records c.unwrap_or.result x c.requires.readable c.unwrap_or.ensures in
     let end : c.end_of-end.result ≡ end_of_records (track_in s) (length (track_in s).records) = rw n at c.end_of-end.ensures.place in
@@ -45,7 +61,7 @@ pub returns-clause-fits : goal.returns-clause-fits
 returns-clause-fits c =
     let i = c.self.inside in
     let s = c.args.self.now in
-    let x = seen_index i.slot.items s i.offsets.items i.records c.self.view_is c.self.invariant in
+    let x = seen_index i.slot.items s i.offsets.items i.records c.self.view_is c.self.invariant.indexed in
     let sp = (spelled s i.offsets.items i.records x c.requires.readable).1 in
     let n = records_are s i.offsets.items i.records c.unwrap_or.result x c.requires.readable c.unwrap_or.ensures in
     let end : c.end_of-end.result ≡ end_of_records (track_in s) (length (track_in s).records) = rw n at c.end_of-end.ensures.place in

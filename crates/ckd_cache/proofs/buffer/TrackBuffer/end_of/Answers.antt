@@ -8,14 +8,14 @@ use Rattle.ckd_cache.proofs.buffer.TrackBuffer.end_of.Goals as goal
 pub returns-then-records-eq0 : goal.returns-then-records-eq0
 returns-then-records-eq0 c =
     let i = c.self.inside in
-    let x = seen_index i.slot.items c.args.self.now i.offsets.items i.records c.self.view_is c.self.invariant in
+    let x = seen_index i.slot.items c.args.self.now i.offsets.items i.records c.self.view_is c.self.invariant.indexed in
     let sp = (spelled c.args.self.now i.offsets.items i.records x c.requires.readable).1 in
     rw c.if-records-eq0.true (record { place = sym (first_end c.args.self.now (track_in c.args.self.now) sp); room = omega (arith, few_records c.args.self.now (track_in c.args.self.now) sp) })
 
 pub record_window-requires-clause-room : goal.record_window-requires-clause-room
 record_window-requires-clause-room c =
     let i = c.self.inside in
-    let x = seen_index i.slot.items c.args.self.now i.offsets.items i.records c.self.view_is c.self.invariant in
+    let x = seen_index i.slot.items c.args.self.now i.offsets.items i.records c.self.view_is c.self.invariant.indexed in
     let there = rw c.in-Some.is at c.offset_of.ensures in
     let same : c.deref.result.now ≡ c.args.self.now = c.deref.ensures.value ∙ c.self.view_is in
     rw same (room_there c.args.self.now _ c.in-Some.at (standing c.args.self.now i.offsets.items i.records (c.args.records - 1) c.in-Some.at x c.requires.readable there))
@@ -23,7 +23,7 @@ record_window-requires-clause-room c =
 pub overflow_add-result : goal.overflow_add-result
 overflow_add-result c =
     let i = c.self.inside in
-    let x = seen_index i.slot.items c.args.self.now i.offsets.items i.records c.self.view_is c.self.invariant in
+    let x = seen_index i.slot.items c.args.self.now i.offsets.items i.records c.self.view_is c.self.invariant.indexed in
     let there = rw c.in-Some.is at c.offset_of.ensures in
     let same : c.deref.result.now ≡ c.args.self.now = c.deref.ensures.value ∙ c.self.view_is in
     let e = later_end c.args.self.now i.offsets.items i.records c.args.records c.in-Some.at x c.requires.readable (omega arith) there in
@@ -34,7 +34,7 @@ overflow_add-result c =
 pub returns-in-Some : goal.returns-in-Some
 returns-in-Some c =
     let i = c.self.inside in
-    let x = seen_index i.slot.items c.args.self.now i.offsets.items i.records c.self.view_is c.self.invariant in
+    let x = seen_index i.slot.items c.args.self.now i.offsets.items i.records c.self.view_is c.self.invariant.indexed in
     let there = rw c.in-Some.is at c.offset_of.ensures in
     let same : c.deref.result.now ≡ c.args.self.now = c.deref.ensures.value ∙ c.self.view_is in
     let e = later_end c.args.self.now i.offsets.items i.records c.args.records c.in-Some.at x c.requires.readable (omega arith) there in

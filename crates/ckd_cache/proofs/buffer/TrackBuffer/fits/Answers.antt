@@ -17,7 +17,7 @@ pub returns-clause-room : goal.returns-clause-room
 returns-clause-room c = λ e.
     (let i = c.self.inside in
     let s = c.args.self.now in
-    let x = seen_index i.slot.items s i.offsets.items i.records c.self.view_is c.self.invariant in
+    let x = seen_index i.slot.items s i.offsets.items i.records c.self.view_is c.self.invariant.indexed in
     let sp = (spelled s i.offsets.items i.records x c.requires).1 in
     fits_room c.args.model s c.before-2.result c.args.after c.args.count sp (search rules) c.before-2.ensures.kept (has_room_on c e))
 

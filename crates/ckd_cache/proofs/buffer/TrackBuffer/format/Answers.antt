@@ -1,30 +1,31 @@
-use Rattle.std.proofs.Common.{◌≡◌, ◌∙◌, length, arith, rules}
+use Rattle.std.proofs.Common.{◌≡◌, ◌∙◌, ◌+◌, ◌≤◌, length, arith, rules}
 use Rattle.std.specs.Vec.{with_items}
 use Rattle.std.proofs.lemmas.List.{with_items_is}
 use Rattle.ckd_track.specs.Track.{track_in, track_of, slot_of}
 use Rattle.ckd_track.proofs.Offsets.{are_bytes, few_records}
 use Rattle.ckd_position.specs.Contents.{formatted}
 use Rattle.ckd_cache.specs.Buffer.{end_of_records, number_up_to}
-use Rattle.ckd_cache.proofs.AreaPlaces.{seen_index, spelled}
+use Rattle.ckd_cache.proofs.AreaPlaces.{seen_index, seen_buffer, spelled}
 use Rattle.ckd_cache.proofs.Writes.{read_records, format_room, format_slot, format_fits, format_indexed, kept_room, up_to_le}
+use Rattle.ckd_cache.proofs.Zeros.{new_zeros}
 use Rattle.ckd_cache.proofs.buffer.TrackBuffer.format.Goals as goal
 
 pub records_up_to-kept-requires : goal.records_up_to-kept-requires
 records_up_to-kept-requires c =
     let i = c.self.inside in
     let s = c.args.self.now in
-    let x = seen_index i.slot.items s i.offsets.items i.records c.self.view_is c.self.invariant in
+    let x = seen_index i.slot.items s i.offsets.items i.records c.self.view_is c.self.invariant.indexed in
     let sp = (spelled s i.offsets.items i.records x c.requires.readable).1 in
     let b = c.before-2.result in
     let bytes = are_bytes c.args.count (search rules) in
     let eight : length c.args.count ≡ 8 = search rules in
     λ k e. (let lt = c.before-2.ensures.there k e in let few = few_records s (track_in s) sp in omega (arith, lt, few, x.size))
 
-pub put_new-requires : goal.put_new-requires
-put_new-requires c =
+pub put_new-requires-clause-room : goal.put_new-requires-clause-room
+put_new-requires-clause-room c =
     let i = c.self.inside in
     let s = c.args.self.now in
-    let x = seen_index i.slot.items s i.offsets.items i.records c.self.view_is c.self.invariant in
+    let x = seen_index i.slot.items s i.offsets.items i.records c.self.view_is c.self.invariant.indexed in
     let sp = (spelled s i.offsets.items i.records x c.requires.readable).1 in
     let b = c.before-2.result in
     let bytes = are_bytes c.args.count (search rules) in
@@ -34,11 +35,19 @@ put_new-requires c =
     let r = format_room s b c.args.after c.args.count sp bytes eight c.requires.no_end_mark c.before-2.ensures.kept c.requires.room in
     rw (old, at, c.body_length-body.ensures) r
 
+pub put_new-requires-clause-zeros : goal.put_new-requires-clause-zeros
+put_new-requires-clause-zeros c =
+    let i = c.self.inside in
+    let s = c.args.self.now in
+    let x = seen_buffer i.slot.items s i.offsets.items i.records i.zeros_from c.self.view_is c.self.invariant in
+    let old : c.deref_mut.result.now ≡ s = c.deref_mut.ensures.value ∙ c.self.view_is in
+    rw old x.cleared
+
 pub index_mut-requires : goal.index_mut-requires
 index_mut-requires c =
     let i = c.self.inside in
     let s = c.args.self.now in
-    let x = seen_index i.slot.items s i.offsets.items i.records c.self.view_is c.self.invariant in
+    let x = seen_index i.slot.items s i.offsets.items i.records c.self.view_is c.self.invariant.indexed in
     let sp = (spelled s i.offsets.items i.records x c.requires.readable).1 in
     let b = c.before-2.result in
     let bytes = are_bytes c.args.count (search rules) in
@@ -50,7 +59,7 @@ pub overflow_add-self : goal.overflow_add-self
 overflow_add-self c =
     let i = c.self.inside in
     let s = c.args.self.now in
-    let x = seen_index i.slot.items s i.offsets.items i.records c.self.view_is c.self.invariant in
+    let x = seen_index i.slot.items s i.offsets.items i.records c.self.view_is c.self.invariant.indexed in
     let sp = (spelled s i.offsets.items i.records x c.requires.readable).1 in
     let b = c.before-2.result in
     let bytes = are_bytes c.args.count (search rules) in
@@ -64,7 +73,7 @@ pub invariant_of-self : goal.invariant_of-self
 invariant_of-self c =
     let i = c.self.inside in
     let s = c.args.self.now in
-    let x = seen_index i.slot.items s i.offsets.items i.records c.self.view_is c.self.invariant in
+    let x = seen_index i.slot.items s i.offsets.items i.records c.self.view_is c.self.invariant.indexed in
     let sp = (spelled s i.offsets.items i.records x c.requires.readable).1 in
     let b = c.before-2.result in
     let bytes = are_bytes c.args.count (search rules) in
@@ -74,14 +83,18 @@ invariant_of-self c =
     let done : c.put_new.new.slot ≡ slot_of (length s) (formatted (track_of s) c.args.after c.args.count) = rw (old, at, c.body_length-body.ensures) at c.put_new.ensures ∙ format_slot s b c.args.after c.args.count sp bytes eight c.requires.no_end_mark c.before-2.ensures.kept c.requires.room in
     let items : (with_items i.slot c.put_new.new.slot).items ≡ c.put_new.new.slot = with_items_is i.slot c.put_new.new.slot (search rules) in
     let k = read_records s i.offsets.items i.records x c.requires.readable in
-    rw (items, done, c.records_up_to-kept.ensures)
-    (format_indexed s i.offsets.items k.0 c.end_of-at.result b c.args.after c.args.count (rw k.1 at x) bytes eight c.requires.no_end_mark c.before-2.ensures.kept c.requires.room c.before-2.ensures.there at)
+    let room : c.end_of-at.result + 8 + c.body_length-body.result + 8 ≤ length s = rw (at, c.body_length-body.ensures) (format_room s b c.args.after c.args.count sp bytes eight c.requires.no_end_mark c.before-2.ensures.kept c.requires.room) in
+    rw items (record {
+      indexed = rw (done, c.records_up_to-kept.ensures)
+          (format_indexed s i.offsets.items k.0 c.end_of-at.result b c.args.after c.args.count (rw k.1 at x) bytes eight c.requires.no_end_mark c.before-2.ensures.kept c.requires.room c.before-2.ensures.there at);
+      cleared = new_zeros s c.end_of-at.result c.args.count c.body_length-body.result c.put_new.new.slot eight room (rw old at c.put_new.ensures);
+    })
 
 pub returns-clause-slot : goal.returns-clause-slot
 returns-clause-slot c =
     let i = c.self.inside in
     let s = c.args.self.now in
-    let x = seen_index i.slot.items s i.offsets.items i.records c.self.view_is c.self.invariant in
+    let x = seen_index i.slot.items s i.offsets.items i.records c.self.view_is c.self.invariant.indexed in
     let sp = (spelled s i.offsets.items i.records x c.requires.readable).1 in
     let b = c.before-2.result in
     let bytes = are_bytes c.args.count (search rules) in
@@ -96,6 +109,6 @@ pub returns-clause-fits : goal.returns-clause-fits
 returns-clause-fits c =
     let i = c.self.inside in
     let s = c.args.self.now in
-    let x = seen_index i.slot.items s i.offsets.items i.records c.self.view_is c.self.invariant in
+    let x = seen_index i.slot.items s i.offsets.items i.records c.self.view_is c.self.invariant.indexed in
     let sp = (spelled s i.offsets.items i.records x c.requires.readable).1 in
     format_fits s c.before-2.result c.args.after c.args.count sp (are_bytes c.args.count (search rules)) (search rules) c.requires.no_end_mark c.before-2.ensures.kept c.requires.room

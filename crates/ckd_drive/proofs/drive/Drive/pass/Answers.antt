@@ -1,18 +1,10 @@
-use Rattle.std.proofs.Common.{length-take, arith}
+use Rattle.std.proofs.Common.{refl}
+use Rattle.ckd_drive.specs.Held.{progress_seen, stage_seen}
 use Rattle.ckd_drive.proofs.Moving.{has_passed}
 use Rattle.ckd_drive.proofs.drive.Drive.pass.Goals as goal
-
-pub slice_bounds-and-end : goal.slice_bounds-and-end
-slice_bounds-and-end g c = omega (arith, length-take c.args.n c.next_bytes.result.now, c.next_bytes.ensures.size, c.requires.room)
 
 pub invariant_of-self : goal.invariant_of-self
 invariant_of-self g c =
     let i = c.self.inside in
-    rw (c.moved_on_by-self-inside.ensures, c.and-passed.ensures, c.given_on.ensures)
-    (has_passed i.cache i.registers i.mark i.stage c.in-Passing.p i.before.bytes i.passed.bytes c.next_bytes.result.now c.args.self.now c.args.n c.self.invariant c.in-Passing.is c.self.view_is c.requires.gives c.requires.room c.next_bytes.ensures.size c.next_bytes.ensures.bytes).stands
-
-pub returns : goal.returns
-returns g c =
-    let i = c.self.inside in
-    rw (c.moved_on_by-self-inside.ensures, c.and-passed.ensures, c.given_on.ensures)
-    (has_passed i.cache i.registers i.mark i.stage c.in-Passing.p i.before.bytes i.passed.bytes c.next_bytes.result.now c.args.self.now c.args.n c.self.invariant c.in-Passing.is c.self.view_is c.requires.gives c.requires.room c.next_bytes.ensures.size c.next_bytes.ensures.bytes).state
+    rw (c.in-Passing.is, c.and-passed.ensures, c.give_on.ensures i.opened i.registers)
+    (has_passed i.cache i.registers i.mark (stage_seen i.registers i.opened i.progress i.stage) (progress_seen i.registers i.opened i.progress) i.before.bytes i.passed.bytes c.next_bytes.result.now c.args.self.now c.args.n c.self.invariant (rw c.in-Passing.is refl) c.self.view_is c.requires.gives c.requires.room c.next_bytes.ensures.size c.next_bytes.ensures.bytes).stands

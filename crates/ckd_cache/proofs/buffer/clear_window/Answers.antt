@@ -1,0 +1,10 @@
+use Rattle.std.proofs.Common.{ℕ, ◌+◌, max, length, replicate, arith, rules}
+use Rattle.std.proofs.lemmas.List.{length-replicate}
+use Rattle.ckd_cache.proofs.Zeros.{zero_over}
+use Rattle.ckd_cache.proofs.buffer.clear_window.Goals as goal
+
+pub put_end-requires-clause-zeros : goal.put_end-requires-clause-zeros
+put_end-requires-clause-zeros c =
+    let z = c.requires.zeros.within in
+    let many = length-replicate {A = ℕ} c.args.window.len 0 in
+    rw c.clear.ensures (zero_over c.args.slot.now c.args.window.start (replicate c.args.window.len 0) c.args.zeros_from (max c.args.zeros_from (c.args.end + 8)) c.requires.zeros (omega arith) (omega (arith, many, c.requires.window)) (omega (arith, z, c.requires.end)))
