@@ -5,19 +5,14 @@ ghost use Rattle.std.specs.Prelude.{◌≤◌, length};
 use anyhow::{Result, bail};
 use ckd_drive::answers::{Begun, Look, Phase};
 use ckd_drive::drive::Drive;
-use ckd_image::{Image, MemoryStore};
 use std::alloc::Global;
-use test_rows::{Failure, RowStore, row_store};
+use test_rows::{Failure, Files, RowFiles, RowStore};
 
 pub(crate) type RecordedDrive = Drive<RowStore>;
 
-/// A drive over this store, which begins a program.
-pub(crate) fn new_drive(
-    alloc: Global,
-    store: MemoryStore,
-    failure: Failure,
-) -> Result<RecordedDrive> {
-    let image = match Image::mount(row_store(store, failure)) {
+/// A drive over these files, which begins a program.
+pub(crate) fn new_drive(alloc: Global, files: RowFiles, failure: Failure) -> Result<RecordedDrive> {
+    let image = match files.mount(failure) {
         Ok(image) => image,
         Err((fault, _)) => bail!("{fault}"),
     };
@@ -135,10 +130,10 @@ pub(crate) fn settle(drive: &mut RecordedDrive) -> Option<bool> {
     }
 }
 
-/// The store of a drive that has no command open, and nothing to save.
-pub(crate) fn store_of(drive: RecordedDrive) -> Option<RowStore> {
+/// The stores of a drive that has no command open, and nothing to save.
+pub(crate) fn stores_of(drive: RecordedDrive) -> Option<Files<RowStore>> {
     if drive.phase() != Phase::Idle || drive.is_written() {
         return None;
     }
-    Some(drive.into_image().into_store())
+    Some(drive.into_image().into_stores())
 }

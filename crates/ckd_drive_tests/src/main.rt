@@ -2,8 +2,8 @@
 //! unit statuses, index passes, sense bytes, and what the file of the volume holds then.
 //!
 //! The input has blocks, with an empty line between. A block that begins with `volume` says what the volumes of the rows
-//! behind it hold. Each other block is a row: a name, and a line for each call of the drive. A row is played with its bytes
-//! in pieces of several sizes, and with each call of its store failing in turn; its name is printed, with how many calls
+//! behind it hold, and with which cylinder the second of two files begins, where the image is in two. Each other block is a row: a name, and a line for each call of the drive. A row is played with its bytes
+//! in pieces of several sizes, and with each call of each file's store failing in turn; its name is printed, with how many calls
 //! came to what they must.
 #![tactic(auto)]
 

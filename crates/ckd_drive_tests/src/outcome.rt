@@ -2,13 +2,13 @@
 
 ghost use Rattle.std.specs.Prelude.{◌≤◌};
 
-use crate::calls::{self, RecordedDrive, new_drive, store_of};
+use crate::calls::{self, RecordedDrive, new_drive, stores_of};
 use crate::row::{Played, play_calls};
 use anyhow::{Context, Result, bail};
 use ckd_drive::answers::Phase;
 use std::alloc::Global;
 use std::fmt;
-use test_rows::{Calls, Failure, RowStore, number, volume_left, volume_of, words_of};
+use test_rows::{Calls, Failure, Files, RowStore, files_left, files_of, number, words_of};
 
 /// What comes of a row.
 #[derive(Clone, Copy, Debug, PartialEq, Eq)]
@@ -38,23 +38,20 @@ impl fmt::Display for Outcome {
 
 const PIECES: [usize; 4] = [1, 2, 7, 100];
 
-const NONE_FAILS: Failure = Failure {
-    at: 0,
-    for_good: false,
-};
-
 // Which call of the store fails in the row, as a line says: `failing 3 once`, or `failing 3 on`, which is each later one too.
 fn failure_of(alloc: Global, row: &str) -> Result<Failure> {
     for line in row.lines() {
         match words_of(alloc, line)?.as_slice() {
             ["failing", at, "once"] => {
                 return Ok(Failure {
+                    file: 0,
                     at: at.parse::<u32>()?,
                     for_good: false,
                 });
             }
             ["failing", at, "on"] => {
                 return Ok(Failure {
+                    file: 0,
                     at: at.parse::<u32>()?,
                     for_good: true,
                 });
@@ -62,17 +59,31 @@ fn failure_of(alloc: Global, row: &str) -> Result<Failure> {
             _ => {}
         }
     }
-    Ok(NONE_FAILS)
+    Ok(Failure::NONE)
 }
 
-// Whether the store was called as a line of the row says: `reads 2 512 4096`, that is how often, and where and how long the
-// last one was.
-fn was_called(alloc: Global, line: &str, store: &RowStore) -> Result<bool> {
-    Ok(match words_of(alloc, line)?.as_slice() {
-        ["reads", count, at, len] => store.reads() == calls_of(count, at, len)?,
-        ["writes", count, at, len] => store.writes() == calls_of(count, at, len)?,
-        _ => true,
-    })
+// Whether the last file's store was called as a line of the row says: `reads 2 512 4096`, that is how often, and where and how
+// long the last one was; or that of the first of two files: `first reads 1 0 512`.
+fn was_called(alloc: Global, line: &str, stores: &Files<RowStore>) -> Result<bool> {
+    match (words_of(alloc, line)?.as_slice(), stores.as_slice()) {
+        (["first", kind, count, at, len], [Some(first), Some(_)]) => {
+            was_called_so(kind, first, calls_of(count, at, len)?)
+        }
+        ([kind @ ("reads" | "writes"), count, at, len], [.., Some(last)]) => {
+            was_called_so(kind, last, calls_of(count, at, len)?)
+        }
+        (["first" | "reads" | "writes", ..], _) => bail!("no such file"),
+        _ => Ok(true),
+    }
+}
+
+// Whether a store was read or written so.
+fn was_called_so(kind: &str, store: &RowStore, calls: Calls) -> Result<bool> {
+    match kind {
+        "reads" => Ok(store.reads() == calls),
+        "writes" => Ok(store.writes() == calls),
+        _ => bail!("no such calls"),
+    }
 }
 
 fn calls_of(count: &str, at: &str, len: &str) -> Result<Calls> {
@@ -84,17 +95,16 @@ fn calls_of(count: &str, at: &str, len: &str) -> Result<Calls> {
 }
 
 // Whether the row leaves what it must.
-fn leaves(alloc: Global, volume: &str, row: &str, store: RowStore) -> Result<bool> {
+fn leaves(alloc: Global, volume: &str, row: &str, stores: Files<RowStore>) -> Result<bool> {
     for line in row.lines() {
-        if !was_called(alloc, line, &store)? {
+        if !was_called(alloc, line, &stores)? {
             return Ok(false);
         }
     }
     if !row.contains("\nleft ") {
         return Ok(true);
     }
-    let left = volume_left(alloc, volume, row)?;
-    Ok(store.into_inner().into_inner().bytes() == left.bytes())
+    Ok(files_left(alloc, volume, row)?.are_in(stores))
 }
 
 // Plays a row, its bytes in pieces of a size.
@@ -107,14 +117,14 @@ fn play_in_pieces(
 ) -> Result<Outcome>
     requires { 1 ≤ piece }
 {
-    let mut drive = new_drive(alloc, volume_of(alloc, volume, row)?, failure)?;
+    let mut drive = new_drive(alloc, files_of(alloc, volume, row)?, failure)?;
     let played = play_calls(alloc, &mut drive, row, piece)?;
     if !played.all {
         return Ok(Outcome::Otherwise(played.calls, piece));
     }
     calls::settle(&mut drive);
-    let store = store_of(drive).context("a command is open")?;
-    if leaves(alloc, volume, row, store)? {
+    let stores = stores_of(drive).context("a command is open")?;
+    if leaves(alloc, volume, row, stores)? {
         Ok(Outcome::AsItMust(played.calls))
     } else {
         Ok(Outcome::LeavesOther)
@@ -132,15 +142,23 @@ enum Report {
     Silent,
 }
 
-// Plays a row of whose store a call fails.
+// How often the store of the file at this place was called; a file that is not there is never.
+fn calls_in(stores: &Files<RowStore>, file: usize) -> u64 {
+    match stores.as_slice().get(file) {
+        Some(Some(store)) => store.inner().calls(),
+        _ => 0,
+    }
+}
+
+// Plays a row of which a store's call fails.
 fn report_of(alloc: Global, volume: &str, row: &str, failure: Failure) -> Result<Report> {
-    let mut drive = new_drive(alloc, volume_of(alloc, volume, row)?, failure)?;
+    let mut drive = new_drive(alloc, files_of(alloc, volume, row)?, failure)?;
     let played = play_calls(alloc, &mut drive, row, 100)?;
     let is_over = matches!(drive.phase(), Phase::Idle | Phase::Over);
     let settles = calls::settle(&mut drive) == Some(true);
     let told = drive.sense()[0] & 0x10 != 0;
-    let store = store_of(drive).context("a command is open")?;
-    if store.into_inner().calls() < failure.at as u64 {
+    let stores = stores_of(drive).context("a command is open")?;
+    if calls_in(&stores, failure.file) < failure.at as u64 {
         return Ok(Report::NoCall);
     }
     if told && is_over && !(played.all && settles) {
@@ -149,12 +167,13 @@ fn report_of(alloc: Global, volume: &str, row: &str, failure: Failure) -> Result
     Ok(Report::Silent)
 }
 
-// Plays a row with each call of its store failing, once and for good, and answers the first that is not told.
-fn not_told(alloc: Global, volume: &str, row: &str) -> Result<Option<u32>> {
+// Plays a row with each call of the store of the file at this place failing, once and for good, and answers the first that is
+// not told.
+fn not_told(alloc: Global, volume: &str, row: &str, file: usize) -> Result<Option<u32>> {
     // the first call reads the header, as the image is mounted
     for at in 2..100 {
         for for_good in [false, true] {
-            match report_of(alloc, volume, row, Failure { at, for_good })? {
+            match report_of(alloc, volume, row, Failure { file, at, for_good })? {
                 Report::NoCall => return Ok(None),
                 Report::Told => {}
                 Report::Silent => return Ok(Some(at)),
@@ -164,7 +183,7 @@ fn not_told(alloc: Global, volume: &str, row: &str) -> Result<Option<u32>> {
     bail!("more calls than are tried")
 }
 
-/// Plays a row: its bytes in pieces of several sizes, and then with each call of its store failing.
+/// Plays a row: its bytes in pieces of several sizes, and then with each call of each file's store failing.
 pub(crate) fn play(alloc: Global, volume: &str, row: &str) -> Result<Outcome> {
     let failure = failure_of(alloc, row)?;
     let mut outcome = Outcome::LeavesOther;
@@ -175,8 +194,10 @@ pub(crate) fn play(alloc: Global, volume: &str, row: &str) -> Result<Outcome> {
         };
     }
     if failure.at == 0 {
-        if let Some(at) = not_told(alloc, volume, row)? {
-            return Ok(Outcome::NotReported(at));
+        for file in 0..2 {
+            if let Some(at) = not_told(alloc, volume, row, file)? {
+                return Ok(Outcome::NotReported(at));
+            }
         }
     }
     Ok(outcome)

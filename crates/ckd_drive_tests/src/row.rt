@@ -123,7 +123,10 @@ fn comes(alloc: Global, drive: &mut RecordedDrive, words: &[&str], piece: usize)
 // Whether a line is no call: it says what the volume holds, which call of the store fails, or what is left in the end.
 fn is_no_call(words: &[&str]) -> bool {
     match words.first() {
-        Some(first) => matches!(*first, "track" | "left" | "failing" | "reads" | "writes"),
+        Some(first) => matches!(
+            *first,
+            "track" | "left" | "failing" | "reads" | "writes" | "first"
+        ),
         None => true,
     }
 }

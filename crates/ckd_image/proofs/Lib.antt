@@ -2,6 +2,9 @@ pub mod Walks
 pub mod Writes
 pub mod FailingWrites
 pub mod SlotLemmas
+pub mod FileLemmas
 pub mod MountLemmas
+pub mod ReadLemmas
+pub mod StoreLemmas
 pub mod ImageLemmas
 pub mod NewVolumeLemmas

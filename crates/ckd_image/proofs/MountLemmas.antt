@@ -1,20 +1,27 @@
--- What a header that is mounted says.
-use Rattle.std.proofs.Common.{◌≡◌, ℕ, ◌+◌, ◌-◌, ◌*◌, ◌/◌, ◌<◌, ◌≤◌, Bool, true, false, not, ◌&&◌, ◌||◌, ◌==◌, nat_lt, nat_le, if◌then◌else◌, List, length, take, Option, Some, None, Result, Ok, Err, bytes_eq, codes, refl, sym, ap, ◌∙◌, subst, lit<, arith}
-use Rattle.std.proofs.Math.Nat.{mul_assoc, mul-div_cancel}
-use Rattle.std.proofs.lemmas.Bool.{and_parts, or_parts, eqb-true, ltb-false, leb-true, eq-eqb, le-leb, lt-ltb, le-ltb}
+-- What the headers of files that are mounted say.
+use Rattle.std.proofs.Common.{◌≡◌, ℕ, ◌+◌, ◌-◌, ◌*◌, ◌/◌, ◌<◌, ◌≤◌, ◌^◌, Bool, true, false, not, ◌&&◌, ◌||◌, ◌==◌, nat_lt, nat_le, if◌then◌else◌, List, [], ◌∷◌, ◌++◌, length, take, map, Option, Some, None, Result, Ok, Err, bytes_eq, codes, refl, sym, ap, ◌∙◌, subst, lit<, lit≤, arith, length-append, length-drop}
+use Rattle.std.proofs.Math.Nat.{zero-add, zero-mul, mul_assoc, mul-div_cancel, add-mul, mul-le-mul_right}
+use Rattle.std.proofs.lemmas.Bool.{and_parts, or_parts, eqb-true, ltb-false, ltb-true, leb-true, eq-eqb, le-leb, lt-ltb, le-ltb}
+use Rattle.std.proofs.lemmas.List.{append_assoc, append-nil}
+use Rattle.std.specs.List.{AllByRecursion}
 use Rattle.ckd_track.specs.declared.model.DriveModel.{DriveModel}
 use Rattle.ckd_track.specs.declared.model.DriveModel.TheVariants.{D2311, D2314}
 use Rattle.ckd_track.specs.Model.{heads_of}
 use Rattle.ckd_track.specs.declared.geometries.Geometry.{Geometry}
-use Rattle.ckd_image.specs.declared.fault.MountFault.TheVariants.{NotCkdP370, Compressed, Heads, TrackSize, Split, Length}
-use Rattle.ckd_track.specs.Geometry.{IsGeometry, least_track_size, new_geometry}
+use Rattle.ckd_image.specs.declared.header.FileHeader.{FileHeader}
+use Rattle.ckd_image.specs.declared.fault.MountFault.{MountFault}
+use Rattle.ckd_image.specs.declared.fault.MountFault.TheVariants.{NotCkdP370, Compressed, DeviceType, Heads, TrackSize, Split, Length, StoreFault}
+use Rattle.ckd_track.specs.Geometry.{IsGeometry, tracks_of, least_track_size, new_geometry}
 use Rattle.ckd_image.specs.Layout.{image_length}
-use Rattle.ckd_image.specs.Header.{image_id, heads_field, track_size_field, device_type_field, file_sequence_field, highest_cylinder_field, model_of, is_compressed, cylinders_of, with_cylinders, on_model, geometry_of, mount_of, new_header}
+use Rattle.ckd_image.specs.Header.{image_id, heads_field, track_size_field, device_type_field, file_sequence_field, highest_cylinder_field, model_of, Head, head_of, is_compressed, on_model, fields_of, header_of, is_part, are_parts, are_together, cylinders_of, cylinders_in, with_cylinders, with_model, volume_of, then_with, headers_of, mount_of, new_header}
+use Rattle.ckd_image.specs.Files.{slot_bytes, HoldsWhole}
+use Rattle.ckd_image.specs.Image.{MountRefused, FilesRefused}
 
--- a geometry, and the length of its image's file
-pub record FitsFile (g : Geometry) (len : ℕ) : Type 0 where
+-- files that are mounted have a geometry, and hold its tracks
+pub record FitsFiles (g : Geometry) (files : List (List ℕ)) : Type 0 where
   pub is_geometry : IsGeometry g
-  pub is_length : len ≡ image_length g
+  pub whole : AllByRecursion (HoldsWhole g.track_size) files
+  pub is_length : length (slot_bytes files) ≡ tracks_of g * g.track_size
 
 -- what is not refused is answered
 past : {A E : Type 0} (refused : Bool) (e : E) (r : Result A E) (g : A) → (if refused then Err e else r) ≡ Ok g → (refused ≡ false) × (r ≡ Ok g)
@@ -25,70 +32,295 @@ some_if : (b : Bool) (c n : ℕ) → (if b then Some c else None) ≡ Some n →
 some_if true c n h = (refl, cc)
 some_if false c n h = cc
 
-cylinders_fit : (size len n : ℕ) → cylinders_of size len ≡ Some n → (len ≡ 512 + n * size) × (1 ≤ n)
-cylinders_fit size len n h =
-    let found = (len - 512) / size in
-    let it = some_if ((512 + found * size == len) && (nat_le 1 found && nat_lt found 65536)) found n h in
-    let parts = and_parts (512 + found * size == len) (nat_le 1 found && nat_lt found 65536) it.0 in
-    let whole = eqb-true (512 + found * size) len parts.0 in
-    let some = leb-true 1 found ((and_parts (nat_le 1 found) (nat_lt found 65536) parts.1).0) in
-    subst (λ (m : ℕ). (len ≡ 512 + m * size) × (1 ≤ m)) it.1 (sym whole, some)
+-- One file.
 
-with_cylinders_fit : (model : DriveModel) (size len : ℕ) (o : Option ℕ) (g : Geometry) → cylinders_of (heads_of model * size) len ≡ o → least_track_size model ≤ size → size ≤ 65536 → with_cylinders model size o ≡ Ok g → FitsFile g len
-with_cylinders_fit model size len None g found room limit h = cc
-with_cylinders_fit model size len (Some n) g found room limit h =
-    let fits = cylinders_fit (heads_of model * size) len n found in
-    let is : record { model = model; cylinders = n; track_size = size } ≡ g = cc in
-    subst (λ (k : Geometry). FitsFile k len) is (record {
-      is_geometry = record { cylinders = fits.1; room = room; limit = limit };
-      is_length = fits.0 ∙ ap (λ (m : ℕ). 512 + m) (sym (mul_assoc n (heads_of model) size));
+-- what is known of a header that keeps the rules on one file
+record IsHeader (h : FileHeader) (len : ℕ) : Type 0 where
+  pub is_len : h.len ≡ len
+  pub room : (model : DriveModel) → model_of h.device_type ≡ Some model → least_track_size model ≤ h.track_size
+  pub limit : h.track_size ≤ 65536
+  pub some : 0 < h.track_size
+
+least_above : (model : DriveModel) → 0 < least_track_size model
+least_above D2311 = lit< tt
+least_above D2314 = lit< tt
+
+same_model : (o : Option DriveModel) (a b : DriveModel) → o ≡ Some a → o ≡ Some b → a ≡ b
+same_model o a b e f = cc
+
+on_model_header : (header : List ℕ) (len : ℕ) (o : Option DriveModel) (h : FileHeader) → model_of (device_type_field header) ≡ o → on_model header len o ≡ Ok h → IsHeader h len
+on_model_header header len None h found e = cc
+on_model_header header len (Some model) h found e =
+    let size = track_size_field header in
+    let fields : FileHeader = record { device_type = device_type_field header; track_size = size; sequence = file_sequence_field header; highest_cylinder = highest_cylinder_field header; len = len } in
+    let misfit = nat_lt size (least_track_size model) || nat_lt 65536 size in
+    let a = past (not (heads_field header == heads_of model)) Heads (if misfit then Err TrackSize else Ok fields) h e in
+    let b = past misfit TrackSize (Ok fields) h a.1 in
+    let sizes = or_parts (nat_lt size (least_track_size model)) (nat_lt 65536 size) b.0 in
+    let least = ltb-false size (least_track_size model) sizes.0 in
+    let above = least_above model in
+    let is : fields ≡ h = cc in
+    subst (λ (k : FileHeader). IsHeader k len) is (record {
+      is_len = refl;
+      room = λ other e. subst (λ (m : DriveModel). least_track_size m ≤ size) (same_model (model_of (device_type_field header)) model other found e) least;
+      limit = ltb-false 65536 size sizes.1;
+      some = omega arith;
     })
 
-on_model_fits : (header : List ℕ) (len : ℕ) (o : Option DriveModel) (g : Geometry) → on_model header len o ≡ Ok g → FitsFile g len
-on_model_fits header len None g h = cc
-on_model_fits header len (Some model) g h =
-    let size = track_size_field header in
-    let found = cylinders_of (heads_of model * size) len in
-    let last = with_cylinders model size found in
-    let split = nat_lt 1 (file_sequence_field header) || not (highest_cylinder_field header == 0) in
-    let misfit = nat_lt size (least_track_size model) || nat_lt 65536 size in
-    let a = past (not (heads_field header == heads_of model)) Heads (if misfit then Err TrackSize else (if split then Err Split else last)) g h in
-    let b = past misfit TrackSize (if split then Err Split else last) g a.1 in
-    let d = past split Split last g b.1 in
-    let sizes = or_parts (nat_lt size (least_track_size model)) (nat_lt 65536 size) b.0 in
-    with_cylinders_fit model size len found g refl (ltb-false size (least_track_size model) sizes.0) (ltb-false 65536 size sizes.1) d.1
+header_is : (f : Head) (h : FileHeader) → header_of f ≡ Ok h → IsHeader h f.len
+header_is f h e =
+    let rest = on_model f.header f.len (model_of (device_type_field f.header)) in
+    let a = past (nat_lt f.len 512) Length (fields_of f.header f.len) h e in
+    let b = past (is_compressed f.header) Compressed (if not (bytes_eq (image_id f.header) (codes "CKD_P370")) then Err NotCkdP370 else rest) h a.1 in
+    let d = past (not (bytes_eq (image_id f.header) (codes "CKD_P370"))) NotCkdP370 rest h b.1 in
+    on_model_header f.header f.len (model_of (device_type_field f.header)) h refl d.1
 
-geometry_fits : (header : List ℕ) (len : ℕ) (g : Geometry) → geometry_of header len ≡ Ok g → FitsFile g len
-geometry_fits header len g h =
-    let model = model_of (device_type_field header) in
-    let rest = on_model header len model in
-    let a = past (is_compressed header) Compressed (if not (bytes_eq (image_id header) (codes "CKD_P370")) then Err NotCkdP370 else rest) g h in
-    let b = past (not (bytes_eq (image_id header) (codes "CKD_P370"))) NotCkdP370 rest g a.1 in
-    on_model_fits header len model g b.1
+pub header_size : (f : Head) (h : FileHeader) → header_of f ≡ Ok h → 0 < h.track_size
+header_size f h e = (header_is f h e).some
 
--- what is mounted has a geometry, and its length
-pub mount_fits : (file : List ℕ) (g : Geometry) → mount_of file ≡ Ok g → FitsFile g (length file)
-mount_fits file g h =
-    geometry_fits (take 512 file) (length file) g (past (nat_lt (length file) 512) Length (geometry_of (take 512 file) (length file)) g h).1
+-- All files.
 
--- the slots are not looked at
-pub mount_of_same : (file other : List ℕ) → take 512 other ≡ take 512 file → length other ≡ length file → mount_of other ≡ mount_of file
-mount_of_same file other header long = rw (header, long) refl
+abbrev AreHeaders : List FileHeader → List (List ℕ) → Type 0
+AreHeaders [] [] = Unit {0}
+AreHeaders (h ∷ hs) (f ∷ fs) = IsHeader h (length f) × AreHeaders hs fs
+AreHeaders [] (f ∷ fs) = ⊥
+AreHeaders (h ∷ hs) [] = ⊥
+
+record AreRead (read : List FileHeader) (files : List (List ℕ)) (headers : List FileHeader) : Type 0 where
+  pub rest : List FileHeader
+  pub is : headers ≡ read ++ rest
+  pub those : AreHeaders rest files
+
+read_by : (o : Result FileHeader MountFault) (read headers : List FileHeader) (file : List ℕ) (files : List (List ℕ)) → header_of (head_of file) ≡ o → then_with o (λ h. headers_of (read ++ h ∷ []) (map head_of files)) ≡ Ok headers → ((more : List FileHeader) → headers_of more (map head_of files) ≡ Ok headers → AreRead more files headers) → AreRead read (file ∷ files) headers
+read_by (Err e) read headers file files found h next = cc
+read_by (Ok header) read headers file files found h next =
+    let r = next (read ++ header ∷ []) h in
+    record {
+      rest = header ∷ r.rest;
+      is = r.is ∙ append_assoc read (header ∷ []) r.rest;
+      those = (header_is (head_of file) header found, r.those);
+    }
+
+all_read : (files : List (List ℕ)) (read headers : List FileHeader) → headers_of read (map head_of files) ≡ Ok headers → AreRead read files headers
+all_read [] read headers h = record { rest = []; is = nil_behind read headers h; those = tt }
+  where
+    nil_behind : (read headers : List FileHeader) → ◌≡◌ {A = Result (List FileHeader) MountFault} (Ok read) (Ok headers) → headers ≡ read ++ []
+    nil_behind read headers e = let is : read ≡ headers = cc in sym is ∙ sym (append-nil read)
+all_read (file ∷ files) read headers h = read_by (header_of (head_of file)) read headers file files refl h (λ more e. all_read files more headers e)
+
+-- lengths of files that hold these cylinders together, of this many bytes each
+abbrev AreParts : ℕ → ℕ → List FileHeader → Type 0
+AreParts size most [] = Unit {0}
+AreParts size most (h ∷ hs) = ((c : ℕ) × (c ≤ most) × (h.len ≡ 512 + c * size)) × AreParts size most hs
+
+abbrev bytes_in : List FileHeader → ℕ
+bytes_in [] = 0
+bytes_in (h ∷ hs) = h.len - 512 + bytes_in hs
+
+record Joined (size before total : ℕ) (headers : List FileHeader) : Type 0 where
+  pub above : before < total
+  pub most : total < 65536
+  pub parts : AreParts size total headers
+  pub bytes : before * size + bytes_in headers ≡ total * size
+
+joined_last : (size before total : ℕ) (h : FileHeader) → cylinders_of size before h.len ≡ Some total → Joined size before total (h ∷ [])
+joined_last size before total h e =
+    let c = (h.len - 512) / size in
+    let it = some_if ((512 + c * size == h.len) && (nat_le 1 c && nat_lt (before + c) 65536)) (before + c) total e in
+    let parts = and_parts (512 + c * size == h.len) (nat_le 1 c && nat_lt (before + c) 65536) it.0 in
+    let rest = and_parts (nat_le 1 c) (nat_lt (before + c) 65536) parts.1 in
+    let whole = eqb-true (512 + c * size) h.len parts.0 in
+    let some = leb-true 1 c rest.0 in
+    let limit = ltb-true (before + c) 65536 rest.1 in
+    let is = it.1 in
+    record {
+      above = omega arith;
+      most = omega arith;
+      parts = ((c, omega arith, sym whole), tt);
+      bytes = sums before c total h.len whole is;
+    }
+  where
+    sums : (before c total len : ℕ) → 512 + c * size ≡ len → before + c ≡ total → before * size + (len - 512 + 0) ≡ total * size
+    sums before c total len whole is = rw (sym is, add-mul before c size) (omega arith)
+
+joined_next : (size before total : ℕ) (h : FileHeader) (rest : List FileHeader) → before ≤ h.highest_cylinder + 1 → h.len ≡ 512 + (h.highest_cylinder + 1 - before) * size → Joined size (h.highest_cylinder + 1) total rest → Joined size before total (h ∷ rest)
+joined_next size before total h rest in_order long j =
+    let above = j.above in
+    record {
+      above = omega arith;
+      most = j.most;
+      parts = ((h.highest_cylinder + 1 - before, omega arith, long), j.parts);
+      bytes = sums before (h.highest_cylinder + 1) h.len (bytes_in rest) in_order long j.bytes;
+    }
+  where
+    split : (before next : ℕ) → before ≤ next → before + (next - before) ≡ next
+    split before next h = omega arith
+
+    sums : (before next len behind : ℕ) → before ≤ next → len ≡ 512 + (next - before) * size → next * size + behind ≡ total * size → before * size + (len - 512 + behind) ≡ total * size
+    sums before next len behind order long all =
+        let whole : next * size ≡ before * size + (next - before) * size = ap (λ (k : ℕ). k * size) (sym (split before next order)) ∙ add-mul before (next - before) size in
+        omega (arith, whole, long, all)
+
+joined : (first : FileHeader) (n previous size before total : ℕ) (headers : List FileHeader) → before ≤ previous + 1 → are_parts first n previous headers ≡ true → cylinders_in size before headers ≡ Some total → Joined size before total headers
+joined first n previous size before total [] order parts found = cc
+joined first n previous size before total (last ∷ []) order parts found = joined_last size before total last found
+joined first n previous size before total (h ∷ g ∷ rest) order parts found =
+    let a = and_parts (is_part first n h) (nat_lt previous h.highest_cylinder && are_parts first (n + 1) h.highest_cylinder (g ∷ rest)) parts in
+    let b = and_parts (nat_lt previous h.highest_cylinder) (are_parts first (n + 1) h.highest_cylinder (g ∷ rest)) a.1 in
+    let up = ltb-true previous h.highest_cylinder b.0 in
+    let it = kept_if (h.len == 512 + (h.highest_cylinder + 1 - before) * size) (cylinders_in size (h.highest_cylinder + 1) (g ∷ rest)) total found in
+    joined_next size before total h (g ∷ rest) (omega arith) (eqb-true h.len (512 + (h.highest_cylinder + 1 - before) * size) it.0)
+    (joined first (n + 1) h.highest_cylinder size (h.highest_cylinder + 1) total (g ∷ rest) (omega arith) b.1 it.1)
+  where
+    kept_if : (b : Bool) (o : Option ℕ) (n : ℕ) → (if b then o else None) ≡ Some n → (b ≡ true) × (o ≡ Some n)
+    kept_if true o n e = (refl, e)
+    kept_if false o n e = cc
+
+together : (size total : ℕ) (headers : List FileHeader) → are_together headers ≡ true → cylinders_in size 0 headers ≡ Some total → Joined size 0 total headers
+together size total [] is found = cc
+together size total (only ∷ []) is found = joined_last size 0 total only found
+together size total (first ∷ second ∷ rest) is found = joined first 1 0 size 0 total (first ∷ second ∷ rest) (omega arith) is found
+
+few_heads : (model : DriveModel) → heads_of model ≤ 20
+few_heads D2311 = lit≤ tt
+few_heads D2314 = lit≤ tt
+
+whole_files : (model : DriveModel) (size most : ℕ) (headers : List FileHeader) (files : List (List ℕ)) → most < 65536 → AreHeaders headers files → AreParts (heads_of model * size) most headers → AllByRecursion (HoldsWhole size) files
+whole_files model size most [] [] limit are parts = tt
+whole_files model size most [] (f ∷ fs) limit are parts = absurd are
+whole_files model size most (h ∷ hs) [] limit are parts = absurd are
+whole_files model size most (h ∷ hs) (f ∷ fs) limit are parts =
+    let c = parts.0.0 in (
+      record {
+        tracks = c * heads_of model;
+        most = bounded c parts.0.1;
+        is_length = sym are.0.is_len ∙ parts.0.2 ∙ ap (λ (k : ℕ). 512 + k) (sym (mul_assoc c (heads_of model) size));
+      },
+      whole_files model size most hs fs limit are.1 parts.1,
+    )
+  where
+    bounded : (c : ℕ) → c ≤ most → c * heads_of model < 2 ^ 32
+    bounded c h =
+        let heads = few_heads model in
+        let a : c * heads_of model ≤ 65536 * heads_of model = mul-le-mul_right {m = c} {n = 65536} (heads_of model) (omega arith) in
+        omega arith
+
+slot_bytes_of : (headers : List FileHeader) (files : List (List ℕ)) → AreHeaders headers files → length (slot_bytes files) ≡ bytes_in headers
+slot_bytes_of [] [] are = refl
+slot_bytes_of [] (f ∷ fs) are = absurd are
+slot_bytes_of (h ∷ hs) [] are = absurd are
+slot_bytes_of (h ∷ hs) (f ∷ fs) are =
+    let ih = slot_bytes_of hs fs are.1 in
+    let len = are.0.is_len in
+    simp (length-append, length-drop) (omega (arith, ih, len))
+
+volume_by : (size : ℕ) (headers : List FileHeader) (files : List (List ℕ)) (model : DriveModel) (o : Option ℕ) (g : Geometry) → least_track_size model ≤ size → size ≤ 65536 → are_together headers ≡ true → AreHeaders headers files → cylinders_in (heads_of model * size) 0 headers ≡ o → with_cylinders model size o ≡ Ok g → FitsFiles g files
+volume_by size headers files model None g least limit is are found e = cc
+volume_by size headers files model (Some n) g least limit is are found e =
+    let j = together (heads_of model * size) n headers is found in
+    let above = j.above in
+    let bytes = j.bytes in
+    let same : record { model = model; cylinders = n; track_size = size } ≡ g = cc in
+    subst (λ (k : Geometry). FitsFiles k files) same (record {
+      is_geometry = record { cylinders = omega arith; room = least; limit = limit };
+      whole = whole_files model size n headers files j.most are j.parts;
+      is_length = slot_bytes_of headers files are ∙ bytes_are n bytes ∙ sym (mul_assoc n (heads_of model) size);
+    })
+  where
+    bytes_are : (n : ℕ) → 0 * (heads_of model * size) + bytes_in headers ≡ n * (heads_of model * size) → bytes_in headers ≡ n * (heads_of model * size)
+    bytes_are n e = sym (rw zero-mul (zero-add (bytes_in headers))) ∙ e
+
+volume_fits : (headers : List FileHeader) (files : List (List ℕ)) (g : Geometry) → AreHeaders headers files → volume_of headers ≡ Ok g → FitsFiles g files
+volume_fits [] files g are e = cc
+volume_fits (first ∷ rest) [] g are e = absurd are
+volume_fits (first ∷ rest) (f ∷ fs) g are e =
+    let a = past (not (are_together (first ∷ rest))) Split (with_model first.track_size (first ∷ rest) (model_of first.device_type)) g e in
+    by (model_of first.device_type) refl (not_false (are_together (first ∷ rest)) a.0) a.1
+  where
+    not_false : (b : Bool) → not b ≡ false → b ≡ true
+    not_false true e = refl
+    not_false false e = cc
+
+    by : (o : Option DriveModel) → model_of first.device_type ≡ o → are_together (first ∷ rest) ≡ true → with_model first.track_size (first ∷ rest) o ≡ Ok g → FitsFiles g (f ∷ fs)
+    by None found is e = cc
+    by (Some model) found is e =
+        volume_by first.track_size (first ∷ rest) (f ∷ fs) model (cylinders_in (heads_of model * first.track_size) 0 (first ∷ rest)) g (are.0.room model found) are.0.limit is are refl e
+
+mount_by : (o : Result (List FileHeader) MountFault) (files : List (List ℕ)) (g : Geometry) → headers_of [] (map head_of files) ≡ o → then_with o volume_of ≡ Ok g → FitsFiles g files
+mount_by (Err fault) files g found e = cc
+mount_by (Ok headers) files g found e =
+    let r = all_read files [] headers found in
+    volume_fits headers files g (subst (λ (hs : List FileHeader). AreHeaders hs files) (sym r.is) r.those) e
+
+-- what is mounted has a geometry, and holds its tracks
+pub mount_fits : (files : List (List ℕ)) (g : Geometry) → mount_of files ≡ Ok g → FitsFiles g files
+mount_fits files g e = mount_by (headers_of [] (map head_of files)) files g refl e
+
+pub size_some : (files : List (List ℕ)) (g : Geometry) → mount_of files ≡ Ok g → 0 < g.track_size
+size_some files g e = let room = (mount_fits files g e).is_geometry.room in omega arith
+
+-- A refusal.
+
+no_fault : (model : DriveModel) (size : ℕ) (o : Option ℕ) → with_cylinders model size o ≡ Err StoreFault → ⊥
+no_fault model size None e = cc
+no_fault model size (Some n) e = cc
+
+rules_alone : (headers : List FileHeader) → volume_of headers ≡ Err StoreFault → ⊥
+rules_alone [] e = cc
+rules_alone (first ∷ rest) e = by (not (are_together (first ∷ rest))) (model_of first.device_type) e
+  where
+    by : (b : Bool) (o : Option DriveModel) → (if b then Err Split else with_model first.track_size (first ∷ rest) o) ≡ Err StoreFault → ⊥
+    by true o e = cc
+    by false None e = cc
+    by false (Some model) e = no_fault model first.track_size (cylinders_in (heads_of model * first.track_size) 0 (first ∷ rest)) e
+
+pub volume_refused : (files : List (List ℕ)) (headers : List FileHeader) (fault : MountFault) → headers_of [] (map head_of files) ≡ Ok headers → volume_of headers ≡ Err fault → (mount_of files ≡ Err fault) × (fault ≡ StoreFault → ⊥)
+volume_refused files headers fault found refused =
+    (ap (λ o. then_with o volume_of) found ∙ refused, λ is. rules_alone headers (refused ∙ ap Err is))
+
+pub one_refused : (file : List ℕ) (before now : ℕ) (header : FileHeader) (fault : MountFault) → header_of (head_of file) ≡ Ok header → volume_of (header ∷ []) ≡ Err fault → now ≡ before → MountRefused fault file before now
+one_refused file before now header fault found refused same = by fault both.0 both.1
+  where
+    both : (mount_of (file ∷ []) ≡ Err fault) × (fault ≡ StoreFault → ⊥)
+    both = volume_refused (file ∷ []) (header ∷ []) fault (ap (λ o. then_with o (λ h. Ok (h ∷ []))) found) refused
+
+    by : (fault : MountFault) → mount_of (file ∷ []) ≡ Err fault → (fault ≡ StoreFault → ⊥) → MountRefused fault file before now
+    by NotCkdP370 e other = (e, same)
+    by Compressed e other = (e, same)
+    by DeviceType e other = (e, same)
+    by Heads e other = (e, same)
+    by TrackSize e other = (e, same)
+    by Split e other = (e, same)
+    by Length e other = (e, same)
+    by StoreFault e other = absurd (other refl)
+
+pub files_refused : (files : List (List ℕ)) (before now : List ℕ) (headers : List FileHeader) (fault : MountFault) → headers_of [] (map head_of files) ≡ Ok headers → volume_of headers ≡ Err fault → now ≡ before → FilesRefused fault files before now
+files_refused files before now headers fault found refused same = by fault both.0 both.1
+  where
+    both : (mount_of files ≡ Err fault) × (fault ≡ StoreFault → ⊥)
+    both = volume_refused files headers fault found refused
+
+    by : (fault : MountFault) → mount_of files ≡ Err fault → (fault ≡ StoreFault → ⊥) → FilesRefused fault files before now
+    by NotCkdP370 e other = (e, same)
+    by Compressed e other = (e, same)
+    by DeviceType e other = (e, same)
+    by Heads e other = (e, same)
+    by TrackSize e other = (e, same)
+    by Split e other = (e, same)
+    by Length e other = (e, same)
+    by StoreFault e other = absurd (other refl)
 
 -- A new file is mounted.
 
-cylinders_found : (size cylinders : ℕ) → 0 < size → 1 ≤ cylinders → cylinders < 65536 → cylinders_of size (512 + cylinders * size) ≡ Some cylinders
+cylinders_found : (size cylinders : ℕ) → 0 < size → 1 ≤ cylinders → cylinders < 65536 → cylinders_of size 0 (512 + cylinders * size) ≡ Some cylinders
 cylinders_found size cylinders some least most =
     let behind : 512 + cylinders * size - 512 ≡ cylinders * size = omega arith in
-    rw (behind, mul-div_cancel cylinders some, eq-eqb (512 + cylinders * size) (512 + cylinders * size) refl, le-leb 1 cylinders least, lt-ltb cylinders 65536 most) refl
+    rw (behind, mul-div_cancel cylinders some, zero-add cylinders, eq-eqb (512 + cylinders * size) (512 + cylinders * size) refl, le-leb 1 cylinders least, lt-ltb cylinders 65536 most) refl
 
-new_header_mounts : (model : DriveModel) (cylinders : ℕ) → 1 ≤ cylinders → cylinders < 65536 → geometry_of (new_header model) (image_length (new_geometry model cylinders)) ≡ Ok (new_geometry model cylinders)
-new_header_mounts D2311 cylinders least most =
-    rw (mul_assoc cylinders 10 4096) (ap (with_cylinders D2311 4096) (cylinders_found 40960 cylinders (lit< tt) least most))
-new_header_mounts D2314 cylinders least most =
-    rw (mul_assoc cylinders 20 7680) (ap (with_cylinders D2314 7680) (cylinders_found 153600 cylinders (lit< tt) least most))
-
-pub new_file_mounts : (model : DriveModel) (cylinders : ℕ) (file : List ℕ) → 1 ≤ cylinders → cylinders < 65536 → take 512 file ≡ new_header model → length file ≡ image_length (new_geometry model cylinders) → mount_of file ≡ Ok (new_geometry model cylinders)
-new_file_mounts model cylinders file least most header long =
+pub new_file_mounts : (model : DriveModel) (cylinders : ℕ) (file : List ℕ) → 1 ≤ cylinders → cylinders < 65536 → take 512 file ≡ new_header model → length file ≡ image_length (new_geometry model cylinders) → mount_of (file ∷ []) ≡ Ok (new_geometry model cylinders)
+new_file_mounts D2311 cylinders file least most header long =
     let enough : nat_lt (length file) 512 ≡ false = le-ltb (length file) 512 (omega arith) in
-    rw (enough, header, long) (new_header_mounts model cylinders least most)
+    rw (enough, header, long, mul_assoc cylinders 10 4096) (ap (with_cylinders D2311 4096) (cylinders_found 40960 cylinders (lit< tt) least most))
+new_file_mounts D2314 cylinders file least most header long =
+    let enough : nat_lt (length file) 512 ≡ false = le-ltb (length file) 512 (omega arith) in
+    rw (enough, header, long, mul_assoc cylinders 20 7680) (ap (with_cylinders D2314 7680) (cylinders_found 153600 cylinders (lit< tt) least most))

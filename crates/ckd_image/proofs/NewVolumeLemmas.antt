@@ -12,6 +12,7 @@ use Rattle.ckd_track.specs.declared.geometries.Geometry.{Geometry}
 use Rattle.ckd_track.specs.Geometry.{tracks_of, new_geometry}
 use Rattle.ckd_image.specs.Layout.{image_length}
 use Rattle.ckd_image.specs.Header.{new_header, mount_of}
+use Rattle.ckd_image.specs.Files.{slot_bytes}
 use Rattle.ckd_image.specs.Store.{overwritten}
 use Rattle.ckd_image.specs.Slots.{slots_in, new_slot, new_slots}
 use Rattle.ckd_image.specs.Image.{new_file, new_image}
@@ -135,12 +136,14 @@ written_whole model cylinders g old now same =
     subst (λ (k : Geometry). length old ≤ image_length k → now ≡ overwritten old 0 (new_file k) → now ≡ new_file new) (sym same)
     (λ short is. is ∙ overwritten_whole old (new_file new) (omega arith))
 
-pub new_file_mounted : (model : DriveModel) (cylinders : ℕ) → 1 ≤ cylinders → cylinders < 65536 → mount_of (new_file (new_geometry model cylinders)) ≡ Ok (new_geometry model cylinders)
+pub new_file_mounted : (model : DriveModel) (cylinders : ℕ) → 1 ≤ cylinders → cylinders < 65536 → mount_of (new_file (new_geometry model cylinders) ∷ []) ≡ Ok (new_geometry model cylinders)
 new_file_mounted model cylinders least most =
     let g = new_geometry model cylinders in
     new_file_mounts model cylinders (new_file g) least most (header-new_file g) (length-begun g (tracks_of g) (slot_room g refl))
 
-pub new_image_seen : (model : DriveModel) (cylinders failures loads saves : ℕ) → loads ≡ 0 → saves ≡ 0 → seen (new_geometry model cylinders) (new_file (new_geometry model cylinders)) failures loads saves ≡ new_image model cylinders failures
+pub new_image_seen : (model : DriveModel) (cylinders failures loads saves : ℕ) → loads ≡ 0 → saves ≡ 0 → seen (new_geometry model cylinders) (new_file (new_geometry model cylinders) ∷ []) failures loads saves ≡ new_image model cylinders failures
 new_image_seen model cylinders failures loads saves no_loads no_saves =
     let g = new_geometry model cylinders in
-    rw (slots-new_file g (slot_room g refl), header-new_file g, no_loads, no_saves) refl
+    let bytes : slot_bytes (new_file g ∷ []) ≡ drop 512 (new_file g) = append-nil (drop 512 (new_file g)) in
+    let header : take 512 (new_file g) ++ [] ≡ new_header model = append-nil (take 512 (new_file g)) ∙ header-new_file g in
+    rw (bytes, slots-new_file g (slot_room g refl), header, no_loads, no_saves) refl

@@ -1,5 +1,5 @@
--- An image as the layers above see it, and the file that it stands for.
-use Rattle.std.specs.Prelude.{◌≡◌, ℕ, ◌+◌, ◌≤◌, List, ◌++◌, length, take, drop, All, ◌==◌, ◌||◌, nat_lt, if◌then◌else◌, Result, Ok, Err, IsOk}
+-- An image as the layers above see it, and the files that hold it.
+use Rattle.std.specs.Prelude.{◌≡◌, ℕ, ◌+◌, ◌≤◌, List, [], ◌∷◌, ◌++◌, length, take, map, All, ◌==◌, ◌||◌, nat_lt, if◌then◌else◌, Result, Ok, Err, IsOk}
 use Rattle.std.specs.List.{concat}
 use Rattle.ckd_track.specs.declared.model.DriveModel.{DriveModel}
 use Rattle.ckd_track.specs.declared.geometries.Geometry.{Geometry}
@@ -7,44 +7,49 @@ use Rattle.ckd_image.specs.declared.fault.MountFault.{MountFault}
 use Rattle.ckd_image.specs.declared.fault.MountFault.TheVariants.{Length, StoreFault}
 use Rattle.ckd_track.specs.Geometry.{IsGeometry, tracks_of, new_geometry}
 use Rattle.ckd_image.specs.Layout.{image_length}
-use Rattle.ckd_image.specs.Header.{mount_of, new_header}
+use Rattle.ckd_image.specs.Header.{head_of, mount_of, new_header}
+use Rattle.ckd_image.specs.Files.{slot_bytes, FailedRead}
 use Rattle.ckd_image.specs.Slots.{slots_in, new_slots}
 
 pub record ImageState : Type 0 where
   pub geometry : Geometry
   -- a slot for each track, cylinder by cylinder and head by head
   pub slots : List (List ℕ)
-  -- the bytes of the file before the slots
+  -- the bytes of each file before its slots, in order
   pub header : List ℕ
-  -- how many calls of the store failed
+  -- how many calls of the stores failed
   pub failures : ℕ
   -- how many loads and saves were called of the image
   pub loads : ℕ
   pub saves : ℕ
 
--- the file that holds the image
-abbrev pub file_of : ImageState → List ℕ
-file_of i = i.header ++ concat i.slots
-
--- a file holds the volume of this geometry and these slots: its header and its length keep the
--- rules of a mount, and behind the header stand the slots, one for each track, in order
-pub record Holds (file : List ℕ) (g : Geometry) (slots : List (List ℕ)) : Type 0 where
-  pub mounts : mount_of file ≡ Ok g
+-- a list of files holds the volume of this geometry and these slots: the headers and lengths keep
+-- the rules of a mount, and behind the headers stand the slots, one for each track, in order
+pub record Holds (files : List (List ℕ)) (g : Geometry) (slots : List (List ℕ)) : Type 0 where
+  pub mounts : mount_of files ≡ Ok g
   pub count : length slots ≡ tracks_of g
   pub sizes : All (λ slot. length slot ≡ g.track_size) slots
-  pub order : drop 512 file ≡ concat slots
+  pub order : slot_bytes files ≡ concat slots
+
+-- these files hold the image. Their headers tell how many slots each one has, so no others do
+pub record HoldsImage (files : List (List ℕ)) (i : ImageState) : Type 0 where
+  pub holds : Holds files i.geometry i.slots
+  pub headers : concat (map (take 512) files) ≡ i.header
 
 -- what is true of each image
 pub record IsImage (i : ImageState) : Type 0 where
-  pub holds : Holds (file_of i) i.geometry i.slots
+  pub files : List (List ℕ)
+  pub holds : HoldsImage files i
   pub geometry : IsGeometry i.geometry
+  pub count : length i.slots ≡ tracks_of i.geometry
+  pub sizes : All (λ slot. length slot ≡ i.geometry.track_size) i.slots
 
--- the image of this geometry that a file holds, as it is first held
-abbrev pub image_in : Geometry → List ℕ → ℕ → ImageState
-image_in g file failures = record {
+-- the image of this geometry that files hold, as it is first held
+abbrev pub image_in : Geometry → List (List ℕ) → ℕ → ImageState
+image_in g files failures = record {
   geometry = g;
-  slots = slots_in g.track_size (tracks_of g) (drop 512 file);
-  header = take 512 file;
+  slots = slots_in g.track_size (tracks_of g) (slot_bytes files);
+  header = concat (map (take 512) files);
   failures = failures;
   loads = 0;
   saves = 0;
@@ -55,7 +60,12 @@ image_in g file failures = record {
 -- rule that is broken
 abbrev pub MountRefused : MountFault → List ℕ → ℕ → ℕ → Type 0
 MountRefused StoreFault file before now = (512 ≤ length file) × (now ≡ before + 1)
-MountRefused fault file before now = (mount_of file ≡ Err fault) × (now ≡ before)
+MountRefused fault file before now = (mount_of (file ∷ []) ≡ Err fault) × (now ≡ before)
+
+-- a mount of files was refused with this fault, and the failures of each store were and are so many
+abbrev pub FilesRefused : MountFault → List (List ℕ) → List ℕ → List ℕ → Type 0
+FilesRefused StoreFault files before now = FailedRead (map head_of files) before now
+FilesRefused fault files before now = (mount_of files ≡ Err fault) × (now ≡ before)
 
 -- the file of a new volume
 abbrev pub new_file : Geometry → List ℕ

@@ -3,4 +3,5 @@ pub mod Failing
 pub mod Layout
 pub mod Header
 pub mod Slots
+pub mod Files
 pub mod Image

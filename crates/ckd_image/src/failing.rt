@@ -4,9 +4,9 @@ ghost use Rattle.std.specs.Prelude.{◌≡◌, ℕ, ◌+◌, ◌-◌, ◌≤◌,
 ghost use Rattle.ckd_image.specs.Store.{has_room};
 ghost use Rattle.ckd_image.specs.Failing.{fails_next, after_call, after_counted_write};
 
-use crate::count::Count;
 use crate::memory::MemoryStore;
 use crate::store::{ImageStore, StoreFault};
+use ghost_data::Count;
 use std::marker::Model;
 
 /// How many bytes of a write are written where the write is made to fail.
@@ -35,7 +35,7 @@ impl Model for FailingStore {
       calls = f.calls;
       fails_at = f.fails_at;
       for_good = f.for_good;
-      made_to_fail = f.made_to_fail.so_far;
+      made_to_fail = f.made_to_fail;
     } };
 }
 

@@ -1,8 +1,8 @@
 //! The header of an image's file.
 
-ghost use Rattle.std.specs.Prelude.{◌≡◌, ◌<◌, ◌≤◌, ◌*◌, length, ◌++◌, ◌∷◌, [], drop};
+ghost use Rattle.std.specs.Prelude.{◌≡◌, ◌<◌, ◌≤◌, ◌+◌, ◌^◌, length, ◌++◌, drop, Some, All};
 ghost use Rattle.ckd_track.specs.Model.{heads_of, slot_size_of};
-ghost use Rattle.ckd_image.specs.Header.{geometry_of, on_model, cylinders_of, model_of, device_type_of, new_header, fields_behind_id};
+ghost use Rattle.ckd_image.specs.Header.{fields_of, on_model, is_part, are_parts, are_together, cylinders_of, cylinders_in, volume_of, model_of, device_type_of, new_header, fields_behind_id};
 ghost use Rattle.byteorder.specs.Endian.{little_bytes};
 
 use crate::fault::MountFault;
@@ -20,11 +20,25 @@ const BESIDES_CAPACITY: u32 = 37;
 /// The greatest track size, in bytes.
 const GREATEST_TRACK_SIZE: u32 = 65_536;
 
-/// The geometry of a file of this length with this header, or why it is not mounted.
-pub fn read_header(header: &[u8], len: u64) -> Result<Geometry, MountFault>
+/// What the header of a file says, as far as one file can keep the rules, and the file's length.
+#[derive(Clone, Copy, Debug, Default)]
+pub(crate) struct FileHeader {
+    /// The drive's device type.
+    pub(crate) device_type: u8,
+    /// The bytes of a track's slot.
+    pub(crate) track_size: u32,
+    /// The file's number among those of its image.
+    pub(crate) sequence: u8,
+    /// The last cylinder in a file that is not the last; else 0.
+    pub(crate) highest_cylinder: u16,
+    /// The file's length, in bytes.
+    pub(crate) len: u64,
+}
+
+/// What the header of a file of this length says, or the first rule on one file that is broken.
+pub(crate) fn read_fields(header: &[u8], len: u64) -> Result<FileHeader, MountFault>
     requires whole { length header.now ≡ 512 }
-    requires held { 512 ≤ len }
-    ensures { result ≡ geometry_of header.now len }
+    ensures { result ≡ fields_of header.now len }
 {
     if header[..5] == b"CKD_C"[..] || header[..5] == b"CKD_S"[..] {
         return Err(MountFault::Compressed);
@@ -34,7 +48,7 @@ pub fn read_header(header: &[u8], len: u64) -> Result<Geometry, MountFault>
     }
     match model_of_device(header[16]) {
         None => Err(MountFault::DeviceType),
-        Some(model) => read_fields(header, len, model),
+        Some(model) => read_fields_of(header, len, model),
     }
 }
 
@@ -59,10 +73,10 @@ fn device_type(model: DriveModel) -> u8
     }
 }
 
-/// The geometry of a file of this drive, or the first rule behind the device type that is broken.
-fn read_fields(header: &[u8], len: u64, model: DriveModel) -> Result<Geometry, MountFault>
+/// What a header says of a drive of this model, or the first rule behind the device type that is
+/// broken.
+fn read_fields_of(header: &[u8], len: u64, model: DriveModel) -> Result<FileHeader, MountFault>
     requires whole { length header.now ≡ 512 }
-    requires held { 512 ≤ len }
     ensures { result ≡ on_model header.now len (Some model) }
 {
     if LittleEndian::read_u32(&header[8..12]) != model.heads() as u32 {
@@ -72,34 +86,115 @@ fn read_fields(header: &[u8], len: u64, model: DriveModel) -> Result<Geometry, M
     if track_size < model.capacity() + BESIDES_CAPACITY || track_size > GREATEST_TRACK_SIZE {
         return Err(MountFault::TrackSize);
     }
-    if header[17] > 1 || LittleEndian::read_u16(&header[18..20]) != 0 {
+    Ok(FileHeader {
+        device_type: header[16],
+        track_size,
+        sequence: header[17],
+        highest_cylinder: LittleEndian::read_u16(&header[18..20]),
+        len,
+    })
+}
+
+/// The geometry of the image in the files of these headers, or the first rule on all of them that is
+/// broken.
+pub(crate) fn volume_of_files(headers: &[FileHeader]) -> Result<Geometry, MountFault>
+    requires count { length headers.now < 256 }
+    requires sizes { All (λ h. 0 < h.track_size) headers.now }
+    ensures { result ≡ volume_of headers.now }
+{
+    let [first, ..] = headers else {
+        return Err(MountFault::Split);
+    };
+    if !are_files_of_one(headers) {
         return Err(MountFault::Split);
     }
-    match cylinders_in(model.heads() as u64 * track_size as u64, len) {
+    let Some(model) = model_of_device(first.device_type) else {
+        return Err(MountFault::DeviceType);
+    };
+    match cylinders_of_files(headers, model.heads() as u64 * first.track_size as u64, 0) {
         None => Err(MountFault::Length),
         Some(cylinders) => Ok(Geometry {
             model,
             cylinders,
-            track_size,
+            track_size: first.track_size,
         }),
     }
 }
 
-/// The cylinders of this many bytes each that a file of this length holds, if it is a header and 1
-/// to 65,535 of them.
-fn cylinders_in(size: u64, len: u64) -> Option<u16>
-    requires some { 0 < size }
-    requires held { 512 ≤ len }
-    ensures { result ≡ cylinders_of size len }
+/// Whether the files of these headers are those of one image, in order.
+fn are_files_of_one(headers: &[FileHeader]) -> bool
+    requires count { length headers.now < 256 }
+    ensures { result ≡ are_together headers.now }
 {
-    let cylinders = (len - HEADER_LENGTH as u64) / size;
-    if HEADER_LENGTH as u64 + cylinders * size != len {
+    match headers {
+        [] => false,
+        [only] => only.sequence <= 1 && only.highest_cylinder == 0,
+        [first, ..] => are_parts_of(first, 1, 0, headers),
+    }
+}
+
+/// Whether this file belongs to the image of the first one, as the `n`-th.
+fn is_part_of(first: &FileHeader, n: u8, file: &FileHeader) -> bool
+    ensures { result ≡ is_part first.now n file.now }
+{
+    file.sequence == n
+        && file.device_type == first.device_type
+        && file.track_size == first.track_size
+}
+
+/// Whether these are the files of the first one's image from the `n`-th to the last. The one before
+/// them has this highest cylinder.
+fn are_parts_of(first: &FileHeader, n: u8, before: u16, files: &[FileHeader]) -> bool
+    requires count { n + length files.now < 257 }
+    ensures { result ≡ are_parts first.now n before files.now }
+{
+    match files {
+        [] => false,
+        [last] => is_part_of(first, n, last) && last.highest_cylinder == 0,
+        [file, rest @ ..] => {
+            is_part_of(first, n, file)
+                && before < file.highest_cylinder
+                && are_parts_of(first, n + 1, file.highest_cylinder, rest)
+        }
+    }
+}
+
+/// The cylinders of all files, this many of them before these and of this many bytes each, where
+/// each file but the last holds exactly those up to its highest one.
+fn cylinders_of_files(files: &[FileHeader], size: u64, before: u64) -> Option<u16>
+    requires size { 0 < size }
+    requires most { size < 2 ^ 40 }
+    requires before { before ≤ 65536 }
+    ensures { result ≡ cylinders_in size before files.now }
+{
+    match files {
+        [] => None,
+        [last] => cylinders_with_last(size, before, last.len),
+        [file, rest @ ..] => {
+            let behind = file.highest_cylinder as u64 + 1;
+            if file.len != HEADER_LENGTH as u64 + behind.saturating_sub(before) * size {
+                return None;
+            }
+            cylinders_of_files(rest, size, behind)
+        }
+    }
+}
+
+/// The cylinders up to those of the last file, if it is a header and 1 or more of them, and all are
+/// at most 65,535.
+fn cylinders_with_last(size: u64, before: u64, len: u64) -> Option<u16>
+    requires size { 0 < size }
+    requires before { before ≤ 65536 }
+    ensures { result ≡ cylinders_of size before len }
+{
+    let cylinders = len.saturating_sub(HEADER_LENGTH as u64) / size;
+    if len < HEADER_LENGTH as u64 || HEADER_LENGTH as u64 + cylinders * size != len {
         return None;
     }
-    if cylinders == 0 || cylinders > u16::MAX as u64 {
+    if cylinders == 0 || cylinders > u16::MAX as u64 - before.min(u16::MAX as u64) {
         return None;
     }
-    Some(cylinders as u16)
+    Some((before + cylinders) as u16)
 }
 
 /// The header of a new image in one file.

@@ -1,80 +1,139 @@
-//! An image: a volume in a store, read and written slot by slot.
+//! An image: a volume in one to eight stores, read and written slot by slot.
 
-ghost use Rattle.std.specs.Prelude.{◌≡◌, ◌+◌, ◌≤◌, ◌<◌, max, [], length, slice_index_or, slice_set, IfOk, IfErr, OnOk, OnErr};
+ghost use Rattle.std.specs.Prelude.{◌≡◌, ◌+◌, ◌≤◌, ◌<◌, max, [], ◌∷◌, length, map, take, Ok, slice_index_or, slice_set, IfOk, IfErr, OnOk, OnErr, All, IsSome};
+ghost use Rattle.std.specs.List.{sum};
 ghost use Rattle.ckd_track.specs.Geometry.{tracks_of, new_geometry};
 ghost use Rattle.ckd_image.specs.Layout.{image_length};
-ghost use Rattle.ckd_image.specs.Image.{IsImage, Holds, image_in, file_of, MountRefused, new_image, format_of, FormatRefused};
+ghost use Rattle.ckd_image.specs.Header.{mount_of};
+ghost use Rattle.ckd_image.specs.Files.{each, listed};
+ghost use Rattle.ckd_image.specs.Image.{IsImage, Holds, HoldsImage, image_in, MountRefused, FilesRefused, new_image, format_of, FormatRefused};
 
-use crate::count::Count;
 use crate::fault::MountFault;
-use crate::header::read_header;
-use crate::layout::{HEADER_LENGTH, file_length, slot_start};
+use crate::files::{in_array, in_list, read_header, read_headers, read_slot, write_slot};
+use crate::header::volume_of_files;
+use crate::layout::file_length;
 use crate::new_volume::write_new_volume;
 use crate::store::{ImageStore, StoreFault};
+use crate::stores::{MOST_FILES, Stores, array_of, count_tracks, only_store, stores_of};
+use arrayvec::ArrayVec;
 use ckd_track::{DriveModel, Geometry};
+use ghost_data::Count;
 use std::marker::Model;
 
-/// A volume that is held in a store. Its slots are read and written whole, and its length stays.
+/// A volume that is held in one to eight stores, each with a file of it. Its slots are read and
+/// written whole, and the files' lengths stay.
 #[derive(Drop)]
 pub struct Image<S: ImageStore> {
-    store: S,
+    stores: Stores<S>,
     geometry: Geometry,
+    /// How many tracks each file holds.
+    tracks: [u32; MOST_FILES],
     loads: Count,
     saves: Count,
 }
 
 impl<S: ImageStore> Model for Image<S> {
-    ghost use Rattle.std.specs.Prelude.{◌≡◌, Ok, take, drop};
+    ghost use Rattle.std.specs.Prelude.{◌≡◌, Ok, take, map};
+    ghost use Rattle.std.specs.List.{sum, concat};
     ghost use Rattle.ckd_track.specs.Geometry.{tracks_of};
     ghost use Rattle.ckd_image.specs.Header.{mount_of};
     ghost use Rattle.ckd_image.specs.Slots.{slots_in};
+    ghost use Rattle.ckd_image.specs.Files.{each, listed, slot_bytes, HoldTracks};
     ghost use Rattle.ckd_image.specs.Image.{ImageState};
 
     ghost Value = { ImageState };
 
     ghost view = { λ i. record {
       geometry = i.geometry;
-      slots = slots_in i.geometry.track_size (tracks_of i.geometry) (drop 512 (S.content i.store));
-      header = take 512 (S.content i.store);
-      failures = S.failures i.store;
-      loads = i.loads.so_far;
-      saves = i.saves.so_far;
+      slots = slots_in i.geometry.track_size (tracks_of i.geometry) (slot_bytes (each S.content (listed i.stores)));
+      header = concat (map (take 512) (each S.content (listed i.stores)));
+      failures = sum (each S.failures (listed i.stores));
+      loads = i.loads;
+      saves = i.saves;
     } };
 
-    ghost invariant = { λ i. mount_of (S.content i.store) ≡ Ok i.geometry };
+    ghost invariant = { λ i. (mount_of (each S.content (listed i.stores)) ≡ Ok i.geometry) × HoldTracks S.content i.geometry.track_size (listed i.stores) i.tracks };
+}
+
+/// The image of this geometry in these files.
+fn image_of<S: ImageStore>(stores: Stores<S>, geometry: Geometry) -> Image<S>
+    requires { mount_of (each S.content (listed stores)) ≡ Ok geometry }
+    ensures { result ≡ image_in geometry (each S.content (listed stores)) (sum (each S.failures (listed stores))) }
+{
+    let tracks = count_tracks(&stores, geometry.track_size);
+    Image {
+        stores,
+        geometry,
+        tracks,
+        loads: Count::new(),
+        saves: Count::new(),
+    }
+}
+
+/// The image of this geometry in one file.
+fn image_of_one<S: ImageStore>(store: S, geometry: Geometry) -> Image<S>
+    requires { mount_of (S.content store ∷ []) ≡ Ok geometry }
+    ensures { result ≡ image_in geometry (S.content store ∷ []) (S.failures store) }
+{
+    image_of(only_store(store), geometry)
 }
 
 impl<S: ImageStore> Image<S> {
-    /// Holds the image of this store. The faults are looked for in this order, and each hands the
-    /// store back: `Length` where the store is shorter than a header, which is before any read;
-    /// `StoreFault`, where the header was not read; `Compressed`, `NotCkdP370`, `DeviceType`,
-    /// `Heads`, `TrackSize`, `Split`; and `Length` where the store is not exactly as long as the
-    /// header and 1 to 65,535 cylinders. The slots and the reserved bytes of the header are not
-    /// looked at.
+    /// Holds the image of this store, which is one file. The faults are looked for in this order,
+    /// and each hands the store back: `Length` where the store is shorter than a header, which is
+    /// before any read; `StoreFault`, where the header was not read; `Compressed`, `NotCkdP370`,
+    /// `DeviceType`, `Heads`, `TrackSize`; `Split` where the header is that of one of several
+    /// files; and `Length` where the store is not exactly as long as the header and 1 to 65,535
+    /// cylinders. The slots and the reserved bytes of the header are not looked at.
     pub fn mount(mut store: S) -> Result<Image<S>, (MountFault, S)>
-        ensures holds { IfOk result (λ i. Holds (S.content store) i.geometry i.slots) }
+        ensures holds { IfOk result (λ i. Holds (S.content store ∷ []) i.geometry i.slots) }
         ensures image { IfOk result
-            (λ i. i ≡ image_in i.geometry (S.content store) (S.failures store)) }
+            (λ i. i ≡ image_in i.geometry (S.content store ∷ []) (S.failures store)) }
         ensures refused { IfErr result
             (λ e. MountRefused e.0 (S.content store) (S.failures store) (S.failures e.1)) }
         ensures kept { IfErr result (λ e. S.content e.1 ≡ S.content store) }
     {
-        let len = store.len();
-        if len < HEADER_LENGTH as u64 {
-            return Err((MountFault::Length, store));
-        }
-        let mut header = [0; HEADER_LENGTH];
-        if store.read_at(0, &mut header).is_err() {
-            return Err((MountFault::StoreFault, store));
-        }
-        match read_header(&header, len) {
+        let header = match read_header(&mut store) {
+            Ok(header) => header,
+            Err(fault) => return Err((fault, store)),
+        };
+        match volume_of_files(&[header]) {
+            Ok(geometry) => Ok(image_of_one(store, geometry)),
             Err(fault) => Err((fault, store)),
-            Ok(geometry) => Ok(Image {
-                store,
-                geometry,
-                loads: Count::new(),
-                saves: Count::new(),
-            }),
+        }
+    }
+
+    /// Holds the image of these stores, which are its files in order, one to eight of them. Each
+    /// refusal hands them back in their order. The faults are looked for in this order: `Split`
+    /// where there is no file. Then for each file in order `Length` where it is shorter than a
+    /// header, which is before any read; `StoreFault`, where its header was not read; `Compressed`,
+    /// `NotCkdP370`, `DeviceType`, `Heads`, `TrackSize`. Then `Split`, where these are not the files
+    /// of one image: an only file is as in `mount`; of several, each bears its number, from 1 on,
+    /// as its file sequence, and the first one's device type and track size, and the highest
+    /// cylinder of each but the last is above that of the file before it, and above 0; that of the
+    /// last is 0. Then `Length`, where a file is not exactly as long as a header and its cylinders:
+    /// those behind the file before it up to its highest one, and 1 or more in the last, at most
+    /// 65,535 in all. The slots and the reserved bytes of the headers are not looked at. It takes
+    /// no memory.
+    pub fn mount_files(
+        mut files: ArrayVec<Option<S>, 8>,
+    ) -> Result<Image<S>, (MountFault, ArrayVec<Option<S>, 8>)>
+        requires there { All IsSome files.items }
+        ensures holds { IfOk result (λ i. Holds (each S.content files.items) i.geometry i.slots) }
+        ensures image { IfOk result
+            (λ i. i ≡ image_in i.geometry (each S.content files.items) (sum (each S.failures files.items))) }
+        ensures refused { IfErr result
+            (λ e. FilesRefused e.0 (each S.content files.items) (each S.failures files.items) (each S.failures e.1.items)) }
+        ensures kept { IfErr result (λ e. each S.content e.1.items ≡ each S.content files.items) }
+        ensures there { IfErr result (λ e. All IsSome e.1.items) }
+    {
+        let headers = match read_headers(files.as_mut_slice()) {
+            Ok(headers) => headers,
+            Err(fault) => return Err((fault, files)),
+        };
+        match volume_of_files(headers.as_slice()) {
+            Ok(geometry) => Ok(image_of(stores_of(in_array(files)), geometry)),
+            Err(fault) => Err((fault, files)),
         }
     }
 
@@ -107,15 +166,10 @@ impl<S: ImageStore> Image<S> {
         if write_new_volume(&mut store, geometry).is_err() {
             return Err((MountFault::StoreFault, store));
         }
-        Ok(Image {
-            store,
-            geometry,
-            loads: Count::new(),
-            saves: Count::new(),
-        })
+        Ok(image_of_one(store, geometry))
     }
 
-    /// What the header says.
+    /// What the headers say.
     pub fn geometry(&self) -> Geometry
         ensures geometry { result ≡ self.now.geometry }
         ensures image { IsImage self.now }
@@ -123,7 +177,7 @@ impl<S: ImageStore> Image<S> {
         self.geometry
     }
 
-    /// Reads the slot of a track. After an error `slot` holds any bytes.
+    /// Reads the slot of a track from the file that holds it. After an error `slot` holds any bytes.
     pub fn load(&mut self, track: u32, slot: &mut [u8]) -> Result<(), StoreFault>
         requires exists { track < tracks_of self.old.geometry }
         requires size { length slot.old ≡ self.old.geometry.track_size }
@@ -136,11 +190,11 @@ impl<S: ImageStore> Image<S> {
         }) }
     {
         self.loads = self.loads.next();
-        let at = slot_start(self.geometry, track);
-        self.store.read_at(at, slot)
+        let size = self.geometry.track_size;
+        read_slot(&mut self.stores, &self.tracks, size, track, slot)
     }
 
-    /// Writes the slot of a track. After an error that slot holds any bytes.
+    /// Writes the slot of a track into the file that holds it. After an error that slot holds any bytes.
     pub fn save(&mut self, track: u32, slot: &[u8]) -> Result<(), StoreFault>
         requires exists { track < tracks_of self.old.geometry }
         requires size { length slot.now ≡ self.old.geometry.track_size }
@@ -157,21 +211,23 @@ impl<S: ImageStore> Image<S> {
         ensures size { length (slice_index_or self.new.slots track []) ≡ self.old.geometry.track_size }
     {
         self.saves = self.saves.next();
-        let at = slot_start(self.geometry, track);
-        self.store.write_at(at, slot)
+        let size = self.geometry.track_size;
+        write_slot(&mut self.stores, &self.tracks, size, track, slot)
     }
 
-    /// The store, which holds the image.
-    pub fn into_store(self) -> S
-        ensures content { S.content result ≡ file_of self }
-        ensures failures { S.failures result ≡ self.failures }
+    /// The stores, which hold the image: its files in order. It takes no memory.
+    pub fn into_stores(self) -> ArrayVec<Option<S>, 8>
+        ensures holds { HoldsImage (each S.content result.items) self }
+        ensures failures { sum (each S.failures result.items) ≡ self.failures }
+        ensures there { All IsSome result.items }
     {
         let Image {
-            store,
+            stores,
             geometry: _,
+            tracks: _,
             loads: _,
             saves: _,
         } = self;
-        store
+        in_list(array_of(stores), ArrayVec::new())
     }
 }

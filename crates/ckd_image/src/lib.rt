@@ -1,15 +1,16 @@
-//! Disk images in the CKD_P370 layout, the stores that hold them, and their slots.
+//! Disk images in the CKD_P370 layout, in one to eight files; the stores that hold them; their slots.
 #![tactic(auto)]
 
-mod count;
 mod failing;
 mod fault;
+mod files;
 mod header;
 mod images;
 mod layout;
 mod memory;
 mod new_volume;
 mod store;
+mod stores;
 
 pub use crate::failing::FailingStore;
 pub use crate::fault::MountFault;
@@ -17,6 +18,3 @@ pub use crate::images::Image;
 pub use crate::layout::image_len;
 pub use crate::memory::MemoryStore;
 pub use crate::store::{ImageStore, StoreFault};
-
-#[cfg(test)]
-mod tests;

@@ -3,8 +3,8 @@
 ghost use Rattle.std.specs.Prelude.{◌≡◌, ℕ, ◌+◌, ◌≤◌, List, length, replicate, slice_range, is_ok, IsOk, IfOk};
 ghost use Rattle.ckd_image.specs.Store.{has_room, after_write};
 
-use crate::count::Count;
 use crate::store::{ImageStore, StoreFault};
+use ghost_data::Count;
 use std::alloc::{AllocError, Global};
 use std::marker::Model;
 
@@ -21,7 +21,7 @@ impl Model for MemoryStore {
 
     ghost Value = { Stored };
 
-    ghost view = { λ m. record { content = m.held.items; failures = m.refused.so_far } };
+    ghost view = { λ m. record { content = m.held.items; failures = m.refused } };
 }
 
 impl MemoryStore {

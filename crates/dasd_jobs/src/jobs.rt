@@ -2,9 +2,9 @@
 
 ghost use Rattle.std.specs.Prelude.{◌≡◌};
 
-use crate::faults::{JobFault, of_write};
+use crate::faults::JobFault;
 use crate::files::ImageFiles;
-use crate::mounting::{new_image, read_image};
+use crate::mounting::{new_image, read_image, write_new};
 use ckd_track::{DriveModel, Geometry};
 use dasd_volumes::{Progress, Stage, is_large};
 use std::alloc::Global;
@@ -25,7 +25,7 @@ pub fn format_file<F: ImageFiles, W: Write, P: Progress>(
     model: DriveModel,
     cylinders: u16,
 ) -> Result<(), JobFault> {
-    let written = write_new(alloc, files, progress, path, model, cylinders);
+    let written = write_shown(alloc, files, progress, path, model, cylinders);
     progress.clear();
     written?;
     let number = match model {
@@ -36,8 +36,8 @@ pub fn format_file<F: ImageFiles, W: Write, P: Progress>(
     writer.flush().map_err(|_| JobFault::Write)
 }
 
-// Writes a new image to a path.
-fn write_new<F: ImageFiles, P: Progress>(
+// Writes a new image to a path, and shows so of a large volume.
+fn write_shown<F: ImageFiles, P: Progress>(
     alloc: Global,
     files: &mut F,
     progress: &mut P,
@@ -49,13 +49,11 @@ fn write_new<F: ImageFiles, P: Progress>(
     if shows {
         progress.show(Stage::Formatting(cylinders));
     }
-    let store = new_image(alloc, model, cylinders)?.into_store();
+    let image = new_image(alloc, model, cylinders)?;
     if shows {
         progress.show(Stage::Writing(cylinders));
     }
-    files
-        .replace(alloc, path, store.bytes())
-        .map_err(|fault| of_write(fault))
+    write_new(alloc, files, path, image)
 }
 
 /// Prints the volume of the image that these files hold, in their order. No file is written.

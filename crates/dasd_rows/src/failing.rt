@@ -7,6 +7,7 @@ use ckd_track::DriveModel;
 use dasd_jobs::JobFault;
 use dasd_run::ProgramFault;
 use std::alloc::Global;
+use test_rows::only_store;
 
 /// Lists or checks a new volume of one cylinder of a 2311, of whose reads, the first of which mounts it, this one fails; and
 /// tells the fault that it came to.
@@ -44,7 +45,7 @@ fn failing_image(alloc: Global, read: u32) -> Result<Image<FailingStore>> {
         Ok(image) => image,
         Err((fault, _)) => bail!("{fault}"),
     };
-    let store = FailingStore::new(image.into_store(), u64::from(read), false);
+    let store = FailingStore::new(only_store(image.into_stores())?, u64::from(read), false);
     match Image::mount(store) {
         Ok(image) => Ok(image),
         Err((fault, _)) => bail!("{fault}"),

@@ -8,6 +8,7 @@ use ckd_track::DriveModel;
 use dasd_jobs::{FileFault, ImageFiles};
 use ghost_data::Count;
 use std::alloc::Global;
+use test_rows::only_store;
 
 #[derive(Debug, Drop)]
 struct File {
@@ -60,7 +61,7 @@ impl MemoryFiles {
         };
         let store = MemoryStore::zeros(alloc, image_len(model, cylinders))?;
         match Image::format(store, model, cylinders) {
-            Ok(image) => self.put(alloc, name, image.into_store().bytes()),
+            Ok(image) => self.put(alloc, name, only_store(image.into_stores())?.bytes()),
             Err((fault, _)) => bail!("{fault}"),
         }
     }
@@ -71,6 +72,25 @@ impl MemoryFiles {
         for (place, byte) in held.iter_mut().skip(at).zip(bytes) {
             *place = *byte;
         }
+        self.put(alloc, name, held.as_slice())
+    }
+
+    /// Appends bytes of a file, from a place on, to another, which is made if it is not there.
+    pub fn copy(
+        &mut self,
+        alloc: Global,
+        name: &str,
+        from: &str,
+        at: usize,
+        count: usize,
+    ) -> Result<()> {
+        let mut held = Vec::from_slice(alloc, self.bytes(name).unwrap_or(&[]))?;
+        let behind = self
+            .bytes(from)
+            .context("no such file")?
+            .get(at..)
+            .context("too short")?;
+        held.extend_from_slice(behind.get(..count).context("too short")?)?;
         self.put(alloc, name, held.as_slice())
     }
 

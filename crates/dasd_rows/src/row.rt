@@ -28,6 +28,8 @@ struct Stage {
     printed: String,
     /// What it showed while it went on, and is not yet looked at.
     shown: String,
+    /// What an earlier command printed, to compare with.
+    kept: String,
     /// What it told on standard error, and the status.
     told: String,
     status: u8,
@@ -50,6 +52,7 @@ pub(crate) fn play<'a>(alloc: Global, lines: &'a str) -> Result<Outcome<'a>> {
         room: None,
         printed: String::new(alloc),
         shown: String::new(alloc),
+        kept: String::new(alloc),
         told: String::new(alloc),
         status: 0,
         commands: 0,
@@ -82,6 +85,11 @@ fn play_line(alloc: Global, stage: &mut Stage, line: &str) -> Result<bool> {
         "failing" => return failing(alloc, stage, rest),
         "<" => return Ok(prints(alloc, stage, rest)?),
         "~" => return shows(alloc, stage, rest),
+        "keep" => {
+            stage.kept = stage.printed.as_str().to_string(alloc)?;
+            stage.printed = String::new(alloc);
+        }
+        "kept" => return Ok(prints_again(alloc, stage)),
         "!" => return tells(alloc, stage, rest),
         "says" => return Ok(stage.told.as_str().contains(rest)),
         "usage" => return Ok(is_usage(alloc, stage)?),
@@ -188,6 +196,13 @@ fn next_line(alloc: Global, printed: &str, wanted: &str) -> Result<(bool, String
     }
 }
 
+// Whether all that is printed is what was kept.
+fn prints_again(alloc: Global, stage: &mut Stage) -> bool {
+    let is_again = stage.printed.as_str() == stage.kept.as_str();
+    stage.printed = String::new(alloc);
+    is_again
+}
+
 // Whether this is told on standard error.
 fn tells(alloc: Global, stage: &mut Stage, wanted: &str) -> Result<bool> {
     let is_wanted = stage.told.as_str() == wanted;
@@ -217,6 +232,13 @@ fn file_line(alloc: Global, stage: &mut Stage, word: &str, rest: &str) -> Result
             files.patch(alloc, name, number(at)?, bytes(alloc, body)?.as_slice())?;
         }
         ("cut", [name, left]) => files.cut(alloc, name, number(left)?)?,
+        ("copy", [name, from, at, count]) => {
+            files.copy(alloc, name, from, number(at)?, number(count)?)?;
+        }
+        ("same", [name, other]) => {
+            let held = files.bytes(name).context("no such file")?;
+            return Ok(held == files.bytes(other).context("no such file")?);
+        }
         ("length", [name, length]) => {
             return Ok(files.bytes(name).context("no such file")?.len() == number(length)?);
         }

@@ -124,7 +124,10 @@ fn first_difference(output: &[u8], answers: &[u8]) -> Option<usize> {
 // How the image that a run leaves differs from what the vector says of it.
 fn image_differs(vector: &Vector, device: u8, image: Image<MemoryStore>) -> Option<Difference> {
     let geometry = image.geometry();
-    let store = image.into_store();
+    let stores = image.into_stores();
+    let [Some(store)] = stores.as_slice() else {
+        return Some(Difference::Image(device));
+    };
     for slot in &vector.slots {
         if slot.device == device && !holds_slot(store.bytes(), geometry, slot) {
             return Some(Difference::Slot(device, slot.cylinder, slot.head));

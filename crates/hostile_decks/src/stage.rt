@@ -9,6 +9,7 @@ use s360_deck::{RunFault, run};
 use s360_words::Storage;
 use std::alloc::Global;
 use std::io::Read;
+use test_rows::only_store;
 
 /// The bytes of storage.
 const STORAGE: u32 = 4_096;
@@ -81,7 +82,7 @@ fn new_channel(alloc: Global, file: &[u8]) -> Result<Channel<MemoryStore>> {
 pub(crate) fn new_file(alloc: Global) -> Result<Vec<u8>> {
     let store = MemoryStore::zeros(alloc, image_len(DriveModel::D2311, 1))?;
     match Image::format(store, DriveModel::D2311, 1) {
-        Ok(image) => Ok(Vec::from_slice(alloc, image.into_store().bytes())?),
+        Ok(image) => Ok(Vec::from_slice(alloc, only_store(image.into_stores())?.bytes())?),
         Err((fault, _)) => bail!("{fault}"),
     }
 }

@@ -6,6 +6,7 @@ use s360_channel::Channel;
 use s360_events::Condition;
 use s360_words::{Csw, Storage};
 use std::alloc::Global;
+use test_rows::only_store;
 
 /// The address of the drive.
 const DEVICE: u16 = 0x190;
@@ -116,7 +117,7 @@ impl Machine {
     pub(crate) fn into_store(self) -> Result<MemoryStore> {
         let Machine { channel } = self;
         match first(channel.finish().images) {
-            Some((_, image)) => Ok(image.into_store()),
+            Some((_, image)) => only_store(image.into_stores()),
             None => bail!("no image"),
         }
     }

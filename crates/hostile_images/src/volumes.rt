@@ -4,6 +4,7 @@ use anyhow::{Result, bail};
 use ckd_image::{Image, ImageStore, MemoryStore, image_len};
 use ckd_track::DriveModel;
 use std::alloc::Global;
+use test_rows::only_store;
 
 /// The length of an image's header, and of a slot.
 pub(crate) const HEADER_LENGTH: usize = 512;
@@ -22,7 +23,7 @@ pub(crate) struct Record<'a> {
 pub(crate) fn new_file(alloc: Global) -> Result<Vec<u8>> {
     let store = MemoryStore::zeros(alloc, image_len(DriveModel::D2311, 1))?;
     match Image::format(store, DriveModel::D2311, 1) {
-        Ok(image) => Ok(Vec::from_slice(alloc, image.into_store().bytes())?),
+        Ok(image) => Ok(Vec::from_slice(alloc, only_store(image.into_stores())?.bytes())?),
         Err((fault, _)) => bail!("{fault}"),
     }
 }

@@ -11,7 +11,7 @@ use ckd_image::Image;
 use s360_program::program::{Advance, Running, Start};
 use s360_words::{Csw, Storage};
 use std::alloc::Global;
-use test_rows::RowStore;
+use test_rows::{RowStore, only_store};
 
 /// The bytes of storage.
 const SIZE: u32 = 65536;
@@ -127,6 +127,6 @@ impl Machine {
         if running.is_some() || drive.phase() != Phase::Idle || drive.is_written() {
             return None;
         }
-        Some((storage, drive.into_image().into_store()))
+        Some((storage, only_store(drive.into_image().into_stores()).ok()?))
     }
 }

@@ -116,7 +116,12 @@ fn not_told(alloc: Global, volume: &str, row: &str) -> Result<Option<u32>> {
     // the first call reads the header, as the image is mounted
     for at in 2..100 {
         for for_good in [false, true] {
-            match report_of(alloc, volume, row, Failure { at, for_good })? {
+            let failure = Failure {
+                file: 0,
+                at,
+                for_good,
+            };
+            match report_of(alloc, volume, row, failure)? {
                 Report::NoCall => return Ok(None),
                 Report::Told => {}
                 Report::Silent => return Ok(Some(at)),

@@ -40,12 +40,14 @@ pub(crate) fn failure_of(alloc: Global, row: &str) -> Result<Failure> {
         match words_of(alloc, line)?.as_slice() {
             ["failing", at, "once"] => {
                 return Ok(Failure {
+                    file: 0,
                     at: at.parse::<u32>()?,
                     for_good: false,
                 });
             }
             ["failing", at, "on"] => {
                 return Ok(Failure {
+                    file: 0,
                     at: at.parse::<u32>()?,
                     for_good: true,
                 });
@@ -53,10 +55,7 @@ pub(crate) fn failure_of(alloc: Global, row: &str) -> Result<Failure> {
             _ => {}
         }
     }
-    Ok(Failure {
-        at: 0,
-        for_good: false,
-    })
+    Ok(Failure::NONE)
 }
 
 // Whether the store was called as a line of the row says: `reads 2 512 4096`, that is how often, and where and how long the

@@ -1,15 +1,20 @@
 //! For the programs that play rows: the words of their lines, the volumes that blocks of lines spell, and stores that keep a
 //! record of their calls and fail where a row asks it.
 //!
-//! No function here has a clause: what they answer is seen in what the rows print.
+//! But for lists of files, which a mount wants to be whole, no function here has a clause: what they answer is seen in what the
+//! rows print.
 #![tactic(auto)]
 
+mod files;
 mod stores;
 mod volumes;
 mod words;
 
+pub use crate::files::{Files, RowFiles, file_of, one_file, only_store, two_files, with_file};
 pub use crate::stores::{Calls, Failure, Recorder, RowStore, row_store};
-pub use crate::volumes::{new_volume, put_lines, volume_left, volume_of};
+pub use crate::volumes::{
+    files_left, files_of, new_volume, put_lines, split_of, volume_left, volume_of,
+};
 pub use crate::words::{
     address, byte, bytes, model_of, name_of, number, spelled, unit_address, words_of,
 };

@@ -36,13 +36,33 @@ impl fmt::Display for Calls {
     }
 }
 
-/// Which call of a store fails, counted from 1 on, and whether each later one does; with 0 none fails.
+/// Which call of a file's store fails, counted from 1 on, and whether each later one does; with 0 none fails.
 #[derive(Clone, Copy, Debug, PartialEq, Eq)]
 pub struct Failure {
+    /// The place of the file among those of its image, from 0 on.
+    pub file: usize,
     /// The number of the call.
     pub at: u32,
     /// Whether each later call fails too.
     pub for_good: bool,
+}
+
+impl Failure {
+    /// No call fails.
+    pub const NONE: Failure = Failure {
+        file: 0,
+        at: 0,
+        for_good: false,
+    };
+
+    /// What of it befalls the store of the file at this place.
+    pub fn in_file(self, file: usize) -> Failure {
+        if self.file == file {
+            self
+        } else {
+            Failure::NONE
+        }
+    }
 }
 
 /// A store that keeps a record of its calls.
@@ -74,6 +94,11 @@ impl<S: ImageStore> Recorder<S> {
     }
 
     /// The store.
+    pub fn inner(&self) -> &S {
+        &self.store
+    }
+
+    /// The store alone.
     pub fn into_inner(self) -> S {
         let Recorder {
             store,

@@ -1,5 +1,6 @@
 //! The volumes of rows.
 
+use crate::files::{RowFiles, only_store};
 use crate::words::{bytes, model_of, number, words_of};
 use anyhow::{Result, bail};
 use ckd_image::{Image, ImageStore, MemoryStore, image_len};
@@ -22,7 +23,7 @@ pub fn new_volume(alloc: Global, geometry: Geometry) -> Result<MemoryStore> {
     } = geometry;
     let store = MemoryStore::zeros(alloc, image_len(model, cylinders))?;
     match Image::format(store, model, cylinders) {
-        Ok(image) => Ok(image.into_store()),
+        Ok(image) => only_store(image.into_stores()),
         Err((fault, _)) => bail!("{fault}"),
     }
 }
@@ -104,4 +105,48 @@ pub fn volume_left(alloc: Global, volume: &str, row: &str) -> Result<MemoryStore
     let geometry = geometry_of(alloc, volume)?;
     put_lines(alloc, &mut store, geometry, row, "left ")?;
     Ok(store)
+}
+
+/// The cylinder with which the second file of a volume begins, where its block says `split 2`.
+///
+/// # Errors
+///
+/// Fails where the block is spelled otherwise, and where memory runs out.
+pub fn split_of(alloc: Global, block: &str) -> Result<Option<u16>> {
+    for line in block.lines() {
+        if let ["split", cylinder] = words_of(alloc, line)?.as_slice() {
+            return Ok(Some(cylinder.parse::<u16>()?));
+        }
+    }
+    Ok(None)
+}
+
+/// The files that hold the volume of a row: one, or two where the volume's block says with which cylinder the second begins.
+///
+/// # Errors
+///
+/// Fails where a block is spelled otherwise, and where memory runs out.
+pub fn files_of(alloc: Global, volume: &str, row: &str) -> Result<RowFiles> {
+    let whole = volume_of(alloc, volume, row)?;
+    RowFiles::of(
+        alloc,
+        whole,
+        geometry_of(alloc, volume)?,
+        split_of(alloc, volume)?,
+    )
+}
+
+/// The files that hold the volume that a row leaves.
+///
+/// # Errors
+///
+/// Fails where a block is spelled otherwise, and where memory runs out.
+pub fn files_left(alloc: Global, volume: &str, row: &str) -> Result<RowFiles> {
+    let whole = volume_left(alloc, volume, row)?;
+    RowFiles::of(
+        alloc,
+        whole,
+        geometry_of(alloc, volume)?,
+        split_of(alloc, volume)?,
+    )
 }

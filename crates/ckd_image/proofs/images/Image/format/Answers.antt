@@ -1,5 +1,6 @@
-use Rattle.std.proofs.Common.{◌≡◌, ◌∙◌, sym, arith, ℕ, Result, Ok, Err, OnOk, is_err, false}
+use Rattle.std.proofs.Common.{[], ◌∷◌, ◌≡◌, ◌∙◌, sym, refl, arith, ℕ, Result, Ok, Err, OnOk, is_err, false}
 use Rattle.ckd_image.specs.declared.store.StoreFault.{StoreFault}
+use Rattle.ckd_image.specs.Header.{mount_of}
 use Rattle.ckd_image.specs.Store.{Counts}
 use Rattle.ckd_image.proofs.NewVolumeLemmas.{written_whole, new_file_mounted, new_image_seen}
 use Rattle.ckd_image.proofs.images.Image.format.Goals as goal
@@ -12,16 +13,17 @@ no_failure : (r : Result (Unit {0}) StoreFault) (before now : ℕ) → Counts be
 no_failure (Ok v) before now counted = counted
 no_failure (Err e) before now counted = tt
 
-pub invariant_of-result : goal.invariant_of-result
-invariant_of-result g c =
+pub image_of_one-requires : goal.image_of_one-requires
+image_of_one-requires g c =
     let done = done_well c.write_new_volume.result _ (sym c.is_err.ensures.value ∙ c.if-is_err.false) c.write_new_volume.ensures.written in
     let whole = written_whole c.args.model c.args.cylinders c.new-geometry.result (g.S.ImageStore.content c.args.store) (g.S.ImageStore.content c.write_new_volume.new.store) c.new-geometry.ensures (omega arith) done in
-    rw (c.new-geometry.ensures, whole) (new_file_mounted c.args.model c.args.cylinders (omega arith) c.ranges.cylinders.fits)
+    let mounts : mount_of (g.S.ImageStore.content c.write_new_volume.new.store ∷ []) ≡ Ok c.new-geometry.result = rw (c.new-geometry.ensures, whole) (new_file_mounted c.args.model c.args.cylinders (omega arith) c.ranges.cylinders.fits) in
+    mounts
 
 pub returns-clause-image : goal.returns-clause-image
 returns-clause-image g c =
     let done = done_well c.write_new_volume.result _ (sym c.is_err.ensures.value ∙ c.if-is_err.false) c.write_new_volume.ensures.written in
     let counted = done_well c.write_new_volume.result _ (sym c.is_err.ensures.value ∙ c.if-is_err.false) (no_failure c.write_new_volume.result _ _ c.write_new_volume.ensures.counted) in
     let whole = written_whole c.args.model c.args.cylinders c.new-geometry.result (g.S.ImageStore.content c.args.store) (g.S.ImageStore.content c.write_new_volume.new.store) c.new-geometry.ensures (omega arith) done in
-    let is = new_image_seen c.args.model c.args.cylinders (g.S.ImageStore.failures c.args.store) c.new.result.so_far c.new-2.result.so_far c.new.ensures c.new-2.ensures in
-    rw (c.new-geometry.ensures, whole, counted) is
+    let is = new_image_seen c.args.model c.args.cylinders (g.S.ImageStore.failures c.args.store) 0 0 refl refl in
+    c.image_of_one.ensures ∙ rw (c.new-geometry.ensures, whole, counted) is

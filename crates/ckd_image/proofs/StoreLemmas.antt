@@ -1,0 +1,27 @@
+-- The stores of an image's files, each in a field of its own.
+use Rattle.std.proofs.Common.{◌≡◌, ◌∙◌, ℕ, ◌+◌, ◌≤◌, List, [], ◌∷◌, length, Option, Some, None, set, refl, arith}
+use Rattle.ckd_image.specs.Files.{file_at, HoldTracks}
+use Rattle.ckd_image.proofs.ReadLemmas.{others-set}
+
+module _ {S : Type 0} where
+  -- The files behind the one that was taken are as they were.
+  pub taken : (files before now : List (Option S)) (place : ℕ) → ((k : ℕ) → place ≤ k → file_at before k ≡ file_at files k) → now ≡ set before place None → (k : ℕ) → place + 1 ≤ k → file_at now k ≡ file_at files k
+  taken files before now place rest is k h = others-set before now place k None is h ∙ rest k (omega arith)
+
+  -- A list of eight is its elements.
+  pub eight : (files : List (Option S)) → length files ≡ 8 → file_at files 0 ∷ file_at files 1 ∷ file_at files 2 ∷ file_at files 3 ∷ file_at files 4 ∷ file_at files 5 ∷ file_at files 6 ∷ file_at files 7 ∷ [] ≡ files
+  eight [] long = absurd (omega (arith, long))
+  eight (a ∷ []) long = absurd (omega (arith, long))
+  eight (a ∷ b ∷ []) long = absurd (omega (arith, long))
+  eight (a ∷ b ∷ c ∷ []) long = absurd (omega (arith, long))
+  eight (a ∷ b ∷ c ∷ d ∷ []) long = absurd (omega (arith, long))
+  eight (a ∷ b ∷ c ∷ d ∷ e ∷ []) long = absurd (omega (arith, long))
+  eight (a ∷ b ∷ c ∷ d ∷ e ∷ f ∷ []) long = absurd (omega (arith, long))
+  eight (a ∷ b ∷ c ∷ d ∷ e ∷ f ∷ g ∷ []) long = absurd (omega (arith, long))
+  eight (a ∷ b ∷ c ∷ d ∷ e ∷ f ∷ g ∷ h ∷ []) long = refl
+  eight (a ∷ b ∷ c ∷ d ∷ e ∷ f ∷ g ∷ h ∷ i ∷ more) long = absurd (omega (arith, long))
+
+  -- One more file before those that hold these tracks.
+  pub holds_more : (content : S → List ℕ) (size : ℕ) (file : Option S) (n : ℕ) (files : List (Option S)) (tracks : List ℕ) → HoldTracks content size (file ∷ []) (n ∷ []) → HoldTracks content size files tracks → HoldTracks content size (file ∷ files) (n ∷ tracks)
+  holds_more content size None n files tracks one rest = (one.0, rest)
+  holds_more content size (Some s) n files tracks one rest = (one.0, rest)

@@ -1,0 +1,490 @@
+//! Images in one file: rows of the layout, refusals with the store handed back, and stores that fail.
+
+ghost use Rattle.std.specs.Prelude.{◌≡◌, ◌<◌, ◌^◌, ◌-◌, IfOk};
+ghost use Rattle.ckd_track.specs.Geometry.{new_geometry};
+
+use crate::volumes::{
+    ONE_CYLINDER, are_all, changed, first_difference, must, new_file, new_volume,
+};
+use anyhow::{Context, Result, bail};
+use ckd_image::{FailingStore, Image, ImageStore, MemoryStore, MountFault, StoreFault, image_len};
+use ckd_track::{DriveModel, Geometry};
+use ghost_data::Count;
+use std::alloc::Global;
+use test_rows::only_store;
+
+/// The fault of a mount, if one is answered. The store comes back with its bytes.
+fn mount_fault(alloc: Global, store: MemoryStore) -> Result<Option<MountFault>> {
+    let before = store.bytes().to_vec(alloc)?;
+    let (fault, store) = match Image::mount(store) {
+        Ok(image) => (None, only_store(image.into_stores())?),
+        Err((fault, store)) => (Some(fault), store),
+    };
+    if store.bytes() != before.as_slice() {
+        bail!("the store came back changed");
+    }
+    Ok(fault)
+}
+
+pub(crate) fn lengths() -> Result<()> {
+    must(image_len(DriveModel::D2311, 1) == 41_472)?;
+    must(image_len(DriveModel::D2311, 203) == 8_315_392)?;
+    must(image_len(DriveModel::D2314, 203) == 31_181_312)?;
+    Ok(())
+}
+
+pub(crate) fn a_new_2311(alloc: Global) -> Result<()> {
+    let store = new_file(alloc, DriveModel::D2311, 2)?;
+    let file = store.bytes();
+    let fields = b"CKD_P370\x0A\0\0\0\0\x10\0\0\x11\0\0\0";
+    must(file.get(..20) == Some(fields.as_slice()))?;
+    must(are_all(file.get(20..512), 492, 0))?;
+    must(file.len() == 512 + 20 * 4096)?;
+    // track 13: cylinder 1, head 3
+    let slot = file
+        .get(512 + 13 * 4096..512 + 14 * 4096)
+        .context("no slot")?;
+    must(slot.get(..5) == Some([0, 0, 1, 0, 3].as_slice()))?;
+    must(slot.get(5..13) == Some([0, 1, 0, 3, 0, 0, 0, 8].as_slice()))?;
+    must(are_all(slot.get(13..21), 8, 0))?;
+    must(are_all(slot.get(21..29), 8, 0xFF))?;
+    must(are_all(slot.get(29..), 4067, 0))?;
+    Ok(())
+}
+
+pub(crate) fn a_new_2314(alloc: Global) -> Result<()> {
+    let store = new_file(alloc, DriveModel::D2314, 1)?;
+    let file = store.bytes();
+    let fields = b"CKD_P370\x14\0\0\0\0\x1E\0\0\x14\0\0\0";
+    must(file.get(..20) == Some(fields.as_slice()))?;
+    must(are_all(file.get(20..512), 492, 0))?;
+    must(file.len() == 512 + 20 * 7680)?;
+    // the last track: head 19
+    let slot = file.get(512 + 19 * 7680..).context("no slot")?;
+    must(slot.get(..5) == Some([0, 0, 0, 0, 19].as_slice()))?;
+    must(slot.get(5..13) == Some([0, 0, 0, 19, 0, 0, 0, 8].as_slice()))?;
+    must(are_all(slot.get(13..21), 8, 0))?;
+    must(are_all(slot.get(21..29), 8, 0xFF))?;
+    must(are_all(slot.get(29..), 7651, 0))?;
+    Ok(())
+}
+
+pub(crate) fn formats_and_mounts(alloc: Global) -> Result<()> {
+    for (model, cylinders, track_size) in [
+        (DriveModel::D2311, 3, 4096),
+        (DriveModel::D2314, 2, 7680),
+    ] {
+        let formatted = new_volume(alloc, model, cylinders)?;
+        let geometry = Geometry {
+            model,
+            cylinders,
+            track_size,
+        };
+        must(formatted.geometry() == geometry)?;
+        match Image::mount(only_store(formatted.into_stores())?) {
+            Ok(image) => must(image.geometry() == geometry)?,
+            Err((fault, _)) => bail!("{fault}"),
+        }
+    }
+    Ok(())
+}
+
+pub(crate) fn refuses_to_format(alloc: Global) -> Result<()> {
+    for (len, cylinders, want) in [
+        (ONE_CYLINDER, 0, MountFault::Length),
+        (0, 0, MountFault::Length),
+        (ONE_CYLINDER + 1, 1, MountFault::Length),
+        (ONE_CYLINDER - 1, 1, MountFault::StoreFault),
+        (0, 1, MountFault::StoreFault),
+    ] {
+        let store = MemoryStore::new(alloc, &vec![in alloc; 0xAAu8; len]?)?;
+        match Image::format(store, DriveModel::D2311, cylinders) {
+            Ok(_) => bail!("formatted"),
+            Err((fault, store)) => {
+                must(fault == want)?;
+                must(store.bytes().len() == len)?;
+                let kept = are_all(Some(store.bytes()), len, 0xAA);
+                must(kept == (want == MountFault::Length || len == 0))?;
+            }
+        }
+    }
+    Ok(())
+}
+
+pub(crate) fn refuses_to_mount(alloc: Global) -> Result<()> {
+    let rows: [(u64, &[u8], Option<MountFault>); 18] = [
+        (0, b"CKD_P370", None),
+        (0, b"CKD_C370", Some(MountFault::Compressed)),
+        (0, b"CKD_S370", Some(MountFault::Compressed)),
+        (0, b"CKD_P371", Some(MountFault::NotCkdP370)),
+        (16, &[0x12], Some(MountFault::DeviceType)),
+        (8, &[11], Some(MountFault::Heads)),
+        (8, &[20], Some(MountFault::Heads)),
+        // 3,661 and 65,537 bytes
+        (12, &[0x4D, 0x0E], Some(MountFault::TrackSize)),
+        (12, &[0x01, 0x00, 0x01], Some(MountFault::TrackSize)),
+        (17, &[1], None),
+        (17, &[2], Some(MountFault::Split)),
+        (18, &[5], Some(MountFault::Split)),
+        (18, &[0, 1], Some(MountFault::Split)),
+        // 4,097 bytes
+        (12, &[0x01, 0x10], Some(MountFault::Length)),
+        // the first fault is told: id, device type, heads, track size, file sequence
+        (
+            0,
+            b"CKD_P371\x0B\0\0\0\x4D\x0E\0\0\x12\x02",
+            Some(MountFault::NotCkdP370),
+        ),
+        (
+            8,
+            b"\x0B\0\0\0\x4D\x0E\0\0\x12\x02",
+            Some(MountFault::DeviceType),
+        ),
+        (
+            8,
+            b"\x0B\0\0\0\x4D\x0E\0\0\x11\x02",
+            Some(MountFault::Heads),
+        ),
+        (12, b"\x4D\x0E\0\0\x11\x02", Some(MountFault::TrackSize)),
+    ];
+    for (at, bytes, want) in rows {
+        let store = changed(alloc, at, bytes)?;
+        must(mount_fault(alloc, store)? == want)?;
+    }
+    Ok(())
+}
+
+/// A store that lends its bytes, and refuses each write.
+#[derive(Drop)]
+struct Lent<'a> {
+    bytes: &'a [u8],
+    refused: Count,
+}
+
+impl ImageStore for Lent<'_> {
+    ghost content = { λ l. l.bytes.now };
+
+    ghost failures = { λ l. l.refused };
+
+    fn len(&self) -> u64 {
+        self.bytes.len() as u64
+    }
+
+    fn read_at(&mut self, at: u64, into: &mut [u8]) -> Result<(), StoreFault> {
+        let rest = &self.bytes[at as usize..];
+        into.copy_from_slice(&rest[..into.len()]);
+        Ok(())
+    }
+
+    fn write_at(&mut self, _at: u64, _bytes: &[u8]) -> Result<(), StoreFault> {
+        self.refused = self.refused.next();
+        Err(StoreFault)
+    }
+}
+
+pub(crate) fn short_files(alloc: Global) -> Result<()> {
+    let whole = new_file(alloc, DriveModel::D2311, 1)?;
+    for len in [0, 4, 511, 512, ONE_CYLINDER - 1] {
+        let prefix = whole.bytes().get(..len).context("no prefix")?;
+        let store = MemoryStore::new(alloc, prefix)?;
+        must(mount_fault(alloc, store)? == Some(MountFault::Length))?;
+    }
+    Ok(())
+}
+
+pub(crate) fn no_prefix_is_mounted(alloc: Global) -> Result<()> {
+    let whole = new_file(alloc, DriveModel::D2311, 1)?;
+    for len in 0..whole.bytes().len() {
+        let prefix = Lent {
+            bytes: &whole.bytes()[..len],
+            refused: Count::new(),
+        };
+        match Image::mount(prefix) {
+            Ok(_) => bail!("{len}"),
+            Err((fault, store)) => {
+                must(fault == MountFault::Length)?;
+                must(store.bytes.len() == len)?;
+            }
+        }
+    }
+    Ok(())
+}
+
+/// What a mount answers where one byte of a new header of one cylinder of a 2311 is another.
+fn fault_of_byte(at: u64, byte: u8) -> Option<MountFault> {
+    match (at, byte) {
+        (0..=7, _) => Some(MountFault::NotCkdP370),
+        (8, _) => Some(MountFault::Heads),
+        (9..=11, 0) | (12, 0) | (14..=15, 0) | (17..=19, 0) => None,
+        (9..=11, _) => Some(MountFault::Heads),
+        (13, 0) | (14..=15, _) => Some(MountFault::TrackSize),
+        (12..=13, _) => Some(MountFault::Length),
+        (16, _) => Some(MountFault::DeviceType),
+        (17..=19, _) => Some(MountFault::Split),
+        // reserved
+        _ => None,
+    }
+}
+
+/// The fault of a mount of a file with another byte, if one is answered. The file comes back as it was before.
+fn fault_with_byte(
+    mut store: MemoryStore,
+    at: u64,
+    byte: u8,
+) -> Result<(Option<MountFault>, MemoryStore)> {
+    let mut before = [0];
+    if at >= store.len() {
+        bail!("past the end");
+    }
+    store.read_at(at, &mut before)?;
+    store.write_at(at, &[byte])?;
+    let (fault, store) = match Image::mount(store) {
+        Ok(image) => (None, only_store(image.into_stores())?),
+        Err((fault, store)) => (Some(fault), store),
+    };
+    Ok((fault, with_byte(store, at, before)?))
+}
+
+/// A file with another byte.
+fn with_byte(mut store: MemoryStore, at: u64, byte: [u8; 1]) -> Result<MemoryStore> {
+    if at >= store.len() {
+        bail!("past the end");
+    }
+    store.write_at(at, &byte)?;
+    Ok(store)
+}
+
+pub(crate) fn every_byte_of_a_header(alloc: Global) -> Result<()> {
+    let mut store = new_file(alloc, DriveModel::D2311, 1)?;
+    for at in 0..512 {
+        for byte in [0x00, 0x7F, 0xFF] {
+            let (fault, back) = fault_with_byte(store, at, byte)?;
+            store = back;
+            must(fault == fault_of_byte(at, byte))?;
+        }
+    }
+    must(store.bytes() == new_file(alloc, DriveModel::D2311, 1)?.bytes())?;
+    Ok(())
+}
+
+pub(crate) fn loads_and_saves(alloc: Global) -> Result<()> {
+    let mut image = new_volume(alloc, DriveModel::D2311, 2)?;
+    let mut slot = [0; 4096];
+    image.save(13, &[0xD7; 4096])?;
+    image.load(13, &mut slot)?;
+    must(are_all(Some(&slot), 4096, 0xD7))?;
+    image.load(12, &mut slot)?;
+    must(slot.get(..6) == Some([0, 0, 1, 0, 2, 0].as_slice()))?;
+    image.load(14, &mut slot)?;
+    must(slot.get(..6) == Some([0, 0, 1, 0, 4, 0].as_slice()))?;
+    let store = only_store(image.into_stores())?;
+    let whole = new_file(alloc, DriveModel::D2311, 2)?;
+    let at = 512 + 13 * 4096;
+    must(first_difference(store.bytes(), whole.bytes()) == Some(at))?;
+    let behind = at + 4096;
+    must(are_all(store.bytes().get(at..behind), 4096, 0xD7))?;
+    must(store.bytes().get(behind..) == whole.bytes().get(behind..))?;
+    Ok(())
+}
+
+/// A store of these bytes of which call `at` fails.
+fn failing(alloc: Global, bytes: &[u8], at: u64, for_good: bool) -> Result<FailingStore>
+    requires { at < 2 ^ 64 - 1 }
+    ensures { IfOk result (λ f. f.store.content ≡ bytes.now) }
+{
+    Ok(FailingStore::new(MemoryStore::new(alloc, bytes)?, at, for_good))
+}
+
+/// How many bytes are written where this write of a format fails: the header comes first, and then the slots.
+fn written_before(at: u64) -> usize {
+    let slots = (at as usize).saturating_sub(2).saturating_mul(4096);
+    if at == 1 {
+        60
+    } else {
+        slots.saturating_add(572)
+    }
+}
+
+/// The store of a format of which this write fails, if it does.
+fn failed_format(alloc: Global, old: &[u8], at: u64, for_good: bool) -> Result<FailingStore>
+    requires { at < 1000 }
+{
+    match Image::format(failing(alloc, old, at, for_good)?, DriveModel::D2311, 1) {
+        Ok(_) => bail!("formatted"),
+        Err((MountFault::StoreFault, store)) => Ok(store),
+        Err((fault, _)) => bail!("{fault}"),
+    }
+}
+
+pub(crate) fn each_write_of_a_format_fails(alloc: Global) -> Result<()> {
+    let old = vec![in alloc; 0xAAu8; ONE_CYLINDER]?;
+    let new = new_file(alloc, DriveModel::D2311, 1)?;
+    // the header, and ten slots
+    for at in 1..=11 {
+        let written = written_before(at);
+        for for_good in [false, true] {
+            let store = failed_format(alloc, &old, at, for_good)?;
+            must(store.calls() == at)?;
+            let inner = store.into_inner();
+            must(inner.bytes().get(..written) == new.bytes().get(..written))?;
+            must(inner.bytes().get(written..) == old.get(written..))?;
+        }
+    }
+    match Image::format(failing(alloc, &old, 12, true)?, DriveModel::D2311, 1) {
+        Ok(image) => {
+            let store = only_store(image.into_stores())?;
+            must(store.calls() == 11)?;
+            must(store.into_inner().bytes() == new.bytes())?;
+        }
+        Err((fault, _)) => bail!("{fault}"),
+    }
+    Ok(())
+}
+
+pub(crate) fn the_read_of_a_mount_fails(alloc: Global) -> Result<()> {
+    let new = new_file(alloc, DriveModel::D2311, 1)?;
+    for for_good in [false, true] {
+        match Image::mount(failing(alloc, new.bytes(), 1, for_good)?) {
+            Ok(_) => bail!("mounted"),
+            Err((fault, store)) => {
+                must(fault == MountFault::StoreFault)?;
+                must(store.calls() == 1)?;
+                must(store.into_inner().bytes() == new.bytes())?;
+            }
+        }
+    }
+    // below 512 bytes nothing is read
+    match Image::mount(failing(alloc, &[0; 511], 1, true)?) {
+        Ok(_) => bail!("mounted"),
+        Err((fault, store)) => {
+            must(fault == MountFault::Length)?;
+            must(store.calls() == 0)?;
+        }
+    }
+    Ok(())
+}
+
+/// An image of one cylinder of a 2311, of which call `at` of the store fails after the mount.
+fn failing_image(alloc: Global, at: u64, for_good: bool) -> Result<Image<FailingStore>>
+    requires { at < 1000 }
+    ensures { IfOk result (λ i. i.geometry ≡ new_geometry DriveModel.D2311 1) }
+{
+    let new = new_file(alloc, DriveModel::D2311, 1)?;
+    let image = match Image::mount(failing(alloc, new.bytes(), at + 1, for_good)?) {
+        Ok(image) => image,
+        Err((fault, _)) => bail!("{fault}"),
+    };
+    if image.geometry() != Geometry::new(DriveModel::D2311, 1) {
+        bail!("another geometry");
+    }
+    Ok(image)
+}
+
+pub(crate) fn a_load_fails(alloc: Global) -> Result<()> {
+    for for_good in [false, true] {
+        let mut image = failing_image(alloc, 2, for_good)?;
+        let mut slot = [0; 4096];
+        must(image.load(4, &mut slot) == Ok(()))?;
+        must(slot.get(..6) == Some([0, 0, 0, 0, 4, 0].as_slice()))?;
+        must(image.load(5, &mut slot) == Err(StoreFault))?;
+        must(image.load(6, &mut slot).is_err() == for_good)?;
+        let store = only_store(image.into_stores())?;
+        must(store.calls() == 4)?;
+        let new = new_file(alloc, DriveModel::D2311, 1)?;
+        must(store.into_inner().bytes() == new.bytes())?;
+    }
+    Ok(())
+}
+
+pub(crate) fn a_save_fails(alloc: Global) -> Result<()> {
+    let at = 512 + 5 * 4096;
+    for for_good in [false, true] {
+        let mut image = failing_image(alloc, 1, for_good)?;
+        must(image.save(5, &[0xD7; 4096]) == Err(StoreFault))?;
+        must(image.save(7, &[0xD8; 4096]).is_err() == for_good)?;
+        let store = only_store(image.into_stores())?;
+        must(store.calls() == 3)?;
+        let inner = store.into_inner();
+        let new = new_file(alloc, DriveModel::D2311, 1)?;
+        must(first_difference(inner.bytes(), new.bytes()) == Some(at))?;
+        must(are_all(inner.bytes().get(at..at + 60), 60, 0xD7))?;
+        let next = at + 2 * 4096;
+        must(inner.bytes().get(at + 60..next) == new.bytes().get(at + 60..next))?;
+        let behind = next + if for_good { 60 } else { 4096 };
+        must(are_all(inner.bytes().get(next..behind), behind - next, 0xD8))?;
+        must(inner.bytes().get(behind..) == new.bytes().get(behind..))?;
+    }
+    Ok(())
+}
+
+pub(crate) fn fewer_than_sixty_bytes_are_all_written(alloc: Global) -> Result<()> {
+    // as far as they lie within the content
+    let rows: [(u64, [u8; 8]); 3] = [
+        (2, [0, 0, 1, 1, 1, 0, 0, 0]),
+        (6, [0, 0, 0, 0, 0, 0, 1, 1]),
+        (8, [0, 0, 0, 0, 0, 0, 0, 0]),
+    ];
+    for (at, want) in rows {
+        let mut store = failing(alloc, &[0; 8], 1, false)?;
+        must(at <= store.len())?;
+        must(store.write_at(at, &[1; 3]) == Err(StoreFault))?;
+        must(store.into_inner().bytes() == want.as_slice())?;
+    }
+    Ok(())
+}
+
+pub(crate) fn no_call_is_made_to_fail(alloc: Global) -> Result<()> {
+    let mut store = failing(alloc, &[1, 2, 3], 0, true)?;
+    let mut two = [0; 2];
+    must(store.read_at(1, &mut two) == Ok(()))?;
+    must(two == [2, 3])?;
+    must(store.write_at(0, &[9]) == Ok(()))?;
+    // past the end it fails as in the store within
+    must(store.write_at(2, &[7, 7]) == Err(StoreFault))?;
+    must(store.calls() == 3)?;
+    must(store.len() == 3)?;
+    must(store.into_inner().bytes() == [9, 2, 3].as_slice())?;
+    Ok(())
+}
+
+pub(crate) fn track_numbers() -> Result<()> {
+    let geometry = Geometry::new(DriveModel::D2314, 203);
+    must(geometry.tracks() == 4060)?;
+    must(geometry.track_at(0, 0) == 0)?;
+    must(geometry.track_at(1, 3) == 23)?;
+    must(geometry.track_at(202, 19) == 4059)?;
+    Ok(())
+}
+
+pub(crate) fn memory(alloc: Global) -> Result<()> {
+    let mut store = MemoryStore::new(alloc, &[1, 2, 3, 4, 5, 6])?;
+    let mut two = [0; 2];
+    store.read_at(4, &mut two)?;
+    must(two == [5, 6])?;
+    must(store.write_at(1, &[8, 9]) == Ok(()))?;
+    must(store.write_at(6, &[]) == Ok(()))?;
+    must(store.write_at(5, &[7, 7]) == Err(StoreFault))?;
+    must(store.bytes() == [1, 8, 9, 4, 5, 6].as_slice())?;
+    must(store.len() == 6)?;
+    must(MemoryStore::zeros(alloc, 3)?.bytes() == [0, 0, 0].as_slice())?;
+    // more than there is
+    must(MemoryStore::zeros(alloc, u64::MAX).is_err())?;
+    Ok(())
+}
+
+pub(crate) fn texts(alloc: Global) -> Result<()> {
+    for (fault, want) in [
+        (MountFault::NotCkdP370, "not a CKD_P370 image"),
+        (MountFault::Compressed, "compressed image"),
+        (MountFault::DeviceType, "unknown device type"),
+        (MountFault::Heads, "wrong number of heads"),
+        (MountFault::TrackSize, "wrong track size"),
+        (MountFault::Split, "image in several files"),
+        (MountFault::Length, "wrong length"),
+        (MountFault::StoreFault, "store fault"),
+    ] {
+        must(format!(in alloc; "{fault}")?.as_str() == want)?;
+    }
+    must(format!(in alloc; "{StoreFault}")?.as_str() == "store fault")?;
+    Ok(())
+}

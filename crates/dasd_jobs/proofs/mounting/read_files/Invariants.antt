@@ -1,0 +1,9 @@
+use Rattle.std.proofs.Common.{◌≡◌, ◌≤◌, length, All, IsSome}
+use Rattle.dasd_jobs.proofs.mounting.read_files.Given as goal
+
+abbrev pub invariant-loop-path : goal.invariant-loop-path
+invariant-loop-path g l = record {
+  kept : g.F.ImageFiles.replacements l.files ≡ g.F.ImageFiles.replacements l.fn.files;
+  there : All IsSome l.stores.items;
+  room : length l.stores.items ≤ l.path-index;
+}
