@@ -1,12 +1,12 @@
 -- What is done to all slots, and what is read off them all.
 use Rattle.std.proofs.Common.{◌≡◌, ℕ, zero, suc, ◌+◌, ◌-◌, ◌≤◌, ◌<◌, refl, sym, ap, ◌∙◌, subst, arith, true, false, Bool, cond, List, [], ◌∷◌, ◌++◌, map, length, replicate, Option, Some, None, take, drop}
-use Rattle.std.proofs.lemmas.List.{drop_more, length-map, take_all, drop_all, append-nil}
+use Rattle.std.proofs.lemmas.List.{drop_more, length-map, drop_all}
 use Rattle.std.specs.Prelude.{slice_set, slice_index_or, option_map, filter}
 use Rattle.ckd_image.specs.Image.{ImageState}
 use Rattle.s360_laws.specs.Machine.{lowest, lower, has_arrived}
 use Rattle.s360_channel.specs.Channel.{UnitState, somes, AreTaken, AllRest, device_of}
 use Rattle.s360_channel.specs.Finishes.{images_of}
-use Rattle.s360_channel.specs.Slots.{QuietSlot, AllQuiet, lowest_in, lowest_with, image_in, HasVolume, AllVolumes}
+use Rattle.s360_channel.specs.Slots.{QuietSlot, AllQuiet, lowest_in, lowest_with, image_in, AllVolumes}
 use Rattle.s360_channel.proofs.Taken.{made, somes_made, are_taken, length_made}
 
 -- Slots that are changed one after another.

@@ -1,19 +1,18 @@
 -- Arms that change, while the channel is in any state.
-use Rattle.std.proofs.Common.{◌≡◌, ℕ, zero, suc, refl, sym, ap, subst, ◌∙◌, true, false, Bool, cond, ◌==◌, List, [], ◌∷◌, map, Option, Some, None}
+use Rattle.std.proofs.Common.{◌≡◌, ℕ, zero, suc, refl, sym, ap, subst, ◌∙◌, true, false, Bool, cond, ◌==◌, List, [], ◌∷◌, map, Option, Some}
 use Rattle.std.specs.Prelude.{find, option_map, slice_get, slice_set}
 use Rattle.ckd_command.specs.Drive.{IdleDrive}
 use Rattle.s360_program.specs.Advances.{Rests}
 use Rattle.s360_program.specs.Laws.{StandsAtRun}
-use Rattle.s360_program.specs.Stands.{RunningState}
 use Rattle.s360_laws.specs.Machine as machine
 use Rattle.s360_laws.specs.Machine.{Machine, Device, device_at, with_arm, start_of}
 use Rattle.s360_laws.specs.Soundness.{AreDistinct, IsSound}
 use Rattle.s360_laws.specs.declared.arm.Arm.{Arm}
 use Rattle.s360_laws.proofs.FindDevices.{Keeps, found_map, keeps_one, set_drive, set_arm}
-use Rattle.s360_channel.specs.Channel.{UnitState, ChannelState, Shows, WorksFor, AllRest, OthersRest, machine_of, device_of}
+use Rattle.s360_channel.specs.Channel.{UnitState, ChannelState, Shows, OthersRest, machine_of, device_of}
 use Rattle.s360_channel.specs.declared.subchannel.Subchannel.{Subchannel}
 use Rattle.s360_channel.specs.declared.subchannel.Subchannel.TheVariants.{Idle, Working, Pending}
-use Rattle.s360_channel.proofs.Places.{none_is_some, inside, changes, devices, devices_set, rests_at, all_set, FoundAt, distinct_before}
+use Rattle.s360_channel.proofs.Places.{none_is_some, inside, changes, devices, devices_set, rests_at, all_set, distinct_before}
 
 -- What the machine has of the units.
 

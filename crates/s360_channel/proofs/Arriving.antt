@@ -1,12 +1,11 @@
 -- Arms that arrive.
-use Rattle.std.proofs.Common.{◌≡◌, ℕ, ◌/◌, ◌%◌, refl, sym, ap, subst, ◌∙◌, true, false, Bool, cond, ◌==◌, List, [], ◌∷◌, map, Option, Some, None}
+use Rattle.std.proofs.Common.{◌≡◌, ℕ, ◌/◌, ◌%◌, refl, sym, ap, subst, ◌∙◌, true, false, cond, ◌==◌, List, map, Option, Some, None}
 use Rattle.std.proofs.lemmas.Bool.{eq-eqb}
 use Rattle.std.specs.Prelude.{find, position, slice_get, slice_set, option_map}
 use Rattle.s360_words.specs.Storage.{Storage}
-use Rattle.s360_laws.specs.Events.{Answer, Arrive, HasArrived}
+use Rattle.s360_laws.specs.Events.{Arrive, HasArrived}
 use Rattle.s360_laws.specs.Machine as machine
 use Rattle.s360_laws.specs.Machine.{Machine, Device, react, device_at, with_arm, is_in_motion}
-use Rattle.s360_laws.specs.Soundness.{AreDistinct}
 use Rattle.s360_laws.specs.declared.arm.Arm.{Arm}
 use Rattle.s360_laws.specs.declared.arm.Arm.TheVariants.{InMotion, AtRest, Arrived}
 use Rattle.s360_laws.proofs.FindDevices.{different}

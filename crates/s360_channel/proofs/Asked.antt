@@ -1,8 +1,8 @@
 -- From what a channel shows after a call to what the call does; the cases of the input/output instructions.
-use Rattle.std.proofs.Common.{◌≡◌, ℕ, zero, suc, ◌≤◌, ◌/◌, ◌%◌, refl, sym, ap, subst, ◌∙◌, arith, true, false, Bool, cond, ◌==◌, List, [], ◌∷◌, map, length, Option, Some, None}
+use Rattle.std.proofs.Common.{◌≡◌, ℕ, ◌≤◌, ◌/◌, ◌%◌, refl, sym, ap, subst, ◌∙◌, cond, ◌==◌, List, [], ◌∷◌, map, length, Option, Some, None}
 use Rattle.std.proofs.lemmas.Bool.{eq-eqb}
 use Rattle.std.proofs.lemmas.List.{length-map}
-use Rattle.std.specs.Prelude.{find, position, slice_get, slice_set}
+use Rattle.std.specs.Prelude.{find, position}
 use Rattle.s360_words.specs.Storage.{Storage, changed, csw_stored}
 use Rattle.s360_words.specs.declared.words.Csw.{Csw}
 use Rattle.ckd_image.specs.Image.{ImageState}
@@ -16,12 +16,12 @@ use Rattle.s360_laws.specs.declared.condition.ConditionCode.TheVariants.{Two, Th
 use Rattle.s360_laws.proofs.FindDevices.{different}
 use Rattle.s360_laws.proofs.LedgerLists.{stays_sound}
 use Rattle.s360_channel.specs.Calls.{DoesQuietly}
-use Rattle.s360_channel.specs.Channel.{UnitState, ChannelState, StandsFor, IsChannel, Shows, AllRest, device_of, is_at, machine_of}
+use Rattle.s360_channel.specs.Channel.{UnitState, ChannelState, StandsFor, IsChannel, Shows, device_of, is_at}
 use Rattle.s360_channel.specs.Nexts.{ShowsNext, of_parts, idle_machine, DoesAt, DoesIdle}
 use Rattle.s360_channel.specs.UnitCalls.{DriveIs}
 use Rattle.s360_channel.specs.declared.subchannel.Subchannel.{Subchannel}
 use Rattle.s360_channel.specs.declared.subchannel.Subchannel.TheVariants.{Idle, Working, Pending}
-use Rattle.s360_channel.proofs.Arming.{SeenBy, seen_by, distinct_units}
+use Rattle.s360_channel.proofs.Arming.{seen_by, distinct_units}
 use Rattle.s360_channel.proofs.Places.{FoundAt, found_by, none_found, rests_at}
 
 abbrev pub images : List UnitState → List ImageState

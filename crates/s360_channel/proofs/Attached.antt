@@ -1,27 +1,26 @@
 -- A channel with one drive more.
 use Rattle.std.proofs.Common.{◌≡◌, ℕ, zero, suc, ◌+◌, ◌≤◌, ◌<◌, refl, sym, ap, ◌∙◌, subst, arith, true, false, Bool, cond, ◌==◌, List, [], ◌∷◌, ◌++◌, map, length, Option, Some, None}
-use Rattle.std.proofs.lemmas.Bool.{eq-eqb, eqb-true, eqb-false}
+use Rattle.std.proofs.lemmas.Bool.{eqb-true, eqb-false}
 use Rattle.std.proofs.lemmas.List.{map-append, length_push}
 use Rattle.std.proofs.lemmas.List.Folds.{find-append}
 use Rattle.std.specs.Prelude.{find, option_map, is_some, position, slice_get}
 use Rattle.std.specs.Option.{option_or}
-use Rattle.ckd_command.specs.Drive.{IdleDrive}
 use Rattle.ckd_drive.specs.Work.{DriveState, new_drive}
 use Rattle.ckd_image.specs.Image.{ImageState}
 use Rattle.s360_runs.specs.Endings.{Outcome}
 use Rattle.s360_runs.specs.Status.{tells}
 use Rattle.s360_words.specs.declared.flags.TheConstants.UnitStatus.{DEVICE_END}
-use Rattle.s360_laws.proofs.FindDevices.{different, Keeps, found_map, keeps_one, set_drive}
+use Rattle.s360_laws.proofs.FindDevices.{different, found_map, keeps_one, set_drive}
 use Rattle.s360_laws.specs.Machine as machine
 use Rattle.s360_laws.specs.Machine.{Device, Machine, run_of, device_at}
 use Rattle.s360_laws.specs.Soundness.{AreDistinct, IsSound, IsSoundIn, IsRunning, device_owes}
 use Rattle.s360_laws.specs.declared.arm.Arm.TheVariants.{AtRest}
 use Rattle.s360_program.specs.Advances.{Rests}
 use Rattle.s360_channel.specs.Attaches.{NotRefused}
-use Rattle.s360_channel.specs.Channel.{UnitState, ChannelState, device_of, machine_of, AllRest, OthersRest, is_at, StandsFor, Shows, WorksFor, new_unit, attached}
+use Rattle.s360_channel.specs.Channel.{UnitState, ChannelState, device_of, machine_of, is_at, StandsFor, Shows, WorksFor, new_unit, attached}
 use Rattle.s360_channel.specs.declared.subchannel.Subchannel.{Subchannel}
 use Rattle.s360_channel.specs.declared.subchannel.Subchannel.TheVariants.{Idle, Working, Pending}
-use Rattle.s360_channel.proofs.Places.{none_is_some, false_is_true, devices, changes, none_found, is_within, all_rest_push, others_rest_push, found_at, is_found}
+use Rattle.s360_channel.proofs.Places.{none_is_some, false_is_true, devices, changes, none_found, is_within, all_rest_push, others_rest_push, is_found}
 
 abbrev pub new_device : ℕ → ImageState → Device
 new_device device image = device_of (new_unit device image)

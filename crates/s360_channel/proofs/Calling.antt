@@ -7,7 +7,7 @@ use Rattle.s360_words.specs.Storage.{Storage}
 use Rattle.s360_words.specs.declared.words.Csw.{Csw}
 use Rattle.ckd_drive.specs.Work.{DriveState}
 use Rattle.s360_runs.specs.Status.{no_unit_status, no_channel_status}
-use Rattle.s360_program.specs.Advances.{WentOn, CameToEnd, AdvancesTo, Cuts, TellsOf}
+use Rattle.s360_program.specs.Advances.{AdvancesTo, TellsOf}
 use Rattle.s360_program.specs.Stands.{RunningState, Stands, phase_in}
 use Rattle.s360_program.specs.declared.program.Advance.{Advance}
 use Rattle.s360_laws.specs.Events.{Answer, Event, StepBy, Stepped, Hio, Condition, StatusStored, Reset, WasReset}
@@ -19,13 +19,13 @@ use Rattle.s360_laws.proofs.LedgerLists.{stays}
 use Rattle.s360_laws.proofs.NoFaultTold.{no_fault_none_told}
 use Rattle.s360_events.specs.Seen.{condition_seen, status_seen}
 use Rattle.s360_channel.specs.Calls.{Does, CallsAtMost}
-use Rattle.s360_channel.specs.Channel.{ChannelState, UnitState, Shows, WorksFor, StandsFor, IsChannel, AllRest, device_of, machine_of, is_at}
+use Rattle.s360_channel.specs.Channel.{ChannelState, UnitState, Shows, WorksFor, StandsFor, IsChannel, AllRest, machine_of, is_at}
 use Rattle.s360_channel.specs.Ends.{arm_told, IsOver, MayBeCut, CutsProgram, LosesProgram, halted_idle, storage_halted}
 use Rattle.s360_channel.specs.UnitCalls.{DriveChanges, DriveIs, AdvancesAt, CutsAt, at_rest_unit}
 use Rattle.s360_channel.specs.declared.subchannel.Subchannel.{Subchannel}
 use Rattle.s360_channel.specs.declared.subchannel.Subchannel.TheVariants.{Idle, Working, Pending}
 use Rattle.s360_channel.proofs.Cutting.{halt_does, reset_does, idle_reset, nothing_does, nothing_calls, rest_calls}
-use Rattle.s360_channel.proofs.Overs.{with_drive, with_both, channel_with, calls_at_most, failures_told, cut_calls, over}
+use Rattle.s360_channel.proofs.Overs.{with_drive, with_both, calls_at_most, failures_told, cut_calls}
 use Rattle.s360_channel.proofs.Places.{inside, get_set, set_twice, is_within, all_of_others, both_found}
 use Rattle.s360_channel.proofs.Stepping.{goes_on_does, ends_does, runs_of}
 

@@ -1,5 +1,5 @@
 -- An available channel: what starts, tests and interruptions do by the arms of its drives.
-use Rattle.std.proofs.Common.{◌≡◌, ℕ, zero, suc, ◌+◌, ◌*◌, ◌<◌, refl, sym, ap, subst, ◌∙◌, arith, true, false, Bool, cond, ◌==◌, List, [], ◌∷◌, map, length, Option, Some, None}
+use Rattle.std.proofs.Common.{◌≡◌, ℕ, ◌+◌, ◌*◌, ◌<◌, refl, sym, ap, subst, ◌∙◌, true, false, Bool, cond, ◌==◌, List, [], ◌∷◌, length, Option, Some, None}
 use Rattle.std.proofs.lemmas.Bool.{eqb-false}
 use Rattle.std.specs.Prelude.{find, filter, position, slice_get, slice_set, option_map, nat_lt}
 use Rattle.s360_words.specs.Storage.{Storage, changed, csw_stored, status_stored}
@@ -13,7 +13,6 @@ use Rattle.s360_events.specs.declared.conditions.Status.{Status}
 use Rattle.s360_events.specs.declared.conditions.Condition.{Condition as ConditionAnswer}
 use Rattle.s360_events.specs.declared.conditions.Condition.TheVariants.{Stored}
 use Rattle.s360_laws.specs.Events.{Answer, Condition, Interrupted}
-use Rattle.s360_laws.specs.Machine as machine
 use Rattle.s360_laws.specs.Machine.{Machine, Device, start_device, started, start_of, test_device, device_at, csw_of_unit, with_arm, lower, lowest, has_arrived, interrupt_device}
 use Rattle.s360_laws.specs.Soundness.{AreDistinct}
 use Rattle.s360_laws.specs.declared.arm.Arm.{Arm}

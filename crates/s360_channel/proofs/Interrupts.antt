@@ -1,25 +1,19 @@
 -- Interruptions, by what the subchannel does.
-use Rattle.std.proofs.Common.{◌≡◌, ℕ, ◌+◌, ◌*◌, ◌<◌, refl, sym, ap, subst, ◌∙◌, true, false, Bool, cond, List, [], ◌∷◌, ◌++◌, map, length, append_assoc, Option, Some, None}
+use Rattle.std.proofs.Common.{◌≡◌, ℕ, ◌+◌, ◌*◌, ◌<◌, refl, sym, ap, subst, ◌∙◌, true, false, Bool, cond, List, [], ◌∷◌, ◌++◌, length, append_assoc, Option, Some, None}
 use Rattle.std.specs.Prelude.{filter, slice_get, option_map}
 use Rattle.s360_words.specs.Storage.{Storage, changed, csw_stored}
 use Rattle.s360_words.specs.declared.words.Csw.{Csw}
-use Rattle.ckd_drive.specs.Work.{DriveState}
-use Rattle.s360_runs.specs.Commands.{Point}
-use Rattle.s360_runs.specs.Endings.{Standing}
 use Rattle.s360_runs.specs.Places.{Place}
-use Rattle.s360_runs.specs.Scripts.{Script, TakesInterruption, Outside}
+use Rattle.s360_runs.specs.Scripts.{TakesInterruption, Outside}
 use Rattle.s360_runs.specs.Units.{standing_in, phase_past, StandsAt, ProgramPhase, Between, Looking, Moving}
-use Rattle.s360_program.proofs.Ties.{after_change, after_interruption}
-use Rattle.s360_runs.specs.Laws as law
 use Rattle.s360_program.specs.Laws.{StandsAtRun, StandsAfterChange, StandsAfterInterruption}
 use Rattle.s360_program.specs.Stands.{RunningState, phase_in}
-use Rattle.s360_laws.specs.Events.{Answer, Interrupt, Interrupted}
+use Rattle.s360_laws.specs.Events.{Interrupt, Interrupted}
 use Rattle.s360_laws.specs.Machine as machine
 use Rattle.s360_laws.specs.Machine.{Machine, react, interrupt_device, interrupt_program, lowest, has_arrived, asked_by, run_of, start_of, with_subchannel, with_csw, goes_on, interrupted}
 use Rattle.s360_channel.specs.Calls.{DoesQuietly}
-use Rattle.s360_channel.specs.Channel.{UnitState, StandsFor, IsChannel, Shows, WorksFor, AllRest, device_of, machine_of}
+use Rattle.s360_channel.specs.Channel.{UnitState, StandsFor, IsChannel, WorksFor}
 use Rattle.s360_channel.specs.Nexts.{ShowsNext, of_parts, idle_machine, DoesOn, TakesProgram, storage_told}
-use Rattle.s360_channel.specs.declared.subchannel.Subchannel.{Subchannel}
 use Rattle.s360_channel.specs.declared.subchannel.Subchannel.TheVariants.{Idle, Working, Pending}
 use Rattle.s360_channel.proofs.Arming.{seen_by, distinct_units}
 use Rattle.s360_channel.proofs.Asked.{quiet, images}

@@ -1,24 +1,19 @@
 -- What the processor does to storage, at a channel and at the machine that it stands for.
-use Rattle.std.proofs.Common.{◌≡◌, ℕ, ◌+◌, refl, sym, ap, subst, ◌∙◌, true, false, Bool, cond, ◌||◌, ◌==◌, List, [], ◌∷◌, ◌++◌, map, length, Option, Some, None}
-use Rattle.std.specs.Prelude.{nat_lt, nat_le, slice_get}
-use Rattle.s360_words.specs.Storage.{Storage, Change, Bytes, KeyOf, changed, is_within, is_inside}
-use Rattle.s360_words.specs.declared.words.Csw.{Csw}
-use Rattle.s360_runs.specs.Endings.{Outcome, NotEnded}
-use Rattle.s360_runs.specs.Runs.{run}
+use Rattle.std.proofs.Common.{◌≡◌, ℕ, ◌+◌, refl, sym, ap, subst, ◌∙◌, true, false, Bool, cond, ◌||◌, ◌==◌, List, [], ◌∷◌, ◌++◌, length, None}
+use Rattle.std.specs.Prelude.{nat_lt, nat_le}
+use Rattle.s360_words.specs.Storage.{Storage, Change, Bytes, KeyOf, changed, is_within}
 use Rattle.s360_runs.specs.Scripts.{Outside}
-use Rattle.s360_runs.specs.Units.{standing_in}
 use Rattle.s360_runs.specs.Writes.{OutcomeKeepsSize}
 use Rattle.s360_runs.proofs.Sizes.{keeps_size}
 use Rattle.s360_runs.proofs.Standing.{goes_by}
-use Rattle.s360_program.specs.Stands.{RunningState, phase_in}
 use Rattle.s360_program.proofs.Ties.{after_change, seen}
-use Rattle.s360_laws.specs.Events.{Event, FaultAfter, Store, SetKey, Show, Shown, WasKept, Answer}
+use Rattle.s360_laws.specs.Events.{Event, Store, SetKey, Show, Shown, WasKept, Answer}
 use Rattle.s360_laws.specs.Machine as machine
 use Rattle.s360_laws.specs.Machine.{Machine, react, keep, change, part_of, storage_of, start_of, with_device, with_subchannel}
 use Rattle.s360_laws.specs.Soundness.{IsSound}
 use Rattle.s360_laws.proofs.LedgerLists.{stays}
 use Rattle.s360_channel.specs.Calls.{DoesQuietly}
-use Rattle.s360_channel.specs.Channel.{ChannelState, IsChannel, Shows, StandsFor, WorksFor, AllRest, machine_of}
+use Rattle.s360_channel.specs.Channel.{ChannelState, IsChannel, Shows, StandsFor, WorksFor}
 use Rattle.s360_channel.specs.declared.subchannel.Subchannel.{Subchannel}
 use Rattle.s360_channel.specs.declared.subchannel.Subchannel.TheVariants.{Idle, Working, Pending}
 use Rattle.s360_channel.proofs.Works.{storage_there, storage_seen, subchannel_of}

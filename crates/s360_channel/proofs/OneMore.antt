@@ -9,7 +9,7 @@ use Rattle.s360_events.specs.declared.answers.Answer as deck_answer
 use Rattle.s360_events.specs.declared.events.Event as deck_event
 use Rattle.s360_channel.specs.Calls.{Does, IsMet, Reports}
 use Rattle.s360_channel.specs.Channel.{ChannelState, StandsFor, failures_of}
-use Rattle.s360_channel.specs.Lists.{Follows, WithoutFaults, AllReported, faults_in}
+use Rattle.s360_channel.specs.Lists.{Follows, AllReported, faults_in}
 
 -- What these events did at a channel, without what follows from it.
 pub record Drove (m : Machine) (events : List Event) (given : List Answer) (old new : ChannelState) : Type 0 where

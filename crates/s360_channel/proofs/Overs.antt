@@ -1,5 +1,5 @@
 -- Units in which the drive and the arm of one of them changed, and a program that is over there.
-use Rattle.std.proofs.Common.{◌≡◌, ℕ, zero, suc, ◌+◌, ◌*◌, ◌≤◌, ◌<◌, ◌⊎◌, inl, inr, refl, sym, ap, subst, ◌∙◌, arith, true, false, Bool, cond, ◌==◌, List, [], ◌∷◌, map, length, Option, Some, None}
+use Rattle.std.proofs.Common.{◌≡◌, ℕ, ◌+◌, ◌≤◌, ◌⊎◌, inl, inr, refl, sym, ap, subst, ◌∙◌, arith, true, false, Bool, cond, ◌==◌, List, map, length, Option, Some}
 use Rattle.std.proofs.lemmas.List.{length-set}
 use Rattle.std.specs.Prelude.{find, option_map, slice_get, slice_set}
 use Rattle.s360_words.specs.Storage.{Storage}
@@ -17,14 +17,13 @@ use Rattle.s360_laws.specs.Machine as machine
 use Rattle.s360_laws.specs.Machine.{Machine, Device, device_at, ended, arm_after, with_subchannel}
 use Rattle.s360_laws.specs.Soundness.{IsSound}
 use Rattle.s360_laws.specs.Steps.{EndedByFault}
-use Rattle.s360_laws.specs.declared.arm.Arm.{Arm}
 use Rattle.s360_laws.proofs.FindDevices.{Keeps, found_map, keeps_one, Has, has_found, set_both, set_drive}
 use Rattle.s360_channel.specs.Calls.{CallsAtMost}
-use Rattle.s360_channel.specs.Channel.{ChannelState, UnitState, WorksFor, device_of, machine_of, AllRest, failures_of, store_calls_of}
+use Rattle.s360_channel.specs.Channel.{ChannelState, UnitState, WorksFor, device_of, machine_of, AllRest, failures_of}
 use Rattle.s360_channel.specs.Ends.{arm_told}
 use Rattle.s360_channel.specs.declared.subchannel.Subchannel.{Subchannel}
-use Rattle.s360_channel.specs.declared.subchannel.Subchannel.TheVariants.{Idle, Working, Pending}
-use Rattle.s360_channel.proofs.Places.{get_set, is_within, map_same, sum_same, sum_more, sum_at_most, all_of_others, devices, changes, same_number, devices_set, changes_twice}
+use Rattle.s360_channel.specs.declared.subchannel.Subchannel.TheVariants.{Pending}
+use Rattle.s360_channel.proofs.Places.{map_same, sum_same, sum_more, sum_at_most, all_of_others, devices, changes, devices_set, changes_twice}
 use Rattle.s360_channel.proofs.Works.{channel_of, devices_of, distinct_units, device_there}
 
 -- A unit whose drive changed, and its arm.

@@ -5,11 +5,10 @@ use Rattle.s360_words.specs.declared.words.Csw.{Csw}
 use Rattle.ckd_command.specs.Drive.{IdleDrive}
 use Rattle.s360_runs.specs.Units.{standing_in}
 use Rattle.s360_program.specs.Stands.{RunningState, phase_in}
-use Rattle.s360_laws.specs.Machine as machine
 use Rattle.s360_laws.specs.Machine.{Machine, Device, asked_by}
 use Rattle.s360_laws.specs.declared.arm.Arm.{Arm}
 use Rattle.s360_laws.proofs.FindDevices.{set_drive}
-use Rattle.s360_channel.specs.Channel.{AreTaken, ChannelState, Shows, StandsFor, WorksFor, UnitState, device_of, machine_of, somes}
+use Rattle.s360_channel.specs.Channel.{AreTaken, ChannelState, Shows, StandsFor, WorksFor, UnitState, device_of, somes}
 use Rattle.s360_channel.specs.Views.{subchannel_seen, drives_seen, view_of}
 use Rattle.s360_channel.specs.declared.subchannel.Subchannel.{Subchannel}
 use Rattle.s360_channel.specs.declared.subchannel.Subchannel.TheVariants as code

@@ -1,20 +1,16 @@
 -- What a start leaves at an available channel.
-use Rattle.std.proofs.Common.{◌≡◌, ℕ, zero, suc, refl, sym, ap, subst, ◌∙◌, true, false, Bool, cond, ◌==◌, List, [], ◌∷◌, map, Option, Some, None}
+use Rattle.std.proofs.Common.{◌≡◌, ℕ, refl, sym, ap, subst, ◌∙◌, Bool, cond, ◌==◌, List, map, Some}
 use Rattle.std.specs.Prelude.{slice_get, slice_set, if◌then◌else◌}
 use Rattle.s360_words.specs.Storage.{Storage, changed, status_stored, caw_word}
 use Rattle.s360_words.specs.declared.flags.ChannelStatus.{ChannelStatus}
-use Rattle.s360_words.specs.declared.flags.UnitStatus.{UnitStatus}
 use Rattle.s360_words.specs.declared.flags.TheConstants.ChannelStatus.{PROGRAM_CHECK}
 use Rattle.s360_words.specs.declared.flags.TheConstants.UnitStatus.{UNIT_CHECK}
-use Rattle.ckd_command.specs.Drive.{drive_of, IdleDrive}
+use Rattle.ckd_command.specs.Drive.{drive_of}
 use Rattle.ckd_drive.specs.Work.{DriveState}
-use Rattle.s360_runs.specs.Endings.{Ending}
-use Rattle.s360_runs.specs.Runs.{Start}
 use Rattle.s360_runs.specs.Scripts.{units}
 use Rattle.s360_runs.specs.Starts.{First, BadStart, RejectedStart, ImmediateStart, AcceptedStart, first}
 use Rattle.s360_runs.specs.Status.{no_channel_status, no_unit_status, with_interruption}
 use Rattle.ckd_command.specs.declared.steps.DriveEnding.{DriveEnding}
-use Rattle.s360_program.specs.Advances.{Rests, Leaves}
 use Rattle.s360_program.specs.Laws.{AcceptedStands}
 use Rattle.s360_program.specs.Stands.{RunningState}
 use Rattle.s360_program.specs.declared.program.Start.TheVariants as start
@@ -32,11 +28,11 @@ use Rattle.s360_laws.specs.declared.arm.Arm.{Arm}
 use Rattle.s360_laws.specs.declared.arm.Arm.TheVariants.{InMotion, AtRest}
 use Rattle.s360_laws.specs.declared.condition.ConditionCode.TheVariants as code
 use Rattle.s360_laws.proofs.FindDevices.{distinct_map, keeps_one, set_drive, set_both}
-use Rattle.s360_channel.specs.Channel.{UnitState, ChannelState, Shows, WorksFor, AllRest, OthersRest, machine_of, device_of}
+use Rattle.s360_channel.specs.Channel.{UnitState, ChannelState, AllRest, OthersRest, machine_of, device_of}
 use Rattle.s360_channel.specs.Nexts.{ShowsNext, of_parts, idle_machine}
 use Rattle.s360_channel.specs.declared.subchannel.Subchannel.{Subchannel}
 use Rattle.s360_channel.specs.declared.subchannel.Subchannel.TheVariants.{Idle, Working}
-use Rattle.s360_channel.proofs.Places.{devices, devices_set, get_set, set_same, set_twice, rests_at, all_set, others_of_all, others_set, map_same, inside}
+use Rattle.s360_channel.proofs.Places.{devices, devices_set, get_set, set_same, set_twice, all_set, others_of_all, others_set, map_same, inside}
 
 -- the first unit of the program at a unit
 abbrev pub first_of : (number : ℕ) → Storage → List UnitState → UnitState → First

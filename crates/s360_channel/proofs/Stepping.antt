@@ -1,14 +1,12 @@
 -- Steps of a program that runs: where it goes on, and where it ends.
-use Rattle.std.proofs.Common.{◌≡◌, ℕ, zero, suc, ◌+◌, ◌-◌, ◌*◌, ◌≤◌, ◌<◌, ◌⊎◌, inl, inr, refl, sym, ap, subst, ◌∙◌, arith, cond, ◌==◌, List, [], ◌∷◌, ◌++◌, map, length, Option, Some, None, Bool}
-use Rattle.std.specs.Prelude.{slice_get, slice_set}
+use Rattle.std.proofs.Common.{◌≡◌, ℕ, zero, suc, ◌+◌, ◌-◌, ◌≤◌, ◌<◌, refl, sym, ap, subst, ◌∙◌, arith, cond, List, [], ◌∷◌, ◌++◌, map, length, Option, Some, None, Bool}
+use Rattle.std.specs.Prelude.{slice_set}
 use Rattle.s360_words.specs.Storage.{Storage}
 use Rattle.s360_words.specs.declared.words.Csw.{Csw}
 use Rattle.ckd_command.specs.Drive.{Fault}
 use Rattle.ckd_drive.specs.Work.{DriveState}
-use Rattle.s360_runs.specs.Endings.{Ended, NotEnded}
 use Rattle.s360_runs.specs.Runs.{run}
-use Rattle.s360_runs.specs.Scripts.{Script, units, units_in, OneUnit}
-use Rattle.s360_runs.specs.Units.{standing_in}
+use Rattle.s360_runs.specs.Scripts.{units, units_in, OneUnit}
 use Rattle.s360_runs.proofs.Standing.{goes_by, ends_by}
 use Rattle.s360_runs.proofs.Walks.{ended_stays}
 use Rattle.s360_program.specs.Advances as program
@@ -26,11 +24,11 @@ use Rattle.s360_laws.proofs.FindDevices.{set_drive}
 use Rattle.s360_laws.proofs.LedgerLists.{sound_parts, stays}
 use Rattle.s360_laws.proofs.NoFaultTold.{no_fault_none_told}
 use Rattle.s360_channel.specs.Calls.{Does, IsMet, Reports}
-use Rattle.s360_channel.specs.Channel.{ChannelState, UnitState, WorksFor, StandsFor, device_of, machine_of}
+use Rattle.s360_channel.specs.Channel.{ChannelState, UnitState, WorksFor, device_of}
 use Rattle.s360_channel.specs.declared.subchannel.Subchannel.TheVariants.{Working, Pending}
 use Rattle.s360_channel.proofs.Overs.{with_drive, with_both, channel_with, same_failures, one_failure, few_units, fault_told, over, over_machine, over_rest, over_fault}
 use Rattle.s360_channel.proofs.Places.{get_set, map_same, others_set, devices, changes, same_number}
-use Rattle.s360_channel.proofs.Works.{subchannel_of, devices_of, run_at}
+use Rattle.s360_channel.proofs.Works.{subchannel_of, run_at}
 
 -- a sound machine's program runs
 pub runs_of : (m : Machine) → IsSound m → Runs m m.subchannel

@@ -1,5 +1,5 @@
 -- What the machine shows that a channel stands for while a program runs.
-use Rattle.std.proofs.Common.{◌≡◌, ℕ, refl, sym, ap, subst, ◌∙◌, cond, ◌==◌, map, Option, Some, None}
+use Rattle.std.proofs.Common.{◌≡◌, ℕ, refl, sym, ap, subst, ◌∙◌, cond, ◌==◌, map, Some}
 use Rattle.std.proofs.lemmas.Bool.{eq-eqb}
 use Rattle.std.specs.Prelude.{find, option_map}
 use Rattle.s360_words.specs.Storage.{Storage}
@@ -11,8 +11,8 @@ use Rattle.s360_runs.specs.Runs.{run}
 use Rattle.s360_runs.specs.Scripts.{Script}
 use Rattle.s360_runs.specs.Units.{standing_in}
 use Rattle.s360_program.specs.Stands.{RunningState, phase_in, phase_by}
-use Rattle.s360_program.specs.declared.stages.Stage.{Stage}
-use Rattle.s360_program.specs.declared.stages.Stage.TheVariants as stage
+use Rattle.s360_program.specs.Stage.{Stage}
+use Rattle.s360_program.specs.Stage as stage
 use Rattle.s360_program.proofs.Ties.{seen}
 use Rattle.s360_laws.specs.Machine as machine
 use Rattle.s360_laws.specs.Machine.{Machine, device_at, run_of, start_of, storage_of}

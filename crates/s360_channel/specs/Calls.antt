@@ -1,11 +1,11 @@
 -- What the calls of a channel do: each is an event of every machine that the channel stands for.
-use Rattle.std.specs.Prelude.{◌≡◌, ◌⊎◌, ℕ, suc, ◌+◌, ◌≤◌, List, map, Option, Some, None}
+use Rattle.std.specs.Prelude.{◌≡◌, ◌⊎◌, ℕ, suc, ◌+◌, ◌≤◌, map, Option, Some, None}
 use Rattle.s360_laws.specs.Events.{Event, StepBy, Hio, Reset, Answer, Stepped, Condition, FaultAfter}
 use Rattle.s360_laws.specs.Machine.{Machine, react}
 use Rattle.s360_laws.specs.NothingTold.{NoneGainsCheck, TellsNoTrack}
 use Rattle.s360_laws.specs.Steps.{EndedByFault, ToldByReset}
 use Rattle.s360_laws.specs.declared.condition.ConditionCode.TheVariants.{Two}
-use Rattle.s360_channel.specs.Channel.{ChannelState, UnitState, StandsFor, failures_of, store_calls_of}
+use Rattle.s360_channel.specs.Channel.{ChannelState, StandsFor, failures_of, store_calls_of}
 
 -- An event that calls no store: the answer is the machine's, and the channel stands for the next machine afterwards.
 pub record DoesQuietly (e : Event) (m : Machine) (answer : Answer) (new : ChannelState) : Type 0 where

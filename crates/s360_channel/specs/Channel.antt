@@ -1,7 +1,6 @@
 -- A channel between two calls, and the machines that it stands for.
 use Rattle.std.specs.Prelude.{◌≡◌, ℕ, zero, suc, ◌+◌, ◌-◌, ◌==◌, ◌<◌, ◌≤◌, length, List, [], ◌∷◌, ◌++◌, map, replicate, Option, Some, None, Bool, slice_get, sum_by}
 use Rattle.s360_words.specs.Storage.{Storage}
-use Rattle.s360_words.specs.declared.words.Csw.{Csw}
 use Rattle.ckd_command.specs.Drive.{IdleDrive, drive_of, first_drive}
 use Rattle.ckd_drive.specs.Work.{DriveState, new_drive}
 use Rattle.ckd_image.specs.Image.{ImageState}

@@ -1,8 +1,8 @@
 -- What lists of events do at a channel: the promise of the whole.
-use Rattle.std.specs.Prelude.{◌≡◌, ℕ, ◌+◌, List, [], ◌∷◌, map, false, Option, Some, None}
-use Rattle.s360_laws.specs.Events.{Event, Answer, FaultAfter, Input}
+use Rattle.std.specs.Prelude.{◌≡◌, ℕ, ◌+◌, List, [], ◌∷◌, map, false, Some, None}
+use Rattle.s360_laws.specs.Events.{Event, Answer, Input}
 use Rattle.s360_laws.specs.Headline.{Headline}
-use Rattle.s360_laws.specs.History.{World, world_of, history, all_acts}
+use Rattle.s360_laws.specs.History.{world_of, history, all_acts}
 use Rattle.s360_laws.specs.Machine as machine
 use Rattle.s360_laws.specs.Machine.{Machine, react, after_all, exchanges, plain, is_working}
 use Rattle.s360_channel.specs.Calls.{Reports}

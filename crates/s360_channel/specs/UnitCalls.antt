@@ -1,12 +1,12 @@
 -- What a call does to the unit at a place in the order of attachment: the others stay.
-use Rattle.std.specs.Prelude.{◌≡◌, ◌≤◌, ◌+◌, ◌*◌, ℕ, List, Bool, false, Option, Some, slice_get, slice_set}
+use Rattle.std.specs.Prelude.{◌≡◌, ◌*◌, ℕ, List, Bool, false, Option, Some, slice_get, slice_set}
 use Rattle.s360_words.specs.Storage.{Storage}
 use Rattle.s360_words.specs.declared.words.Csw.{Csw}
 use Rattle.ckd_command.specs.Drive.{drive_of}
 use Rattle.ckd_drive.specs.Work.{DriveState, CallsStore, without_sense}
 use Rattle.s360_runs.specs.Unsaved.{has_written}
-use Rattle.s360_program.specs.Advances.{Rests, Advances, KeepsStorage, Cuts, CallsAtMost, TellsOf, CutTellsOf}
-use Rattle.s360_program.specs.Stands.{RunningState, Stands, phase_in}
+use Rattle.s360_program.specs.Advances.{Advances, KeepsStorage, Cuts, CallsAtMost, TellsOf, CutTellsOf}
+use Rattle.s360_program.specs.Stands.{RunningState, phase_in}
 use Rattle.s360_program.specs.Starting.{IsFirst, StartsQuietly}
 use Rattle.s360_program.specs.declared.program.Advance.{Advance}
 use Rattle.s360_program.specs.declared.program.Start.{Start}

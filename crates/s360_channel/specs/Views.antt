@@ -1,5 +1,5 @@
 -- What a channel shows of itself: the machine's subchannel and arms.
-use Rattle.std.specs.Prelude.{ℕ, ◌-◌, ◌++◌, List, map, length, replicate, Bool, Option, Some, None, is_some}
+use Rattle.std.specs.Prelude.{ℕ, ◌-◌, ◌++◌, List, map, length, replicate, Option, Some, None, is_some}
 use Rattle.s360_laws.specs.Machine as machine
 use Rattle.s360_laws.specs.Machine.{Machine, Device, asked_by, run_of}
 use Rattle.s360_laws.specs.declared.arm.Arm.{Arm}

@@ -3,6 +3,7 @@
 ghost use Rattle.std.specs.Prelude.{◌≡◌, ◌++◌, ◌∷◌, [], IfOk, IfErr, OnOk, OnErr, IsErr};
 ghost use Rattle.s360_laws.specs.Machine.{Machine};
 ghost use Rattle.s360_channel.specs.Channel.{StandsFor, new_unit, attached};
+ghost use Rattle.ckd_drive.specs.Work.{new_drive};
 ghost use Rattle.s360_channel.specs.Attaches.{RefusedAs, NotRefused};
 
 use crate::channel::Channel;
@@ -11,7 +12,7 @@ use crate::unit::Unit;
 use ckd_drive::drive::Drive;
 use ckd_image::{Image, ImageStore};
 use s360_laws::arm::Arm;
-use std::alloc::Global;
+use std::alloc::{AllocError, Global};
 
 impl<S: ImageStore> Channel<S> {
     /// Attaches a drive that holds this image, under this low byte of an address: its arm is at rest, at cylinder 0 and head
@@ -42,7 +43,7 @@ impl<S: ImageStore> Channel<S> {
         if self.units.len() == 8 {
             return Err((AttachFault::Full, image));
         }
-        match Drive::new(alloc, image) {
+        match drive_of(alloc, image) {
             Ok(drive) => {
                 self.units.push(Unit {
                     device,
@@ -53,5 +54,20 @@ impl<S: ImageStore> Channel<S> {
             }
             Err((fault, image)) => Err((AttachFault::OutOfMemory(fault), image)),
         }
+    }
+}
+
+/// A drive over an image, on the heap; the image comes back where there is no memory.
+fn drive_of<S: ImageStore>(
+    alloc: Global,
+    image: Image<S>,
+) -> Result<Box<Drive<S>>, (AllocError, Image<S>)>
+    ensures ok { IfOk result (λ d. d.value ≡ new_drive image) }
+    ensures err { IfErr result (λ e. e.1 ≡ image) }
+{
+    let drive = Drive::new(alloc, image)?;
+    match Box::new(alloc, drive) {
+        Ok(drive) => Ok(drive),
+        Err(refused) => Err((AllocError, refused.value.into_image())),
     }
 }

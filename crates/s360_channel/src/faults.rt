@@ -20,7 +20,7 @@ pub enum AttachFault {
     /// Eight drives are attached.
     #[error("eight drives are attached")]
     Full,
-    /// There is no memory for the slot and the table of its records.
+    /// There is no memory for the drive, its slot and the table of its records.
     #[error("out of memory")]
     OutOfMemory(AllocError),
 }

@@ -81,7 +81,7 @@ pub(crate) fn start<S: ImageStore>(
     ensures { SlotBecomes place (OnlyDrive (Starts caw storage.now result)) slots.old slots.new }
 {
     match &mut slots[place] {
-        Some(unit) => Running::start(caw, storage, &mut unit.drive),
+        Some(unit) => Running::start(caw, storage, &mut *unit.drive),
         None => unreachable!(),
     }
 }
@@ -97,7 +97,7 @@ pub(crate) fn advance<S: ImageStore>(
     ensures { SlotBecomes place (OnlyDrive (AdvancesAt running.old storage.old units result running.new storage.new)) slots.old slots.new }
 {
     match &mut slots[place] {
-        Some(unit) => running.advance(units, storage, &mut unit.drive),
+        Some(unit) => running.advance(units, storage, &mut *unit.drive),
         None => unreachable!(),
     }
 }
@@ -111,7 +111,7 @@ pub(crate) fn cut<S: ImageStore>(
     ensures { SlotBecomes place (OnlyDrive (CutsAt running result)) slots.old slots.new }
 {
     match &mut slots[place] {
-        Some(unit) => running.cut(&mut unit.drive),
+        Some(unit) => running.cut(&mut *unit.drive),
         None => unreachable!(),
     }
 }
@@ -217,7 +217,7 @@ fn image_of<S: ImageStore>(slot: Option<Unit<S>>) -> Option<(u8, Image<S>)>
                 arm: _,
                 drive,
             } = unit;
-            Some((device, drive.into_image()))
+            Some((device, Box::into_inner(drive).into_image()))
         }
         None => None,
     }

@@ -8,11 +8,13 @@ use s360_laws::arm::Arm;
 use std::marker::Model;
 
 /// A drive, the low byte of its address, and what its arm does between programs.
+///
+/// The drive stands on the heap, so that a channel is small, and as large with one type of store as with another.
 #[derive(Drop)]
 pub(crate) struct Unit<S: ImageStore> {
     pub(crate) device: u8,
     pub(crate) arm: Arm,
-    pub(crate) drive: Drive<S>,
+    pub(crate) drive: Box<Drive<S>>,
 }
 
 impl<S: ImageStore> Model for Unit<S> {
@@ -20,5 +22,5 @@ impl<S: ImageStore> Model for Unit<S> {
 
     ghost Value = { UnitState };
 
-    ghost view = { λ u. record { device = u.device; arm = u.arm; drive = u.drive } };
+    ghost view = { λ u. record { device = u.device; arm = u.arm; drive = u.drive.value } };
 }

@@ -1,4 +1,4 @@
-use Rattle.std.proofs.Common.{rules, tests, refl, sym, subst, map, ◌++◌, ◌∷◌, []}
+use Rattle.std.proofs.Common.{rules, tests, subst, map}
 use Rattle.std.proofs.lemmas.List.{take_more}
 use Rattle.s360_events.specs.Answered.{IsAnswered, AllAnswered}
 use Rattle.s360_events.specs.Seen.{event_seen, answer_seen}

@@ -1,4 +1,4 @@
-use Rattle.std.proofs.Common.{◌≡◌, ◌+◌, ◌≤◌, map, take, drop, length, vec_len, vec_capacity}
+use Rattle.std.proofs.Common.{◌+◌, ◌≤◌, map, take, drop, length, vec_len, vec_capacity}
 use Rattle.s360_laws.specs.Machine.{Machine}
 use Rattle.s360_events.specs.Answered.{AllAnswered}
 use Rattle.s360_events.specs.Seen.{event_seen, answer_seen}

@@ -1,5 +1,5 @@
 use Rattle.std.proofs.Common.{rules, sym, subst, ◌∙◌}
-use Rattle.s360_channel.specs.Ends.{CutsProgram, MayBeCut}
+use Rattle.s360_channel.specs.Ends.{CutsProgram}
 use Rattle.s360_channel.specs.UnitCalls.{CutsAt}
 use Rattle.s360_channel.proofs.Calling.{still_there}
 use Rattle.s360_channel.proofs.ending.cut_program.Goals as goal

@@ -1,4 +1,4 @@
-use Rattle.std.proofs.Common.{rules, ◌≡◌, ◌∙◌, refl, sym, ap}
+use Rattle.std.proofs.Common.{rules, ◌∙◌, refl, sym}
 use Rattle.s360_laws.specs.declared.arm.Arm.TheVariants.{InMotion, AtRest, Arrived}
 use Rattle.s360_channel.proofs.Arriving.{arrive_other, arrive_none, arrive_still, arrive_moves}
 use Rattle.s360_channel.proofs.Idling.{within}

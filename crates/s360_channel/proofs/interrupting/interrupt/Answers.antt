@@ -1,4 +1,4 @@
-use Rattle.std.proofs.Common.{rules, ◌≡◌, ◌∙◌, refl, sym, ap}
+use Rattle.std.proofs.Common.{rules}
 use Rattle.s360_channel.proofs.Asked.{stands_as, does_as, is_as}
 use Rattle.s360_channel.proofs.Interrupts.{interrupt_idle, interrupt_pending, interrupt_working, place_within}
 use Rattle.s360_channel.proofs.interrupting.interrupt.Goals as goal

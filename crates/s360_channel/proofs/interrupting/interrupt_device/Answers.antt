@@ -1,6 +1,6 @@
-use Rattle.std.proofs.Common.{rules, ◌≡◌, ◌∙◌, refl, sym, ap, ◌+◌, ◌*◌, Some}
+use Rattle.std.proofs.Common.{rules, ◌∙◌, sym, ap, ◌+◌, ◌*◌}
 use Rattle.s360_words.specs.Storage.{changed, csw_stored}
-use Rattle.s360_channel.proofs.Idling.{within, never_lost, interrupt_none, interrupt_arrived}
+use Rattle.s360_channel.proofs.Idling.{within, never_lost, interrupt_arrived}
 use Rattle.s360_channel.proofs.Started.{armed_images}
 use Rattle.s360_channel.proofs.interrupting.interrupt_device.Goals as goal
 

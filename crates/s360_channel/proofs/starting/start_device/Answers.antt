@@ -1,4 +1,4 @@
-use Rattle.std.proofs.Common.{◌≡◌, ◌∙◌, refl, sym, ap, Some}
+use Rattle.std.proofs.Common.{◌∙◌, ap}
 use Rattle.s360_words.specs.Storage.{changed, status_stored}
 use Rattle.s360_runs.specs.Status.{no_channel_status}
 use Rattle.s360_events.specs.declared.conditions.Condition.TheVariants.{Stored}

@@ -1,4 +1,4 @@
-use Rattle.std.proofs.Common.{rules, ◌≡◌, ◌∙◌, refl, sym, ap}
+use Rattle.std.proofs.Common.{rules, ◌∙◌, refl, sym}
 use Rattle.s360_channel.proofs.Asked.{start_other, start_busy, start_none, start_at, rests_there, stands_as, does_as, is_as}
 use Rattle.s360_channel.proofs.starting.start_io.Goals as goal
 

@@ -1,4 +1,4 @@
-use Rattle.std.proofs.Common.{rules, ◌≡◌, ◌<◌, ◌∙◌, refl, sym, ap, length}
+use Rattle.std.proofs.Common.{rules, ◌<◌, ◌∙◌, ap, length}
 use Rattle.std.specs.Prelude.{slice_get}
 use Rattle.s360_channel.proofs.Places.{is_within, get_set}
 use Rattle.s360_channel.proofs.Started.{starts_bad, starts_rejected, starts_immediate, starts_accepted, images_kept, armed_images}

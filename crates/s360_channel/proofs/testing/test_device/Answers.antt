@@ -1,4 +1,4 @@
-use Rattle.std.proofs.Common.{rules, ◌≡◌, ◌∙◌, refl, sym, ap, Some}
+use Rattle.std.proofs.Common.{rules, ◌∙◌, sym, ap}
 use Rattle.s360_words.specs.Storage.{changed, csw_stored}
 use Rattle.s360_events.specs.declared.conditions.Condition.TheVariants.{Stored}
 use Rattle.s360_channel.proofs.Idling.{within, test_none, test_in_motion, test_arrived, test_at_rest}

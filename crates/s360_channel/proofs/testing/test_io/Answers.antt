@@ -1,4 +1,4 @@
-use Rattle.std.proofs.Common.{rules, ◌≡◌, ◌∙◌, refl, sym, ap, subst}
+use Rattle.std.proofs.Common.{sym, subst}
 use Rattle.s360_laws.specs.Events.{Tio}
 use Rattle.s360_events.specs.Seen.{condition_seen, csw_seen}
 use Rattle.s360_channel.specs.Calls.{DoesQuietly}

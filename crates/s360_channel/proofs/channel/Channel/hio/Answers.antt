@@ -1,4 +1,4 @@
-use Rattle.std.proofs.Common.{subst, sym, ◌∙◌, ap, refl, ℕ, ◌/◌, ◌%◌, ◌≡◌}
+use Rattle.std.proofs.Common.{subst, sym, ℕ, ◌/◌, ◌%◌, ◌≡◌}
 use Rattle.std.specs.Prelude.{is_some, position}
 use Rattle.s360_laws.specs.Events.{Hio, Condition}
 use Rattle.s360_laws.specs.Machine.{Machine}

@@ -1,8 +1,8 @@
-use Rattle.std.proofs.Common.{◌≡◌, refl, sym, ap, subst, ◌∙◌, List, ℕ, Bor}
+use Rattle.std.proofs.Common.{◌≡◌, sym, ap, subst, ◌∙◌}
 use Rattle.s360_laws.specs.Events.{Shown, Show}
 use Rattle.s360_laws.specs.Machine.{part_of}
 use Rattle.s360_channel.specs.Calls.{DoesQuietly}
-use Rattle.s360_channel.specs.Channel.{StandsFor, ChannelState}
+use Rattle.s360_channel.specs.Channel.{ChannelState}
 use Rattle.s360_channel.proofs.Kept.{shows_part}
 use Rattle.s360_channel.proofs.channel.Channel.peek.Goals as goal
 

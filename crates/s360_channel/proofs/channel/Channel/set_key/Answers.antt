@@ -1,6 +1,6 @@
-use Rattle.std.proofs.Common.{◌≡◌, refl, sym, ap, subst, ◌∙◌, is_ok, Bool}
-use Rattle.s360_words.specs.Storage.{Bytes, KeyOf}
-use Rattle.s360_laws.specs.Events.{Store, SetKey}
+use Rattle.std.proofs.Common.{◌≡◌, refl, sym, ap, subst, ◌∙◌, is_ok}
+use Rattle.s360_words.specs.Storage.{KeyOf}
+use Rattle.s360_laws.specs.Events.{SetKey}
 use Rattle.s360_channel.specs.Channel.{StandsFor}
 use Rattle.s360_channel.proofs.Kept.{does_kept, channel_kept}
 use Rattle.s360_channel.proofs.channel.Channel.set_key.Goals as goal

@@ -1,6 +1,6 @@
-use Rattle.std.proofs.Common.{◌≡◌, ◌∙◌, refl, sym, ap, map}
-use Rattle.s360_laws.specs.Events.{Sio, Tio, Arrive, Interrupt, HasArrived, Interrupted}
-use Rattle.s360_events.specs.Seen.{condition_seen, status_seen, csw_seen}
+use Rattle.std.proofs.Common.{◌∙◌, ap, map}
+use Rattle.s360_laws.specs.Events.{Sio}
+use Rattle.s360_events.specs.Seen.{condition_seen, status_seen}
 use Rattle.s360_channel.specs.Channel.{ChannelState, UnitState}
 use Rattle.s360_channel.specs.Nexts.{of_parts}
 use Rattle.s360_channel.proofs.Asked.{stays, does_whole}

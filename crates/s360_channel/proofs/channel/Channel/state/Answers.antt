@@ -1,8 +1,5 @@
-use Rattle.std.proofs.Common.{◌≡◌, sym, ap, subst, ◌∙◌}
-use Rattle.s360_laws.specs.Machine.{Machine}
-use Rattle.s360_channel.specs.Channel.{StandsFor, ChannelState, device_of}
-use Rattle.s360_channel.specs.Views.{view_of, drives_seen, subchannel_seen}
-use Rattle.s360_channel.specs.declared.view.View.{View}
+use Rattle.std.proofs.Common.{sym, subst}
+use Rattle.s360_channel.specs.Channel.{StandsFor}
 use Rattle.s360_channel.proofs.Parts.{last_fits}
 use Rattle.s360_channel.proofs.Shown.{view_from}
 use Rattle.s360_channel.proofs.channel.Channel.state.Goals as goal

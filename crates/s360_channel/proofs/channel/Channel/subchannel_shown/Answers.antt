@@ -1,8 +1,7 @@
-use Rattle.std.proofs.Common.{◌≡◌, sym, ap, subst, ◌∙◌}
-use Rattle.s360_laws.specs.Machine.{Machine}
-use Rattle.s360_channel.specs.Channel.{StandsFor, ChannelState}
+use Rattle.std.proofs.Common.{sym, subst}
+use Rattle.s360_channel.specs.Channel.{StandsFor}
 use Rattle.s360_channel.proofs.Parts.{last_fits}
-use Rattle.s360_channel.proofs.Shown.{idle_shown, pending_shown, working_shown, place_there}
+use Rattle.s360_channel.proofs.Shown.{working_shown, place_there}
 use Rattle.s360_channel.proofs.channel.Channel.subchannel_shown.Goals as goal
 
 -- src/processor.rt
