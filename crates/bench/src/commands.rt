@@ -39,6 +39,8 @@ pub(crate) fn give_up(drive: &mut Drive<MemoryStore>)
 }
 
 /// Has the drive give the next bytes, and answers how many.
+// By itself, since the copy would be left out where nobody reads the bytes that were given.
+#[inline(never)]
 pub(crate) fn give(drive: &mut Drive<MemoryStore>, into: &mut [u8]) -> usize
     requires { may_end drive.old.work ≡ true }
     ensures may_end { may_end drive.new.work ≡ true }

@@ -17,8 +17,8 @@ use Rattle.s360_runs.specs.Units.{Next, standing_in}
 use Rattle.s360_runs.specs.Unsaved.{has_written}
 use Rattle.s360_program.specs.Stands.{StageFits, phase_by}
 use Rattle.s360_program.specs.Steps.{EndsBy, has_passed}
-use Rattle.s360_program.specs.declared.stages.Stage.{Stage}
-use Rattle.s360_program.specs.declared.stages.Stage.TheVariants as stage
+use Rattle.s360_program.specs.Stage.{Stage}
+use Rattle.s360_program.specs.Stage as stage
 use Rattle.s360_program.proofs.Meeting.{met_none, untouched as image_untouched, loads_none}
 
 never : {P : Type 0} → ◌≡◌ {A = Bool} false true → P

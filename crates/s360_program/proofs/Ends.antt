@@ -23,7 +23,8 @@ use Rattle.s360_program.specs.Stands.{StageFits, StageWithin, PlaceWithin, phase
 use Rattle.s360_program.specs.Steps.{EndsBy, GoesBy, closed_with, request_at, status_of, condition_for, chains_after}
 use Rattle.s360_program.specs.declared.conditions.Condition.{Condition}
 use Rattle.s360_program.specs.declared.stages.Run.{Run}
-use Rattle.s360_program.specs.declared.stages.Stage.TheVariants as stage
+use Rattle.s360_program.specs.Stage.{stage_of}
+use Rattle.s360_program.specs.Stage as stage
 use Rattle.s360_program.proofs.Meeting.{ends_after, met_none}
 
 -- a drive in which no track is told as not saved, before any call
@@ -100,7 +101,7 @@ good_end ccw k d0 d1 e reports chains = go reports.failed
 pub chains_on : (r q : Run) (s : Storage) (ccw : Ccw) (incorrect : Bool) (k : Condition) (d0 d1 : DriveState) (e : DriveEnding) → unsaved d0.state ≡ None
     → d1 ≡ with_image (after_end (fault_met d0 d1) d0) d1.image → e ≡ ending_of (closed_of (fault_met d0 d1) d0 d0.work)
     → Reports (e ≡ failed_ending) d0 d1 → k ≡ condition_for incorrect e.unit → chains_after ccw e.unit k ≡ true
-    → r.key < 16 → q.key ≡ r.key → q.stage ≡ stage.Between → place_of q.place ≡ modified_place (place_of r.place) e.unit → PlaceWithin (place_of q.place)
+    → r.key < 16 → q.key ≡ r.key → stage_of q ≡ stage.Between → place_of q.place ≡ modified_place (place_of r.place) e.unit → PlaceWithin (place_of q.place)
     → GoesBy r.key (next_chosen (choice None r.key (request_at s ccw r) (closed_of None d0 d0.work) (status_of (condition_for incorrect (closed_of None d0 d0.work).unit)))) q s d0 d1
 chains_on r q s ccw incorrect k d0 d1 e saved state ended reports same chains small key between place within = record {
   failures = good;

@@ -19,12 +19,10 @@ use Rattle.s360_runs.specs.Transfers.{Request}
 use Rattle.s360_runs.specs.Units.{Between, GoesOn, next_chosen, next_begun}
 use Rattle.s360_runs.specs.Unsaved.{GainsNoCheck}
 use Rattle.s360_program.specs.Places.{place_of}
-use Rattle.s360_program.specs.Stands.{StageFits, phase_in}
+use Rattle.s360_program.specs.Stands.{RunningState, StageFits, Stands, Within, phase_in}
 use Rattle.s360_program.specs.Starting.{ImmediateDone, FirstBegun, StartsQuietly, request_for}
-use Rattle.s360_program.specs.Steps.{run_of, Fits}
 use Rattle.s360_program.specs.declared.places.Place.{Place}
-use Rattle.s360_program.specs.declared.stages.Run.{Run}
-use Rattle.s360_program.specs.declared.stages.Stage.TheVariants as stage
+use Rattle.s360_program.specs.Stage as stage
 use Rattle.s360_program.specs.declared.starting.First.{First}
 use Rattle.s360_program.specs.declared.starting.First.TheVariants as first
 use Rattle.s360_program.proofs.Begins.{immediate_is}
@@ -72,13 +70,13 @@ module _ (key : ℕ) (s : Storage) (ccw : Ccw) (p : Place) (d0 d1 d2 : DriveStat
   }
   begun_by (first.Accepted r) h k n l = (
     ap (first_begun key asked_for) none ∙ ap (λ b. if b then AcceptedStart else ImmediateStart (end_of over.0)) h.0,
-    ap (λ (r : Run). r.key) h.2,
-    subst (λ r. Fits r d2) (sym h.2) (record {
-      within = record { key = k; place = record { next = omega arith; last = omega arith }; stage = tt };
-      stands = record { fits = subst (StageFits stage.Between d2.state) (sym h.4) tt; saved = ap unsaved h.3 ∙ calm.saved };
-    }),
+    ap (λ (r : RunningState). r.key) h.2,
+    record {
+      within = subst Within (sym h.2) (record { key = k; place = record { next = omega arith; last = omega arith }; stage = tt });
+      stands = subst (λ r. Stands r d2) (sym h.2) (record { fits = subst (StageFits stage.Between d2.state) (sym h.4) tt; saved = ap unsaved h.3 ∙ calm.saved });
+    },
     ap (next_begun None key asked_for) none ∙ chosen over.0 h.0 ∙ ap (λ st. GoesOn (Between (record { storage = s; place = place_of p; state = st }))) (sym h.3)
-        ∙ sym (ap (λ r. GoesOn (phase_in (run_of r) s d2)) h.2),
+        ∙ sym (ap (λ r. GoesOn (phase_in r s d2)) h.2),
   )
 
   pub first_immediate : (a : First) → ((motion : Bool) → d1.work ≡ Over (immediate_ending motion) → ImmediateDone key ccw p motion a d1 d2) → key < 16 → p.next ≤ 2 ^ 24 → p.last ≤ 2 ^ 24 → FirstBegun key s ccw p a d0 d2

@@ -1,7 +1,6 @@
 -- What a look for the area of a command comes to.
 use Rattle.std.proofs.Common.{◌≡◌, ℕ, zero, suc, ◌+◌, ◌<◌, ◌≤◌, refl, sym, ap, subst, ◌∙◌, arith, false, Bool, [], Option, None}
 use Rattle.s360_words.specs.Storage.{Storage}
-use Rattle.s360_words.specs.declared.words.Ccw.{Ccw}
 use Rattle.s360_words.specs.declared.words.Csw.{Csw}
 use Rattle.ckd_command.specs.declared.steps.Opened.{Opened}
 use Rattle.ckd_command.specs.Drive.{Open, Fault, AfterLook, Ready, Passed, Failed, look, length_of, drive_of, is_written, tells_equipment_check}
@@ -21,7 +20,9 @@ use Rattle.s360_program.specs.Stands.{StageFits, StageWithin, phase_by, phase_in
 use Rattle.s360_program.specs.Steps.{run_of, Fits, EndsBy, Steps, WalksBy, told_of}
 use Rattle.s360_program.specs.declared.conditions.Condition.TheVariants as condition
 use Rattle.s360_program.specs.declared.stages.Run.{Run}
-use Rattle.s360_program.specs.declared.stages.Stage.TheVariants as stage
+use Rattle.s360_program.specs.Stage.{stage_by, stage_of}
+use Rattle.s360_program.specs.Stage as stage
+use Rattle.s360_program.specs.declared.stages.Comes.TheVariants as comes
 use Rattle.s360_program.specs.declared.stages.Step.{Step}
 use Rattle.s360_program.specs.declared.stages.Step.TheVariants as step
 use Rattle.s360_program.proofs.Begins.{unfailed}
@@ -71,31 +72,34 @@ ready_is left (Passed q) d0 d1 a e = absurd (never (a ∙ ap (λ (d : DriveState
     never h = cc
 
 -- the drive looks for the area of a command
-pub looking_is : (ccw : Ccw) (r : Run) (d : DriveState) → Fits r d → r.stage ≡ stage.Looking ccw → (o : Opened) × (d.work ≡ Looking o)
-looking_is ccw r d fits at = go d.work (subst (λ g. StageFits g d.state d.work) at fits.stands.fits)
+pub looking_is : (r : Run) (d : DriveState) → Fits r d → r.comes ≡ comes.Look → (o : Opened) × (d.work ≡ Looking o)
+looking_is r d fits at = go d.work (subst (λ c. StageFits (stage_by c r.ccw r.address) d.state d.work) at fits.stands.fits)
   where
-    go : (w : Work) → StageFits (stage.Looking ccw) d.state w → (o : Opened) × (w ≡ Looking o)
+    go : (w : Work) → StageFits (stage.Looking r.ccw) d.state w → (o : Opened) × (w ≡ Looking o)
     go (Looking o) f = (o, refl)
     go Idle f = absurd f
     go (Over x) f = absurd f
     go (Passing o b l) f = absurd f
 
-module _ (ccw : Ccw) (r : Run) (s : Storage) (d0 d1 : DriveState) (fits : Fits r d0) (at : r.stage ≡ stage.Looking ccw)
+module _ (r : Run) (s : Storage) (d0 d1 : DriveState) (fits : Fits r d0) (comes_look : r.comes ≡ comes.Look)
     (state : d1 ≡ with_image (after_look (fault_met d0 d1) d0) d1.image) where
+  at : stage_of r ≡ stage.Looking r.ccw
+  at = ap (λ c. stage_by c r.ccw r.address) comes_look
+
   abbrev work : (o : Opened) × (d0.work ≡ Looking o)
-  work = looking_is ccw r d0 fits at
+  work = looking_is r d0 fits comes_look
 
   abbrev O : Open
-  O = record { opened = (looking_is ccw r d0 fits at).0; state = d0.state }
+  O = record { opened = (looking_is r d0 fits comes_look).0; state = d0.state }
 
   abbrev Q : Request
-  Q = record { storage = s; ccw = ccw; place = place_of r.place }
+  Q = record { storage = s; ccw = r.ccw; place = place_of r.place }
 
   sighted : d1 ≡ with_image (after_sight (look (fault_met d0 d1) O) d0) d1.image
   sighted = state ∙ ap (λ w. with_image (after_look_of (fault_met d0 d1) d0 w) d1.image) work.1
 
   looks : phase_in (run_of r) s d0 ≡ phase.Looking O Q
-  looks = ap (λ g. phase_by g (place_of r.place) s d0.state d0.work) at ∙ ap (λ w. phase_by (stage.Looking ccw) (place_of r.place) s d0.state w) work.1
+  looks = ap (λ g. phase_by g (place_of r.place) s d0.state d0.work) at ∙ ap (λ w. phase_by (stage.Looking r.ccw) (place_of r.place) s d0.state w) work.1
 
   calm_look : LookCalm (tells_equipment_check (drive_of d0.state).sense ≡ false) (look None O)
   calm_look = look_calm _ O (calm_before d0 fits.stands.saved)
@@ -122,9 +126,9 @@ module _ (ccw : Ccw) (r : Run) (s : Storage) (d0 d1 : DriveState) (fits : Fits r
     few = omega arith;
     failures = same;
     goes = ap (λ g. on_next [] (unit None r.key g) (walk [] r.key)) looks ∙ ap (λ l. on_next [] (next_looked None r.key Q l) (walk [] r.key)) none
-        ∙ sym (ap StandsIn (ap (λ g. phase_by g (place_of r.place) s d1.state d1.work) at ∙ ap (λ w. phase_by (stage.Looking ccw) (place_of r.place) s d1.state w) q.2));
+        ∙ sym (ap StandsIn (ap (λ g. phase_by g (place_of r.place) s d1.state d1.work) at ∙ ap (λ w. phase_by (stage.Looking r.ccw) (place_of r.place) s d1.state w) q.2));
     same_key = refl;
-    fits = record { within = fits.within; stands = record { fits = subst (λ g. StageFits g d1.state d1.work) (sym at) (subst (StageFits (stage.Looking ccw) d1.state) (sym q.2) tt); saved = calm.saved } };
+    fits = record { within = fits.within; stands = record { fits = subst (λ g. StageFits g d1.state d1.work) (sym at) (subst (StageFits (stage.Looking r.ccw) d1.state) (sym q.2) tt); saved = calm.saved } };
     no_check = calm.quiet;
   }
     where
@@ -161,10 +165,10 @@ module _ (ccw : Ccw) (r : Run) (s : Storage) (d0 d1 : DriveState) (fits : Fits r
     ready_calm : Calm (tells_equipment_check (drive_of d0.state).sense ≡ false) d1.state
     ready_calm = subst (LookCalm (tells_equipment_check (drive_of d0.state).sense ≡ false)) ready_none calm_look
 
-    pub look_fits : Fits (record r { stage = stage.Moving ccw ccw.address }) d1
+    pub look_fits : Fits (record r { comes = comes.Bytes; address = r.ccw.address }) d1
     look_fits = record {
       within = record { key = fits.within.key; place = fits.within.place; stage = subst (λ g. StageWithin g (place_of r.place)) at fits.within.stage };
-      stands = record { fits = subst (StageFits (stage.Moving ccw ccw.address) d1.state) (sym ready.2) (all (length_of (record { opened = ready.0; state = d1.state }) []), λ g. just (length_of (record { opened = ready.0; state = d1.state }) [])); saved = ready_calm.saved };
+      stands = record { fits = subst (StageFits (stage.Moving r.ccw r.ccw.address) d1.state) (sym ready.2) (all (length_of (record { opened = ready.0; state = d1.state }) []), λ g. just (length_of (record { opened = ready.0; state = d1.state }) [])); saved = ready_calm.saved };
     }
       where
         all : (n : ℕ) → 0 + n ≤ n
@@ -174,12 +178,12 @@ module _ (ccw : Ccw) (r : Run) (s : Storage) (d0 d1 : DriveState) (fits : Fits r
         just n = omega arith
 
     moves : (f : Option Fault) → look f O ≡ Ready (record { opened = ready.0; state = d1.state })
-        → unit f r.key (phase_in (run_of r) s d0) ≡ unit f r.key (phase_by (stage.Moving ccw ccw.address) (place_of r.place) s d1.state d1.work)
+        → unit f r.key (phase_in (run_of r) s d0) ≡ unit f r.key (phase_by (stage.Moving r.ccw r.ccw.address) (place_of r.place) s d1.state d1.work)
     moves f h =
-        ap (unit f r.key) looks ∙ ap (next_looked f r.key Q) h ∙ ap (λ w. unit f r.key (phase_by (stage.Moving ccw ccw.address) (place_of r.place) s d1.state w)) (sym ready.2)
+        ap (unit f r.key) looks ∙ ap (next_looked f r.key Q) h ∙ ap (λ w. unit f r.key (phase_by (stage.Moving r.ccw r.ccw.address) (place_of r.place) s d1.state w)) (sym ready.2)
 
     pub look_finds : (most : ℕ) (r2 : Run) (s2 : Storage) (a : Step) (d2 : DriveState) → d2.image.loads ≡ d1.image.loads
-        → Steps r.key (phase_by (stage.Moving ccw ccw.address) (place_of r.place) s d1.state d1.work) most a r2 s2 d1 d2
+        → Steps r.key (phase_by (stage.Moving r.ccw r.ccw.address) (place_of r.place) s d1.state d1.work) most a r2 s2 d1 d2
         → Steps r.key (phase_in (run_of r) s d0) most a r2 s2 d0 d2
     look_finds most r2 s2 (step.Units n) d2 loads w = record {
       some = w.some;
@@ -191,10 +195,10 @@ module _ (ccw : Ccw) (r : Run) (s : Storage) (d0 d1 : DriveState) (fits : Fits r
       no_check = λ q. w.no_check (ready_calm.quiet q);
     }
       where
-        walks : (n : ℕ) → 0 < n → walk (units n) r.key (phase_in (run_of r) s d0) ≡ walk (units n) r.key (phase_by (stage.Moving ccw ccw.address) (place_of r.place) s d1.state d1.work)
+        walks : (n : ℕ) → 0 < n → walk (units n) r.key (phase_in (run_of r) s d0) ≡ walk (units n) r.key (phase_by (stage.Moving r.ccw r.ccw.address) (place_of r.place) s d1.state d1.work)
         walks zero h = absurd (omega arith)
         walks (suc n) h = ap (λ x. on_next (units n) x (walk (units n) r.key)) (moves None ready_none)
-    look_finds most r2 s2 (step.Over ended) d2 loads is =
+    look_finds most r2 s2 step.Over d2 loads is =
         more_after (λ f. look f O ≡ Ready (record { opened = ready.0; state = d1.state })) (λ f. unit f r.key (phase_in (run_of r) s d0))
-        (λ f. unit f r.key (phase_by (stage.Moving ccw ccw.address) (place_of r.place) s d1.state d1.work)) s2 (told_of r2 ended) d0 d1 d2
+        (λ f. unit f r.key (phase_by (stage.Moving r.ccw r.ccw.address) (place_of r.place) s d1.state d1.work)) s2 (told_of r2) d0 d1 d2
         moves ready_none (λ left rose. look_stable left O (Ready (record { opened = ready.0; state = d1.state })) ready_none tt) ready_same loads ready_calm.quiet is

@@ -2,7 +2,6 @@
 use Rattle.std.proofs.Common.{◌≡◌, ◌⊎◌, inl, inr, ℕ, ◌<◌, arith, refl, sym, ap, ◌∙◌, subst, true, false, Bool, ◌&&◌, ◌||◌, ◌+◌, [], List, Option, None}
 use Rattle.ckd_image.specs.Image.{ImageState}
 use Rattle.s360_words.specs.Storage.{Storage}
-use Rattle.s360_words.specs.declared.words.Ccw.{Ccw}
 use Rattle.ckd_command.specs.Commands.{beginning, sight}
 use Rattle.ckd_command.specs.Drive.{Fault, State, Open, state_of, AfterBegin, Rejected, Immediate, Started, begin, AfterLook, Ready, Passed, Failed, look, close, is_written, is_write_command, track_under, unsaved}
 use Rattle.ckd_command.specs.Tables.{aim}
@@ -21,8 +20,9 @@ use Rattle.s360_program.specs.Stands.{RunningState, Stands, StageFits, phase_by,
 use Rattle.s360_program.specs.Steps.{Fits, Flows, FlowsBy, IsQuiet, with_left}
 use Rattle.s360_program.specs.declared.moving.Flow.{Flow}
 use Rattle.s360_program.specs.declared.stages.Run.{Run}
-use Rattle.s360_program.specs.declared.stages.Stage.{Stage}
-use Rattle.s360_program.specs.declared.stages.Stage.TheVariants as stage
+use Rattle.s360_program.specs.Stage.{Stage}
+use Rattle.s360_program.specs.Stage as stage
+use Rattle.s360_program.specs.declared.stages.Comes.TheVariants as comes
 use Rattle.s360_program.proofs.Looking.{looking_is}
 use Rattle.s360_program.proofs.Meeting.{untouched}
 
@@ -152,9 +152,9 @@ looks_no_more left (Looking o) h = absurd (other h)
     other h = cc
 looks_no_more left (Passing o b l) h = refl
 
-pub finds_quiet : (ccw : Ccw) (r : Run) (left : ℕ) (d0 d1 d2 : DriveState) → Fits r d0 → r.stage ≡ stage.Looking ccw → d1 ≡ with_image (after_look (fault_met d0 d1) d0) d1.image
+pub finds_quiet : (r : Run) (left : ℕ) (d0 d1 d2 : DriveState) → Fits r d0 → r.comes ≡ comes.Look → d1 ≡ with_image (after_look (fault_met d0 d1) d0) d1.image
     → seen.Ready left ≡ answer_of_look d1.work → CallsStore (look_loads d0) (look_saves d0) d0 d1 → (IsQuiet d1 → d2.image ≡ d1.image) → IsQuiet d0 → d2.image ≡ d0.image
-finds_quiet ccw r left d0 d1 d2 fits at is answer calls later q =
-    let o = looking_is ccw r d0 fits at in
+finds_quiet r left d0 d1 d2 fits at is answer calls later q =
+    let o = looking_is r d0 fits at in
     let w = looked_quiet (fault_met d0 d1) o.0 d0 d1 fits.stands.saved o.1 q.unwritten is in
     later (record { unwritten = w.0; closes = w.1; looks = looks_no_more left d1.work answer }) ∙ look_untouched d0 d1 (saves_not d0 d0.work q.unwritten) q.looks calls

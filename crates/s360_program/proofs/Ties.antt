@@ -11,8 +11,8 @@ use Rattle.s360_runs.specs.Units.{StandsAt, phase_past, walk, on_next, Between}
 use Rattle.s360_program.specs.Laws.{AcceptedStands, StandsAfterUnits, EndsAfterUnits, SeenOfRun, StandsAfterChange, StandsAfterInterruption}
 use Rattle.s360_program.specs.Stands.{phase_in, phase_by}
 use Rattle.ckd_drive.specs.Work.{Work, Idle, Over, Looking, Passing}
-use Rattle.s360_program.specs.declared.stages.Stage.{Stage}
-use Rattle.s360_program.specs.declared.stages.Stage.TheVariants as stage
+use Rattle.s360_program.specs.Stage.{Stage}
+use Rattle.s360_program.specs.Stage as stage
 
 pub accepted : law.StandsAtStart → law.StandsAfterWalk → AcceptedStands
 accepted at after s r d a = record {

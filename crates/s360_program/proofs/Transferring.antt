@@ -25,7 +25,9 @@ use Rattle.s360_program.specs.declared.conditions.Condition.{Condition}
 use Rattle.s360_program.specs.declared.conditions.Condition.TheVariants as condition
 use Rattle.s360_program.specs.declared.moving.Flow.{Flow}
 use Rattle.s360_program.specs.declared.stages.Run.{Run}
-use Rattle.s360_program.specs.declared.stages.Stage.TheVariants as stage
+use Rattle.s360_program.specs.Stage.{stage_by, stage_of}
+use Rattle.s360_program.specs.Stage as stage
+use Rattle.s360_program.specs.declared.stages.Comes.TheVariants as comes
 use Rattle.s360_program.specs.declared.stages.Step.{Step}
 use Rattle.s360_program.specs.declared.stages.Step.TheVariants as step
 use Rattle.s360_program.proofs.Meeting.{comes_after}
@@ -45,7 +47,7 @@ unit_steps key phase most r s (step.Units n) d0 d1 h c =
       fits = w.fits;
       no_check = w.no_check;
     }
-unit_steps key phase most r s (step.Over ended) d0 d1 h c = c
+unit_steps key phase most r s step.Over d0 d1 h c = c
 
 -- the same from a drive that has only looked again
 pub unit_comes : (next later : Option Fault → Next) (key : ℕ) (s : Storage) (r : Run) (a : Step) (d0 d1 d2 : DriveState) → ((f : Option Fault) → next f ≡ later f) → d1.image ≡ d0.image → d1.state ≡ d0.state
@@ -215,27 +217,33 @@ module _ (key : ℕ) (ccw : Ccw) (a most m : ℕ) (p : Place) (s s2 : Storage) (
           ∙ ap (λ x. StandsIn (phase_by (stage.Moving ccw (a + m)) (record p { residual = p.residual - m }) x d0.state (moved_on (next_bytes m O t) (Passing o b flow.left)))) (sym k.storage)
           ∙ ap (λ (d : DriveState). StandsIn (phase_by (stage.Moving ccw (a + m)) (record p { residual = p.residual - m }) s2 d.state d.work)) (sym k.drive)
 
-pub passes_on : (r : Run) (ccw : Ccw) (a most few m n : ℕ) (s s2 : Storage) (d0 d1 d2 : DriveState) (flow : Flow) → Fits r d0 → r.stage ≡ stage.Moving ccw a → Flows flow d0 d1
-    → few ≤ most → few ≤ r.place.residual → few ≤ flow.left → Passes r.key ccw a few s d1 (Ok m) s2 d2 → n ≡ m
-    → WalksBy r.key (phase_in (run_of r) s d0) most m (record r { place = record r.place { residual = r.place.residual - m }; stage = stage.Moving ccw (a + n) }) s2 d0 d2
-passes_on r ccw a most few m n s s2 d0 d1 d2 flow fits at flows fm fr fl h e = subst (λ n. WalksBy r.key (phase_in (run_of r) s d0) most m (record r { place = record r.place { residual = r.place.residual - m }; stage = stage.Moving ccw (a + n) }) s2 d0 d2) (sym e) (record {
-  some = x.4;
-  few = omega (arith, x.5, fm);
-  failures = ap (λ (i : ImageState). i.failures) x.2;
-  goes = ap (λ g. walk (units m) r.key (phase_by g (place_of r.place) s d0.state d0.work)) at ∙ x.0;
-  same_key = refl;
-  fits = record {
-    within = record { key = fits.within.key; place = record { next = fits.within.place.next; last = fits.within.place.last }; stage = (narrow.0, smaller a r.place.residual m (omega (arith, x.5, fr)) narrow.1) };
-    stands = record { fits = x.1; saved = ap unsaved x.3 ∙ fits.stands.saved };
-  };
-  no_check = λ q. ap (λ (s : State). tells_equipment_check (drive_of s).sense) x.3 ∙ q;
-})
+pub passes_on : (r : Run) (most few m n : ℕ) (s s2 : Storage) (d0 d1 d2 : DriveState) (flow : Flow) → Fits r d0 → r.comes ≡ comes.Bytes → Flows flow d0 d1
+    → few ≤ most → few ≤ r.place.residual → few ≤ flow.left → Passes r.key r.ccw r.address few s d1 (Ok m) s2 d2 → n ≡ m
+    → WalksBy r.key (phase_in (run_of r) s d0) most m (record r { place = record r.place { residual = r.place.residual - m }; address = r.address + n }) s2 d0 d2
+passes_on r most few m n s s2 d0 d1 d2 flow fits at flows fm fr fl h e =
+    subst (λ n. WalksBy r.key (phase_in (run_of r) s d0) most m (record r { place = record r.place { residual = r.place.residual - m }; address = r.address + n }) s2 d0 d2) (sym e)
+    (subst (λ c. WalksBy r.key (phase_in (run_of r) s d0) most m (record r { place = record r.place { residual = r.place.residual - m }; comes = c; address = r.address + m }) s2 d0 d2) (sym at) (record {
+      some = x.4;
+      few = omega (arith, x.5, fm);
+      failures = ap (λ (i : ImageState). i.failures) x.2;
+      goes = ap (λ c. walk (units m) r.key (phase_by (stage_by c r.ccw r.address) (place_of r.place) s d0.state d0.work)) at ∙ x.0;
+      same_key = refl;
+      fits = record {
+        within = record { key = fits.within.key; place = record { next = fits.within.place.next; last = fits.within.place.last }; stage = (narrow.0, smaller r.address r.place.residual m (omega (arith, x.5, fr)) narrow.1) };
+        stands = record { fits = x.1; saved = ap unsaved x.3 ∙ fits.stands.saved };
+      };
+      no_check = λ q. ap (λ (s : State). tells_equipment_check (drive_of s).sense) x.3 ∙ q;
+    }))
   where
-    x : IsPassed r.key ccw a few m (place_of r.place) s s2 d0 d2 flow d0.work
-    x = passed_by r.key ccw a few m (place_of r.place) s s2 d0 d2 flow d0.work flows.told fl fr (subst (λ (d : DriveState). PassesBy r.key ccw a few (Ok m) s s2 d d2 d.work) flows.drive h)
+    x : IsPassed r.key r.ccw r.address few m (place_of r.place) s s2 d0 d2 flow d0.work
+    x = passed_by r.key r.ccw r.address few m (place_of r.place) s s2 d0 d2 flow d0.work flows.told fl fr (subst (λ (d : DriveState). PassesBy r.key r.ccw r.address few (Ok m) s s2 d d2 d.work) flows.drive h)
 
-    narrow : StageWithin (stage.Moving ccw a) (place_of r.place)
-    narrow = subst (λ g. StageWithin g (place_of r.place)) at fits.within.stage
+    narrow : StageWithin (stage.Moving r.ccw r.address) (place_of r.place)
+    narrow = subst (λ c. StageWithin (stage_by c r.ccw r.address) (place_of r.place)) at fits.within.stage
 
     smaller : (a r m : ℕ) → m ≤ r → a + r < 2 ^ 25 → (a + m) + (r - m) < 2 ^ 25
     smaller a r m le h = omega arith
+
+-- where bytes come next they come under the last word
+pub bytes_come : (r : Run) → r.comes ≡ comes.Bytes → stage_of r ≡ stage.Moving r.ccw r.address
+bytes_come r at = ap (λ c. stage_by c r.ccw r.address) at

@@ -1,4 +1,5 @@
 pub mod Places
+pub mod Stage
 pub mod Stands
 pub mod Advances
 pub mod Starting

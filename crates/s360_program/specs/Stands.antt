@@ -6,8 +6,8 @@ use Rattle.ckd_drive.specs.Work.{DriveState, Work, Idle, Looking, Passing}
 use Rattle.s360_runs.specs.Places.{Place}
 use Rattle.s360_runs.specs.Units.{ProgramPhase, Between}
 use Rattle.s360_runs.specs.Units as phase
-use Rattle.s360_program.specs.declared.stages.Stage.{Stage}
-use Rattle.s360_program.specs.declared.stages.Stage.TheVariants as stage
+use Rattle.s360_program.specs.Stage.{Stage}
+use Rattle.s360_program.specs.Stage as stage
 
 -- What a running program keeps: the protection key of its stores, the channel's place in it, and what comes next. The
 -- bytes of storage, and those that have passed in the open command, are kept by storage and by the drive alone.

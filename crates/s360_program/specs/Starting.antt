@@ -19,7 +19,7 @@ use Rattle.s360_program.specs.Stands.{RunningState, Stands, phase_in}
 use Rattle.s360_program.specs.Places.{place_of}
 use Rattle.s360_program.specs.Steps.{run_of, Fits}
 use Rattle.s360_program.specs.declared.places.Place.{Place as KeptPlace}
-use Rattle.s360_program.specs.declared.stages.Stage.TheVariants as stage
+use Rattle.s360_program.specs.Stage as stage
 use Rattle.s360_program.specs.declared.starting.First.{First as FirstAnswer}
 use Rattle.s360_program.specs.declared.starting.First.TheVariants as begun
 use Rattle.s360_program.specs.declared.program.Start.{Start as Answer}
@@ -75,7 +75,7 @@ ImmediateDone key ccw p motion (begun.Immediate told asked) old new =
     (chains_command ccw ≡ false) × (new.image ≡ old.image) × (asked ≡ p.interruption) × (told.motion ≡ motion) × (told.unit ≡ (immediate old.state motion).unit)
     × Leaves (ending None key (place_of p) (immediate old.state motion) no_channel_status) new
 ImmediateDone key ccw p motion (begun.Accepted r) old new =
-    (chains_command ccw ≡ true) × (new.image ≡ old.image) × (r ≡ record { key = key; place = p; stage = stage.Between }) × (new.state ≡ old.state) × (new.work ≡ Idle)
+    (chains_command ccw ≡ true) × (new.image ≡ old.image) × (run_of r ≡ record { key = key; place = place_of p; stage = stage.Between }) × (new.state ≡ old.state) × (new.work ≡ Idle)
 ImmediateDone key ccw p motion begun.Rejected old new = ⊥
 
 pub record BegunImmediate (key : ℕ) (r : Request) (b : AfterBegin) (told : DriveEnding) (asked : Bool) (new : DriveState) : Type 0 where

@@ -28,17 +28,16 @@ use Rattle.s360_program.specs.declared.conditions.Condition.{Condition}
 use Rattle.s360_program.specs.declared.conditions.Condition.TheVariants as condition
 use Rattle.s360_program.specs.declared.moving.Flow.{Flow}
 use Rattle.s360_program.specs.declared.program.Advance.{Advance}
-use Rattle.s360_program.specs.declared.stages.Ended.{Ended}
 use Rattle.s360_program.specs.declared.stages.Run.{Run}
-use Rattle.s360_program.specs.declared.stages.Stage.{Stage}
-use Rattle.s360_program.specs.declared.stages.Stage.TheVariants as stage
+use Rattle.s360_program.specs.Stage.{Stage, stage_of}
+use Rattle.s360_program.specs.Stage as stage
 use Rattle.s360_program.specs.declared.stages.Step.{Step}
 use Rattle.s360_program.specs.declared.stages.Step.TheVariants as step
 
 -- The running program.
 
 abbrev pub run_of : Run → RunningState
-run_of r = record { key = r.key; place = place_of r.place; stage = r.stage }
+run_of r = record { key = r.key; place = place_of r.place; stage = stage_of r }
 
 pub record Fits (r : Run) (d : DriveState) : Type 0 where
   pub within : Within (run_of r)
@@ -101,12 +100,12 @@ pub record EndsBy (next : Option Fault → Next) (told : Csw × Bool) (s : Stora
   pub told_of : ToldOf fault told.0 old new
 
 -- what is told of a program that ended: its key, and where the channel is in it, are the run's
-abbrev pub told_of : Run → Ended → Csw × Bool
-told_of r e = (record (csw_at r.key (place_of r.place) e.unit e.channel) { count = e.count }, e.motion)
+abbrev pub told_of : Run → Csw × Bool
+told_of r = (csw_at r.key (place_of r.place) r.ended.unit r.ended.channel, r.ended.motion)
 
 abbrev pub ComesBy : (key : ℕ) → (Option Fault → Next) → Step → Run → Storage → (old new : DriveState) → Type 0
 ComesBy key next (step.Units n) r s old new = (n ≡ 1) × GoesBy key (next None) r s old new
-ComesBy key next (step.Over e) r s old new = EndsBy next (told_of r e) s old new
+ComesBy key next step.Over r s old new = EndsBy next (told_of r) s old new
 
 -- so many units, and no more than were asked for
 pub record WalksBy (key : ℕ) (phase : ProgramPhase) (most n : ℕ) (r : Run) (s : Storage) (old new : DriveState) : Type 0 where
@@ -121,7 +120,7 @@ pub record WalksBy (key : ℕ) (phase : ProgramPhase) (most n : ℕ) (r : Run) (
 -- units, or the one that ends the program
 abbrev pub Steps : (key : ℕ) → ProgramPhase → (most : ℕ) → Step → Run → Storage → (old new : DriveState) → Type 0
 Steps key phase most (step.Units n) r s old new = WalksBy key phase most n r s old new
-Steps key phase most (step.Over e) r s old new = EndsBy (λ f. unit f key phase) (told_of r e) s old new
+Steps key phase most step.Over r s old new = EndsBy (λ f. unit f key phase) (told_of r) s old new
 
 -- The parts of a unit.
 

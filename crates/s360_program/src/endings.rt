@@ -31,13 +31,13 @@ pub const FAILED: DriveEnding = DriveEnding {
 // Out of the way of the units that go on, which it made slower.
 #[inline(never)]
 pub fn end_program<S: ImageStore>(
-    run: &Run,
+    run: &mut Run,
     ending: DriveEnding,
     condition: Condition,
     drive: &mut Drive<S>,
-) -> Ended
+)
     requires { passed_of drive.old.work ≡ [] }
-    ensures ending { IsEnding (ending_with (fault_met drive.old drive.new) run.now.key (place_of run.now.place) (closed_with drive.old.state ending) (status_of condition)) (told_of run.now result) drive.new }
+    ensures ending { IsEnding (ending_with (fault_met drive.old drive.new) run.old.key (place_of run.old.place) (closed_with drive.old.state ending) (status_of condition)) (told_of run.new) drive.new }
     ensures calls { CallsStore false (is_written drive.old.state) drive.old drive.new }
     ensures reported { Reports (unsaved drive.new.state ≡ Some (drive.old.state.registers.cylinder, drive.old.state.registers.head)) drive.old drive.new }
 {
@@ -46,22 +46,19 @@ pub fn end_program<S: ImageStore>(
         Err(_) => UnitStatus(ending.unit.0 | UnitStatus::UNIT_CHECK.0),
     };
     let channel = with_interruption(run.place.interruption, condition.beside(unit));
-    Ended {
-        count: run.place.residual,
+    run.ended = Ended {
         unit,
         channel,
         motion: ending.motion,
-    }
+    };
 }
 
 /// The channel status word of a program that ended so, where it stands, and whether the arm still moves.
 #[inline(always)]
-pub fn told(run: &Run, ended: Ended) -> (Csw, bool)
-    ensures { result ≡ told_of run.now ended }
+pub fn told(run: &Run) -> (Csw, bool)
+    ensures { result ≡ told_of run.now }
 {
-    let csw = Csw {
-        count: ended.count,
-        ..csw_at(run.key, &run.place, ended.unit, ended.channel)
-    };
+    let ended = run.ended;
+    let csw = csw_at(run.key, &run.place, ended.unit, ended.channel);
     (csw, ended.motion)
 }

@@ -33,10 +33,11 @@ impl Model for Running {
     ghost Value = { RunningState };
 
     ghost use Rattle.s360_program.specs.Places.{place_of};
+    ghost use Rattle.s360_program.specs.Stage.{stage_of};
 
-    ghost view = { λ r. record { key = r.run.key; place = place_of r.run.place; stage = r.run.stage } };
+    ghost view = { λ r. record { key = r.run.key; place = place_of r.run.place; stage = stage_of r.run } };
 
-    ghost invariant = { λ r. Within (record { key = r.run.key; place = place_of r.run.place; stage = r.run.stage }) };
+    ghost invariant = { λ r. Within (record { key = r.run.key; place = place_of r.run.place; stage = stage_of r.run }) };
 }
 
 /// What Start I/O makes of a program's first unit.
@@ -125,7 +126,8 @@ impl Running {
         ensures tells { CutTellsOf result drive.old drive.new }
         ensures rests { Rests drive.new }
     {
-        let (csw, motion) = self.run.cut(drive);
+        let mut run = self.run;
+        let (csw, motion) = run.cut(drive);
         (csw, motion, drive.unsaved())
     }
 

@@ -6,7 +6,7 @@ ghost use Rattle.ckd_drive.specs.Work.{is_idle, may_end, immediate_ending, Over 
 ghost use Rattle.s360_program.specs.Starting.{FirstBegun, ImmediateDone, StartsQuietly};
 
 use crate::places::Place;
-use crate::stages::{Run, Stage};
+use crate::stages::{Comes, NOT_ENDED, Run};
 use ckd_command::steps::DriveEnding;
 use ckd_drive::answers::Begun;
 use ckd_drive::drive::Drive;
@@ -48,7 +48,10 @@ pub fn first_command<S: ImageStore>(
         Begun::Started => First::Accepted(Run {
             key,
             place,
-            stage: Stage::Looking(ccw),
+            comes: Comes::Look,
+            ccw,
+            address: 0,
+            ended: NOT_ENDED,
         }),
         Begun::Immediate => immediate(key, place, ccw, drive),
     }
@@ -68,7 +71,10 @@ fn immediate<S: ImageStore>(key: u8, place: Place, ccw: Ccw, drive: &mut Drive<S
         return First::Accepted(Run {
             key,
             place,
-            stage: Stage::Between,
+            comes: Comes::NextCommand,
+            ccw,
+            address: 0,
+            ended: NOT_ENDED,
         });
     }
     let _ = drive.settle();

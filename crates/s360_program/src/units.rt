@@ -18,7 +18,7 @@ use crate::endings::{FAILED, UNTOUCHED, end_program, told};
 use crate::moving::{flow_of, pass};
 use crate::places::Fetched;
 use crate::program::Advance;
-use crate::stages::{Run, Stage, Step};
+use crate::stages::{Comes, Run, Step};
 use ckd_drive::answers::{Begun, Look, Phase};
 use ckd_drive::drive::Drive;
 use ckd_image::ImageStore;
@@ -44,10 +44,10 @@ impl Run {
         while left > 0 {
             match self.step(left, storage, drive) {
                 Step::Units(n) => left -= n,
-                Step::Over(ended) => {
+                Step::Over => {
                     return Advance {
                         done: units - left + 1,
-                        ending: Some(told(self, ended)),
+                        ending: Some(told(self)),
                     };
                 }
             }
@@ -59,19 +59,19 @@ impl Run {
     }
 
     /// Cuts the program: the open command is closed by the bytes that have passed, where any have.
-    pub fn cut<S: ImageStore>(&self, drive: &mut Drive<S>) -> (Csw, bool)
-        requires { Fits self.now drive.old }
-        ensures cut { (s : StorageState) → EndsBy (λ f. EndsIn s ((standing_in self.now.key (phase_in (run_of self.now) s drive.old)).cut f)) result s drive.old drive.new }
-        ensures calls { (s : StorageState) → CallsStore false (has_written (phase_in (run_of self.now) s drive.old)) drive.old drive.new }
+    pub fn cut<S: ImageStore>(&mut self, drive: &mut Drive<S>) -> (Csw, bool)
+        requires { Fits self.old drive.old }
+        ensures cut { (s : StorageState) → EndsBy (λ f. EndsIn s ((standing_in self.old.key (phase_in (run_of self.old) s drive.old)).cut f)) result s drive.old drive.new }
+        ensures calls { (s : StorageState) → CallsStore false (has_written (phase_in (run_of self.old) s drive.old)) drive.old drive.new }
         ensures lost { (drive.new.image.failures ≡ drive.old.image.failures) ⊎ (is_some (unsaved drive.new.state) ≡ true) }
     {
         if !has_passed(drive) {
-            let ended = end_program(self, UNTOUCHED, Condition::Clear, drive);
-            return told(self, ended);
+            end_program(self, UNTOUCHED, Condition::Clear, drive);
+            return told(self);
         }
         let ending = drive.end();
-        let ended = end_program(self, ending, Condition::Clear, drive);
-        told(self, ended)
+        end_program(self, ending, Condition::Clear, drive);
+        told(self)
     }
 
     /// Does one unit, or more where bytes pass together, and at most as many as are asked for.
@@ -88,10 +88,10 @@ impl Run {
         ensures calls { CallsAtMost 2 drive.old drive.new }
         ensures quiet { IsQuiet drive.old → drive.new.image ≡ drive.old.image }
     {
-        match self.stage {
-            Stage::Between => self.next_command(storage, drive),
-            Stage::Looking(ccw) => self.look(ccw, most, storage, drive),
-            Stage::Moving(ccw, address) => self.transfer(ccw, address, most, storage, drive),
+        match self.comes {
+            Comes::NextCommand => self.next_command(storage, drive),
+            Comes::Look => self.look(most, storage, drive),
+            Comes::Bytes => self.transfer(most, storage, drive),
         }
     }
 
@@ -99,7 +99,7 @@ impl Run {
     fn next_command<S: ImageStore>(&mut self, storage: &Storage, drive: &mut Drive<S>) -> Step
         requires fits { Fits self.old drive.old }
         requires idle { is_idle drive.old.work ≡ true }
-        requires stage { self.old.stage ≡ Stage.Between }
+        requires stage { self.old.comes ≡ Comes.NextCommand }
         ensures comes { ComesBy self.old.key (λ f. unit f self.old.key (Between (point_at storage.now self.old drive.old))) result self.new storage.now drive.old drive.new }
         ensures calls { CallsAtMost 2 drive.old drive.new }
         ensures quiet { IsQuiet drive.old → drive.new.image ≡ drive.old.image }
@@ -107,7 +107,8 @@ impl Run {
         let ccw = match self.place.fetch(storage, true) {
             Fetched::NoCcw => {
                 self.place.miss();
-                return Step::Over(end_program(self, UNTOUCHED, Condition::ProgramCheck, drive));
+                end_program(self, UNTOUCHED, Condition::ProgramCheck, drive);
+                return Step::Over;
             }
             Fetched::TransferTo(address) => {
                 self.place.transfer(address);
@@ -117,10 +118,14 @@ impl Run {
         };
         self.place.pass(ccw);
         match drive.begin(ccw.code) {
-            Begun::Rejected => Step::Over(end_program(self, FAILED, Condition::Clear, drive)),
+            Begun::Rejected => {
+                end_program(self, FAILED, Condition::Clear, drive);
+                Step::Over
+            }
             Begun::Immediate => self.conclude(ccw, false, storage, drive),
             Begun::Started => {
-                self.stage = Stage::Looking(ccw);
+                self.keep(ccw);
+                self.comes = Comes::Look;
                 Step::Units(1)
             }
         }
@@ -148,14 +153,16 @@ impl Run {
         let ending = drive.end();
         let condition = Condition::of_length(incorrect, ending.unit);
         if !chains(ccw, ending.unit, condition) {
-            return Step::Over(end_program(self, ending, condition, drive));
+            end_program(self, ending, condition, drive);
+            return Step::Over;
         }
         self.place.modify(ending.unit);
-        self.stage = Stage::Between;
+        self.comes = Comes::NextCommand;
         Step::Units(1)
     }
 
-    // A check closes the command by the bytes that passed, and ends the program.
+    // A check closes the command by the bytes that passed, and ends the program. Out of the way of the units that go on.
+    #[inline(never)]
     fn stop<S: ImageStore>(
         &mut self,
         condition: Condition,
@@ -170,31 +177,35 @@ impl Run {
         ensures quiet { IsQuiet drive.old → drive.new.image ≡ drive.old.image }
     {
         let ending = drive.end();
-        Step::Over(end_program(self, ending, condition, drive))
+        end_program(self, ending, condition, drive);
+        Step::Over
     }
 
     // A look for the area of a command; where it is found the unit goes on.
     fn look<S: ImageStore>(
         &mut self,
-        ccw: Ccw,
         most: u16,
         storage: &mut Storage,
         drive: &mut Drive<S>,
     ) -> Step
         requires some { 0 < most }
         requires fits { Fits self.old drive.old }
-        requires stage { self.old.stage ≡ Stage.Looking ccw }
+        requires stage { self.old.comes ≡ Comes.Look }
         ensures steps { Steps self.old.key (phase_in (run_of self.old) storage.old drive.old) most result self.new storage.new drive.old drive.new }
         ensures storage { KeepsStorage storage.old storage.new }
         ensures calls { CallsAtMost 2 drive.old drive.new }
         ensures quiet { IsQuiet drive.old → drive.new.image ≡ drive.old.image }
     {
         match drive.look() {
-            Look::Failed => Step::Over(end_program(self, FAILED, Condition::Clear, drive)),
+            Look::Failed => {
+                end_program(self, FAILED, Condition::Clear, drive);
+                Step::Over
+            }
             Look::Passed => Step::Units(1),
             Look::Ready(_) => {
-                self.stage = Stage::Moving(ccw, ccw.address);
-                self.transfer(ccw, ccw.address, most, storage, drive)
+                self.comes = Comes::Bytes;
+                self.address = self.ccw.address;
+                self.transfer(most, storage, drive)
             }
         }
     }
@@ -203,15 +214,13 @@ impl Run {
     #[inline(always)]
     fn transfer<S: ImageStore>(
         &mut self,
-        ccw: Ccw,
-        address: u32,
         most: u16,
         storage: &mut Storage,
         drive: &mut Drive<S>,
     ) -> Step
         requires some { 0 < most }
         requires fits { Fits self.old drive.old }
-        requires stage { self.old.stage ≡ Stage.Moving ccw address }
+        requires stage { self.old.comes ≡ Comes.Bytes }
         ensures steps { Steps self.old.key (phase_in (run_of self.old) storage.old drive.old) most result self.new storage.new drive.old drive.new }
         ensures storage { KeepsStorage storage.old storage.new }
         ensures loads { drive.new.image.loads ≡ drive.old.image.loads }
@@ -220,18 +229,26 @@ impl Run {
     {
         let residual = self.place.residual;
         if residual == 0 {
-            return self.spend(ccw, address, storage, drive);
+            return self.spend(storage, drive);
         }
         let flow = flow_of(drive);
         if flow.left == 0 {
-            let incorrect = is_incorrect(ccw, residual, 0);
-            return self.conclude(ccw, incorrect, storage, drive);
+            let incorrect = is_incorrect(self.ccw, residual, 0);
+            return self.conclude(self.ccw, incorrect, storage, drive);
         }
         let most = least(most, residual, flow.left);
-        match pass(flow.gives, self.key, ccw, address, most, storage, drive) {
+        match pass(
+            flow.gives,
+            self.key,
+            self.ccw,
+            self.address,
+            most,
+            storage,
+            drive,
+        ) {
             Ok(m) => {
                 self.place.residual -= m;
-                self.stage = Stage::Moving(ccw, address + u32::from(m));
+                self.address += u32::from(m);
                 Step::Units(m)
             }
             Err(condition) => self.stop(condition, storage, drive),
@@ -240,32 +257,28 @@ impl Run {
 
     // The count is spent: the next word has a further area, or the command ends.
     #[inline(always)]
-    fn spend<S: ImageStore>(
-        &mut self,
-        ccw: Ccw,
-        _address: u32,
-        storage: &Storage,
-        drive: &mut Drive<S>,
-    ) -> Step
+    fn spend<S: ImageStore>(&mut self, storage: &Storage, drive: &mut Drive<S>) -> Step
         requires fits { Fits self.old drive.old }
-        requires stage { self.old.stage ≡ Stage.Moving ccw _address }
+        requires stage { self.old.comes ≡ Comes.Bytes }
         requires residual { self.old.place.residual ≡ 0 }
         ensures comes { ComesBy self.old.key (λ f. unit f self.old.key (phase_in (run_of self.old) storage.now drive.old)) result self.new storage.now drive.old drive.new }
         ensures loads { drive.new.image.loads ≡ drive.old.image.loads }
         ensures calls { CallsAtMost 1 drive.old drive.new }
         ensures quiet { IsQuiet drive.old → drive.new.image ≡ drive.old.image }
     {
-        if ccw.chains_data() {
+        if self.ccw.chains_data() {
             return self.next_area(storage, drive);
         }
         let flow = flow_of(drive);
-        let incorrect = is_incorrect(ccw, 0, flow.left);
-        self.conclude(ccw, incorrect, storage, drive)
+        let incorrect = is_incorrect(self.ccw, 0, flow.left);
+        self.conclude(self.ccw, incorrect, storage, drive)
     }
 
     // The fetch of a word that has a further area of the command that works.
+    #[inline(always)]
     fn next_area<S: ImageStore>(&mut self, storage: &Storage, drive: &mut Drive<S>) -> Step
         requires fits { Fits self.old drive.old }
+        requires stage { self.old.comes ≡ Comes.Bytes }
         requires needs { wants_area (run_of self.old) ≡ true }
         ensures comes { ComesBy self.old.key (λ f. unit f self.old.key (phase_in (run_of self.old) storage.now drive.old)) result self.new storage.now drive.old drive.new }
         ensures loads { drive.new.image.loads ≡ drive.old.image.loads }
@@ -283,7 +296,8 @@ impl Run {
             }
             Fetched::GoodCcw(ccw) => {
                 self.place.pass(ccw);
-                self.stage = Stage::Moving(ccw, ccw.address);
+                self.keep(ccw);
+                self.address = ccw.address;
                 Step::Units(1)
             }
         }

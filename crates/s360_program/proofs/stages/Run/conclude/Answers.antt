@@ -1,6 +1,6 @@
 use Rattle.std.proofs.Common.{arith, refl, sym, ◌∙◌}
 use Rattle.s360_program.specs.Places.{place_of}
-use Rattle.s360_program.specs.declared.stages.Stage.TheVariants as stage
+use Rattle.s360_program.specs.declared.stages.Comes.TheVariants as comes
 use Rattle.s360_program.proofs.Ends.{concludes, chains_on}
 use Rattle.s360_program.proofs.stages.Run.conclude.Goals as goal
 
@@ -21,7 +21,7 @@ returns-clause-comes g c =
     let k = c.of_length-condition in
     let m = c.modify in (
       refl,
-      chains_on a.self.now (record a.self.now { place = m.new.self; stage = stage.Between }) a._storage.now a.ccw a.incorrect k.result a.drive.now e.new.self e.result c.requires.saved
+      chains_on a.self.now (record a.self.now { place = m.new.self; comes = comes.NextCommand }) a._storage.now a.ccw a.incorrect k.result a.drive.now e.new.self e.result c.requires.saved
           e.ensures.state e.ensures.ending e.ensures.reported k.ensures (sym c.chains.ensures ∙ c.if-not-chains.false)
           c.requires.key refl refl m.ensures.place (record { next = m.ensures.next; last = omega (arith, m.ensures.last, c.requires.last) }),
     )

@@ -1,0 +1,21 @@
+-- What comes next in a running program.
+use Rattle.std.specs.Prelude.{ℕ}
+use Rattle.s360_words.specs.declared.words.Ccw.{Ccw}
+use Rattle.s360_program.specs.declared.stages.Comes.{Comes}
+use Rattle.s360_program.specs.declared.stages.Comes.TheVariants as comes
+use Rattle.s360_program.specs.declared.stages.Run.{Run}
+
+-- the fetch of a word that begins a command; a look for the area of the command of this word; or bytes under this word, from or to
+-- this address on
+pub data Stage : Type 0 where
+  Between : Stage
+  Looking : Ccw → Stage
+  Moving : Ccw → (address : ℕ) → Stage
+
+abbrev pub stage_by : Comes → Ccw → (address : ℕ) → Stage
+stage_by comes.NextCommand ccw address = Between
+stage_by comes.Look ccw address = Looking ccw
+stage_by comes.Bytes ccw address = Moving ccw address
+
+abbrev pub stage_of : Run → Stage
+stage_of r = stage_by r.comes r.ccw r.address
