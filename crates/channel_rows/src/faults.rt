@@ -1,12 +1,13 @@
-//! Each call of a drive's store fails in turn, once and for good, and each failure must be told.
+//! Each call of each store of a drive fails in turn, once and for good, and each failure must be told.
 
-use crate::left::{Left, attached};
+use crate::left::{Left, LeftDrive, LeftFile, attached};
 use crate::row::Player;
 use crate::stage::{DriveFailure, start_sense};
 use crate::volume::Volumes;
 use anyhow::{Result, bail};
+use ckd_image::MemoryStore;
 use std::alloc::Global;
-use test_rows::{Failure, words_of};
+use test_rows::{Failure, RowFiles, words_of};
 
 /// The high byte of the addresses of a row's drives.
 const CHANNEL: u16 = 0x0100;
@@ -30,7 +31,7 @@ enum Report {
     Silent(&'static str),
 }
 
-/// Plays a row with each call of the store of a drive failing, and answers the first that is not told as it must be; counts
+/// Plays a row with each call of each store of a drive failing, and answers the first that is not told as it must be; counts
 /// those that were tried.
 pub(crate) fn sweep(
     alloc: Global,
@@ -42,25 +43,35 @@ pub(crate) fn sweep(
     let Some(sound) = play_course(alloc, volumes, row, device, None)? else {
         bail!("no image");
     };
-    silent_call(alloc, volumes, row, &sound, device, tried)
+    for file in 0..2 {
+        let silent = silent_call(alloc, volumes, row, &sound, device, file, tried)?;
+        if silent.is_some() {
+            return Ok(silent);
+        }
+    }
+    Ok(None)
 }
 
-// The first call of the store of a drive that is not told where it fails, beside a course without faults.
+// The first call of the store of a drive's file that is not told where it fails, beside a course without faults.
 fn silent_call(
     alloc: Global,
     volumes: &Volumes,
     row: &str,
     sound: &Course,
     device: u8,
+    file: usize,
     tried: &mut u32,
 ) -> Result<Option<String>> {
     for at in 1..100 {
         for for_good in [false, true] {
-            match report_of(alloc, volumes, row, sound, device, Failure { at, for_good })? {
+            let failure = Failure { file, at, for_good };
+            match report_of(alloc, volumes, row, sound, device, failure)? {
                 Report::NoCall => return Ok(None),
                 Report::Told => *tried = tried.saturating_add(1),
                 Report::Silent(why) => {
-                    return Ok(Some(format!(in alloc; "call {at}, {for_good}: {why}")?));
+                    return Ok(Some(format!(in alloc;
+                        "file {file}, call {at}, {for_good}: {why}"
+                    )?));
                 }
             }
         }
@@ -109,7 +120,7 @@ fn report_of(
     failure: Failure,
 ) -> Result<Report> {
     match play_course(alloc, volumes, row, device, Some((device, failure)))? {
-        Some(faulty) => report_beside(alloc, volumes, row, sound, &faulty, device, failure.at),
+        Some(faulty) => report_beside(alloc, volumes, row, sound, &faulty, device, failure),
         // the first call reads the header, as the image is mounted
         None if failure.at == 1 => Ok(Report::Told),
         None => Ok(Report::Silent("it is not mounted")),
@@ -124,9 +135,9 @@ fn report_beside(
     sound: &Course,
     faulty: &Course,
     device: u8,
-    at: u32,
+    failure: Failure,
 ) -> Result<Report> {
-    if faulty.left.drive(device)?.calls < u64::from(at) {
+    if faulty.left.drive(device)?.calls_of(failure.file) < u64::from(failure.at) {
         return Ok(match faulty.answers.as_str() == sound.answers.as_str() {
             true => Report::NoCall,
             false => Report::Silent("other answers without a fault"),
@@ -215,12 +226,35 @@ fn others_stay(
     for drive in &sound.left.drives {
         let (_, name) = attached(alloc, row, drive.device)?;
         let last = faulty.left.drive(drive.device)?;
-        let first = volumes.bytes(name)?;
-        if !blocks_stay(first, drive.volume.as_slice(), last.volume.as_slice()) {
+        if !files_stay(&volumes.files(alloc, name)?, drive, last) {
             return Ok(false);
         }
     }
     Ok(true)
+}
+
+// Whether each block of a drive's files that is as it was, where no call fails, is so where one fails.
+fn files_stay(first: &RowFiles, sound: &LeftDrive, faulty: &LeftDrive) -> bool {
+    if let Some(second) = &first.second {
+        if !file_stays(second, sound.files.get(1), faulty.files.get(1)) {
+            return false;
+        }
+    }
+    file_stays(&first.first, sound.files.first(), faulty.files.first())
+}
+
+// The same of one file.
+fn file_stays(first: &MemoryStore, sound: Option<&LeftFile>, faulty: Option<&LeftFile>) -> bool {
+    match (sound, faulty) {
+        (Some(sound), Some(faulty)) => {
+            blocks_stay(
+                first.bytes(),
+                sound.bytes.as_slice(),
+                faulty.bytes.as_slice(),
+            )
+        }
+        _ => false,
+    }
 }
 
 // Whether each block that is as it was, where no call fails, is so where one fails.

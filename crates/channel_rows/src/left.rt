@@ -6,7 +6,7 @@ use anyhow::{Result, bail};
 use ckd_image::Image;
 use s360_words::Storage;
 use std::alloc::Global;
-use test_rows::{Calls, RowStore, address, byte, bytes, unit_address, words_of};
+use test_rows::{Calls, RowFiles, RowStore, address, byte, bytes, unit_address, words_of};
 
 /// What came out of a channel.
 #[derive(Drop)]
@@ -22,10 +22,17 @@ pub(crate) struct Left {
 #[derive(Drop)]
 pub(crate) struct LeftDrive {
     pub device: u8,
+    /// The files of its image, in their order.
+    pub files: Vec<LeftFile>,
+}
+
+/// What came out of a file's store.
+#[derive(Drop)]
+pub(crate) struct LeftFile {
     pub calls: u64,
     pub reads: Calls,
     pub writes: Calls,
-    pub volume: Vec<u8>,
+    pub bytes: Vec<u8>,
 }
 
 impl Left {
@@ -88,7 +95,7 @@ impl Left {
         for drive in &self.drives {
             let (line, volume) = attached(alloc, row, drive.device)?;
             let wanted = volumes.left(alloc, row, volume, drive.device)?;
-            if drive.volume.as_slice() != wanted.bytes() {
+            if !drive.holds(&wanted) {
                 return Ok(Some(line));
             }
         }
@@ -131,7 +138,7 @@ impl Left {
             return false;
         }
         for (drive, other) in self.drives.iter().zip(other.drives.iter()) {
-            if drive.device != other.device || drive.volume.as_slice() != other.volume.as_slice() {
+            if drive.device != other.device || !drive.is_same(other) {
                 return false;
             }
         }
@@ -140,15 +147,55 @@ impl Left {
 }
 
 impl LeftDrive {
-    // The line that says how often its store was called, read or written, as this line does.
+    /// How often its stores were called.
+    pub(crate) fn calls(&self) -> u64 {
+        let mut calls = 0u64;
+        for file in &self.files {
+            calls = calls.saturating_add(file.calls);
+        }
+        calls
+    }
+
+    /// How often the store of the file at this place was called; a file that is not there is never.
+    pub(crate) fn calls_of(&self, file: usize) -> u64 {
+        match self.files.get(file) {
+            Some(file) => file.calls,
+            None => 0,
+        }
+    }
+
+    // Whether its files are these.
+    fn holds(&self, files: &RowFiles) -> bool {
+        match (self.files.as_slice(), &files.second) {
+            ([first], None) => first.bytes.as_slice() == files.first.bytes(),
+            ([first, second], Some(wanted)) => {
+                first.bytes.as_slice() == files.first.bytes()
+                    && second.bytes.as_slice() == wanted.bytes()
+            }
+            _ => false,
+        }
+    }
+
+    // Whether the other's files are the same.
+    fn is_same(&self, other: &LeftDrive) -> bool {
+        if self.files.len() != other.files.len() {
+            return false;
+        }
+        for (file, other) in self.files.iter().zip(other.files.iter()) {
+            if file.bytes.as_slice() != other.bytes.as_slice() {
+                return false;
+            }
+        }
+        true
+    }
+
+    // The line that says how often its stores were called, or that of its last file was read or written, as this line does.
     fn told(&self, alloc: Global, line: &str) -> Result<String> {
-        let LeftDrive {
-            device,
-            calls,
-            reads,
-            writes,
-            ..
-        } = self;
+        let device = self.device;
+        let calls = self.calls();
+        let Some(LeftFile { reads, writes, .. }) = self.files.last() else {
+            bail!("no file");
+        };
         Ok(if line.starts_with("calls ") {
             format!(in alloc; "calls {device:02X} {calls}")?
         } else if line.starts_with("reads ") {
@@ -172,16 +219,25 @@ pub(crate) fn attached<'a>(alloc: Global, row: &'a str, device: u8) -> Result<(&
 }
 
 fn drive_of(alloc: Global, device: u8, image: Image<RowStore>) -> Result<LeftDrive> {
-    let store = image.into_store();
+    let mut files = Vec::new(alloc);
+    for store in image.into_stores() {
+        let Some(store) = store else {
+            bail!("no store");
+        };
+        files.push(file_of(alloc, store)?)?;
+    }
+    Ok(LeftDrive { device, files })
+}
+
+fn file_of(alloc: Global, store: RowStore) -> Result<LeftFile> {
     let (reads, writes) = (store.reads(), store.writes());
     let store = store.into_inner();
     let calls = store.calls();
-    let volume = Vec::from_slice(alloc, store.into_inner().bytes())?;
-    Ok(LeftDrive {
-        device,
+    let bytes = Vec::from_slice(alloc, store.into_inner().bytes())?;
+    Ok(LeftFile {
         calls,
         reads,
         writes,
-        volume,
+        bytes,
     })
 }

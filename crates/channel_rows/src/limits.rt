@@ -12,7 +12,7 @@ use std::alloc::Global;
 use test_rows::Failure;
 
 /// Plays the events of a row one more at a time, each step unit by unit, and answers which is the first that calls the store
-/// of a drive too often.
+/// of a drive too often, whose image is one file.
 pub(crate) fn too_often(
     alloc: Global,
     volumes: &Volumes,
@@ -47,11 +47,12 @@ fn calls_of(
     let Some((left, most)) = walk(alloc, volumes, row, count, None)? else {
         return Ok(None);
     };
-    let calls = left.drive(device)?.calls;
+    let calls = left.drive(device)?.calls_of(0);
     if calls == before {
         return Ok(Some((calls, most)));
     }
     let last = Failure {
+        file: 0,
         at: u32::try_from(calls).unwrap_or(u32::MAX),
         for_good: false,
     };

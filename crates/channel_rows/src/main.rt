@@ -3,7 +3,7 @@
 //! stand among the vectors of `deck_vectors`; here stands what those can not say.
 //!
 //! - A call of a drive's store fails, once or from then on: a load and a save, in a unit, as the arm moves off, by a halt, by a
-//!   reset, and by the last reset; and what the programs behind it find. `sweep` lets each call of the store fail in turn.
+//!   reset, and by the last reset; and what the programs behind it find. `sweep` lets each call of each of its stores fail in turn.
 //! - How often a store is called: over a row, and by each of its events, with `limits`.
 //! - Arms that arrive while another drive's program runs, and their interruptions; halts and resets at each unit.
 //! - Drives that are attached while a program runs, that are refused, and eight of two models; channels that are refused.
@@ -11,8 +11,9 @@
 //! - Readers and writers of decks that fail.
 //! - Serial lists: their events, and that they come to the same, for programs that are cut at each unit.
 //!
-//! The input has blocks, with an empty line between. A block that begins with `volume` says what a volume holds. Each other
-//! block is a row: its name, and its lines, which are read in their order.
+//! The input has blocks, with an empty line between. A block that begins with `volume` says what a volume holds, and with which
+//! cylinder its second file begins, where it is in two. Each other block is a row: its name, and its lines, which are read in
+//! their order.
 //!
 //! | Line | Means |
 //! |---|---|
@@ -27,7 +28,7 @@
 //! | `sense 190 100000000000` | a Sense starts, runs to its end, and gives these bytes |
 //! | `holds 600 C1*80` | what storage holds in the end |
 //! | `left 90 0 29 E7*30` | what a track of the volume has from a place of its slot on; all else is as it was |
-//! | `calls 90 3`, `reads 90 2 512 4096` | how often the store was called in all; or read or written, and where and how much at last |
+//! | `calls 90 3`, `reads 90 2 512 4096` | how often the stores were called in all; or the last file's was read or written, and where and how much at last |
 //! | `unsaved 190 0000 0000` | a track that the last reset can not save |
 //! | `serial` | behind it stands a deck; `=` its serial list, and `~` the answers to that |
 //! | `cuts` | the program is cut at each of its units, and done again by its serial list |

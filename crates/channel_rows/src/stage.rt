@@ -2,22 +2,17 @@
 
 use crate::volume::Volumes;
 use anyhow::{Context, Result, bail};
-use ckd_image::{Image, MemoryStore};
+use ckd_image::Image;
 use s360_channel::{AttachFault, Channel};
 use s360_events::Condition;
 use s360_words::Storage;
 use std::alloc::Global;
-use test_rows::{Failure, RowStore, address, byte, bytes, row_store, unit_address, words_of};
+use test_rows::{Failure, Files, RowStore, address, byte, bytes, unit_address, words_of};
 
 pub(crate) type Disks = Channel<RowStore>;
 
-/// The call of a drive's store that fails, beside those that a row itself names.
+/// The call of a store of a drive that fails, beside those that a row itself names.
 pub(crate) type DriveFailure = Option<(u8, Failure)>;
-
-const NONE_FAILS: Failure = Failure {
-    at: 0,
-    for_good: false,
-};
 
 /// A channel, and what was told of the last thing that it refused.
 #[derive(Drop)]
@@ -80,11 +75,11 @@ impl Stage {
         }
     }
 
-    // The call that fails of the store of this drive, where the row names none.
+    // The call that fails of a store of this drive, where the row names none.
     fn failure_at(&self, device: u8) -> Failure {
         match self.failing {
             Some((failing, failure)) if failing == device => failure,
-            _ => NONE_FAILS,
+            _ => Failure::NONE,
         }
     }
 
@@ -125,12 +120,12 @@ impl Stage {
             Err((AttachFault::OutOfMemory(_), _)) => bail!("out of memory"),
             Err((fault, image)) => {
                 self.told = format!(in alloc; "{fault}")?;
-                same(volumes, volume, image.into_store())
+                same(alloc, volumes, volume, image.into_stores())
             }
         }
     }
 
-    // Mounts an image, or tells why it is not mounted; then its store must come back as it was.
+    // Mounts an image, or tells why it is not mounted; then its files must come back as they were.
     fn mount(
         &mut self,
         alloc: Global,
@@ -138,12 +133,11 @@ impl Stage {
         volume: &str,
         failure: Failure,
     ) -> Result<Option<Image<RowStore>>> {
-        let held = MemoryStore::new(alloc, volumes.bytes(volume)?)?;
-        match Image::mount(row_store(held, failure)) {
+        match volumes.files(alloc, volume)?.mount(failure) {
             Ok(image) => Ok(Some(image)),
-            Err((fault, store)) => {
+            Err((fault, stores)) => {
                 self.told = format!(in alloc; "{fault}")?;
-                same(volumes, volume, store)?;
+                same(alloc, volumes, volume, stores)?;
                 Ok(None)
             }
         }
@@ -178,17 +172,22 @@ fn failure_of(at: &str, how: &str) -> Result<Failure> {
     let at = at.parse::<u32>().context("no number")?;
     match how {
         "once" => Ok(Failure {
+            file: 0,
             at,
             for_good: false,
         }),
-        "on" => Ok(Failure { at, for_good: true }),
+        "on" => Ok(Failure {
+            file: 0,
+            at,
+            for_good: true,
+        }),
         _ => bail!("how does it fail?"),
     }
 }
 
-// That a store holds what the volume with this name holds.
-fn same(volumes: &Volumes, volume: &str, store: RowStore) -> Result<()> {
-    if store.into_inner().into_inner().bytes() != volumes.bytes(volume)? {
+// That stores hold what the volume with this name holds.
+fn same(alloc: Global, volumes: &Volumes, volume: &str, stores: Files<RowStore>) -> Result<()> {
+    if !volumes.files(alloc, volume)?.are_in(stores) {
         bail!("another image comes back");
     }
     Ok(())

@@ -4,7 +4,7 @@ use anyhow::{Result, bail};
 use ckd_image::MemoryStore;
 use ckd_track::Geometry;
 use std::alloc::Global;
-use test_rows::{model_of, new_volume, put_lines, words_of};
+use test_rows::{RowFiles, model_of, new_volume, put_lines, split_of, words_of};
 
 /// A volume that rows have at their drives.
 #[derive(Drop)]
@@ -12,6 +12,8 @@ struct Volume<'a> {
     name: &'a str,
     geometry: Geometry,
     store: MemoryStore,
+    /// The cylinder with which its second file begins, if it is in two.
+    split: Option<u16>,
 }
 
 /// The volumes that rows name.
@@ -41,24 +43,26 @@ impl<'a> Volumes<'a> {
         bail!("no such volume: {name}")
     }
 
-    /// What the volume with this name holds.
-    pub(crate) fn bytes(&self, name: &str) -> Result<&[u8]> {
-        Ok(self.named(name)?.store.bytes())
+    /// The files that hold the volume with this name.
+    pub(crate) fn files(&self, alloc: Global, name: &str) -> Result<RowFiles> {
+        let volume = self.named(name)?;
+        let whole = MemoryStore::new(alloc, volume.store.bytes())?;
+        RowFiles::of(alloc, whole, volume.geometry, volume.split)
     }
 
-    /// The volume with this name, as a row leaves it at a drive by its lines such as `left 90 0 21 E7*80`.
+    /// The files of the volume with this name, as a row leaves it at a drive by its lines such as `left 90 0 21 E7*80`.
     pub(crate) fn left(
         &self,
         alloc: Global,
         row: &str,
         name: &str,
         device: u8,
-    ) -> Result<MemoryStore> {
+    ) -> Result<RowFiles> {
         let volume = self.named(name)?;
         let mut store = MemoryStore::new(alloc, volume.store.bytes())?;
         let prefix = format!(in alloc; "left {device:02X} ")?;
         put_lines(alloc, &mut store, volume.geometry, row, prefix.as_str())?;
-        Ok(store)
+        RowFiles::of(alloc, store, volume.geometry, volume.split)
     }
 }
 
@@ -76,5 +80,6 @@ fn read_volume<'a>(alloc: Global, block: &'a str) -> Result<Option<Volume<'a>>> 
         name: *name,
         geometry,
         store,
+        split: split_of(alloc, block)?,
     }))
 }

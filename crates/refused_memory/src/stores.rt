@@ -8,6 +8,7 @@ use ckd_image::{Image, ImageStore, MemoryStore, image_len};
 use ckd_track::{DriveModel, Geometry};
 use s360_words::{Storage, StorageFault};
 use std::alloc::Global;
+use test_rows::only_store;
 
 /// The bytes of storage.
 pub(crate) const STORAGE: u32 = 8_192;
@@ -124,6 +125,6 @@ pub(crate) fn make_drive(rt: &HostRuntime) -> Result<Came> {
 /// Whether this is the image of a new volume.
 pub(crate) fn is_new(alloc: Global, image: Image<MemoryStore>) -> Result<bool> {
     let geometry = Geometry::new(DriveModel::D2311, 1);
-    let new = new_image(alloc)?.into_store();
-    Ok(image.geometry() == geometry && image.into_store().bytes() == new.bytes())
+    let new = only_store(new_image(alloc)?.into_stores())?;
+    Ok(image.geometry() == geometry && only_store(image.into_stores())?.bytes() == new.bytes())
 }

@@ -4,3 +4,4 @@ pub mod TextLines
 pub mod SerialParts
 pub mod Ran
 pub mod Written
+pub mod Answered

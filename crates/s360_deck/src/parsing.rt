@@ -109,13 +109,27 @@ fn without_carriage_return(line: &[u8]) -> &[u8]
     }
 }
 
-// The words of a line.
+// The words of a line. Room is taken for all of them at once: `collect` would ask once more, for less, where it is refused.
 fn words(alloc: Global, line: &[u8]) -> Result<Vec<&[u8]>, AllocError>
     ensures { IfOk result (λ v. map (λ w. w.now) v.items ≡ words_of line.now) }
 {
+    let mut words = Vec::with_capacity(alloc, count_of_words(line))?;
+    let found = line
+        .split(|byte| *byte == b' ' || *byte == b'\t')
+        .filter(|word| !word.is_empty());
+    for word in found {
+        words.push(word).unwrap();
+    }
+    Ok(words)
+}
+
+// How many words a line has.
+fn count_of_words(line: &[u8]) -> usize
+    ensures { result ≡ length (words_of line.now) }
+{
     line.split(|byte| *byte == b' ' || *byte == b'\t')
         .filter(|word| !word.is_empty())
-        .collect(alloc)
+        .count()
 }
 
 // The event that these words spell, if they spell one.
