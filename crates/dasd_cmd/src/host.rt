@@ -1,6 +1,6 @@
 //! Files of the host, and its terminal.
 
-ghost use Rattle.std.specs.Prelude.{◌≡◌, ◌+◌};
+ghost use Rattle.std.specs.Prelude.{◌≡◌, ◌+◌, false};
 
 use dasd_jobs::{FileFault, ImageFiles, Progress, Stage};
 use ghost_data::Count;
@@ -14,13 +14,16 @@ const ERASE_BEHIND: &str = "\u{1B}[K";
 /// The files of the host. A file is replaced by one beside it, which is written whole and then takes its name, so that a
 /// fault in the middle leaves the file as it was.
 #[derive(Drop)]
-pub struct HostFiles<'a> {
+pub(crate) struct HostFiles<'a> {
     host: &'a HostRuntime,
     replaced: Count,
 }
 
 impl<'a> HostFiles<'a> {
-    pub fn new(host: &'a HostRuntime) -> HostFiles<'a> {
+    /// The files of this host, none of which was replaced yet.
+    pub(crate) fn new(host: &'a HostRuntime) -> HostFiles<'a>
+        ensures { result.replaced ≡ 0 }
+    {
         HostFiles {
             host,
             replaced: Count::new(),
@@ -65,14 +68,17 @@ fn told(fault: &io::Error) -> FileFault {
 
 /// A line of standard error, where that is a terminal; it is written over by the next, and is nothing elsewhere.
 #[derive(Drop)]
-pub struct TerminalLine<'a> {
+pub(crate) struct TerminalLine<'a> {
     host: &'a HostRuntime,
     is_terminal: bool,
     is_shown: bool,
 }
 
 impl<'a> TerminalLine<'a> {
-    pub fn new(host: &'a HostRuntime) -> TerminalLine<'a> {
+    /// The line of this host's standard error, which shows nothing yet.
+    pub(crate) fn new(host: &'a HostRuntime) -> TerminalLine<'a>
+        ensures { result.is_shown ≡ false }
+    {
         TerminalLine {
             host,
             is_terminal: host.stderr().is_terminal(),

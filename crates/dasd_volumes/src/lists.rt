@@ -1,11 +1,14 @@
 //! A volume's tracks and records.
 
-ghost use Rattle.std.specs.Prelude.{◌≡◌, ◌<◌, length};
-ghost use Rattle.ckd_track.specs.Geometry.{tracks_of};
-ghost use Rattle.ckd_track.specs.Model.{heads_of};
+ghost use Rattle.std.specs.Prelude.{◌≡◌, ◌++◌, ◌<◌, length, OnOk};
+ghost use Rattle.std.specs.List.{flat_map};
+ghost use Rattle.std.specs.Io.KnownBytes.{Appends};
+ghost use Rattle.ckd_track.specs.Track.{track_of, record_in};
+ghost use Rattle.dasd_volumes.specs.Lines.{volume_line, track_line, record_line, track_lines};
+ghost use Rattle.dasd_volumes.specs.Volumes.{cylinder_text, volume_text, IsRead};
 
 use crate::fault::VolumeFault;
-use crate::text::{Hexadecimal, TrackAddress, model_number};
+use crate::text::{Hexadecimal, Reason, TrackAddress, model_number};
 use ckd_image::{Image, ImageStore};
 use ckd_track::{Geometry, TrackView, read_slot, used};
 use std::alloc::Global;
@@ -22,29 +25,68 @@ pub fn list<S: ImageStore, W: Write>(
     alloc: Global,
     image: &mut Image<S>,
     writer: &mut W,
-) -> Result<(), VolumeFault> {
+) -> Result<(), VolumeFault>
+    ensures lines { OnOk result (Appends (W.contents writer.old) (W.contents writer.new)
+        (volume_text image.old.geometry image.old.slots)) }
+    ensures image { IsRead result image.old image.new }
+{
     let geometry = image.geometry();
-    let model = model_number(geometry.model);
-    let heads = geometry.model.heads();
-    writeln!(
-        writer,
-        "{model} {} cylinders {heads} heads slot {}",
-        geometry.cylinders, geometry.track_size
-    )
-    .map_err(|_| VolumeFault::Write)?;
-    let mut slot = vec![in alloc; 0u8; geometry.track_size as usize].map_err(
-        |_| VolumeFault::OutOfMemory,
-    )?;
+    if list_geometry(writer, geometry).is_err() {
+        return Err(VolumeFault::Write);
+    }
+    let Ok(mut slot) = vec![in alloc; 0u8; geometry.track_size as usize] else {
+        return Err(VolumeFault::OutOfMemory);
+    };
     for cylinder in 0..geometry.cylinders {
-        for head in 0..geometry.model.heads() {
-            image
-                .load(geometry.track_at(cylinder, head), slot.as_mut_slice())
-                .map_err(|_| VolumeFault::Store)?;
-            let address = TrackAddress { cylinder, head };
-            list_track(writer, geometry, address, slot.as_slice()).map_err(|_| VolumeFault::Write)?;
+        if let Err(fault) = list_cylinder(image, writer, slot.as_mut_slice(), cylinder) {
+            return Err(fault);
         }
     }
-    writer.flush().map_err(|_| VolumeFault::Write)
+    match writer.flush() {
+        Ok(()) => Ok(()),
+        Err(_) => Err(VolumeFault::Write),
+    }
+}
+
+// The first line of a list.
+fn list_geometry<W: Write>(writer: &mut W, geometry: Geometry) -> std::io::Result<()>
+    ensures { OnOk result (Appends (W.contents writer.old) (W.contents writer.new) (volume_line geometry)) }
+{
+    let model = model_number(geometry.model);
+    let cylinders = geometry.cylinders;
+    let heads = geometry.model.heads();
+    let size = geometry.track_size;
+    writeln!(
+        writer,
+        "{model} {cylinders} cylinders {heads} heads slot {size}"
+    )
+}
+
+// The lines of one cylinder's tracks, each of which is loaded into the slot.
+fn list_cylinder<S: ImageStore, W: Write>(
+    image: &mut Image<S>,
+    writer: &mut W,
+    slot: &mut [u8],
+    cylinder: u16,
+) -> Result<(), VolumeFault>
+    requires exists { cylinder < image.old.geometry.cylinders }
+    requires size { length slot.old ≡ image.old.geometry.track_size }
+    ensures lines { OnOk result (Appends (W.contents writer.old) (W.contents writer.new)
+        (cylinder_text image.old.geometry image.old.slots cylinder)) }
+    ensures image { IsRead result image.old image.new }
+    ensures size { length slot.new ≡ length slot.old }
+{
+    let geometry = image.geometry();
+    for head in 0..geometry.model.heads() {
+        if image.load(geometry.track_at(cylinder, head), slot).is_err() {
+            return Err(VolumeFault::Store);
+        }
+        let address = TrackAddress { cylinder, head };
+        if list_track(writer, geometry, address, slot).is_err() {
+            return Err(VolumeFault::Write);
+        }
+    }
+    Ok(())
 }
 
 // The lines of one track.
@@ -53,10 +95,13 @@ fn list_track<W: Write>(
     geometry: Geometry,
     address: TrackAddress,
     slot: &[u8],
-) -> std::io::Result<()> {
+) -> std::io::Result<()>
+    ensures { OnOk result (Appends (W.contents writer.old) (W.contents writer.new)
+        (track_lines geometry.model address.cylinder address.head (track_of slot.now))) }
+{
     match read_slot(slot) {
         Ok(track) => list_records(writer, geometry, address, &track),
-        Err(fault) => writeln!(writer, "{address} unreadable {fault}"),
+        Err(fault) => writeln!(writer, "{address} unreadable {}", Reason(fault)),
     }
 }
 
@@ -66,19 +111,43 @@ fn list_records<W: Write>(
     geometry: Geometry,
     address: TrackAddress,
     track: &TrackView,
-) -> std::io::Result<()> {
+) -> std::io::Result<()>
+    ensures { OnOk result (Appends (W.contents writer.old) (W.contents writer.new)
+        (track_line geometry.model address.cylinder address.head track.now ++ flat_map record_line track.now.records)) }
+{
+    list_home_address(writer, geometry, address, track)?;
+    for i in 0..track.len() {
+        list_record(writer, track, i)?;
+    }
+    Ok(())
+}
+
+// The first line of a track that can be read.
+fn list_home_address<W: Write>(
+    writer: &mut W,
+    geometry: Geometry,
+    address: TrackAddress,
+    track: &TrackView,
+) -> std::io::Result<()>
+    ensures { OnOk result (Appends (W.contents writer.old) (W.contents writer.new)
+        (track_line geometry.model address.cylinder address.head track.now)) }
+{
     let home_address = Hexadecimal(track.ha());
     let used = used(geometry.model, track);
     let records = track.len();
     writeln!(
         writer,
         "{address} HA {home_address} records {records} used {used}"
-    )?;
-    for record in 0..records {
-        let identifier = Hexadecimal(&track.count_of(record)[..5]);
-        let key_length = track.key_of(record).len();
-        let data_length = track.data_of(record).len();
-        writeln!(writer, "  {identifier} KL {key_length} DL {data_length}")?;
-    }
-    Ok(())
+    )
+}
+
+// The line of a record.
+fn list_record<W: Write>(writer: &mut W, track: &TrackView, i: usize) -> std::io::Result<()>
+    requires { i < length track.now.records }
+    ensures { OnOk result (Appends (W.contents writer.old) (W.contents writer.new) (record_line (record_in track.now i))) }
+{
+    let identifier = Hexadecimal(&track.count_of(i)[..5]);
+    let key_length = track.key_of(i).len();
+    let data_length = track.data_of(i).len();
+    writeln!(writer, "  {identifier} KL {key_length} DL {data_length}")
 }

@@ -1,5 +1,8 @@
 //! How far a long job has come.
 
+ghost use Rattle.std.specs.Prelude.{◌≡◌};
+ghost use Rattle.dasd_volumes.specs.Sizes.{takes_long};
+
 use ckd_track::Geometry;
 use std::fmt;
 
@@ -38,7 +41,9 @@ pub trait Progress {
     fn clear(&mut self);
 }
 
-/// Whether a job over the tracks of a volume takes long enough to be shown.
-pub fn is_large(geometry: Geometry) -> bool {
+/// Whether a job over the tracks of a volume takes long enough to be shown: their slots are more than 4 MiB.
+pub fn is_large(geometry: Geometry) -> bool
+    ensures { result ≡ takes_long geometry }
+{
     geometry.tracks() as u64 * geometry.track_size as u64 > SMALL_VOLUME
 }

@@ -1,6 +1,9 @@
 //! Numbers and bytes as the lines print them.
 
-use ckd_track::DriveModel;
+ghost use Rattle.std.specs.Prelude.{◌≡◌, Some};
+ghost use Rattle.dasd_volumes.specs.Lines.{bytes_text, address_text, fault_text, model_number_of};
+
+use ckd_track::{DriveModel, SlotFault};
 use std::fmt;
 
 /// Bytes in hexadecimal digits, in capitals.
@@ -8,6 +11,8 @@ use std::fmt;
 pub(crate) struct Hexadecimal<'a>(pub(crate) &'a [u8]);
 
 impl fmt::Display for Hexadecimal<'_> {
+    ghost output = { λ h. Some (bytes_text h.0.now) };
+
     fn fmt<W: fmt::Write>(&self, f: &mut fmt::Formatter<W>) -> fmt::Result {
         for byte in self.0 {
             let byte = *byte;
@@ -25,6 +30,8 @@ pub(crate) struct TrackAddress {
 }
 
 impl fmt::Display for TrackAddress {
+    ghost output = { λ a. Some (address_text a.cylinder a.head) };
+
     fn fmt<W: fmt::Write>(&self, f: &mut fmt::Formatter<W>) -> fmt::Result {
         let cylinder = self.cylinder;
         let head = self.head;
@@ -32,8 +39,25 @@ impl fmt::Display for TrackAddress {
     }
 }
 
+/// Why a slot spells no track.
+#[derive(Clone, Copy)]
+pub(crate) struct Reason(pub(crate) SlotFault);
+
+impl fmt::Display for Reason {
+    ghost output = { λ r. Some (fault_text r.0) };
+
+    fn fmt<W: fmt::Write>(&self, f: &mut fmt::Formatter<W>) -> fmt::Result {
+        match self.0 {
+            SlotFault::NoEnd(offset) => write!(f, "no end at {offset}"),
+            SlotFault::RecordPastEnd(offset) => write!(f, "record past end at {offset}"),
+        }
+    }
+}
+
 /// The number of a drive's model.
-pub(crate) fn model_number(model: DriveModel) -> u16 {
+pub(crate) fn model_number(model: DriveModel) -> u16
+    ensures { result ≡ model_number_of model }
+{
     match model {
         DriveModel::D2311 => 2311,
         DriveModel::D2314 => 2314,

@@ -1,5 +1,9 @@
 //! Disks in memory, and channels over them.
 
+ghost use Rattle.std.specs.Prelude.{◌≡◌, ◌+◌, ◌/◌, ◌%◌};
+ghost use Rattle.ckd_track.specs.Model.{heads_of};
+ghost use Rattle.watched_channels.specs.Places.{track_number};
+
 use crate::watched::{Watch, WatchedStore};
 use anyhow::{Result, bail};
 use ckd_image::{FailingStore, Image, ImageStore, MemoryStore, image_len};
@@ -7,6 +11,7 @@ use ckd_track::{DriveModel, Geometry};
 use s360_channel::Channel;
 use s360_words::Storage;
 use std::alloc::Global;
+use test_rows::only_store;
 
 /// The length of an image's header, behind which the slots stand.
 const HEADER_LENGTH: u64 = 512;
@@ -24,7 +29,11 @@ pub struct Disk {
 
 impl Disk {
     /// The input/output address of the disk, and the cylinder and head of the track whose slot begins at this place of its image.
-    pub fn track_at(&self, at: u64) -> (u16, u16, u16) {
+    pub fn track_at(&self, at: u64) -> (u16, u16, u16)
+        ensures address { result.0 ≡ 256 + self.now.device }
+        ensures cylinder { result.1 ≡ track_number self.now.model at / heads_of self.now.model }
+        ensures head { result.2 ≡ track_number self.now.model at % heads_of self.now.model }
+    {
         let size = u64::from(Geometry::new(self.model, 1).track_size);
         let track = at
             .saturating_sub(HEADER_LENGTH)
@@ -69,7 +78,7 @@ pub type TestChannel<'a> = Channel<WatchedStore<'a, FailingStore>>;
 pub fn new_volume(alloc: Global, model: DriveModel, cylinders: u16) -> Result<MemoryStore> {
     let store = MemoryStore::zeros(alloc, image_len(model, cylinders))?;
     match Image::format(store, model, cylinders) {
-        Ok(image) => Ok(image.into_store()),
+        Ok(image) => only_store(image.into_stores()),
         Err((fault, _)) => bail!("{fault}"),
     }
 }
@@ -184,7 +193,7 @@ pub fn finish(alloc: Global, channel: TestChannel) -> Result<Left> {
     let mut contents = Vec::new(alloc);
     for entry in finished.images {
         if let Some((device, image)) = entry {
-            contents.push(content_of(device, image))?;
+            contents.push(content_of(device, image)?)?;
         }
     }
     Ok(Left {
@@ -194,14 +203,14 @@ pub fn finish(alloc: Global, channel: TestChannel) -> Result<Left> {
     })
 }
 
-fn content_of(device: u8, image: Image<WatchedStore<FailingStore>>) -> Content {
+fn content_of(device: u8, image: Image<WatchedStore<FailingStore>>) -> Result<Content> {
     let geometry = image.geometry();
-    let WatchedStore { store, watch: _ } = image.into_store();
-    Content {
+    let WatchedStore { store, watch: _ } = only_store(image.into_stores())?;
+    Ok(Content {
         device,
         geometry,
         store: store.into_inner(),
-    }
+    })
 }
 
 impl Left {

@@ -1,5 +1,7 @@
 //! Counts of what was tried.
 
+ghost use Rattle.std.specs.Prelude.{◌≡◌, ◌+◌, ◌-◌, ◌^◌, min, if◌then◌else◌};
+
 use std::fmt;
 
 /// How many lists were tried, and how many came out as they must.
@@ -13,7 +15,10 @@ impl Tally {
     pub const NONE: Tally = Tally { tried: 0, right: 0 };
 
     /// One more.
-    pub fn and(self, right: bool) -> Tally {
+    pub fn and(self, right: bool) -> Tally
+        ensures tried { result.tried ≡ min (self.tried + 1) (2 ^ 32 - 1) }
+        ensures right { result.right ≡ min (self.right + (if right then 1 else 0)) (2 ^ 32 - 1) }
+    {
         Tally {
             tried: self.tried.saturating_add(1),
             right: self.right.saturating_add(u32::from(right)),
@@ -21,7 +26,10 @@ impl Tally {
     }
 
     /// Those of both.
-    pub fn with(self, other: Tally) -> Tally {
+    pub fn with(self, other: Tally) -> Tally
+        ensures tried { result.tried ≡ min (self.tried + other.tried) (2 ^ 32 - 1) }
+        ensures right { result.right ≡ min (self.right + other.right) (2 ^ 32 - 1) }
+    {
         Tally {
             tried: self.tried.saturating_add(other.tried),
             right: self.right.saturating_add(other.right),

@@ -1,0 +1,59 @@
+-- What is printed of a volume. Hexadecimal digits are capitals.
+use Rattle.std.specs.Prelude.{ℕ, zero, suc, ◌-◌, ◌^◌, min, List, [], ◌∷◌, ◌++◌, true, length, replicate, codes, Result, Ok, Err}
+use Rattle.std.specs.List.{flat_map, concat}
+use Rattle.std.specs.Fmt.{digits, decimal}
+use Rattle.ckd_track.specs.declared.model.DriveModel.{DriveModel}
+use Rattle.ckd_track.specs.declared.model.DriveModel.TheVariants.{D2311, D2314}
+use Rattle.ckd_track.specs.declared.geometries.Geometry.{Geometry}
+use Rattle.ckd_track.specs.declared.fault.SlotFault.{SlotFault}
+use Rattle.ckd_track.specs.declared.fault.SlotFault.TheVariants.{NoEnd, RecordPastEnd}
+use Rattle.ckd_track.specs.Model.{heads_of}
+use Rattle.ckd_track.specs.Track.{Record, Track}
+use Rattle.ckd_track.specs.Charges.{used_of}
+
+-- a number in hexadecimal digits, with zeros in front of it up to a width
+abbrev pub hexadecimal : (width n : ℕ) → List ℕ
+hexadecimal width n = replicate (width - length (digits 16 true n)) 48 ++ digits 16 true n
+
+abbrev pub bytes_text : List ℕ → List ℕ
+bytes_text bytes = flat_map (hexadecimal 2) bytes
+
+-- the number of a drive's model
+abbrev pub model_number_of : DriveModel → ℕ
+model_number_of D2311 = 2311
+model_number_of D2314 = 2314
+
+-- where a track is
+abbrev pub address_text : (cylinder head : ℕ) → List ℕ
+address_text cylinder head = hexadecimal 4 cylinder ++ (codes " " ++ hexadecimal 4 head)
+
+-- why a slot spells no track
+abbrev pub fault_text : SlotFault → List ℕ
+fault_text (NoEnd offset) = codes "no end at " ++ decimal offset
+fault_text (RecordPastEnd offset) = codes "record past end at " ++ decimal offset
+
+-- the end of a line
+abbrev pub line_feed : List ℕ
+line_feed = 10 ∷ []
+
+-- the first line of a list
+abbrev pub volume_line : Geometry → List ℕ
+volume_line g = concat (
+    decimal (model_number_of g.model) ∷ codes " " ∷ decimal g.cylinders ∷ codes " cylinders " ∷ decimal (heads_of g.model)
+    ∷ codes " heads slot " ∷ decimal g.track_size ∷ line_feed ∷ [])
+
+-- a track that can be read: its home address, how many records it has, and what they take of it
+abbrev pub track_line : DriveModel → (cylinder head : ℕ) → Track → List ℕ
+track_line model cylinder head t = concat (
+    address_text cylinder head ∷ codes " HA " ∷ bytes_text t.home_address ∷ codes " records " ∷ decimal (length t.records)
+    ∷ codes " used " ∷ decimal (min (used_of model t.records) (2 ^ 32 - 1)) ∷ line_feed ∷ [])
+
+-- a record: its identifier, key length and data length
+abbrev pub record_line : Record → List ℕ
+record_line r = concat (
+    codes "  " ∷ bytes_text r.id ∷ codes " KL " ∷ decimal (length r.key_area) ∷ codes " DL " ∷ decimal (length r.data_area) ∷ line_feed ∷ [])
+
+-- what a list prints of the track that a slot spells, or of one that can't be read
+abbrev pub track_lines : DriveModel → (cylinder head : ℕ) → Result Track SlotFault → List ℕ
+track_lines model cylinder head (Ok t) = track_line model cylinder head t ++ flat_map record_line t.records
+track_lines model cylinder head (Err fault) = concat (address_text cylinder head ∷ codes " unreadable " ∷ fault_text fault ∷ line_feed ∷ [])
