@@ -4,8 +4,8 @@ use Rattle.std.specs.Option.{IfSome}
 use Rattle.ckd_command.specs.Drive.{State, unsaved}
 use Rattle.ckd_drive.specs.Work.{DriveState, Work, Idle, Over, Looking, Passing}
 use Rattle.s360_program.specs.Stands.{RunningState, Stands, StageFits}
-use Rattle.s360_program.specs.declared.stages.Stage.{Stage}
-use Rattle.s360_program.specs.declared.stages.Stage.TheVariants as stage
+use Rattle.s360_program.specs.Stage.{Stage}
+use Rattle.s360_program.specs.Stage as stage
 use denote.Struct.Props.{props}
 
 fits-prop : (g : Stage) (s : State) (w : Work) → IsProp (StageFits g s w)
