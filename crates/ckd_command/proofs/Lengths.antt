@@ -1,5 +1,5 @@
 -- How many bytes pass in a command: it gives all those of its area, and no command gets shorter by bytes that pass.
-use Rattle.std.proofs.Common.{◌≡◌, ℕ, ◌+◌, ◌≤◌, refl, sym, ap, subst, ◌∙◌, arith, true, false, Bool, not, ◌||◌, List, ◌++◌, nat_lt, length, length-append}
+use Rattle.std.proofs.Common.{◌≡◌, ◌⊎◌, inl, inr, ℕ, ◌+◌, ◌≤◌, refl, sym, ap, subst, ◌∙◌, arith, true, false, Bool, not, ◌||◌, List, ◌++◌, nat_lt, length, length-append}
 use Rattle.std.specs.Prelude.{if◌then◌else◌, slice_index}
 use Rattle.std.proofs.lemmas.Bool.Decides.{nat_tests}
 use Rattle.std.proofs.lemmas.List.{get_or_append_left}
@@ -52,24 +52,28 @@ not_short : (n : ℕ) → 8 ≤ n → nat_lt n 8 ≡ false
 not_short n h = grind (arith, nat_tests)
 
 -- the length of a formatting write is 8, until the count area tells it, which later bytes do not change
+format_stays : (g : Geometry) (t : Sighted) (o : Opened) (b more : List ℕ) → nat_lt (length b) 8 ≡ false → format_length g t o b ≡ format_length g t o (b ++ more)
+format_stays g t o b more k =
+    let long : 8 ≤ length b = grind (arith, nat_tests) in
+    let sum : length (b ++ more) ≡ length b + length more = length-append b more in
+    let still : nat_lt (length (b ++ more)) 8 ≡ false = not_short (length (b ++ more)) (omega arith) in
+    let five : slice_index (b ++ more) 5 ≡ slice_index b 5 = get_or_append_left b more 0 5 (omega arith) in
+    let six : slice_index (b ++ more) 6 ≡ slice_index b 6 = get_or_append_left b more 0 6 (omega arith) in
+    let seven : slice_index (b ++ more) 7 ≡ slice_index b 7 = get_or_append_left b more 0 7 (omega arith) in
+    let told : data_length (b ++ more) ≡ data_length b = rw (six, seven) refl in
+    ap (λ s. if s || not (new_record_fits g t o b) then 8 else 8 + body_length b) (k ∙ sym still)
+    ∙ ap (λ n. if nat_lt (length (b ++ more)) 8 || not (has_room g.model (kept t o.area) n (data_length b)) then 8 else 8 + (n + data_length b)) (sym five)
+    ∙ ap (λ n. if nat_lt (length (b ++ more)) 8 || not (has_room g.model (kept t o.area) (key_length (b ++ more)) n) then 8 else 8 + (key_length (b ++ more) + n)) (sym told)
+
+format_eight : (g : Geometry) (t : Sighted) (o : Opened) (b : List ℕ) → nat_lt (length b) 8 ≡ true → format_length g t o b ≡ 8
+format_eight g t o b k = ap (λ s. if s || not (new_record_fits g t o b) then 8 else 8 + body_length b) k
+
 format_grows : (g : Geometry) (t : Sighted) (o : Opened) (b more : List ℕ) → format_length g t o b ≤ format_length g t o (b ++ more)
 format_grows g t o b more = go (nat_lt (length b) 8) refl
   where
     go : (short : Bool) → nat_lt (length b) 8 ≡ short → format_length g t o b ≤ format_length g t o (b ++ more)
-    go true k = subst (λ n. n ≤ format_length g t o (b ++ more)) (sym (ap (λ s. if s || not (new_record_fits g t o b) then 8 else 8 + body_length b) k)) (eight_least (nat_lt (length (b ++ more)) 8 || not (new_record_fits g t o (b ++ more))) (body_length (b ++ more)))
-    go false k =
-        let long : 8 ≤ length b = grind (arith, nat_tests) in
-        let sum : length (b ++ more) ≡ length b + length more = length-append b more in
-        let still : nat_lt (length (b ++ more)) 8 ≡ false = not_short (length (b ++ more)) (omega arith) in
-        let five : slice_index (b ++ more) 5 ≡ slice_index b 5 = get_or_append_left b more 0 5 (omega arith) in
-        let six : slice_index (b ++ more) 6 ≡ slice_index b 6 = get_or_append_left b more 0 6 (omega arith) in
-        let seven : slice_index (b ++ more) 7 ≡ slice_index b 7 = get_or_append_left b more 0 7 (omega arith) in
-        let told : data_length (b ++ more) ≡ data_length b = rw (six, seven) refl in
-        let same : format_length g t o b ≡ format_length g t o (b ++ more) =
-        ap (λ s. if s || not (new_record_fits g t o b) then 8 else 8 + body_length b) (k ∙ sym still)
-        ∙ ap (λ n. if nat_lt (length (b ++ more)) 8 || not (has_room g.model (kept t o.area) n (data_length b)) then 8 else 8 + (n + data_length b)) (sym five)
-        ∙ ap (λ n. if nat_lt (length (b ++ more)) 8 || not (has_room g.model (kept t o.area) (key_length (b ++ more)) n) then 8 else 8 + (key_length (b ++ more) + n)) (sym told) in
-        equal_le (format_length g t o b) (format_length g t o (b ++ more)) same
+    go true k = subst (λ n. n ≤ format_length g t o (b ++ more)) (sym (format_eight g t o b k)) (eight_least (nat_lt (length (b ++ more)) 8 || not (new_record_fits g t o (b ++ more))) (body_length (b ++ more)))
+    go false k = equal_le (format_length g t o b) (format_length g t o (b ++ more)) (format_stays g t o b more k)
 
 pub length_grows : (o : Open) (b more : List ℕ) → length_of o b ≤ length_of o (b ++ more)
 length_grows o b more = go (action_of o.opened.command) refl
@@ -82,6 +86,36 @@ length_grows o b more = go (action_of o.opened.command) refl
     go : (a : Action) → action_of o.opened.command ≡ a → length_of o b ≤ length_of o (b ++ more)
     go action.Format e = subst (λ n. n ≤ length_of o (b ++ more)) (sym (length_in action.Format o b e))
         (subst (λ n. format_length o.state.volume.geometry (track_under o.state) o.opened b ≤ n) (sym (length_in action.Format o (b ++ more) e)) (format_grows o.state.volume.geometry (track_under o.state) o.opened b more))
+    go action.GiveSense e = same action.GiveSense e refl
+    go action.Read e = same action.Read e refl
+    go action.NoTransfer e = same action.NoTransfer e refl
+    go action.SeekCylinderAndHead e = same action.SeekCylinderAndHead e refl
+    go action.SeekHead e = same action.SeekHead e refl
+    go action.SetFileMask e = same action.SetFileMask e refl
+    go action.Search e = same action.Search e refl
+    go action.WriteHomeAddress e = same action.WriteHomeAddress e refl
+    go action.Update e = same action.Update e refl
+
+-- a length that bytes change is that of a count area
+pub length_stays : (o : Open) (b more : List ℕ) → (length_of o b ≡ 8) ⊎ (length_of o b ≡ length_of o (b ++ more))
+length_stays o b more = go (action_of o.opened.command) refl
+  where
+    G : Geometry
+    G = o.state.volume.geometry
+
+    T : Sighted
+    T = track_under o.state
+
+    same : (a : Action) → action_of o.opened.command ≡ a → length_for a G T o.opened o.state.registers b ≡ length_for a G T o.opened o.state.registers (b ++ more)
+        → (length_of o b ≡ 8) ⊎ (length_of o b ≡ length_of o (b ++ more))
+    same a e h = inr (length_in a o b e ∙ h ∙ sym (length_in a o (b ++ more) e))
+
+    formats : action_of o.opened.command ≡ action.Format → (short : Bool) → nat_lt (length b) 8 ≡ short → (length_of o b ≡ 8) ⊎ (length_of o b ≡ length_of o (b ++ more))
+    formats e true k = inl (length_in action.Format o b e ∙ format_eight G T o.opened b k)
+    formats e false k = same action.Format e (format_stays G T o.opened b more k)
+
+    go : (a : Action) → action_of o.opened.command ≡ a → (length_of o b ≡ 8) ⊎ (length_of o b ≡ length_of o (b ++ more))
+    go action.Format e = formats e (nat_lt (length b) 8) refl
     go action.GiveSense e = same action.GiveSense e refl
     go action.Read e = same action.Read e refl
     go action.NoTransfer e = same action.NoTransfer e refl

@@ -37,6 +37,9 @@ const STORES: [(u32, u32, u8); 8] = [
     (0xFFF, 80, 1),
 ];
 
+// What is stored, as many bytes of it as are asked for.
+const STORED: [u8; 4_096] = [0xC1; 4_096];
+
 /// Prints the tables of this module.
 pub(crate) fn print(rt: &(impl Print + AllocGlobal)) -> Result<()> {
     for size in SIZES {
@@ -53,6 +56,7 @@ pub(crate) fn print(rt: &(impl Print + AllocGlobal)) -> Result<()> {
     print_words(rt, &storage)?;
     print_keys(rt, &mut storage)?;
     print_stores(rt, &storage)?;
+    print_stored(rt, &mut storage)?;
     print_status(rt, &mut storage)?;
     Ok(())
 }
@@ -78,6 +82,10 @@ fn print_slices(rt: &impl Print, storage: &Storage) -> io::Result<()> {
     rt.println("Bytes of it")?;
     for (at, len) in SLICES {
         row(rt, at.into(), storage.slice(at, len))?;
+    }
+    rt.println("As many of these bytes as it has")?;
+    for (at, len) in SLICES {
+        row(rt, at.into(), storage.bytes_from(at, len as usize))?;
     }
     Ok(())
 }
@@ -107,6 +115,20 @@ fn print_stores(rt: &impl Print, storage: &Storage) -> io::Result<()> {
     rt.println("How many bytes may be stored, of how many, with which key")?;
     for (at, len, key) in STORES {
         row(rt, at.into(), (storage.storable(at, len, key), len, key))?;
+    }
+    Ok(())
+}
+
+fn print_stored(rt: &impl Print, storage: &mut Storage) -> io::Result<()> {
+    rt.println(
+        "How many bytes are stored, of how many, with which key; and bytes before and behind them",
+    )?;
+    for (at, len, key) in STORES {
+        let bytes = STORED.get(..len as usize).unwrap_or(&STORED);
+        row(rt, at.into(), (storage.store(at, bytes, key), len, key))?;
+    }
+    for (at, len) in [(0x5FF, 2), (0x64F, 2), (0x7FE, 3), (0x17FF, 2)] {
+        row(rt, at.into(), storage.slice(at, len))?;
     }
     Ok(())
 }

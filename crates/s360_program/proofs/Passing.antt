@@ -8,7 +8,7 @@ use Rattle.s360_words.specs.Storage.{Storage, stored, admits, key_at, may_store}
 use Rattle.s360_words.specs.Words.{chains_data, skips}
 use Rattle.s360_words.specs.declared.words.Ccw.{Ccw}
 use Rattle.s360_words.specs.declared.flags.TheConstants.ChannelStatus.{PROGRAM_CHECK, PROTECTION_CHECK}
-use Rattle.s360_words.proofs.Overwriting.{length-overwritten}
+use Rattle.s360_words.proofs.Overwriting.{length-overwritten, overwritten-none}
 use Rattle.ckd_command.specs.Drive.{Open, gives, given, length_of}
 use Rattle.ckd_command.specs.Tables.{is_giving, action_of}
 use Rattle.ckd_command.proofs.Lengths.{length_grows, gives_length}
@@ -203,13 +203,6 @@ takes_so m key ccw a most s d d2 (Passing o b left) bytes f t p le ml h is e = (
     counted : length (take m (drop a s.bytes)) ≡ m
     counted = omega (arith, length-take-le m (drop a s.bytes) (omega (arith, length-drop a s.bytes)))
 
-pub some_same : {A : Type 0} (b : Bool) (x y : A) → Some x ≡ (if b then Some y else None) → x ≡ y
-some_same true x y h = cc
-some_same false x y h = absurd (never h)
-  where
-    never : Some x ≡ None → ⊥
-    never h = cc
-
 pub gives_so : (m key : ℕ) (ccw : Ccw) (a most : ℕ) (s s2 : Storage) (d d2 : DriveState) (w : Work) → MovesBy d.state w → gives_now w ≡ true → 0 < m → m ≤ most → most ≤ left_of w
     → ((i : ℕ) → i < m → (skips ccw ≡ true) ⊎ ((a + i < length s.bytes) × (admits (key_at s (a + i)) key ≡ true)))
     → d2 ≡ record d { work = moved_on (slice_range (given_now d w) (length (passed_of w)) (length (passed_of w) + m)) w }
@@ -342,6 +335,17 @@ lends d w m n next f g le e is = (first, ap length first ∙ ap (λ k. length (t
 pub keeps_put : (s : Storage) (a : ℕ) (new : List ℕ) → KeepsStorage s (stored s a new)
 keeps_put s a new = record { size = length-overwritten s.bytes a new; keys = refl }
 
-pub keeps_put_if : (b : Bool) (s : Storage) (a : ℕ) (new : List ℕ) → KeepsStorage s (if b then stored s a new else s)
-keeps_put_if true s a new = keeps_put s a new
-keeps_put_if false s a new = record { size = refl; keys = refl }
+-- and of those the first ones again
+pub lends_first : (d : DriveState) (w : Work) (most n from : ℕ) (next : List ℕ) → MovesBy d.state w → gives_now w ≡ true → most ≤ left_of w → n ≤ most → from ≡ most
+    → next ≡ slice_range (given_now d w) (length (passed_of w)) (length (passed_of w) + left_of w)
+    → take n (take from next) ≡ slice_range (given_now d w) (length (passed_of w)) (length (passed_of w) + n)
+lends_first d w most n from next f g le few e is =
+    take-take n from next (omega (arith, few, e)) ∙ (lends d w n n next f g (both n most (left_of w) few le) refl is).0
+  where
+    both : (n most left : ℕ) → n ≤ most → most ≤ left → n ≤ left
+    both n most left x y = omega arith
+
+-- where no byte may be stored, storage stays
+pub stores_none : (s s2 : Storage) (at n : ℕ) (bytes : List ℕ) → n ≡ 0 → s2 ≡ stored s at (take n bytes) → s2 ≡ s
+stores_none s s2 at n bytes e is =
+    is ∙ ap (λ b. record s { bytes = b }) (overwritten-none s.bytes at (take n bytes) (ap (λ n. length (take n bytes)) e))

@@ -1,5 +1,5 @@
 -- What each way through a unit of a command whose area is found comes to.
-use Rattle.std.proofs.Common.{◌≡◌, ℕ, zero, suc, ◌+◌, ◌-◌, ◌<◌, ◌≤◌, ◌^◌, refl, sym, ap, subst, ◌∙◌, arith, true, false, Bool, not, ◌&&◌, ◌||◌, [], ◌++◌, Option, nat_lt, length, append-nil, length-append}
+use Rattle.std.proofs.Common.{◌≡◌, ◌⊎◌, inl, inr, ℕ, zero, suc, ◌+◌, ◌-◌, ◌<◌, ◌≤◌, ◌^◌, refl, sym, ap, subst, ◌∙◌, arith, true, false, Bool, not, ◌&&◌, ◌||◌, [], ◌++◌, Option, nat_lt, length, append-nil, length-append}
 use Rattle.std.specs.Prelude.{if◌then◌else◌, ◌==◌, Ok, Err}
 use Rattle.std.proofs.lemmas.Bool.Decides.{nat_tests}
 use Rattle.ckd_image.specs.Image.{ImageState}
@@ -9,7 +9,7 @@ use Rattle.s360_words.specs.declared.flags.TheConstants.ChannelStatus.{INCORRECT
 use Rattle.s360_words.specs.declared.flags.TheConstants.UnitStatus.{UNIT_CHECK}
 use Rattle.s360_words.specs.declared.words.Ccw.{Ccw}
 use Rattle.ckd_command.specs.Drive.{State, Open, gives, Closed, Fault, length_of, close, drive_of, unsaved, tells_equipment_check}
-use Rattle.ckd_command.proofs.Lengths.{length_grows, gives_length}
+use Rattle.ckd_command.proofs.Lengths.{length_grows, length_stays, gives_length}
 use Rattle.ckd_drive.specs.Work.{DriveState, Work, Idle, Over, Looking, Passing, closed_of, moved_on}
 use Rattle.s360_runs.specs.Commands.{choice}
 use Rattle.s360_runs.specs.Endings.{ending}
@@ -172,7 +172,7 @@ module _ (key : ℕ) (ccw : Ccw) (a most m : ℕ) (p : Place) (s s2 : Storage) (
   passed_by (Looking o) told ml mr q = absurd told
   passed_by (Passing o b l) told ml mr q = (
     steps,
-    subst (λ (d : DriveState). StageFits (stage.Moving ccw (a + m)) d.state d.work) (sym k.drive) (within, exact),
+    subst (λ (d : DriveState). StageFits (stage.Moving ccw (a + m)) d.state d.work) (sym k.drive) (within, exact, told_on),
     ap (λ (d : DriveState). d.image) k.drive,
     ap (λ (d : DriveState). d.state) k.drive,
     q.0,
@@ -199,16 +199,28 @@ module _ (key : ℕ) (ccw : Ccw) (a most m : ℕ) (p : Place) (s s2 : Storage) (
           subst (λ x. x + (flow.left - length (next_bytes m O t)) ≤ length_of O (b ++ next_bytes m O t)) (sym (length-append b (next_bytes m O t)))
           (sums (length b) (length (next_bytes m O t)) flow.left m (length_of O b) (length_of O (b ++ next_bytes m O t)) k.count (both m most flow.left q.1 ml) told.2 (length_grows O b (next_bytes m O t)))
 
-      same_sum : (b n left L N : ℕ) → n ≤ left → b + left ≡ L → L ≡ N → (b + n) + (left - n) ≡ N
-      same_sum b n left L N le h g = omega arith
-
       few : length (next_bytes m O t) ≤ flow.left
       few = (let le : m ≤ flow.left = both m most flow.left q.1 ml in omega (arith, k.count, le))
 
+      same_sum : (b n left T : ℕ) → n ≤ left → b + left ≡ T → (b + n) + (left - n) ≡ T
+      same_sum b n left T h e = omega arith
+
+      sum_is : (T : ℕ) → length b + flow.left ≡ T → length (b ++ next_bytes m O t) + (flow.left - length (next_bytes m O t)) ≡ T
+      sum_is T e =
+          subst (λ x. x + (flow.left - length (next_bytes m O t)) ≡ T) (sym (length-append b (next_bytes m O t)))
+          (same_sum (length b) (length (next_bytes m O t)) flow.left T few e)
+
       exact : gives O ≡ true → length (b ++ next_bytes m O t) + (flow.left - length (next_bytes m O t)) ≡ length_of O (b ++ next_bytes m O t)
-      exact = λ g.
-          subst (λ x. x + (flow.left - length (next_bytes m O t)) ≡ length_of O (b ++ next_bytes m O t)) (sym (length-append b (next_bytes m O t)))
-          (same_sum (length b) (length (next_bytes m O t)) flow.left (length_of O b) (length_of O (b ++ next_bytes m O t)) few (told.3 g) (gives_length O b g ∙ sym (gives_length O (b ++ next_bytes m O t) g)))
+      exact = λ g. sum_is (length_of O b) (told.3 g) ∙ (gives_length O b g ∙ sym (gives_length O (b ++ next_bytes m O t) g))
+
+      told_on : (length (b ++ next_bytes m O t) + (flow.left - length (next_bytes m O t)) ≡ 8) ⊎ (length (b ++ next_bytes m O t) + (flow.left - length (next_bytes m O t)) ≡ length_of O (b ++ next_bytes m O t))
+      told_on = go told.4 (length_stays O b (next_bytes m O t))
+        where
+          go : (length b + flow.left ≡ 8) ⊎ (length b + flow.left ≡ length_of O b) → (length_of O b ≡ 8) ⊎ (length_of O b ≡ length_of O (b ++ next_bytes m O t))
+              → (length (b ++ next_bytes m O t) + (flow.left - length (next_bytes m O t)) ≡ 8) ⊎ (length (b ++ next_bytes m O t) + (flow.left - length (next_bytes m O t)) ≡ length_of O (b ++ next_bytes m O t))
+          go (inl e) l = inl (sum_is 8 e)
+          go (inr e) (inl eight) = inl (sum_is 8 (e ∙ eight))
+          go (inr e) (inr same) = inr (sum_is (length_of O (b ++ next_bytes m O t)) (e ∙ same))
 
       steps : walk (units m) key (Moving O t) ≡ StandsIn (phase_by (stage.Moving ccw (a + m)) (record p { residual = p.residual - m }) s2 d2.state d2.work)
       steps =

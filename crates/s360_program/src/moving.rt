@@ -21,18 +21,21 @@ pub struct Flow {
     pub left: usize,
 }
 
-/// What a drive has or wants now. Where it wants bytes and nothing is left of its last look, another one tells: a formatting
-/// write wants more once the count area came.
+// The bytes of a count area, which a formatting write asks for first.
+const COUNT_AREA: usize = 8;
+
+/// What a drive has or wants now. Where eight bytes have passed, and nothing is left of the drive's last look, another one
+/// tells: a formatting write wants more once the count area came. With any other number all bytes have passed.
 pub fn flow_of<S: ImageStore>(drive: &mut Drive<S>) -> Flow
     requires { HasFound drive.old }
     ensures { Flows result drive.old drive.new }
 {
-    let left = match drive.phase() {
+    let (passed, left) = match drive.phase() {
         Phase::Gives { passed: _, left } => return Flow { gives: true, left },
-        Phase::Takes { passed: _, left } => left,
+        Phase::Takes { passed, left } => (passed, left),
         Phase::Idle | Phase::Over | Phase::Looking => unreachable!(),
     };
-    if left > 0 {
+    if left > 0 || passed != COUNT_AREA {
         return Flow { gives: false, left };
     }
     let Look::Ready(left) = drive.look() else {
@@ -87,31 +90,12 @@ fn write<S: ImageStore>(
     ensures passes { Passes _key _ccw address most storage.now drive.old result storage.now drive.new }
     ensures image { drive.new.image ≡ drive.old.image }
 {
-    let size = storage.size();
-    if address >= size {
+    let bytes = storage.bytes_from(address, usize::from(most));
+    if bytes.is_empty() {
         return Err(Condition::ProgramCheck);
     }
-    let m = fitting(most, size - address);
-    let Some(bytes) = storage.slice(address, u32::from(m)) else {
-        return Err(Condition::ProgramCheck);
-    };
     drive.take(bytes);
-    Ok(m)
-}
-
-// As many of these as there is room for.
-fn fitting(most: u16, room: u32) -> u16
-    requires some { 0 < most }
-    requires room { 0 < room }
-    ensures some { 0 < result }
-    ensures most { result ≤ most }
-    ensures room { result ≤ room }
-{
-    if u32::from(most) > room {
-        room as u16
-    } else {
-        most
-    }
+    Ok(bytes.len() as u16)
 }
 
 // The drive gives bytes, which go into storage, unless they are skipped.
@@ -138,16 +122,15 @@ fn read<S: ImageStore>(
         drive.pass(usize::from(most));
         return Ok(most);
     }
-    let m = storage.storable(address, u32::from(most), key) as u16;
-    if m == 0 {
+    let given = &drive.next_bytes()[..usize::from(most)];
+    let n = storage.store(address, given, key);
+    if n == 0 {
         return Err(if address >= storage.size() {
             Condition::ProgramCheck
         } else {
             Condition::ProtectionCheck
         });
     }
-    let n = usize::from(m);
-    let _ = storage.put(address, &drive.next_bytes()[..n]);
     drive.pass(n);
-    Ok(m)
+    Ok(n as u16)
 }

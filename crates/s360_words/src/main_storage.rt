@@ -1,7 +1,7 @@
 //! Main storage: bytes, and a storage key for each block of 2,048 bytes (Principles of Operation, 'Main
 //! Storage' and 'Storage Protection').
 
-ghost use Rattle.std.specs.Prelude.{ℕ, ◌≡◌, ◌↔◌, ◌+◌, ◌/◌, ◌^◌, ◌<◌, ◌≤◌, false, length, nat_lt, slice_get, slice_range, Some, None, if◌then◌else◌, option_map, IsTrue, IfOk, IfSome};
+ghost use Rattle.std.specs.Prelude.{ℕ, ◌≡◌, ◌↔◌, ◌+◌, ◌-◌, min, ◌/◌, ◌^◌, ◌<◌, ◌≤◌, false, length, take, nat_lt, slice_get, slice_range, Some, None, if◌then◌else◌, option_map, IsTrue, IfOk, IfSome};
 ghost use Rattle.s360_words.specs.Storage.{is_size, cleared, is_inside, key_at, admits, may_store, overwritten, Bytes, KeyOf, changed, is_within, caw_word, ccw_at, csw_stored, status_stored};
 
 use crate::flags::{ChannelStatus, UnitStatus};
@@ -98,6 +98,17 @@ impl Storage {
         self.bytes.get(at as usize..at as usize + len as usize)
     }
 
+    /// The bytes of storage from an address on, so many at most: fewer where storage ends before, and none outside of it.
+    #[inline(always)]
+    pub fn bytes_from(&self, at: u32, most: usize) -> &[u8]
+        ensures bytes { result.now ≡ slice_range self.now.bytes at (at + length result.now) }
+        ensures len { length result.now ≡ min most (length self.now.bytes - at) }
+    {
+        let start = (at as usize).min(self.bytes.len());
+        let len = most.min(self.bytes.len() - start);
+        &self.bytes[start..start + len]
+    }
+
     /// Puts these bytes into storage and answers true; or, where one of them would be outside, changes nothing
     /// and answers false. No storage key is asked.
     pub fn put(&mut self, at: u32, bytes: &[u8]) -> bool
@@ -180,13 +191,38 @@ impl Storage {
         ensures each { (i : ℕ) → i < result → IsTrue (may_store self.now key (at + i)) }
         ensures next { result < len → may_store self.now key (at + result) ≡ false }
     {
-        let start = at as usize;
-        let end = self.bytes.len().min(start + len as usize);
+        self.reach(at as usize, len as usize, key) as u32
+    }
+
+    /// Stores as many of these bytes as may be stored with this key one after another, from the first on, and answers how
+    /// many: each of them is in storage, and the key is 0 or that of the byte's block.
+    #[inline(always)]
+    pub fn store(&mut self, at: u32, bytes: &[u8], key: u8) -> usize
+        requires { key < 16 }
+        ensures bound { result ≤ length bytes.now }
+        ensures each { (i : ℕ) → i < result → IsTrue (may_store self.old key (at + i)) }
+        ensures next { result < length bytes.now → may_store self.old key (at + result) ≡ false }
+        ensures change { self.new ≡ changed (Bytes at (take result bytes.now)) self.old }
+    {
+        let n = self.reach(at as usize, bytes.len(), key);
+        if n > 0 {
+            overwrite(&mut self.bytes, at as usize, &bytes[..n]);
+        }
+        n
+    }
+
+    // How many of so many bytes may be stored with this key, one after another.
+    fn reach(&self, start: usize, len: usize, key: u8) -> usize
+        ensures bound { result ≤ len }
+        ensures each { (i : ℕ) → i < result → IsTrue (may_store self.now key (start + i)) }
+        ensures next { result < len → may_store self.now key (start + result) ≡ false }
+    {
+        let end = start + len.min(self.bytes.len().saturating_sub(start));
         let mut reach = start;
         while reach < end && admits(self.keys[reach / BLOCK_SIZE as usize], key) {
             reach = (reach / BLOCK_SIZE as usize + 1) * BLOCK_SIZE as usize;
         }
-        (reach.min(end).max(start) - start) as u32
+        reach.min(end) - start
     }
 }
 
