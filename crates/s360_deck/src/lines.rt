@@ -160,28 +160,13 @@ impl fmt::Display for AnswerLine<'_> {
     fn fmt<W: fmt::Write>(&self, f: &mut fmt::Formatter<W>) -> fmt::Result {
         match self.0 {
             Answer::Sio(address, condition) => {
-                write!(
-                    f,
-                    "SIO {}{}",
-                    UnitAddress(*address),
-                    StatusCondition(*condition)
-                )
+                let (unit, condition) = (UnitAddress(*address), StatusCondition(*condition));
+                write!(f, "SIO {unit}{condition}")
             }
-            Answer::Tio(address, condition) => {
-                write!(
-                    f,
-                    "TIO {}{}",
-                    UnitAddress(*address),
-                    CswCondition(*condition)
-                )
-            }
+            Answer::Tio(at, code) => write!(f, "TIO {}{}", UnitAddress(*at), CswCondition(*code)),
             Answer::Hio(address, condition) => {
-                write!(
-                    f,
-                    "HIO {}{}",
-                    UnitAddress(*address),
-                    StatusCondition(*condition)
-                )
+                let (unit, condition) = (UnitAddress(*address), StatusCondition(*condition));
+                write!(f, "HIO {unit}{condition}")
             }
             Answer::Tch(condition) => write!(f, "TCH{}", PlainCondition(*condition)),
             Answer::Step(done) => write!(f, "STEP {done}"),
@@ -192,23 +177,22 @@ impl fmt::Display for AnswerLine<'_> {
                 write!(f, "INT {} {}", UnitAddress(*address), Halves(*csw))
             }
             Answer::Reset(None) => write!(f, "RESET CLEAN"),
-            Answer::Reset(Some((address, cylinder, head))) => write!(
-                f,
-                "RESET UNSAVED {} {} {}",
-                UnitAddress(*address),
-                TrackAddress(*cylinder),
-                TrackAddress(*head)
-            ),
+            Answer::Reset(Some((address, cylinder, head))) => {
+                let (cylinder, head) = (TrackAddress(*cylinder), TrackAddress(*head));
+                write!(
+                    f,
+                    "RESET UNSAVED {} {cylinder} {head}",
+                    UnitAddress(*address)
+                )
+            }
             Answer::Store(true) => write!(f, "STORE OK"),
             Answer::Store(false) => write!(f, "STORE OUTSIDE"),
             Answer::Key(true) => write!(f, "KEY OK"),
             Answer::Key(false) => write!(f, "KEY OUTSIDE"),
-            Answer::Show(at, Some(bytes)) => write!(
-                f,
-                "SHOW {} {}",
-                StorageAddress(*at),
-                Hexadecimal(bytes.as_slice())
-            ),
+            Answer::Show(at, Some(bytes)) => {
+                let (at, bytes) = (StorageAddress(*at), Hexadecimal(bytes.as_slice()));
+                write!(f, "SHOW {at} {bytes}")
+            }
             Answer::Show(_, None) => write!(f, "SHOW OUTSIDE"),
         }
     }
