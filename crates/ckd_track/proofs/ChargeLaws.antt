@@ -1,6 +1,5 @@
 -- What fits a track's capacity fits its slot.
 use Rattle.std.proofs.Common.{◌≡◌, ◌∙◌, ap, sym, refl, ℕ, zero, suc, ◌+◌, ◌-◌, ◌*◌, ◌/◌, ◌≤◌, ◌<◌, Bool, true, false, nat_le, if◌then◌else◌, ◌==◌, Option, None, Some, List, [], ◌∷◌, ◌++◌, length, length-append, take, slice_index, slice_index_or, All, sum_by, flat_map, bytes_eq, arith}
-use Rattle.std.specs.Option.{SomeIff}
 use Rattle.std.proofs.lemmas.Bool.Decides.{nat_tests}
 use Rattle.std.proofs.lemmas.Grind.{flat_map-append}
 use Rattle.std.proofs.lemmas.List.{take_more, take-take, length-take, length-drop, get_or_append_left}
@@ -136,23 +135,23 @@ none_when true n is = absurd cc
 none_when false n is = refl
 
 -- the records after one that takes more than is left leave nothing either
-pub none_left : (model : DriveModel) (rs : List Record) (i last left charge : ℕ) → left + kept_charges model (take i rs) ≡ capacity_of model → i ≤ last → last < length rs
-    → charge ≡ charge_at model i (slice_index_or rs i no_record) → (charge ≤ left → ⊥) → capacity_left model (take (last + 1) rs) ≡ None
-none_left model rs i last left charge before le lt is over =
-    let one = kept_charges-more model rs i (omega (arith, le, lt)) in
-    let more = kept_charges-le model rs (i + 1) (last + 1) (omega (arith, le)) in
-    let past : capacity_of model < kept_charges model (take (last + 1) rs) = omega (arith, one, more, before, is, over) in
-    none_when (nat_le (kept_charges model (take (last + 1) rs)) (capacity_of model)) (capacity_of model - kept_charges model (take (last + 1) rs)) (grind (arith, nat_tests))
+pub none_left : (model : DriveModel) (rs : List Record) (i to left charge : ℕ) → left + kept_charges model (take i rs) ≡ capacity_of model → i < to → to ≤ length rs
+    → charge ≡ charge_at model i (slice_index_or rs i no_record) → (charge ≤ left → ⊥) → capacity_left model (take to rs) ≡ None
+none_left model rs i to left charge before lt within is over =
+    let one = kept_charges-more model rs i (omega (arith, lt, within)) in
+    let more = kept_charges-le model rs (i + 1) to (omega (arith, lt)) in
+    let past : capacity_of model < kept_charges model (take to rs) = omega (arith, one, more, before, is, over) in
+    none_when (nat_le (kept_charges model (take to rs)) (capacity_of model)) (capacity_of model - kept_charges model (take to rs)) (grind (arith, nat_tests))
 
--- what the last record leaves
-pub left_at_last : (model : DriveModel) (rs : List Record) (last left charge : ℕ) (found : Option ℕ) → left + kept_charges model (take last rs) ≡ capacity_of model → last < length rs
-    → charge ≡ charge_at model last (slice_index_or rs last no_record) → SomeIff found (charge ≤ left) (left - charge) → found ≡ capacity_left model (take (last + 1) rs)
-left_at_last model rs last left charge None before lt is over = sym (none_left model rs last last left charge before (omega arith) lt is over)
-left_at_last model rs last left charge (Some n) before lt is within =
-    let one = kept_charges-more model rs last lt in
-    let fits : kept_charges model (take (last + 1) rs) ≤ capacity_of model = omega (arith, one, before, is, within.0) in
-    let same : capacity_of model - kept_charges model (take (last + 1) rs) ≡ n = omega (arith, one, before, is, within.0, within.1) in
-    sym (left_when (nat_le (kept_charges model (take (last + 1) rs)) (capacity_of model)) (capacity_of model - kept_charges model (take (last + 1) rs)) (grind (arith, nat_tests)) ∙ ap Some same)
+-- where the first records take more, so do all that begin with them
+pub none_behind : (model : DriveModel) (rs : List Record) (i j : ℕ) → i ≤ j → None ≡ capacity_left model (take i rs) → None ≡ capacity_left model (take j rs)
+none_behind model rs i j le is = by_test (nat_le (kept_charges model (take i rs)) (capacity_of model)) refl
+  where
+    by_test : (b : Bool) → nat_le (kept_charges model (take i rs)) (capacity_of model) ≡ b → None ≡ capacity_left model (take j rs)
+    by_test true e = absurd (let f = is ∙ left_when _ (capacity_of model - kept_charges model (take i rs)) e in cc)
+    by_test false e =
+        let more = kept_charges-le model rs i j le in
+        sym (none_when (nat_le (kept_charges model (take j rs)) (capacity_of model)) (capacity_of model - kept_charges model (take j rs)) (grind (arith, nat_tests)))
 
 -- the record that eight count bytes begin
 record New (count body : List ℕ) : Type 0 where
@@ -181,18 +180,3 @@ leaves_room model t None kl dl home are fits = λ count body eight key long both
 leaves_room model t (Some i) kl dl home are fits = λ count body eight key long both.
     let n = new count body eight (rw (key, long) both) in
     room model t.home_address (take (i + 1) t.records) (record_at (count ++ body)) home (All-take IsRecord (i + 1) t.records are) n.id (rw (n.key_area, n.data_area, key, long) fits)
-
-room_behind_one : (model : DriveModel) (rs : List Record) (kl dl left : ℕ) → 0 < length rs → Some left ≡ capacity_left model rs → last_charge_of model kl dl ≤ left → has_room model rs kl dl ≡ true
-room_behind_one model [] kl dl left some e le = absurd (omega (arith, some))
-room_behind_one model (r ∷ rs) kl dl left some e le = by_test (nat_le (kept_charges model (r ∷ rs)) (capacity_of model)) refl
-  where
-    by_test : (b : Bool) → nat_le (kept_charges model (r ∷ rs)) (capacity_of model) ≡ b → has_room model (r ∷ rs) kl dl ≡ true
-    by_test true is =
-        let l : left ≡ capacity_of model - kept_charges model (r ∷ rs) = (let f = e ∙ left_when _ (capacity_of model - kept_charges model (r ∷ rs)) is in cc) in
-        grind (arith, nat_tests)
-    by_test false is = absurd (let f = e ∙ none_when _ (capacity_of model - kept_charges model (r ∷ rs)) is in cc)
-
--- a record whose last charge is at most what records 0 to `last` leave fits behind them
-pub fits_behind : (model : DriveModel) (t : Track) (last kl dl left : ℕ) → last < length t.records → Some left ≡ capacity_left model (take (last + 1) t.records) → last_charge_of model kl dl ≤ left
-    → has_room model (kept_records (Some last) t) kl dl ≡ true
-fits_behind model t last kl dl left lt e le = room_behind_one model (take (last + 1) t.records) kl dl left (omega (arith, lt, length-take (last + 1) t.records)) e le

@@ -2,10 +2,10 @@
 //!
 //! A key length (KL) is a number of bytes from 0 to 255, a data length (DL) one from 0 to 65,535. Charges are in bytes.
 
-ghost use Rattle.std.specs.Prelude.{◌≡◌, ◌≤◌, ◌<◌, ◌+◌, ◌-◌, ◌^◌, min, length, take, IsTrue};
+ghost use Rattle.std.specs.Prelude.{◌≡◌, ◌≤◌, ◌<◌, ◌+◌, ◌-◌, ◌^◌, List, min, length, take, IsTrue};
 ghost use Rattle.std.specs.Option.{ForSome};
 ghost use Rattle.ckd_track.specs.Model.{capacity_of};
-ghost use Rattle.ckd_track.specs.Track.{key_length, data_length, record_in};
+ghost use Rattle.ckd_track.specs.Track.{Record, key_length, data_length, record_in};
 ghost use Rattle.ckd_track.specs.Changes.{kept_records};
 ghost use Rattle.ckd_track.specs.Charges.{key_overhead_of, charge_of, last_charge_of, r0_charge_of, charge_at, capacity_left, used_of, has_room, LeavesRoom, IsNoEndMark};
 
@@ -72,16 +72,39 @@ fn kept_charge(model: DriveModel, view: &TrackView, i: usize) -> u32
     }
 }
 
-/// What records 0 to `last` leave of the capacity, where others follow them; `None` where they take more.
-fn left_behind(model: DriveModel, view: &TrackView, last: usize) -> Option<u32>
-    requires { last < length view.now.records }
-    ensures { result ≡ capacity_left model (take (last + 1) view.now.records) }
+/// What the first `to` records of a track leave of the capacity, where others follow them, worked out from what the first
+/// `from` leave; `None` where they take more.
+pub fn capacity_behind(
+    model: DriveModel,
+    view: &TrackView,
+    left: Option<u32>,
+    from: usize,
+    to: usize,
+) -> Option<u32>
+    requires order { from ≤ to }
+    requires there { to ≤ length view.now.records }
+    requires left { left ≡ capacity_left model (take from view.now.records) }
+    ensures { result ≡ capacity_left model (take to view.now.records) }
 {
-    let mut left = model.capacity();
-    for i in 0..last {
-        left = left.checked_sub(kept_charge(model, view, i))?;
+    let mut rest = left?;
+    for i in from..to {
+        rest = rest.checked_sub(kept_charge(model, view, i))?;
     }
-    left.checked_sub(kept_charge(model, view, last))
+    Some(rest)
+}
+
+/// Whether what so many kept records leave of the capacity is enough for a new record with these lengths: as the last one,
+/// or as R0 where none is kept.
+pub fn fits_behind(model: DriveModel, kept: usize, left: Option<u32>, kl: u8, dl: u16) -> bool
+    ensures { (rs : List Record) → length rs ≡ kept → left ≡ capacity_left model rs → result ≡ has_room model rs kl dl }
+{
+    let Some(left) = left else {
+        return false;
+    };
+    if kept == 0 {
+        return r0_charge(model, kl, dl) <= left;
+    }
+    last_charge(model, kl, dl) <= left
 }
 
 /// What the records of a track take together, the last one as last and R0 by its own rule; 0 where there is none, and
@@ -125,10 +148,8 @@ pub fn fits(model: DriveModel, view: &TrackView, after: Option<usize>, kl: u8, d
         None => r0_charge(model, kl, dl) <= model.capacity(),
         Some(last) => {
             prove!(last < view.len());
-            match left_behind(model, view, last) {
-                None => false,
-                Some(left) => last_charge(model, kl, dl) <= left,
-            }
+            let left = capacity_behind(model, view, Some(model.capacity()), 0, last + 1);
+            fits_behind(model, last + 1, left, kl, dl)
         }
     }
 }

@@ -10,7 +10,9 @@ mod view;
 mod walk;
 mod writes;
 
-pub use crate::charges::{charge, fits, last_charge, r0_charge, used};
+pub use crate::charges::{
+    capacity_behind, charge, fits, fits_behind, last_charge, r0_charge, used,
+};
 pub use crate::fault::SlotFault;
 pub use crate::geometries::Geometry;
 pub use crate::index::index_slot;

@@ -1,12 +1,20 @@
-use Rattle.std.proofs.Common.{◌≤◌, Some, arith}
-use Rattle.std.proofs.lemmas.Bool.Decides.{nat_tests}
-use Rattle.ckd_track.specs.Charges.{last_charge_of}
-use Rattle.ckd_track.proofs.ChargeLaws.{fits_behind, leaves_room}
+use Rattle.std.proofs.Common.{◌≡◌, ◌∙◌, ◌+◌, sym, true, Some, length, length-take, take, arith}
+use Rattle.ckd_track.specs.Changes.{kept_records}
+use Rattle.ckd_track.specs.Charges.{has_room}
+use Rattle.ckd_track.proofs.ChargeLaws.{leaves_room, no_end_mark}
 use Rattle.ckd_track.proofs.charges.fits.Goals as goal
 
-pub returns-in-Some-left_behind-clause-room : goal.returns-in-Some-left_behind-clause-room
-returns-in-Some-left_behind-clause-room c = λ fits.
-    let t = c.args.view.now in
-    let le : last_charge_of c.args.model c.args.kl c.args.dl ≤ c.in-Some-left_behind.left = grind (arith, nat_tests) in
-    rw c.in-Some.is (leaves_room c.args.model t (Some c.in-Some.last) c.args.kl c.args.dl c.ha.ensures.five c.len.ensures.records
-    (fits_behind c.args.model t c.in-Some.last c.args.kl c.args.dl c.in-Some-left_behind.left (c.requires c.in-Some.last c.in-Some.is) c.in-Some-left_behind.ensures le))
+-- whether it fits behind the kept records
+fits_on : (c : goal.After-fits_behind) → c.fits_behind.result ≡ true → has_room c.args.model (kept_records (Some c.in-Some.last) c.args.view.now) c.args.kl c.args.dl ≡ true
+fits_on c e =
+    let rs = c.args.view.now.records in
+    let n : length (take (c.in-Some.last + 1) rs) ≡ c.in-Some.last + 1 = omega (arith, length-take (c.in-Some.last + 1) rs, c.requires c.in-Some.last c.in-Some.is) in
+    sym (c.fits_behind.ensures (take (c.in-Some.last + 1) rs) n c.capacity_behind-left.ensures) ∙ e
+
+pub returns-in-Some-clause-room : goal.returns-in-Some-clause-room
+returns-in-Some-clause-room c = λ fits.
+    rw c.in-Some.is (leaves_room c.args.model c.args.view.now (Some c.in-Some.last) c.args.kl c.args.dl c.ha.ensures.five c.len.ensures.records (fits_on c fits))
+
+pub returns-in-Some-clause-no_end_mark : goal.returns-in-Some-clause-no_end_mark
+returns-in-Some-clause-no_end_mark c = λ fits count key body.
+    no_end_mark c.args.model (kept_records (Some c.in-Some.last) c.args.view.now) count (rw (key, body) (fits_on c fits))
