@@ -10,6 +10,7 @@ use Rattle.std.proofs.lemmas.Grind.{get_or_default_zero}
 use Rattle.ckd_track.specs.Track.{Record, Track, Spells, track_of, track_in, record_in, no_record, record_bytes, count_area, key_length, data_length}
 use Rattle.ckd_track.proofs.Spelled.{reads_back}
 use Rattle.ckd_track.proofs.Offsets.{stands, parts_at, StandsAt, home_is, length-offsets_from}
+use Rattle.ckd_cache.specs.declared.charges.Charged.{Charged}
 use Rattle.ckd_position.specs.declared.areas.Area.TheVariants.{HomeAddress, Of}
 use Rattle.ckd_position.specs.declared.areas.Part.{Part}
 use Rattle.ckd_position.specs.declared.extents.Extent.{Extent}
@@ -148,8 +149,12 @@ table_past slot offsets n i t le =
 pub seen_index : (slot now offsets : List ℕ) (records : Option ℕ) → slot ≡ now → IsIndexed slot offsets records → IsIndexed now offsets records
 seen_index slot now offsets records e i = (let P : List ℕ → Type 0 = λ s. IsIndexed s offsets records in subst P e i)
 
-pub seen_buffer : (slot now offsets : List ℕ) (records : Option ℕ) (zeros_from : ℕ) → slot ≡ now → IsBuffer slot offsets records zeros_from → IsBuffer now offsets records zeros_from
-seen_buffer slot now offsets records zeros_from e i = (let P : List ℕ → Type 0 = λ s. IsBuffer s offsets records zeros_from in subst P e i)
+-- what a slot that reads whole spells, as callers see it
+pub spelled_now : (slot now offsets : List ℕ) (records : Option ℕ) → slot ≡ now → IsIndexed slot offsets records → is_readable (track_of now) ≡ true → Spells now (track_in now)
+spelled_now slot now offsets records e i r = (spelled now offsets records (seen_index slot now offsets records e i) r).1
+
+pub seen_buffer : (slot now offsets : List ℕ) (records : Option ℕ) (zeros_from : ℕ) (charged : Charged) → slot ≡ now → IsBuffer slot offsets records zeros_from charged → IsBuffer now offsets records zeros_from charged
+seen_buffer slot now offsets records zeros_from charged e i = (let P : List ℕ → Type 0 = λ s. IsBuffer s offsets records zeros_from charged in subst P e i)
 
 pub read_by : (slot table : List ℕ) (answer : Result ℕ SlotFault) (t : Sighted) → ((i : ℕ) → Fits w8 (get_or slot i 0)) → track_of slot ≡ t → answer ≡ number_of_records t
     → IfOk answer (λ n. offsets_of slot ≡ Ok (take n table)) → IfOk answer (λ n. n ≤ length table) → IsRead slot table (result_ok answer)

@@ -1,7 +1,7 @@
 -- Slots whose area is written bit by bit.
-use Rattle.std.proofs.Common.{◌≡◌, ◌∙◌, ap, sym, subst, refl, ℕ, zero, suc, ◌+◌, ◌-◌, ◌≤◌, ◌<◌, max, true, false, Option, Some, None, List, ◌∷◌, ◌++◌, length, take, drop, flat_map, replicate, length-append, length-take, drop-drop, append_assoc, Ok, arith}
+use Rattle.std.proofs.Common.{◌≡◌, ◌∙◌, ap, sym, subst, refl, ℕ, zero, suc, ◌+◌, ◌-◌, ◌≤◌, ◌<◌, max, false, Option, Some, None, List, ◌∷◌, ◌++◌, length, take, drop, flat_map, replicate, length-append, append_assoc, Ok, arith}
 use Rattle.std.proofs.lemmas.List.{length-replicate, drop_at, take-append-drop}
-use Rattle.ckd_track.specs.Track.{Track, track_of, track_in, track_or_none, record_in, record_offsets, record_bytes, spelling, slot_of, end_mark}
+use Rattle.ckd_track.specs.Track.{Track, track_of, track_in, track_or_none, record_in, record_bytes, spelling, slot_of, end_mark}
 use Rattle.ckd_track.specs.Changes.{end_offset, overwritten, ended_at}
 use Rattle.ckd_track.proofs.Slots.{slot_of_spells, slot_of_reads, length-slot_of}
 use Rattle.ckd_track.proofs.Rewritten.{length-overwritten, overwritten-middle}
@@ -9,7 +9,9 @@ use Rattle.ckd_position.specs.declared.areas.Area.TheVariants.{Of}
 use Rattle.ckd_position.specs.declared.areas.Part.{Part}
 use Rattle.ckd_position.specs.declared.extents.Extent.{Extent}
 use Rattle.ckd_position.specs.Contents.{is_readable, padded, replaced, with_record_changed}
-use Rattle.ckd_cache.specs.Buffer.{FitsSlot, IsUpdate, SameRecords, IsIndexed, IsBuffer}
+use Rattle.ckd_cache.specs.Buffer.{FitsSlot, IsUpdate, SameRecords, IsIndexed, IsBuffer, lengths_on}
+use Rattle.ckd_cache.specs.declared.charges.Charged.{Charged}
+use Rattle.ckd_cache.proofs.Lengths.{same_offsets, same_left}
 use Rattle.ckd_cache.proofs.Zeros.{drop_over, zero_over}
 use Rattle.ckd_cache.proofs.Writes.{update_is, update_offset, update_length}
 
@@ -42,7 +44,7 @@ ended_same size t off b long within room =
 -- All slots that a record's area makes with other bytes: the same before it and behind it.
 pub record HasForm (size : ℕ) (t0 : Track) (e : Extent) (i : ℕ) (body : List ℕ) (t' : Track) : Type 0 where
   pub fits : FitsSlot size t'
-  pub offsets : record_offsets t' ≡ record_offsets t0
+  pub lengths : lengths_on t' ≡ lengths_on t0
   pub within : update_offset e t0 i + length body ≤ size
   pub slot : slot_of size t' ≡ take (update_offset e t0 i) (slot_of size t0) ++ (body ++ drop (update_offset e t0 i + length body) (slot_of size t0))
 
@@ -57,7 +59,7 @@ form_of size t0 e part i body u f lt same =
     let F : ℕ → Type 0 = λ m. FitsSlot m t' in
     record {
       fits = subst F long k.fits;
-      offsets = k.offsets;
+      lengths = k.lengths;
       within = omega (arith, k.within, room);
       slot = ap (λ (m : ℕ). slot_of m t') (sym long) ∙ sym k.law ∙ ended_same size t0 (update_offset e t0 i) body long k.within room;
     }
@@ -87,26 +89,27 @@ padded_on head tail passed more room le =
     replicate-add zero b x = (let e : 0 + b ≡ b = omega arith in rw e refl)
     replicate-add (suc a) b x = (let e : suc a + b ≡ suc (a + b) = omega arith in rw e (ap (λ (z : List ℕ). x ∷ z) (replicate-add a b x)))
 
--- A slot of this size that was made of a track whose records stand where those of another do.
-pub same_records : (size : ℕ) (old new : List ℕ) (t : Track) → track_of old ≡ Ok (track_in old) → FitsSlot size t → new ≡ slot_of size t → record_offsets t ≡ record_offsets (track_in old) → SameRecords old new
-same_records size old new t reads f is offs =
+-- A slot of this size that was made of a track whose records are as long as those of another.
+pub same_records : (size : ℕ) (old new : List ℕ) (t : Track) → track_of old ≡ Ok (track_in old) → FitsSlot size t → new ≡ slot_of size t → lengths_on t ≡ lengths_on (track_in old) → SameRecords old new
+same_records size old new t reads f is long =
     let P : List ℕ → Type 0 = λ x. SameRecords old x in
     let read = slot_of_reads size t f.home_address f.records in
     let same : track_in (slot_of size t) ≡ t = ap track_or_none read in
-    subst P (sym is) (record { old_read = reads; spells = rw same (slot_of_spells size t f.home_address f.records); read = rw same read; offsets = rw same offs })
+    subst P (sym is) (record { old_read = reads; spells = rw same (slot_of_spells size t f.home_address f.records); read = rw same read; lengths = rw same long })
 
 -- A slot and its table where other bytes were put that leave the records in their places.
 pub put_indexed : (old new offsets : List ℕ) (records : Option ℕ) → IsIndexed old offsets records → SameRecords old new → length new ≡ length old → IsIndexed new offsets records
 put_indexed old new offsets (Some n) x s long = record {
   room = rw long x.room;
   size = rw long x.size;
-  read = record { read = s.read; spells = s.spells; within = x.read.within; table = x.read.table ∙ sym s.offsets };
+  read = record { read = s.read; spells = s.spells; within = x.read.within; table = x.read.table ∙ sym (same_offsets (track_in new) (track_in old) s.lengths) };
 }
 put_indexed old new offsets None x s long = absurd (let no : is_readable (track_of old) ≡ false = x.read in let yes = ap is_readable s.old_read in cc)
 
-pub put_buffer : (old offsets : List ℕ) (records : Option ℕ) (zeros_from at : ℕ) (b : List ℕ) → IsBuffer old offsets records zeros_from → at + length b ≤ length old → SameRecords old (overwritten old at b)
-    → IsBuffer (overwritten old at b) offsets records (max zeros_from (at + length b))
-put_buffer old offsets records zeros_from at b x room s = record {
+pub put_buffer : (old offsets : List ℕ) (records : Option ℕ) (zeros_from at : ℕ) (b : List ℕ) (charged : Charged) → IsBuffer old offsets records zeros_from charged → at + length b ≤ length old → SameRecords old (overwritten old at b)
+    → IsBuffer (overwritten old at b) offsets records (max zeros_from (at + length b)) charged
+put_buffer old offsets records zeros_from at b charged x room s = record {
   indexed = put_indexed old (overwritten old at b) offsets records x.indexed s (length-overwritten old at b room);
   cleared = zero_over old at b zeros_from (max zeros_from (at + length b)) x.cleared (omega arith) (omega arith) (omega (arith, x.cleared.within, room));
+  charges = x.charges ∙ sym (same_left charged.model (track_in (overwritten old at b)) (track_in old) charged.records s.lengths);
 }

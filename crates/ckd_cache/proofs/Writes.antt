@@ -2,16 +2,16 @@
 use Rattle.std.proofs.Common.{◌≡◌, ◌∙◌, ap, sym, subst, refl, inl, inr, ◌⊎◌, ℕ, zero, suc, ◌+◌, ◌-◌, ◌/◌, ◌^◌, ◌≤◌, ◌<◌, min, List, [], ◌∷◌, ◌++◌, true, false, length, take, drop, set, flat_map, replicate, slice_index, bytes_eq, length-append, length-take, length-set, append-nil, Option, Some, None, unwrap_or, All, sum_by, add-one, arith}
 use Rattle.std.specs.Option.{ForSome}
 use Rattle.std.proofs.lemmas.Bool.{cases_lt}
-use Rattle.std.proofs.lemmas.List.{length-replicate, take_all, take-take}
-use Rattle.std.proofs.Math.Seq.{take-suc-set}
+use Rattle.std.proofs.lemmas.List.{length-replicate, take_all, take_at, take-take}
+use Rattle.std.proofs.Math.Seq.{take-suc-set, map-set_same}
 use Rattle.std.proofs.lemmas.List.Sums.{sum_by-cons}
 use Rattle.std.proofs.lemmas.List.Elements.{All-set, All-nil, All-take, All-push, All-replicate, All-head, All-tail}
-use Rattle.ckd_track.specs.Track.{Record, Track, IsRecord, Spells, track_of, track_in, track_or_none, record_in, record_offsets, offsets_from, record_size, record_bytes, record_at, body_length, key_length, data_length, spelling, slot_of, end_mark}
+use Rattle.ckd_track.specs.Track.{Record, Track, IsRecord, Spells, track_of, track_in, track_or_none, record_in, no_record, record_offsets, offsets_from, record_size, record_bytes, record_at, body_length, key_length, data_length, spelling, slot_of, end_mark}
 use Rattle.ckd_track.specs.Changes.{bare_track, kept_records, with_record, with_data, with_key_data, with_body, offset_behind, end_offset, data_offset, overwritten, ended_at}
 use Rattle.ckd_track.proofs.Laws.{AreBytes}
 use Rattle.ckd_track.proofs.Places.{length-record_bytes, place, place-one, offset_is, place-le, end_is}
 use Rattle.ckd_track.proofs.Offsets.{parts_at, length-offsets_from, few_records}
-use Rattle.ckd_track.proofs.Slots.{slot_of_spells, slot_of_reads, length-slot_of, length-spelling, offsets-append, offsets-take, offsets-set}
+use Rattle.ckd_track.proofs.Slots.{slot_of_spells, slot_of_reads, length-slot_of, length-spelling, offsets-append, offsets-take}
 use Rattle.ckd_track.proofs.Rewritten.{length-overwritten, data_is_record, body_is_record, body_lengths}
 use Rattle.ckd_track.proofs.Writing.{Makes, makes, new_slot, new_room, data_slot, key_data_slot}
 use Rattle.ckd_track.specs.declared.model.DriveModel.{DriveModel}
@@ -22,11 +22,13 @@ use Rattle.ckd_position.specs.declared.areas.Area.{Area}
 use Rattle.ckd_position.specs.declared.areas.Area.TheVariants.{HomeAddress, Of}
 use Rattle.ckd_position.specs.declared.areas.Part.{Part}
 use Rattle.ckd_position.specs.Contents.{is_readable, padded, new_record, formatted, kept, replaced, with_record_changed}
-use Rattle.ckd_cache.specs.Buffer.{Tabled, IsIndexed, StandsThere, number_up_to, FitsSlot, IsUpdate, IsRecordOf, IsPlaceOf, end_of_records, record_place}
+use Rattle.ckd_cache.specs.Buffer.{Tabled, IsIndexed, StandsThere, number_up_to, FitsSlot, IsUpdate, IsRecordOf, IsPlaceOf, end_of_records, record_place, lengths_on, IsCharged}
+use Rattle.ckd_cache.specs.declared.charges.Charged.{Charged}
 use Rattle.ckd_position.specs.declared.extents.Extent.{Extent}
 use Rattle.ckd_position.specs.declared.extents.Extent.TheVariants as extent
 use Rattle.ckd_cache.specs.declared.windows.Window.{Window}
 use Rattle.ckd_cache.proofs.AreaPlaces.{spelled, standing}
+use Rattle.ckd_cache.proofs.Lengths.{lengths_of, same_offsets, same_left}
 
 -- The table.
 
@@ -176,7 +178,7 @@ format_fits slot before after count s b eight no_mark same room =
       room = (let S : Track → Type 0 = λ x. length (spelling x) ≤ length slot in subst S (sym (formatted_is slot before after count eight same)) room);
     })
 
-kept_take : (t : Track) (before : Option ℕ) → kept_records before t ≡ take (number_up_to before) t.records
+pub kept_take : (t : Track) (before : Option ℕ) → kept_records before t ≡ take (number_up_to before) t.records
 kept_take t None = refl
 kept_take t (Some i) = refl
 
@@ -229,9 +231,24 @@ format_indexed slot offsets n at before after count x b eight no_mark same room 
     (omega (arith, x.room, length-set offsets (number_up_to before) at)) x.size (omega (arith, k, length-set offsets (number_up_to before) at))
     (format_table slot before after count offsets n at x.read.spells eight same x.read.table (omega (arith, le, many)) (omega (arith, k)) e)
 
+-- the kept records stay
+pub format_keeps : (slot : List ℕ) (before : Option ℕ) (after : Option Area) (count : List ℕ) → length count ≡ 8 → kept_records before (track_in slot) ≡ kept (track_of slot) after → FitsSlot (length slot) (formatted (track_of slot) after count)
+    → ForSome before (λ i. i < length (track_in slot).records) → take (number_up_to before) (track_in (slot_of (length slot) (formatted (track_of slot) after count))).records ≡ take (number_up_to before) (track_in slot).records
+format_keeps slot before after count eight same f lt =
+    let t = track_in slot in
+    let k = number_up_to before in
+    let new = record_at (count ++ replicate (body_length count) 0) in
+    let made = ap track_or_none (slot_of_reads (length slot) (formatted (track_of slot) after count) f.home_address f.records) ∙ sym (formatted_is slot before after count eight same) in
+    ap (λ (x : Track). take k x.records) made ∙ take_at (kept_records before t) (new ∷ []) k (length-kept t before lt) ∙ kept_take t before
+
 -- A slot and its table where only an area's bytes change.
-pub same_indexed : (slot offsets : List ℕ) (records : Option ℕ) (t' : Track) → IsIndexed slot offsets records → is_readable (track_of slot) ≡ true → FitsSlot (length slot) t' → record_offsets t' ≡ record_offsets (track_in slot) → IsIndexed (slot_of (length slot) t') offsets records
-same_indexed slot offsets (Some n) t' x r f e = indexed_slot (length slot) t' offsets n f x.room x.size x.read.within (x.read.table ∙ sym e)
+pub same_charged : (slot : List ℕ) (t' : Track) (charged : Charged) → FitsSlot (length slot) t' → lengths_on t' ≡ lengths_on (track_in slot) → IsCharged (track_in slot).records charged → IsCharged (track_in (slot_of (length slot) t')).records charged
+same_charged slot t' charged f long is =
+    let made : track_in (slot_of (length slot) t') ≡ t' = ap track_or_none (slot_of_reads (length slot) t' f.home_address f.records) in
+    is ∙ sym (same_left charged.model (track_in (slot_of (length slot) t')) (track_in slot) charged.records (ap lengths_on made ∙ long))
+
+pub same_indexed : (slot offsets : List ℕ) (records : Option ℕ) (t' : Track) → IsIndexed slot offsets records → is_readable (track_of slot) ≡ true → FitsSlot (length slot) t' → lengths_on t' ≡ lengths_on (track_in slot) → IsIndexed (slot_of (length slot) t') offsets records
+same_indexed slot offsets (Some n) t' x r f e = indexed_slot (length slot) t' offsets n f x.room x.size x.read.within (x.read.table ∙ sym (same_offsets t' (track_in slot) e))
 same_indexed slot offsets None t' x r f e = absurd (let no : is_readable (track_of slot) ≡ false = x.read in cc)
 
 -- Other bytes in a record's areas.
@@ -247,11 +264,11 @@ pub record IsUpdated (slot : List ℕ) (t : Track) (off : ℕ) (body : List ℕ)
   pub within : off + length body ≤ end_offset t
   pub law : ended_at (overwritten slot off body) (end_offset t) ≡ slot_of (length slot) t'
   pub fits : FitsSlot (length slot) t'
-  pub offsets : record_offsets t' ≡ record_offsets t
+  pub lengths : lengths_on t' ≡ lengths_on t
 
-updated_by : (slot : List ℕ) (t : Track) (i off : ℕ) (body : List ℕ) (r : Record) → Spells slot t → i < length t.records → off + length body ≤ end_offset t → IsRecord r → record_size r ≡ record_size (record_in t i)
+updated_by : (slot : List ℕ) (t : Track) (i off : ℕ) (body : List ℕ) (r : Record) → Spells slot t → i < length t.records → off + length body ≤ end_offset t → IsRecord r → lengths_of r ≡ lengths_of (record_in t i)
     → ended_at (overwritten slot off body) (end_offset t) ≡ slot_of (length slot) (record t { records = set t.records i r }) → IsUpdated slot t off body (record t { records = set t.records i r })
-updated_by slot t i off body r s lt within is size law =
+updated_by slot t i off body r s lt within is same law =
     let last : end_offset t + 8 ≤ length slot = omega (arith, place-le slot t s (length t.records), end_is t) in
     let long : length (overwritten slot off body) ≡ length slot = length-overwritten slot off body (omega (arith, within, last)) in
     let whole : length (slot_of (length slot) (record t { records = set t.records i r })) ≡ length slot = sym (ap length law) ∙ length-ended (overwritten slot off body) (end_offset t) (omega (arith, long, last)) ∙ long in
@@ -259,7 +276,7 @@ updated_by slot t i off body r s lt within is size law =
       within = within;
       law = law;
       fits = record { home_address = s.home_address; records = All-set IsRecord t.records i r is s.records; room = spelled_room (length slot) (record t { records = set t.records i r }) whole };
-      offsets = offsets-set 5 t.records i r size;
+      lengths = map-set_same lengths_of t.records i r no_record same;
     }
 
 record_end : (slot : List ℕ) (t : Track) (i : ℕ) → Spells slot t → i < length t.records → slice_index (record_offsets t) i + record_size (record_in t i) ≤ end_offset t
@@ -280,13 +297,13 @@ record_end slot t i s lt =
 
 pub data_updated : (slot : List ℕ) (t : Track) (i : ℕ) (body : List ℕ) → Spells slot t → i < length t.records → length body ≡ length (record_in t i).data_area → IsUpdated slot t (data_offset t i) body (with_data i body t)
 data_updated slot t i body s lt same =
-    updated_by slot t i (data_offset t i) body (record (record_in t i) { data_area = body }) s lt (omega (arith, record_end slot t i s lt, same)) (data_is_record slot t s i lt body same) (omega (arith, same)) (data_slot slot t s i lt body same)
+    updated_by slot t i (data_offset t i) body (record (record_in t i) { data_area = body }) s lt (omega (arith, record_end slot t i s lt, same)) (data_is_record slot t s i lt body same) (ap (λ (n : ℕ). let l : ℕ × ℕ = (length (record_in t i).key_area, n) in l) same) (data_slot slot t s i lt body same)
 
 pub key_data_updated : (slot : List ℕ) (t : Track) (i : ℕ) (body : List ℕ) → Spells slot t → i < length t.records → length body ≡ length (record_in t i).key_area + length (record_in t i).data_area
     → IsUpdated slot t (slice_index (record_offsets t) i + 8) body (with_key_data i body t)
 key_data_updated slot t i body s lt same =
     let l = body_lengths slot t s i lt body same in
-    updated_by slot t i (slice_index (record_offsets t) i + 8) body (with_body body (record_in t i)) s lt (omega (arith, record_end slot t i s lt, same)) (body_is_record slot t s i lt body same) (omega (arith, l.key_area, l.data_area)) (key_data_slot slot t s i lt body same)
+    updated_by slot t i (slice_index (record_offsets t) i + 8) body (with_body body (record_in t i)) s lt (omega (arith, record_end slot t i s lt, same)) (body_is_record slot t s i lt body same) (rw (l.key_area, l.data_area) refl) (key_data_slot slot t s i lt body same)
 
 -- The window of an update, and the record with other bytes in it.
 abbrev pub update_offset : Extent → Track → ℕ → ℕ
@@ -342,7 +359,7 @@ zeros_replace extent.Key r u = absurd u
 zeros_replace extent.CountKeyAndData r u = absurd u
 
 pub clear_is : (e : Extent) (slot : List ℕ) (area : Area) (w : Window) (end : ℕ) → (let t = track_in slot in IsUpdate e → Spells slot t → IsRecordOf t area → IsPlaceOf e t area w → end ≡ end_of_records t (length t.records)
-    → (ended_at (overwritten slot w.start (replicate w.len 0)) end ≡ slot_of (length slot) (with_record_changed (replaced e []) area t)) × FitsSlot (length slot) (with_record_changed (replaced e []) area t) × (record_offsets (with_record_changed (replaced e []) area t) ≡ record_offsets t))
+    → (ended_at (overwritten slot w.start (replicate w.len 0)) end ≡ slot_of (length slot) (with_record_changed (replaced e []) area t)) × FitsSlot (length slot) (with_record_changed (replaced e []) area t) × (lengths_on (with_record_changed (replaced e []) area t) ≡ lengths_on t))
 clear_is e slot HomeAddress w end u s there p last = absurd there
 clear_is e slot (Of part i) w end u s there p last =
     let t = track_in slot in
@@ -352,7 +369,7 @@ clear_is e slot (Of part i) w end u s there p last =
     let k = update_is e slot t part i (replicate n 0) u s there (length-replicate {A = ℕ} n 0) in
     let same : with_record_changed (replaced e (replicate n 0)) (Of part i) t ≡ with_record_changed (replaced e []) (Of part i) t = ap (λ (x : Record). let y : Track = record t { records = set t.records i x } in y) (zeros_replace e r u) in
     let F : Track → Type 0 = λ x. FitsSlot (length slot) x in
-    (rw (place.0, place.1, last, end_is t) (k.law ∙ ap (slot_of (length slot)) same), subst F same k.fits, ap record_offsets (sym same) ∙ k.offsets)
+    (rw (place.0, place.1, last, end_is t) (k.law ∙ ap (slot_of (length slot)) same), subst F same k.fits, ap lengths_on (sym same) ∙ k.lengths)
 
 -- the place of an update lies before the end mark
 pub window_within : (e : Extent) (slot : List ℕ) (area : Area) (w : Window) (end : ℕ) → (let t = track_in slot in IsUpdate e → Spells slot t → IsRecordOf t area → IsPlaceOf e t area w → end ≡ end_of_records t (length t.records) → w.start + w.len ≤ end)

@@ -1,5 +1,5 @@
 -- Zeros up to the slot's end.
-use Rattle.std.proofs.Common.{◌≡◌, ◌∙◌, ap, sym, subst, refl, ℕ, ◌+◌, ◌-◌, ◌≤◌, ◌<◌, max, List, ◌++◌, length, take, drop, replicate, length-append, length-take, length-drop, drop-drop, append_assoc, arith}
+use Rattle.std.proofs.Common.{◌≡◌, ◌∙◌, ap, sym, subst, refl, ℕ, ◌+◌, ◌-◌, ◌≤◌, ◌<◌, max, List, ◌++◌, length, take, drop, replicate, length-append, length-take, drop-drop, append_assoc, arith}
 use Rattle.std.proofs.lemmas.List.{length-replicate, drop_at, drop-replicate, drop_all, replicate-append-replicate}
 use Rattle.ckd_track.specs.Track.{end_mark}
 use Rattle.ckd_track.specs.Changes.{overwritten, ended_at}

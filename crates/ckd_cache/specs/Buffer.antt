@@ -1,9 +1,11 @@
 -- One slot at hand, and a table of its records.
-use Rattle.std.specs.Prelude.{◌≡◌, ℕ, ◌+◌, ◌-◌, ◌/◌, ◌≤◌, ◌<◌, ◌^◌, List, false, Option, Some, None, Ok, length, take, drop, flat_map, replicate, slice_range, slice_index, All}
-use Rattle.ckd_track.specs.Track.{Track, IsRecord, Spells, track_of, track_in, record_offsets, record_in, record_bytes, spelling}
+use Rattle.std.specs.Prelude.{◌≡◌, ℕ, ◌+◌, ◌-◌, ◌/◌, ◌≤◌, ◌<◌, ◌^◌, List, false, Option, Some, None, Ok, length, take, drop, map, flat_map, replicate, slice_range, slice_index, All}
+use Rattle.ckd_track.specs.Track.{Record, Track, IsRecord, Spells, track_of, track_in, record_offsets, record_in, record_bytes, spelling}
 use Rattle.ckd_position.specs.declared.areas.Area.{Area}
 use Rattle.ckd_position.specs.declared.areas.Area.TheVariants.{HomeAddress, Of}
+use Rattle.ckd_track.specs.Charges.{capacity_left}
 use Rattle.ckd_cache.specs.declared.windows.Window.{Window}
+use Rattle.ckd_cache.specs.declared.charges.Charged.{Charged}
 use Rattle.ckd_position.specs.declared.extents.Extent.{Extent}
 use Rattle.ckd_position.specs.declared.extents.Extent.TheVariants as extent
 use Rattle.ckd_position.specs.Contents.{Sighted, is_readable, records_on}
@@ -35,10 +37,15 @@ pub record IsZeroFrom (slot : List ℕ) (from : ℕ) : Type 0 where
   pub within : from ≤ length slot
   pub zeros : drop from slot ≡ replicate (length slot - from) 0
 
--- a slot with its table, of which only the bytes before an offset can be other than zero
-pub record IsBuffer (slot offsets : List ℕ) (records : Option ℕ) (zeros_from : ℕ) : Type 0 where
+-- so much of the capacity is left by the first records, so many of them, where others follow them
+abbrev pub IsCharged : List Record → Charged → Type 0
+IsCharged rs c = c.left ≡ capacity_left c.model (take c.records rs)
+
+-- a slot with its table and what its first records leave of the capacity, of which only the bytes before an offset can be other than zero
+pub record IsBuffer (slot offsets : List ℕ) (records : Option ℕ) (zeros_from : ℕ) (charged : Charged) : Type 0 where
   pub indexed : IsIndexed slot offsets records
   pub cleared : IsZeroFrom slot zeros_from
+  pub charges : IsCharged (track_in slot).records charged
 
 -- where these bytes of the home address stand
 abbrev pub home_address_place : Extent → Window
@@ -72,12 +79,16 @@ HasBytes extent.Count t (Of part i) = i < length (records_on t)
 HasBytes extent.CountKeyAndData t (Of part i) = i < length (records_on t)
 HasBytes e t a = Unit {0}
 
--- a slot whose records stand where those of another do
+-- how many bytes the key and the data of each record have
+abbrev pub lengths_on : Track → List (ℕ × ℕ)
+lengths_on t = map (λ r. (length r.key_area, length r.data_area)) t.records
+
+-- a slot whose records have keys and data as long as those of another, and so stand where those do
 pub record SameRecords (old new : List ℕ) : Type 0 where
   pub old_read : track_of old ≡ Ok (track_in old)
   pub spells : Spells new (track_in new)
   pub read : track_of new ≡ Ok (track_in new)
-  pub offsets : record_offsets (track_in new) ≡ record_offsets (track_in old)
+  pub lengths : lengths_on (track_in new) ≡ lengths_on (track_in old)
 
 -- a track whose records can be spelled, and which a slot of this size holds
 pub record FitsSlot (size : ℕ) (t : Track) : Type 0 where

@@ -11,10 +11,11 @@ ghost use Rattle.std.specs.Option.{ForSome};
 ghost use Rattle.ckd_position.specs.Contents.{records_on, bytes_of, is_readable as reads, has_no_data as lacks_data, formatted as track_formatted, with_record_changed, replaced, kept as kept_on, record_before as before_of};
 ghost use Rattle.ckd_cache.specs.Buffer.{Lies, HasBytes, IsPlaceOf, StandsThere, home_address_place, record_place, IsRead, end_of_records, number_up_to, IsRecordOf, SameRecords, FitsSlot, IsUpdate, IsZeroFrom};
 
+use crate::charges::Charged;
 use crate::windows::Window;
 use ckd_image::{Image, ImageStore, StoreFault};
 use ckd_position::{Area, Extent, Kind, Next, Position, next_area};
-use ckd_track::{DriveModel, fits, index_slot, overwrite, view_at};
+use ckd_track::{DriveModel, fits_behind, index_slot, overwrite, view_at};
 use std::alloc::{AllocError, Global};
 use std::marker::Model;
 
@@ -32,6 +33,8 @@ pub struct TrackBuffer {
     records: Option<usize>,
     /// From here on all bytes of the slot are zero, so that nothing is left there to be cleared.
     zeros_from: usize,
+    /// What its first records leave of the capacity, as far as it was asked.
+    charged: Charged,
 }
 
 impl Model for TrackBuffer {
@@ -42,7 +45,7 @@ impl Model for TrackBuffer {
 
     ghost view = { λ b. b.slot.items };
 
-    ghost invariant = { λ b. IsBuffer b.slot.items b.offsets.items b.records b.zeros_from };
+    ghost invariant = { λ b. IsBuffer b.slot.items b.offsets.items b.records b.zeros_from b.charged };
 }
 
 // Notes where the records stand, and answers how many there are if the slot reads whole.
@@ -216,6 +219,7 @@ impl TrackBuffer {
             offsets,
             records,
             zeros_from: size,
+            charged: Charged::none(DriveModel::D2314),
         })
     }
 
@@ -246,6 +250,7 @@ impl TrackBuffer {
         let answer = image.load(track, &mut self.slot);
         self.zeros_from = self.slot.len();
         self.records = index(&self.slot, &mut self.offsets);
+        self.charged.keep(0);
         answer
     }
 
@@ -353,21 +358,22 @@ impl TrackBuffer {
     }
 
     /// Whether a new record with these count bytes fits.
-    pub fn fits(&self, model: DriveModel, after: Option<Area>, count: [u8; 8]) -> bool
-        requires { reads (track_of self.now) ≡ true }
-        ensures value { result ≡ has_room model (kept_on (track_of self.now) after) (key_length_of count) (data_length_of count) }
-        ensures room { result ≡ true → length (spelling (track_formatted (track_of self.now) after count)) ≤ capacity_of model + 37 }
+    ///
+    /// What the records take is kept from one such question to the next, so that those that are formatted one behind
+    /// another are each counted once.
+    pub fn fits(&mut self, model: DriveModel, after: Option<Area>, count: [u8; 8]) -> bool
+        requires { reads (track_of self.old) ≡ true }
+        ensures value { result ≡ has_room model (kept_on (track_of self.old) after) (key_length_of count) (data_length_of count) }
+        ensures room { result ≡ true → length (spelling (track_formatted (track_of self.old) after count)) ≤ capacity_of model + 37 }
         ensures no_end_mark { result ≡ true → bytes_eq count end_mark ≡ false }
+        ensures stays { self.new ≡ self.old }
     {
+        let kept = records_up_to(self.before(after));
         let n = self.records.unwrap_or(0);
         let view = view_at(&self.slot, &self.offsets[..n]);
-        fits(
-            model,
-            &view,
-            self.before(after),
-            count[5],
-            u16::from_be_bytes([count[6], count[7]]),
-        )
+        self.charged.reach(model, &view, kept);
+        let dl = u16::from_be_bytes([count[6], count[7]]);
+        fits_behind(model, kept, self.charged.left, count[5], dl)
     }
 
     /// Writes the home address, and removes all records.
@@ -379,6 +385,7 @@ impl TrackBuffer {
         put_home_address(&mut self.slot, &home_address, self.zeros_from);
         self.records = Some(0);
         self.zeros_from = HOME_ADDRESS_LENGTH + COUNT_LENGTH;
+        self.charged.keep(0);
     }
 
     /// Writes a record of these count bytes behind the kept ones, with zeros in its key and data, removes all records
@@ -399,6 +406,7 @@ impl TrackBuffer {
         self.offsets[kept] = at as u32;
         self.records = Some(kept + 1);
         self.zeros_from = at + COUNT_LENGTH + body + COUNT_LENGTH;
+        self.charged.keep(kept);
         kept
     }
 
@@ -417,7 +425,7 @@ impl TrackBuffer {
         self.zeros_from = end + COUNT_LENGTH;
     }
 
-    /// Puts other bytes into the slot, where its records stay in their places.
+    /// Puts other bytes into the slot, where its records keep their lengths, and so their places.
     pub fn put(&mut self, at: usize, bytes: &[u8])
         requires room { at + length bytes.now ≤ length self.old }
         requires records { SameRecords self.old (overwritten self.old at bytes.now) }

@@ -2,7 +2,9 @@
 
 ghost use Rattle.std.specs.Prelude.{◌≡◌, ◌≤◌, ◌<◌, ◌+◌, Some, None, true, false, [], length, bytes_eq, unwrap_or, slice_index_or, IfOk, IfErr, OnOk, OnErr, IsSome};
 ghost use Rattle.ckd_track.specs.Geometry.{tracks_of};
-ghost use Rattle.ckd_track.specs.Track.{track_of, track_in, slot_of, spelling, end_mark};
+ghost use Rattle.ckd_track.specs.Track.{track_of, track_in, slot_of, spelling, end_mark, key_length, data_length};
+ghost use Rattle.ckd_track.specs.Model.{capacity_of};
+ghost use Rattle.ckd_track.specs.Charges.{has_room};
 ghost use Rattle.ckd_track.specs.Changes.{overwritten, bare_track};
 ghost use Rattle.ckd_position.specs.Contents.{is_readable, formatted as track_formatted, with_record_changed, replaced, kept};
 ghost use Rattle.ckd_cache.specs.Buffer.{SameRecords, FitsSlot, IsUpdate, IsRecordOf};
@@ -101,6 +103,18 @@ impl<S: ImageStore> TrackCache<S> {
         &self.buffer
     }
 
+    /// Whether a new record with these count bytes fits the track at hand.
+    pub fn fits(&mut self, after: Option<Area>, count: [u8; 8]) -> bool
+        requires held { IsSome self.old.held }
+        requires readable { is_readable (track_of (slot_held self.old)) ≡ true }
+        ensures value { result ≡ has_room self.old.image.geometry.model (kept (track_of (slot_held self.old)) after) (key_length count) (data_length count) }
+        ensures room { result ≡ true → length (spelling (track_formatted (track_of (slot_held self.old)) after count)) ≤ capacity_of self.old.image.geometry.model + 37 }
+        ensures no_end_mark { result ≡ true → bytes_eq count end_mark ≡ false }
+        ensures stays { self.new ≡ self.old }
+    {
+        self.buffer.fits(self.image.geometry().model, after, count)
+    }
+
     /// Writes the home address into the slot at hand, and removes all records.
     pub fn write_home_address(&mut self, home_address: [u8; 5])
         requires held { IsSome self.old.held }
@@ -141,7 +155,7 @@ impl<S: ImageStore> TrackCache<S> {
         self.changed = true;
     }
 
-    /// Puts other bytes into the slot at hand, where its records stay in their places.
+    /// Puts other bytes into the slot at hand, where its records keep their lengths, and so their places.
     pub fn put(&mut self, at: usize, bytes: &[u8])
         requires held { IsSome self.old.held }
         requires room { at + length bytes.now ≤ self.old.image.geometry.track_size }

@@ -4,6 +4,7 @@
 
 mod buffer;
 mod cache;
+mod charges;
 mod windows;
 
 pub use crate::buffer::TrackBuffer;

@@ -2,7 +2,7 @@
 use Rattle.std.proofs.Common.{◌≡◌, ◌∙◌, ap, sym, subst, refl, ℕ, ◌+◌, ◌-◌, ◌<◌, ◌≤◌, ◌^◌, List, [], ◌++◌, Bool, true, false, ◌||◌, Some, Ok, Err, unwrap_or, length, take, drop, set-set, get_or-set_same, slice_set, replicate, length-append, length-drop, length-take, length-set, append_assoc, arith}
 use Rattle.std.proofs.lemmas.List.{length-replicate, drop-append-le}
 use Rattle.std.proofs.lemmas.List.Elements.{All-set}
-use Rattle.ckd_track.specs.Track.{Track, track_of, track_in, track_or_none, record_in, record_offsets, slot_of}
+use Rattle.ckd_track.specs.Track.{Track, track_of, track_in, track_or_none, record_in, slot_of}
 use Rattle.ckd_track.specs.Changes.{overwritten}
 use Rattle.ckd_track.proofs.Slots.{slot_of_reads, length-slot_of}
 use Rattle.ckd_track.specs.declared.geometries.Geometry.{Geometry}
@@ -16,7 +16,7 @@ use Rattle.ckd_cache.specs.declared.windows.Window.{Window}
 use Rattle.ckd_drive.specs.Places.{Place, Filled, Progress}
 use Rattle.ckd_position.specs.Contents.{Sighted, is_readable, padded, replaced, with_record_changed}
 use Rattle.ckd_command.specs.Commands.{length_after, closing, outcome}
-use Rattle.ckd_cache.specs.Buffer.{FitsSlot, IsUpdate, SameRecords}
+use Rattle.ckd_cache.specs.Buffer.{FitsSlot, IsUpdate, SameRecords, lengths_on}
 use Rattle.ckd_cache.specs.Cache.{CacheState, with_held}
 use Rattle.ckd_drive.specs.Half.{Works, MayTake, Absorbs, IsPlaced, HasFilled, IsFilled, next_progress, slot_at, number, seen_by}
 use Rattle.ckd_cache.proofs.Writes.{update_offset, update_length}
@@ -94,11 +94,11 @@ pub record ClosesFilled (g : Geometry) (r : Registers) (before : List ℕ) (o : 
   pub wants : length_after g (track_of before) o r b ≡ lead + room
 
 abbrev pub form_filled : (g : Geometry) (r : Registers) (before now : List ℕ) (o : Opened) (passed : List ℕ) (w : Window) (u : Outcome) (t0 : Track) (e : Extent) (part : Part) (i lead : ℕ)
-    → IsUpdate e → FitsSlot g.track_size t0 → i < length t0.records → record_offsets (track_in now) ≡ record_offsets t0 → lead ≤ length passed → lead ≤ 8
+    → IsUpdate e → FitsSlot g.track_size t0 → i < length t0.records → lengths_on (track_in now) ≡ lengths_on t0 → lead ≤ length passed → lead ≤ 8
     → w.start ≡ update_offset e t0 i + (length passed - lead) → w.len + (length passed - lead) ≡ update_length e (record_in t0 i)
     → ((more : List ℕ) → length more ≤ w.len → ClosesFilled g r before o (passed ++ more) u t0 e part i lead (update_length e (record_in t0 i)))
     → IsFilled g r before now o passed w u
-form_filled g r before now o passed w u t0 e part i lead upd f lt offs begins small start len k =
+form_filled g r before now o passed w u t0 e part i lead upd f lt lens begins small start len k =
     let size = g.track_size in
     let off = update_offset e t0 i in
     let room = update_length e (record_in t0 i) in
@@ -127,7 +127,7 @@ form_filled g r before now o passed w u t0 e part i lead upd f lt offs begins sm
             so = c.so;
             written = c.written;
             fits = form.fits;
-            offsets_stay = form.offsets ∙ sym offs;
+            lengths_stay = form.lengths ∙ sym lens;
             slot_is = form.slot ∙ ap (λ (n : ℕ). take off s0 ++ (body ++ drop (off + n) s0)) body_long;
           });
       wants = λ more le. (k more le).wants;
@@ -135,9 +135,9 @@ form_filled g r before now o passed w u t0 e part i lead upd f lt offs begins sm
 
 -- More bytes.
 
-abbrev pub filled_on : (g : Geometry) (r : Registers) (before now now' : List ℕ) (o : Opened) (passed more : List ℕ) (w : Window) (u : Outcome) → length more ≤ w.len → record_offsets (track_in now') ≡ record_offsets (track_in now)
+abbrev pub filled_on : (g : Geometry) (r : Registers) (before now now' : List ℕ) (o : Opened) (passed more : List ℕ) (w : Window) (u : Outcome) → length more ≤ w.len → lengths_on (track_in now') ≡ lengths_on (track_in now)
     → IsFilled g r before now o passed w u → IsFilled g r before now' o (passed ++ more) (record { start = w.start + length more; len = w.len - length more }) u
-filled_on g r before now now' o passed more w u le offs f =
+filled_on g r before now now' o passed more w u le lens f =
     let far = length-append passed more in
     record {
       head = f.head;
@@ -152,7 +152,7 @@ filled_on g r before now now' o passed more w u le offs f =
       closes = λ m lm.
           (let c = f.closes (more ++ m) (omega (arith, length-append more m, le, lm)) in
           let same : passed ++ (more ++ m) ≡ (passed ++ more) ++ m = sym (append_assoc passed more m) in
-          rw (same, ← offs) at c);
+          rw (same, ← lens) at c);
       wants = λ m lm.
           (let c = f.wants (more ++ m) (omega (arith, length-append more m, le, lm)) in
           let same : passed ++ (more ++ m) ≡ (passed ++ more) ++ m = sym (append_assoc passed more m) in
@@ -197,11 +197,11 @@ filled_absorbs c r before passed p more w u x may at =
     let made' : new ≡ f.head ++ (padded (drop f.lead (passed ++ more)) f.room ++ f.tail) = rw (next_bytes f.lead passed more f.begins) made in
     let slot : new ≡ slot_of g.track_size k.track = made' ∙ sym k.slot_is in
     let read = reads_new g.track_size k.track new k.fits slot in
-    let offs : record_offsets (track_in new) ≡ record_offsets (track_in old) = ap record_offsets read.1 ∙ k.offsets_stay in
+    let lens : lengths_on (track_in new) ≡ lengths_on (track_in old) = ap lengths_on read.1 ∙ k.lengths_stay in
     let at_new = new_slot_at c n new h.at_hand.held lt in
     let w' : Window = record { start = w.start + length more; len = w.len - length more } in
     let now : List ℕ = slot_at (with_held c new).slots n in
-    let on = filled_on g r before old now p.opened passed more w u le (ap (λ (y : List ℕ). record_offsets (track_in y)) at_new ∙ offs) f in
+    let on = filled_on g r before old now p.opened passed more w u le (ap (λ (y : List ℕ). lengths_on (track_in y)) at_new ∙ lens) f in
     let wants = f.wants more le in
     let has : HasFilled (with_held c new) g r n p.opened before (passed ++ more) w' u = record {
       at_hand = record { held = h.at_hand.held; readable = rw at_new read.0 };
@@ -220,6 +220,6 @@ filled_absorbs c r before passed p more w u x may at =
       held = h.at_hand.held;
       le = le;
       room = omega (arith, f.within, le);
-      records = same_records g.track_size old new k.track (old_read old h.at_hand.readable) k.fits slot k.offsets_stay;
+      records = same_records g.track_size old new k.track (old_read old h.at_hand.readable) k.fits slot k.lengths_stay;
       absorbs = written_absorbs c r before before passed p more new w' u works h.at_hand.held (rw at refl) (omega (arith, f.start, f.within, f.begins, f.lead_small, le, x.volume.geometry.limit));
     }

@@ -3,7 +3,7 @@ use Rattle.std.proofs.Common.{◌≡◌, ◌∙◌, ap, sym, subst, refl, ℕ, �
 use Rattle.std.proofs.Math.Seq.{get_or-append_seam, set-append_seam}
 use Rattle.std.proofs.lemmas.List.{drop_at, take_all, get_or_append_left, take-append-le}
 use Rattle.std.proofs.lemmas.Bool.Decides.{nat_tests}
-use Rattle.ckd_track.specs.Track.{Track, Record, track_of, track_in, record_in, no_record, record_offsets, record_at, slot_of, key_length, data_length, body_length}
+use Rattle.ckd_track.specs.Track.{Track, Record, track_of, track_in, record_in, no_record, record_at, slot_of, key_length, data_length, body_length}
 use Rattle.ckd_track.specs.Changes.{overwritten}
 use Rattle.ckd_track.specs.Charges.{has_room}
 use Rattle.ckd_track.specs.declared.geometries.Geometry.{Geometry}
@@ -21,7 +21,7 @@ use Rattle.ckd_drive.specs.Places.{Field, Filled, Progress}
 use Rattle.ckd_command.specs.Tables.{action_of}
 use Rattle.ckd_position.specs.Contents.{Sighted, is_readable, new_record, formatted, kept, padded, replaced, with_key_and_data, with_record_changed}
 use Rattle.ckd_command.specs.Commands.{Closing, length_after, closing, outcome, own_home_address, new_record_fits, format_ends, writes}
-use Rattle.ckd_cache.specs.Buffer.{FitsSlot, IsPlaceOf}
+use Rattle.ckd_cache.specs.Buffer.{FitsSlot, IsPlaceOf, lengths_on}
 use Rattle.ckd_cache.specs.Cache.{CacheState, with_held, slot_held}
 use Rattle.ckd_drive.specs.Half.{Works, MayTake, Absorbs, IsFilled, AtHand, FieldAtHand, slot_at, number, whole_of}
 use Rattle.ckd_cache.proofs.Writes.{update_length, update_place}
@@ -231,13 +231,13 @@ format_absorbs c r before passed p more f field count new part i w x may at k ne
     let read = reads_new g.track_size t0 new room made in
     let at_new = new_slot_at c n new k.at_hand.held (there c r before passed p x) in
     let now : List ℕ = slot_at (with_held c new).slots n in
-    let offs : record_offsets (track_in now) ≡ record_offsets t0 = ap (λ (y : List ℕ). record_offsets (track_in y)) at_new ∙ ap record_offsets read.1 in
+    let lens : lengths_on (track_in now) ≡ lengths_on t0 = ap (λ (y : List ℕ). lengths_on (track_in y)) at_new ∙ ap lengths_on read.1 in
     let last = format_there t a b i new_is.last in
     let P : Track → Type 0 = λ y. IsPlaceOf extent.KeyAndData y (Of part i) w in
     let place = update_place extent.KeyAndData t0 part i w tt last (subst P read.1 new_is.place) in
     let bytes = format_bytes t a b i new_is.last k.eight in
     let filled : IsFilled g r old now p.opened b w (outcome (format_ends r i)) =
-    form_filled g r old now p.opened b w (outcome (format_ends r i)) t0 extent.KeyAndData part i 8 tt room last offs (omega (arith, k.eight)) (omega arith) (omega (arith, place.0, k.eight)) (omega (arith, place.1, k.eight))
+    form_filled g r old now p.opened b w (outcome (format_ends r i)) t0 extent.KeyAndData part i 8 tt room last lens (omega (arith, k.eight)) (omega arith) (omega (arith, place.0, k.eight)) (omega (arith, place.1, k.eight))
     (λ m le. format_filled g r old p.opened b m part i k.is k.eight fits new_is.last (omega (arith, le, place.1))) in
     let whole : with_record_changed (replaced extent.KeyAndData (padded (drop 8 (b ++ [])) (update_length extent.KeyAndData (record_in t0 i)))) (Of part i) t0 ≡ t0 =
     format_written t a b [] part i k.eight new_is.last (omega arith) ∙ ap (λ (y : List ℕ). formatted t a y) (append-nil b) in

@@ -2,7 +2,7 @@
 use Rattle.std.proofs.Common.{◌≡◌, ◌∙◌, ap, sym, subst, refl, ℕ, ◌+◌, ◌-◌, ◌<◌, ◌≤◌, ◌^◌, List, [], ◌∷◌, ◌++◌, Bool, true, false, ◌&&◌, ◌==◌, if◌then◌else◌, Some, length, take, drop, bytes_eq, length-append, length-take, append-nil, arith}
 use Rattle.std.proofs.lemmas.List.{take-append-drop, drop_all, set-get_or}
 use Rattle.std.proofs.lemmas.Bool.Decides.{nat_tests}
-use Rattle.ckd_track.specs.Track.{track_of, track_in, record_offsets, slot_of}
+use Rattle.ckd_track.specs.Track.{track_of, track_in, slot_of}
 use Rattle.ckd_track.specs.Changes.{overwritten, bare_track}
 use Rattle.ckd_track.proofs.Slots.{length-slot_of}
 use Rattle.ckd_track.specs.declared.geometries.Geometry.{Geometry}
@@ -19,6 +19,7 @@ use Rattle.ckd_drive.specs.Places.{Place, Sense, Field, Read, Search, Fill, Fill
 use Rattle.ckd_command.specs.Tables.{action_of}
 use Rattle.ckd_position.specs.Contents.{Sighted, padded}
 use Rattle.ckd_command.specs.Commands.{Closing, sight, length_after, closing, outcome, own_home_address, home_address_ends, writes}
+use Rattle.ckd_cache.specs.Buffer.{lengths_on}
 use Rattle.ckd_cache.specs.Cache.{CacheState, IsVolume, with_held}
 use Rattle.ckd_drive.specs.Half.{Works, MayTake, Absorbs, HasFilled, IsFilled, FieldAtHand, slot_at, number, seen_by, is_filled_by, whole_of}
 use Rattle.ckd_cache.proofs.Writes.{bare_fits}
@@ -189,8 +190,8 @@ none_behind b n e = (let z : drop n b ≡ [] = drop_all n b (omega (arith, e)) i
 
 -- the track's own home address has come whole
 abbrev pub home_filled : (g : Geometry) (r : Registers) (before now : List ℕ) (o : Opened) (b : List ℕ) → action_of o.command ≡ action.WriteHomeAddress → length b ≡ 5 → bytes_eq b (own_home_address r) ≡ true → 13 ≤ g.track_size
-    → record_offsets (track_in now) ≡ record_offsets (bare_track b) → IsFilled g r before now o b (record { start = 5; len = 0 }) (outcome (home_address_ends o r))
-home_filled g r before now o b is five own room offs =
+    → lengths_on (track_in now) ≡ lengths_on (bare_track b) → IsFilled g r before now o b (record { start = 5; len = 0 }) (outcome (home_address_ends o r))
+home_filled g r before now o b is five own room lens =
     let s = slot_of g.track_size (bare_track b) in
     let f = bare_fits g.track_size b five room in
     let long = length-slot_of g.track_size (bare_track b) f.room in
@@ -212,7 +213,7 @@ home_filled g r before now o b is five own room offs =
             so = ap outcome k;
             written = ap (λ (y : Closing). y.written) k;
             fits = f;
-            offsets_stay = sym offs;
+            lengths_stay = sym lens;
             slot_is = sym (ap (λ (x : List ℕ). take 5 s ++ (padded (drop 5 x) 0 ++ drop 5 s)) e ∙ ap (λ (x : List ℕ). take 5 s ++ (x ++ drop 5 s)) (none_behind b 5 five) ∙ take-append-drop 5 s);
           });
       wants = λ more le. ap (λ (x : List ℕ). length_after g (track_of before) o r x) (nothing_more b more le) ∙ length_by action.WriteHomeAddress g (track_of before) o r b is;
@@ -252,11 +253,11 @@ home_absorbs c r before passed p more f field h new x may at is e new_is =
     let made : new ≡ slot_of g.track_size (bare_track b) = new_is ∙ ap (λ (y : List ℕ). slot_of g.track_size (bare_track y)) h_is in
     let read = reads_new g.track_size (bare_track b) new (bare_fits g.track_size b five room) made in
     let at_new = new_slot_at c n new held (there c r before passed p x) in
-    let offs : record_offsets (track_in (slot_at (with_held c new).slots n)) ≡ record_offsets (bare_track b) = ap (λ (y : List ℕ). record_offsets (track_in y)) at_new ∙ ap record_offsets read.1 in
+    let lens : lengths_on (track_in (slot_at (with_held c new).slots n)) ≡ lengths_on (bare_track b) = ap (λ (y : List ℕ). lengths_on (track_in y)) at_new ∙ ap lengths_on read.1 in
     let left : p.left ≤ 5 - length passed = rw (at, home.is) at goes.left in
     newly_absorbs c r before passed p more new (record { start = 5; len = 0 }) (outcome (home_address_ends p.opened r)) (omega arith) x held (rw at refl) k.again
     (takes_home (action_of p.opened.command) home.is) (record { stays = refl; cylinder = refl; head = refl }) (omega (arith, five, k.long)) (omega (arith, left, five, k.long)) (omega (arith, five, k.long))
-    (home_filled g r (slot_at c.slots n) (slot_at (with_held c new).slots n) p.opened b home.is five own room offs) made
+    (home_filled g r (slot_at c.slots n) (slot_at (with_held c new).slots n) p.opened b home.is five own room lens) made
   where
     takes_home : (a : Action) → a ≡ action.WriteHomeAddress → (a ≡ action.GiveSense → ⊥) × (a ≡ action.Read → ⊥)
     takes_home a e = (λ z. cc, λ z. cc)

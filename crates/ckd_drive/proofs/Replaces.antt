@@ -25,7 +25,7 @@ use Rattle.ckd_drive.specs.Places.{Place, Fill, Filled, Progress}
 use Rattle.ckd_command.specs.Tables.{action_of, extent_of}
 use Rattle.ckd_position.specs.Contents.{Sighted, bytes_of, padded, replaced, with_record_changed}
 use Rattle.ckd_command.specs.Commands.{Closing, bytes_at, area_bytes, sight, closing, end_of_area, updated, outcome, writes}
-use Rattle.ckd_cache.specs.Buffer.{FitsSlot, IsUpdate, IsRecordOf, SameRecords, IsPlaceOf}
+use Rattle.ckd_cache.specs.Buffer.{FitsSlot, IsUpdate, IsRecordOf, SameRecords, IsPlaceOf, lengths_on}
 use Rattle.ckd_cache.specs.Cache.{CacheState, with_held, slot_held}
 use Rattle.ckd_drive.specs.Half.{Works, MayTake, Absorbs, IsPlaced, IsFilled, ClosesUnwritten, AtHand, PlaceIn, slot_at, number}
 use Rattle.ckd_cache.proofs.Writes.{update_offset, update_length, update_place}
@@ -332,18 +332,18 @@ fill_absorbs c r before passed p more (Of part i) w u x may at area some k f =
     let read = reads_new size t1 new form.fits new_is in
     let at_new = new_slot_at c n new k.hand.held (there c r before passed p x) in
     let now : List ℕ = slot_at (with_held c new).slots n in
-    let offs : record_offsets (track_in now) ≡ record_offsets t0 = ap (λ (y : List ℕ). record_offsets (track_in y)) at_new ∙ ap record_offsets read.1 ∙ form.offsets in
+    let lengths : lengths_on (track_in now) ≡ lengths_on t0 = ap (λ (y : List ℕ). lengths_on (track_in y)) at_new ∙ ap lengths_on read.1 ∙ form.lengths in
     let b = passed ++ more in
     let b_is : b ≡ more = ap (λ (y : List ℕ). y ++ more) k.none in
     let b_long : length b ≡ length more = ap length b_is in
     let none_long : length passed ≡ 0 = ap length k.none in
     let w' : Window = record { start = w.start + length more; len = w.len - length more } in
     let filled : IsFilled g r old now p.opened b w' u =
-    form_filled g r old now p.opened b w' u t0 e part i 0 k.upd f lt0 offs (omega arith) (omega arith) (omega (arith, start, b_long)) (omega (arith, len, b_long, k.le))
+    form_filled g r old now p.opened b w' u t0 e part i 0 k.upd f lt0 lengths (omega arith) (omega arith) (omega (arith, start, b_long)) (omega (arith, len, b_long, k.le))
     (λ m le. fill_filled g r old p.opened part i (b ++ m) u k.is k.upd reads area k.there (omega (arith, length-append b m, b_long, some)) (omega (arith, length-append b m, b_long, le, k.le, pl.1)) k.so (k.size ∙ pl.1)) in
     let whole : b ++ [] ≡ more = append-nil b ∙ b_is in
     record {
-      records = same_records size s1 new t1 (old_read s1 read1.0) form.fits new_is (form.offsets ∙ sym (ap record_offsets read1.1));
+      records = same_records size s1 new t1 (old_read s1 read1.0) form.fits new_is (form.lengths ∙ sym (ap lengths_on read1.1));
       absorbs = newly_absorbs c r before passed p more new w' u (omega arith) x k.hand.held (rw at refl) k.again (takes_update (action_of p.opened.command) k.is) (ends_on (track_of old) p.opened r u k.so)
           (omega (arith, some)) (let l = k.left in omega (arith, l)) (omega (arith, none_long, k.le, k.within, x.volume.geometry.limit)) filled
           (new_is ∙ ap (λ (y : List ℕ). slot_of size (with_record_changed (replaced e (padded y room0)) (Of part i) t0)) (sym whole));

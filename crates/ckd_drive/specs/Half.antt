@@ -1,6 +1,6 @@
 -- A command half done, as the drive holds it.
 use Rattle.std.specs.Prelude.{◌≡◌, ℕ, ◌+◌, ◌-◌, ◌^◌, ◌≤◌, ◌<◌, List, [], ◌++◌, Bool, true, false, ◌&&◌, ◌||◌, ◌==◌, nat_lt, Option, Some, None, bytes_eq, length, take, drop, slice_index_or, slice_set, if◌then◌else◌}
-use Rattle.ckd_track.specs.Track.{Track, track_of, track_in, slot_of, record_offsets}
+use Rattle.ckd_track.specs.Track.{Track, track_of, track_in, slot_of}
 use Rattle.ckd_track.specs.declared.geometries.Geometry.{Geometry}
 use Rattle.ckd_track.specs.Geometry.{track_at}
 use Rattle.ckd_command.specs.declared.registers.Registers.{Registers}
@@ -36,7 +36,7 @@ use Rattle.ckd_sense.specs.SenseBytes.{sense_bytes}
 use Rattle.ckd_sense.specs.declared.sense_bytes.TheConstants.Sense as cause
 use Rattle.ckd_position.specs.Contents.{Sighted, is_readable, padded}
 use Rattle.ckd_command.specs.Commands.{Closing, IsAtTrack, sight as sight_on, area_bytes, bytes_at, area_ends, end_of_area, search_ends, whole_field, seek_cylinder_and_head, seek_head, set_file_mask, fails, ends, at_end, ending_status, length_after, closing, outcome}
-use Rattle.ckd_cache.specs.Buffer.{Lies, HasBytes, IsPlaceOf, FitsSlot}
+use Rattle.ckd_cache.specs.Buffer.{Lies, HasBytes, IsPlaceOf, FitsSlot, lengths_on}
 use Rattle.ckd_cache.specs.Cache.{CacheState, IsVolume}
 use Rattle.ckd_command.specs.Drive.{is_written_by}
 use Rattle.ckd_drive.specs.Work.{Work, Idle, Over, Looking, Passing, DriveState}
@@ -111,12 +111,12 @@ pub record ClosesUnwritten (g : Geometry) (r : Registers) (t : Sighted) (o : Ope
   pub unwritten : (closing g t o r passed).written ≡ None
 
 -- it closes so, and leaves this track, of which the slot is these bytes
-pub record ClosesWritten (size : ℕ) (offsets : List ℕ) (c : Closing) (u : Outcome) (slot : List ℕ) : Type 0 where
+pub record ClosesWritten (size : ℕ) (lengths : List (ℕ × ℕ)) (c : Closing) (u : Outcome) (slot : List ℕ) : Type 0 where
   pub track : Track
   pub so : outcome c ≡ u
   pub written : c.written ≡ Some track
   pub fits : FitsSlot size track
-  pub offsets_stay : record_offsets track ≡ offsets
+  pub lengths_stay : lengths_on track ≡ lengths
   pub slot_is : slot_of size track ≡ slot
 
 -- a track that is being written: whatever bytes come, they stand in the window, with zeros behind them
@@ -131,7 +131,7 @@ pub record IsFilled (g : Geometry) (r : Registers) (before now : List ℕ) (o : 
   pub start : length head + (length passed - lead) ≡ w.start
   pub rest : w.len + (length passed - lead) ≡ room
   pub closes : (more : List ℕ) → length more ≤ w.len
-      → ClosesWritten g.track_size (record_offsets (track_in now)) (closing g (track_of before) o r (passed ++ more)) u (head ++ (padded (drop lead (passed ++ more)) room ++ tail))
+      → ClosesWritten g.track_size (lengths_on (track_in now)) (closing g (track_of before) o r (passed ++ more)) u (head ++ (padded (drop lead (passed ++ more)) room ++ tail))
   pub wants : (more : List ℕ) → length more ≤ w.len → length_after g (track_of before) o r (passed ++ more) ≡ lead + room
 
 abbrev pub IsField : Action → Type 0

@@ -67,8 +67,7 @@ fn collect<S: ImageStore>(
             p.place = Place::Filled(Window { start: 5, len: 0 }, Written::HomeAddress);
         }
         Whole::Count(count) => {
-            let model = cache.geometry().model;
-            if !cache.buffer().fits(model, opened.area, count) {
+            if !cache.fits(opened.area, count) {
                 p.place = Place::Field(field);
                 return;
             }

@@ -1,4 +1,4 @@
-use Rattle.std.proofs.Common.{ℕ, ◌+◌, max, length, replicate, arith, rules}
+use Rattle.std.proofs.Common.{ℕ, ◌+◌, max, replicate, arith}
 use Rattle.std.proofs.lemmas.List.{length-replicate}
 use Rattle.ckd_cache.proofs.Zeros.{zero_over}
 use Rattle.ckd_cache.proofs.buffer.clear_window.Goals as goal

@@ -1,4 +1,3 @@
-use Rattle.std.proofs.Common.{rules}
 use Rattle.ckd_cache.proofs.Zeros.{ends_up_to_zeros}
 use Rattle.ckd_cache.proofs.buffer.put_end.Goals as goal
 

@@ -1,4 +1,4 @@
-use Rattle.std.proofs.Common.{◌+◌, max, length, arith, rules}
+use Rattle.std.proofs.Common.{max, arith}
 use Rattle.ckd_cache.proofs.Zeros.{zero_over}
 use Rattle.ckd_cache.proofs.buffer.put_home_address.Goals as goal
 

@@ -3,9 +3,10 @@ use Rattle.std.specs.Vec.{with_items}
 use Rattle.std.proofs.lemmas.List.{with_items_is, length-replicate}
 use Rattle.ckd_track.specs.Track.{track_in, slot_of}
 use Rattle.ckd_position.specs.Contents.{with_record_changed, replaced}
-use Rattle.ckd_cache.specs.Buffer.{end_of_records}
-use Rattle.ckd_cache.proofs.AreaPlaces.{seen_index, spelled}
-use Rattle.ckd_cache.proofs.Writes.{records_are, clear_is, same_indexed, window_within}
+use Rattle.ckd_track.specs.Changes.{overwritten, ended_at}
+use Rattle.ckd_cache.specs.Buffer.{FitsSlot, end_of_records, lengths_on}
+use Rattle.ckd_cache.proofs.AreaPlaces.{seen_index, seen_buffer, spelled_now}
+use Rattle.ckd_cache.proofs.Writes.{records_are, clear_is, same_indexed, same_charged, window_within}
 use Rattle.ckd_cache.proofs.Zeros.{ended_zeros}
 use Rattle.ckd_cache.proofs.buffer.TrackBuffer.clear.Goals as goal
 
@@ -19,51 +20,51 @@ pub clear_window-requires-clause-window : goal.clear_window-requires-clause-wind
 clear_window-requires-clause-window c =
     let i = c.self.inside in
     let s = c.args.self.now in
+    let sp = spelled_now i.slot.items s i.offsets.items i.records c.self.view_is c.self.invariant.indexed c.requires.readable in
     let x = seen_index i.slot.items s i.offsets.items i.records c.self.view_is c.self.invariant.indexed in
-    let sp = (spelled s i.offsets.items i.records x c.requires.readable).1 in
     let n = records_are s i.offsets.items i.records c.unwrap_or.result x c.requires.readable c.unwrap_or.ensures in
     let end : c.end_of-end.result ≡ end_of_records (track_in s) (length (track_in s).records) = rw n at c.end_of-end.ensures.place in
     window_within c.args.extent s c.args.area c.window-window.result c.end_of-end.result c.requires.update sp c.requires.there c.window-window.ensures.place end
+
+-- the slot of the changed track, which was written
+cleared : (c : goal.After-self-2-1) → (let s = c.args.self.now in let t = with_record_changed (replaced c.args.extent []) c.args.area (track_in s) in
+    (ended_at (overwritten s c.window-window.result.start (replicate c.window-window.result.len 0)) c.end_of-end.result ≡ slot_of (length s) t) × FitsSlot (length s) t × (lengths_on t ≡ lengths_on (track_in s)))
+cleared c =
+    let i = c.self.inside in
+    let s = c.args.self.now in
+    let x = seen_index i.slot.items s i.offsets.items i.records c.self.view_is c.self.invariant.indexed in
+    let sp = spelled_now i.slot.items s i.offsets.items i.records c.self.view_is c.self.invariant.indexed c.requires.readable in
+    let n = records_are s i.offsets.items i.records c.unwrap_or.result x c.requires.readable c.unwrap_or.ensures in
+    clear_is c.args.extent s c.args.area c.window-window.result c.end_of-end.result c.requires.update sp c.requires.there c.window-window.ensures.place (rw n at c.end_of-end.ensures.place)
+
+made : (c : goal.After-self-2-1) → c.clear_window.new.slot ≡ slot_of (length c.args.self.now) (with_record_changed (replaced c.args.extent []) c.args.area (track_in c.args.self.now))
+made c =
+    let old : c.deref_mut.result.now ≡ c.args.self.now = c.deref_mut.ensures.value ∙ c.self.view_is in
+    rw old at c.clear_window.ensures ∙ (cleared c).0
+
+items : (c : goal.After-self-2-1) → (with_items c.self.inside.slot c.clear_window.new.slot).items ≡ c.clear_window.new.slot
+items c = with_items_is c.self.inside.slot c.clear_window.new.slot (search rules)
 
 pub invariant_of-self : goal.invariant_of-self
 invariant_of-self c =
     let i = c.self.inside in
     let s = c.args.self.now in
-    let x = seen_index i.slot.items s i.offsets.items i.records c.self.view_is c.self.invariant.indexed in
-    let sp = (spelled s i.offsets.items i.records x c.requires.readable).1 in
-    let n = records_are s i.offsets.items i.records c.unwrap_or.result x c.requires.readable c.unwrap_or.ensures in
-    let end : c.end_of-end.result ≡ end_of_records (track_in s) (length (track_in s).records) = rw n at c.end_of-end.ensures.place in
-    let k = clear_is c.args.extent s c.args.area c.window-window.result c.end_of-end.result c.requires.update sp c.requires.there c.window-window.ensures.place end in
+    let x = seen_buffer i.slot.items s i.offsets.items i.records i.zeros_from i.charged c.self.view_is c.self.invariant in
+    let sp = spelled_now i.slot.items s i.offsets.items i.records c.self.view_is c.self.invariant.indexed c.requires.readable in
+    let n = records_are s i.offsets.items i.records c.unwrap_or.result x.indexed c.requires.readable c.unwrap_or.ensures in
     let old : c.deref_mut.result.now ≡ s = c.deref_mut.ensures.value ∙ c.self.view_is in
-    let done : c.clear_window.new.slot ≡ slot_of (length s) (with_record_changed (replaced c.args.extent []) c.args.area (track_in s)) = rw old at c.clear_window.ensures ∙ k.0 in
-    let items : (with_items i.slot c.clear_window.new.slot).items ≡ c.clear_window.new.slot = with_items_is i.slot c.clear_window.new.slot (search rules) in
-    let within = window_within c.args.extent s c.args.area c.window-window.result c.end_of-end.result c.requires.update sp c.requires.there c.window-window.ensures.place end in
+    let k = cleared c in
+    let t = with_record_changed (replaced c.args.extent []) c.args.area (track_in s) in
+    let within = window_within c.args.extent s c.args.area c.window-window.result c.end_of-end.result c.requires.update sp c.requires.there c.window-window.ensures.place (rw n at c.end_of-end.ensures.place) in
     let many = length-replicate {A = ℕ} c.window-window.result.len 0 in
-    rw items (record {
-      indexed = rw done (same_indexed s i.offsets.items i.records (with_record_changed (replaced c.args.extent []) c.args.area (track_in s)) x c.requires.readable k.1 k.2);
+    rw (items c) (record {
+      indexed = rw (made c) (same_indexed s i.offsets.items i.records t x.indexed c.requires.readable k.1 k.2);
       cleared = ended_zeros s c.window-window.result.start (replicate c.window-window.result.len 0) c.end_of-end.result c.clear_window.new.slot (omega (arith, many, within, c.end_of-end.ensures.room)) c.end_of-end.ensures.room (rw old at c.clear_window.ensures);
+      charges = rw (made c) (same_charged s t i.charged k.1 k.2 x.charges);
     })
 
 pub returns-clause-slot : goal.returns-clause-slot
-returns-clause-slot c =
-    let i = c.self.inside in
-    let s = c.args.self.now in
-    let x = seen_index i.slot.items s i.offsets.items i.records c.self.view_is c.self.invariant.indexed in
-    let sp = (spelled s i.offsets.items i.records x c.requires.readable).1 in
-    let n = records_are s i.offsets.items i.records c.unwrap_or.result x c.requires.readable c.unwrap_or.ensures in
-    let end : c.end_of-end.result ≡ end_of_records (track_in s) (length (track_in s).records) = rw n at c.end_of-end.ensures.place in
-    let k = clear_is c.args.extent s c.args.area c.window-window.result c.end_of-end.result c.requires.update sp c.requires.there c.window-window.ensures.place end in
-    let old : c.deref_mut.result.now ≡ s = c.deref_mut.ensures.value ∙ c.self.view_is in
-    let items : (with_items i.slot c.clear_window.new.slot).items ≡ c.clear_window.new.slot = with_items_is i.slot c.clear_window.new.slot (search rules) in
-    rw items (rw old at c.clear_window.ensures ∙ k.0)
+returns-clause-slot c = rw (items c) (made c)
 
 pub returns-clause-fits : goal.returns-clause-fits
-returns-clause-fits c =
-    let i = c.self.inside in
-    let s = c.args.self.now in
-    let x = seen_index i.slot.items s i.offsets.items i.records c.self.view_is c.self.invariant.indexed in
-    let sp = (spelled s i.offsets.items i.records x c.requires.readable).1 in
-    let n = records_are s i.offsets.items i.records c.unwrap_or.result x c.requires.readable c.unwrap_or.ensures in
-    let end : c.end_of-end.result ≡ end_of_records (track_in s) (length (track_in s).records) = rw n at c.end_of-end.ensures.place in
-    let k = clear_is c.args.extent s c.args.area c.window-window.result c.end_of-end.result c.requires.update sp c.requires.there c.window-window.ensures.place end in
-    k.1
+returns-clause-fits c = (cleared c).1

@@ -5,8 +5,8 @@ use Rattle.ckd_track.specs.Track.{track_in, track_of, slot_of}
 use Rattle.ckd_track.proofs.Offsets.{are_bytes, few_records}
 use Rattle.ckd_position.specs.Contents.{formatted}
 use Rattle.ckd_cache.specs.Buffer.{end_of_records, number_up_to}
-use Rattle.ckd_cache.proofs.AreaPlaces.{seen_index, seen_buffer, spelled}
-use Rattle.ckd_cache.proofs.Writes.{read_records, format_room, format_slot, format_fits, format_indexed, kept_room, up_to_le}
+use Rattle.ckd_cache.proofs.AreaPlaces.{seen_index, seen_buffer, spelled_now}
+use Rattle.ckd_cache.proofs.Writes.{read_records, format_room, format_slot, format_fits, format_indexed, format_keeps, kept_room, up_to_le}
 use Rattle.ckd_cache.proofs.Zeros.{new_zeros}
 use Rattle.ckd_cache.proofs.buffer.TrackBuffer.format.Goals as goal
 
@@ -15,18 +15,14 @@ records_up_to-kept-requires c =
     let i = c.self.inside in
     let s = c.args.self.now in
     let x = seen_index i.slot.items s i.offsets.items i.records c.self.view_is c.self.invariant.indexed in
-    let sp = (spelled s i.offsets.items i.records x c.requires.readable).1 in
-    let b = c.before-2.result in
-    let bytes = are_bytes c.args.count (search rules) in
-    let eight : length c.args.count ≡ 8 = search rules in
+    let sp = spelled_now i.slot.items s i.offsets.items i.records c.self.view_is c.self.invariant.indexed c.requires.readable in
     λ k e. (let lt = c.before-2.ensures.there k e in let few = few_records s (track_in s) sp in omega (arith, lt, few, x.size))
 
 pub put_new-requires-clause-room : goal.put_new-requires-clause-room
 put_new-requires-clause-room c =
     let i = c.self.inside in
     let s = c.args.self.now in
-    let x = seen_index i.slot.items s i.offsets.items i.records c.self.view_is c.self.invariant.indexed in
-    let sp = (spelled s i.offsets.items i.records x c.requires.readable).1 in
+    let sp = spelled_now i.slot.items s i.offsets.items i.records c.self.view_is c.self.invariant.indexed c.requires.readable in
     let b = c.before-2.result in
     let bytes = are_bytes c.args.count (search rules) in
     let eight : length c.args.count ≡ 8 = search rules in
@@ -39,7 +35,7 @@ pub put_new-requires-clause-zeros : goal.put_new-requires-clause-zeros
 put_new-requires-clause-zeros c =
     let i = c.self.inside in
     let s = c.args.self.now in
-    let x = seen_buffer i.slot.items s i.offsets.items i.records i.zeros_from c.self.view_is c.self.invariant in
+    let x = seen_buffer i.slot.items s i.offsets.items i.records i.zeros_from i.charged c.self.view_is c.self.invariant in
     let old : c.deref_mut.result.now ≡ s = c.deref_mut.ensures.value ∙ c.self.view_is in
     rw old x.cleared
 
@@ -48,7 +44,7 @@ index_mut-requires c =
     let i = c.self.inside in
     let s = c.args.self.now in
     let x = seen_index i.slot.items s i.offsets.items i.records c.self.view_is c.self.invariant.indexed in
-    let sp = (spelled s i.offsets.items i.records x c.requires.readable).1 in
+    let sp = spelled_now i.slot.items s i.offsets.items i.records c.self.view_is c.self.invariant.indexed c.requires.readable in
     let b = c.before-2.result in
     let bytes = are_bytes c.args.count (search rules) in
     let eight : length c.args.count ≡ 8 = search rules in
@@ -60,55 +56,54 @@ overflow_add-self c =
     let i = c.self.inside in
     let s = c.args.self.now in
     let x = seen_index i.slot.items s i.offsets.items i.records c.self.view_is c.self.invariant.indexed in
-    let sp = (spelled s i.offsets.items i.records x c.requires.readable).1 in
+    let sp = spelled_now i.slot.items s i.offsets.items i.records c.self.view_is c.self.invariant.indexed c.requires.readable in
     let b = c.before-2.result in
-    let bytes = are_bytes c.args.count (search rules) in
-    let eight : length c.args.count ≡ 8 = search rules in
-    let at : c.end_of-at.result ≡ end_of_records (track_in s) (number_up_to b) = rw c.records_up_to-kept.ensures at c.end_of-at.ensures.place in
     let few = few_records s (track_in s) sp in
     let le = up_to_le (track_in s) b c.before-2.ensures.there in
     rw c.records_up_to-kept.ensures (omega (arith, le, few, x.size))
+
+-- what was written is the slot of the formatted track
+made : (c : goal.After-keep) → c.put_new.new.slot ≡ slot_of (length c.args.self.now) (formatted (track_of c.args.self.now) c.args.after c.args.count)
+made c =
+    let i = c.self.inside in
+    let s = c.args.self.now in
+    let sp = spelled_now i.slot.items s i.offsets.items i.records c.self.view_is c.self.invariant.indexed c.requires.readable in
+    let b = c.before-2.result in
+    let at : c.end_of-at.result ≡ end_of_records (track_in s) (number_up_to b) = rw c.records_up_to-kept.ensures at c.end_of-at.ensures.place in
+    let old : c.deref_mut.result.now ≡ s = c.deref_mut.ensures.value ∙ c.self.view_is in
+    rw (old, at, c.body_length-body.ensures) at c.put_new.ensures ∙ format_slot s b c.args.after c.args.count sp (are_bytes c.args.count (search rules)) (search rules) c.requires.no_end_mark c.before-2.ensures.kept c.requires.room
+
+-- and stands in the buffer
+items : (c : goal.After-keep) → (with_items c.self.inside.slot c.put_new.new.slot).items ≡ c.put_new.new.slot
+items c = with_items_is c.self.inside.slot c.put_new.new.slot (search rules)
 
 pub invariant_of-self : goal.invariant_of-self
 invariant_of-self c =
     let i = c.self.inside in
     let s = c.args.self.now in
-    let x = seen_index i.slot.items s i.offsets.items i.records c.self.view_is c.self.invariant.indexed in
-    let sp = (spelled s i.offsets.items i.records x c.requires.readable).1 in
+    let x = seen_buffer i.slot.items s i.offsets.items i.records i.zeros_from i.charged c.self.view_is c.self.invariant in
+    let sp = spelled_now i.slot.items s i.offsets.items i.records c.self.view_is c.self.invariant.indexed c.requires.readable in
     let b = c.before-2.result in
     let bytes = are_bytes c.args.count (search rules) in
     let eight : length c.args.count ≡ 8 = search rules in
     let at : c.end_of-at.result ≡ end_of_records (track_in s) (number_up_to b) = rw c.records_up_to-kept.ensures at c.end_of-at.ensures.place in
     let old : c.deref_mut.result.now ≡ s = c.deref_mut.ensures.value ∙ c.self.view_is in
-    let done : c.put_new.new.slot ≡ slot_of (length s) (formatted (track_of s) c.args.after c.args.count) = rw (old, at, c.body_length-body.ensures) at c.put_new.ensures ∙ format_slot s b c.args.after c.args.count sp bytes eight c.requires.no_end_mark c.before-2.ensures.kept c.requires.room in
-    let items : (with_items i.slot c.put_new.new.slot).items ≡ c.put_new.new.slot = with_items_is i.slot c.put_new.new.slot (search rules) in
-    let k = read_records s i.offsets.items i.records x c.requires.readable in
+    let k = read_records s i.offsets.items i.records x.indexed c.requires.readable in
     let room : c.end_of-at.result + 8 + c.body_length-body.result + 8 ≤ length s = rw (at, c.body_length-body.ensures) (format_room s b c.args.after c.args.count sp bytes eight c.requires.no_end_mark c.before-2.ensures.kept c.requires.room) in
-    rw items (record {
-      indexed = rw (done, c.records_up_to-kept.ensures)
-          (format_indexed s i.offsets.items k.0 c.end_of-at.result b c.args.after c.args.count (rw k.1 at x) bytes eight c.requires.no_end_mark c.before-2.ensures.kept c.requires.room c.before-2.ensures.there at);
+    let f = format_fits s b c.args.after c.args.count sp bytes eight c.requires.no_end_mark c.before-2.ensures.kept c.requires.room in
+    rw (items c) (record {
+      indexed = rw (made c, c.records_up_to-kept.ensures)
+          (format_indexed s i.offsets.items k.0 c.end_of-at.result b c.args.after c.args.count (rw k.1 at x.indexed) bytes eight c.requires.no_end_mark c.before-2.ensures.kept c.requires.room c.before-2.ensures.there at);
       cleared = new_zeros s c.end_of-at.result c.args.count c.body_length-body.result c.put_new.new.slot eight room (rw old at c.put_new.ensures);
+      charges = rw (made c) (c.keep.ensures.kept (track_in s).records _ (rw c.records_up_to-kept.ensures (format_keeps s b c.args.after c.args.count eight c.before-2.ensures.kept f c.before-2.ensures.there)) x.charges);
     })
 
 pub returns-clause-slot : goal.returns-clause-slot
-returns-clause-slot c =
-    let i = c.self.inside in
-    let s = c.args.self.now in
-    let x = seen_index i.slot.items s i.offsets.items i.records c.self.view_is c.self.invariant.indexed in
-    let sp = (spelled s i.offsets.items i.records x c.requires.readable).1 in
-    let b = c.before-2.result in
-    let bytes = are_bytes c.args.count (search rules) in
-    let eight : length c.args.count ≡ 8 = search rules in
-    let at : c.end_of-at.result ≡ end_of_records (track_in s) (number_up_to b) = rw c.records_up_to-kept.ensures at c.end_of-at.ensures.place in
-    let old : c.deref_mut.result.now ≡ s = c.deref_mut.ensures.value ∙ c.self.view_is in
-    let done : c.put_new.new.slot ≡ slot_of (length s) (formatted (track_of s) c.args.after c.args.count) = rw (old, at, c.body_length-body.ensures) at c.put_new.ensures ∙ format_slot s b c.args.after c.args.count sp bytes eight c.requires.no_end_mark c.before-2.ensures.kept c.requires.room in
-    let items : (with_items i.slot c.put_new.new.slot).items ≡ c.put_new.new.slot = with_items_is i.slot c.put_new.new.slot (search rules) in
-    rw items done
+returns-clause-slot c = rw (items c) (made c)
 
 pub returns-clause-fits : goal.returns-clause-fits
 returns-clause-fits c =
     let i = c.self.inside in
     let s = c.args.self.now in
-    let x = seen_index i.slot.items s i.offsets.items i.records c.self.view_is c.self.invariant.indexed in
-    let sp = (spelled s i.offsets.items i.records x c.requires.readable).1 in
+    let sp = spelled_now i.slot.items s i.offsets.items i.records c.self.view_is c.self.invariant.indexed c.requires.readable in
     format_fits s c.before-2.result c.args.after c.args.count sp (are_bytes c.args.count (search rules)) (search rules) c.requires.no_end_mark c.before-2.ensures.kept c.requires.room

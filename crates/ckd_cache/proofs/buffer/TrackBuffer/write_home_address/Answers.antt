@@ -1,7 +1,7 @@
 use Rattle.std.proofs.Common.{◌≡◌, ◌∙◌, refl, length, arith, rules}
 use Rattle.std.specs.Vec.{with_items}
 use Rattle.std.proofs.lemmas.List.{with_items_is}
-use Rattle.ckd_track.specs.Track.{slot_of}
+use Rattle.ckd_track.specs.Track.{track_in, slot_of}
 use Rattle.ckd_track.specs.Changes.{bare_track}
 use Rattle.ckd_cache.proofs.AreaPlaces.{seen_index}
 use Rattle.ckd_cache.proofs.Writes.{bare_fits, indexed_slot}
@@ -23,6 +23,7 @@ invariant_of-self c =
     rw items (record {
       indexed = rw done (indexed_slot (length s) (bare_track ha) i.offsets.items 0 (bare_fits (length s) ha five c.requires) x.room x.size (omega arith) refl);
       cleared = ended_zeros s 0 ha 5 c.put_home_address.new.slot (omega (arith, five, c.requires)) c.requires made;
+      charges = c.keep.ensures.kept (track_in i.slot.items).records _ refl c.self.invariant.charges;
     })
 
 pub returns-clause-slot : goal.returns-clause-slot
