@@ -1,7 +1,10 @@
 //! The files that hold the image of a row.
 
-ghost use Rattle.std.specs.Prelude.{◌≡◌, ◌+◌, ◌<◌, All, IsSome};
+ghost use Rattle.std.specs.Prelude.{◌≡◌, ◌+◌, ◌-◌, ◌<◌, ◌++◌, ◌∷◌, [], ◌↔◌, ◌≤◌, length, All, IsSome, IsTrue, Some, None, ℕ, IfSome, IfOk, OnOk, IfErr, OnErr};
 ghost use Rattle.arrayvec.specs.ArrayVec.{array_vec_len};
+ghost use Rattle.ckd_image.specs.Files.{each, slot_bytes};
+ghost use Rattle.ckd_image.specs.Image.{Holds, FilesRefused};
+ghost use Rattle.test_rows.specs.Files.{file_with, bytes_of, failures_of, content_of, failures_in, cylinder_start, split_files};
 
 use crate::stores::{Failure, RowStore, row_store};
 use anyhow::{Context, Result, bail};
@@ -16,6 +19,9 @@ const HEADER: usize = 512;
 // Where a header has the file's sequence, and behind it the highest cylinder.
 const SEQUENCE: usize = 17;
 
+// Where both end.
+const FIELDS_END: usize = 20;
+
 /// A list of files.
 pub type Files<S> = ArrayVec<Option<S>, 8>;
 
@@ -25,6 +31,7 @@ pub fn with_file<S: ImageStore>(mut files: Files<S>, store: S) -> Files<S>
     requires there { All IsSome files.items }
     ensures there { All IsSome result.items }
     ensures count { array_vec_len result ≡ array_vec_len files + 1 }
+    ensures files { result.items ≡ files.items ++ Some store ∷ [] }
 {
     files.push(Some(store));
     files
@@ -32,14 +39,16 @@ pub fn with_file<S: ImageStore>(mut files: Files<S>, store: S) -> Files<S>
 
 /// A list of one file.
 pub fn one_file<S: ImageStore>(store: S) -> Files<S>
-    ensures { All IsSome result.items }
+    ensures there { All IsSome result.items }
+    ensures file { result.items ≡ Some store ∷ [] }
 {
     with_file(ArrayVec::new(), store)
 }
 
 /// A list of two files.
 pub fn two_files<S: ImageStore>(first: S, second: S) -> Files<S>
-    ensures { All IsSome result.items }
+    ensures there { All IsSome result.items }
+    ensures files { result.items ≡ Some first ∷ Some second ∷ [] }
 {
     with_file(with_file(ArrayVec::new(), first), second)
 }
@@ -49,7 +58,10 @@ pub fn two_files<S: ImageStore>(first: S, second: S) -> Files<S>
 /// # Errors
 ///
 /// Fails where there are several files, or none.
-pub fn only_store<S: ImageStore>(mut files: Files<S>) -> Result<S> {
+pub fn only_store<S: ImageStore>(mut files: Files<S>) -> Result<S>
+    ensures store { IfOk result (λ store. files.items ≡ Some store ∷ []) }
+    ensures refused { OnErr result ((store : S) → ¬ (files.items ≡ Some store ∷ [])) }
+{
     if files.len() != 1 {
         bail!("not one file");
     }
@@ -63,20 +75,25 @@ pub fn only_store<S: ImageStore>(mut files: Files<S>) -> Result<S> {
 ///
 /// # Errors
 ///
-/// Fails where memory runs out.
+/// Fails where the header is too short for them, and where memory runs out.
 pub fn file_of(
     alloc: Global,
     header: &[u8],
     slots: &[u8],
     sequence: u8,
     highest: u16,
-) -> Result<MemoryStore> {
+) -> Result<MemoryStore>
+    ensures fields { OnOk result (20 ≤ length header.now) }
+    ensures file { IfOk result
+        (λ file. file ≡ record { content = file_with header.now slots.now sequence highest; failures = 0 }) }
+{
+    if header.len() < FIELDS_END {
+        bail!("no header");
+    }
     let mut bytes = Vec::from_slice(alloc, header)?;
     bytes.extend_from_slice(slots)?;
     let [low, high] = highest.to_le_bytes();
-    for (place, byte) in bytes.iter_mut().skip(SEQUENCE).zip(&[sequence, low, high]) {
-        *place = *byte;
-    }
+    bytes[SEQUENCE..FIELDS_END].copy_from_slice(&[sequence, low, high]);
     Ok(MemoryStore::new(alloc, bytes.as_slice())?)
 }
 
@@ -87,6 +104,29 @@ pub struct RowFiles {
     pub first: MemoryStore,
     /// The second file.
     pub second: Option<MemoryStore>,
+}
+
+// Where a cylinder begins in the file that holds a whole volume.
+fn cylinder_start(geometry: Geometry, cylinder: u16) -> usize
+    ensures { result ≡ cylinder_start geometry cylinder }
+{
+    let track = u32::from(cylinder) * u32::from(geometry.model.heads());
+    HEADER + track as usize * geometry.track_size as usize
+}
+
+// Two files that hold these bytes of one: what stands behind a place is in the second.
+fn split_at(alloc: Global, bytes: &[u8], at: usize, highest: u16) -> Result<RowFiles>
+    ensures slots { IfOk result (λ files. slot_bytes (bytes_of files) ≡ slot_bytes (bytes.now ∷ [])) }
+    ensures files { IfOk result (λ files. files ≡ split_files bytes.now at highest) }
+    ensures within { OnOk result (at ≤ length bytes.now) }
+{
+    let header = bytes.get(..HEADER).context("no header")?;
+    let front = bytes.get(HEADER..at).context("no such cylinder")?;
+    let behind = bytes.get(at..).context("no such cylinder")?;
+    Ok(RowFiles {
+        first: file_of(alloc, header, front, 1, highest)?,
+        second: Some(file_of(alloc, header, behind, 2, 0)?),
+    })
 }
 
 impl RowFiles {
@@ -100,25 +140,22 @@ impl RowFiles {
         whole: MemoryStore,
         geometry: Geometry,
         split: Option<u16>,
-    ) -> Result<RowFiles> {
+    ) -> Result<RowFiles>
+        ensures whole { split ≡ None → IfOk result (λ files. files ≡ record { first = whole; second = None }) }
+        ensures slots { IfOk result (λ files. slot_bytes (bytes_of files) ≡ slot_bytes (whole.content ∷ [])) }
+        ensures split { (cylinder : ℕ) → split ≡ Some cylinder →
+            IfOk result (λ files. files ≡ split_files whole.content (cylinder_start geometry cylinder) (cylinder - 1)) }
+        ensures within { (cylinder : ℕ) → split ≡ Some cylinder →
+            OnOk result (cylinder_start geometry cylinder ≤ length whole.content) }
+    {
         let Some(cylinder) = split else {
             return Ok(RowFiles {
                 first: whole,
                 second: None,
             });
         };
-        let at = usize::from(cylinder)
-            .saturating_mul(usize::from(geometry.model.heads()))
-            .saturating_mul(geometry.track_size as usize)
-            .saturating_add(HEADER);
-        let bytes = whole.bytes();
-        let header = bytes.get(..HEADER).context("no header")?;
-        let front = bytes.get(HEADER..at).context("no such cylinder")?;
-        let behind = bytes.get(at..).context("no such cylinder")?;
-        Ok(RowFiles {
-            first: file_of(alloc, header, front, 1, cylinder.saturating_sub(1))?,
-            second: Some(file_of(alloc, header, behind, 2, 0)?),
-        })
+        let at = cylinder_start(geometry, cylinder);
+        split_at(alloc, whole.bytes(), at, cylinder.saturating_sub(1))
     }
 
     /// Mounts them with a record of each one's calls, of which one fails where that is asked.
@@ -129,7 +166,12 @@ impl RowFiles {
     pub fn mount(
         self,
         failure: Failure,
-    ) -> std::result::Result<Image<RowStore>, (MountFault, Files<RowStore>)> {
+    ) -> std::result::Result<Image<RowStore>, (MountFault, Files<RowStore>)>
+        ensures holds { IfOk result (λ i. Holds (bytes_of self) i.geometry i.slots) }
+        ensures refused { IfErr result (λ e. FilesRefused e.0 (bytes_of self)
+            (failures_of self) (each failures_in e.1.items)) }
+        ensures kept { IfErr result (λ e. each content_of e.1.items ≡ bytes_of self) }
+    {
         let RowFiles { first, second } = self;
         let first = row_store(first, failure.in_file(0));
         match second {
@@ -141,20 +183,40 @@ impl RowFiles {
     }
 
     /// Whether these are the stores of such files, in their order.
-    pub fn are_in(&self, mut stores: Files<RowStore>) -> bool {
-        if let Some(second) = &self.second {
-            if !is_in(second, stores.pop()) {
-                return false;
-            }
+    pub fn are_in(&self, mut stores: Files<RowStore>) -> bool
+        ensures { IsTrue result → each content_of stores.items ≡ bytes_of self.now }
+    {
+        match &self.second {
+            None => is_only(&self.first, stores),
+            Some(second) => is_last(second, &mut stores) && is_only(&self.first, stores),
         }
-        is_in(&self.first, stores.pop()) && stores.is_empty()
     }
 }
 
-// Whether this is the store of such a file.
-fn is_in(file: &MemoryStore, store: Option<Option<RowStore>>) -> bool {
-    match store {
-        Some(Some(store)) => store.into_inner().into_inner().bytes() == file.bytes(),
+// Whether this store holds what the file does.
+fn holds(store: RowStore, file: &MemoryStore) -> bool
+    ensures { IsTrue result ↔ (content_of store ≡ file.now.content) }
+{
+    store.into_inner().into_inner().bytes() == file.bytes()
+}
+
+// Whether the only store holds what the file does.
+fn is_only(file: &MemoryStore, stores: Files<RowStore>) -> bool
+    ensures { IsTrue result → each content_of stores.items ≡ file.now.content ∷ [] }
+{
+    match only_store(stores) {
+        Ok(store) => holds(store, file),
+        Err(_) => false,
+    }
+}
+
+// Takes the last store, and answers whether it holds what the file does.
+fn is_last(file: &MemoryStore, stores: &mut Files<RowStore>) -> bool
+    ensures { IsTrue result →
+        each content_of stores.old.items ≡ each content_of stores.new.items ++ file.now.content ∷ [] }
+{
+    match stores.pop() {
+        Some(Some(store)) => holds(store, file),
         _ => false,
     }
 }

@@ -1,8 +1,8 @@
 //! For the programs that play rows: the words of their lines, the volumes that blocks of lines spell, and stores that keep a
 //! record of their calls and fail where a row asks it.
 //!
-//! But for lists of files, which a mount wants to be whole, no function here has a clause: what they answer is seen in what the
-//! rows print.
+//! Clauses say what a word means as a number or a drive, what the files of a row hold, and what a store's record counts. How
+//! blocks of lines and rows of bytes are spelled is seen in what the rows print.
 #![tactic(auto)]
 
 mod files;

@@ -1,5 +1,9 @@
 //! A store that keeps a record of its calls, and of which one fails where that is asked.
 
+ghost use Rattle.std.specs.Prelude.{◌≡◌, ◌==◌, ◌+◌, ◌≤◌, false, length, slice_range, OnOk, OnErr};
+ghost use Rattle.ckd_image.specs.Store.{overwritten, Torn, Counts};
+ghost use Rattle.test_rows.specs.Stores.{no_calls, after_call, store_in, reads_of, writes_of};
+
 use ckd_image::{FailingStore, ImageStore, MemoryStore, StoreFault};
 use std::fmt;
 
@@ -21,7 +25,9 @@ const NO_CALLS: Calls = Calls {
 };
 
 impl Calls {
-    fn and(self, at: u64, len: usize) -> Calls {
+    fn and(self, at: u64, len: usize) -> Calls
+        ensures { result ≡ after_call self at len }
+    {
         Calls {
             count: self.count.saturating_add(1),
             at,
@@ -56,7 +62,10 @@ impl Failure {
     };
 
     /// What of it befalls the store of the file at this place.
-    pub fn in_file(self, file: usize) -> Failure {
+    pub fn in_file(self, file: usize) -> Failure
+        ensures here { self.file ≡ file → result ≡ self }
+        ensures elsewhere { (self.file == file) ≡ false → result.at ≡ 0 }
+    {
         if self.file == file {
             self
         } else {
@@ -75,7 +84,11 @@ pub struct Recorder<S: ImageStore> {
 
 impl<S: ImageStore> Recorder<S> {
     /// A record of a store's calls, of which none was made.
-    pub fn new(store: S) -> Recorder<S> {
+    pub fn new(store: S) -> Recorder<S>
+        ensures store { store_in result ≡ store }
+        ensures reads { reads_of result ≡ no_calls }
+        ensures writes { writes_of result ≡ no_calls }
+    {
         Recorder {
             store,
             reads: NO_CALLS,
@@ -84,22 +97,30 @@ impl<S: ImageStore> Recorder<S> {
     }
 
     /// How often it was read.
-    pub fn reads(&self) -> Calls {
+    pub fn reads(&self) -> Calls
+        ensures { result ≡ reads_of self.now }
+    {
         self.reads
     }
 
     /// How often it was written.
-    pub fn writes(&self) -> Calls {
+    pub fn writes(&self) -> Calls
+        ensures { result ≡ writes_of self.now }
+    {
         self.writes
     }
 
     /// The store.
-    pub fn inner(&self) -> &S {
+    pub fn inner(&self) -> &S
+        ensures { result.now ≡ store_in self.now }
+    {
         &self.store
     }
 
     /// The store alone.
-    pub fn into_inner(self) -> S {
+    pub fn into_inner(self) -> S
+        ensures { result ≡ store_in self }
+    {
         let Recorder {
             store,
             reads: _,
@@ -118,12 +139,29 @@ impl<S: ImageStore> ImageStore for Recorder<S> {
         self.store.len()
     }
 
-    fn read_at(&mut self, at: u64, into: &mut [u8]) -> Result<(), StoreFault> {
+    fn read_at(&mut self, at: u64, into: &mut [u8]) -> Result<(), StoreFault>
+        requires { at + length into.old ≤ length (S.content (store_in self.old)) }
+        ensures read { OnOk result
+            (into.new ≡ slice_range (S.content (store_in self.old)) at (at + length into.old)) }
+        ensures kept { S.content (store_in self.new) ≡ S.content (store_in self.old) }
+        ensures counted { Counts (S.failures (store_in self.old)) (S.failures (store_in self.new)) result }
+        ensures reads { reads_of self.new ≡ after_call (reads_of self.old) at (length into.old) }
+        ensures writes { writes_of self.new ≡ writes_of self.old }
+    {
         self.reads = self.reads.and(at, into.len());
         self.store.read_at(at, into)
     }
 
-    fn write_at(&mut self, at: u64, bytes: &[u8]) -> Result<(), StoreFault> {
+    fn write_at(&mut self, at: u64, bytes: &[u8]) -> Result<(), StoreFault>
+        requires { at ≤ length (S.content (store_in self.old)) }
+        ensures written { OnOk result
+            (S.content (store_in self.new) ≡ overwritten (S.content (store_in self.old)) at bytes.now) }
+        ensures torn { OnErr result
+            (Torn (S.content (store_in self.old)) (S.content (store_in self.new)) at (length bytes.now)) }
+        ensures counted { Counts (S.failures (store_in self.old)) (S.failures (store_in self.new)) result }
+        ensures reads { reads_of self.new ≡ reads_of self.old }
+        ensures writes { writes_of self.new ≡ after_call (writes_of self.old) at (length bytes.now) }
+    {
         self.writes = self.writes.and(at, bytes.len());
         self.store.write_at(at, bytes)
     }
@@ -133,6 +171,16 @@ impl<S: ImageStore> ImageStore for Recorder<S> {
 pub type RowStore = Recorder<FailingStore>;
 
 /// The store of a row over bytes in memory.
-pub fn row_store(store: MemoryStore, failure: Failure) -> RowStore {
+pub fn row_store(store: MemoryStore, failure: Failure) -> RowStore
+    ensures store { store_in result ≡ record {
+      store = store;
+      calls = 0;
+      fails_at = failure.at;
+      for_good = failure.for_good;
+      made_to_fail = 0;
+    } }
+    ensures reads { reads_of result ≡ no_calls }
+    ensures writes { writes_of result ≡ no_calls }
+{
     Recorder::new(FailingStore::new(store, u64::from(failure.at), failure.for_good))
 }

@@ -1,5 +1,10 @@
 //! The volumes of rows.
 
+ghost use Rattle.std.specs.Prelude.{◌≡◌, ◌≤◌, ◌∷◌, [], length, IfOk, IsOk};
+ghost use Rattle.ckd_image.specs.Header.{head_of, mount_of};
+ghost use Rattle.ckd_image.specs.Image.{HoldsImage, new_image};
+ghost use Rattle.test_rows.specs.Files.{bytes_of, HaveSlots};
+
 use crate::files::{RowFiles, only_store};
 use crate::words::{bytes, model_of, number, words_of};
 use anyhow::{Result, bail};
@@ -15,7 +20,10 @@ const HEADER: u64 = 512;
 /// # Errors
 ///
 /// Fails where the geometry is refused, and where memory runs out.
-pub fn new_volume(alloc: Global, geometry: Geometry) -> Result<MemoryStore> {
+pub fn new_volume(alloc: Global, geometry: Geometry) -> Result<MemoryStore>
+    ensures { IfOk result
+        (λ file. HoldsImage (file.content ∷ []) (new_image geometry.model geometry.cylinders 0)) }
+{
     let Geometry {
         model,
         cylinders,
@@ -50,7 +58,9 @@ pub fn put_lines(
     geometry: Geometry,
     block: &str,
     prefix: &str,
-) -> Result<()> {
+) -> Result<()>
+    ensures { head_of store.new.content ≡ head_of store.old.content }
+{
     for line in block.lines() {
         if let Some(words) = line.strip_prefix(prefix) {
             put(alloc, store, geometry, words)?;
@@ -60,7 +70,9 @@ pub fn put_lines(
 }
 
 // Puts bytes from a place on into the slot of a track.
-fn put(alloc: Global, store: &mut MemoryStore, geometry: Geometry, line: &str) -> Result<()> {
+fn put(alloc: Global, store: &mut MemoryStore, geometry: Geometry, line: &str) -> Result<()>
+    ensures { head_of store.new.content ≡ head_of store.old.content }
+{
     let words = words_of(alloc, line)?;
     let [track, at, body] = words.as_slice() else {
         bail!("no track, place and bytes");
@@ -70,12 +82,24 @@ fn put(alloc: Global, store: &mut MemoryStore, geometry: Geometry, line: &str) -
     if at > store.len() {
         bail!("past the end");
     }
-    store.write_at(at, body.as_slice())?;
+    write_behind_header(store, at, body.as_slice())
+}
+
+// Writes from a place behind the header on.
+#[tactic(auto, using(crate::proofs::Heads::head_kept))]
+fn write_behind_header(store: &mut MemoryStore, at: u64, bytes: &[u8]) -> Result<()>
+    requires behind { 512 ≤ at }
+    requires within { at ≤ length store.old.content }
+    ensures { head_of store.new.content ≡ head_of store.old.content }
+{
+    store.write_at(at, bytes)?;
     Ok(())
 }
 
 // Where a place in the slot of a track stands in the file.
-fn place_of(geometry: Geometry, track: usize, at: usize) -> u64 {
+fn place_of(geometry: Geometry, track: usize, at: usize) -> u64
+    ensures { 512 ≤ result }
+{
     (track as u64)
         .saturating_mul(geometry.track_size as u64)
         .saturating_add(HEADER)
@@ -87,7 +111,9 @@ fn place_of(geometry: Geometry, track: usize, at: usize) -> u64 {
 /// # Errors
 ///
 /// Fails where a block is spelled otherwise, and where memory runs out.
-pub fn volume_of(alloc: Global, volume: &str, row: &str) -> Result<MemoryStore> {
+pub fn volume_of(alloc: Global, volume: &str, row: &str) -> Result<MemoryStore>
+    ensures { IfOk result (λ file. IsOk (mount_of (file.content ∷ []))) }
+{
     let geometry = geometry_of(alloc, volume)?;
     let mut store = new_volume(alloc, geometry)?;
     put_lines(alloc, &mut store, geometry, volume, "track ")?;
@@ -100,7 +126,9 @@ pub fn volume_of(alloc: Global, volume: &str, row: &str) -> Result<MemoryStore> 
 /// # Errors
 ///
 /// Fails where a block is spelled otherwise, and where memory runs out.
-pub fn volume_left(alloc: Global, volume: &str, row: &str) -> Result<MemoryStore> {
+pub fn volume_left(alloc: Global, volume: &str, row: &str) -> Result<MemoryStore>
+    ensures { IfOk result (λ file. IsOk (mount_of (file.content ∷ []))) }
+{
     let mut store = volume_of(alloc, volume, row)?;
     let geometry = geometry_of(alloc, volume)?;
     put_lines(alloc, &mut store, geometry, row, "left ")?;
@@ -126,7 +154,9 @@ pub fn split_of(alloc: Global, block: &str) -> Result<Option<u16>> {
 /// # Errors
 ///
 /// Fails where a block is spelled otherwise, and where memory runs out.
-pub fn files_of(alloc: Global, volume: &str, row: &str) -> Result<RowFiles> {
+pub fn files_of(alloc: Global, volume: &str, row: &str) -> Result<RowFiles>
+    ensures { IfOk result (λ files. HaveSlots (bytes_of files)) }
+{
     let whole = volume_of(alloc, volume, row)?;
     RowFiles::of(
         alloc,
@@ -141,7 +171,9 @@ pub fn files_of(alloc: Global, volume: &str, row: &str) -> Result<RowFiles> {
 /// # Errors
 ///
 /// Fails where a block is spelled otherwise, and where memory runs out.
-pub fn files_left(alloc: Global, volume: &str, row: &str) -> Result<RowFiles> {
+pub fn files_left(alloc: Global, volume: &str, row: &str) -> Result<RowFiles>
+    ensures { IfOk result (λ files. HaveSlots (bytes_of files)) }
+{
     let whole = volume_left(alloc, volume, row)?;
     RowFiles::of(
         alloc,

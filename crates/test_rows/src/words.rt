@@ -1,5 +1,13 @@
 //! The words of rows.
 
+ghost use Rattle.std.specs.Prelude.{◌≡◌, ℕ, ◌<◌, List, [], length, All, IfOk, OnErr};
+ghost use Rattle.std.specs.Char.{is_whitespace};
+ghost use Rattle.std.specs.Str.Iter.{NoAsciiPasses};
+ghost use Rattle.std.specs.Str.Lines.{IsFirstLine};
+ghost use Rattle.std.specs.Str.Parse.{ParsesUnsigned};
+ghost use Rattle.ckd_track.specs.declared.model.DriveModel.{DriveModel};
+ghost use Rattle.test_rows.specs.Words.{name_of_model};
+
 use anyhow::{Context, Result, bail};
 use ckd_track::DriveModel;
 use std::alloc::Global;
@@ -9,12 +17,18 @@ use std::alloc::Global;
 /// # Errors
 ///
 /// Fails where memory runs out.
-pub fn words_of(alloc: Global, line: &str) -> Result<Vec<&str>> {
+pub fn words_of(alloc: Global, line: &str) -> Result<Vec<&str>>
+    ensures { IfOk result
+        (λ words. All (λ word. (0 < length word.now) × NoAsciiPasses is_whitespace word.now) words.items) }
+{
     Ok(line.split_whitespace().collect(alloc)?)
 }
 
 /// The name of a row, which is its first line.
-pub fn name_of(row: &str) -> &str {
+pub fn name_of(row: &str) -> &str
+    ensures line { 0 < length row.now → (rest : List ℕ) × IsFirstLine row.now result.now rest }
+    ensures empty { length row.now ≡ 0 → result.now ≡ [] }
+{
     row.lines().next().unwrap_or("")
 }
 
@@ -23,7 +37,9 @@ pub fn name_of(row: &str) -> &str {
 /// # Errors
 ///
 /// Fails where the word is none.
-pub fn byte(word: &str) -> Result<u8> {
+pub fn byte(word: &str) -> Result<u8>
+    ensures { ParsesUnsigned 8 16 word.now result }
+{
     u8::from_str_radix(word, 16).context("no byte")
 }
 
@@ -32,7 +48,9 @@ pub fn byte(word: &str) -> Result<u8> {
 /// # Errors
 ///
 /// Fails where the word is none.
-pub fn address(word: &str) -> Result<u32> {
+pub fn address(word: &str) -> Result<u32>
+    ensures { ParsesUnsigned 32 16 word.now result }
+{
     u32::from_str_radix(word, 16).context("no address")
 }
 
@@ -41,7 +59,9 @@ pub fn address(word: &str) -> Result<u32> {
 /// # Errors
 ///
 /// Fails where the word is none.
-pub fn unit_address(word: &str) -> Result<u16> {
+pub fn unit_address(word: &str) -> Result<u16>
+    ensures { ParsesUnsigned 16 16 word.now result }
+{
     u16::from_str_radix(word, 16).context("no address")
 }
 
@@ -50,7 +70,9 @@ pub fn unit_address(word: &str) -> Result<u16> {
 /// # Errors
 ///
 /// Fails where the word is none.
-pub fn number(word: &str) -> Result<usize> {
+pub fn number(word: &str) -> Result<usize>
+    ensures { ParsesUnsigned 64 10 word.now result }
+{
     word.parse::<usize>().context("no number")
 }
 
@@ -59,7 +81,10 @@ pub fn number(word: &str) -> Result<usize> {
 /// # Errors
 ///
 /// Fails at any other word.
-pub fn model_of(word: &str) -> Result<DriveModel> {
+pub fn model_of(word: &str) -> Result<DriveModel>
+    ensures model { IfOk result (λ model. word.now ≡ name_of_model model) }
+    ensures refused { OnErr result ((model : DriveModel) → ¬ (word.now ≡ name_of_model model)) }
+{
     match word {
         "2311" => Ok(DriveModel::D2311),
         "2314" => Ok(DriveModel::D2314),
