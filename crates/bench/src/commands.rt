@@ -11,6 +11,8 @@ use ckd_image::MemoryStore;
 const TURNS: usize = 50;
 
 /// Begins a command and looks until its area is found or it is over; whether there is a command to end.
+// In line, as an emulator writes it.
+#[inline(always)]
 pub(crate) fn find(drive: &mut Drive<MemoryStore>, code: u8) -> bool
     requires { is_idle drive.old.work ≡ true }
     ensures found { result ≡ true → may_end drive.new.work ≡ true }

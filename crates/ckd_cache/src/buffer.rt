@@ -167,6 +167,7 @@ fn home_address_window(extent: Extent) -> Window
 }
 
 // Where these bytes of the record at an offset stand.
+#[inline(always)]
 fn record_window(slot: &[u8], at: usize, extent: Extent) -> Window
     requires room { at + 8 ≤ length slot.now }
     requires size { length slot.now < 2 ^ 32 }
@@ -235,6 +236,8 @@ impl TrackBuffer {
     /// # Errors
     ///
     /// Where the image's store fails. Then the buffer holds any bytes.
+    // By itself, since most looks find their track at hand.
+    #[inline(never)]
     pub fn load<S: ImageStore>(
         &mut self,
         image: &mut Image<S>,
@@ -262,6 +265,7 @@ impl TrackBuffer {
     }
 
     /// The next area of this kind behind the position. A slot that does not read whole has no more than its home address.
+    #[inline(always)]
     pub fn next_area(&self, position: Position, kind: Kind) -> Next
         ensures next { result ≡ next_of_kind (track_or_none (track_of self.now)) position kind }
         ensures on_track { IfFound result (IsOnTrack (track_or_none (track_of self.now))) }

@@ -78,6 +78,7 @@ impl<S: ImageStore> TrackCache<S> {
     /// # Errors
     ///
     /// Where the load fails no slot is at hand.
+    #[inline(always)]
     pub fn hold(&mut self, track: u32) -> Result<(), StoreFault>
         requires there { track < tracks_of self.old.image.geometry }
         requires clean { self.old.changed ≡ true → self.old.held ≡ Some track }

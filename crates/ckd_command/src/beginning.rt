@@ -96,6 +96,7 @@ fn is_out_of_sequence(command: Command, registers: &Registers) -> bool
 }
 
 // Why a command is not begun.
+#[inline(always)]
 fn refusal(command: Command, registers: &Registers) -> Option<Sense>
     ensures { result ≡ refusal_of command registers.now }
 {
@@ -128,6 +129,7 @@ fn started(command: Command, opened: Opened) -> Start
 
 /// What a command code leads to, beside what the drive remembers then.
 #[tactic(auto, unfolding(crate::specs::Commands::beginning))]
+#[inline(always)]
 pub fn begin(code: u8, registers: &mut Registers) -> Start
     ensures { begun_as result registers.new ≡ beginning code registers.old }
 {

@@ -46,6 +46,7 @@ pub fn at_end(opened: &Opened, registers: &mut Registers)
 }
 
 /// A search closes.
+#[inline(always)]
 pub fn search_ends(
     opened: &Opened,
     registers: &mut Registers,
@@ -68,6 +69,7 @@ pub fn search_ends(
 }
 
 /// A read or an update closes, or a command that works on no area.
+#[inline(always)]
 pub fn area_ends(opened: &Opened, registers: &mut Registers, no_data: bool) -> Closed
     ensures closes { closed_as result registers.new ≡ outcome (area_closes opened.now registers.old no_data) }
     ensures stays { ClosedStays result registers.old registers.new }

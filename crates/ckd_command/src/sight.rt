@@ -56,6 +56,7 @@ fn next_head(geometry: Geometry, registers: &mut Registers) -> Seen
 }
 
 /// What a look leads to that found this area next, or none behind the position, beside what the drive remembers then.
+#[inline(always)]
 pub fn sight_of(geometry: Geometry, opened: &Opened, registers: &mut Registers, next: Next) -> Seen
     requires { registers.old.head < heads_of geometry.model }
     ensures seen { seen_as result opened.now registers.new ≡ sight_by geometry opened.now registers.old next }

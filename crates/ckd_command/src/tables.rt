@@ -110,6 +110,7 @@ pub fn credited(command: Command, credit: Option<Credit>) -> Option<Area>
 }
 
 /// The credit that a search leaves which found its whole area equal.
+#[inline(always)]
 pub fn credit_of_search(command: Command, area: Option<Area>) -> Option<Credit>
     ensures { result ≡ credit_left command area }
 {

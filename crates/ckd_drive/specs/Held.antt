@@ -59,3 +59,8 @@ IsBegunHeld _ = Unit {0}
 abbrev pub IsLookedHeld : StageHeld → Type 0
 IsLookedHeld now.Idle = ⊥
 IsLookedHeld _ = Unit {0}
+
+-- a place that is no search's
+abbrev pub IsNoSearch : PlaceHeld → Type 0
+IsNoSearch (held.Search w so_far) = ⊥
+IsNoSearch _ = Unit {0}

@@ -226,6 +226,38 @@ impl<S: ImageStore> Drive<S> {
         ensures calls { CallsStore false (end_saves self.old) self.old self.new }
         ensures reported { Reports (result ≡ failed_ending) self.old self.new }
     {
+        // a read and a search by themselves, which leave the track and the arm as they are
+        if let Stage::Passing = self.stage {
+            match self.progress.place {
+                Place::Read(_, _) => return self.end_here(),
+                Place::Search(_, _) => return self.end_here(),
+                _ => {}
+            }
+        }
+        self.end_elsewhere()
+    }
+
+    // The same, of any other command.
+    #[inline(never)]
+    fn end_elsewhere(&mut self) -> DriveEnding
+        requires { may_end self.old.work ≡ true }
+        ensures state { self.new ≡ with_image (after_end (fault_met self.old self.new) self.old) self.new.image }
+        ensures ending { result ≡ ending_of (closed_of (fault_met self.old self.new) self.old self.old.work) }
+        ensures calls { CallsStore false (end_saves self.old) self.old self.new }
+        ensures reported { Reports (result ≡ failed_ending) self.old self.new }
+    {
+        self.end_here()
+    }
+
+    // The end of a command, whatever its bytes are.
+    #[inline(always)]
+    fn end_here(&mut self) -> DriveEnding
+        requires { may_end self.old.work ≡ true }
+        ensures state { self.new ≡ with_image (after_end (fault_met self.old self.new) self.old) self.new.image }
+        ensures ending { result ≡ ending_of (closed_of (fault_met self.old self.new) self.old self.old.work) }
+        ensures calls { CallsStore false (end_saves self.old) self.old self.new }
+        ensures reported { Reports (result ≡ failed_ending) self.old self.new }
+    {
         match self.stage {
             Stage::Idle | Stage::Looking => unreachable!(),
             Stage::Ended => {

@@ -22,6 +22,8 @@ pub(crate) fn lose(registers: &mut Registers)
 
 /// Leaves the track for another, which stands at its index; it is saved first if it was written. Where the saving fails,
 /// the track is lost and the arm stays.
+// By itself, since few commands leave the track.
+#[inline(never)]
 pub(crate) fn leave<S: ImageStore>(
     cache: &mut TrackCache<S>,
     registers: &mut Registers,

@@ -18,18 +18,21 @@ use ckd_command::steps::{Aim, Opened, Seen};
 use ckd_command::tables;
 use ckd_image::ImageStore;
 use ckd_position::Kind;
-use ckd_sense::Sense;
+use ckd_sense::{Command, Sense};
 
-// The look at the track under the arm, which is at hand.
+// The look of this command at the track under the arm, which is at hand.
+#[inline(always)]
 fn look_at_hand<S: ImageStore>(
     cache: &mut TrackCache<S>,
     registers: &mut Registers,
     mark: &mut Mark,
     opened: &mut Opened,
     progress: &mut Progress,
+    command: Command,
     kind: Kind,
 ) -> Stage
     requires stands { Stands cache.old registers.old mark.old (Looking opened.old) [] [] }
+    requires command { command ≡ opened.old.command }
     requires aim { aim_of opened.old.command ≡ Next kind }
     requires held { cache.old.held ≡ Some (number cache.old.image.geometry registers.old) }
     ensures stage { Looks cache.old cache.new registers.old registers.new mark.old mark.new opened.old (stage_seen registers.new opened.new progress.new result) }
@@ -37,10 +40,10 @@ fn look_at_hand<S: ImageStore>(
     ensures loads { cache.new.image.loads ≡ cache.old.image.loads }
 {
     let geometry = cache.geometry();
-    match placing::look_at(cache.buffer(), geometry, opened, registers, kind) {
+    match placing::look_at(cache.buffer(), geometry, opened, registers, command, kind) {
         Seen::Found(area) => {
             opened.area = Some(area);
-            placing::place_on(cache.buffer(), opened, progress)
+            placing::place_on(cache.buffer(), opened, command, progress)
         }
         Seen::IndexPassed => Stage::Looking,
         Seen::NextHead => {
@@ -55,15 +58,18 @@ fn look_at_hand<S: ImageStore>(
 }
 
 // The look for the next area of this kind, which loads the track under the arm where it is not at hand.
+#[inline(always)]
 fn look_for_next<S: ImageStore>(
     cache: &mut TrackCache<S>,
     registers: &mut Registers,
     mark: &mut Mark,
     opened: &mut Opened,
     progress: &mut Progress,
+    command: Command,
     kind: Kind,
 ) -> Stage
     requires stands { Stands cache.old registers.old mark.old (Looking opened.old) [] [] }
+    requires command { command ≡ opened.old.command }
     requires aim { aim_of opened.old.command ≡ Next kind }
     ensures stage { Looks cache.old cache.new registers.old registers.new mark.old mark.new opened.old (stage_seen registers.new opened.new progress.new result) }
     ensures looked { IsLookedHeld result }
@@ -75,10 +81,51 @@ fn look_for_next<S: ImageStore>(
         add_cause(registers, Sense::STORE_FAULT);
         return Stage::Failed;
     }
-    look_at_hand(cache, registers, mark, opened, progress, kind)
+    look_at_hand(cache, registers, mark, opened, progress, command, kind)
+}
+
+// A command that has not looked yet looks.
+#[inline(always)]
+fn look_here<S: ImageStore>(
+    cache: &mut TrackCache<S>,
+    registers: &mut Registers,
+    mark: &mut Mark,
+    opened: &mut Opened,
+    progress: &mut Progress,
+    command: Command,
+) -> Stage
+    requires stands { Stands cache.old registers.old mark.old (Looking opened.old) [] [] }
+    requires command { command ≡ opened.old.command }
+    ensures stage { Looks cache.old cache.new registers.old registers.new mark.old mark.new opened.old (stage_seen registers.new opened.new progress.new result) }
+    ensures looked { IsLookedHeld result }
+{
+    match tables::aim(command) {
+        Aim::NoArea => placing::place_without_area(opened, registers, progress),
+        Aim::Credited => placing::place_on(cache.buffer(), opened, command, progress),
+        Aim::Next(kind) => look_for_next(cache, registers, mark, opened, progress, command, kind),
+    }
+}
+
+// The same, of a command that is not a common one.
+#[inline(never)]
+fn look_elsewhere<S: ImageStore>(
+    cache: &mut TrackCache<S>,
+    registers: &mut Registers,
+    mark: &mut Mark,
+    opened: &mut Opened,
+    progress: &mut Progress,
+) -> Stage
+    requires { Stands cache.old registers.old mark.old (Looking opened.old) [] [] }
+    ensures stage { Looks cache.old cache.new registers.old registers.new mark.old mark.new opened.old (stage_seen registers.new opened.new progress.new result) }
+    ensures looked { IsLookedHeld result }
+{
+    let command = opened.command;
+    look_here(cache, registers, mark, opened, progress, command)
 }
 
 /// A command that has not looked yet looks, and this is the stage that it comes to.
+// The commonest commands by themselves: what they look for is then known as the crate is compiled.
+#[inline(always)]
 pub(crate) fn look<S: ImageStore>(
     cache: &mut TrackCache<S>,
     registers: &mut Registers,
@@ -90,9 +137,16 @@ pub(crate) fn look<S: ImageStore>(
     ensures stage { Looks cache.old cache.new registers.old registers.new mark.old mark.new opened.old (stage_seen registers.new opened.new progress.new result) }
     ensures looked { IsLookedHeld result }
 {
-    match tables::aim(opened.command) {
-        Aim::NoArea => placing::place_without_area(opened, registers, progress),
-        Aim::Credited => placing::place_on(cache.buffer(), opened, progress),
-        Aim::Next(kind) => look_for_next(cache, registers, mark, opened, progress, kind),
+    match opened.command {
+        Command::ReadData => look_here(cache, registers, mark, opened, progress, Command::ReadData),
+        Command::SearchIdEqual => look_here(
+            cache,
+            registers,
+            mark,
+            opened,
+            progress,
+            Command::SearchIdEqual,
+        ),
+        _ => look_elsewhere(cache, registers, mark, opened, progress),
     }
 }

@@ -28,7 +28,7 @@ use ckd_command::sight::sight_of;
 use ckd_command::steps::{Action, Closed, Opened, Seen};
 use ckd_command::{closing, tables};
 use ckd_position::{Compare, Kind};
-use ckd_sense::Sense;
+use ckd_sense::{Command, Sense};
 use ckd_track::Geometry;
 use std::cmp::Ordering;
 
@@ -61,6 +61,7 @@ pub(crate) fn remaining(action: Action, place: &Place, moved: usize) -> usize
 }
 
 /// The mark of a track that a command leaves whose arm stays.
+#[inline(always)]
 pub(crate) fn mark_left(place: &Place, mark: Mark) -> Mark
     ensures { (o : Opened) (r : Registers) → result ≡ mark_left_by (place_seen r o place.now) mark }
 {
@@ -92,20 +93,23 @@ pub(crate) fn owed_mark(mark: Mark) -> Mark
 
 /// A look at a track for the next area of this kind.
 #[tactic(auto, unfolding(ckd_command::specs::Commands::sight))]
+#[inline(always)]
 pub(crate) fn look_at(
     buffer: &TrackBuffer,
     geometry: Geometry,
     opened: &Opened,
     registers: &mut Registers,
+    command: Command,
     kind: Kind,
 ) -> Seen
     requires head { registers.old.head < heads_of geometry.model }
+    requires command { command ≡ opened.now.command }
     requires kind { aim_of opened.now.command ≡ Next kind }
     ensures sight { seen_as result opened.now registers.new ≡ sight_of_track geometry (track_of buffer.now) opened.now registers.old }
     ensures there { AreaIsThere (track_of buffer.now) opened.now (seen_as result opened.now registers.new) }
     ensures stays { SeenStays result registers.old registers.new }
 {
-    let reads_whole = tables::action(opened.command) != Action::WriteHomeAddress;
+    let reads_whole = tables::action(command) != Action::WriteHomeAddress;
     if reads_whole && !buffer.is_readable() {
         add_cause(registers, Sense::UNREADABLE_TRACK);
         return Seen::Missed;
@@ -188,7 +192,13 @@ pub(crate) fn place_without_area(
 
 /// The place of a command whose area is this, or which makes its record behind it.
 #[inline(always)]
-pub(crate) fn place_on(buffer: &TrackBuffer, opened: &Opened, progress: &mut Progress) -> Stage
+pub(crate) fn place_on(
+    buffer: &TrackBuffer,
+    opened: &Opened,
+    command: Command,
+    progress: &mut Progress,
+) -> Stage
+    requires command { command ≡ opened.now.command }
     requires aim { aim_of opened.now.command ≡ NoArea → ⊥ }
     requires readable { ReadsWhole (action_of opened.now.command) (track_of buffer.now) }
     requires there { AreaOf (track_of buffer.now) opened.now }
@@ -196,12 +206,12 @@ pub(crate) fn place_on(buffer: &TrackBuffer, opened: &Opened, progress: &mut Pro
     ensures ready { (r : Registers) → IsReady r opened.now progress.new result }
     ensures passing { IsLookedHeld result }
 {
-    let action = tables::action(opened.command);
+    let action = tables::action(command);
     if matches!(action, Action::WriteHomeAddress | Action::Format) {
         return ready(action, progress, Place::Field([0; 8]));
     }
     let (window, no_data) = match opened.area {
-        Some(area) => buffer.part(tables::extent(opened.command), area),
+        Some(area) => buffer.part(tables::extent(command), area),
         None => (Window { start: 0, len: 0 }, false),
     };
     let place = match action {
@@ -272,6 +282,7 @@ fn written_ends(opened: &Opened, registers: &mut Registers, written: Written) ->
 }
 
 /// How a command closes, as far as it is known by the place of its bytes, so many of which have passed.
+#[inline(always)]
 pub(crate) fn close(
     geometry: Geometry,
     opened: &Opened,

@@ -3,7 +3,7 @@
 ghost use Rattle.std.specs.Prelude.{◌≡◌, ◌≤◌, ◌<◌, ◌+◌, ◌++◌, Some, [], true, false, length};
 ghost use Rattle.ckd_drive.specs.Places as place;
 ghost use Rattle.ckd_drive.specs.Half.{Works, MayTake, Absorbs};
-ghost use Rattle.ckd_drive.specs.Held.{closes_by, place_seen, progress_seen};
+ghost use Rattle.ckd_drive.specs.Held.{closes_by, place_seen, progress_seen, IsNoSearch};
 ghost use Rattle.ckd_command.specs.Commands.{outcome, area_ends};
 
 use crate::places::{Place, Progress, Whole, Written};
@@ -18,6 +18,7 @@ use ghost_data::Trace;
 use std::cmp::Ordering;
 
 // A search compares the bytes.
+#[inline(always)]
 fn search<S: ImageStore>(
     cache: &TrackCache<S>,
     registers: &Registers,
@@ -137,7 +138,39 @@ fn fill_on<S: ImageStore>(
     p.place = Place::Filled(placing::behind(window, bytes.len()), written);
 }
 
+// A command that has found its area, and is no search, takes these bytes.
+#[inline(never)]
+fn absorb_elsewhere<S: ImageStore>(
+    cache: &mut TrackCache<S>,
+    registers: &Registers,
+    before: &mut Trace,
+    passed: &Trace,
+    opened: &Opened,
+    p: &mut Progress,
+    bytes: &[u8],
+)
+    requires works { Works cache.old registers.now before.old.bytes passed.now.bytes (progress_seen registers.now opened.now p.old) }
+    requires may { MayTake (progress_seen registers.now opened.now p.old) bytes.now }
+    requires elsewhere { IsNoSearch p.old.place }
+    ensures absorbs { Absorbs cache.old cache.new registers.now before.old.bytes before.new.bytes passed.now.bytes (progress_seen registers.now opened.now p.old) bytes.now (place_seen registers.now opened.now p.new.place) }
+    ensures moved { p.new.moved ≡ p.old.moved }
+    ensures left { p.new.left ≡ p.old.left }
+{
+    match p.place {
+        Place::Field(field) => collect(cache, registers, before, passed, opened, p, bytes, field),
+        Place::Fill(window, no_data) => fill(
+            cache, registers, before, passed, opened, p, bytes, window, no_data,
+        ),
+        Place::Filled(window, written) => fill_on(
+            cache, registers, before, passed, opened, p, bytes, window, written,
+        ),
+        Place::Search(_, _) | Place::Sense(_) | Place::Read(_, _) => unreachable!(),
+    }
+}
+
 /// A command that has found its area takes these bytes, and the rest have the place that is left.
+// A search by itself, since fewer commands write.
+#[inline(always)]
 pub(crate) fn absorb<S: ImageStore>(
     cache: &mut TrackCache<S>,
     registers: &Registers,
@@ -157,13 +190,6 @@ pub(crate) fn absorb<S: ImageStore>(
         Place::Search(window, so_far) => search(
             cache, registers, before, passed, opened, p, bytes, window, so_far,
         ),
-        Place::Field(field) => collect(cache, registers, before, passed, opened, p, bytes, field),
-        Place::Fill(window, no_data) => fill(
-            cache, registers, before, passed, opened, p, bytes, window, no_data,
-        ),
-        Place::Filled(window, written) => fill_on(
-            cache, registers, before, passed, opened, p, bytes, window, written,
-        ),
-        Place::Sense(_) | Place::Read(_, _) => unreachable!(),
+        _ => absorb_elsewhere(cache, registers, before, passed, opened, p, bytes),
     }
 }

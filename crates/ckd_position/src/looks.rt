@@ -11,6 +11,7 @@ use ckd_track::TrackView;
 /// The next area of this kind behind the position, on the same turn of the track.
 ///
 /// A position that the track does not have lies where it would: behind a record that is not there nothing follows.
+#[inline(always)]
 pub fn next_area(view: &TrackView, position: Position, kind: Kind) -> Next
     ensures next { result ≡ next_of_kind view.now position kind }
     ensures on_track { IfFound result (IsOnTrack view.now) }

@@ -75,6 +75,7 @@ impl FileMask {
     /// Whether the command may begin under this mask. Commands that neither write nor move the arm always may.
     ///
     /// That Recalibrate and Read IPL need leave for all seeks is this project's profile.
+    #[inline(always)]
     pub fn permits(self, command: Command) -> Permit
         ensures { result ≡ permit_of self command }
     {

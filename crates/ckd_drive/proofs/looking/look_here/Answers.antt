@@ -5,7 +5,7 @@ use Rattle.ckd_drive.specs.Half.{number, slot_at}
 use Rattle.ckd_drive.specs.Held.{place_seen, stage_seen}
 use Rattle.ckd_drive.proofs.Looks.{slot_is, first_at, credit_hand, plain_sight, credited_sight}
 use Rattle.ckd_drive.proofs.FirstLooks.{found_looks}
-use Rattle.ckd_drive.proofs.looking.look.Goals as goal
+use Rattle.ckd_drive.proofs.looking.look_here.Goals as goal
 
 pub returns-in-NoArea-clause-stage : goal.returns-in-NoArea-clause-stage
 returns-in-NoArea-clause-stage g c =
@@ -13,8 +13,8 @@ returns-in-NoArea-clause-stage g c =
     let r = c.args.registers.now in
     let o = c.args.opened.now in
     let x = c.place_without_area in
-    let none : aim o.command ≡ NoArea = sym c.aim.ensures ∙ c.in-NoArea.is in
-    found_looks d r c.args.mark.now o o (place_seen r o x.new.progress.place) (stage_seen r o x.new.progress x.result) c.requires
+    let none : aim o.command ≡ NoArea = rw c.requires.command at (sym c.aim.ensures ∙ c.in-NoArea.is) in
+    found_looks d r c.args.mark.now o o (place_seen r o x.new.progress.place) (stage_seen r o x.new.progress x.result) c.requires.stands
     (x.ensures.first (slot_at d.slots (number d.image.geometry r))) (λ aimed. absurd (aimed none)) (plain_sight _ _ o r none) (plain_sight _ _ o r none) x.ensures.ready
 
 pub returns-in-Credited-clause-stage : goal.returns-in-Credited-clause-stage
@@ -24,9 +24,9 @@ returns-in-Credited-clause-stage g c =
     let o = c.args.opened.now in
     let x = c.place_on in
     let n : ℕ = number d.image.geometry r in
-    let aimed : aim o.command ≡ Credited = sym c.aim.ensures ∙ c.in-Credited.is in
-    let credit = c.requires.work.credit in
+    let aimed : aim o.command ≡ Credited = rw c.requires.command at (sym c.aim.ensures ∙ c.in-Credited.is) in
+    let credit = c.requires.stands.work.credit in
     let held : d.held ≡ Some n = (rw aimed at credit).held in
     let slot = slot_is d n c.buffer.result.now held c.buffer.ensures.slot in
-    found_looks d r c.args.mark.now o o (place_seen r o x.new.progress.place) (stage_seen r o x.new.progress x.result) c.requires
+    found_looks d r c.args.mark.now o o (place_seen r o x.new.progress.place) (stage_seen r o x.new.progress x.result) c.requires.stands
     (first_at _ _ o r (place_seen r o x.new.progress.place) slot (x.ensures.first r)) (credit_hand d n o aimed credit) (credited_sight _ _ o r aimed) (credited_sight _ _ o r aimed) (x.ensures.ready r)

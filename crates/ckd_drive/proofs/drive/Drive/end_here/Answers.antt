@@ -7,7 +7,7 @@ use Rattle.ckd_drive.specs.Stages.{Leaves, Loses}
 use Rattle.ckd_drive.specs.Work.{ending_of}
 use Rattle.ckd_drive.proofs.Standing.{on_ok, on_err}
 use Rattle.ckd_drive.proofs.Ends.{stays_state, stays_stands, moves_state, moves_stands, lost_state, stays_calls, moves_calls, lost_calls}
-use Rattle.ckd_drive.proofs.drive.Drive.end.Goals as goal
+use Rattle.ckd_drive.proofs.drive.Drive.end_here.Goals as goal
 
 pub invariant_of-self-in-Stays : goal.invariant_of-self-in-Stays
 invariant_of-self-in-Stays g c =
