@@ -65,6 +65,7 @@ pub fn start_program(registers: &mut Registers)
 }
 
 // Sense gives the sense bytes and leaves them; every other command makes them zero.
+#[inline(always)]
 fn sense_as_begun(command: Command, sense: Sense) -> Sense
     ensures { result ≡ sense_after_begin command sense }
 {
@@ -76,6 +77,7 @@ fn sense_as_begun(command: Command, sense: Sense) -> Sense
 }
 
 // What every command takes away as it begins.
+#[inline(always)]
 fn clear(command: Command, registers: &mut Registers)
     ensures { registers.new ≡ cleared command registers.old }
 {
@@ -86,6 +88,7 @@ fn clear(command: Command, registers: &mut Registers)
     registers.credit = None;
 }
 
+#[inline(always)]
 fn is_out_of_sequence(command: Command, registers: &Registers) -> bool
     ensures { result ≡ out_of_sequence command registers.now }
 {
@@ -116,6 +119,7 @@ fn rejected(command: Command, registers: &mut Registers, cause: Sense) -> Start
     Start::Rejected
 }
 
+#[inline(always)]
 fn started(command: Command, opened: Opened) -> Start
     ensures { (r : Registers) → begun_as result r ≡ started_by command r opened }
 {

@@ -9,6 +9,7 @@ use ckd_position::{Area, Compare, Extent, Kind, Part};
 use ckd_sense::Command;
 
 /// What a command works on.
+#[inline(always)]
 pub fn aim(command: Command) -> Aim
     ensures { result ≡ aim_of command }
 {
@@ -41,6 +42,7 @@ pub fn aim(command: Command) -> Aim
 }
 
 /// What a command does with the bytes that pass.
+#[inline(always)]
 pub fn action(command: Command) -> Action
     ensures { result ≡ action_of command }
 {
@@ -71,6 +73,7 @@ pub fn action(command: Command) -> Action
 }
 
 /// Which bytes of its area a command gives, compares or replaces.
+#[inline(always)]
 pub fn extent(command: Command) -> Extent
     ensures { result ≡ extent_of command }
 {
@@ -90,6 +93,7 @@ pub fn extent(command: Command) -> Extent
 }
 
 /// The area behind which a command with this credit makes its record, or which it writes.
+#[inline(always)]
 pub fn credited(command: Command, credit: Option<Credit>) -> Option<Area>
     ensures { result ≡ credited_area command credit }
 {
@@ -125,6 +129,7 @@ pub fn credit_of_search(command: Command, area: Option<Area>) -> Option<Credit>
 }
 
 /// Whether a command is a search.
+#[inline(always)]
 pub fn is_search(action: Action) -> bool
     ensures { result ≡ searches action }
 {
@@ -132,6 +137,7 @@ pub fn is_search(action: Action) -> bool
 }
 
 /// What a search asks of its area.
+#[inline(always)]
 pub fn comparison(command: Command) -> Compare
     ensures { result ≡ comparison_of command }
 {
@@ -143,6 +149,7 @@ pub fn comparison(command: Command) -> Compare
 }
 
 /// The area at which the position is left by a command that worked on this one.
+#[inline(always)]
 pub fn area_left(extent: Extent, area: Area) -> Area
     ensures { result ≡ left_area extent area }
 {
@@ -153,6 +160,7 @@ pub fn area_left(extent: Extent, area: Area) -> Area
 }
 
 /// Whether the bytes end with a record's data.
+#[inline(always)]
 pub fn ends_with_data(extent: Extent) -> bool
     ensures { result ≡ tells_of_data extent }
 {
@@ -163,6 +171,7 @@ pub fn ends_with_data(extent: Extent) -> bool
 }
 
 /// Whether the drive gives the bytes.
+#[inline(always)]
 pub fn is_giving(action: Action) -> bool
     ensures { result ≡ gives action }
 {

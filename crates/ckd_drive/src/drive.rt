@@ -226,11 +226,12 @@ impl<S: ImageStore> Drive<S> {
         ensures calls { CallsStore false (end_saves self.old) self.old self.new }
         ensures reported { Reports (result ≡ failed_ending) self.old self.new }
     {
-        // a read and a search by themselves, which leave the track and the arm as they are
+        // the commands by themselves that end at an area, and so leave the arm where it is
         if let Stage::Passing = self.stage {
             match self.progress.place {
                 Place::Read(_, _) => return self.end_here(),
                 Place::Search(_, _) => return self.end_here(),
+                Place::Filled(_, _) => return self.end_here(),
                 _ => {}
             }
         }

@@ -138,7 +138,6 @@ pub(crate) fn look<S: ImageStore>(
     ensures looked { IsLookedHeld result }
 {
     match opened.command {
-        Command::ReadData => look_here(cache, registers, mark, opened, progress, Command::ReadData),
         Command::SearchIdEqual => look_here(
             cache,
             registers,
@@ -146,6 +145,31 @@ pub(crate) fn look<S: ImageStore>(
             opened,
             progress,
             Command::SearchIdEqual,
+        ),
+        Command::ReadData => look_here(cache, registers, mark, opened, progress, Command::ReadData),
+        Command::ReadCountKeyAndData => look_here(
+            cache,
+            registers,
+            mark,
+            opened,
+            progress,
+            Command::ReadCountKeyAndData,
+        ),
+        Command::WriteCountKeyAndData => look_here(
+            cache,
+            registers,
+            mark,
+            opened,
+            progress,
+            Command::WriteCountKeyAndData,
+        ),
+        Command::WriteData => look_here(
+            cache,
+            registers,
+            mark,
+            opened,
+            progress,
+            Command::WriteData,
         ),
         _ => look_elsewhere(cache, registers, mark, opened, progress),
     }

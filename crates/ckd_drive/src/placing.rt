@@ -17,6 +17,7 @@ ghost use Rattle.ckd_track.specs.Changes.{overwritten};
 ghost use Rattle.ckd_command.specs.declared.steps.Aim.TheVariants.{Next, NoArea};
 ghost use Rattle.ckd_command.specs.declared.steps.Action.TheVariants.{NoTransfer};
 ghost use Rattle.ckd_drive.specs.Half.{whole_of, field_ends as field_closes, outcome_at, MovedInField, mark_left as mark_left_by, remaining as remaining_by, field_size as size_of_field, AreaIsThere, AreaOf, IsFirstPlace, ReadsWhole, given_on as place_given};
+ghost use Rattle.ckd_drive.specs.declared.places.Place.TheVariants as held;
 ghost use Rattle.ckd_drive.specs.Held.{place_seen, closes_by, IsReady, IsLookedHeld, MayGiveHeld};
 
 use crate::places::{Place, Progress, Stage, Whole, Written};
@@ -157,6 +158,21 @@ pub(crate) fn give_on(place: &mut Place, n: usize)
 {
     if let Place::Read(window, _) = place {
         *window = behind(*window, n);
+    }
+}
+
+/// A search goes on here, with this order so far.
+// A search that is one already is changed in place, so that little is written.
+#[inline(always)]
+pub(crate) fn search_on(place: &mut Place, rest: Window, order: Ordering)
+    ensures { place.new ≡ held.Search rest order }
+{
+    match place {
+        Place::Search(window, so_far) => {
+            *window = rest;
+            *so_far = order;
+        }
+        _ => *place = Place::Search(rest, order),
     }
 }
 

@@ -85,8 +85,11 @@ pub(crate) fn start<S: ImageStore>(
     ensures begun { IsBegunHeld result }
 {
     match code {
+        0x05 => start_here(cache, registers, mark, opened, 0x05),
         0x06 => start_here(cache, registers, mark, opened, 0x06),
         0x86 => start_here(cache, registers, mark, opened, 0x86),
+        0x1D => start_here(cache, registers, mark, opened, 0x1D),
+        0x1E => start_here(cache, registers, mark, opened, 0x1E),
         0x31 => start_here(cache, registers, mark, opened, 0x31),
         0xB1 => start_here(cache, registers, mark, opened, 0xB1),
         _ => start_elsewhere(cache, registers, mark, opened, code),

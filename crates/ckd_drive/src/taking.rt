@@ -38,7 +38,7 @@ fn search<S: ImageStore>(
     ensures left { p.new.left ≡ p.old.left }
 {
     let so_far = placing::compared(so_far, cache.buffer().bytes(), window, bytes);
-    p.place = Place::Search(placing::behind(window, bytes.len()), so_far);
+    placing::search_on(&mut p.place, placing::behind(window, bytes.len()), so_far);
 }
 
 // A field is collected, and once it came whole the track is changed where that is allowed.

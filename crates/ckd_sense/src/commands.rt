@@ -74,6 +74,7 @@ impl Command {
     /// `None` where the code is no command of this control unit.
     ///
     /// Bit 80 (hexadecimal) is the multi-track bit of the searches and of the reads but Read IPL.
+    #[inline(always)]
     pub fn decode(code: u8) -> Option<CommandCode>
         ensures { result ≡ decoded code }
     {

@@ -89,6 +89,7 @@ impl FileMask {
     }
 
     /// Whether the command is a write that this mask does not allow.
+    #[inline(always)]
     fn inhibits_write(self, command: Command) -> bool
         ensures { result ≡ inhibits_write self.writes command }
     {
@@ -108,6 +109,7 @@ impl FileMask {
     }
 
     /// Whether the command is a seek, Recalibrate or Read IPL, which this mask does not allow.
+    #[inline(always)]
     fn inhibits_seek(self, command: Command) -> bool
         ensures { result ≡ inhibits_seek self.seeks command }
     {

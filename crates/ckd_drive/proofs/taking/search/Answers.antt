@@ -15,4 +15,4 @@ returns-clause-absorbs g c =
     let P : Place → Type 0 = λ y. IsPlaced d d.image.geometry r n o c.args.before.now.bytes c.args.passed.now.bytes y in
     let placed = subst P c.requires.at c.requires.works.goes.placed in
     let slot : c.bytes.result.now ≡ slot_at d.slots n = c.bytes.ensures ∙ slot_is d n c.buffer.result.now placed.0.at_hand.held c.buffer.ensures.slot in
-    rw c.behind.ensures (search_absorbs d r c.args.before.now.bytes c.args.passed.now.bytes (progress_seen r o c.args.p.now) c.args.bytes.now c.bytes.result.now c.args.window c.args.so_far c.compared-so_far.result c.requires.works c.requires.may c.requires.at slot c.compared-so_far.ensures)
+    rw (c.search_on.ensures, c.behind.ensures) (search_absorbs d r c.args.before.now.bytes c.args.passed.now.bytes (progress_seen r o c.args.p.now) c.args.bytes.now c.bytes.result.now c.args.window c.args.so_far c.compared-so_far.result c.requires.works c.requires.may c.requires.at slot c.compared-so_far.ensures)
