@@ -33,6 +33,7 @@ impl Charged {
     pub(crate) fn keep(&mut self, records: usize)
         ensures within { self.new.records ≤ records }
         ensures model { self.new.model ≡ self.old.model }
+        ensures stays { self.old.records ≤ records → self.new ≡ self.old }
         ensures kept { (old new : List Record) → take records new ≡ take records old → IsCharged old self.old → IsCharged new self.new }
     {
         if self.records > records {
