@@ -18,6 +18,9 @@ use ckd_command::steps::{Aim, Opened, Seen};
 use ckd_command::tables;
 use ckd_image::ImageStore;
 use ckd_position::Kind;
+use ckd_sense::Command::{
+    ReadCountKeyAndData, ReadData, SearchIdEqual, WriteCountKeyAndData, WriteData,
+};
 use ckd_sense::{Command, Sense};
 
 // The look of this command at the track under the arm, which is at hand.
@@ -138,39 +141,25 @@ pub(crate) fn look<S: ImageStore>(
     ensures looked { IsLookedHeld result }
 {
     match opened.command {
-        Command::SearchIdEqual => look_here(
+        SearchIdEqual => look_here(cache, registers, mark, opened, progress, SearchIdEqual),
+        ReadData => look_here(cache, registers, mark, opened, progress, ReadData),
+        ReadCountKeyAndData => look_here(
             cache,
             registers,
             mark,
             opened,
             progress,
-            Command::SearchIdEqual,
+            ReadCountKeyAndData,
         ),
-        Command::ReadData => look_here(cache, registers, mark, opened, progress, Command::ReadData),
-        Command::ReadCountKeyAndData => look_here(
+        WriteCountKeyAndData => look_here(
             cache,
             registers,
             mark,
             opened,
             progress,
-            Command::ReadCountKeyAndData,
+            WriteCountKeyAndData,
         ),
-        Command::WriteCountKeyAndData => look_here(
-            cache,
-            registers,
-            mark,
-            opened,
-            progress,
-            Command::WriteCountKeyAndData,
-        ),
-        Command::WriteData => look_here(
-            cache,
-            registers,
-            mark,
-            opened,
-            progress,
-            Command::WriteData,
-        ),
+        WriteData => look_here(cache, registers, mark, opened, progress, WriteData),
         _ => look_elsewhere(cache, registers, mark, opened, progress),
     }
 }
