@@ -11,9 +11,10 @@ mod volumes;
 mod words;
 
 pub use crate::files::{Files, RowFiles, file_of, one_file, only_store, two_files, with_file};
-pub use crate::stores::{Calls, Failure, Recorder, RowStore, row_store};
+pub use crate::stores::{Calls, Failure, Recorder, RowStore, failure_of, row_store};
 pub use crate::volumes::{
     files_left, files_of, new_volume, put_lines, split_of, volume_left, volume_of,
+    write_behind_header,
 };
 pub use crate::words::{
     address, byte, bytes, model_of, name_of, number, spelled, unit_address, words_of,

@@ -1,10 +1,13 @@
 //! A store that keeps a record of its calls, and of which one fails where that is asked.
 
-ghost use Rattle.std.specs.Prelude.{◌≡◌, ◌==◌, ◌+◌, ◌≤◌, false, length, slice_range, OnOk, OnErr};
+ghost use Rattle.std.specs.Prelude.{◌≡◌, ◌==◌, ◌+◌, ◌≤◌, false, length, slice_range, IfOk, OnOk, OnErr};
+ghost use Rattle.std.specs.Str.Parse.{digits_value, without_leading_plus};
 ghost use Rattle.ckd_image.specs.Store.{overwritten, Torn, Counts};
 ghost use Rattle.test_rows.specs.Stores.{no_calls, after_call, store_in, reads_of, writes_of};
 
+use crate::words::words_of;
 use ckd_image::{FailingStore, ImageStore, MemoryStore, StoreFault};
+use std::alloc::Global;
 use std::fmt;
 
 /// How often calls of a kind were made, and where and how long the last was.
@@ -72,6 +75,40 @@ impl Failure {
             Failure::NONE
         }
     }
+}
+
+/// Which call of the first file's store fails in a row, as its line says: `failing 3 once`, or `failing 3 on`, which is each
+/// later one too.
+///
+/// # Errors
+///
+/// Fails where the line has no such number, and where memory runs out.
+pub fn failure_of(alloc: Global, row: &str) -> anyhow::Result<Failure>
+    ensures { IfOk result (λ failure. failure.file ≡ 0) }
+{
+    for line in row.lines() {
+        match words_of(alloc, line)?.as_slice() {
+            ["failing", at, "once"] => return failure_at(at, false),
+            ["failing", at, "on"] => return failure_at(at, true),
+            _ => {}
+        }
+    }
+    Ok(Failure::NONE)
+}
+
+// The call with this number fails, or that one and each later one.
+fn failure_at(at: &str, for_good: bool) -> anyhow::Result<Failure>
+    ensures { IfOk result (λ failure. failure ≡ record {
+      file = 0;
+      at = digits_value 10 (without_leading_plus at.now);
+      for_good = for_good;
+    }) }
+{
+    Ok(Failure {
+        file: 0,
+        at: at.parse::<u32>()?,
+        for_good,
+    })
 }
 
 /// A store that keeps a record of its calls.

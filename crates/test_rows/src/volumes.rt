@@ -1,6 +1,7 @@
 //! The volumes of rows.
 
-ghost use Rattle.std.specs.Prelude.{◌≡◌, ◌≤◌, ◌∷◌, [], length, IfOk, IsOk};
+ghost use Rattle.std.specs.Prelude.{◌≡◌, ◌≤◌, ◌∷◌, [], length, IfOk, IsOk, OnOk, OnErr};
+ghost use Rattle.ckd_image.specs.Store.{overwritten};
 ghost use Rattle.ckd_image.specs.Header.{head_of, mount_of};
 ghost use Rattle.ckd_image.specs.Image.{HoldsImage, new_image};
 ghost use Rattle.test_rows.specs.Files.{bytes_of, HaveSlots};
@@ -85,12 +86,18 @@ fn put(alloc: Global, store: &mut MemoryStore, geometry: Geometry, line: &str) -
     write_behind_header(store, at, body.as_slice())
 }
 
-// Writes from a place behind the header on.
+/// Writes into a volume from a place behind its header on.
+///
+/// # Errors
+///
+/// Fails where the bytes pass its end, and leaves it as it was.
 #[tactic(auto, using(crate::proofs::Heads::head_kept))]
-fn write_behind_header(store: &mut MemoryStore, at: u64, bytes: &[u8]) -> Result<()>
+pub fn write_behind_header(store: &mut MemoryStore, at: u64, bytes: &[u8]) -> Result<()>
     requires behind { 512 ≤ at }
     requires within { at ≤ length store.old.content }
-    ensures { head_of store.new.content ≡ head_of store.old.content }
+    ensures written { OnOk result (store.new.content ≡ overwritten store.old.content at bytes.now) }
+    ensures refused { OnErr result (store.new.content ≡ store.old.content) }
+    ensures head { head_of store.new.content ≡ head_of store.old.content }
 {
     store.write_at(at, bytes)?;
     Ok(())
