@@ -1,17 +1,21 @@
 //! Disks in memory, and channels over them.
 
-ghost use Rattle.std.specs.Prelude.{◌≡◌, ◌+◌, ◌/◌, ◌%◌};
+ghost use Rattle.std.specs.Prelude.{◌≡◌, ◌+◌, ◌/◌, ◌%◌, ◌++◌, ◌∷◌, [], ◌↔◌, IsTrue, IsSome, IfSome, IfOk, OnOk};
 ghost use Rattle.ckd_track.specs.Model.{heads_of};
+ghost use Rattle.ckd_image.specs.Header.{head_of};
+ghost use Rattle.s360_words.specs.Storage.{cleared};
+ghost use Rattle.s360_channel.specs.declared.subchannel.Subchannel.TheVariants.{Idle};
+ghost use Rattle.watched_channels.specs.Disks.{devices_of, units_at};
 ghost use Rattle.watched_channels.specs.Places.{track_number};
 
 use crate::watched::{Watch, WatchedStore};
 use anyhow::{Result, bail};
-use ckd_image::{FailingStore, Image, ImageStore, MemoryStore, image_len};
+use ckd_image::{FailingStore, Image, ImageStore, MemoryStore};
 use ckd_track::{DriveModel, Geometry};
 use s360_channel::Channel;
 use s360_words::Storage;
 use std::alloc::Global;
-use test_rows::only_store;
+use test_rows::{only_store, write_behind_header};
 
 /// The length of an image's header, behind which the slots stand.
 const HEADER_LENGTH: u64 = 512;
@@ -74,15 +78,6 @@ impl Failure {
 /// A channel over stores that are watched, and fail as they are told.
 pub type TestChannel<'a> = Channel<WatchedStore<'a, FailingStore>>;
 
-/// The image of a new volume.
-pub fn new_volume(alloc: Global, model: DriveModel, cylinders: u16) -> Result<MemoryStore> {
-    let store = MemoryStore::zeros(alloc, image_len(model, cylinders))?;
-    match Image::format(store, model, cylinders) {
-        Ok(image) => only_store(image.into_stores()),
-        Err((fault, _)) => bail!("{fault}"),
-    }
-}
-
 /// Spells a track with these records behind the usual record 0 into the slot of a new volume.
 pub fn put_track(
     alloc: Global,
@@ -91,7 +86,9 @@ pub fn put_track(
     cylinder: u16,
     head: u16,
     records: &[Record],
-) -> Result<()> {
+) -> Result<()>
+    ensures { head_of store.new.content ≡ head_of store.old.content }
+{
     let track = u64::from(cylinder)
         .saturating_mul(u64::from(geometry.model.heads()))
         .saturating_add(u64::from(head));
@@ -102,8 +99,7 @@ pub fn put_track(
         bail!("no such track");
     }
     let spelling = spelling(alloc, cylinder, head, records)?;
-    store.write_at(at, spelling.as_slice())?;
-    Ok(())
+    write_behind_header(store, at, spelling.as_slice())
 }
 
 // Home address, record 0, the records, end mark.
@@ -135,7 +131,12 @@ pub fn channel_over<'a>(
     watch: &'a Watch,
     disks: &[Disk],
     failure: Failure,
-) -> Result<TestChannel<'a>> {
+) -> Result<TestChannel<'a>>
+    ensures number { IfOk result (λ channel. channel.number ≡ 1) }
+    ensures storage { IfOk result (λ channel. channel.storage ≡ cleared 8192) }
+    ensures idle { IfOk result (λ channel. channel.subchannel ≡ Idle) }
+    ensures devices { IfOk result (λ channel. units_at channel.units ≡ devices_of disks.now) }
+{
     let storage = Storage::new(alloc, STORAGE)?;
     let mut channel = match Channel::new(1, storage) {
         Ok(channel) => channel,
@@ -153,7 +154,10 @@ fn attach<'a>(
     channel: &mut TestChannel<'a>,
     disk: &Disk,
     failure: Failure,
-) -> Result<()> {
+) -> Result<()>
+    ensures devices { OnOk result (units_at channel.new.units ≡ units_at channel.old.units ++ disk.now.device ∷ []) }
+    ensures others { channel.new ≡ record channel.old { units = channel.new.units } }
+{
     let at = if failure.device == disk.device {
         failure.at
     } else {
@@ -213,10 +217,23 @@ fn content_of(device: u8, image: Image<WatchedStore<FailingStore>>) -> Result<Co
     })
 }
 
+// All bytes of storage.
+fn bytes_in(storage: &Storage) -> Option<&[u8]>
+    ensures bytes { IfSome result (λ bytes. bytes.now ≡ storage.now.bytes) }
+    ensures there { IsSome result }
+{
+    storage.slice(0, storage.size())
+}
+
 impl Left {
     /// Whether storage is the same.
-    pub fn has_same_storage(&self, other: &Left) -> bool {
-        self.storage.slice(0, self.storage.size()) == other.storage.slice(0, other.storage.size())
+    pub fn has_same_storage(&self, other: &Left) -> bool
+        ensures { IsTrue result ↔ (self.now.storage.bytes ≡ other.now.storage.bytes) }
+    {
+        match (bytes_in(&self.storage), bytes_in(&other.storage)) {
+            (Some(one), Some(another)) => one == another,
+            _ => false,
+        }
     }
 
     /// Whether the images are the same.

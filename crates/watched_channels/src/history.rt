@@ -1,5 +1,8 @@
 //! What a list of events comes to, as its answers show it.
 
+ghost use Rattle.std.specs.Prelude.{◌≡◌, IsTrue, length};
+ghost use Rattle.watched_channels.specs.Answers.{changes_nothing};
+
 use anyhow::Result;
 use s360_deck::{Answer, AnswerLine, Event};
 use s360_events::Condition;
@@ -49,7 +52,9 @@ impl History {
 }
 
 /// Whether an answer shows that its event changed nothing.
-pub(crate) fn changes_nothing(answer: &Answer) -> bool {
+pub(crate) fn changes_nothing(answer: &Answer) -> bool
+    ensures { result ≡ changes_nothing answer.now }
+{
     match answer {
         Answer::Sio(_, condition) => matches!(condition, Condition::Two | Condition::Three),
         Answer::Tio(_, condition) => !matches!(condition, Condition::Stored(_)),
@@ -73,7 +78,9 @@ enum Place {
 
 /// Whether each event of a list changed something and each step did its units, no arrival stands between the steps of a
 /// program, and only a step of 65,535 units stands before another.
-pub(crate) fn is_serial(events: &[Event], answers: &[Answer]) -> bool {
+pub(crate) fn is_serial(events: &[Event], answers: &[Answer]) -> bool
+    ensures { IsTrue result → length events.now ≡ length answers.now }
+{
     let mut place = Place::BeforeSteps;
     let mut units: u16 = 65_535;
     for (event, answer) in events.iter().zip(answers) {

@@ -1,13 +1,20 @@
 //! The disks of the lists.
 
-use crate::disks::{Disk, Record, new_volume, put_track};
+ghost use Rattle.std.specs.Prelude.{◌≡◌, ◌∷◌, [], min, All, IfOk, vec_len};
+ghost use Rattle.watched_channels.specs.Disks.{Mounts, devices_of};
+
+use crate::disks::{Disk, Record, put_track};
 use anyhow::Result;
 use ckd_image::MemoryStore;
 use ckd_track::{DriveModel, Geometry};
 use std::alloc::Global;
+use test_rows::new_volume;
 
 /// A 2311 with records of 80 bytes, one without data, and channel command words as data; and a new 2311.
-pub fn worked_disks(alloc: Global) -> Result<Vec<Disk>> {
+pub fn worked_disks(alloc: Global) -> Result<Vec<Disk>>
+    ensures devices { IfOk result (λ disks. devices_of disks.items ≡ 0x90 ∷ 0x91 ∷ []) }
+    ensures mounts { IfOk result (λ disks. All (λ disk. Mounts disk.content.content) disks.items) }
+{
     let mut disks = Vec::new(alloc);
     disks.push(Disk {
         device: 0x90,
@@ -17,14 +24,17 @@ pub fn worked_disks(alloc: Global) -> Result<Vec<Disk>> {
     disks.push(Disk {
         device: 0x91,
         model: DriveModel::D2311,
-        content: new_volume(alloc, DriveModel::D2311, 1)?,
+        content: new_volume(alloc, Geometry::new(DriveModel::D2311, 1))?,
     })?;
     Ok(disks)
 }
 
 /// So many disks, of both models: the two of `worked_disks`' kinds, and two with keys, records without data, tracks nearly full
 /// and tracks that can't be read.
-pub fn many_disks(alloc: Global, drives: u32) -> Result<Vec<Disk>> {
+pub fn many_disks(alloc: Global, drives: u32) -> Result<Vec<Disk>>
+    ensures count { IfOk result (λ disks. vec_len disks ≡ min drives 4) }
+    ensures mounts { IfOk result (λ disks. All (λ disk. Mounts disk.content.content) disks.items) }
+{
     let mut disks = Vec::new(alloc);
     for device in 0..drives.min(4) as u8 {
         let (model, content) = match device {
@@ -33,7 +43,10 @@ pub fn many_disks(alloc: Global, drives: u32) -> Result<Vec<Disk>> {
                 DriveModel::D2311,
                 keyed_volume(alloc, DriveModel::D2311, 1_600)?,
             ),
-            2 => (DriveModel::D2311, new_volume(alloc, DriveModel::D2311, 1)?),
+            2 => (
+                DriveModel::D2311,
+                new_volume(alloc, Geometry::new(DriveModel::D2311, 1))?,
+            ),
             _ => (
                 DriveModel::D2314,
                 keyed_volume(alloc, DriveModel::D2314, 3_300)?,
@@ -49,9 +62,11 @@ pub fn many_disks(alloc: Global, drives: u32) -> Result<Vec<Disk>> {
 }
 
 // A volume with records with keys, and a track that is nearly full by two records of this length.
-fn keyed_volume(alloc: Global, model: DriveModel, length: u16) -> Result<MemoryStore> {
+fn keyed_volume(alloc: Global, model: DriveModel, length: u16) -> Result<MemoryStore>
+    ensures { IfOk result (λ file. Mounts file.content) }
+{
     let geometry = Geometry::new(model, 1);
-    let mut store = new_volume(alloc, model, 1)?;
+    let mut store = new_volume(alloc, geometry)?;
     let keyed = [
         with_key(1, b"KEY\x01", &[0xA1; 20]),
         with_key(2, b"KEY\x02", &[0xA2; 20]),
@@ -72,9 +87,11 @@ fn keyed_volume(alloc: Global, model: DriveModel, length: u16) -> Result<MemoryS
     Ok(store)
 }
 
-fn worked_volume(alloc: Global) -> Result<MemoryStore> {
+fn worked_volume(alloc: Global) -> Result<MemoryStore>
+    ensures { IfOk result (λ file. Mounts file.content) }
+{
     let geometry = Geometry::new(DriveModel::D2311, 1);
-    let mut store = new_volume(alloc, geometry.model, geometry.cylinders)?;
+    let mut store = new_volume(alloc, geometry)?;
     let three = [
         without_key(1, &[0xC1; 80]),
         without_key(2, &[0xC2; 80]),
