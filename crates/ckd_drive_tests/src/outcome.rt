@@ -8,7 +8,9 @@ use anyhow::{Context, Result, bail};
 use ckd_drive::answers::Phase;
 use std::alloc::Global;
 use std::fmt;
-use test_rows::{Calls, Failure, Files, RowStore, files_left, files_of, number, words_of};
+use test_rows::{
+    Calls, Failure, Files, RowStore, failure_of, files_left, files_of, number, words_of,
+};
 
 /// What comes of a row.
 #[derive(Clone, Copy, Debug, PartialEq, Eq)]
@@ -37,30 +39,6 @@ impl fmt::Display for Outcome {
 }
 
 const PIECES: [usize; 4] = [1, 2, 7, 100];
-
-// Which call of the store fails in the row, as a line says: `failing 3 once`, or `failing 3 on`, which is each later one too.
-fn failure_of(alloc: Global, row: &str) -> Result<Failure> {
-    for line in row.lines() {
-        match words_of(alloc, line)?.as_slice() {
-            ["failing", at, "once"] => {
-                return Ok(Failure {
-                    file: 0,
-                    at: at.parse::<u32>()?,
-                    for_good: false,
-                });
-            }
-            ["failing", at, "on"] => {
-                return Ok(Failure {
-                    file: 0,
-                    at: at.parse::<u32>()?,
-                    for_good: true,
-                });
-            }
-            _ => {}
-        }
-    }
-    Ok(Failure::NONE)
-}
 
 // Whether the last file's store was called as a line of the row says: `reads 2 512 4096`, that is how often, and where and how
 // long the last one was; or that of the first of two files: `first reads 1 0 512`.

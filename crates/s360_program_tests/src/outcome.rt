@@ -2,13 +2,13 @@
 
 use crate::events::{Ended, Player};
 use crate::machine::Machine;
-use crate::row::{differs, failure_of, play_lines};
+use crate::row::{differs, play_lines};
 use anyhow::{Context, Result, bail};
 use bitflags::Flags;
 use s360_words::{ChannelStatus, UnitStatus};
 use std::alloc::Global;
 use std::fmt;
-use test_rows::{Failure, row_store, volume_of};
+use test_rows::{Failure, failure_of, row_store, volume_of};
 
 /// What comes of a row.
 #[derive(Clone, Copy, Debug, PartialEq, Eq)]

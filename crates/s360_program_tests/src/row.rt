@@ -5,7 +5,7 @@ use crate::machine::{all_bytes, new_storage};
 use anyhow::{Result, bail};
 use s360_words::Storage;
 use std::alloc::Global;
-use test_rows::{Calls, Failure, RowStore, address, bytes, number, volume_left, words_of};
+use test_rows::{Calls, RowStore, address, bytes, number, volume_left, words_of};
 
 // Whether a line does nothing: it says what the volume holds, which call of the store fails, or what is left in the end.
 fn does_nothing(line: &str) -> bool {
@@ -32,30 +32,6 @@ pub(crate) fn play_lines<'a>(
         }
     }
     Ok(None)
-}
-
-/// Which call of the store fails in the row, as a line says: `failing 3 once`, or `failing 3 on`, which is each later one too.
-pub(crate) fn failure_of(alloc: Global, row: &str) -> Result<Failure> {
-    for line in row.lines() {
-        match words_of(alloc, line)?.as_slice() {
-            ["failing", at, "once"] => {
-                return Ok(Failure {
-                    file: 0,
-                    at: at.parse::<u32>()?,
-                    for_good: false,
-                });
-            }
-            ["failing", at, "on"] => {
-                return Ok(Failure {
-                    file: 0,
-                    at: at.parse::<u32>()?,
-                    for_good: true,
-                });
-            }
-            _ => {}
-        }
-    }
-    Ok(Failure::NONE)
 }
 
 // Whether the store was called as a line of the row says: `reads 2 512 4096`, that is how often, and where and how long the
