@@ -1,5 +1,5 @@
 -- What a look for the area of a command comes to.
-use Rattle.std.proofs.Common.{◌≡◌, inr, ℕ, zero, suc, ◌+◌, ◌<◌, ◌≤◌, refl, sym, ap, subst, ◌∙◌, arith, false, Bool, [], Option, None}
+use Rattle.std.proofs.Common.{◌≡◌, ℕ, zero, suc, ◌+◌, ◌<◌, ◌≤◌, refl, sym, ap, subst, ◌∙◌, arith, false, Bool, [], Option, None}
 use Rattle.s360_words.specs.Storage.{Storage}
 use Rattle.s360_words.specs.declared.words.Csw.{Csw}
 use Rattle.ckd_command.specs.declared.steps.Opened.{Opened}
@@ -168,7 +168,7 @@ module _ (r : Run) (s : Storage) (d0 d1 : DriveState) (fits : Fits r d0) (comes_
     pub look_fits : Fits (record r { comes = comes.Bytes; address = r.ccw.address }) d1
     look_fits = record {
       within = record { key = fits.within.key; place = fits.within.place; stage = subst (λ g. StageWithin g (place_of r.place)) at fits.within.stage };
-      stands = record { fits = subst (StageFits (stage.Moving r.ccw r.ccw.address) d1.state) (sym ready.2) (all L, λ g. just L, inr (just L)); saved = ready_calm.saved };
+      stands = record { fits = subst (StageFits (stage.Moving r.ccw r.ccw.address) d1.state) (sym ready.2) (all L, λ g. just L, λ h. just L); saved = ready_calm.saved };
     }
       where
         all : (n : ℕ) → 0 + n ≤ n

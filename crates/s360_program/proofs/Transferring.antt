@@ -213,14 +213,16 @@ module _ (key : ℕ) (ccw : Ccw) (a most m : ℕ) (p : Place) (s s2 : Storage) (
       exact : gives O ≡ true → length (b ++ next_bytes m O t) + (flow.left - length (next_bytes m O t)) ≡ length_of O (b ++ next_bytes m O t)
       exact = λ g. sum_is (length_of O b) (told.3 g) ∙ (gives_length O b g ∙ sym (gives_length O (b ++ next_bytes m O t) g))
 
-      told_on : (length (b ++ next_bytes m O t) + (flow.left - length (next_bytes m O t)) ≡ 8) ⊎ (length (b ++ next_bytes m O t) + (flow.left - length (next_bytes m O t)) ≡ length_of O (b ++ next_bytes m O t))
-      told_on = go told.4 (length_stays O b (next_bytes m O t))
+      told_on : (length (b ++ next_bytes m O t) + (flow.left - length (next_bytes m O t)) ≡ 8 → ⊥) → length (b ++ next_bytes m O t) + (flow.left - length (next_bytes m O t)) ≡ length_of O (b ++ next_bytes m O t)
+      told_on h = go (length_stays O b (next_bytes m O t))
         where
-          go : (length b + flow.left ≡ 8) ⊎ (length b + flow.left ≡ length_of O b) → (length_of O b ≡ 8) ⊎ (length_of O b ≡ length_of O (b ++ next_bytes m O t))
-              → (length (b ++ next_bytes m O t) + (flow.left - length (next_bytes m O t)) ≡ 8) ⊎ (length (b ++ next_bytes m O t) + (flow.left - length (next_bytes m O t)) ≡ length_of O (b ++ next_bytes m O t))
-          go (inl e) l = inl (sum_is 8 e)
-          go (inr e) (inl eight) = inl (sum_is 8 (e ∙ eight))
-          go (inr e) (inr same) = inr (sum_is (length_of O (b ++ next_bytes m O t)) (e ∙ same))
+          not_eight : length b + flow.left ≡ 8 → ⊥
+          not_eight e = h (sum_is 8 e)
+
+          go : (length_of O b ≡ 8) ⊎ (length_of O b ≡ length_of O (b ++ next_bytes m O t))
+              → length (b ++ next_bytes m O t) + (flow.left - length (next_bytes m O t)) ≡ length_of O (b ++ next_bytes m O t)
+          go (inl eight) = absurd (not_eight (told.4 not_eight ∙ eight))
+          go (inr same) = sum_is (length_of O (b ++ next_bytes m O t)) (told.4 not_eight ∙ same)
 
       steps : walk (units m) key (Moving O t) ≡ StandsIn (phase_by (stage.Moving ccw (a + m)) (record p { residual = p.residual - m }) s2 d2.state d2.work)
       steps =

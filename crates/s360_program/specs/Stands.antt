@@ -1,5 +1,5 @@
 -- Where a running program stands, beside storage and a drive.
-use Rattle.std.specs.Prelude.{◌≡◌, ◌⊎◌, ℕ, ◌+◌, ◌≤◌, ◌<◌, ◌^◌, List, true, None, length}
+use Rattle.std.specs.Prelude.{◌≡◌, ℕ, ◌+◌, ◌≤◌, ◌<◌, ◌^◌, List, true, None, length}
 use Rattle.s360_words.specs.Storage.{Storage}
 use Rattle.ckd_command.specs.Drive.{State, Open, gives, length_of, unsaved}
 use Rattle.ckd_drive.specs.Work.{DriveState, Work, Idle, Looking, Passing}
@@ -28,11 +28,11 @@ abbrev pub phase_in : RunningState → Storage → DriveState → ProgramPhase
 phase_in r s d = phase_by r.stage r.place s d.state d.work
 
 -- the drive tells no more bytes as left than may pass, and where it gives them it tells all; where it takes them it tells
--- all of them too, or first the eight of a count area
+-- all of them too, but for the eight of a count area, which it tells first
 abbrev pub LeftFits : Open → List ℕ → (left : ℕ) → Type 0
 LeftFits o b left =
     (length b + left ≤ length_of o b) × (gives o ≡ true → length b + left ≡ length_of o b)
-    × ((length b + left ≡ 8) ⊎ (length b + left ≡ length_of o b))
+    × ((length b + left ≡ 8 → ⊥) → length b + left ≡ length_of o b)
 
 -- what comes next is what the drive is at
 abbrev pub StageFits : Stage → State → Work → Type 0

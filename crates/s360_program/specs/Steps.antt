@@ -1,5 +1,5 @@
 -- What the parts of a unit come to.
-use Rattle.std.specs.Prelude.{◌≡◌, ◌⊎◌, ℕ, ◌+◌, ◌≤◌, ◌<◌, [], ◌∷◌, Bool, true, false, not, ◌&&◌, ◌||◌, ◌==◌, Option, Some, None, is_none, Result, Ok, Err, length, if◌then◌else◌}
+use Rattle.std.specs.Prelude.{◌≡◌, ℕ, ◌+◌, ◌≤◌, ◌<◌, [], ◌∷◌, Bool, true, false, not, ◌&&◌, ◌||◌, ◌==◌, Option, Some, None, is_none, Result, Ok, Err, length, if◌then◌else◌}
 use Rattle.s360_words.specs.Storage.{Storage}
 use Rattle.s360_words.specs.Words.{chains_command, chains_data}
 use Rattle.s360_words.specs.declared.flags.ChannelStatus.{ChannelStatus}
@@ -156,7 +156,7 @@ abbrev pub FlowsBy : Flow → State → Work → Type 0
 FlowsBy flow s (Passing o b left) =
     let all = length_of (record { opened = o; state = s }) b in
     (flow.gives ≡ is_giving (action_of o.command)) × (flow.left ≡ 0 → length b ≡ all) × (length b + flow.left ≤ all)
-    × (is_giving (action_of o.command) ≡ true → length b + flow.left ≡ all) × ((length b + flow.left ≡ 8) ⊎ (length b + flow.left ≡ all))
+    × (is_giving (action_of o.command) ≡ true → length b + flow.left ≡ all) × ((length b + flow.left ≡ 8 → ⊥) → length b + flow.left ≡ all)
 FlowsBy flow s w = ⊥
 
 abbrev pub with_left : ℕ → Work → Work
