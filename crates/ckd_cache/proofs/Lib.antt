@@ -1,6 +1,5 @@
 pub mod AreaPlaces
 pub mod Writes
-pub mod Zeros
 pub mod Lengths
 pub mod Updates
 pub mod Caches

@@ -12,7 +12,7 @@ use Rattle.ckd_position.specs.Contents.{is_readable, padded, replaced, with_reco
 use Rattle.ckd_cache.specs.Buffer.{FitsSlot, IsUpdate, SameRecords, IsIndexed, IsBuffer, lengths_on}
 use Rattle.ckd_cache.specs.declared.charges.Charged.{Charged}
 use Rattle.ckd_cache.proofs.Lengths.{same_offsets, same_left}
-use Rattle.ckd_cache.proofs.Zeros.{drop_over, zero_over}
+use Rattle.ckd_track.proofs.Zeros.{drop_over, zero_over}
 use Rattle.ckd_cache.proofs.Writes.{update_is, update_offset, update_length}
 
 -- Behind its records a slot that was made of a track has the end mark and zeros.

@@ -1,8 +1,9 @@
 -- One slot at hand, and a table of its records.
-use Rattle.std.specs.Prelude.{◌≡◌, ℕ, ◌+◌, ◌-◌, ◌/◌, ◌≤◌, ◌<◌, ◌^◌, List, false, Option, Some, None, Ok, length, take, drop, map, flat_map, replicate, slice_range, slice_index, All}
+use Rattle.std.specs.Prelude.{◌≡◌, ℕ, ◌+◌, ◌-◌, ◌/◌, ◌≤◌, ◌<◌, ◌^◌, List, false, Option, Some, None, Ok, length, take, map, flat_map, slice_range, slice_index, All}
 use Rattle.ckd_track.specs.Track.{Record, Track, IsRecord, Spells, track_of, track_in, record_offsets, record_in, record_bytes, spelling}
 use Rattle.ckd_position.specs.declared.areas.Area.{Area}
 use Rattle.ckd_position.specs.declared.areas.Area.TheVariants.{HomeAddress, Of}
+use Rattle.ckd_track.specs.Changes.{IsZeroFrom}
 use Rattle.ckd_track.specs.Charges.{capacity_left}
 use Rattle.ckd_cache.specs.declared.windows.Window.{Window}
 use Rattle.ckd_cache.specs.declared.charges.Charged.{Charged}
@@ -31,11 +32,6 @@ pub record IsIndexed (slot offsets : List ℕ) (records : Option ℕ) : Type 0 w
   pub room : (length slot - 5) / 8 ≤ length offsets
   pub size : length slot < 2 ^ 32
   pub read : IsRead slot offsets records
-
--- from there on all bytes are zero
-pub record IsZeroFrom (slot : List ℕ) (from : ℕ) : Type 0 where
-  pub within : from ≤ length slot
-  pub zeros : drop from slot ≡ replicate (length slot - from) 0
 
 -- so much of the capacity is left by the first records, so many of them, where others follow them
 abbrev pub IsCharged : List Record → Charged → Type 0

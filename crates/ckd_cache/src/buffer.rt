@@ -1,7 +1,7 @@
 //! The slot of one track at hand, with a table of where its records stand.
 
 ghost use Rattle.std.specs.Prelude.{◌≡◌, ◌≤◌, ◌<◌, ◌+◌, ◌-◌, ◌/◌, ◌^◌, ◌++◌, ◌==◌, max, length, take, drop, replicate, bytes_eq, false, slice_index_or, IfOk, OnOk, OnErr, Ok, Some, [], true, IsSome};
-ghost use Rattle.ckd_track.specs.Track.{track_of, track_in, track_or_none, no_track, spelling, slot_of, end_mark, body_length as body_length_of, key_length as key_length_of, data_length as data_length_of, IsRecord};
+ghost use Rattle.ckd_track.specs.Track.{track_of, track_in, track_or_none, no_track, spelling, slot_of, end_mark, key_length as key_length_of, data_length as data_length_of, IsRecord};
 ghost use Rattle.ckd_track.specs.Geometry.{tracks_of};
 ghost use Rattle.ckd_position.specs.Areas.{next_of_kind, IsOnTrack, IfFound};
 ghost use Rattle.ckd_track.specs.Changes.{overwritten, ended_at, bare_track, kept_records};
@@ -9,19 +9,18 @@ ghost use Rattle.ckd_track.specs.Charges.{has_room};
 ghost use Rattle.ckd_track.specs.Model.{capacity_of};
 ghost use Rattle.std.specs.Option.{ForSome};
 ghost use Rattle.ckd_position.specs.Contents.{records_on, bytes_of, is_readable as reads, has_no_data as lacks_data, formatted as track_formatted, with_record_changed, replaced, kept as kept_on, record_before as before_of};
-ghost use Rattle.ckd_cache.specs.Buffer.{Lies, HasBytes, IsPlaceOf, StandsThere, home_address_place, record_place, IsRead, end_of_records, number_up_to, IsRecordOf, SameRecords, FitsSlot, IsUpdate, IsZeroFrom};
+ghost use Rattle.ckd_cache.specs.Buffer.{Lies, HasBytes, IsPlaceOf, StandsThere, home_address_place, record_place, IsRead, end_of_records, number_up_to, IsRecordOf, SameRecords, FitsSlot, IsUpdate};
 
 use crate::charges::Charged;
 use crate::windows::Window;
 use ckd_image::{Image, ImageStore, StoreFault};
 use ckd_position::{Area, Extent, Kind, Next, Position, next_area};
-use ckd_track::{DriveModel, fits_behind, index_slot, overwrite, view_at};
+use ckd_track::{
+    COUNT_LENGTH, DriveModel, RECORDS_START, body_length, clear_area, data_length, fits_behind,
+    format_record, index_slot, key_length, lengths, overwrite, put_home_address, view_at,
+};
 use std::alloc::{AllocError, Global};
 use std::marker::Model;
-
-const HOME_ADDRESS_LENGTH: usize = 5;
-
-const COUNT_LENGTH: usize = 8;
 
 /// A slot, and where its records stand. It is seen as the slot's bytes.
 #[derive(Drop)]
@@ -55,67 +54,6 @@ fn index(slot: &[u8], offsets: &mut [u32]) -> Option<usize>
     ensures { IsRead slot.now offsets.new result }
 {
     index_slot(slot, offsets).ok()
-}
-
-// The lengths of key and data, which the eight count bytes tell.
-fn body_length(count: &[u8]) -> usize
-    requires { 8 ≤ length count.now }
-    ensures { result ≡ body_length_of count.now }
-{
-    count[5] as usize + u16::from_be_bytes([count[6], count[7]]) as usize
-}
-
-fn clear(slot: &mut [u8], at: usize, n: usize)
-    requires { at + n ≤ length slot.old }
-    ensures { slot.new ≡ overwritten slot.old at (replicate n 0) }
-{
-    slot[at..at + n].fill(0);
-}
-
-// The end mark at an offset, and zeros behind it, where only zeros stand from some place on.
-fn put_end(slot: &mut [u8], at: usize, zeros_from: usize)
-    requires room { at + 8 ≤ length slot.old }
-    requires zeros { IsZeroFrom slot.old (max zeros_from (at + 8)) }
-    ensures { slot.new ≡ ended_at slot.old at }
-{
-    let behind = at + COUNT_LENGTH;
-    overwrite(slot, at, &[0xff; COUNT_LENGTH]);
-    if behind < zeros_from {
-        clear(slot, behind, zeros_from - behind);
-    }
-}
-
-// The home address, and behind it the end mark and zeros.
-fn put_home_address(slot: &mut [u8], home_address: &[u8; 5], zeros_from: usize)
-    requires room { 13 ≤ length slot.old }
-    requires zeros { IsZeroFrom slot.old zeros_from }
-    ensures { slot.new ≡ ended_at (overwritten slot.old 0 home_address.now) 5 }
-{
-    overwrite(slot, 0, home_address);
-    put_end(slot, HOME_ADDRESS_LENGTH, zeros_from);
-}
-
-// A record of these count bytes at an offset, with so many zeros as its key and data; behind it the end mark and zeros.
-fn put_new(slot: &mut [u8], at: usize, count: &[u8; 8], body: usize, zeros_from: usize)
-    requires room { at + 8 + body + 8 ≤ length slot.old }
-    requires zeros { IsZeroFrom slot.old zeros_from }
-    ensures { slot.new ≡ ended_at (overwritten (overwritten slot.old at count.now) (at + 8) (replicate body 0)) (at + 8 + body) }
-{
-    let end = at + COUNT_LENGTH + body;
-    overwrite(slot, at, count);
-    clear(slot, at + COUNT_LENGTH, body);
-    put_end(slot, end, zeros_from);
-}
-
-// Zeros in a window, and behind the end mark.
-fn clear_window(slot: &mut [u8], window: Window, end: usize, zeros_from: usize)
-    requires window { window.start + window.len ≤ end }
-    requires end { end + 8 ≤ length slot.old }
-    requires zeros { IsZeroFrom slot.old zeros_from }
-    ensures { slot.new ≡ ended_at (overwritten slot.old window.start (replicate window.len 0)) end }
-{
-    clear(slot, window.start, window.len);
-    put_end(slot, end, zeros_from);
 }
 
 // How many records stand before one that is made behind this one.
@@ -156,11 +94,11 @@ fn home_address_window(extent: Extent) -> Window
     match extent {
         Extent::HomeAddress => Window {
             start: 0,
-            len: HOME_ADDRESS_LENGTH,
+            len: RECORDS_START,
         },
         Extent::CylinderAndHead => Window {
             start: 1,
-            len: HOME_ADDRESS_LENGTH - 1,
+            len: RECORDS_START - 1,
         },
         _ => Window { start: 0, len: 0 },
     }
@@ -174,8 +112,8 @@ fn record_window(slot: &[u8], at: usize, extent: Extent) -> Window
     ensures { result ≡ record_place extent at (key_length_of (drop at slot.now)) (data_length_of (drop at slot.now)) }
 {
     let count = &slot[at..];
-    let key = count[5] as usize;
-    let data = u16::from_be_bytes([count[6], count[7]]) as usize;
+    let key = key_length(count);
+    let data = data_length(count);
     let (start, len) = match extent {
         Extent::Identifier => (at, 5),
         Extent::Count => (at, COUNT_LENGTH),
@@ -337,11 +275,11 @@ impl TrackBuffer {
         // a slot that reads whole has a home address and an end mark, also where no record stands
         let _slot = &self.slot;
         if records == 0 {
-            return HOME_ADDRESS_LENGTH;
+            return RECORDS_START;
         }
         match self.offset_of(records - 1) {
             Some(at) => at + record_window(&self.slot, at, Extent::CountKeyAndData).len,
-            None => HOME_ADDRESS_LENGTH,
+            None => RECORDS_START,
         }
     }
 
@@ -376,8 +314,8 @@ impl TrackBuffer {
         let n = self.records.unwrap_or(0);
         let view = view_at(&self.slot, &self.offsets[..n]);
         self.charged.reach(model, &view, kept);
-        let dl = u16::from_be_bytes([count[6], count[7]]);
-        fits_behind(model, kept, self.charged.left, count[5], dl)
+        let (kl, dl) = lengths(&count);
+        fits_behind(model, kept, self.charged.left, kl, dl)
     }
 
     /// Writes the home address, and removes all records.
@@ -388,7 +326,7 @@ impl TrackBuffer {
     {
         put_home_address(&mut self.slot, &home_address, self.zeros_from);
         self.records = Some(0);
-        self.zeros_from = HOME_ADDRESS_LENGTH + COUNT_LENGTH;
+        self.zeros_from = RECORDS_START + COUNT_LENGTH;
         self.charged.keep(0);
     }
 
@@ -406,7 +344,7 @@ impl TrackBuffer {
         let kept = records_up_to(self.before(after));
         let at = self.end_of(kept);
         let body = body_length(&count);
-        put_new(&mut self.slot, at, &count, body, self.zeros_from);
+        format_record(&mut self.slot, at, &count, body, self.zeros_from);
         self.offsets[kept] = at as u32;
         self.records = Some(kept + 1);
         self.zeros_from = at + COUNT_LENGTH + body + COUNT_LENGTH;
@@ -425,7 +363,13 @@ impl TrackBuffer {
     {
         let window = self.window(extent, area);
         let end = self.end_of(self.records.unwrap_or(0));
-        clear_window(&mut self.slot, window, end, self.zeros_from);
+        clear_area(
+            &mut self.slot,
+            window.start,
+            window.len,
+            end,
+            self.zeros_from,
+        );
         self.zeros_from = end + COUNT_LENGTH;
     }
 

@@ -1,6 +1,8 @@
 //! What a search asks of an area.
 
 ghost use Rattle.std.specs.Prelude.{◌≡◌, ◌↔◌, ◌≤◌, IsTrue, length};
+ghost use Rattle.std.specs.Ordering.{nat_cmp, ordering_then};
+ghost use Rattle.std.specs.Cmp.Lexicographic.{slice_cmp};
 ghost use Rattle.ckd_position.specs.Comparisons.{accepts, is_satisfied, Satisfies};
 
 use std::cmp::Ordering;
@@ -18,7 +20,7 @@ pub enum Compare {
 
 impl Compare {
     /// Whether this order of the area's bytes to those given is as the search asks.
-    fn accepts(self, order: Ordering) -> bool
+    pub fn accepts(self, order: Ordering) -> bool
         ensures { result ≡ accepts self order }
     {
         match self {
@@ -29,6 +31,15 @@ impl Compare {
     }
 }
 
+/// The order of an area's bytes to those given, behind bytes whose order is known: unsigned bytes, from the left, so that
+/// the first two that differ decide.
+#[inline(always)]
+pub fn compared(so_far: Ordering, area: &[u8], comparand: &[u8]) -> Ordering
+    ensures { result ≡ ordering_then so_far (slice_cmp nat_cmp area.now comparand.now) }
+{
+    so_far.then(area.cmp(comparand))
+}
+
 /// Whether the bytes of an area are as the search asks, beside as many bytes as it is given: unsigned bytes, from the
 /// left (component descriptions of the 2841 and the 2314, 'Search Commands').
 pub fn verdict(compare: Compare, area: &[u8], comparand: &[u8]) -> bool
@@ -36,5 +47,6 @@ pub fn verdict(compare: Compare, area: &[u8], comparand: &[u8]) -> bool
     ensures value { result ≡ is_satisfied compare area.now comparand.now }
     ensures meaning { IsTrue result ↔ Satisfies compare area.now comparand.now }
 {
-    compare.accepts(area[..comparand.len()].cmp(comparand))
+    let beside = &area[..comparand.len()];
+    compare.accepts(compared(Ordering::Equal, beside, comparand))
 }

@@ -8,6 +8,6 @@ mod extents;
 mod looks;
 
 pub use crate::areas::{Area, Kind, Next, Part, Position};
-pub use crate::comparisons::{Compare, verdict};
+pub use crate::comparisons::{Compare, compared, verdict};
 pub use crate::extents::Extent;
 pub use crate::looks::next_area;

@@ -5,5 +5,6 @@ pub mod Offsets
 pub mod Slots
 pub mod Places
 pub mod Rewritten
+pub mod Zeros
 pub mod ChargeLaws
 pub mod Writing

@@ -62,6 +62,9 @@ module _ (s : List ℕ) (t : Track) (spells : Spells s t) where
       let e = length-front k in
       omega (arith, a, b, c, d, e)
 
+  pub place-before : (k : ℕ) → place t k ≤ end_offset t
+  place-before k = omega (arith, ap (λ (l : List ℕ). length l) (parts k), length-append (flat_map record_bytes (take k t.records)) (flat_map record_bytes (drop k t.records)))
+
   pub rest-one : (k : ℕ) → k < length t.records → flat_map record_bytes (drop k t.records) ≡ record_bytes (record_in t k) ++ flat_map record_bytes (drop (k + 1) t.records)
   rest-one k lt = ap (flat_map record_bytes) (drop_more t.records k no_record lt)
 

@@ -12,7 +12,7 @@ use Rattle.ckd_track.proofs.Spelled.{reads_back}
 use Rattle.ckd_track.proofs.Reading.{IsSize, size_is}
 use Rattle.ckd_track.proofs.Laws.{AreBytes, at_record, begins_with_record, read_is_spelled}
 use Rattle.ckd_track.proofs.Slots.{slot_of_reads}
-use Rattle.ckd_track.proofs.Places.{place, offset_is, drop-place, place-le, place-one, front, behind, behind-one, record_is, end_is}
+use Rattle.ckd_track.proofs.Places.{place, offset_is, drop-place, place-le, place-before, place-one, front, behind, behind-one, record_is, end_is}
 use Rattle.ckd_track.proofs.Rewritten.{length-overwritten, ended_at-slot, ended, changed_spells, changed_end, data_is_record, data_written, body_lengths, body_is_record, body_written, record_written}
 
 -- Slots that spell a whole track.
@@ -110,6 +110,10 @@ module _ (s : List ℕ) (t : Track) (spells : Spells s t) where
       let k_there : k ≡ key_length (drop (place t i) s) = is_k ∙ ap key_length there in
       let d_there : d ≡ data_length (drop (place t i) s) = is_d ∙ ap data_length there in
       omega (arith, e, offset_is s t spells i lt, k_there, d_there, size_there i lt, place-one s t spells i lt)
+
+  -- the areas of a record lie before the end mark
+  pub record-before : (i : ℕ) → i < length t.records → slice_index (record_offsets t) i + record_size (record_in t i) ≤ end_offset t
+  record-before i lt = omega (arith, offset_is s t spells i lt, place-one s t spells i lt, place-before s t spells (i + 1))
 
 -- A home address alone.
 

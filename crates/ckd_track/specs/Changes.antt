@@ -1,5 +1,5 @@
 -- What writes leave of a track (component descriptions of the 2841 and the 2314, 'Write Commands').
-use Rattle.std.specs.Prelude.{ℕ, ◌+◌, ◌-◌, List, [], ◌∷◌, ◌++◌, length, take, drop, flat_map, replicate, slice_set, slice_index, Option, None, Some}
+use Rattle.std.specs.Prelude.{◌≡◌, ℕ, ◌+◌, ◌-◌, ◌≤◌, List, [], ◌∷◌, ◌++◌, length, take, drop, flat_map, replicate, slice_set, slice_index, Option, None, Some}
 use Rattle.ckd_track.specs.Track.{Record, Track, record_bytes, record_in, record_offsets, end_mark}
 
 -- a track with this home address and no record
@@ -47,10 +47,11 @@ end_offset t = length t.home_address + length (flat_map record_bytes t.records)
 abbrev pub overwritten : List ℕ → ℕ → List ℕ → List ℕ
 overwritten old at bytes = take at old ++ (bytes ++ drop (at + length bytes) old)
 
--- zeros from there to the end
-abbrev pub cleared_from : List ℕ → ℕ → List ℕ
-cleared_from old at = take at old ++ replicate (length old - at) 0
-
 -- the end mark there, and zeros behind it
 abbrev pub ended_at : List ℕ → ℕ → List ℕ
 ended_at old at = take at old ++ (end_mark ++ replicate (length old - (at + 8)) 0)
+
+-- from there on all bytes are zero
+pub record IsZeroFrom (slot : List ℕ) (from : ℕ) : Type 0 where
+  pub within : from ≤ length slot
+  pub zeros : drop from slot ≡ replicate (length slot - from) 0

@@ -5,13 +5,13 @@
 ghost use Rattle.std.specs.Prelude.{◌≡◌, ◌≤◌, ◌<◌, ◌+◌, ◌-◌, ◌^◌, List, min, length, take, IsTrue};
 ghost use Rattle.std.specs.Option.{ForSome};
 ghost use Rattle.ckd_track.specs.Model.{capacity_of};
-ghost use Rattle.ckd_track.specs.Track.{Record, key_length, data_length, record_in};
+ghost use Rattle.ckd_track.specs.Track.{Record, record_in};
 ghost use Rattle.ckd_track.specs.Changes.{kept_records};
 ghost use Rattle.ckd_track.specs.Charges.{key_overhead_of, charge_of, last_charge_of, r0_charge_of, charge_at, capacity_left, used_of, has_room, LeavesRoom, IsNoEndMark};
 
 use crate::model::DriveModel;
 use crate::view::TrackView;
-use crate::walk::RECORDS_START;
+use crate::walk::{RECORDS_START, lengths};
 
 /// What a key area adds to a record's charge.
 fn key_overhead(model: DriveModel, kl: u8) -> u32
@@ -48,15 +48,6 @@ pub fn r0_charge(model: DriveModel, kl: u8, dl: u16) -> u32
     ensures { result ≡ r0_charge_of model kl dl }
 {
     charge(model, kl, dl).saturating_sub(charge(model, 0, 8))
-}
-
-/// The key length and the data length that a count area gives.
-fn lengths(count: &[u8]) -> (u8, u16)
-    requires { 8 ≤ length count.now }
-    ensures key { result.0 ≡ key_length count.now }
-    ensures body { result.1 ≡ data_length count.now }
-{
-    (count[5], u16::from_be_bytes([count[6], count[7]]))
 }
 
 /// What record `i` of a track takes, where others follow it.

@@ -18,7 +18,8 @@ pub use crate::geometries::Geometry;
 pub use crate::index::index_slot;
 pub use crate::model::DriveModel;
 pub use crate::view::{TrackView, read_slot, view_at};
+pub use crate::walk::{COUNT_LENGTH, RECORDS_START, body_length, data_length, key_length, lengths};
 pub use crate::writes::{
-    data_offset_of, end_offset_of, overwrite, put_data, put_end_mark, put_key_data, put_record,
-    write_ha,
+    clear_area, data_offset_of, end_offset_of, format_record, overwrite, put_data, put_end_mark,
+    put_home_address, put_key_data, put_record, write_ha,
 };

@@ -11,14 +11,24 @@ pub const RECORDS_START: usize = 5;
 /// Cylinder, head, record number, key length and data length.
 pub const COUNT_LENGTH: usize = 8;
 
-const END_MARK: [u8; COUNT_LENGTH] = [255; COUNT_LENGTH];
+/// What ends the records of a track.
+pub const END_MARK: [u8; COUNT_LENGTH] = [255; COUNT_LENGTH];
+
+/// The key length and the data length that a count area gives.
+pub fn lengths(count: &[u8]) -> (u8, u16)
+    requires { 8 ≤ length count.now }
+    ensures key { result.0 ≡ length_of_key count.now }
+    ensures data { result.1 ≡ length_of_data count.now }
+{
+    (count[5], u16::from_be_bytes([count[6], count[7]]))
+}
 
 /// The key length that a count area gives.
 pub fn key_length(count: &[u8]) -> usize
     requires { 8 ≤ length count.now }
     ensures { result ≡ length_of_key count.now }
 {
-    count[5] as usize
+    usize::from(lengths(count).0)
 }
 
 /// The data length that a count area gives.
@@ -26,11 +36,11 @@ pub fn data_length(count: &[u8]) -> usize
     requires { 8 ≤ length count.now }
     ensures { result ≡ length_of_data count.now }
 {
-    u16::from_be_bytes([count[6], count[7]]) as usize
+    usize::from(lengths(count).1)
 }
 
 /// How many bytes the key and the data of a count area take together.
-fn body_length(count: &[u8]) -> usize
+pub fn body_length(count: &[u8]) -> usize
     requires { 8 ≤ length count.now }
     ensures { result ≡ length_of_body count.now }
 {

@@ -3,13 +3,13 @@
 //! Afterwards the slot is exactly the spelling of the one changed track, followed by zeros (component descriptions of
 //! the 2841 and the 2314, 'Write Commands'; the CKD_P370 image layout).
 
-ghost use Rattle.std.specs.Prelude.{◌≡◌, ◌≤◌, ◌<◌, ◌+◌, ◌++◌, length, slice_index, bytes_eq, false, IsOk, Ok};
+ghost use Rattle.std.specs.Prelude.{◌≡◌, ◌≤◌, ◌<◌, ◌+◌, ◌++◌, max, length, replicate, slice_index, bytes_eq, false, IsOk, Ok};
 ghost use Rattle.std.specs.Option.{ForSome};
 ghost use Rattle.ckd_track.specs.Track.{track_of, track_in, record_in, record_offsets, record_size, slot_of, spelling, end_mark, record_at, body_length};
-ghost use Rattle.ckd_track.specs.Changes.{bare_track, with_record, with_data, with_key_data, data_offset, offset_behind, end_offset, overwritten, cleared_from, ended_at};
+ghost use Rattle.ckd_track.specs.Changes.{bare_track, with_record, with_data, with_key_data, data_offset, offset_behind, end_offset, overwritten, ended_at, IsZeroFrom};
 
 use crate::walk::{
-    COUNT_LENGTH, RECORDS_START, data_length, key_length, offset_of, record_size_at,
+    COUNT_LENGTH, END_MARK, RECORDS_START, data_length, key_length, offset_of, record_size_at,
 };
 
 /// Writes bytes from an offset on, and changes nothing else.
@@ -20,21 +20,63 @@ pub fn overwrite(slot: &mut [u8], at: usize, bytes: &[u8])
     slot[at..at + bytes.len()].copy_from_slice(bytes);
 }
 
-// Writes zeros from an offset to the end.
-fn clear_from(slot: &mut [u8], at: usize)
-    requires { at ≤ length slot.old }
-    ensures { slot.new ≡ cleared_from slot.old at }
+// Writes so many zeros from an offset on.
+fn clear(slot: &mut [u8], at: usize, n: usize)
+    requires { at + n ≤ length slot.old }
+    ensures { slot.new ≡ overwritten slot.old at (replicate n 0) }
 {
-    slot[at..].fill(0);
+    slot[at..at + n].fill(0);
 }
 
 /// Writes the end mark at an offset, and zeros behind it.
-pub fn put_end_mark(slot: &mut [u8], at: usize)
-    requires { at + 8 ≤ length slot.old }
+///
+/// From `zeros_from` on, or from behind the end mark on where that is later, all bytes of the slot are zero before, so that
+/// only what stands before is cleared. Of a slot of which no more is known that is its length.
+pub fn put_end_mark(slot: &mut [u8], at: usize, zeros_from: usize)
+    requires room { at + 8 ≤ length slot.old }
+    requires zeros { IsZeroFrom slot.old (max zeros_from (at + 8)) }
     ensures { slot.new ≡ ended_at slot.old at }
 {
-    overwrite(slot, at, &[0xff; COUNT_LENGTH]);
-    clear_from(slot, at + COUNT_LENGTH);
+    let behind = at + COUNT_LENGTH;
+    overwrite(slot, at, &END_MARK);
+    if behind < zeros_from {
+        clear(slot, behind, zeros_from - behind);
+    }
+}
+
+/// Writes a home address, and behind it the end mark and zeros; from `zeros_from` on all bytes of the slot are zero before.
+pub fn put_home_address(slot: &mut [u8], home_address: &[u8; 5], zeros_from: usize)
+    requires room { 13 ≤ length slot.old }
+    requires zeros { IsZeroFrom slot.old zeros_from }
+    ensures { slot.new ≡ ended_at (overwritten slot.old 0 home_address.now) 5 }
+{
+    overwrite(slot, 0, home_address);
+    put_end_mark(slot, RECORDS_START, zeros_from);
+}
+
+/// Writes these count bytes at an offset, behind them so many zeros, which are the record's key and data, and behind these
+/// the end mark and zeros; from `zeros_from` on all bytes of the slot are zero before.
+pub fn format_record(slot: &mut [u8], at: usize, count: &[u8; 8], body: usize, zeros_from: usize)
+    requires room { at + 8 + body + 8 ≤ length slot.old }
+    requires zeros { IsZeroFrom slot.old zeros_from }
+    ensures { slot.new ≡ ended_at (overwritten (overwritten slot.old at count.now) (at + 8) (replicate body 0)) (at + 8 + body) }
+{
+    let end = at + COUNT_LENGTH + body;
+    overwrite(slot, at, count);
+    clear(slot, at + COUNT_LENGTH, body);
+    put_end_mark(slot, end, zeros_from);
+}
+
+/// Writes so many zeros from an offset on, before the end mark, and zeros behind that; from `zeros_from` on all bytes of the
+/// slot are zero before.
+pub fn clear_area(slot: &mut [u8], at: usize, n: usize, end: usize, zeros_from: usize)
+    requires area { at + n ≤ end }
+    requires end { end + 8 ≤ length slot.old }
+    requires zeros { IsZeroFrom slot.old zeros_from }
+    ensures { slot.new ≡ ended_at (overwritten slot.old at (replicate n 0)) end }
+{
+    clear(slot, at, n);
+    put_end_mark(slot, end, zeros_from);
 }
 
 /// Where the end mark stands, as an offset in the slot.
@@ -92,8 +134,8 @@ pub fn write_ha(slot: &mut [u8], ha: [u8; 5])
     ensures slot { slot.new ≡ slot_of (length slot.old) (bare_track ha) }
     ensures read { track_of slot.new ≡ Ok (bare_track ha) }
 {
-    overwrite(slot, 0, &ha);
-    put_end_mark(slot, RECORDS_START);
+    let zeros_from = slot.len();
+    put_home_address(slot, &ha, zeros_from);
 }
 
 /// Writes a record behind record `after`, or as the only record, R0, where that is `None`, and removes all records behind
@@ -114,20 +156,21 @@ pub fn put_record(slot: &mut [u8], after: Option<usize>, count: [u8; 8], body: &
         ≡ Ok (with_record after (record_at (count ++ body.now)) (track_in slot.old)) }
 {
     let at = place_behind(slot, after);
-    overwrite(slot, at, &count);
+    let zeros_from = slot.len();
+    format_record(slot, at, &count, body.len(), zeros_from);
     overwrite(slot, at + COUNT_LENGTH, body);
-    put_end_mark(slot, at + COUNT_LENGTH + body.len());
 }
 
 // Writes bytes in the place of others before the end mark, and zeros behind it.
 fn rewrite(slot: &mut [u8], at: usize, bytes: &[u8])
     requires whole { IsOk (track_of slot.old) }
-    requires room { at + length bytes.now ≤ length slot.old }
+    requires within { at + length bytes.now ≤ end_offset (track_in slot.old) }
     ensures { slot.new ≡ ended_at (overwritten slot.old at bytes.now) (end_offset (track_in slot.old)) }
 {
     let end = end_offset_of(slot);
+    let zeros_from = slot.len();
+    clear_area(slot, at, bytes.len(), end, zeros_from);
     overwrite(slot, at, bytes);
-    put_end_mark(slot, end);
 }
 
 /// Writes the data area of record `i`, which `body` gives in whole.

@@ -29,7 +29,7 @@ has_room_on c e =
     let many : length rs ≡ k = (let le = up_to_le t b c.before-2.ensures.there in omega (arith, le, length-take k t.records)) in
     let n : length rs ≡ c.records_up_to-kept.result = many ∙ sym c.records_up_to-kept.ensures in
     let left : c.reach.new.self.left ≡ capacity_left c.args.model (take c.records_up_to-kept.result c.view_at-view.result.records) = ap (λ (x : Charged). x.left) c.reach.ensures in
-    rw (kept_take t b) (sym (rw c.from_be_bytes-dl.ensures at c.fits_behind.ensures rs n (rw (c.records_up_to-kept.ensures, ← seen) at left)) ∙ e)
+    rw (kept_take t b) (sym (rw (c.lengths-kl.ensures.key, c.lengths-kl.ensures.data) at c.fits_behind.ensures rs n (rw (c.records_up_to-kept.ensures, ← seen) at left)) ∙ e)
 
 pub returns-clause-room : goal.returns-clause-room
 returns-clause-room c = λ e.

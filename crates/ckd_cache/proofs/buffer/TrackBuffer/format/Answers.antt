@@ -7,7 +7,7 @@ use Rattle.ckd_position.specs.Contents.{formatted}
 use Rattle.ckd_cache.specs.Buffer.{end_of_records, number_up_to}
 use Rattle.ckd_cache.proofs.AreaPlaces.{seen_index, seen_buffer, spelled_now}
 use Rattle.ckd_cache.proofs.Writes.{read_records, format_room, format_slot, format_fits, format_indexed, format_keeps, kept_room, up_to_le}
-use Rattle.ckd_cache.proofs.Zeros.{new_zeros}
+use Rattle.ckd_track.proofs.Zeros.{new_zeros}
 use Rattle.ckd_cache.proofs.buffer.TrackBuffer.format.Goals as goal
 
 pub records_up_to-kept-requires : goal.records_up_to-kept-requires
@@ -18,8 +18,8 @@ records_up_to-kept-requires c =
     let sp = spelled_now i.slot.items s i.offsets.items i.records c.self.view_is c.self.invariant.indexed c.requires.readable in
     λ k e. (let lt = c.before-2.ensures.there k e in let few = few_records s (track_in s) sp in omega (arith, lt, few, x.size))
 
-pub put_new-requires-clause-room : goal.put_new-requires-clause-room
-put_new-requires-clause-room c =
+pub format_record-requires-clause-room : goal.format_record-requires-clause-room
+format_record-requires-clause-room c =
     let i = c.self.inside in
     let s = c.args.self.now in
     let sp = spelled_now i.slot.items s i.offsets.items i.records c.self.view_is c.self.invariant.indexed c.requires.readable in
@@ -31,8 +31,8 @@ put_new-requires-clause-room c =
     let r = format_room s b c.args.after c.args.count sp bytes eight c.requires.no_end_mark c.before-2.ensures.kept c.requires.room in
     rw (old, at, c.body_length-body.ensures) r
 
-pub put_new-requires-clause-zeros : goal.put_new-requires-clause-zeros
-put_new-requires-clause-zeros c =
+pub format_record-requires-clause-zeros : goal.format_record-requires-clause-zeros
+format_record-requires-clause-zeros c =
     let i = c.self.inside in
     let s = c.args.self.now in
     let x = seen_buffer i.slot.items s i.offsets.items i.records i.zeros_from i.charged c.self.view_is c.self.invariant in
@@ -63,7 +63,7 @@ overflow_add-self c =
     rw c.records_up_to-kept.ensures (omega (arith, le, few, x.size))
 
 -- what was written is the slot of the formatted track
-made : (c : goal.After-keep) → c.put_new.new.slot ≡ slot_of (length c.args.self.now) (formatted (track_of c.args.self.now) c.args.after c.args.count)
+made : (c : goal.After-keep) → c.format_record.new.slot ≡ slot_of (length c.args.self.now) (formatted (track_of c.args.self.now) c.args.after c.args.count)
 made c =
     let i = c.self.inside in
     let s = c.args.self.now in
@@ -71,11 +71,11 @@ made c =
     let b = c.before-2.result in
     let at : c.end_of-at.result ≡ end_of_records (track_in s) (number_up_to b) = rw c.records_up_to-kept.ensures at c.end_of-at.ensures.place in
     let old : c.deref_mut.result.now ≡ s = c.deref_mut.ensures.value ∙ c.self.view_is in
-    rw (old, at, c.body_length-body.ensures) at c.put_new.ensures ∙ format_slot s b c.args.after c.args.count sp (are_bytes c.args.count (search rules)) (search rules) c.requires.no_end_mark c.before-2.ensures.kept c.requires.room
+    rw (old, at, c.body_length-body.ensures) at c.format_record.ensures ∙ format_slot s b c.args.after c.args.count sp (are_bytes c.args.count (search rules)) (search rules) c.requires.no_end_mark c.before-2.ensures.kept c.requires.room
 
 -- and stands in the buffer
-items : (c : goal.After-keep) → (with_items c.self.inside.slot c.put_new.new.slot).items ≡ c.put_new.new.slot
-items c = with_items_is c.self.inside.slot c.put_new.new.slot (search rules)
+items : (c : goal.After-keep) → (with_items c.self.inside.slot c.format_record.new.slot).items ≡ c.format_record.new.slot
+items c = with_items_is c.self.inside.slot c.format_record.new.slot (search rules)
 
 pub invariant_of-self : goal.invariant_of-self
 invariant_of-self c =
@@ -94,7 +94,7 @@ invariant_of-self c =
     rw (items c) (record {
       indexed = rw (made c, c.records_up_to-kept.ensures)
           (format_indexed s i.offsets.items k.0 c.end_of-at.result b c.args.after c.args.count (rw k.1 at x.indexed) bytes eight c.requires.no_end_mark c.before-2.ensures.kept c.requires.room c.before-2.ensures.there at);
-      cleared = new_zeros s c.end_of-at.result c.args.count c.body_length-body.result c.put_new.new.slot eight room (rw old at c.put_new.ensures);
+      cleared = new_zeros s c.end_of-at.result c.args.count c.body_length-body.result c.format_record.new.slot eight room (rw old at c.format_record.ensures);
       charges = rw (made c) (c.keep.ensures.kept (track_in s).records _ (rw c.records_up_to-kept.ensures (format_keeps s b c.args.after c.args.count eight c.before-2.ensures.kept f c.before-2.ensures.there)) x.charges);
     })
 

@@ -5,7 +5,7 @@ use Rattle.ckd_track.specs.Track.{track_in, slot_of}
 use Rattle.ckd_track.specs.Changes.{bare_track}
 use Rattle.ckd_cache.proofs.AreaPlaces.{seen_index}
 use Rattle.ckd_cache.proofs.Writes.{bare_fits, indexed_slot}
-use Rattle.ckd_cache.proofs.Zeros.{ended_zeros}
+use Rattle.ckd_track.proofs.Zeros.{ended_zeros}
 use Rattle.ckd_track.proofs.Writing.{ha_slot}
 use Rattle.ckd_cache.proofs.buffer.TrackBuffer.write_home_address.Goals as goal
 

@@ -1,10 +1,9 @@
 -- Zeros up to the slot's end.
-use Rattle.std.proofs.Common.{◌≡◌, ◌∙◌, ap, sym, subst, refl, ℕ, ◌+◌, ◌-◌, ◌≤◌, ◌<◌, max, List, ◌++◌, length, take, drop, replicate, length-append, length-take, drop-drop, append_assoc, arith}
-use Rattle.std.proofs.lemmas.List.{length-replicate, drop_at, drop-replicate, drop_all, replicate-append-replicate}
+use Rattle.std.proofs.Common.{◌≡◌, ◌∙◌, ap, sym, subst, refl, ℕ, ◌+◌, ◌-◌, ◌≤◌, ◌<◌, max, List, ◌++◌, length, take, drop, replicate, length-append, length-take, length-drop, drop-drop, append_assoc, arith}
+use Rattle.std.proofs.lemmas.List.{length-replicate, drop_at, drop-replicate, drop_all, replicate-append-replicate, take_at, take-append-drop}
 use Rattle.ckd_track.specs.Track.{end_mark}
-use Rattle.ckd_track.specs.Changes.{overwritten, ended_at}
-use Rattle.ckd_track.proofs.Rewritten.{length-overwritten, overwritten-append}
-use Rattle.ckd_cache.specs.Buffer.{IsZeroFrom}
+use Rattle.ckd_track.specs.Changes.{overwritten, ended_at, IsZeroFrom}
+use Rattle.ckd_track.proofs.Rewritten.{length-overwritten, overwritten-append, overwritten-middle}
 
 pub drop_over : (s : List ℕ) (off e : ℕ) (b : List ℕ) → off + length b ≤ e → e ≤ length s → drop e (overwritten s off b) ≡ drop e s
 drop_over s off e b le room =
@@ -77,3 +76,55 @@ new_zeros s at count n new eight room is =
     let long = length-overwritten s at count (omega (arith, eight, room)) in
     let many = length-replicate {A = ℕ} n 0 in
     ended_zeros (overwritten s at count) (at + 8) (replicate n 0) (at + 8 + n) new (omega (arith, long, many, room)) (omega (arith, long, room)) is
+
+-- Zeros in an area first, and then its bytes.
+
+ended_behind : (h r : List ℕ) (e : ℕ) → length h ≡ e → ended_at (h ++ r) e ≡ h ++ (end_mark ++ replicate (length r - 8) 0)
+ended_behind h r e long =
+    let n : length (h ++ r) - (e + 8) ≡ length r - 8 = omega (arith, length-append h r, long) in
+    ap (λ (x : List ℕ). x ++ (end_mark ++ replicate (length (h ++ r) - (e + 8)) 0)) (take_at h r e long) ∙ ap (λ (m : ℕ). h ++ (end_mark ++ replicate m 0)) n
+
+middle_ended : (p d m r b : List ℕ) (at e : ℕ) → length p ≡ at → length b ≡ length d → length (p ++ (d ++ m)) ≡ e
+    → overwritten (ended_at (p ++ (d ++ (m ++ r))) e) at b ≡ ended_at (overwritten (p ++ (d ++ (m ++ r))) at b) e
+middle_ended p d m r b at e front same long =
+    let tail : List ℕ = end_mark ++ replicate (length r - 8) 0 in
+    let old : p ++ (d ++ (m ++ r)) ≡ (p ++ (d ++ m)) ++ r = regroup p d m r in
+    let new : p ++ (b ++ (m ++ r)) ≡ (p ++ (b ++ m)) ++ r = regroup p b m r in
+    let long' : length (p ++ (b ++ m)) ≡ e = omega (arith, long, same, length-append p (b ++ m), length-append b m, length-append p (d ++ m), length-append d m) in
+    ap (λ (x : List ℕ). overwritten x at b) (ap (λ (x : List ℕ). ended_at x e) old ∙ ended_behind (p ++ (d ++ m)) r e long ∙ sym (regroup p d m tail))
+    ∙ overwritten-middle p d (m ++ tail) b at front same ∙ regroup p b m tail
+    ∙ sym (ap (λ (x : List ℕ). ended_at x e) (overwritten-middle p d (m ++ r) b at front same ∙ new) ∙ ended_behind (p ++ (b ++ m)) r e long')
+  where
+    regroup : (p d m r : List ℕ) → p ++ (d ++ (m ++ r)) ≡ (p ++ (d ++ m)) ++ r
+    regroup p d m r = simp append_assoc
+
+overwritten-ended : (s : List ℕ) (at : ℕ) (b : List ℕ) (e : ℕ) → at + length b ≤ e → e + 8 ≤ length s → overwritten (ended_at s e) at b ≡ ended_at (overwritten s at b) e
+overwritten-ended s at b e within room =
+    let y : List ℕ = drop at s in
+    let z : List ℕ = drop (length b) y in
+    let n : ℕ = e - (at + length b) in
+    let all : take at s ++ (take (length b) y ++ (take n z ++ drop n z)) ≡ s =
+    ap (λ (x : List ℕ). take at s ++ (take (length b) y ++ x)) (take-append-drop n z) ∙ ap (λ (x : List ℕ). take at s ++ x) (take-append-drop (length b) y) ∙ take-append-drop at s in
+    let p = length-take at s in
+    let rest = length-drop at s in
+    let d = length-take (length b) y in
+    let rest' = length-drop (length b) y in
+    let m = length-take n z in
+    let front : length (take at s) ≡ at = omega (arith, p, within, room) in
+    let same : length b ≡ length (take (length b) y) = omega (arith, d, rest, within, room) in
+    let long : length (take at s ++ (take (length b) y ++ take n z)) ≡ e =
+    omega (arith, front, same, m, rest, rest', within, room, length-append (take at s) (take (length b) y ++ take n z), length-append (take (length b) y) (take n z)) in
+    subst (λ (x : List ℕ). overwritten (ended_at x e) at b ≡ ended_at (overwritten x at b) e) all (middle_ended (take at s) (take (length b) y) (take n z) (drop n z) b at e front same long)
+
+overwritten-again : (s : List ℕ) (at : ℕ) (a b : List ℕ) → length b ≡ length a → at + length a ≤ length s → overwritten (overwritten s at a) at b ≡ overwritten s at b
+overwritten-again s at a b same room =
+    overwritten-middle (take at s) a (drop (at + length a) s) b at (omega (arith, length-take at s, room)) same
+    ∙ ap (λ (n : ℕ). take at s ++ (b ++ drop (at + n) s)) (sym same)
+
+-- an area that is cleared before the end mark, and then written whole, is written
+pub cleared_first : (s : List ℕ) (at : ℕ) (b : List ℕ) (e : ℕ) → at + length b ≤ e → e + 8 ≤ length s → overwritten (ended_at (overwritten s at (replicate (length b) 0)) e) at b ≡ ended_at (overwritten s at b) e
+cleared_first s at b e within room =
+    let many = length-replicate {A = ℕ} (length b) 0 in
+    let long = length-overwritten s at (replicate (length b) 0) (omega (arith, many, within, room)) in
+    overwritten-ended (overwritten s at (replicate (length b) 0)) at b e within (omega (arith, long, room))
+    ∙ ap (λ (x : List ℕ). ended_at x e) (overwritten-again s at (replicate (length b) 0) b (sym many) (omega (arith, many, within, room)))

@@ -1,12 +1,12 @@
 use Rattle.std.proofs.Common.{ℕ, ◌+◌, ◌≤◌, ◌≡◌, max, length, replicate, arith, rules}
 use Rattle.std.proofs.lemmas.List.{length-replicate}
-use Rattle.ckd_cache.proofs.Zeros.{zero_over}
+use Rattle.ckd_track.proofs.Zeros.{zero_over}
 use Rattle.ckd_track.specs.Changes.{overwritten}
 use Rattle.ckd_track.proofs.Rewritten.{length-overwritten}
-use Rattle.ckd_cache.proofs.buffer.put_new.Goals as goal
+use Rattle.ckd_track.proofs.writes.format_record.Goals as goal
 
-pub put_end-requires-clause-zeros : goal.put_end-requires-clause-zeros
-put_end-requires-clause-zeros c =
+pub put_end_mark-requires-clause-zeros : goal.put_end_mark-requires-clause-zeros
+put_end_mark-requires-clause-zeros c =
     let s = c.args.slot.now in
     let at = c.args.at in
     let z = c.args.zeros_from in
