@@ -1,5 +1,1 @@
-pub mod AreaPlaces
-pub mod Writes
-pub mod Lengths
-pub mod Updates
 pub mod Caches

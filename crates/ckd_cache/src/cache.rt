@@ -7,12 +7,12 @@ ghost use Rattle.ckd_track.specs.Model.{capacity_of};
 ghost use Rattle.ckd_track.specs.Charges.{has_room};
 ghost use Rattle.ckd_track.specs.Changes.{overwritten, bare_track};
 ghost use Rattle.ckd_position.specs.Contents.{is_readable, formatted as track_formatted, with_record_changed, replaced, kept};
-ghost use Rattle.ckd_cache.specs.Buffer.{SameRecords, FitsSlot, IsUpdate, IsRecordOf};
+ghost use Rattle.ckd_slot.specs.Buffer.{SameRecords, FitsSlot, IsUpdate, IsRecordOf};
 ghost use Rattle.ckd_cache.specs.Cache.{slot_held, with_held, holds, after_hold, after_failed_hold, after_save, after_failed_save, IsVolume};
 
-use crate::buffer::TrackBuffer;
 use ckd_image::{Image, ImageStore, StoreFault};
 use ckd_position::{Area, Extent};
+use ckd_slot::TrackBuffer;
 use ckd_track::Geometry;
 use std::alloc::{AllocError, Global};
 use std::marker::Model;

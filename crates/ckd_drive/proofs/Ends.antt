@@ -13,7 +13,7 @@ use Rattle.ckd_command.specs.declared.steps.Action.{Action}
 use Rattle.ckd_command.specs.declared.steps.Action.TheVariants as action
 use Rattle.ckd_command.specs.declared.steps.Opened.{Opened}
 use Rattle.ckd_command.specs.Steps.{Outcome}
-use Rattle.ckd_cache.specs.declared.windows.Window.{Window}
+use Rattle.ckd_slot.specs.declared.windows.Window.{Window}
 use Rattle.ckd_drive.specs.Places.{Place, Sense, Field, Read, Search, Fill, Filled, Progress}
 use Rattle.ckd_drive.specs.Stage.{Stage, Idle, Passing}
 use Rattle.ckd_command.specs.Tables.{action_of}

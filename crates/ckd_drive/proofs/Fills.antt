@@ -12,15 +12,15 @@ use Rattle.ckd_command.specs.declared.registers.Registers.{Registers}
 use Rattle.ckd_position.specs.declared.extents.Extent.{Extent}
 use Rattle.ckd_command.specs.declared.steps.Opened.{Opened}
 use Rattle.ckd_command.specs.Steps.{Outcome}
-use Rattle.ckd_cache.specs.declared.windows.Window.{Window}
+use Rattle.ckd_slot.specs.declared.windows.Window.{Window}
 use Rattle.ckd_drive.specs.Places.{Place, Filled, Progress}
 use Rattle.ckd_position.specs.Contents.{Sighted, is_readable, padded, replaced, with_record_changed}
 use Rattle.ckd_command.specs.Commands.{length_after, closing, outcome}
-use Rattle.ckd_cache.specs.Buffer.{FitsSlot, IsUpdate, SameRecords, lengths_on}
+use Rattle.ckd_slot.specs.Buffer.{FitsSlot, IsUpdate, SameRecords, lengths_on}
 use Rattle.ckd_cache.specs.Cache.{CacheState, with_held}
 use Rattle.ckd_drive.specs.Half.{Works, MayTake, Absorbs, IsPlaced, HasFilled, IsFilled, next_progress, slot_at, number, seen_by}
-use Rattle.ckd_cache.proofs.Writes.{update_offset, update_length}
-use Rattle.ckd_cache.proofs.Updates.{form_of, padded_on, same_records}
+use Rattle.ckd_slot.proofs.Writes.{update_offset, update_length}
+use Rattle.ckd_slot.proofs.Updates.{form_of, padded_on, same_records}
 use Rattle.ckd_drive.proofs.Numbers.{number_below}
 
 or_true : (b : Bool) → true ≡ (b || true)

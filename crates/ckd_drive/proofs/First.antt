@@ -11,12 +11,12 @@ use Rattle.ckd_command.specs.declared.steps.Action.TheVariants as action
 use Rattle.ckd_position.specs.declared.extents.Extent.TheVariants as extent
 use Rattle.ckd_command.specs.declared.steps.Opened.{Opened}
 use Rattle.ckd_command.specs.Sights.{Found}
-use Rattle.ckd_cache.specs.declared.windows.Window.{Window}
+use Rattle.ckd_slot.specs.declared.windows.Window.{Window}
 use Rattle.ckd_drive.specs.Places.{Place, Sense, Field, Read, Search, Fill, Filled}
 use Rattle.ckd_command.specs.Tables.{action_of, extent_of, aim}
 use Rattle.ckd_position.specs.Contents.{Sighted, is_readable}
 use Rattle.ckd_command.specs.Commands.{Closing, sight, area_bytes, bytes_for, area_ends, length_after, length_for, closing, close_by, outcome}
-use Rattle.ckd_cache.specs.Buffer.{Lies}
+use Rattle.ckd_slot.specs.Buffer.{Lies}
 use Rattle.ckd_cache.specs.Cache.{CacheState}
 use Rattle.ckd_drive.specs.Half.{IsFirstPlace, IsPlaced, IsField, ReadsWhole, FieldAtHand, AtHand, field_size, slot_at}
 

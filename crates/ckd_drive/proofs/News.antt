@@ -14,15 +14,15 @@ use Rattle.ckd_command.specs.Steps.{Outcome}
 use Rattle.ckd_command.specs.Sights.{Found}
 use Rattle.ckd_drive.specs.declared.places.Whole.{Whole}
 use Rattle.ckd_drive.specs.declared.places.Whole.TheVariants as whole
-use Rattle.ckd_cache.specs.declared.windows.Window.{Window}
+use Rattle.ckd_slot.specs.declared.windows.Window.{Window}
 use Rattle.ckd_drive.specs.Places.{Place, Sense, Field, Read, Search, Fill, Filled, Progress}
 use Rattle.ckd_command.specs.Tables.{action_of}
 use Rattle.ckd_position.specs.Contents.{Sighted, padded}
 use Rattle.ckd_command.specs.Commands.{Closing, sight, length_after, closing, outcome, own_home_address, home_address_ends, writes}
-use Rattle.ckd_cache.specs.Buffer.{lengths_on}
+use Rattle.ckd_slot.specs.Buffer.{lengths_on}
 use Rattle.ckd_cache.specs.Cache.{CacheState, IsVolume, with_held}
 use Rattle.ckd_drive.specs.Half.{Works, MayTake, Absorbs, HasFilled, IsFilled, FieldAtHand, slot_at, number, seen_by, is_filled_by, whole_of}
-use Rattle.ckd_cache.proofs.Writes.{bare_fits}
+use Rattle.ckd_slot.proofs.Writes.{bare_fits}
 use Rattle.ckd_drive.proofs.Fills.{written_works, there, new_slot_at, written_absorbs, reads_new}
 use Rattle.ckd_drive.proofs.First.{length_by, closing_by}
 use Rattle.ckd_drive.proofs.Takes.{ChangesNothing, field_goes, field_absorbs}

@@ -30,7 +30,7 @@ use Rattle.ckd_position.specs.Contents.{Sighted, is_readable}
 use Rattle.ckd_command.specs.Commands.{IsAtTrack, sight, sight_of, look_for, next_head, turned, at_index, with_cause}
 use Rattle.ckd_command.specs.Steps.{moved_to}
 use Rattle.ckd_sense.specs.declared.sense_bytes.TheConstants.Sense as cause
-use Rattle.ckd_cache.specs.Buffer.{HasBytes}
+use Rattle.ckd_slot.specs.Buffer.{HasBytes}
 use Rattle.ckd_drive.specs.Half.{AreaIsThere, ReadsWhole, SightKeeps}
 
 on_track : (e : Extent) (t : Sighted) (a : Area) → IsOnTrack (track_or_none t) a → HasBytes e t a

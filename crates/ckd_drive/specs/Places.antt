@@ -3,7 +3,7 @@ use Rattle.std.specs.Prelude.{ℕ, List}
 use Rattle.std.specs.declared.cmp.Ordering.{Ordering}
 use Rattle.ckd_command.specs.declared.steps.Opened.{Opened}
 use Rattle.ckd_command.specs.Steps.{Outcome}
-use Rattle.ckd_cache.specs.declared.windows.Window.{Window}
+use Rattle.ckd_slot.specs.declared.windows.Window.{Window}
 
 -- What becomes of the bytes that pass, and where in the slot those stand that are still to pass: sense bytes, or those of a
 -- window, are given; those of a field are collected; those of a window are compared, and those before them are in this

@@ -1,6 +1,6 @@
 //! Where the bytes of a half done command stand.
 
-use ckd_cache::Window;
+use ckd_slot::Window;
 use std::cmp::Ordering;
 
 /// What becomes of the bytes that pass, and where in the slot those stand that are still to pass.

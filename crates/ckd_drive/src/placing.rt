@@ -22,7 +22,7 @@ ghost use Rattle.ckd_drive.specs.Held.{place_seen, closes_by, IsReady, IsLookedH
 
 use crate::places::{Place, Progress, Stage, Whole, Written};
 use crate::stages::ready;
-use ckd_cache::{TrackBuffer, Window};
+use ckd_slot::{TrackBuffer, Window};
 use ckd_command::beginning::add_cause;
 use ckd_command::registers::{Mark, Registers};
 use ckd_command::sight::sight_of;

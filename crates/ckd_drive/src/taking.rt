@@ -8,7 +8,8 @@ ghost use Rattle.ckd_command.specs.Commands.{outcome, area_ends};
 
 use crate::places::{Place, Progress, Whole, Written};
 use crate::placing;
-use ckd_cache::{TrackCache, Window};
+use ckd_cache::TrackCache;
+use ckd_slot::Window;
 use ckd_command::registers::Registers;
 use ckd_command::steps::Opened;
 use ckd_command::tables;

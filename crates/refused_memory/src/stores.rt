@@ -2,9 +2,10 @@
 
 use crate::calls::{Call, Came, begin, end};
 use anyhow::{Result, bail};
-use ckd_cache::{TrackBuffer, TrackCache};
+use ckd_cache::TrackCache;
 use ckd_drive::drive::Drive;
 use ckd_image::{Image, ImageStore, MemoryStore, image_len};
+use ckd_slot::TrackBuffer;
 use ckd_track::{DriveModel, Geometry};
 use s360_words::{Storage, StorageFault};
 use std::alloc::Global;

@@ -3,7 +3,7 @@ use Rattle.ckd_track.specs.Track.{track_in}
 use Rattle.ckd_track.specs.Changes.{overwritten}
 use Rattle.ckd_command.specs.Tables.{extent_of}
 use Rattle.ckd_position.specs.Contents.{with_record_changed, replaced}
-use Rattle.ckd_cache.specs.Buffer.{FitsSlot}
+use Rattle.ckd_slot.specs.Buffer.{FitsSlot}
 use Rattle.ckd_cache.specs.Cache.{CacheState, slot_held, with_held}
 use Rattle.ckd_command.specs.Commands.{outcome, area_ends}
 use Rattle.ckd_drive.specs.Half.{number, slot_at}

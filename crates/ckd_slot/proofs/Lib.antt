@@ -1,0 +1,4 @@
+pub mod AreaPlaces
+pub mod Writes
+pub mod Lengths
+pub mod Updates

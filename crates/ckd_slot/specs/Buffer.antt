@@ -1,0 +1,112 @@
+-- One slot at hand, and a table of its records.
+use Rattle.std.specs.Prelude.{◌≡◌, ℕ, ◌+◌, ◌-◌, ◌/◌, ◌≤◌, ◌<◌, ◌^◌, List, false, Option, Some, None, Ok, length, take, map, flat_map, slice_range, slice_index, All}
+use Rattle.ckd_track.specs.Track.{Record, Track, IsRecord, Spells, track_of, track_in, record_offsets, record_in, record_bytes, spelling}
+use Rattle.ckd_position.specs.declared.areas.Area.{Area}
+use Rattle.ckd_position.specs.declared.areas.Area.TheVariants.{HomeAddress, Of}
+use Rattle.ckd_track.specs.Changes.{IsZeroFrom}
+use Rattle.ckd_track.specs.Charges.{capacity_left}
+use Rattle.ckd_slot.specs.declared.windows.Window.{Window}
+use Rattle.ckd_slot.specs.declared.charges.Charged.{Charged}
+use Rattle.ckd_position.specs.declared.extents.Extent.{Extent}
+use Rattle.ckd_position.specs.declared.extents.Extent.TheVariants as extent
+use Rattle.ckd_position.specs.Contents.{Sighted, is_readable, records_on}
+
+-- these bytes stand there in the slot
+pub record Lies (slot : List ℕ) (w : Window) (bytes : List ℕ) : Type 0 where
+  pub within : w.start + w.len ≤ length slot
+  pub size : length bytes ≡ w.len
+  pub here : slice_range slot w.start (w.start + w.len) ≡ bytes
+
+-- the table begins with the offsets of the records that the slot spells
+pub record Tabled (slot offsets : List ℕ) (n : ℕ) : Type 0 where
+  pub read : track_of slot ≡ Ok (track_in slot)
+  pub spells : Spells slot (track_in slot)
+  pub within : n ≤ length offsets
+  pub table : take n offsets ≡ record_offsets (track_in slot)
+
+abbrev pub IsRead : List ℕ → List ℕ → Option ℕ → Type 0
+IsRead slot offsets (Some n) = Tabled slot offsets n
+IsRead slot offsets None = is_readable (track_of slot) ≡ false
+
+pub record IsIndexed (slot offsets : List ℕ) (records : Option ℕ) : Type 0 where
+  pub room : (length slot - 5) / 8 ≤ length offsets
+  pub size : length slot < 2 ^ 32
+  pub read : IsRead slot offsets records
+
+-- so much of the capacity is left by the first records, so many of them, where others follow them
+abbrev pub IsCharged : List Record → Charged → Type 0
+IsCharged rs c = c.left ≡ capacity_left c.model (take c.records rs)
+
+-- a slot with its table and what its first records leave of the capacity, of which only the bytes before an offset can be other than zero
+pub record IsBuffer (slot offsets : List ℕ) (records : Option ℕ) (zeros_from : ℕ) (charged : Charged) : Type 0 where
+  pub indexed : IsIndexed slot offsets records
+  pub cleared : IsZeroFrom slot zeros_from
+  pub charges : IsCharged (track_in slot).records charged
+
+-- where these bytes of the home address stand
+abbrev pub home_address_place : Extent → Window
+home_address_place extent.HomeAddress = record { start = 0; len = 5 }
+home_address_place extent.CylinderAndHead = record { start = 1; len = 4 }
+home_address_place _ = record { start = 0; len = 0 }
+
+-- where these bytes of a record stand, by where its count area stands and by the lengths of its key and data
+abbrev pub record_place : Extent → (at key data_bytes : ℕ) → Window
+record_place extent.Identifier at key data_bytes = record { start = at; len = 5 }
+record_place extent.Count at key data_bytes = record { start = at; len = 8 }
+record_place extent.Key at key data_bytes = record { start = at + 8; len = key }
+record_place extent.Data at key data_bytes = record { start = at + 8 + key; len = data_bytes }
+record_place extent.KeyAndData at key data_bytes = record { start = at + 8; len = key + data_bytes }
+record_place extent.CountKeyAndData at key data_bytes = record { start = at; len = 8 + key + data_bytes }
+record_place _ at key data_bytes = record { start = 0; len = 0 }
+
+-- the window is where these bytes of a record of the track stand
+abbrev pub IsPlaceOf : Extent → Track → Area → Window → Type 0
+IsPlaceOf e t HomeAddress w = Unit {0}
+IsPlaceOf e t (Of part i) w = i < length t.records → w ≡ record_place e (slice_index (record_offsets t) i) (length (record_in t i).key_area) (length (record_in t i).data_area)
+
+-- record i stands there, or is not there
+abbrev pub StandsThere : List ℕ → ℕ → Option ℕ → Type 0
+StandsThere slot i None = length (records_on (track_of slot)) ≤ i
+StandsThere slot i (Some at) = (i < length (track_in slot).records) × (at ≡ slice_index (record_offsets (track_in slot)) i)
+
+-- the area is one of the track's, or one of which no bytes are asked where it is none of the track's
+abbrev pub HasBytes : Extent → Sighted → Area → Type 0
+HasBytes extent.Count t (Of part i) = i < length (records_on t)
+HasBytes extent.CountKeyAndData t (Of part i) = i < length (records_on t)
+HasBytes e t a = Unit {0}
+
+-- how many bytes the key and the data of each record have
+abbrev pub lengths_on : Track → List (ℕ × ℕ)
+lengths_on t = map (λ r. (length r.key_area, length r.data_area)) t.records
+
+-- a slot whose records have keys and data as long as those of another, and so stand where those do
+pub record SameRecords (old new : List ℕ) : Type 0 where
+  pub old_read : track_of old ≡ Ok (track_in old)
+  pub spells : Spells new (track_in new)
+  pub read : track_of new ≡ Ok (track_in new)
+  pub lengths : lengths_on (track_in new) ≡ lengths_on (track_in old)
+
+-- a track whose records can be spelled, and which a slot of this size holds
+pub record FitsSlot (size : ℕ) (t : Track) : Type 0 where
+  pub home_address : length t.home_address ≡ 5
+  pub records : All IsRecord t.records
+  pub room : length (spelling t) ≤ size
+
+-- what an update changes
+abbrev pub IsUpdate : Extent → Type 0
+IsUpdate extent.Data = Unit {0}
+IsUpdate extent.KeyAndData = Unit {0}
+IsUpdate _ = ⊥
+
+-- where so many records end
+abbrev pub end_of_records : Track → ℕ → ℕ
+end_of_records t n = length t.home_address + length (flat_map record_bytes (take n t.records))
+
+abbrev pub IsRecordOf : Track → Area → Type 0
+IsRecordOf t (Of part i) = i < length t.records
+IsRecordOf t HomeAddress = ⊥
+
+-- how many records stand before one that is made behind this one
+abbrev pub number_up_to : Option ℕ → ℕ
+number_up_to None = 0
+number_up_to (Some i) = i + 1

@@ -1,0 +1,386 @@
+//! The slot of one track at hand, with a table of where its records stand.
+
+ghost use Rattle.std.specs.Prelude.{◌≡◌, ◌≤◌, ◌<◌, ◌+◌, ◌-◌, ◌/◌, ◌^◌, ◌++◌, ◌==◌, max, length, take, drop, replicate, bytes_eq, false, slice_index_or, IfOk, OnOk, OnErr, Ok, Some, [], true, IsSome};
+ghost use Rattle.ckd_track.specs.Track.{track_of, track_in, track_or_none, no_track, spelling, slot_of, end_mark, key_length as key_length_of, data_length as data_length_of, IsRecord};
+ghost use Rattle.ckd_track.specs.Geometry.{tracks_of};
+ghost use Rattle.ckd_position.specs.Areas.{next_of_kind, IsOnTrack, IfFound};
+ghost use Rattle.ckd_track.specs.Changes.{overwritten, ended_at, bare_track, kept_records};
+ghost use Rattle.ckd_track.specs.Charges.{has_room};
+ghost use Rattle.ckd_track.specs.Model.{capacity_of};
+ghost use Rattle.std.specs.Option.{ForSome};
+ghost use Rattle.ckd_position.specs.Contents.{records_on, bytes_of, is_readable as reads, has_no_data as lacks_data, formatted as track_formatted, with_record_changed, replaced, kept as kept_on, record_before as before_of};
+ghost use Rattle.ckd_slot.specs.Buffer.{Lies, HasBytes, IsPlaceOf, StandsThere, home_address_place, record_place, IsRead, end_of_records, number_up_to, IsRecordOf, SameRecords, FitsSlot, IsUpdate};
+
+use crate::charges::Charged;
+use crate::windows::Window;
+use ckd_image::{Image, ImageStore, StoreFault};
+use ckd_position::{Area, Extent, Kind, Next, Position, next_area};
+use ckd_track::{
+    COUNT_LENGTH, DriveModel, RECORDS_START, body_length, clear_area, data_length, fits_behind,
+    format_record, index_slot, key_length, lengths, overwrite, put_home_address, view_at,
+};
+use std::alloc::{AllocError, Global};
+use std::marker::Model;
+
+/// A slot, and where its records stand. It is seen as the slot's bytes.
+#[derive(Drop)]
+pub struct TrackBuffer {
+    slot: Vec<u8>,
+    /// The offsets of the records' count areas, in order, where the slot reads whole.
+    offsets: Vec<u32>,
+    /// How many records it has, or `None` where it does not read whole.
+    records: Option<usize>,
+    /// From here on all bytes of the slot are zero, so that nothing is left there to be cleared.
+    zeros_from: usize,
+    /// What its first records leave of the capacity, as far as it was asked.
+    charged: Charged,
+}
+
+impl Model for TrackBuffer {
+    ghost use Rattle.std.specs.Prelude.{List, ℕ};
+    ghost use Rattle.ckd_slot.specs.Buffer.{IsBuffer};
+
+    ghost Value = { List ℕ };
+
+    ghost view = { λ b. b.slot.items };
+
+    ghost invariant = { λ b. IsBuffer b.slot.items b.offsets.items b.records b.zeros_from b.charged };
+}
+
+// Notes where the records stand, and answers how many there are if the slot reads whole.
+fn index(slot: &[u8], offsets: &mut [u32]) -> Option<usize>
+    requires size { length slot.now < 2 ^ 32 }
+    requires room { (length slot.now - 5) / 8 ≤ length offsets.old }
+    ensures { IsRead slot.now offsets.new result }
+{
+    index_slot(slot, offsets).ok()
+}
+
+// How many records stand before one that is made behind this one.
+fn records_up_to(before: Option<usize>) -> usize
+    requires { ForSome before (λ i. i < 2 ^ 32) }
+    ensures { result ≡ number_up_to before }
+{
+    match before {
+        Some(i) => i + 1,
+        None => 0,
+    }
+}
+
+// The record behind which a formatting write makes its own.
+fn record_before(after: Option<Area>) -> Option<usize>
+    ensures { result ≡ before_of after }
+{
+    match after {
+        Some(Area::Of(_, i)) => Some(i),
+        _ => None,
+    }
+}
+
+// The only area of a track that does not read whole.
+fn only_home_address(position: Position, kind: Kind) -> Next
+    ensures { result ≡ next_of_kind no_track position kind }
+{
+    match (position, kind) {
+        (Position::AtIndex, Kind::HomeAddress) => Next::Found(Area::HomeAddress),
+        _ => Next::IndexPassed,
+    }
+}
+
+// Where these bytes of the home address stand.
+fn home_address_window(extent: Extent) -> Window
+    ensures { result ≡ home_address_place extent }
+{
+    match extent {
+        Extent::HomeAddress => Window {
+            start: 0,
+            len: RECORDS_START,
+        },
+        Extent::CylinderAndHead => Window {
+            start: 1,
+            len: RECORDS_START - 1,
+        },
+        _ => Window { start: 0, len: 0 },
+    }
+}
+
+// Where these bytes of the record at an offset stand.
+#[inline(always)]
+fn record_window(slot: &[u8], at: usize, extent: Extent) -> Window
+    requires room { at + 8 ≤ length slot.now }
+    requires size { length slot.now < 2 ^ 32 }
+    ensures { result ≡ record_place extent at (key_length_of (drop at slot.now)) (data_length_of (drop at slot.now)) }
+{
+    let count = &slot[at..];
+    let key = key_length(count);
+    let data = data_length(count);
+    let (start, len) = match extent {
+        Extent::Identifier => (at, 5),
+        Extent::Count => (at, COUNT_LENGTH),
+        Extent::Key => (at + COUNT_LENGTH, key),
+        Extent::Data => (at + COUNT_LENGTH + key, data),
+        Extent::KeyAndData => (at + COUNT_LENGTH, key + data),
+        Extent::CountKeyAndData => (at, COUNT_LENGTH + key + data),
+        Extent::Nothing | Extent::CylinderAndHead | Extent::HomeAddress => (0, 0),
+    };
+    Window { start, len }
+}
+
+// The same, and whether the record has no data.
+#[inline(always)]
+fn record_part(slot: &[u8], at: usize, extent: Extent) -> (Window, bool)
+    requires room { at + 8 ≤ length slot.now }
+    requires size { length slot.now < 2 ^ 32 }
+    ensures place { result.0 ≡ record_place extent at (key_length_of (drop at slot.now)) (data_length_of (drop at slot.now)) }
+    ensures no_data { result.1 ≡ (data_length_of (drop at slot.now) == 0) }
+{
+    (
+        record_window(slot, at, extent),
+        record_window(slot, at, Extent::Data).len == 0,
+    )
+}
+
+impl TrackBuffer {
+    /// A buffer for slots of this size, and a table that has room for the records of any of them.
+    ///
+    /// # Errors
+    ///
+    /// Where there is no such memory.
+    pub fn new(alloc: Global, size: u32) -> Result<TrackBuffer, AllocError>
+        ensures { IfOk result (λ b. length b ≡ size) }
+    {
+        let size = size as usize;
+        let slot = vec![in alloc; 0; size]?;
+        let mut offsets = vec![in alloc; 0; size / COUNT_LENGTH]?;
+        let records = index(&slot, &mut offsets);
+        Ok(TrackBuffer {
+            slot,
+            offsets,
+            records,
+            zeros_from: size,
+            charged: Charged::none(DriveModel::D2314),
+        })
+    }
+
+    /// The slot's bytes.
+    pub fn bytes(&self) -> &[u8]
+        ensures { result.now ≡ self.now }
+    {
+        &self.slot
+    }
+
+    /// Loads the slot of a track.
+    ///
+    /// # Errors
+    ///
+    /// Where the image's store fails. Then the buffer holds any bytes.
+    // By itself, since most looks find their track at hand.
+    #[inline(never)]
+    pub fn load<S: ImageStore>(
+        &mut self,
+        image: &mut Image<S>,
+        track: u32,
+    ) -> Result<(), StoreFault>
+        requires exists { track < tracks_of image.old.geometry }
+        requires size { length self.old ≡ image.old.geometry.track_size }
+        ensures slot { OnOk result (self.new ≡ slice_index_or image.old.slots track []) }
+        ensures ok { OnOk result (image.new ≡ record image.old { loads = image.old.loads + 1 }) }
+        ensures err { OnErr result (image.new ≡ record image.old { loads = image.old.loads + 1; failures = image.old.failures + 1 }) }
+        ensures length { length self.new ≡ length self.old }
+    {
+        let answer = image.load(track, &mut self.slot);
+        self.zeros_from = self.slot.len();
+        self.records = index(&self.slot, &mut self.offsets);
+        self.charged.keep(0);
+        answer
+    }
+
+    /// Whether the slot reads whole.
+    pub fn is_readable(&self) -> bool
+        ensures { result ≡ reads (track_of self.now) }
+    {
+        self.records.is_some()
+    }
+
+    /// The next area of this kind behind the position. A slot that does not read whole has no more than its home address.
+    #[inline(always)]
+    pub fn next_area(&self, position: Position, kind: Kind) -> Next
+        ensures next { result ≡ next_of_kind (track_or_none (track_of self.now)) position kind }
+        ensures on_track { IfFound result (IsOnTrack (track_or_none (track_of self.now))) }
+    {
+        match self.records {
+            Some(n) => next_area(&view_at(&self.slot, &self.offsets[..n]), position, kind),
+            None => only_home_address(position, kind),
+        }
+    }
+
+    /// Where these bytes of an area stand; an empty part where there are none.
+    pub fn window(&self, extent: Extent, area: Area) -> Window
+        requires readable { reads (track_of self.now) ≡ true }
+        requires on_track { HasBytes extent (track_of self.now) area }
+        ensures lies { Lies self.now result (bytes_of extent (track_of self.now) area) }
+        ensures place { IsPlaceOf extent (track_in self.now) area result }
+    {
+        self.part(extent, area).0
+    }
+
+    /// Whether the area's record has no data, or is not there.
+    pub fn has_no_data(&self, area: Area) -> bool
+        requires { reads (track_of self.now) ≡ true }
+        ensures { result ≡ lacks_data (track_of self.now) (Some area) }
+    {
+        self.part(Extent::Nothing, area).1
+    }
+
+    /// Where these bytes of an area stand, an empty part where there are none; and whether its record has no data, or is
+    /// not there.
+    #[inline(always)]
+    pub fn part(&self, extent: Extent, area: Area) -> (Window, bool)
+        requires readable { reads (track_of self.now) ≡ true }
+        requires on_track { HasBytes extent (track_of self.now) area }
+        ensures lies { Lies self.now result.0 (bytes_of extent (track_of self.now) area) }
+        ensures place { IsPlaceOf extent (track_in self.now) area result.0 }
+        ensures no_data { result.1 ≡ lacks_data (track_of self.now) (Some area) }
+    {
+        match area {
+            Area::HomeAddress => (home_address_window(extent), false),
+            Area::Of(_, i) => match self.offset_of(i) {
+                Some(at) => record_part(&self.slot, at, extent),
+                None => (Window { start: 0, len: 0 }, true),
+            },
+        }
+    }
+
+    // Where record `i` stands, if it is there.
+    fn offset_of(&self, i: usize) -> Option<usize>
+        requires { reads (track_of self.now) ≡ true }
+        ensures { StandsThere self.now i result }
+    {
+        let Some(n) = self.records else {
+            return None;
+        };
+        if i >= n {
+            return None;
+        }
+        Some(self.offsets[i] as usize)
+    }
+
+    // Where the first records end, so many of them.
+    fn end_of(&self, records: usize) -> usize
+        requires readable { reads (track_of self.now) ≡ true }
+        requires there { records ≤ length (track_in self.now).records }
+        ensures place { result ≡ end_of_records (track_in self.now) records }
+        ensures room { result + 8 ≤ length self.now }
+    {
+        // a slot that reads whole has a home address and an end mark, also where no record stands
+        let _slot = &self.slot;
+        if records == 0 {
+            return RECORDS_START;
+        }
+        match self.offset_of(records - 1) {
+            Some(at) => at + record_window(&self.slot, at, Extent::CountKeyAndData).len,
+            None => RECORDS_START,
+        }
+    }
+
+    // The record behind which a formatting write makes its own, as far as the track has it.
+    fn before(&self, after: Option<Area>) -> Option<usize>
+        requires { reads (track_of self.now) ≡ true }
+        ensures kept { kept_records result (track_in self.now) ≡ kept_on (track_of self.now) after }
+        ensures there { ForSome result (λ i. i < length (track_in self.now).records) }
+    {
+        let Some(i) = record_before(after) else {
+            return None;
+        };
+        let n = self.records.unwrap_or(0);
+        if n == 0 {
+            return None;
+        }
+        Some(i.min(n - 1))
+    }
+
+    /// Whether a new record with these count bytes fits.
+    ///
+    /// What the records take is kept from one such question to the next, so that those that are formatted one behind
+    /// another are each counted once.
+    pub fn fits(&mut self, model: DriveModel, after: Option<Area>, count: [u8; 8]) -> bool
+        requires { reads (track_of self.old) ≡ true }
+        ensures value { result ≡ has_room model (kept_on (track_of self.old) after) (key_length_of count) (data_length_of count) }
+        ensures room { result ≡ true → length (spelling (track_formatted (track_of self.old) after count)) ≤ capacity_of model + 37 }
+        ensures no_end_mark { result ≡ true → bytes_eq count end_mark ≡ false }
+        ensures stays { self.new ≡ self.old }
+    {
+        let kept = records_up_to(self.before(after));
+        let n = self.records.unwrap_or(0);
+        let view = view_at(&self.slot, &self.offsets[..n]);
+        self.charged.reach(model, &view, kept);
+        let (kl, dl) = lengths(&count);
+        fits_behind(model, kept, self.charged.left, kl, dl)
+    }
+
+    /// Writes the home address, and removes all records.
+    pub fn write_home_address(&mut self, home_address: [u8; 5])
+        requires { 13 ≤ length self.old }
+        ensures slot { self.new ≡ slot_of (length self.old) (bare_track home_address) }
+        ensures size { length self.new ≡ length self.old }
+    {
+        put_home_address(&mut self.slot, &home_address, self.zeros_from);
+        self.records = Some(0);
+        self.zeros_from = RECORDS_START + COUNT_LENGTH;
+        self.charged.keep(0);
+    }
+
+    /// Writes a record of these count bytes behind the kept ones, with zeros in its key and data, removes all records
+    /// behind it, and answers its number.
+    pub fn format(&mut self, after: Option<Area>, count: [u8; 8]) -> usize
+        requires readable { reads (track_of self.old) ≡ true }
+        requires no_end_mark { bytes_eq count end_mark ≡ false }
+        requires room { length (spelling (track_formatted (track_of self.old) after count)) ≤ length self.old }
+        ensures slot { self.new ≡ slot_of (length self.old) (track_formatted (track_of self.old) after count) }
+        ensures number { result ≡ length (kept_on (track_of self.old) after) }
+        ensures fits { FitsSlot (length self.old) (track_formatted (track_of self.old) after count) }
+        ensures size { length self.new ≡ length self.old }
+    {
+        let kept = records_up_to(self.before(after));
+        let at = self.end_of(kept);
+        let body = body_length(&count);
+        format_record(&mut self.slot, at, &count, body, self.zeros_from);
+        self.offsets[kept] = at as u32;
+        self.records = Some(kept + 1);
+        self.zeros_from = at + COUNT_LENGTH + body + COUNT_LENGTH;
+        self.charged.keep(kept);
+        kept
+    }
+
+    /// Puts zeros in the place of the bytes of a record's area, and behind the end mark.
+    pub fn clear(&mut self, extent: Extent, area: Area)
+        requires readable { reads (track_of self.old) ≡ true }
+        requires update { IsUpdate extent }
+        requires there { IsRecordOf (track_in self.old) area }
+        ensures slot { self.new ≡ slot_of (length self.old) (with_record_changed (replaced extent []) area (track_in self.old)) }
+        ensures fits { FitsSlot (length self.old) (with_record_changed (replaced extent []) area (track_in self.old)) }
+        ensures size { length self.new ≡ length self.old }
+    {
+        let window = self.window(extent, area);
+        let end = self.end_of(self.records.unwrap_or(0));
+        clear_area(
+            &mut self.slot,
+            window.start,
+            window.len,
+            end,
+            self.zeros_from,
+        );
+        self.zeros_from = end + COUNT_LENGTH;
+    }
+
+    /// Puts other bytes into the slot, where its records keep their lengths, and so their places.
+    pub fn put(&mut self, at: usize, bytes: &[u8])
+        requires room { at + length bytes.now ≤ length self.old }
+        requires records { SameRecords self.old (overwritten self.old at bytes.now) }
+        ensures slot { self.new ≡ overwritten self.old at bytes.now }
+        ensures size { length self.new ≡ length self.old }
+    {
+        overwrite(&mut self.slot, at, bytes);
+        self.zeros_from = self.zeros_from.max(at + bytes.len());
+    }
+}
