@@ -3,8 +3,7 @@
 ghost use Rattle.std.specs.Prelude.{◌≡◌, [], true, false, length};
 ghost use Rattle.ckd_drive.specs.Work.{is_idle, may_end, passed_of};
 
-use ckd_drive::answers::{Begun, Look, Phase};
-use ckd_drive::drive::Drive;
+use ckd_drive::{Begun, Drive, Look, Phase};
 use ckd_image::MemoryStore;
 
 /// How often the index may pass before a command is given up: a track may pass twice, and each of a cylinder's once.

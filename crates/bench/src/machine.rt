@@ -6,7 +6,7 @@ ghost use Rattle.s360_program.specs.Stands.{Stands};
 use crate::programs::{MOST_CALLS, Machine, Program, SIZE};
 use crate::tally::ProgramTally;
 use crate::volume::Disk;
-use ckd_drive::drive::Drive;
+use ckd_drive::Drive;
 use ckd_image::MemoryStore;
 use s360_program::program::{Running, Start};
 use s360_words::{Csw, Storage};

@@ -6,7 +6,7 @@ ghost use Rattle.s360_program.specs.Advances.{Rests};
 
 use crate::commands::{find, give, give_up, look_again, take};
 use crate::tally::Tally;
-use ckd_drive::drive::Drive;
+use ckd_drive::Drive;
 use ckd_image::{Image, MemoryStore, image_len};
 use ckd_track::DriveModel;
 use s360_words::UnitStatus;

@@ -4,9 +4,9 @@ use Rattle.std.specs.Prelude.{if◌then◌else◌, slice_index}
 use Rattle.std.proofs.lemmas.Bool.Decides.{nat_tests}
 use Rattle.std.proofs.lemmas.List.{get_or_append_left}
 use Rattle.ckd_command.specs.declared.registers.Registers.{Registers}
-use Rattle.ckd_command.specs.declared.steps.Action.{Action}
-use Rattle.ckd_command.specs.declared.steps.Action.TheVariants as action
-use Rattle.ckd_command.specs.declared.steps.Opened.{Opened}
+use Rattle.ckd_command.specs.declared.tables.Action.{Action}
+use Rattle.ckd_command.specs.declared.tables.Action.TheVariants as action
+use Rattle.ckd_command.specs.declared.begin.Opened.{Opened}
 use Rattle.ckd_command.specs.Tables.{action_of, is_giving}
 use Rattle.ckd_command.specs.Commands.{format_length, length_for, length_after, new_record_fits}
 use Rattle.ckd_command.specs.Drive.{Open, gives, given, length_of, track_under}

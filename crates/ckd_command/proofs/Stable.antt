@@ -1,9 +1,9 @@
 -- What the parts of a command come to without a fault they come to with a failed saving too, which is met later: where the track
 -- is still written, so that none was saved.
 use Rattle.std.proofs.Common.{◌≡◌, refl, sym, ap, subst, ◌∙◌, true, false, Bool, List, ℕ, Option, Some, None}
-use Rattle.ckd_command.specs.declared.steps.Aim.{Aim}
-use Rattle.ckd_command.specs.declared.steps.Aim.TheVariants.{NoArea, Next, Credited}
-use Rattle.ckd_command.specs.declared.steps.Opened.{Opened}
+use Rattle.ckd_command.specs.declared.tables.Aim.{Aim}
+use Rattle.ckd_command.specs.declared.tables.Aim.TheVariants.{NoArea, Next, Credited}
+use Rattle.ckd_command.specs.declared.begin.Opened.{Opened}
 use Rattle.ckd_command.specs.Beginnings.{Beginning}
 use Rattle.ckd_command.specs.Beginnings as beginning
 use Rattle.ckd_command.specs.Sights.{Sight}

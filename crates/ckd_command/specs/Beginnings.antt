@@ -1,7 +1,7 @@
 -- What a command code leads to, with what the drive remembers then.
 use Rattle.std.specs.Prelude.{Option}
 use Rattle.ckd_command.specs.declared.registers.Registers.{Registers}
-use Rattle.ckd_command.specs.declared.steps.Opened.{Opened}
+use Rattle.ckd_command.specs.declared.begin.Opened.{Opened}
 
 -- what a command code leads to: the command is not begun, and the sense tells why; it is over at once; it works; or the
 -- arm goes to cylinder 0, head 0 first, where a command is over that has no more to do, and another works

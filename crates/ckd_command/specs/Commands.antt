@@ -29,14 +29,14 @@ use Rattle.ckd_command.specs.declared.registers.Registers.{Registers}
 use Rattle.ckd_command.specs.declared.registers.Credit.TheVariants.{WroteHomeAddress, WroteRecord}
 use Rattle.ckd_command.specs.declared.registers.Lap.{Lap}
 use Rattle.ckd_command.specs.declared.registers.Lap.TheVariants.{First, Second}
-use Rattle.ckd_command.specs.declared.steps.Aim.{Aim}
-use Rattle.ckd_command.specs.declared.steps.Aim.TheVariants.{Next, Credited}
-use Rattle.ckd_command.specs.declared.steps.Opened.{Opened}
+use Rattle.ckd_command.specs.declared.tables.Aim.{Aim}
+use Rattle.ckd_command.specs.declared.tables.Aim.TheVariants.{Next, Credited}
+use Rattle.ckd_command.specs.declared.begin.Opened.{Opened}
 use Rattle.ckd_command.specs.Beginnings.{Beginning, Rejected, Immediate, Started, ToCylinderZero}
 use Rattle.ckd_command.specs.Sights.{Sight, Found, IndexPassed, NextHead, Missed}
-use Rattle.ckd_command.specs.Steps.{Outcome, moved_to}
-use Rattle.ckd_command.specs.declared.steps.Action.{Action}
-use Rattle.ckd_command.specs.declared.steps.Action.TheVariants as action
+use Rattle.ckd_command.specs.Steps.{CommandEnd, moved_to}
+use Rattle.ckd_command.specs.declared.tables.Action.{Action}
+use Rattle.ckd_command.specs.declared.tables.Action.TheVariants as action
 use Rattle.ckd_position.specs.declared.extents.Extent.{Extent}
 use Rattle.ckd_position.specs.Contents.{Sighted, is_readable, bytes_of, kept, has_no_data, replaced, with_record_changed, formatted}
 use Rattle.ckd_command.specs.Tables.{aim, credited, credit_of_search, action_of, extent_of, is_search, comparison, area_left, ends_with_data, needs_readable}
@@ -303,8 +303,8 @@ close_by action.Update g t o r b = update (replaced (extent_of o.command) b) t o
 close_by _ g t o r b = end_of_area t o r
 
 -- the same but for the track
-abbrev pub outcome : Closing → Outcome
-outcome c = record { registers = c.registers; ending = record { unit = record { 0 = c.unit }; motion = c.motion }; moves_off = c.moves_off }
+abbrev pub command_end : Closing → CommandEnd
+command_end c = record { registers = c.registers; ending = record { unit = record { 0 = c.unit }; motion = c.motion }; moves_off = c.moves_off }
 
 -- the command where exactly the bytes b have passed in all
 unfoldable pub closing : Geometry → Sighted → Opened → Registers → List ℕ → Closing

@@ -3,20 +3,20 @@ use Rattle.std.specs.Prelude.{◌≡◌, ℕ, ◌+◌, Bool, true, false, Option
 use Rattle.ckd_position.specs.declared.areas.Position.TheVariants.{AtIndex}
 use Rattle.ckd_command.specs.declared.registers.Registers.{Registers}
 use Rattle.ckd_command.specs.declared.registers.Lap.TheVariants.{First}
-use Rattle.ckd_command.specs.declared.steps.Opened.{Opened}
-use Rattle.ckd_command.specs.declared.steps.DriveEnding.{DriveEnding}
+use Rattle.ckd_command.specs.declared.begin.Opened.{Opened}
+use Rattle.ckd_command.specs.declared.close.DriveEnding.{DriveEnding}
 use Rattle.ckd_command.specs.Beginnings.{Beginning, Rejected, Immediate, Started, ToCylinderZero}
 use Rattle.ckd_command.specs.Sights.{Sight, Found, IndexPassed, NextHead, Missed}
-use Rattle.ckd_command.specs.declared.steps.Start.{Start}
-use Rattle.ckd_command.specs.declared.steps.Start.TheVariants as start
-use Rattle.ckd_command.specs.declared.steps.Seen.{Seen}
-use Rattle.ckd_command.specs.declared.steps.Seen.TheVariants as seen
-use Rattle.ckd_command.specs.declared.steps.Closed.{Closed}
-use Rattle.ckd_command.specs.declared.steps.Closed.TheVariants.{Stays, Moves}
+use Rattle.ckd_command.specs.declared.begin.Start.{Start}
+use Rattle.ckd_command.specs.declared.begin.Start.TheVariants as start
+use Rattle.ckd_command.specs.declared.look.Seen.{Seen}
+use Rattle.ckd_command.specs.declared.look.Seen.TheVariants as seen
+use Rattle.ckd_command.specs.declared.close.Closed.{Closed}
+use Rattle.ckd_command.specs.declared.close.Closed.TheVariants.{Stays, Moves}
 
 -- how a command closes, but for what it wrote: what the drive remembers, what the channel sees, and whether the arm or
 -- the head leaves the track, which is saved first
-pub record Outcome : Type 0 where
+pub record CommandEnd : Type 0 where
   pub registers : Registers
   pub ending : DriveEnding
   pub moves_off : Bool
@@ -39,7 +39,7 @@ seen_as seen.IndexPassed o r = IndexPassed r
 seen_as seen.NextHead o r = NextHead (moved_to r r.cylinder (r.head + 1))
 seen_as seen.Missed o r = Missed r
 
-abbrev pub closed_as : Closed → Registers → Outcome
+abbrev pub closed_as : Closed → Registers → CommandEnd
 closed_as (Stays unit) r = record { registers = r; ending = record { unit = unit; motion = false }; moves_off = false }
 closed_as (Moves cylinder head ending) r = record { registers = moved_to r cylinder head; ending = ending; moves_off = true }
 

@@ -1,17 +1,52 @@
 //! The commands as tables (component descriptions of the 2841 and the 2314, the sections of the commands).
 
 ghost use Rattle.std.specs.Prelude.{◌≡◌};
-ghost use Rattle.ckd_command.specs.Tables.{aim as aim_of, credited as credited_area, credit_of_search as credit_left, action_of, extent_of, is_search as searches, comparison as comparison_of, area_left as left_area, ends_with_data as tells_of_data, is_giving as gives};
+ghost use Rattle.ckd_command.specs.Tables.{aim as aim_by, credited as credited_area, credit_of_search as credit_left, action_of as action_by, extent_of, is_search as searches, comparison as comparison_of, area_left as left_area, ends_with_data as tells_of_data, is_giving as gives};
 
 use crate::registers::Credit;
-use crate::steps::{Action, Aim};
 use ckd_position::{Area, Compare, Extent, Kind, Part};
 use ckd_sense::Command;
 
 /// What a command works on.
+#[derive(Clone, Copy, Debug, PartialEq, Eq)]
+pub enum Aim {
+    /// No area of the track.
+    NoArea,
+    /// The next area of this kind behind the position.
+    Next(Kind),
+    /// The area that the sequence credit names.
+    Credited,
+}
+
+/// What a command does with the bytes that pass.
+#[derive(Clone, Copy, Debug, PartialEq, Eq)]
+pub enum Action {
+    /// None pass.
+    NoTransfer,
+    /// It takes a seek address, and moves the arm to its cylinder and head.
+    SeekCylinderAndHead,
+    /// It takes a seek address, and takes its head.
+    SeekHead,
+    /// It takes the mask byte.
+    SetFileMask,
+    /// It gives the sense bytes.
+    GiveSense,
+    /// It compares them with the area.
+    Search,
+    /// It gives those of the area.
+    Read,
+    /// It takes a home address, and removes all records.
+    WriteHomeAddress,
+    /// It takes count, key and data of a new record, and removes all records behind it.
+    Format,
+    /// It puts them in the place of those of the area.
+    Update,
+}
+
+/// What a command works on.
 #[inline(always)]
-pub fn aim(command: Command) -> Aim
-    ensures { result ≡ aim_of command }
+pub fn aim_of(command: Command) -> Aim
+    ensures { result ≡ aim_by command }
 {
     match command {
         Command::SearchHomeAddressEqual | Command::ReadHomeAddress | Command::WriteHomeAddress => {
@@ -43,8 +78,8 @@ pub fn aim(command: Command) -> Aim
 
 /// What a command does with the bytes that pass.
 #[inline(always)]
-pub fn action(command: Command) -> Action
-    ensures { result ≡ action_of command }
+pub fn action_of(command: Command) -> Action
+    ensures { result ≡ action_by command }
 {
     match command {
         Command::NoOperation | Command::Recalibrate => Action::NoTransfer,

@@ -10,9 +10,9 @@ use Rattle.ckd_sense.specs.Masks.{permit_of}
 use Rattle.ckd_sense.specs.Commands.{decoded}
 use Rattle.ckd_command.specs.declared.registers.Registers.{Registers}
 use Rattle.ckd_command.specs.declared.registers.Credit.{Credit}
-use Rattle.ckd_command.specs.declared.steps.Aim.{Aim}
-use Rattle.ckd_command.specs.declared.steps.Aim.TheVariants.{NoArea, Next, Credited}
-use Rattle.ckd_command.specs.declared.steps.Opened.{Opened}
+use Rattle.ckd_command.specs.declared.tables.Aim.{Aim}
+use Rattle.ckd_command.specs.declared.tables.Aim.TheVariants.{NoArea, Next, Credited}
+use Rattle.ckd_command.specs.declared.begin.Opened.{Opened}
 use Rattle.ckd_command.specs.Tables.{aim, credited}
 use Rattle.ckd_command.specs.Commands.{beginning, begin_decoded, begin_allowed, started, refusal, refusal_under, is_out_of_sequence, is_credited}
 use Rattle.ckd_cache.specs.Cache.{CacheState}

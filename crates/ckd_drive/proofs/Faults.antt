@@ -5,7 +5,7 @@ use Rattle.ckd_sense.specs.declared.sense_bytes.TheConstants.Sense.{STORE_FAULT}
 use Rattle.ckd_command.specs.declared.registers.Registers.{Registers}
 use Rattle.ckd_command.specs.declared.registers.Mark.{Mark}
 use Rattle.ckd_command.specs.declared.registers.Mark.TheVariants.{Saved, Written, Lost}
-use Rattle.ckd_command.specs.declared.steps.Opened.{Opened}
+use Rattle.ckd_command.specs.declared.begin.Opened.{Opened}
 use Rattle.ckd_command.specs.Beginnings.{ToCylinderZero}
 use Rattle.ckd_command.specs.Commands.{with_cause}
 use Rattle.ckd_command.specs.Drive.{LoadFails, SaveFails, number_under, is_written_by}

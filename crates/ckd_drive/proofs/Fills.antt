@@ -10,15 +10,15 @@ use Rattle.ckd_position.specs.declared.areas.Area.TheVariants.{Of}
 use Rattle.ckd_position.specs.declared.areas.Part.{Part}
 use Rattle.ckd_command.specs.declared.registers.Registers.{Registers}
 use Rattle.ckd_position.specs.declared.extents.Extent.{Extent}
-use Rattle.ckd_command.specs.declared.steps.Opened.{Opened}
-use Rattle.ckd_command.specs.Steps.{Outcome}
+use Rattle.ckd_command.specs.declared.begin.Opened.{Opened}
+use Rattle.ckd_command.specs.Steps.{CommandEnd}
 use Rattle.ckd_slot.specs.declared.windows.Window.{Window}
-use Rattle.ckd_drive.specs.Places.{Place, Filled, Progress}
+use Rattle.ckd_drive.specs.Transfers.{Transfer, Filled, Progress}
 use Rattle.ckd_position.specs.Contents.{Sighted, is_readable, padded, replaced, with_record_changed}
-use Rattle.ckd_command.specs.Commands.{length_after, closing, outcome}
+use Rattle.ckd_command.specs.Commands.{length_after, closing, command_end}
 use Rattle.ckd_slot.specs.Buffer.{FitsSlot, IsUpdate, SameRecords, lengths_on}
 use Rattle.ckd_cache.specs.Cache.{CacheState, with_held}
-use Rattle.ckd_drive.specs.Half.{Works, MayTake, Absorbs, IsPlaced, HasFilled, IsFilled, next_progress, slot_at, number, seen_by}
+use Rattle.ckd_drive.specs.Half.{Works, MayTake, Absorbs, IsPlaced, HasFilled, IsFilled, next_progress, slot_at, track_under, seen_by}
 use Rattle.ckd_slot.proofs.Writes.{update_offset, update_length}
 use Rattle.ckd_slot.proofs.Updates.{form_of, padded_on, same_records}
 use Rattle.ckd_drive.proofs.Numbers.{number_below}
@@ -31,9 +31,9 @@ pub length-padded : (b : List ℕ) (n : ℕ) → length b ≤ n → length (padd
 length-padded b n le = omega (arith, length-append b (replicate (n - length b) 0), length-replicate {A = ℕ} (n - length b) 0, le)
 
 -- The slot at hand has become another, made of a track.
-pub written_works : (c : CacheState) (r : Registers) (before before' passed : List ℕ) (p : Progress) (more new : List ℕ) (w : Window) (u : Outcome)
-    → Works c r before passed p → c.held ≡ Some (number c.image.geometry r) → length new ≡ c.image.geometry.track_size → p.left - length more ≤ w.len
-    → HasFilled (with_held c new) c.image.geometry r (number c.image.geometry r) p.opened before' (passed ++ more) w u
+pub written_works : (c : CacheState) (r : Registers) (before before' passed : List ℕ) (p : Progress) (more new : List ℕ) (w : Window) (u : CommandEnd)
+    → Works c r before passed p → c.held ≡ Some (track_under c.image.geometry r) → length new ≡ c.image.geometry.track_size → p.left - length more ≤ w.len
+    → HasFilled (with_held c new) c.image.geometry r (track_under c.image.geometry r) p.opened before' (passed ++ more) w u
     → Works (with_held c new) r before' (passed ++ more) (next_progress p (length more) (Filled w u))
 written_works c r before before' passed p more new w u x held size le filled =
     let goes = x.goes in
@@ -54,20 +54,20 @@ written_works c r before before' passed p more new w u x held size le filled =
       };
     }
 
-pub there : (c : CacheState) (r : Registers) (before passed : List ℕ) (p : Progress) → Works c r before passed p → number c.image.geometry r < length c.slots
+pub there : (c : CacheState) (r : Registers) (before passed : List ℕ) (p : Progress) → Works c r before passed p → track_under c.image.geometry r < length c.slots
 there c r before passed p x = rw x.volume.count (number_below c.image.geometry r x.arm)
 
 pub new_slot_at : (c : CacheState) (n : ℕ) (new : List ℕ) → c.held ≡ Some n → n < length c.slots → slot_at (with_held c new).slots n ≡ new
 new_slot_at c n new held lt = rw held (get_or-set_same c.slots n new [] lt)
 
-pub written_absorbs : (c : CacheState) (r : Registers) (before before' passed : List ℕ) (p : Progress) (more new : List ℕ) (w : Window) (u : Outcome)
-    → Works (with_held c new) r before' (passed ++ more) (next_progress p (length more) (Filled w u)) → c.held ≡ Some (number c.image.geometry r)
-    → slice_set c.slots (number c.image.geometry r) before' ≡ seen_by c.slots (number c.image.geometry r) before p.place → length passed + length more < 2 ^ 32
+pub written_absorbs : (c : CacheState) (r : Registers) (before before' passed : List ℕ) (p : Progress) (more new : List ℕ) (w : Window) (u : CommandEnd)
+    → Works (with_held c new) r before' (passed ++ more) (next_progress p (length more) (Filled w u)) → c.held ≡ Some (track_under c.image.geometry r)
+    → slice_set c.slots (track_under c.image.geometry r) before' ≡ seen_by c.slots (track_under c.image.geometry r) before p.place → length passed + length more < 2 ^ 32
     → Absorbs c (with_held c new) r before before' passed p more (Filled w u)
 written_absorbs c r before before' passed p more new w u works held seen small = record {
   works = works;
   image = refl;
-  seen_same = rw held (set-set c.slots (number c.image.geometry r) new before' ∙ seen);
+  seen_same = rw held (set-set c.slots (track_under c.image.geometry r) new before' ∙ seen);
   changed = or_true c.changed;
   still = λ _. refl;
   small = small;
@@ -88,12 +88,12 @@ reads_new size t new f e =
     (rw (e, read) refl, ap (λ (s : List ℕ). track_in s) e ∙ ap track_or_none read, ap length e ∙ length-slot_of size t f.room)
 
 -- What a command that fills an area closes to.
-pub record ClosesFilled (g : Geometry) (r : Registers) (before : List ℕ) (o : Opened) (b : List ℕ) (u : Outcome) (t0 : Track) (e : Extent) (part : Part) (i lead room : ℕ) : Type 0 where
-  pub so : outcome (closing g (track_of before) o r b) ≡ u
+pub record ClosesFilled (g : Geometry) (r : Registers) (before : List ℕ) (o : Opened) (b : List ℕ) (u : CommandEnd) (t0 : Track) (e : Extent) (part : Part) (i lead room : ℕ) : Type 0 where
+  pub so : command_end (closing g (track_of before) o r b) ≡ u
   pub written : (closing g (track_of before) o r b).written ≡ Some (with_record_changed (replaced e (padded (drop lead b) room)) (Of part i) t0)
   pub wants : length_after g (track_of before) o r b ≡ lead + room
 
-abbrev pub form_filled : (g : Geometry) (r : Registers) (before now : List ℕ) (o : Opened) (passed : List ℕ) (w : Window) (u : Outcome) (t0 : Track) (e : Extent) (part : Part) (i lead : ℕ)
+abbrev pub form_filled : (g : Geometry) (r : Registers) (before now : List ℕ) (o : Opened) (passed : List ℕ) (w : Window) (u : CommandEnd) (t0 : Track) (e : Extent) (part : Part) (i lead : ℕ)
     → IsUpdate e → FitsSlot g.track_size t0 → i < length t0.records → lengths_on (track_in now) ≡ lengths_on t0 → lead ≤ length passed → lead ≤ 8
     → w.start ≡ update_offset e t0 i + (length passed - lead) → w.len + (length passed - lead) ≡ update_length e (record_in t0 i)
     → ((more : List ℕ) → length more ≤ w.len → ClosesFilled g r before o (passed ++ more) u t0 e part i lead (update_length e (record_in t0 i)))
@@ -135,7 +135,7 @@ form_filled g r before now o passed w u t0 e part i lead upd f lt lens begins sm
 
 -- More bytes.
 
-abbrev pub filled_on : (g : Geometry) (r : Registers) (before now now' : List ℕ) (o : Opened) (passed more : List ℕ) (w : Window) (u : Outcome) → length more ≤ w.len → lengths_on (track_in now') ≡ lengths_on (track_in now)
+abbrev pub filled_on : (g : Geometry) (r : Registers) (before now now' : List ℕ) (o : Opened) (passed more : List ℕ) (w : Window) (u : CommandEnd) → length more ≤ w.len → lengths_on (track_in now') ≡ lengths_on (track_in now)
     → IsFilled g r before now o passed w u → IsFilled g r before now' o (passed ++ more) (record { start = w.start + length more; len = w.len - length more }) u
 filled_on g r before now now' o passed more w u le lens f =
     let far = length-append passed more in
@@ -164,25 +164,25 @@ pub next_made : (old head tail mid more : List ℕ) (room start : ℕ) → old �
 next_made old head tail mid more room start is at le = rw (is, ← at) (padded_on head tail mid more room le)
 
 -- the slot that a filled track has next
-pub record NextSlot (c : CacheState) (r : Registers) (before passed : List ℕ) (p : Progress) (more : List ℕ) (w : Window) (u : Outcome) : Type 0 where
-  pub held : c.held ≡ Some (number c.image.geometry r)
+pub record NextSlot (c : CacheState) (r : Registers) (before passed : List ℕ) (p : Progress) (more : List ℕ) (w : Window) (u : CommandEnd) : Type 0 where
+  pub held : c.held ≡ Some (track_under c.image.geometry r)
   pub le : length more ≤ w.len
   pub room : w.start + length more ≤ c.image.geometry.track_size
-  pub records : SameRecords (slot_at c.slots (number c.image.geometry r)) (overwritten (slot_at c.slots (number c.image.geometry r)) w.start more)
-  pub absorbs : Absorbs c (with_held c (overwritten (slot_at c.slots (number c.image.geometry r)) w.start more)) r before before passed p more (Filled (record { start = w.start + length more; len = w.len - length more }) u)
+  pub records : SameRecords (slot_at c.slots (track_under c.image.geometry r)) (overwritten (slot_at c.slots (track_under c.image.geometry r)) w.start more)
+  pub absorbs : Absorbs c (with_held c (overwritten (slot_at c.slots (track_under c.image.geometry r)) w.start more)) r before before passed p more (Filled (record { start = w.start + length more; len = w.len - length more }) u)
 
 next_bytes : (lead : ℕ) (passed more : List ℕ) → lead ≤ length passed → drop lead (passed ++ more) ≡ drop lead passed ++ more
 next_bytes lead passed more le = drop-append-le lead passed more le
 
-pub filled_absorbs : (c : CacheState) (r : Registers) (before passed : List ℕ) (p : Progress) (more : List ℕ) (w : Window) (u : Outcome)
+pub filled_absorbs : (c : CacheState) (r : Registers) (before passed : List ℕ) (p : Progress) (more : List ℕ) (w : Window) (u : CommandEnd)
     → Works c r before passed p → MayTake p more → p.place ≡ Filled w u → NextSlot c r before passed p more w u
 filled_absorbs c r before passed p more w u x may at =
     let g = c.image.geometry in
-    let n : ℕ = number g r in
+    let n : ℕ = track_under g r in
     let goes = x.goes in
     let left : p.left ≤ w.len = rw at at goes.left in
     let le : length more ≤ w.len = omega (arith, left, may.room) in
-    let P : Place → Type 0 = λ y. IsPlaced c g r n p.opened before passed y in
+    let P : Transfer → Type 0 = λ y. IsPlaced c g r n p.opened before passed y in
     let h : HasFilled c g r n p.opened before passed w u = subst P at goes.placed in
     let f = h.filled in
     let old = slot_at c.slots n in

@@ -5,17 +5,17 @@ use Rattle.ckd_track.specs.declared.geometries.Geometry.{Geometry}
 use Rattle.ckd_sense.specs.declared.commands.Command.{Command}
 use Rattle.ckd_sense.specs.declared.commands.Command.TheVariants as command
 use Rattle.ckd_command.specs.declared.registers.Registers.{Registers}
-use Rattle.ckd_command.specs.declared.steps.Aim.TheVariants.{NoArea}
-use Rattle.ckd_command.specs.declared.steps.Action.{Action}
-use Rattle.ckd_command.specs.declared.steps.Action.TheVariants as action
+use Rattle.ckd_command.specs.declared.tables.Aim.TheVariants.{NoArea}
+use Rattle.ckd_command.specs.declared.tables.Action.{Action}
+use Rattle.ckd_command.specs.declared.tables.Action.TheVariants as action
 use Rattle.ckd_position.specs.declared.extents.Extent.TheVariants as extent
-use Rattle.ckd_command.specs.declared.steps.Opened.{Opened}
+use Rattle.ckd_command.specs.declared.begin.Opened.{Opened}
 use Rattle.ckd_command.specs.Sights.{Found}
 use Rattle.ckd_slot.specs.declared.windows.Window.{Window}
-use Rattle.ckd_drive.specs.Places.{Place, Sense, Field, Read, Search, Fill, Filled}
+use Rattle.ckd_drive.specs.Transfers.{Transfer, Sense, Field, Read, Search, Fill, Filled}
 use Rattle.ckd_command.specs.Tables.{action_of, extent_of, aim}
 use Rattle.ckd_position.specs.Contents.{Sighted, is_readable}
-use Rattle.ckd_command.specs.Commands.{Closing, sight, area_bytes, bytes_for, area_ends, length_after, length_for, closing, close_by, outcome}
+use Rattle.ckd_command.specs.Commands.{Closing, sight, area_bytes, bytes_for, area_ends, length_after, length_for, closing, close_by, command_end}
 use Rattle.ckd_slot.specs.Buffer.{Lies}
 use Rattle.ckd_cache.specs.Cache.{CacheState}
 use Rattle.ckd_drive.specs.Half.{IsFirstPlace, IsPlaced, IsField, ReadsWhole, FieldAtHand, AtHand, field_size, slot_at}
@@ -122,12 +122,12 @@ none_passed n = omega arith
 lies_behind : (slot : List ℕ) (w : Window) (a b : List ℕ) → a ≡ b → Lies slot w a → Lies slot w b
 lies_behind slot w a b e l = (let P : List ℕ → Type 0 = λ x. Lies slot w x in subst P e l)
 
-pub first_placed : (c : CacheState) (g : Geometry) (r : Registers) (n : ℕ) (o : Opened) (before : List ℕ) (p : Place)
+pub first_placed : (c : CacheState) (g : Geometry) (r : Registers) (n : ℕ) (o : Opened) (before : List ℕ) (p : Transfer)
     → IsFirstPlace (slot_at c.slots n) o r p → HandIfAimed c n o → sight g (track_of (slot_at c.slots n)) o r ≡ Found o → IsPlaced c g r n o before [] p
 first_placed c g r n o before (Sense b u) f h again =
     let t = track_of (slot_at c.slots n) in
     let is = sense_outcome g t o r [] f.0 in
-    (record { is_sense = f.0; bytes_are = f.1; room = omega arith }, record { again = again; len = sense_length g t o r [] f.0 }, record { so = ap outcome is ∙ sym f.2; unwritten = ap (λ (k : Closing). k.written) is })
+    (record { is_sense = f.0; bytes_are = f.1; room = omega arith }, record { again = again; len = sense_length g t o r [] f.0 }, record { so = ap command_end is ∙ sym f.2; unwritten = ap (λ (k : Closing). k.written) is })
 first_placed c g r n o before (Field x) f h again =
     let t = track_of (slot_at c.slots n) in
     let a = action_of o.command in (
@@ -141,7 +141,7 @@ first_placed c g r n o before (Read w u) f h again =
     let is = closing_by action.Read g t o r [] f.0 in (
       record { is_read = f.0; held = (hand_for c n o action.Read f.0 tt h).held; lies = lies_behind (slot_at c.slots n) w _ (area_bytes t o r) (sym area) f.1; room = omega arith; begins = omega arith },
       record { again = again; len = length_by action.Read g t o r [] f.0 ∙ ap length area ∙ f.1.size ∙ none_passed w.len },
-      record { so = ap outcome is ∙ sym f.2; unwritten = ap (λ (k : Closing). k.written) is },
+      record { so = ap command_end is ∙ sym f.2; unwritten = ap (λ (k : Closing). k.written) is },
     )
 first_placed c g r n o before (Search w so_far) f h again =
     let t = track_of (slot_at c.slots n) in
@@ -155,6 +155,6 @@ first_placed c g r n o before (Fill w u) f h again =
     let is = closing_by action.Update g t o r [] f.0 in (
       record { is_update = f.0; at_hand = whole_at c n o action.Update f.0 (λ x. x) (hand_for c n o action.Update f.0 tt h); lies = lies_behind (slot_at c.slots n) w _ (area_bytes t o r) (sym area) f.1; place = f.2; none = refl },
       record { again = again; len = length_by action.Update g t o r [] f.0 ∙ ap length area ∙ f.1.size ∙ none_passed w.len },
-      record { so = ap outcome is ∙ sym f.3; unwritten = ap (λ (k : Closing). k.written) is },
+      record { so = ap command_end is ∙ sym f.3; unwritten = ap (λ (k : Closing). k.written) is },
     )
 first_placed c g r n o before (Filled w u) f h again = absurd f

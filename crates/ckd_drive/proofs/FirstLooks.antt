@@ -8,17 +8,17 @@ use Rattle.ckd_sense.specs.declared.sense_bytes.TheConstants.Sense.{STORE_FAULT}
 use Rattle.ckd_command.specs.declared.registers.Registers.{Registers}
 use Rattle.ckd_command.specs.declared.registers.Mark.{Mark}
 use Rattle.ckd_command.specs.declared.registers.Mark.TheVariants.{Saved, Written, Lost}
-use Rattle.ckd_command.specs.declared.steps.Aim.TheVariants.{Next}
-use Rattle.ckd_command.specs.declared.steps.Opened.{Opened}
+use Rattle.ckd_command.specs.declared.tables.Aim.TheVariants.{Next}
+use Rattle.ckd_command.specs.declared.begin.Opened.{Opened}
 use Rattle.ckd_command.specs.Sights.{Sight, Found, IndexPassed, NextHead, Missed}
-use Rattle.ckd_drive.specs.Places.{Place, Progress}
+use Rattle.ckd_drive.specs.Transfers.{Transfer, Progress}
 use Rattle.ckd_drive.specs.Stage.{Stage, Idle, Over, Looking, Passing}
 use Rattle.ckd_command.specs.Tables.{aim}
 use Rattle.ckd_command.specs.Commands.{sight, with_cause}
 use Rattle.ckd_command.specs.Drive.{AfterLook, Ready, Passed, Failed, LoadFails, SaveFails, is_written_by, look as look_by}
 use Rattle.ckd_cache.specs.Cache.{CacheState, holds, loaded, after_hold, after_failed_hold, after_save, after_failed_save}
 use Rattle.ckd_drive.specs.Work.{DriveState, fault_met, with_image, after_sight, after_look, answer_of_look, look_loads, look_saves, failed_ending}
-use Rattle.ckd_drive.specs.Half.{Stands, SightKeeps, IsFirstPlace, number, slot_at, state_of, work_of}
+use Rattle.ckd_drive.specs.Half.{Stands, SightKeeps, IsFirstPlace, track_under, slot_at, state_of, work_of}
 use Rattle.ckd_drive.specs.Stages.{Comes, Looks, Leaves, Loses, looked_at}
 use Rattle.ckd_drive.proofs.Calls.{changed_is, and_false, and_true, no_more, loads_saved, calls_none, calls_of_save, calls_of_failed_save, calls_of_failed_hold, calls_behind_load}
 use Rattle.ckd_drive.proofs.Faults.{fault_none, fault_loading, fault_saving, failed_left, mark_written, lost_registers}
@@ -30,9 +30,9 @@ use Rattle.ckd_drive.proofs.Standing.{volume_saved, volume_not_held, geometry_sa
 use Rattle.ckd_drive.proofs.Torn.{torn_whole}
 
 -- It finds its area.
-pub found_looks : (c : CacheState) (r : Registers) (m : Mark) (o o' : Opened) (place : Place) (s : Stage)
-    → Stands c r m (Looking o) [] [] → IsFirstPlace (slot_at c.slots (number c.image.geometry r)) o' r place → HandIfAimed c (number c.image.geometry r) o'
-    → sight c.image.geometry (track_of (slot_at c.slots (number c.image.geometry r))) o' r ≡ Found o' → sight c.image.geometry (track_of (slot_at c.slots (number c.image.geometry r))) o r ≡ Found o'
+pub found_looks : (c : CacheState) (r : Registers) (m : Mark) (o o' : Opened) (place : Transfer) (s : Stage)
+    → Stands c r m (Looking o) [] [] → IsFirstPlace (slot_at c.slots (track_under c.image.geometry r)) o' r place → HandIfAimed c (track_under c.image.geometry r) o'
+    → sight c.image.geometry (track_of (slot_at c.slots (track_under c.image.geometry r))) o' r ≡ Found o' → sight c.image.geometry (track_of (slot_at c.slots (track_under c.image.geometry r))) o r ≡ Found o'
     → s ≡ found_at o' place → Looks c c r r m m o s
 found_looks c r m o o' place s x f h again first is = rw is (λ before. record {
   stands = found_stands c r m o o' before place x f h again;
@@ -43,12 +43,12 @@ found_looks c r m o o' place s x f h again first is = rw is (λ before. record {
 
 -- The index passes.
 pub passed_looks : (c : CacheState) (r q : Registers) (m : Mark) (o : Opened) (k : Kind) (s : Stage)
-    → Stands c r m (Looking o) [] [] → aim o.command ≡ Next k → c.held ≡ Some (number c.image.geometry r)
-    → sight c.image.geometry (track_of (slot_at c.slots (number c.image.geometry r))) o r ≡ IndexPassed q
+    → Stands c r m (Looking o) [] [] → aim o.command ≡ Next k → c.held ≡ Some (track_under c.image.geometry r)
+    → sight c.image.geometry (track_of (slot_at c.slots (track_under c.image.geometry r))) o r ≡ IndexPassed q
     → s ≡ Looking o → Looks c c r q m m o s
 passed_looks c r q m o k s x aimed held sighted is = rw is (λ before. (
     let g = c.image.geometry in
-    let keeps = (let P : Sight → Type 0 = λ z. SightKeeps g r z in subst P sighted (sight_keeps g (track_of (slot_at c.slots (number g r))) o r x.arm)) in
+    let keeps = (let P : Sight → Type 0 = λ z. SightKeeps g r z in subst P sighted (sight_keeps g (track_of (slot_at c.slots (track_under g r))) o r x.arm)) in
     let old = state_of c r m (Looking o) [] [] in
     let new = state_of c q m (Looking o) before [] in
     let none : fault_met old new ≡ None = fault_none old new refl in
@@ -61,12 +61,12 @@ passed_looks c r q m o k s x aimed held sighted is = rw is (λ before. (
 
 -- It finds none.
 pub missed_looks : (c : CacheState) (r q : Registers) (m : Mark) (o : Opened)
-    → Stands c r m (Looking o) [] [] → c.held ≡ Some (number c.image.geometry r)
-    → sight c.image.geometry (track_of (slot_at c.slots (number c.image.geometry r))) o r ≡ Missed q
+    → Stands c r m (Looking o) [] [] → c.held ≡ Some (track_under c.image.geometry r)
+    → sight c.image.geometry (track_of (slot_at c.slots (track_under c.image.geometry r))) o r ≡ Missed q
     → Looks c c r q m m o (Over failed_ending)
 missed_looks c r q m o x held sighted = λ before. (
     let g = c.image.geometry in
-    let keeps = (let P : Sight → Type 0 = λ z. SightKeeps g r z in subst P sighted (sight_keeps g (track_of (slot_at c.slots (number g r))) o r x.arm)) in
+    let keeps = (let P : Sight → Type 0 = λ z. SightKeeps g r z in subst P sighted (sight_keeps g (track_of (slot_at c.slots (track_under g r))) o r x.arm)) in
     let credit : q.credit ≡ None = keeps.credit ∙ x.work.no_credit in
     let old = state_of c r m (Looking o) [] [] in
     let new = state_of c q m (Over failed_ending) before [] in
@@ -81,11 +81,11 @@ missed_looks c r q m o x held sighted = λ before. (
 -- It goes on at the next head.
 pub next_looks : (c c' : CacheState) (r r' q : Registers) (m m' : Mark) (o : Opened) (k : Kind) (s : Stage)
     → Stands c r m (Looking o) [] [] → aim o.command ≡ Next k
-    → sight c.image.geometry (track_of (slot_at c.slots (number c.image.geometry r))) o r ≡ NextHead q
+    → sight c.image.geometry (track_of (slot_at c.slots (track_under c.image.geometry r))) o r ≡ NextHead q
     → Leaves c c' r' m' q → s ≡ Looking o → Looks c c' r r' m m' o s
 next_looks c c' r r' q m m' o k s x aimed sighted l is = rw (is, l.cache, l.registers, l.mark) (λ before. (
     let g = c.image.geometry in
-    let keeps = (let P : Sight → Type 0 = λ z. SightKeeps g r z in subst P sighted (sight_keeps g (track_of (slot_at c.slots (number g r))) o r x.arm)) in
+    let keeps = (let P : Sight → Type 0 = λ z. SightKeeps g r z in subst P sighted (sight_keeps g (track_of (slot_at c.slots (track_under g r))) o r x.arm)) in
     let old = state_of c r m (Looking o) [] [] in
     let new = state_of (after_save c) q Saved (Looking o) before [] in
     let none : fault_met old new ≡ None = fault_none old new (failures_saved c) in
@@ -100,10 +100,10 @@ next_looks c c' r r' q m m' o k s x aimed sighted l is = rw (is, l.cache, l.regi
 -- The track can't be saved that it goes on from.
 pub lost_looks : (c c' : CacheState) (r r' q : Registers) (m m' : Mark) (o : Opened)
     → Stands c r m (Looking o) [] []
-    → sight c.image.geometry (track_of (slot_at c.slots (number c.image.geometry r))) o r ≡ NextHead q
+    → sight c.image.geometry (track_of (slot_at c.slots (track_under c.image.geometry r))) o r ≡ NextHead q
     → Loses c c' r r' m' → Looks c c' r r' m m' o (Over failed_ending)
 lost_looks c c' r r' q m m' o x sighted l = rw (l.cache, l.registers, l.mark) (λ before. (
-    let n : ℕ = number c.image.geometry r in
+    let n : ℕ = track_under c.image.geometry r in
     let left = l.left in
     let there : left ≡ slice_index_or (after_failed_save c left).image.slots (unwrap_or c.held 0) [] = l.there ∙ ap (λ (d : CacheState). slice_index_or d.image.slots (unwrap_or c.held 0) []) l.cache in
     let held : c.held ≡ Some n = x.anchored l.changed in
@@ -126,16 +126,16 @@ no_other : (c : CacheState) (n : ℕ) → c.held ≡ Some n → holds c.held n �
 no_other c n e not = (let same : (n == n) ≡ true = grind (arith, nat_tests) in let other : (n == n) ≡ false = rw e at not in cc)
 
 -- what is written is at hand
-not_written : (c : CacheState) (r : Registers) (m : Mark) (o : Opened) → Stands c r m (Looking o) [] [] → holds c.held (number c.image.geometry r) ≡ false → is_written_by m ≡ false
+not_written : (c : CacheState) (r : Registers) (m : Mark) (o : Opened) → Stands c r m (Looking o) [] [] → holds c.held (track_under c.image.geometry r) ≡ false → is_written_by m ≡ false
 not_written c r m o x not = sym (changed_is c r m (Looking o) [] [] x refl) ∙ unchanged c.changed refl
   where
     unchanged : (b : Bool) → c.changed ≡ b → c.changed ≡ false
-    unchanged true e = absurd (no_other c (number c.image.geometry r) (x.anchored e) not)
+    unchanged true e = absurd (no_other c (track_under c.image.geometry r) (x.anchored e) not)
     unchanged false e = e
 
 pub unloaded_looks : (c c' : CacheState) (r r' : Registers) (m : Mark) (o : Opened) (k : Kind)
     → Stands c r m (Looking o) [] [] → aim o.command ≡ Next k
-    → holds c.held (number c.image.geometry r) ≡ false → c' ≡ after_failed_hold c → r' ≡ with_cause r STORE_FAULT → Looks c c' r r' m m o (Over failed_ending)
+    → holds c.held (track_under c.image.geometry r) ≡ false → c' ≡ after_failed_hold c → r' ≡ with_cause r STORE_FAULT → Looks c c' r r' m m o (Over failed_ending)
 unloaded_looks c c' r r' m o k x aimed not e f = rw (e, f) (λ before. (
     let old = state_of c r m (Looking o) [] [] in
     let new = state_of (after_failed_hold c) (with_cause r STORE_FAULT) m (Over failed_ending) before [] in
@@ -143,7 +143,7 @@ unloaded_looks c c' r r' m o k x aimed not e f = rw (e, f) (λ before. (
     let unwritten : is_written_by m ≡ false = not_written c r m o x not in
     let credit : r.credit ≡ None = x.work.no_credit in
     record {
-      stands = record { volume = volume_not_held c x.volume; arm = record { cylinder = x.arm.cylinder; head = x.arm.head }; anchored = λ t. absurd (no_other c (number c.image.geometry r) (x.anchored t) not); marked = x.marked; work = rw credit tt };
+      stands = record { volume = volume_not_held c x.volume; arm = record { cylinder = x.arm.cylinder; head = x.arm.head }; anchored = λ t. absurd (no_other c (track_under c.image.geometry r) (x.anchored t) not); marked = x.marked; work = rw credit tt };
       state = rw (met, aimed) refl;
       calls = calls_of_failed_hold _ _ c old new refl refl (rw aimed refl) (rw unwritten refl);
       at_hand = λ _. unwritten;
@@ -171,9 +171,9 @@ loaded_looks false c c' r r' m m' o k s held clean aimed e l = λ before. (
     })
 
 pub held_looks : (c d c' : CacheState) (r r' : Registers) (m m' : Mark) (o : Opened) (k : Kind) (s : Stage)
-    → Stands c r m (Looking o) [] [] → aim o.command ≡ Next k → d ≡ after_hold c (number c.image.geometry r) → c'.image.loads ≡ d.image.loads → Looks d c' r r' m m' o s → Looks c c' r r' m m' o s
+    → Stands c r m (Looking o) [] [] → aim o.command ≡ Next k → d ≡ after_hold c (track_under c.image.geometry r) → c'.image.loads ≡ d.image.loads → Looks d c' r r' m m' o s → Looks c c' r r' m m' o s
 held_looks c d c' r r' m m' o k s x aimed held loads l =
-    loaded_looks (holds c.held (number c.image.geometry r)) c c' r r' m m' o k s (Some (number c.image.geometry r)) (not_written c r m o x) aimed (rw held at loads) (rw held at l)
+    loaded_looks (holds c.held (track_under c.image.geometry r)) c c' r r' m m' o k s (Some (track_under c.image.geometry r)) (not_written c r m o x) aimed (rw held at loads) (rw held at l)
 
 -- The drive that was called.
 

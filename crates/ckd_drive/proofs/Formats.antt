@@ -11,19 +11,19 @@ use Rattle.ckd_position.specs.declared.areas.Area.{Area}
 use Rattle.ckd_position.specs.declared.areas.Area.TheVariants.{Of}
 use Rattle.ckd_position.specs.declared.areas.Part.{Part}
 use Rattle.ckd_command.specs.declared.registers.Registers.{Registers}
-use Rattle.ckd_command.specs.declared.steps.Action.{Action}
-use Rattle.ckd_command.specs.declared.steps.Action.TheVariants as action
+use Rattle.ckd_command.specs.declared.tables.Action.{Action}
+use Rattle.ckd_command.specs.declared.tables.Action.TheVariants as action
 use Rattle.ckd_position.specs.declared.extents.Extent.TheVariants as extent
-use Rattle.ckd_command.specs.declared.steps.Opened.{Opened}
-use Rattle.ckd_drive.specs.declared.places.Whole.TheVariants as whole
+use Rattle.ckd_command.specs.declared.begin.Opened.{Opened}
+use Rattle.ckd_drive.specs.declared.transfer.Whole.TheVariants as whole
 use Rattle.ckd_slot.specs.declared.windows.Window.{Window}
-use Rattle.ckd_drive.specs.Places.{Field, Filled, Progress}
+use Rattle.ckd_drive.specs.Transfers.{Field, Filled, Progress}
 use Rattle.ckd_command.specs.Tables.{action_of}
 use Rattle.ckd_position.specs.Contents.{Sighted, is_readable, new_record, formatted, kept, padded, replaced, with_key_and_data, with_record_changed}
-use Rattle.ckd_command.specs.Commands.{Closing, length_after, closing, outcome, own_home_address, new_record_fits, format_ends, writes}
+use Rattle.ckd_command.specs.Commands.{Closing, length_after, closing, command_end, own_home_address, new_record_fits, format_ends, writes}
 use Rattle.ckd_slot.specs.Buffer.{FitsSlot, IsPlaceOf, lengths_on}
 use Rattle.ckd_cache.specs.Cache.{CacheState, with_held, slot_held}
-use Rattle.ckd_drive.specs.Half.{Works, MayTake, Absorbs, IsFilled, AtHand, FieldAtHand, slot_at, number, whole_of}
+use Rattle.ckd_drive.specs.Half.{Works, MayTake, Absorbs, IsFilled, AtHand, FieldAtHand, slot_at, track_under, whole_of}
 use Rattle.ckd_slot.proofs.Writes.{update_length, update_place}
 use Rattle.ckd_drive.proofs.Fills.{there, new_slot_at, reads_new, ClosesFilled, form_filled, length-padded}
 use Rattle.ckd_drive.proofs.Looks.{slot_is}
@@ -153,13 +153,13 @@ format_wants g t o r b m is eight fits =
 
 pub format_filled : (g : Geometry) (r : Registers) (before : List ℕ) (o : Opened) (b m : List ℕ) (part : Part) (i : ℕ) → action_of o.command ≡ action.Format → length b ≡ 8 → new_record_fits g (track_of before) o b ≡ true
     → i ≡ length (kept (track_of before) o.area) → length m ≤ update_length extent.KeyAndData (record_in (formatted (track_of before) o.area b) i)
-    → ClosesFilled g r before o (b ++ m) (outcome (format_ends r i)) (formatted (track_of before) o.area b) extent.KeyAndData part i 8 (update_length extent.KeyAndData (record_in (formatted (track_of before) o.area b) i))
+    → ClosesFilled g r before o (b ++ m) (command_end (format_ends r i)) (formatted (track_of before) o.area b) extent.KeyAndData part i 8 (update_length extent.KeyAndData (record_in (formatted (track_of before) o.area b) i))
 format_filled g r before o b m part i is eight fits e le =
     let t = track_of before in
     let n = format_bytes t o.area b i e eight in
     let k = format_closes g t o r b m is eight fits in
     record {
-      so = ap outcome k ∙ rw e refl;
+      so = ap command_end k ∙ rw e refl;
       written = ap (λ (y : Closing). y.written) k ∙ ap (λ (y : Track). Some y) (sym (format_written t o.area b m part i eight e (rw n at le)));
       wants = rw n (format_wants g t o r b m is eight fits);
     }
@@ -169,7 +169,7 @@ pub record FormatGoes (c : CacheState) (r : Registers) (passed : List ℕ) (p : 
   pub is : action_of p.opened.command ≡ action.Format
   pub eight : length (passed ++ more) ≡ 8
   pub whole : count ≡ passed ++ more
-  pub at_hand : AtHand c (number c.image.geometry r)
+  pub at_hand : AtHand c (track_under c.image.geometry r)
 
 format_hand : (a : Action) (c : CacheState) (n : ℕ) → a ≡ action.Format → FieldAtHand a c n → AtHand c n
 format_hand a c n is h = (let P : Action → Type 0 = λ y. FieldAtHand y c n in subst P is h)
@@ -187,15 +187,15 @@ format_goes c r before passed p more f field count x may at is long e =
       is = new.is;
       eight = eight;
       whole = new.count ∙ sym (take_all 8 field (omega (arith, long))) ∙ come;
-      at_hand = format_hand (action_of p.opened.command) c (number c.image.geometry r) new.is k.has.at_hand;
+      at_hand = format_hand (action_of p.opened.command) c (track_under c.image.geometry r) new.is k.has.at_hand;
     }
 
 -- a record that does not fit
 pub format_stays : (c : CacheState) (r : Registers) (before passed : List ℕ) (p : Progress) (more f field count : List ℕ) → Works c r before passed p → MayTake p more → p.place ≡ Field f → field ≡ overwritten f p.moved more
-    → FormatGoes c r passed p more count → new_record_fits c.image.geometry (track_of (slot_at c.slots (number c.image.geometry r))) p.opened count ≡ false → Absorbs c c r before before passed p more (Field field)
+    → FormatGoes c r passed p more count → new_record_fits c.image.geometry (track_of (slot_at c.slots (track_under c.image.geometry r))) p.opened count ≡ false → Absorbs c c r before before passed p more (Field field)
 format_stays c r before passed p more f field count x may at is k no_room =
     let g = c.image.geometry in
-    let t = track_of (slot_at c.slots (number g r)) in
+    let t = track_of (slot_at c.slots (track_under g r)) in
     let N : Action → Type 0 = λ a. ChangesNothing a g t p.opened r (passed ++ more) in
     let P : List ℕ → Type 0 = λ b. new_record_fits g t p.opened b ≡ false in
     let none : ChangesNothing action.Format g t p.opened r (passed ++ more) = λ _. subst P k.whole no_room in
@@ -203,20 +203,20 @@ format_stays c r before passed p more f field count x may at is k no_room =
 
 -- what is known of the new record
 pub record IsNew (c : CacheState) (r : Registers) (p : Progress) (count new : List ℕ) (part : Part) (i : ℕ) (w : Window) : Type 0 where
-  pub fits : new_record_fits c.image.geometry (track_of (slot_at c.slots (number c.image.geometry r))) p.opened count ≡ true
-  pub last : i ≡ length (kept (track_of (slot_at c.slots (number c.image.geometry r))) p.opened.area)
-  pub room : FitsSlot c.image.geometry.track_size (formatted (track_of (slot_at c.slots (number c.image.geometry r))) p.opened.area count)
-  pub made : new ≡ slot_of c.image.geometry.track_size (formatted (track_of (slot_at c.slots (number c.image.geometry r))) p.opened.area count)
+  pub fits : new_record_fits c.image.geometry (track_of (slot_at c.slots (track_under c.image.geometry r))) p.opened count ≡ true
+  pub last : i ≡ length (kept (track_of (slot_at c.slots (track_under c.image.geometry r))) p.opened.area)
+  pub room : FitsSlot c.image.geometry.track_size (formatted (track_of (slot_at c.slots (track_under c.image.geometry r))) p.opened.area count)
+  pub made : new ≡ slot_of c.image.geometry.track_size (formatted (track_of (slot_at c.slots (track_under c.image.geometry r))) p.opened.area count)
   pub place : IsPlaceOf extent.KeyAndData (track_in new) (Of part i) w
 
 takes_format : (a : Action) → a ≡ action.Format → (a ≡ action.GiveSense → ⊥) × (a ≡ action.Read → ⊥)
 takes_format a e = (λ z. cc, λ z. cc)
 
 pub format_absorbs : (c : CacheState) (r : Registers) (before passed : List ℕ) (p : Progress) (more f field count new : List ℕ) (part : Part) (i : ℕ) (w : Window) → Works c r before passed p → MayTake p more → p.place ≡ Field f
-    → FormatGoes c r passed p more count → IsNew c r p count new part i w → Absorbs c (with_held c new) r before (slot_at c.slots (number c.image.geometry r)) passed p more (Filled w (outcome (format_ends r i)))
+    → FormatGoes c r passed p more count → IsNew c r p count new part i w → Absorbs c (with_held c new) r before (slot_at c.slots (track_under c.image.geometry r)) passed p more (Filled w (command_end (format_ends r i)))
 format_absorbs c r before passed p more f field count new part i w x may at k new_is =
     let g = c.image.geometry in
-    let n : ℕ = number g r in
+    let n : ℕ = track_under g r in
     let old = slot_at c.slots n in
     let t = track_of old in
     let a = p.opened.area in
@@ -236,13 +236,13 @@ format_absorbs c r before passed p more f field count new part i w x may at k ne
     let P : Track → Type 0 = λ y. IsPlaceOf extent.KeyAndData y (Of part i) w in
     let place = update_place extent.KeyAndData t0 part i w tt last (subst P read.1 new_is.place) in
     let bytes = format_bytes t a b i new_is.last k.eight in
-    let filled : IsFilled g r old now p.opened b w (outcome (format_ends r i)) =
-    form_filled g r old now p.opened b w (outcome (format_ends r i)) t0 extent.KeyAndData part i 8 tt room last lens (omega (arith, k.eight)) (omega arith) (omega (arith, place.0, k.eight)) (omega (arith, place.1, k.eight))
+    let filled : IsFilled g r old now p.opened b w (command_end (format_ends r i)) =
+    form_filled g r old now p.opened b w (command_end (format_ends r i)) t0 extent.KeyAndData part i 8 tt room last lens (omega (arith, k.eight)) (omega arith) (omega (arith, place.0, k.eight)) (omega (arith, place.1, k.eight))
     (λ m le. format_filled g r old p.opened b m part i k.is k.eight fits new_is.last (omega (arith, le, place.1))) in
     let whole : with_record_changed (replaced extent.KeyAndData (padded (drop 8 (b ++ [])) (update_length extent.KeyAndData (record_in t0 i)))) (Of part i) t0 ≡ t0 =
     format_written t a b [] part i k.eight new_is.last (omega arith) ∙ ap (λ (y : List ℕ). formatted t a y) (append-nil b) in
     let left : p.left ≤ 8 - length passed = rw (at, k.is) at x.goes.left in
-    newly_absorbs c r before passed p more new w (outcome (format_ends r i)) (omega arith) x k.at_hand.held (rw at refl) goes.again
+    newly_absorbs c r before passed p more new w (command_end (format_ends r i)) (omega arith) x k.at_hand.held (rw at refl) goes.again
     (takes_format (action_of p.opened.command) k.is) (record { stays = refl; cylinder = refl; head = refl }) (omega (arith, k.eight, goes.long)) (omega (arith, left, k.eight, goes.long)) (omega (arith, k.eight, goes.long))
     filled (made ∙ ap (slot_of g.track_size) (sym whole))
 

@@ -4,12 +4,12 @@ use Rattle.ckd_track.specs.Track.{track_of}
 use Rattle.ckd_track.specs.declared.geometries.Geometry.{Geometry}
 use Rattle.ckd_command.specs.declared.registers.Registers.{Registers}
 use Rattle.ckd_command.specs.declared.registers.Mark.{Mark}
-use Rattle.ckd_command.specs.declared.steps.Aim.TheVariants.{NoArea, Credited}
-use Rattle.ckd_command.specs.declared.steps.Action.{Action}
-use Rattle.ckd_command.specs.declared.steps.Action.TheVariants as action
-use Rattle.ckd_command.specs.declared.steps.Opened.{Opened}
+use Rattle.ckd_command.specs.declared.tables.Aim.TheVariants.{NoArea, Credited}
+use Rattle.ckd_command.specs.declared.tables.Action.{Action}
+use Rattle.ckd_command.specs.declared.tables.Action.TheVariants as action
+use Rattle.ckd_command.specs.declared.begin.Opened.{Opened}
 use Rattle.ckd_command.specs.Sights.{Found}
-use Rattle.ckd_drive.specs.Places.{Place, Sense, Field, Read, Search, Fill, Filled, Progress}
+use Rattle.ckd_drive.specs.Transfers.{Transfer, Sense, Field, Read, Search, Fill, Filled, Progress}
 use Rattle.ckd_drive.specs.Stage.{Stage, Looking, Passing}
 use Rattle.ckd_command.specs.Tables.{action_of, aim}
 use Rattle.ckd_position.specs.Contents.{Sighted, is_readable}
@@ -18,11 +18,11 @@ use Rattle.ckd_cache.specs.Cache.{CacheState, slot_held}
 use Rattle.ckd_drive.proofs.Numbers.{number_there}
 use Rattle.ckd_drive.specs.Work.{DriveState, fault_met, with_image, after_look}
 use Rattle.ckd_command.specs.Drive.{is_written_by}
-use Rattle.ckd_drive.specs.Half.{Stands, StaysAt, AtHand, ReadsWhole, IsFound, StageIs, Goes, IsPlaced, IsFirstPlace, CreditAtHand, remaining, state_of, seen_by, slot_at, number, is_filled_by}
+use Rattle.ckd_drive.specs.Half.{Stands, StaysAt, AtHand, ReadsWhole, IsFound, StageIs, Goes, IsPlaced, IsFirstPlace, CreditAtHand, remaining, state_of, seen_by, slot_at, track_under, is_filled_by}
 use Rattle.ckd_drive.proofs.First.{first_placed, HandIfAimed}
 use Rattle.ckd_drive.proofs.Faults.{fault_none}
 
-first_not_filled : (slot : List ℕ) (o : Opened) (r : Registers) (p : Place) → IsFirstPlace slot o r p → is_filled_by p ≡ false
+first_not_filled : (slot : List ℕ) (o : Opened) (r : Registers) (p : Transfer) → IsFirstPlace slot o r p → is_filled_by p ≡ false
 first_not_filled slot o r (Filled w u) f = absurd f
 first_not_filled slot o r (Sense b u) f = refl
 first_not_filled slot o r (Field x) f = refl
@@ -30,7 +30,7 @@ first_not_filled slot o r (Read w u) f = refl
 first_not_filled slot o r (Search w u) f = refl
 first_not_filled slot o r (Fill w u) f = refl
 
-pub no_filled_seen : (slots : List (List ℕ)) (n : ℕ) (before : List ℕ) (p : Place) → is_filled_by p ≡ false → seen_by slots n before p ≡ slots
+pub no_filled_seen : (slots : List (List ℕ)) (n : ℕ) (before : List ℕ) (p : Transfer) → is_filled_by p ≡ false → seen_by slots n before p ≡ slots
 no_filled_seen slots n before (Filled w u) f = absurd cc
 no_filled_seen slots n before (Sense b u) f = refl
 no_filled_seen slots n before (Field x) f = refl
@@ -39,7 +39,7 @@ no_filled_seen slots n before (Search w u) f = refl
 no_filled_seen slots n before (Fill w u) f = refl
 
 -- how many bytes it wants, by its place
-pub first_len : (c : CacheState) (g : Geometry) (r : Registers) (n : ℕ) (o : Opened) (before : List ℕ) (p : Place) → IsFirstPlace (slot_at c.slots n) o r p → IsPlaced c g r n o before [] p
+pub first_len : (c : CacheState) (g : Geometry) (r : Registers) (n : ℕ) (o : Opened) (before : List ℕ) (p : Transfer) → IsFirstPlace (slot_at c.slots n) o r p → IsPlaced c g r n o before [] p
     → length_after g (track_of (slot_at c.slots n)) o r [] ≡ 0 + remaining (action_of o.command) p 0
 first_len c g r n o before (Filled w u) f x = absurd f
 first_len c g r n o before (Sense b u) f x = x.1.len
@@ -50,12 +50,12 @@ first_len c g r n o before (Fill w u) f x = x.1.len
 
 -- A look that finds the area.
 
-abbrev pub found_at : Opened → Place → Stage
+abbrev pub found_at : Opened → Transfer → Stage
 found_at o place = Passing (record { opened = o; moved = 0; left = remaining (action_of o.command) place 0; place = place })
 
-pub found_stands : (c : CacheState) (r : Registers) (m : Mark) (o o' : Opened) (before : List ℕ) (place : Place)
+pub found_stands : (c : CacheState) (r : Registers) (m : Mark) (o o' : Opened) (before : List ℕ) (place : Transfer)
     → Stands c r m (Looking o) [] []
-    → IsFirstPlace (slot_at c.slots (number c.image.geometry r)) o' r place → HandIfAimed c (number c.image.geometry r) o' → sight c.image.geometry (track_of (slot_at c.slots (number c.image.geometry r))) o' r ≡ Found o'
+    → IsFirstPlace (slot_at c.slots (track_under c.image.geometry r)) o' r place → HandIfAimed c (track_under c.image.geometry r) o' → sight c.image.geometry (track_of (slot_at c.slots (track_under c.image.geometry r))) o' r ≡ Found o'
     → Stands c r m (found_at o' place) before []
 found_stands c r m o o' before place x f h again =
     let marked : c.changed ≡ (is_written_by m || false) = x.marked in
@@ -63,23 +63,23 @@ found_stands c r m o o' before place x f h again =
       volume = x.volume;
       arm = x.arm;
       anchored = x.anchored;
-      marked = rw (first_not_filled (slot_at c.slots (number c.image.geometry r)) o' r place f) marked;
+      marked = rw (first_not_filled (slot_at c.slots (track_under c.image.geometry r)) o' r place f) marked;
       work = record {
         moved = refl;
         left = omega arith;
-        placed = first_placed c c.image.geometry r (number c.image.geometry r) o' before place f h again;
+        placed = first_placed c c.image.geometry r (track_under c.image.geometry r) o' before place f h again;
         no_credit = x.work.no_credit;
       };
     }
 
-pub found_state : (c : CacheState) (r : Registers) (m : Mark) (o o' : Opened) (before : List ℕ) (place : Place)
+pub found_state : (c : CacheState) (r : Registers) (m : Mark) (o o' : Opened) (before : List ℕ) (place : Transfer)
     → Stands c r m (Looking o) [] []
-    → IsFirstPlace (slot_at c.slots (number c.image.geometry r)) o' r place → HandIfAimed c (number c.image.geometry r) o'
-    → sight c.image.geometry (track_of (slot_at c.slots (number c.image.geometry r))) o' r ≡ Found o'
-    → sight c.image.geometry (track_of (slot_at c.slots (number c.image.geometry r))) o r ≡ Found o'
+    → IsFirstPlace (slot_at c.slots (track_under c.image.geometry r)) o' r place → HandIfAimed c (track_under c.image.geometry r) o'
+    → sight c.image.geometry (track_of (slot_at c.slots (track_under c.image.geometry r))) o' r ≡ Found o'
+    → sight c.image.geometry (track_of (slot_at c.slots (track_under c.image.geometry r))) o r ≡ Found o'
     → state_of c r m (found_at o' place) before [] ≡ with_image (after_look (fault_met (state_of c r m (Looking o) [] []) (state_of c r m (found_at o' place) before [])) (state_of c r m (Looking o) [] [])) c.image
 found_state c r m o o' before place x f h again first =
-    let n : ℕ = number c.image.geometry r in
+    let n : ℕ = track_under c.image.geometry r in
     let t = track_of (slot_at c.slots n) in
     let old = state_of c r m (Looking o) [] [] in
     let new = state_of c r m (found_at o' place) before [] in
@@ -91,7 +91,7 @@ found_state c r m o o' before place x f h again first =
 
 -- A further look.
 
-pub is_found : (c : CacheState) (g : Geometry) (r : Registers) (n : ℕ) (o : Opened) (before passed : List ℕ) (p : Place) → n < length c.slots → IsPlaced c g r n o before passed p
+pub is_found : (c : CacheState) (g : Geometry) (r : Registers) (n : ℕ) (o : Opened) (before passed : List ℕ) (p : Transfer) → n < length c.slots → IsPlaced c g r n o before passed p
     → IsFound g r (track_of (slot_at (seen_by c.slots n before p) n)) o passed p
 is_found c g r n o before passed (Sense b u) lt x = x.1
 is_found c g r n o before passed (Field f) lt x = x.1
@@ -113,7 +113,7 @@ pub again_state : (c : CacheState) (r : Registers) (m : Mark) (s : Stage) (p : P
     → state_of c r m (again_at p) before passed ≡ with_image (after_look (fault_met now (state_of c r m (again_at p) before passed)) now) c.image
 again_state c r m s p before passed now x is now_is =
     let goes = goes_of c r m s p before passed x is in
-    let n : ℕ = number c.image.geometry r in
+    let n : ℕ = track_under c.image.geometry r in
     let f = is_found c c.image.geometry r n p.opened before passed p.place (number_there c r m s before passed x) goes.placed in
     let left_is : remaining (action_of p.opened.command) p.place (length passed) ≡ length_after c.image.geometry (track_of (slot_at (seen_by c.slots n before p.place) n)) p.opened r passed - length passed = omega (arith, f.len) in
     rw (← now_is, is, ← goes.moved, left_is) refl
@@ -157,11 +157,11 @@ reads_whole action.Update t e = e
 pub credit_hand : (c : CacheState) (n : ℕ) (o : Opened) → aim o.command ≡ Credited → CreditAtHand (aim o.command) c n → HandIfAimed c n o
 credit_hand c n o is h = λ _. (let at : AtHand c n = rw is at h in record { held = at.held; whole = reads_whole (action_of o.command) _ at.readable })
 
-pub first_at : (slot slot' : List ℕ) (o : Opened) (r : Registers) (p : Place) → slot ≡ slot' → IsFirstPlace slot o r p → IsFirstPlace slot' o r p
+pub first_at : (slot slot' : List ℕ) (o : Opened) (r : Registers) (p : Transfer) → slot ≡ slot' → IsFirstPlace slot o r p → IsFirstPlace slot' o r p
 first_at slot slot' o r p e f = (let P : List ℕ → Type 0 = λ x. IsFirstPlace x o r p in subst P e f)
 
 pub stays_arm : (g : Geometry) (r q : Registers) → StaysAt r q → IsAtTrack g r → IsAtTrack g q
 stays_arm g r q k at = record { cylinder = rw k.cylinder at.cylinder; head = rw k.head at.head }
 
-pub stays_held : (c : CacheState) (r q : Registers) → StaysAt r q → c.held ≡ Some (number c.image.geometry r) → (c.changed ≡ true → c.held ≡ Some (number c.image.geometry q))
+pub stays_held : (c : CacheState) (r q : Registers) → StaysAt r q → c.held ≡ Some (track_under c.image.geometry r) → (c.changed ≡ true → c.held ≡ Some (track_under c.image.geometry q))
 stays_held c r q k held = λ _. held ∙ (rw (k.cylinder, k.head) refl)

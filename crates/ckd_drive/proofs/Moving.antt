@@ -6,21 +6,21 @@ use Rattle.ckd_track.specs.Track.{track_of}
 use Rattle.ckd_track.specs.declared.geometries.Geometry.{Geometry}
 use Rattle.ckd_command.specs.declared.registers.Registers.{Registers}
 use Rattle.ckd_command.specs.declared.registers.Mark.{Mark}
-use Rattle.ckd_command.specs.declared.steps.Action.{Action}
-use Rattle.ckd_command.specs.declared.steps.Action.TheVariants as action
-use Rattle.ckd_command.specs.declared.steps.Opened.{Opened}
-use Rattle.ckd_command.specs.Steps.{Outcome}
+use Rattle.ckd_command.specs.declared.tables.Action.{Action}
+use Rattle.ckd_command.specs.declared.tables.Action.TheVariants as action
+use Rattle.ckd_command.specs.declared.begin.Opened.{Opened}
+use Rattle.ckd_command.specs.Steps.{CommandEnd}
 use Rattle.ckd_slot.specs.declared.windows.Window.{Window}
-use Rattle.ckd_drive.specs.Places.{Place, Sense, Field, Read, Search, Fill, Filled, Progress}
+use Rattle.ckd_drive.specs.Transfers.{Transfer, Sense, Field, Read, Search, Fill, Filled, Progress}
 use Rattle.ckd_drive.specs.Stage.{Stage, Passing}
 use Rattle.ckd_command.specs.Tables.{action_of, is_giving}
 use Rattle.ckd_position.specs.Contents.{Sighted}
-use Rattle.ckd_command.specs.Commands.{Closing, area_bytes, length_after, closing, outcome}
+use Rattle.ckd_command.specs.Commands.{Closing, area_bytes, length_after, closing, command_end}
 use Rattle.ckd_slot.specs.Buffer.{Lies}
 use Rattle.ckd_cache.specs.Cache.{CacheState, IsVolume}
 use Rattle.ckd_drive.specs.Work as work
 use Rattle.ckd_drive.specs.Work.{DriveState, gives_now, takes_now, left_of, given_now, passed_of, moved_on}
-use Rattle.ckd_drive.specs.Half.{Stands, IsPlaced, IsField, ClosesUnwritten, remaining, next_progress, given_on, state_of, slot_at, number, is_filled_by, seen_by}
+use Rattle.ckd_drive.specs.Half.{Stands, IsPlaced, IsField, ClosesUnwritten, remaining, next_progress, given_on, state_of, slot_at, track_under, is_filled_by, seen_by}
 use Rattle.ckd_drive.proofs.First.{length_by, area_by, closing_by, sense_length, sense_outcome}
 use Rattle.ckd_drive.proofs.Looks.{goes_of}
 use Rattle.std.specs.declared.cmp.Ordering.{Ordering}
@@ -71,10 +71,10 @@ pub next_left : (l k x y : ℕ) → l ≤ x → y ≡ x - k → l - k ≤ y
 next_left l k x y le e = omega (arith, le, e)
 
 -- the command goes on, and the track stays as it is
-pub goes_on : (c : CacheState) (r : Registers) (m : Mark) (s : Stage) (p : Progress) (before passed more : List ℕ) (place' : Place) (k : ℕ)
+pub goes_on : (c : CacheState) (r : Registers) (m : Mark) (s : Stage) (p : Progress) (before passed more : List ℕ) (place' : Transfer) (k : ℕ)
     → Stands c r m s before passed → s ≡ Passing p → k ≡ length more → is_filled_by p.place ≡ false → is_filled_by place' ≡ false
     → remaining (action_of p.opened.command) place' (length (passed ++ more)) ≡ remaining (action_of p.opened.command) p.place (length passed) - length more
-    → IsPlaced c c.image.geometry r (number c.image.geometry r) p.opened before (passed ++ more) place'
+    → IsPlaced c c.image.geometry r (track_under c.image.geometry r) p.opened before (passed ++ more) place'
     → Stands c r m (Passing (next_progress p k place')) before (passed ++ more)
 goes_on c r m s p before passed more place' k x is n f f' rest placed =
     let goes = goes_of c r m s p before passed x is in
@@ -94,21 +94,21 @@ goes_on c r m s p before passed more place' k x is n f f' rest placed =
 
 -- Giving.
 
-read_closes : (g : Geometry) (r : Registers) (t : Sighted) (o : Opened) (passed more : List ℕ) (u : Outcome) → action_of o.command ≡ action.Read → ClosesUnwritten g r t o passed u → ClosesUnwritten g r t o (passed ++ more) u
+read_closes : (g : Geometry) (r : Registers) (t : Sighted) (o : Opened) (passed more : List ℕ) (u : CommandEnd) → action_of o.command ≡ action.Read → ClosesUnwritten g r t o passed u → ClosesUnwritten g r t o (passed ++ more) u
 read_closes g r t o passed more u is k =
     let same : closing g t o r (passed ++ more) ≡ closing g t o r passed = closing_by action.Read g t o r (passed ++ more) is ∙ sym (closing_by action.Read g t o r passed is) in
-    record { so = ap outcome same ∙ k.so; unwritten = ap (λ (x : Closing). x.written) same ∙ k.unwritten }
+    record { so = ap command_end same ∙ k.so; unwritten = ap (λ (x : Closing). x.written) same ∙ k.unwritten }
 
-pub read_stands : (c : CacheState) (r : Registers) (m : Mark) (s : Stage) (p : Progress) (before passed more : List ℕ) (w : Window) (u : Outcome) (k : ℕ)
+pub read_stands : (c : CacheState) (r : Registers) (m : Mark) (s : Stage) (p : Progress) (before passed more : List ℕ) (w : Window) (u : CommandEnd) (k : ℕ)
     → Stands c r m s before passed → s ≡ Passing p → p.place ≡ Read w u → MayMove p more → k ≡ length more
     → Stands c r m (Passing (next_progress p k (Read (record { start = w.start + k; len = w.len - k }) u))) before (passed ++ more)
 read_stands c r m s p before passed more w u k x is at may n =
     let g = c.image.geometry in
     let goes = goes_of c r m s p before passed x is in
-    let t = track_of (slot_at c.slots (number g r)) in
+    let t = track_of (slot_at c.slots (track_under g r)) in
     let left : p.left ≤ w.len = rw at at goes.left in
     let le : length more ≤ w.len = omega (arith, left, may.room) in
-    let P : Place → Type 0 = λ y. IsPlaced c g r (number g r) p.opened before passed y in
+    let P : Transfer → Type 0 = λ y. IsPlaced c g r (track_under g r) p.opened before passed y in
     let placed = subst P at goes.placed in
     let h = placed.0 in
     let area = area_bytes t p.opened r in
@@ -116,8 +116,8 @@ read_stands c r m s p before passed more w u k x is at may n =
     let far : length (passed ++ more) ≡ length passed + length more = length-append passed more in
     let behind : drop (length more) (drop (length passed) area) ≡ drop (length (passed ++ more)) area = drop-drop (length more) (length passed) area ∙ rw far refl in
     let w' : Window = record { start = w.start + length more; len = w.len - length more } in
-    let lies : Lies (slot_at c.slots (number g r)) w' (drop (length (passed ++ more)) area) =
-    (let Q : List ℕ → Type 0 = λ b. Lies (slot_at c.slots (number g r)) w' b in subst Q behind (lies_rest (slot_at c.slots (number g r)) (drop (length passed) area) w (length more) h.lies le)) in
+    let lies : Lies (slot_at c.slots (track_under g r)) w' (drop (length (passed ++ more)) area) =
+    (let Q : List ℕ → Type 0 = λ b. Lies (slot_at c.slots (track_under g r)) w' b in subst Q behind (lies_rest (slot_at c.slots (track_under g r)) (drop (length passed) area) w (length more) h.lies le)) in
     let whole : length area ≡ length passed + w.len = omega (arith, size, length-drop (length passed) area, h.room) in
     let wants : length_after g t p.opened r (passed ++ more) ≡ length area = length_by action.Read g t p.opened r (passed ++ more) h.is_read in
     rw n (goes_on c r m s p before passed more (Read w' u) (length more) x is refl (rw at refl) refl (rw at refl) (
@@ -128,20 +128,20 @@ read_stands c r m s p before passed more w u k x is at may n =
 
 -- The sense bytes.
 
-sense_closes : (g : Geometry) (r : Registers) (t : Sighted) (o : Opened) (passed more : List ℕ) (u : Outcome) → action_of o.command ≡ action.GiveSense → ClosesUnwritten g r t o passed u → ClosesUnwritten g r t o (passed ++ more) u
+sense_closes : (g : Geometry) (r : Registers) (t : Sighted) (o : Opened) (passed more : List ℕ) (u : CommandEnd) → action_of o.command ≡ action.GiveSense → ClosesUnwritten g r t o passed u → ClosesUnwritten g r t o (passed ++ more) u
 sense_closes g r t o passed more u is k =
     let same : closing g t o r (passed ++ more) ≡ closing g t o r passed = sense_outcome g t o r (passed ++ more) is ∙ sym (sense_outcome g t o r passed is) in
-    record { so = ap outcome same ∙ k.so; unwritten = ap (λ (x : Closing). x.written) same ∙ k.unwritten }
+    record { so = ap command_end same ∙ k.so; unwritten = ap (λ (x : Closing). x.written) same ∙ k.unwritten }
 
-pub sense_stands : (c : CacheState) (r : Registers) (m : Mark) (s : Stage) (p : Progress) (before passed more b : List ℕ) (u : Outcome) (k : ℕ)
+pub sense_stands : (c : CacheState) (r : Registers) (m : Mark) (s : Stage) (p : Progress) (before passed more b : List ℕ) (u : CommandEnd) (k : ℕ)
     → Stands c r m s before passed → s ≡ Passing p → p.place ≡ Sense b u → MayMove p more → k ≡ length more
     → Stands c r m (Passing (next_progress p k (Sense b u))) before (passed ++ more)
 sense_stands c r m s p before passed more b u k x is at may n =
     let g = c.image.geometry in
     let goes = goes_of c r m s p before passed x is in
-    let t = track_of (slot_at c.slots (number g r)) in
+    let t = track_of (slot_at c.slots (track_under g r)) in
     let left : p.left ≤ 6 - length passed = rw at at goes.left in
-    let P : Place → Type 0 = λ y. IsPlaced c g r (number g r) p.opened before passed y in
+    let P : Transfer → Type 0 = λ y. IsPlaced c g r (track_under g r) p.opened before passed y in
     let h = subst P at goes.placed in
     let far : length (passed ++ more) ≡ length passed + length more = length-append passed more in
     let wants : length_after g t p.opened r (passed ++ more) ≡ 6 = sense_length g t p.opened r (passed ++ more) h.0.is_sense in
@@ -181,10 +181,10 @@ gives_not_field c g r n o before passed f x e = field_takes (action_of o.command
 pub gives_not_search : (c : CacheState) (g : Geometry) (r : Registers) (n : ℕ) (o : Opened) (before passed : List ℕ) (w : Window) (so_far : Ordering) → IsPlaced c g r n o before passed (Search w so_far) → is_giving (action_of o.command) ≡ true → ⊥
 gives_not_search c g r n o before passed w so_far x e = (let f : is_giving (action_of o.command) ≡ false = rw x.0.is_search refl in cc)
 
-pub gives_not_fill : (c : CacheState) (g : Geometry) (r : Registers) (n : ℕ) (o : Opened) (before passed : List ℕ) (w : Window) (u : Outcome) → IsPlaced c g r n o before passed (Fill w u) → is_giving (action_of o.command) ≡ true → ⊥
+pub gives_not_fill : (c : CacheState) (g : Geometry) (r : Registers) (n : ℕ) (o : Opened) (before passed : List ℕ) (w : Window) (u : CommandEnd) → IsPlaced c g r n o before passed (Fill w u) → is_giving (action_of o.command) ≡ true → ⊥
 gives_not_fill c g r n o before passed w u x e = (let f : is_giving (action_of o.command) ≡ false = rw x.0.is_update refl in cc)
 
-pub gives_not_filled : (c : CacheState) (g : Geometry) (r : Registers) (n : ℕ) (o : Opened) (before passed : List ℕ) (w : Window) (u : Outcome) → IsPlaced c g r n o before passed (Filled w u) → is_giving (action_of o.command) ≡ true → ⊥
+pub gives_not_filled : (c : CacheState) (g : Geometry) (r : Registers) (n : ℕ) (o : Opened) (before passed : List ℕ) (w : Window) (u : CommandEnd) → IsPlaced c g r n o before passed (Filled w u) → is_giving (action_of o.command) ≡ true → ⊥
 gives_not_filled c g r n o before passed w u x e = giving_two (action_of o.command) e x.takes
 
 -- The drive once bytes are given.
@@ -194,28 +194,28 @@ pub given_stands : (c : CacheState) (r : Registers) (m : Mark) (s : Stage) (p : 
     → Stands c r m (Passing (next_progress p k (given_on p.place k))) before (passed ++ more)
 given_stands c r m s p before passed more k x is may n = by_place p.place refl
   where
-    placed : IsPlaced c c.image.geometry r (number c.image.geometry r) p.opened before passed p.place
+    placed : IsPlaced c c.image.geometry r (track_under c.image.geometry r) p.opened before passed p.place
     placed = (goes_of c r m s p before passed x is).placed
 
-    by_place : (place : Place) → p.place ≡ place → Stands c r m (Passing (next_progress p k (given_on place k))) before (passed ++ more)
+    by_place : (place : Transfer) → p.place ≡ place → Stands c r m (Passing (next_progress p k (given_on place k))) before (passed ++ more)
     by_place (Sense b u) at = sense_stands c r m s p before passed more b u k x is at may n
     by_place (Read w u) at = read_stands c r m s p before passed more w u k x is at may n
-    by_place (Field f) at = absurd (gives_not_field c c.image.geometry r (number c.image.geometry r) p.opened before passed f (rw at at placed) may.giving)
-    by_place (Search w so_far) at = absurd (gives_not_search c c.image.geometry r (number c.image.geometry r) p.opened before passed w so_far (rw at at placed) may.giving)
-    by_place (Fill w u) at = absurd (gives_not_fill c c.image.geometry r (number c.image.geometry r) p.opened before passed w u (rw at at placed) may.giving)
-    by_place (Filled w u) at = absurd (gives_not_filled c c.image.geometry r (number c.image.geometry r) p.opened before passed w u (rw at at placed) may.giving)
+    by_place (Field f) at = absurd (gives_not_field c c.image.geometry r (track_under c.image.geometry r) p.opened before passed f (rw at at placed) may.giving)
+    by_place (Search w so_far) at = absurd (gives_not_search c c.image.geometry r (track_under c.image.geometry r) p.opened before passed w so_far (rw at at placed) may.giving)
+    by_place (Fill w u) at = absurd (gives_not_fill c c.image.geometry r (track_under c.image.geometry r) p.opened before passed w u (rw at at placed) may.giving)
+    by_place (Filled w u) at = absurd (gives_not_filled c c.image.geometry r (track_under c.image.geometry r) p.opened before passed w u (rw at at placed) may.giving)
 
 -- what may be given: so many bytes, and they are what the definitions give
 pub record Lends (p : Progress) (now : DriveState) (bytes : List ℕ) : Type 0 where
   pub size : length bytes ≡ left_of now.work
   pub bytes_are : bytes ≡ slice_range (given_now now now.work) (length (passed_of now.work)) (length (passed_of now.work) + left_of now.work)
 
-pub sense_lends : (c : CacheState) (r : Registers) (m : Mark) (s : Stage) (p : Progress) (before passed b : List ℕ) (u : Outcome) (now : DriveState)
+pub sense_lends : (c : CacheState) (r : Registers) (m : Mark) (s : Stage) (p : Progress) (before passed b : List ℕ) (u : CommandEnd) (now : DriveState)
     → Stands c r m s before passed → s ≡ Passing p → p.place ≡ Sense b u → state_of c r m s before passed ≡ now → Lends p now (slice_range b p.moved (p.moved + p.left))
 sense_lends c r m s p before passed b u now x is at now_is =
     let g = c.image.geometry in
     let goes = goes_of c r m s p before passed x is in
-    let P : Place → Type 0 = λ y. IsPlaced c g r (number g r) p.opened before passed y in
+    let P : Transfer → Type 0 = λ y. IsPlaced c g r (track_under g r) p.opened before passed y in
     let h = (subst P at goes.placed).0 in
     let left : p.left ≤ 6 - length passed = rw at at goes.left in
     let long : length b ≡ 6 = ap length h.bytes_are in
@@ -227,33 +227,33 @@ sense_lends c r m s p before passed b u now x is at now_is =
 
 -- where the bytes of an area stand that may be given
 pub record StandsInWindow (c : CacheState) (r : Registers) (p : Progress) (w : Window) : Type 0 where
-  pub held : c.held ≡ Some (number c.image.geometry r)
+  pub held : c.held ≡ Some (track_under c.image.geometry r)
   pub within : p.left ≤ w.len
-  pub inside : w.start + w.len ≤ length (slot_at c.slots (number c.image.geometry r))
+  pub inside : w.start + w.len ≤ length (slot_at c.slots (track_under c.image.geometry r))
   pub small : w.start + w.len < 2 ^ 32
 
-pub read_window : (c : CacheState) (r : Registers) (m : Mark) (s : Stage) (p : Progress) (before passed : List ℕ) (w : Window) (u : Outcome)
+pub read_window : (c : CacheState) (r : Registers) (m : Mark) (s : Stage) (p : Progress) (before passed : List ℕ) (w : Window) (u : CommandEnd)
     → Stands c r m s before passed → s ≡ Passing p → p.place ≡ Read w u → StandsInWindow c r p w
 read_window c r m s p before passed w u x is at =
     let g = c.image.geometry in
     let goes = goes_of c r m s p before passed x is in
-    let P : Place → Type 0 = λ y. IsPlaced c g r (number g r) p.opened before passed y in
+    let P : Transfer → Type 0 = λ y. IsPlaced c g r (track_under g r) p.opened before passed y in
     let h = (subst P at goes.placed).0 in
     record {
       held = h.held;
       within = rw at at goes.left;
       inside = h.lies.within;
-      small = omega (arith, h.lies.within, slot_small c (number g r) x.volume);
+      small = omega (arith, h.lies.within, slot_small c (track_under g r) x.volume);
     }
 
-pub read_lends : (c : CacheState) (r : Registers) (m : Mark) (s : Stage) (p : Progress) (before passed slot : List ℕ) (w : Window) (u : Outcome) (now : DriveState)
-    → Stands c r m s before passed → s ≡ Passing p → p.place ≡ Read w u → slot ≡ slot_at c.slots (number c.image.geometry r) → state_of c r m s before passed ≡ now → Lends p now (slice_range slot w.start (w.start + p.left))
+pub read_lends : (c : CacheState) (r : Registers) (m : Mark) (s : Stage) (p : Progress) (before passed slot : List ℕ) (w : Window) (u : CommandEnd) (now : DriveState)
+    → Stands c r m s before passed → s ≡ Passing p → p.place ≡ Read w u → slot ≡ slot_at c.slots (track_under c.image.geometry r) → state_of c r m s before passed ≡ now → Lends p now (slice_range slot w.start (w.start + p.left))
 read_lends c r m s p before passed slot w u now x is at slot_is now_is =
     let g = c.image.geometry in
-    let old = slot_at c.slots (number g r) in
+    let old = slot_at c.slots (track_under g r) in
     let goes = goes_of c r m s p before passed x is in
     let left : p.left ≤ w.len = rw at at goes.left in
-    let P : Place → Type 0 = λ y. IsPlaced c g r (number g r) p.opened before passed y in
+    let P : Transfer → Type 0 = λ y. IsPlaced c g r (track_under g r) p.opened before passed y in
     let h = (subst P at goes.placed).0 in
     let area = area_bytes (track_of old) p.opened r in
     let here : slice_range old w.start (w.start + p.left) ≡ slice_range area (length passed) (length passed + p.left) =
@@ -267,12 +267,12 @@ read_lends c r m s p before passed slot w u now x is at slot_is now_is =
 pub take_range : (k l at : ℕ) (s : List ℕ) → k ≤ l → take k (slice_range s at (at + l)) ≡ slice_range s at (at + k)
 take_range k l at s le = rw (behind_less at l, behind_less at k) (take-take k l (drop at s) le)
 
-pub moved_work : (c : CacheState) (r : Registers) (m : Mark) (s : Stage) (p : Progress) (before passed more : List ℕ) (now : DriveState) (k : ℕ) (place : Place)
-    → s ≡ Passing p → state_of c r m s before passed ≡ now → k ≡ length more → seen_by c.slots (number c.image.geometry r) before place ≡ seen_by c.slots (number c.image.geometry r) before p.place
+pub moved_work : (c : CacheState) (r : Registers) (m : Mark) (s : Stage) (p : Progress) (before passed more : List ℕ) (now : DriveState) (k : ℕ) (place : Transfer)
+    → s ≡ Passing p → state_of c r m s before passed ≡ now → k ≡ length more → seen_by c.slots (track_under c.image.geometry r) before place ≡ seen_by c.slots (track_under c.image.geometry r) before p.place
     → state_of c r m (Passing (next_progress p k place)) before (passed ++ more) ≡ record now { work = moved_on more now.work }
 moved_work c r m s p before passed more now k place is now_is n seen = rw (← now_is, is, n, seen) refl
 
-pub given_seen : (slots : List (List ℕ)) (n : ℕ) (before : List ℕ) (p : Place) (k : ℕ) → seen_by slots n before (given_on p k) ≡ seen_by slots n before p
+pub given_seen : (slots : List (List ℕ)) (n : ℕ) (before : List ℕ) (p : Transfer) (k : ℕ) → seen_by slots n before (given_on p k) ≡ seen_by slots n before p
 given_seen slots n before (Sense b u) k = refl
 given_seen slots n before (Read w u) k = refl
 given_seen slots n before (Field f) k = refl
@@ -297,5 +297,5 @@ has_passed c r m s p before passed bytes now k x is now_is gives le long are =
     let range : more ≡ slice_range (given_now now now.work) (length (passed_of now.work)) (length (passed_of now.work) + k) = rw are (take_range k (left_of now.work) (length (passed_of now.work)) (given_now now now.work) le) in
     record {
       stands = given_stands c r m s p before passed more k x is may n;
-      state = moved_work c r m s p before passed more now k (given_on p.place k) is now_is n (given_seen c.slots (number c.image.geometry r) before p.place k) ∙ ap (λ (b : List ℕ). record now { work = moved_on b now.work }) range;
+      state = moved_work c r m s p before passed more now k (given_on p.place k) is now_is n (given_seen c.slots (track_under c.image.geometry r) before p.place k) ∙ ap (λ (b : List ℕ). record now { work = moved_on b now.work }) range;
     }

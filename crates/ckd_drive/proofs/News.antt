@@ -7,27 +7,27 @@ use Rattle.ckd_track.specs.Changes.{overwritten, bare_track}
 use Rattle.ckd_track.proofs.Slots.{length-slot_of}
 use Rattle.ckd_track.specs.declared.geometries.Geometry.{Geometry}
 use Rattle.ckd_command.specs.declared.registers.Registers.{Registers}
-use Rattle.ckd_command.specs.declared.steps.Action.{Action}
-use Rattle.ckd_command.specs.declared.steps.Action.TheVariants as action
-use Rattle.ckd_command.specs.declared.steps.Opened.{Opened}
-use Rattle.ckd_command.specs.Steps.{Outcome}
+use Rattle.ckd_command.specs.declared.tables.Action.{Action}
+use Rattle.ckd_command.specs.declared.tables.Action.TheVariants as action
+use Rattle.ckd_command.specs.declared.begin.Opened.{Opened}
+use Rattle.ckd_command.specs.Steps.{CommandEnd}
 use Rattle.ckd_command.specs.Sights.{Found}
-use Rattle.ckd_drive.specs.declared.places.Whole.{Whole}
-use Rattle.ckd_drive.specs.declared.places.Whole.TheVariants as whole
+use Rattle.ckd_drive.specs.declared.transfer.Whole.{Whole}
+use Rattle.ckd_drive.specs.declared.transfer.Whole.TheVariants as whole
 use Rattle.ckd_slot.specs.declared.windows.Window.{Window}
-use Rattle.ckd_drive.specs.Places.{Place, Sense, Field, Read, Search, Fill, Filled, Progress}
+use Rattle.ckd_drive.specs.Transfers.{Transfer, Sense, Field, Read, Search, Fill, Filled, Progress}
 use Rattle.ckd_command.specs.Tables.{action_of}
 use Rattle.ckd_position.specs.Contents.{Sighted, padded}
-use Rattle.ckd_command.specs.Commands.{Closing, sight, length_after, closing, outcome, own_home_address, home_address_ends, writes}
+use Rattle.ckd_command.specs.Commands.{Closing, sight, length_after, closing, command_end, own_home_address, home_address_ends, writes}
 use Rattle.ckd_slot.specs.Buffer.{lengths_on}
 use Rattle.ckd_cache.specs.Cache.{CacheState, IsVolume, with_held}
-use Rattle.ckd_drive.specs.Half.{Works, MayTake, Absorbs, HasFilled, IsFilled, FieldAtHand, slot_at, number, seen_by, is_filled_by, whole_of}
+use Rattle.ckd_drive.specs.Half.{Works, MayTake, Absorbs, HasFilled, IsFilled, FieldAtHand, slot_at, track_under, seen_by, is_filled_by, whole_of}
 use Rattle.ckd_slot.proofs.Writes.{bare_fits}
 use Rattle.ckd_drive.proofs.Fills.{written_works, there, new_slot_at, written_absorbs, reads_new}
 use Rattle.ckd_drive.proofs.First.{length_by, closing_by}
 use Rattle.ckd_drive.proofs.Takes.{ChangesNothing, field_goes, field_absorbs}
 
-unfilled_sees : (slots : List (List ℕ)) (n : ℕ) (before : List ℕ) (p : Place) → is_filled_by p ≡ false → seen_by slots n before p ≡ slots
+unfilled_sees : (slots : List (List ℕ)) (n : ℕ) (before : List ℕ) (p : Transfer) → is_filled_by p ≡ false → seen_by slots n before p ≡ slots
 unfilled_sees slots n before (Sense b u) e = refl
 unfilled_sees slots n before (Field f) e = refl
 unfilled_sees slots n before (Read w u) e = refl
@@ -36,23 +36,23 @@ unfilled_sees slots n before (Fill w u) e = refl
 unfilled_sees slots n before (Filled w u) e = absurd cc
 
 -- the arm stays at its track
-pub record StaysOn (r : Registers) (u : Outcome) : Type 0 where
+pub record StaysOn (r : Registers) (u : CommandEnd) : Type 0 where
   pub stays : u.moves_off ≡ false
   pub cylinder : u.registers.cylinder ≡ r.cylinder
   pub head : u.registers.head ≡ r.head
 
 -- a command's first bytes that change the track
-pub newly_absorbs : (c : CacheState) (r : Registers) (before passed : List ℕ) (p : Progress) (more new : List ℕ) (w : Window) (u : Outcome) (le0 : length {A = ℕ} [] ≤ w.len)
-    → Works c r before passed p → c.held ≡ Some (number c.image.geometry r) → is_filled_by p.place ≡ false
-    → sight c.image.geometry (track_of (slot_at c.slots (number c.image.geometry r))) p.opened r ≡ Found p.opened
+pub newly_absorbs : (c : CacheState) (r : Registers) (before passed : List ℕ) (p : Progress) (more new : List ℕ) (w : Window) (u : CommandEnd) (le0 : length {A = ℕ} [] ≤ w.len)
+    → Works c r before passed p → c.held ≡ Some (track_under c.image.geometry r) → is_filled_by p.place ≡ false
+    → sight c.image.geometry (track_of (slot_at c.slots (track_under c.image.geometry r))) p.opened r ≡ Found p.opened
     → (action_of p.opened.command ≡ action.GiveSense → ⊥) × (action_of p.opened.command ≡ action.Read → ⊥) → StaysOn r u
     → 0 < length passed + length more → p.left - length more ≤ w.len → length passed + length more < 2 ^ 32
-    → (f : IsFilled c.image.geometry r (slot_at c.slots (number c.image.geometry r)) (slot_at (with_held c new).slots (number c.image.geometry r)) p.opened (passed ++ more) w u)
+    → (f : IsFilled c.image.geometry r (slot_at c.slots (track_under c.image.geometry r)) (slot_at (with_held c new).slots (track_under c.image.geometry r)) p.opened (passed ++ more) w u)
     → new ≡ slot_of c.image.geometry.track_size (f.closes [] le0).track
-    → Absorbs c (with_held c new) r before (slot_at c.slots (number c.image.geometry r)) passed p more (Filled w u)
+    → Absorbs c (with_held c new) r before (slot_at c.slots (track_under c.image.geometry r)) passed p more (Filled w u)
 newly_absorbs c r before passed p more new w u le0 x held plain again takes on some left small f is =
     let g = c.image.geometry in
-    let n : ℕ = number g r in
+    let n : ℕ = track_under g r in
     let lt = there c r before passed p x in
     let old = slot_at c.slots n in
     let k = f.closes [] le0 in
@@ -174,7 +174,7 @@ field_stays c r before passed p more f field x may at is none =
     let moved : p.moved + length more ≡ length (passed ++ more) = omega (arith, goes.moved, k.long) in
     let come : take (length (passed ++ more)) field ≡ passed ++ more = rw is k.collected in
     field_absorbs c r before passed p more f field x may at is
-    (no_change (action_of p.opened.command) c.image.geometry (track_of (slot_at c.slots (number c.image.geometry r))) p.opened r (length (passed ++ more)) field (passed ++ more) (rw moved at none) refl come)
+    (no_change (action_of p.opened.command) c.image.geometry (track_of (slot_at c.slots (track_under c.image.geometry r))) p.opened r (length (passed ++ more)) field (passed ++ more) (rw moved at none) refl come)
 
 -- the home address
 
@@ -190,7 +190,7 @@ none_behind b n e = (let z : drop n b ≡ [] = drop_all n b (omega (arith, e)) i
 
 -- the track's own home address has come whole
 abbrev pub home_filled : (g : Geometry) (r : Registers) (before now : List ℕ) (o : Opened) (b : List ℕ) → action_of o.command ≡ action.WriteHomeAddress → length b ≡ 5 → bytes_eq b (own_home_address r) ≡ true → 13 ≤ g.track_size
-    → lengths_on (track_in now) ≡ lengths_on (bare_track b) → IsFilled g r before now o b (record { start = 5; len = 0 }) (outcome (home_address_ends o r))
+    → lengths_on (track_in now) ≡ lengths_on (bare_track b) → IsFilled g r before now o b (record { start = 5; len = 0 }) (command_end (home_address_ends o r))
 home_filled g r before now o b is five own room lens =
     let s = slot_of g.track_size (bare_track b) in
     let f = bare_fits g.track_size b five room in
@@ -210,7 +210,7 @@ home_filled g r before now o b is five own room lens =
           let k : closing g (track_of before) o r (b ++ more) ≡ writes (bare_track b) (home_address_ends o r) = ap (λ (x : List ℕ). closing g (track_of before) o r x) e ∙ home_closes g (track_of before) o r b is five own in
           record {
             track = bare_track b;
-            so = ap outcome k;
+            so = ap command_end k;
             written = ap (λ (y : Closing). y.written) k;
             fits = f;
             lengths_stay = sym lens;
@@ -223,11 +223,11 @@ field_at : (a : Action) (c : CacheState) (n : ℕ) → a ≡ action.WriteHomeAdd
 field_at a c n is h = (let P : Action → Type 0 = λ y. FieldAtHand y c n in subst P is h)
 
 pub home_held : (c : CacheState) (r : Registers) (before passed : List ℕ) (p : Progress) (more f field h : List ℕ) → Works c r before passed p → MayTake p more → p.place ≡ Field f
-    → whole_of (action_of p.opened.command) (own_home_address r) (p.moved + length more) field ≡ whole.HomeAddress h → c.held ≡ Some (number c.image.geometry r)
+    → whole_of (action_of p.opened.command) (own_home_address r) (p.moved + length more) field ≡ whole.HomeAddress h → c.held ≡ Some (track_under c.image.geometry r)
 home_held c r before passed p more f field h x may at e =
     let k = field_goes c r before passed p more f x may at in
     let home = is_home (action_of p.opened.command) (own_home_address r) (p.moved + length more) field h e in
-    field_at (action_of p.opened.command) c (number c.image.geometry r) home.is k.has.at_hand
+    field_at (action_of p.opened.command) c (track_under c.image.geometry r) home.is k.has.at_hand
 
 -- no slot is shorter than that of a track without records
 pub size_least : (c : CacheState) → IsVolume c → 13 ≤ c.image.geometry.track_size
@@ -235,11 +235,11 @@ size_least c v = omega (arith, v.geometry.room)
 
 pub home_absorbs : (c : CacheState) (r : Registers) (before passed : List ℕ) (p : Progress) (more f field h new : List ℕ) → Works c r before passed p → MayTake p more → p.place ≡ Field f → field ≡ overwritten f p.moved more
     → whole_of (action_of p.opened.command) (own_home_address r) (p.moved + length more) field ≡ whole.HomeAddress h → new ≡ slot_of c.image.geometry.track_size (bare_track h)
-    → Absorbs c (with_held c new) r before (slot_at c.slots (number c.image.geometry r)) passed p more (Filled (record { start = 5; len = 0 }) (outcome (home_address_ends p.opened r)))
+    → Absorbs c (with_held c new) r before (slot_at c.slots (track_under c.image.geometry r)) passed p more (Filled (record { start = 5; len = 0 }) (command_end (home_address_ends p.opened r)))
 home_absorbs c r before passed p more f field h new x may at is e new_is =
     let room = size_least c x.volume in
     let g = c.image.geometry in
-    let n : ℕ = number g r in
+    let n : ℕ = track_under g r in
     let k = field_goes c r before passed p more f x may at in
     let goes = x.goes in
     let moved : p.moved + length more ≡ length (passed ++ more) = omega (arith, goes.moved, k.long) in
@@ -255,7 +255,7 @@ home_absorbs c r before passed p more f field h new x may at is e new_is =
     let at_new = new_slot_at c n new held (there c r before passed p x) in
     let lens : lengths_on (track_in (slot_at (with_held c new).slots n)) ≡ lengths_on (bare_track b) = ap (λ (y : List ℕ). lengths_on (track_in y)) at_new ∙ ap lengths_on read.1 in
     let left : p.left ≤ 5 - length passed = rw (at, home.is) at goes.left in
-    newly_absorbs c r before passed p more new (record { start = 5; len = 0 }) (outcome (home_address_ends p.opened r)) (omega arith) x held (rw at refl) k.again
+    newly_absorbs c r before passed p more new (record { start = 5; len = 0 }) (command_end (home_address_ends p.opened r)) (omega arith) x held (rw at refl) k.again
     (takes_home (action_of p.opened.command) home.is) (record { stays = refl; cylinder = refl; head = refl }) (omega (arith, five, k.long)) (omega (arith, left, five, k.long)) (omega (arith, five, k.long))
     (home_filled g r (slot_at c.slots n) (slot_at (with_held c new).slots n) p.opened b home.is five own room lens) made
   where

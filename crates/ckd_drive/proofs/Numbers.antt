@@ -9,13 +9,13 @@ use Rattle.ckd_command.specs.declared.registers.Mark.{Mark}
 use Rattle.ckd_drive.specs.Stage.{Stage}
 use Rattle.ckd_command.specs.Commands.{IsAtTrack}
 use Rattle.ckd_cache.specs.Cache.{CacheState}
-use Rattle.ckd_drive.specs.Half.{Stands, number}
+use Rattle.ckd_drive.specs.Half.{Stands, track_under}
 
-pub number_below : (g : Geometry) (r : Registers) → IsAtTrack g r → number g r < tracks_of g
+pub number_below : (g : Geometry) (r : Registers) → IsAtTrack g r → track_under g r < tracks_of g
 number_below g r at = below g.cylinders (heads_of g.model) r.cylinder r.head at.cylinder at.head
   where
     below : (c h x y : ℕ) → x < c → y < h → x * h + y < c * h
     below c h x y a b = (let le : (x + 1) * h ≤ c * h = mul-le-mul_right h (omega (arith, a)) in let e : (x + 1) * h ≡ x * h + h = rw (add-one, suc-mul) refl in omega (arith, le, e, b))
 
-pub number_there : (c : CacheState) (r : Registers) (m : Mark) (s : Stage) (before passed : List ℕ) → Stands c r m s before passed → number c.image.geometry r < length c.slots
+pub number_there : (c : CacheState) (r : Registers) (m : Mark) (s : Stage) (before passed : List ℕ) → Stands c r m s before passed → track_under c.image.geometry r < length c.slots
 number_there c r m s before passed x = rw x.volume.count (number_below c.image.geometry r x.arm)

@@ -13,21 +13,21 @@ use Rattle.ckd_position.specs.declared.areas.Area.{Area}
 use Rattle.ckd_position.specs.declared.areas.Area.TheVariants.{HomeAddress, Of}
 use Rattle.ckd_position.specs.declared.areas.Part.{Part}
 use Rattle.ckd_command.specs.declared.registers.Registers.{Registers}
-use Rattle.ckd_command.specs.declared.steps.Action.{Action}
-use Rattle.ckd_command.specs.declared.steps.Action.TheVariants as action
+use Rattle.ckd_command.specs.declared.tables.Action.{Action}
+use Rattle.ckd_command.specs.declared.tables.Action.TheVariants as action
 use Rattle.ckd_position.specs.declared.extents.Extent.{Extent}
 use Rattle.ckd_position.specs.declared.extents.Extent.TheVariants as extent
-use Rattle.ckd_command.specs.declared.steps.Opened.{Opened}
-use Rattle.ckd_command.specs.Steps.{Outcome}
+use Rattle.ckd_command.specs.declared.begin.Opened.{Opened}
+use Rattle.ckd_command.specs.Steps.{CommandEnd}
 use Rattle.ckd_command.specs.Sights.{Found}
 use Rattle.ckd_slot.specs.declared.windows.Window.{Window}
-use Rattle.ckd_drive.specs.Places.{Place, Fill, Filled, Progress}
+use Rattle.ckd_drive.specs.Transfers.{Transfer, Fill, Filled, Progress}
 use Rattle.ckd_command.specs.Tables.{action_of, extent_of}
 use Rattle.ckd_position.specs.Contents.{Sighted, bytes_of, padded, replaced, with_record_changed}
-use Rattle.ckd_command.specs.Commands.{Closing, bytes_at, area_bytes, sight, closing, end_of_area, updated, outcome, writes}
+use Rattle.ckd_command.specs.Commands.{Closing, bytes_at, area_bytes, sight, closing, end_of_area, updated, command_end, writes}
 use Rattle.ckd_slot.specs.Buffer.{FitsSlot, IsUpdate, IsRecordOf, SameRecords, IsPlaceOf, lengths_on}
 use Rattle.ckd_cache.specs.Cache.{CacheState, with_held, slot_held}
-use Rattle.ckd_drive.specs.Half.{Works, MayTake, Absorbs, IsPlaced, IsFilled, ClosesUnwritten, AtHand, PlaceIn, slot_at, number}
+use Rattle.ckd_drive.specs.Half.{Works, MayTake, Absorbs, IsPlaced, IsFilled, ClosesUnwritten, AtHand, PlaceIn, slot_at, track_under}
 use Rattle.ckd_slot.proofs.Writes.{update_offset, update_length, update_place}
 use Rattle.ckd_slot.proofs.Updates.{form_of, same_records}
 use Rattle.ckd_drive.proofs.Fills.{there, new_slot_at, reads_new, ClosesFilled, form_filled, length-padded, next_made, old_read}
@@ -198,8 +198,8 @@ update_closes : (g : Geometry) (slot : List ℕ) (o : Opened) (r : Registers) (a
 update_closes g slot o r a b is reads there some =
     closing_by action.Update g (track_of slot) o r b is ∙ rw (positive (length b) some) (updated_is slot a (track_of slot) o.area (replaced (extent_of o.command) b) (end_of_area (track_of slot) o r) reads there)
 
-fill_filled : (g : Geometry) (r : Registers) (slot : List ℕ) (o : Opened) (part : Part) (i : ℕ) (b : List ℕ) (u : Outcome) → action_of o.command ≡ action.Update → IsUpdate (extent_of o.command) → track_of slot ≡ Ok (track_in slot) → o.area ≡ Some (Of part i)
-    → i < length (track_in slot).records → 0 < length b → length b ≤ update_length (extent_of o.command) (record_in (track_in slot) i) → outcome (end_of_area (track_of slot) o r) ≡ u → length (area_bytes (track_of slot) o r) ≡ update_length (extent_of o.command) (record_in (track_in slot) i)
+fill_filled : (g : Geometry) (r : Registers) (slot : List ℕ) (o : Opened) (part : Part) (i : ℕ) (b : List ℕ) (u : CommandEnd) → action_of o.command ≡ action.Update → IsUpdate (extent_of o.command) → track_of slot ≡ Ok (track_in slot) → o.area ≡ Some (Of part i)
+    → i < length (track_in slot).records → 0 < length b → length b ≤ update_length (extent_of o.command) (record_in (track_in slot) i) → command_end (end_of_area (track_of slot) o r) ≡ u → length (area_bytes (track_of slot) o r) ≡ update_length (extent_of o.command) (record_in (track_in slot) i)
     → ClosesFilled g r slot o b u (cleared (extent_of o.command) part i (track_in slot)) (extent_of o.command) part i 0 (update_length (extent_of o.command) (record_in (cleared (extent_of o.command) part i (track_in slot)) i))
 fill_filled g r slot o part i b u is upd reads there lt some le so size =
     let t = track_in slot in
@@ -208,49 +208,49 @@ fill_filled g r slot o part i b u is upd reads there lt some le so size =
     let room : update_length e (record_in (cleared e part i t) i) ≡ update_length e (record_in t i) = ap (update_length e) (cleared_record e t part i lt) ∙ cleared_length e (record_in t i) upd in
     let wants = length_by action.Update g (track_of slot) o r b is in
     record {
-      so = ap outcome k ∙ so;
+      so = ap command_end k ∙ so;
       written = ap (λ (y : Closing). y.written) k ∙ ap (λ (y : Track). Some y) (sym (cleared_changed e t part i b upd lt le));
       wants = omega (arith, wants, size, room);
     }
 
 -- A command's first bytes that replace others.
 
-pub record FillGoes (c : CacheState) (r : Registers) (passed : List ℕ) (p : Progress) (more : List ℕ) (a : Area) (w : Window) (u : Outcome) : Type 0 where
+pub record FillGoes (c : CacheState) (r : Registers) (passed : List ℕ) (p : Progress) (more : List ℕ) (a : Area) (w : Window) (u : CommandEnd) : Type 0 where
   pub is : action_of p.opened.command ≡ action.Update
-  pub hand : AtHand c (number c.image.geometry r)
+  pub hand : AtHand c (track_under c.image.geometry r)
   pub upd : IsUpdate (extent_of p.opened.command)
   pub none : passed ≡ []
   pub le : length more ≤ w.len
   pub left : p.left ≤ w.len
-  pub there : IsRecordOf (track_in (slot_at c.slots (number c.image.geometry r))) a
-  pub place : IsPlaceOf (extent_of p.opened.command) (track_in (slot_at c.slots (number c.image.geometry r))) a w
+  pub there : IsRecordOf (track_in (slot_at c.slots (track_under c.image.geometry r))) a
+  pub place : IsPlaceOf (extent_of p.opened.command) (track_in (slot_at c.slots (track_under c.image.geometry r))) a w
   pub within : w.start + w.len ≤ c.image.geometry.track_size
-  pub again : sight c.image.geometry (track_of (slot_at c.slots (number c.image.geometry r))) p.opened r ≡ Found p.opened
-  pub size : length (area_bytes (track_of (slot_at c.slots (number c.image.geometry r))) p.opened r) ≡ w.len
-  pub so : outcome (end_of_area (track_of (slot_at c.slots (number c.image.geometry r))) p.opened r) ≡ u
+  pub again : sight c.image.geometry (track_of (slot_at c.slots (track_under c.image.geometry r))) p.opened r ≡ Found p.opened
+  pub size : length (area_bytes (track_of (slot_at c.slots (track_under c.image.geometry r))) p.opened r) ≡ w.len
+  pub so : command_end (end_of_area (track_of (slot_at c.slots (track_under c.image.geometry r))) p.opened r) ≡ u
 
 -- bytes that come belong to an area
-pub no_area : (c : CacheState) (r : Registers) (before passed : List ℕ) (p : Progress) (more : List ℕ) (w : Window) (u : Outcome) → Works c r before passed p → MayTake p more → p.place ≡ Fill w u → p.opened.area ≡ None → 0 < length more → ⊥
+pub no_area : (c : CacheState) (r : Registers) (before passed : List ℕ) (p : Progress) (more : List ℕ) (w : Window) (u : CommandEnd) → Works c r before passed p → MayTake p more → p.place ≡ Fill w u → p.opened.area ≡ None → 0 < length more → ⊥
 no_area c r before passed p more w u x may at none some =
     let g = c.image.geometry in
-    let n : ℕ = number g r in
+    let n : ℕ = track_under g r in
     let t = track_of (slot_at c.slots n) in
     let left : p.left ≤ w.len = rw at at x.goes.left in
-    let P : Place → Type 0 = λ y. IsPlaced c g r n p.opened before passed y in
+    let P : Transfer → Type 0 = λ y. IsPlaced c g r n p.opened before passed y in
     let h = (subst P at x.goes.placed).0 in
     let bytes : area_bytes t p.opened r ≡ [] = area_by action.Update t p.opened r h.is_update ∙ rw none refl in
     let zero : 0 ≡ w.len = sym (ap length bytes) ∙ h.lies.size in
     omega (arith, zero, left, may.room, some)
 
-pub fill_goes : (c : CacheState) (r : Registers) (before passed : List ℕ) (p : Progress) (more : List ℕ) (a : Area) (w : Window) (u : Outcome) → Works c r before passed p → MayTake p more → p.place ≡ Fill w u → p.opened.area ≡ Some a → 0 < length more
+pub fill_goes : (c : CacheState) (r : Registers) (before passed : List ℕ) (p : Progress) (more : List ℕ) (a : Area) (w : Window) (u : CommandEnd) → Works c r before passed p → MayTake p more → p.place ≡ Fill w u → p.opened.area ≡ Some a → 0 < length more
     → FillGoes c r passed p more a w u
 fill_goes c r before passed p more a w u x may at area some =
     let g = c.image.geometry in
-    let n : ℕ = number g r in
+    let n : ℕ = track_under g r in
     let old = slot_at c.slots n in
     let t = track_of old in
     let left : p.left ≤ w.len = rw at at x.goes.left in
-    let P : Place → Type 0 = λ y. IsPlaced c g r n p.opened before passed y in
+    let P : Transfer → Type 0 = λ y. IsPlaced c g r n p.opened before passed y in
     let placed = subst P at x.goes.placed in
     let h = placed.0 in
     let e = extent_of p.opened.command in
@@ -276,29 +276,29 @@ fill_goes c r before passed p more a w u x may at area some =
       within = omega (arith, h.lies.within, x.volume.sizes n [] (there c r before passed p x));
       again = placed.1.again;
       size = h.lies.size;
-      so = ap outcome (sym closes) ∙ closed.so;
+      so = ap command_end (sym closes) ∙ closed.so;
     }
 
 takes_update : (a : Action) → a ≡ action.Update → (a ≡ action.GiveSense → ⊥) × (a ≡ action.Read → ⊥)
 takes_update a e = (λ z. cc, λ z. cc)
 
-ends_on : (t : Sighted) (o : Opened) (r : Registers) (u : Outcome) → outcome (end_of_area t o r) ≡ u → StaysOn r u
-ends_on t o r u so = record { stays = ap (λ (y : Outcome). y.moves_off) (sym so); cylinder = ap (λ (y : Outcome). y.registers.cylinder) (sym so); head = ap (λ (y : Outcome). y.registers.head) (sym so) }
+ends_on : (t : Sighted) (o : Opened) (r : Registers) (u : CommandEnd) → command_end (end_of_area t o r) ≡ u → StaysOn r u
+ends_on t o r u so = record { stays = ap (λ (y : CommandEnd). y.moves_off) (sym so); cylinder = ap (λ (y : CommandEnd). y.registers.cylinder) (sym so); head = ap (λ (y : CommandEnd). y.registers.head) (sym so) }
 
 -- the slot that was cleared, and then gets bytes
 abbrev pub cleared_slot : CacheState → Registers → Progress → Area → List ℕ
-cleared_slot c r p a = slot_of c.image.geometry.track_size (with_record_changed (replaced (extent_of p.opened.command) []) a (track_in (slot_at c.slots (number c.image.geometry r))))
+cleared_slot c r p a = slot_of c.image.geometry.track_size (with_record_changed (replaced (extent_of p.opened.command) []) a (track_in (slot_at c.slots (track_under c.image.geometry r))))
 
-pub record Replaces (c : CacheState) (r : Registers) (before passed : List ℕ) (p : Progress) (more : List ℕ) (a : Area) (w : Window) (u : Outcome) : Type 0 where
+pub record Replaces (c : CacheState) (r : Registers) (before passed : List ℕ) (p : Progress) (more : List ℕ) (a : Area) (w : Window) (u : CommandEnd) : Type 0 where
   pub records : SameRecords (cleared_slot c r p a) (overwritten (cleared_slot c r p a) w.start more)
-  pub absorbs : Absorbs c (with_held c (overwritten (cleared_slot c r p a) w.start more)) r before (slot_at c.slots (number c.image.geometry r)) passed p more (Filled (record { start = w.start + length more; len = w.len - length more }) u)
+  pub absorbs : Absorbs c (with_held c (overwritten (cleared_slot c r p a) w.start more)) r before (slot_at c.slots (track_under c.image.geometry r)) passed p more (Filled (record { start = w.start + length more; len = w.len - length more }) u)
 
-pub fill_absorbs : (c : CacheState) (r : Registers) (before passed : List ℕ) (p : Progress) (more : List ℕ) (a : Area) (w : Window) (u : Outcome) → Works c r before passed p → MayTake p more → p.place ≡ Fill w u → p.opened.area ≡ Some a → 0 < length more
-    → FillGoes c r passed p more a w u → FitsSlot c.image.geometry.track_size (with_record_changed (replaced (extent_of p.opened.command) []) a (track_in (slot_at c.slots (number c.image.geometry r)))) → Replaces c r before passed p more a w u
+pub fill_absorbs : (c : CacheState) (r : Registers) (before passed : List ℕ) (p : Progress) (more : List ℕ) (a : Area) (w : Window) (u : CommandEnd) → Works c r before passed p → MayTake p more → p.place ≡ Fill w u → p.opened.area ≡ Some a → 0 < length more
+    → FillGoes c r passed p more a w u → FitsSlot c.image.geometry.track_size (with_record_changed (replaced (extent_of p.opened.command) []) a (track_in (slot_at c.slots (track_under c.image.geometry r)))) → Replaces c r before passed p more a w u
 fill_absorbs c r before passed p more HomeAddress w u x may at area some k f = absurd k.there
 fill_absorbs c r before passed p more (Of part i) w u x may at area some k f =
     let g = c.image.geometry in
-    let n : ℕ = number g r in
+    let n : ℕ = track_under g r in
     let old = slot_at c.slots n in
     let size = g.track_size in
     let e = extent_of p.opened.command in

@@ -4,11 +4,11 @@ use Rattle.std.proofs.Common.{◌≡◌, ◌∙◌, inl, inr, ◌⊎◌, ap, sym
 use Rattle.ckd_command.specs.declared.registers.Registers.{Registers}
 use Rattle.ckd_command.specs.declared.registers.Mark.{Mark}
 use Rattle.ckd_command.specs.declared.registers.Mark.TheVariants.{Saved, Written, Lost}
-use Rattle.ckd_command.specs.declared.steps.Aim.{Aim}
-use Rattle.ckd_command.specs.declared.steps.Aim.TheVariants.{NoArea, Next, Credited}
+use Rattle.ckd_command.specs.declared.tables.Aim.{Aim}
+use Rattle.ckd_command.specs.declared.tables.Aim.TheVariants.{NoArea, Next, Credited}
 use Rattle.ckd_command.specs.Beginnings.{Beginning}
 use Rattle.ckd_command.specs.Beginnings as beginning
-use Rattle.ckd_command.specs.declared.steps.DriveEnding.{DriveEnding}
+use Rattle.ckd_command.specs.declared.close.DriveEnding.{DriveEnding}
 use Rattle.ckd_command.specs.Sights.{Sight}
 use Rattle.ckd_command.specs.Sights as sight
 use Rattle.ckd_command.specs.Tables.{aim}

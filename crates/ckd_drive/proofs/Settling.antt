@@ -1,15 +1,15 @@
 -- How a drive settles.
 use Rattle.std.proofs.Common.{◌≡◌, ◌∙◌, ap, sym, refl, ℕ, ◌<◌, List, [], true, false, Some, None, unwrap_or, length, slice_index_or, arith}
 use Rattle.ckd_command.specs.declared.registers.Registers.{Registers}
-use Rattle.ckd_command.specs.declared.steps.Opened.{Opened}
+use Rattle.ckd_command.specs.declared.begin.Opened.{Opened}
 use Rattle.ckd_command.specs.declared.registers.Mark.{Mark}
 use Rattle.ckd_command.specs.declared.registers.Mark.TheVariants.{Written, Lost}
-use Rattle.ckd_drive.specs.Places.{Place, Sense, Field, Read, Search, Fill, Filled}
+use Rattle.ckd_drive.specs.Transfers.{Transfer, Sense, Field, Read, Search, Fill, Filled}
 use Rattle.ckd_drive.specs.Stage.{Stage, Idle, Over, Looking, Passing}
 use Rattle.ckd_command.specs.Drive.{SaveFails}
 use Rattle.ckd_cache.specs.Cache.{CacheState, after_save, after_failed_save}
 use Rattle.ckd_drive.specs.Work.{DriveState, passed_of, fault_met, with_image, after_settle, settled_mark}
-use Rattle.ckd_drive.specs.Half.{Stands, StageIs, IsPlaced, state_of, work_of, seen, number, is_filled, is_filled_by}
+use Rattle.ckd_drive.specs.Half.{Stands, StageIs, IsPlaced, state_of, work_of, seen, track_under, is_filled, is_filled_by}
 use Rattle.ckd_drive.proofs.Calls.{changed_is}
 use Rattle.ckd_drive.proofs.Torn.{torn_whole}
 use Rattle.ckd_drive.proofs.Numbers.{number_there}
@@ -17,7 +17,7 @@ use Rattle.ckd_drive.proofs.Faults.{fault_none, fault_saving, mark_written, fail
 use Rattle.ckd_drive.proofs.Standing.{failures_saved, geometry_saved}
 use Rattle.ckd_drive.proofs.Looks.{no_filled_seen}
 
-unfilled_place : (c : CacheState) (r : Registers) (o : Opened) (before passed : List ℕ) (p : Place) → IsPlaced c c.image.geometry r (number c.image.geometry r) o before passed p → passed ≡ [] → is_filled_by p ≡ false
+unfilled_place : (c : CacheState) (r : Registers) (o : Opened) (before passed : List ℕ) (p : Transfer) → IsPlaced c c.image.geometry r (track_under c.image.geometry r) o before passed p → passed ≡ [] → is_filled_by p ≡ false
 unfilled_place c r o before passed (Filled w u) x e = absurd (let some : 0 < length passed = x.some in let none : length passed ≡ 0 = ap length e in omega (arith, some, none))
 unfilled_place c r o before passed (Sense b u) x e = refl
 unfilled_place c r o before passed (Field f) x e = refl
@@ -45,7 +45,7 @@ pub settled_state : (c c' : CacheState) (r : Registers) (m : Mark) (s : Stage) (
     → Stands c r m s before passed → state_of c r m s before passed ≡ now → passed_of now.work ≡ [] → c' ≡ after_save c
     → state_of c' r (settled_mark m) Idle before passed ≡ with_image (after_settle (fault_met now (state_of c' r (settled_mark m) Idle before passed)) now) c'.image
 settled_state c c' r m s before passed now x is e save =
-    let plain = seen_plain c.slots (number c.image.geometry r) before s (unfilled c r m s before passed now x is e) in
+    let plain = seen_plain c.slots (track_under c.image.geometry r) before s (unfilled c r m s before passed now x is e) in
     let new = state_of c' r (settled_mark m) Idle before passed in
     let old = state_of c r m s before passed in
     let none : fault_met old new ≡ None = fault_none old new (ap (λ (d : CacheState). d.image.failures) save ∙ failures_saved c) in
@@ -57,7 +57,7 @@ pub unsettled_state : (c c' : CacheState) (r : Registers) (m : Mark) (s : Stage)
     → Stands c r m s before passed → state_of c r m s before passed ≡ now → passed_of now.work ≡ [] → c.changed ≡ true → c' ≡ after_failed_save c left → left ≡ slice_index_or c'.image.slots (unwrap_or c.held 0) [] → length left ≡ c.image.geometry.track_size
     → state_of c' (lost_registers r) Lost Idle before passed ≡ with_image (after_settle (fault_met now (state_of c' (lost_registers r) Lost Idle before passed)) now) c'.image
 unsettled_state c c' r m s before passed left now x is e changed failed there size =
-    let n : ℕ = number c.image.geometry r in
+    let n : ℕ = track_under c.image.geometry r in
     let f0 = unfilled c r m s before passed now x is e in
     let plain = seen_plain c.slots n before s f0 in
     let held : c.held ≡ Some n = x.anchored changed in

@@ -17,13 +17,13 @@ use Rattle.ckd_sense.specs.Masks.{allows_head_change}
 use Rattle.ckd_command.specs.declared.registers.Registers.{Registers}
 use Rattle.ckd_command.specs.declared.registers.Lap.{Lap}
 use Rattle.ckd_command.specs.declared.registers.Lap.TheVariants.{First, Second}
-use Rattle.ckd_command.specs.declared.steps.Aim.{Aim}
-use Rattle.ckd_command.specs.declared.steps.Aim.TheVariants.{NoArea, Next, Credited}
-use Rattle.ckd_command.specs.declared.steps.Action.{Action}
-use Rattle.ckd_command.specs.declared.steps.Action.TheVariants as action
+use Rattle.ckd_command.specs.declared.tables.Aim.{Aim}
+use Rattle.ckd_command.specs.declared.tables.Aim.TheVariants.{NoArea, Next, Credited}
+use Rattle.ckd_command.specs.declared.tables.Action.{Action}
+use Rattle.ckd_command.specs.declared.tables.Action.TheVariants as action
 use Rattle.ckd_position.specs.declared.extents.Extent.{Extent}
 use Rattle.ckd_position.specs.declared.extents.Extent.TheVariants as extent
-use Rattle.ckd_command.specs.declared.steps.Opened.{Opened}
+use Rattle.ckd_command.specs.declared.begin.Opened.{Opened}
 use Rattle.ckd_command.specs.Sights.{Sight, Found, IndexPassed, NextHead, Missed}
 use Rattle.ckd_command.specs.Tables.{aim, action_of, needs_readable}
 use Rattle.ckd_position.specs.Contents.{Sighted, is_readable}

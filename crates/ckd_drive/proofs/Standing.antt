@@ -13,11 +13,16 @@ use Rattle.ckd_drive.specs.Stage.{Stage, Idle, Over, Looking, Passing}
 use Rattle.ckd_command.specs.Commands.{IsAtTrack}
 use Rattle.ckd_command.specs.Steps.{moved_to}
 use Rattle.ckd_cache.specs.Cache.{CacheState, IsVolume, saved, after_save, after_failed_save, after_failed_hold}
-use Rattle.ckd_drive.specs.Work.{DriveState, is_idle}
+use Rattle.ckd_command.specs.declared.begin.Opened.{Opened}
+use Rattle.ckd_drive.specs.declared.transfer.Progress.{Progress as ProgressHeld}
+use Rattle.ckd_drive.specs.declared.answers.Stage.{Stage as StageHeld}
+use Rattle.ckd_drive.specs.declared.answers.Stage.TheVariants as held
+use Rattle.ckd_drive.specs.Held.{stage_seen, progress_seen}
+use Rattle.ckd_drive.specs.Work.{DriveState, is_idle, passes_now}
 use Rattle.ckd_command.specs.Beginnings.{Beginning}
 use Rattle.ckd_command.specs.Commands.{beginning}
 use Rattle.ckd_drive.proofs.Beginnings.{begins_well}
-use Rattle.ckd_drive.specs.Half.{Stands, StageIs, state_of, BeginsWell, CreditIs, number, is_filled, work_of}
+use Rattle.ckd_drive.specs.Half.{Stands, StageIs, state_of, BeginsWell, CreditIs, track_under, is_filled, work_of}
 
 pub on_ok : (r : Result (Unit {0}) StoreFault) (P : Type 0) → is_err r ≡ false → OnOk r P → P
 on_ok (Ok u) P e p = p
@@ -103,12 +108,12 @@ lost_stands c c' r q m s s' before passed before' passed' left x is size f' cy h
 -- what a command code leads to, where nothing was begun
 pub well_begun : (c : CacheState) (r : Registers) (m : Mark) (s : Stage) (before passed : List ℕ) (now : DriveState) (code : ℕ) (b : Beginning)
     → Stands c r m s before passed → state_of c r m s before passed ≡ now → is_idle now.work ≡ true → b ≡ beginning code r
-    → (s ≡ Idle) × BeginsWell c (number c.image.geometry r) r b
+    → (s ≡ Idle) × BeginsWell c (track_under c.image.geometry r) r b
 well_begun c r m s before passed now code b x is idle e =
     let at_rest : s ≡ Idle = idle_stage s passed (ap (λ (d : DriveState). is_idle d.work) is ∙ idle) in
     let P : Stage → Type 0 = λ t. StageIs c r before passed t in
-    let credit : CreditIs r.credit c (number c.image.geometry r) = subst P at_rest x.work in
-    (at_rest, rw e (begins_well c (number c.image.geometry r) code r credit))
+    let credit : CreditIs r.credit c (track_under c.image.geometry r) = subst P at_rest x.work in
+    (at_rest, rw e (begins_well c (track_under c.image.geometry r) code r credit))
 
 pub not_true : (b : Bool) → not b ≡ true → b ≡ false
 not_true true e = absurd cc
@@ -117,3 +122,17 @@ not_true false e = refl
 pub not_false : (b : Bool) → not b ≡ false → b ≡ true
 not_false true e = refl
 not_false false e = absurd cc
+
+-- the stage of a command whose bytes pass
+passing_stage : (r : Registers) (o : Opened) (p : ProgressHeld) (s : StageHeld) (passed : List ℕ) → passes_now (work_of (stage_seen r o p s) passed) ≡ true
+    → stage_seen r o p s ≡ Passing (progress_seen r o p)
+passing_stage r o p held.Idle passed e = absurd cc
+passing_stage r o p held.Ended passed e = absurd cc
+passing_stage r o p held.InMotion passed e = absurd cc
+passing_stage r o p held.Failed passed e = absurd cc
+passing_stage r o p held.Looking passed e = absurd cc
+passing_stage r o p held.Passing passed e = refl
+
+pub at_passing : (c : CacheState) (r : Registers) (m : Mark) (o : Opened) (p : ProgressHeld) (s : StageHeld) (before passed : List ℕ) (now : DriveState)
+    → state_of c r m (stage_seen r o p s) before passed ≡ now → passes_now now.work ≡ true → stage_seen r o p s ≡ Passing (progress_seen r o p)
+at_passing c r m o p s before passed now is e = passing_stage r o p s passed (ap (λ (d : DriveState). passes_now d.work) is ∙ e)

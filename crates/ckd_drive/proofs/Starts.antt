@@ -4,14 +4,14 @@ use Rattle.ckd_command.specs.declared.registers.Registers.{Registers}
 use Rattle.ckd_command.specs.declared.registers.Mark.{Mark}
 use Rattle.ckd_command.specs.declared.registers.Mark.TheVariants.{Saved, Written, Lost}
 use Rattle.ckd_command.specs.Beginnings.{Beginning, ToCylinderZero}
-use Rattle.ckd_command.specs.declared.steps.Opened.{Opened}
+use Rattle.ckd_command.specs.declared.begin.Opened.{Opened}
 use Rattle.ckd_drive.specs.Stage.{Stage, Idle, Over, Looking, Passing}
 use Rattle.ckd_command.specs.Commands.{beginning}
 use Rattle.ckd_command.specs.Steps.{moved_to}
 use Rattle.ckd_command.specs.Drive.{AfterBegin, Rejected, Immediate, Started, SaveFails, begin, is_written_by}
 use Rattle.ckd_cache.specs.Cache.{CacheState, after_save, after_failed_save}
 use Rattle.ckd_drive.specs.Work.{DriveState, fault_met, after_begun, after_begin, answer_of_begin, begin_saves, immediate_ending, is_idle}
-use Rattle.ckd_drive.specs.Half.{Stands, BeginsWell, number, state_of, work_of}
+use Rattle.ckd_drive.specs.Half.{Stands, BeginsWell, track_under, state_of, work_of}
 use Rattle.ckd_drive.specs.Stages.{Comes, Begins, Leaves, Loses, begun_at}
 use Rattle.ckd_drive.proofs.Calls.{changed_is, and_true, no_more, loads_saved, calls_of_save, calls_of_failed_save}
 use Rattle.ckd_drive.proofs.Faults.{fault_none, fault_saving, failed_left, mark_written, lost_registers, to_zero}
@@ -21,9 +21,9 @@ use Rattle.ckd_drive.proofs.Torn.{torn_whole}
 
 -- The arm can't go to cylinder 0, since the track can't be saved.
 pub lost_begins : (c c' : CacheState) (r r' q : Registers) (m m' : Mark) (o : Option Opened) (b : Beginning)
-    → Stands c r m Idle [] [] → BeginsWell c (number c.image.geometry r) r b → b ≡ ToCylinderZero q o → Loses c c' q r' m' → Begins c c' r r' m m' b Idle
+    → Stands c r m Idle [] [] → BeginsWell c (track_under c.image.geometry r) r b → b ≡ ToCylinderZero q o → Loses c c' q r' m' → Begins c c' r r' m m' b Idle
 lost_begins c c' r r' q m m' o b x well is l = rw (is, l.cache, l.registers, l.mark) (λ before passed. (
-    let n : ℕ = number c.image.geometry r in
+    let n : ℕ = track_under c.image.geometry r in
     let k = to_zero c n r q o (rw is at well) in
     let left = l.left in
     let there : left ≡ slice_index_or (after_failed_save c left).image.slots (unwrap_or c.held 0) [] = l.there ∙ ap (λ (d : CacheState). slice_index_or d.image.slots (unwrap_or c.held 0) []) l.cache in
@@ -44,7 +44,7 @@ lost_begins c c' r r' q m m' o b x well is l = rw (is, l.cache, l.registers, l.m
 
 -- The arm goes there, and the command works.
 pub zero_begins : (c c' : CacheState) (r r' q : Registers) (m m' : Mark) (o : Opened) (b : Beginning) (s : Stage)
-    → Stands c r m Idle [] [] → BeginsWell c (number c.image.geometry r) r b → b ≡ ToCylinderZero q (Some o) → Leaves c c' r' m' (moved_to q 0 0) → s ≡ Looking o → Begins c c' r r' m m' b s
+    → Stands c r m Idle [] [] → BeginsWell c (track_under c.image.geometry r) r b → b ≡ ToCylinderZero q (Some o) → Leaves c c' r' m' (moved_to q 0 0) → s ≡ Looking o → Begins c c' r r' m m' b s
 zero_begins c c' r r' q m m' o b s x well is l e = rw (is, l.cache, l.registers, l.mark, e) (λ before passed. (
     let w = rw is at well in
     let old = state_of c r m Idle [] [] in
@@ -61,7 +61,7 @@ zero_begins c c' r r' q m m' o b s x well is l e = rw (is, l.cache, l.registers,
 
 -- The arm goes there, and the command is over.
 pub zero_ends : (c c' : CacheState) (r r' q : Registers) (m m' : Mark) (b : Beginning)
-    → Stands c r m Idle [] [] → BeginsWell c (number c.image.geometry r) r b → b ≡ ToCylinderZero q None → Leaves c c' r' m' (moved_to q 0 0) → Begins c c' r r' m m' b (Over (immediate_ending true))
+    → Stands c r m Idle [] [] → BeginsWell c (track_under c.image.geometry r) r b → b ≡ ToCylinderZero q None → Leaves c c' r' m' (moved_to q 0 0) → Begins c c' r r' m m' b (Over (immediate_ending true))
 zero_ends c c' r r' q m m' b x well is l = rw (is, l.cache, l.registers, l.mark) (λ before passed. (
     let w = rw is at well in
     let old = state_of c r m Idle [] [] in
@@ -69,7 +69,7 @@ zero_ends c c' r r' q m m' b x well is l = rw (is, l.cache, l.registers, l.mark)
     let none : fault_met old new ≡ None = fault_none old new (failures_saved c) in
     let changed : c.changed ≡ is_written_by m = changed_is c r m Idle [] [] x refl in
     record {
-      stands = saved_stands c (after_save c) r (moved_to q 0 0) m Idle (Over (immediate_ending true)) [] [] before passed x refl refl (at_zero c q x.volume) (no_credit (after_save c) (moved_to q 0 0) (number (after_save c).image.geometry (moved_to q 0 0)) w.credit);
+      stands = saved_stands c (after_save c) r (moved_to q 0 0) m Idle (Over (immediate_ending true)) [] [] before passed x refl refl (at_zero c q x.volume) (no_credit (after_save c) (moved_to q 0 0) (track_under (after_save c).image.geometry (moved_to q 0 0)) w.credit);
       state = rw (none, geometry_saved c) refl;
       calls = calls_of_save _ _ c old new refl refl (changed ∙ sym (and_true (is_written_by m)));
       at_hand = λ e. absurd (no_more c.image.loads (sym (loads_saved c) ∙ e));

@@ -2,7 +2,7 @@
 use Rattle.std.proofs.Common.{◌≡◌, ◌∙◌, ap, sym, refl, ℕ, ◌≤◌, List, ◌++◌, Bool, true, false, not, ◌||◌, length}
 use Rattle.ckd_command.specs.declared.registers.Registers.{Registers}
 use Rattle.ckd_command.specs.declared.registers.Mark.{Mark}
-use Rattle.ckd_drive.specs.Places.{Place, Progress}
+use Rattle.ckd_drive.specs.Transfers.{Transfer, Progress}
 use Rattle.ckd_drive.specs.Stage.{Stage, Passing}
 use Rattle.ckd_command.specs.Tables.{action_of, is_giving}
 use Rattle.ckd_cache.specs.Cache.{CacheState}
@@ -31,7 +31,7 @@ marked_by false true true k = refl
 marked_by false true false k = absurd (let e = k refl in cc)
 marked_by false false f' k = refl
 
-pub taken_stands : (c c' : CacheState) (r : Registers) (m : Mark) (s : Stage) (p : Progress) (before before' passed more : List ℕ) (place : Place) (k : ℕ)
+pub taken_stands : (c c' : CacheState) (r : Registers) (m : Mark) (s : Stage) (p : Progress) (before before' passed more : List ℕ) (place : Transfer) (k : ℕ)
     → Stands c r m s before passed → s ≡ Passing p → k ≡ length more → Absorbs c c' r before before' passed p more place → Stands c' r m (Passing (next_progress p k place)) before' (passed ++ more)
 taken_stands c c' r m s p before before' passed more place k x is n a =
     let marked : c.changed ≡ (is_written_by m || is_filled_by p.place) = rw is at x.marked in
@@ -45,7 +45,7 @@ taken_stands c c' r m s p before before' passed more place k x is n a =
       work = rw n w.goes;
     }
 
-pub taken_state : (c c' : CacheState) (r : Registers) (m : Mark) (s : Stage) (p : Progress) (before before' passed more : List ℕ) (place : Place) (now : DriveState) (k : ℕ)
+pub taken_state : (c c' : CacheState) (r : Registers) (m : Mark) (s : Stage) (p : Progress) (before before' passed more : List ℕ) (place : Transfer) (now : DriveState) (k : ℕ)
     → s ≡ Passing p → state_of c r m s before passed ≡ now → k ≡ length more → Absorbs c c' r before before' passed p more place
     → state_of c' r m (Passing (next_progress p k place)) before' (passed ++ more) ≡ record now { work = moved_on more now.work }
 taken_state c c' r m s p before before' passed more place now k is now_is n a = rw (← now_is, is, n, a.image, a.seen_same) refl

@@ -10,18 +10,18 @@ use Rattle.ckd_track.specs.Track.{track_of}
 use Rattle.ckd_track.specs.Changes.{overwritten}
 use Rattle.ckd_track.specs.declared.geometries.Geometry.{Geometry}
 use Rattle.ckd_command.specs.declared.registers.Registers.{Registers}
-use Rattle.ckd_command.specs.declared.steps.Action.{Action}
-use Rattle.ckd_command.specs.declared.steps.Action.TheVariants as action
-use Rattle.ckd_command.specs.declared.steps.Opened.{Opened}
+use Rattle.ckd_command.specs.declared.tables.Action.{Action}
+use Rattle.ckd_command.specs.declared.tables.Action.TheVariants as action
+use Rattle.ckd_command.specs.declared.begin.Opened.{Opened}
 use Rattle.ckd_command.specs.Sights.{Found}
 use Rattle.ckd_slot.specs.declared.windows.Window.{Window}
-use Rattle.ckd_drive.specs.Places.{Place, Field, Search, Progress}
+use Rattle.ckd_drive.specs.Transfers.{Transfer, Field, Search, Progress}
 use Rattle.ckd_command.specs.Tables.{action_of}
 use Rattle.ckd_position.specs.Contents.{Sighted}
 use Rattle.ckd_command.specs.Commands.{Closing, sight, area_bytes, length_after, length_for, close_by, own_home_address, new_record_fits, write_home_address, format}
 use Rattle.ckd_slot.specs.Buffer.{Lies}
 use Rattle.ckd_cache.specs.Cache.{CacheState}
-use Rattle.ckd_drive.specs.Half.{Works, MayTake, Absorbs, IsPlaced, IsField, HasField, remaining, slot_at, number, seen_by, is_filled_by, order_of, field_size}
+use Rattle.ckd_drive.specs.Half.{Works, MayTake, Absorbs, IsPlaced, IsField, HasField, remaining, slot_at, track_under, seen_by, is_filled_by, order_of, field_size}
 use Rattle.ckd_drive.proofs.First.{length_by, closing_by}
 use Rattle.ckd_drive.proofs.Moving.{slot_small, lies_first, lies_rest, next_left}
 
@@ -30,11 +30,11 @@ or_false true = refl
 or_false false = refl
 
 -- the track stays as it is
-pub absorbs_plain : (c : CacheState) (r : Registers) (before passed : List ℕ) (p : Progress) (more : List ℕ) (place' : Place)
+pub absorbs_plain : (c : CacheState) (r : Registers) (before passed : List ℕ) (p : Progress) (more : List ℕ) (place' : Transfer)
     → Works c r before passed p → is_filled_by p.place ≡ false → is_filled_by place' ≡ false
-    → seen_by c.slots (number c.image.geometry r) before place' ≡ seen_by c.slots (number c.image.geometry r) before p.place
+    → seen_by c.slots (track_under c.image.geometry r) before place' ≡ seen_by c.slots (track_under c.image.geometry r) before p.place
     → remaining (action_of p.opened.command) place' (length (passed ++ more)) ≡ remaining (action_of p.opened.command) p.place (length passed) - length more
-    → IsPlaced c c.image.geometry r (number c.image.geometry r) p.opened before (passed ++ more) place' → length passed + length more < 2 ^ 32
+    → IsPlaced c c.image.geometry r (track_under c.image.geometry r) p.opened before (passed ++ more) place' → length passed + length more < 2 ^ 32
     → Absorbs c c r before before passed p more place'
 absorbs_plain c r before passed p more place' x f f' seen rest placed small =
     let goes = x.goes in
@@ -85,17 +85,17 @@ order_more area passed more le =
     ∙ ap (λ (x : List ℕ). slice_cmp nat_cmp x (passed ++ more)) (take_more m (length more) area ∙ ap (λ (n : ℕ). take n area) (sym (length-append passed more)))
 
 pub search_absorbs : (c : CacheState) (r : Registers) (before passed : List ℕ) (p : Progress) (more slot : List ℕ) (w : Window) (so_far now : Ordering)
-    → Works c r before passed p → MayTake p more → p.place ≡ Search w so_far → slot ≡ slot_at c.slots (number c.image.geometry r)
+    → Works c r before passed p → MayTake p more → p.place ≡ Search w so_far → slot ≡ slot_at c.slots (track_under c.image.geometry r)
     → now ≡ ordering_then so_far (slice_cmp nat_cmp (slice_range slot w.start (w.start + length more)) more)
     → Absorbs c c r before before passed p more (Search (record { start = w.start + length more; len = w.len - length more }) now)
 search_absorbs c r before passed p more slot w so_far now x may at slot_is now_is =
     let g = c.image.geometry in
-    let n : ℕ = number g r in
+    let n : ℕ = track_under g r in
     let goes = x.goes in
     let t = track_of (slot_at c.slots n) in
     let left : p.left ≤ w.len = rw at at goes.left in
     let le : length more ≤ w.len = omega (arith, left, may.room) in
-    let P : Place → Type 0 = λ y. IsPlaced c g r n p.opened before passed y in
+    let P : Transfer → Type 0 = λ y. IsPlaced c g r n p.opened before passed y in
     let placed = subst P at goes.placed in
     let h = placed.0 in
     let area = area_bytes t p.opened r in
@@ -194,8 +194,8 @@ field_small action.Update = omega arith
 
 -- what is known of a field, with more bytes
 pub record FieldGoes (c : CacheState) (r : Registers) (before passed : List ℕ) (p : Progress) (more f : List ℕ) : Type 0 where
-  pub has : HasField c (number c.image.geometry r) (action_of p.opened.command) f passed
-  pub again : sight c.image.geometry (track_of (slot_at c.slots (number c.image.geometry r))) p.opened r ≡ Found p.opened
+  pub has : HasField c (track_under c.image.geometry r) (action_of p.opened.command) f passed
+  pub again : sight c.image.geometry (track_of (slot_at c.slots (track_under c.image.geometry r))) p.opened r ≡ Found p.opened
   pub long : length (passed ++ more) ≡ length passed + length more
   pub room : length (passed ++ more) ≤ field_size (action_of p.opened.command)
   pub collected : take (length (passed ++ more)) (overwritten f p.moved more) ≡ passed ++ more
@@ -203,10 +203,10 @@ pub record FieldGoes (c : CacheState) (r : Registers) (before passed : List ℕ)
 pub field_goes : (c : CacheState) (r : Registers) (before passed : List ℕ) (p : Progress) (more f : List ℕ) → Works c r before passed p → MayTake p more → p.place ≡ Field f → FieldGoes c r before passed p more f
 field_goes c r before passed p more f x may at =
     let g = c.image.geometry in
-    let n : ℕ = number g r in
+    let n : ℕ = track_under g r in
     let goes = x.goes in
     let left : p.left ≤ field_size (action_of p.opened.command) - length passed = rw at at goes.left in
-    let P : Place → Type 0 = λ y. IsPlaced c g r n p.opened before passed y in
+    let P : Transfer → Type 0 = λ y. IsPlaced c g r n p.opened before passed y in
     let placed = subst P at goes.placed in
     let h = placed.0 in
     let far : length (passed ++ more) ≡ length passed + length more = length-append passed more in
@@ -220,11 +220,11 @@ field_goes c r before passed p more f x may at =
 
 pub field_absorbs : (c : CacheState) (r : Registers) (before passed : List ℕ) (p : Progress) (more f field : List ℕ)
     → Works c r before passed p → MayTake p more → p.place ≡ Field f → field ≡ overwritten f p.moved more
-    → ChangesNothing (action_of p.opened.command) c.image.geometry (track_of (slot_at c.slots (number c.image.geometry r))) p.opened r (passed ++ more)
+    → ChangesNothing (action_of p.opened.command) c.image.geometry (track_of (slot_at c.slots (track_under c.image.geometry r))) p.opened r (passed ++ more)
     → Absorbs c c r before before passed p more (Field field)
 field_absorbs c r before passed p more f field x may at is nothing =
     let g = c.image.geometry in
-    let n : ℕ = number g r in
+    let n : ℕ = track_under g r in
     let a = action_of p.opened.command in
     let t = track_of (slot_at c.slots n) in
     let k = field_goes c r before passed p more f x may at in

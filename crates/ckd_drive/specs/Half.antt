@@ -7,14 +7,14 @@ use Rattle.ckd_command.specs.declared.registers.Registers.{Registers}
 use Rattle.ckd_command.specs.declared.registers.Credit.{Credit}
 use Rattle.ckd_command.specs.declared.registers.Mark.{Mark}
 use Rattle.ckd_command.specs.declared.registers.Mark.TheVariants.{Written}
-use Rattle.ckd_command.specs.declared.steps.Action.{Action}
-use Rattle.ckd_command.specs.declared.steps.Action.TheVariants as action
+use Rattle.ckd_command.specs.declared.tables.Action.{Action}
+use Rattle.ckd_command.specs.declared.tables.Action.TheVariants as action
 use Rattle.ckd_position.specs.declared.areas.Area.{Area}
 use Rattle.ckd_position.specs.declared.extents.Extent.{Extent}
-use Rattle.ckd_command.specs.declared.steps.Aim.{Aim}
-use Rattle.ckd_command.specs.declared.steps.Aim.TheVariants.{Next, Credited}
-use Rattle.ckd_command.specs.declared.steps.Opened.{Opened}
-use Rattle.ckd_command.specs.Steps.{Outcome}
+use Rattle.ckd_command.specs.declared.tables.Aim.{Aim}
+use Rattle.ckd_command.specs.declared.tables.Aim.TheVariants.{Next, Credited}
+use Rattle.ckd_command.specs.declared.begin.Opened.{Opened}
+use Rattle.ckd_command.specs.Steps.{CommandEnd}
 use Rattle.ckd_position.specs.declared.areas.Kind.TheVariants as kind
 use Rattle.ckd_command.specs.Beginnings.{Beginning}
 use Rattle.ckd_command.specs.Beginnings as beginning
@@ -25,9 +25,9 @@ use Rattle.std.specs.Ordering.{nat_cmp}
 use Rattle.std.specs.declared.cmp.Ordering.{Ordering}
 use Rattle.std.specs.declared.cmp.Ordering.TheVariants as order
 use Rattle.std.specs.Cmp.Lexicographic.{slice_cmp}
-use Rattle.ckd_drive.specs.Places.{Place, Sense, Field, Read, Search, Fill, Filled, Progress}
-use Rattle.ckd_drive.specs.declared.places.Whole.{Whole}
-use Rattle.ckd_drive.specs.declared.places.Whole.TheVariants as whole
+use Rattle.ckd_drive.specs.Transfers.{Transfer, Sense, Field, Read, Search, Fill, Filled, Progress}
+use Rattle.ckd_drive.specs.declared.transfer.Whole.{Whole}
+use Rattle.ckd_drive.specs.declared.transfer.Whole.TheVariants as whole
 use Rattle.ckd_drive.specs.Stage.{Stage}
 use Rattle.ckd_drive.specs.Stage as stage
 use Rattle.ckd_command.specs.Tables.{action_of, extent_of, aim, comparison, is_giving}
@@ -35,7 +35,7 @@ use Rattle.ckd_position.specs.Comparisons.{accepts}
 use Rattle.ckd_sense.specs.SenseBytes.{sense_bytes}
 use Rattle.ckd_sense.specs.declared.sense_bytes.TheConstants.Sense as cause
 use Rattle.ckd_position.specs.Contents.{Sighted, is_readable, padded}
-use Rattle.ckd_command.specs.Commands.{Closing, IsAtTrack, sight as sight_on, area_bytes, bytes_at, area_ends, end_of_area, search_ends, whole_field, seek_cylinder_and_head, seek_head, set_file_mask, fails, ends, at_end, ending_status, length_after, closing, outcome}
+use Rattle.ckd_command.specs.Commands.{Closing, IsAtTrack, sight as sight_on, area_bytes, bytes_at, area_ends, end_of_area, search_ends, whole_field, seek_cylinder_and_head, seek_head, set_file_mask, fails, ends, at_end, ending_status, length_after, closing, command_end}
 use Rattle.ckd_slot.specs.Buffer.{Lies, HasBytes, IsPlaceOf, FitsSlot, lengths_on}
 use Rattle.ckd_cache.specs.Cache.{CacheState, IsVolume}
 use Rattle.ckd_command.specs.Drive.{is_written_by}
@@ -55,7 +55,7 @@ field_size action.Format = 8
 field_size _ = 0
 
 -- how many bytes are left, as far as is known
-abbrev pub remaining : Action → Place → (moved : ℕ) → ℕ
+abbrev pub remaining : Action → Transfer → (moved : ℕ) → ℕ
 remaining a (Sense b u) moved = 6 - moved
 remaining a (Field f) moved = field_size a - moved
 remaining a (Read w u) moved = w.len
@@ -63,14 +63,14 @@ remaining a (Search w o) moved = w.len
 remaining a (Fill w u) moved = w.len
 remaining a (Filled w u) moved = w.len
 
-abbrev pub number : Geometry → Registers → ℕ
-number g r = track_at g r.cylinder r.head
+abbrev pub track_under : Geometry → Registers → ℕ
+track_under g r = track_at g r.cylinder r.head
 
 abbrev pub slot_at : List (List ℕ) → ℕ → List ℕ
 slot_at slots n = slice_index_or slots n []
 
 -- The slots as the definitions see them: where a command has changed the track, its slot is as it was before.
-abbrev pub seen_by : List (List ℕ) → (n : ℕ) → (before : List ℕ) → Place → List (List ℕ)
+abbrev pub seen_by : List (List ℕ) → (n : ℕ) → (before : List ℕ) → Transfer → List (List ℕ)
 seen_by slots n before (Filled w u) = slice_set slots n before
 seen_by slots n before _ = slots
 
@@ -88,7 +88,7 @@ abbrev pub state_of : CacheState → Registers → Mark → Stage → (before pa
 state_of c r m s before passed = record {
   image = c.image;
   state = record {
-    volume = record { geometry = c.image.geometry; slots = seen c.slots (number c.image.geometry r) before s };
+    volume = record { geometry = c.image.geometry; slots = seen c.slots (track_under c.image.geometry r) before s };
     registers = r;
     mark = m;
   };
@@ -101,26 +101,26 @@ pub record AtHand (c : CacheState) (n : ℕ) : Type 0 where
   pub readable : is_readable (track_of (slot_at c.slots n)) ≡ true
 
 -- a command with its area found: a further look finds it again, and this many bytes are wanted in all
-pub record IsFound (g : Geometry) (r : Registers) (t : Sighted) (o : Opened) (passed : List ℕ) (p : Place) : Type 0 where
+pub record IsFound (g : Geometry) (r : Registers) (t : Sighted) (o : Opened) (passed : List ℕ) (p : Transfer) : Type 0 where
   pub again : sight_on g t o r ≡ Found o
   pub len : length_after g t o r passed ≡ length passed + remaining (action_of o.command) p (length passed)
 
 -- it closes so, and writes nothing
-pub record ClosesUnwritten (g : Geometry) (r : Registers) (t : Sighted) (o : Opened) (passed : List ℕ) (u : Outcome) : Type 0 where
-  pub so : outcome (closing g t o r passed) ≡ u
+pub record ClosesUnwritten (g : Geometry) (r : Registers) (t : Sighted) (o : Opened) (passed : List ℕ) (u : CommandEnd) : Type 0 where
+  pub so : command_end (closing g t o r passed) ≡ u
   pub unwritten : (closing g t o r passed).written ≡ None
 
 -- it closes so, and leaves this track, of which the slot is these bytes
-pub record ClosesWritten (size : ℕ) (lengths : List (ℕ × ℕ)) (c : Closing) (u : Outcome) (slot : List ℕ) : Type 0 where
+pub record ClosesWritten (size : ℕ) (lengths : List (ℕ × ℕ)) (c : Closing) (u : CommandEnd) (slot : List ℕ) : Type 0 where
   pub track : Track
-  pub so : outcome c ≡ u
+  pub so : command_end c ≡ u
   pub written : c.written ≡ Some track
   pub fits : FitsSlot size track
   pub lengths_stay : lengths_on track ≡ lengths
   pub slot_is : slot_of size track ≡ slot
 
 -- a track that is being written: whatever bytes come, they stand in the window, with zeros behind them
-pub record IsFilled (g : Geometry) (r : Registers) (before now : List ℕ) (o : Opened) (passed : List ℕ) (w : Window) (u : Outcome) : Type 0 where
+pub record IsFilled (g : Geometry) (r : Registers) (before now : List ℕ) (o : Opened) (passed : List ℕ) (w : Window) (u : CommandEnd) : Type 0 where
   pub head : List ℕ
   pub tail : List ℕ
   pub lead : ℕ
@@ -186,7 +186,7 @@ pub record WillFill (c : CacheState) (n : ℕ) (o : Opened) (w : Window) (bytes 
   pub place : PlaceIn (extent_of o.command) (track_in (slot_at c.slots n)) o.area w
   pub none : passed ≡ []
 
-pub record HasFilled (c : CacheState) (g : Geometry) (r : Registers) (n : ℕ) (o : Opened) (before passed : List ℕ) (w : Window) (u : Outcome) : Type 0 where
+pub record HasFilled (c : CacheState) (g : Geometry) (r : Registers) (n : ℕ) (o : Opened) (before passed : List ℕ) (w : Window) (u : CommandEnd) : Type 0 where
   pub at_hand : AtHand c n
   pub size : length before ≡ g.track_size
   pub filled : IsFilled g r before (slot_at c.slots n) o passed w u
@@ -202,7 +202,7 @@ abbrev pub CreditAtHand : Aim → CacheState → ℕ → Type 0
 CreditAtHand Credited c n = AtHand c n
 CreditAtHand _ c n = Unit {0}
 
-abbrev pub IsPlaced : CacheState → Geometry → Registers → (n : ℕ) → Opened → (before passed : List ℕ) → Place → Type 0
+abbrev pub IsPlaced : CacheState → Geometry → Registers → (n : ℕ) → Opened → (before passed : List ℕ) → Transfer → Type 0
 IsPlaced c g r n o before passed (Sense b u) =
     HasSense (action_of o.command) r b passed × IsFound g r (track_of (slot_at c.slots n)) o passed (Sense b u) × ClosesUnwritten g r (track_of (slot_at c.slots n)) o passed u
 IsPlaced c g r n o before passed (Field f) =
@@ -230,15 +230,15 @@ AreaIsThere t o (Found opened) = (opened.command ≡ o.command) × AreaOf t open
 AreaIsThere t o _ = Unit {0}
 
 -- where the bytes of a command stand that has just found its area
-abbrev pub IsFirstPlace : (slot : List ℕ) → Opened → Registers → Place → Type 0
-IsFirstPlace slot o r (Sense b u) = (action_of o.command ≡ action.GiveSense) × (b ≡ sense_bytes r.sense) × (u ≡ outcome (area_ends o r false))
+abbrev pub IsFirstPlace : (slot : List ℕ) → Opened → Registers → Transfer → Type 0
+IsFirstPlace slot o r (Sense b u) = (action_of o.command ≡ action.GiveSense) × (b ≡ sense_bytes r.sense) × (u ≡ command_end (area_ends o r false))
 IsFirstPlace slot o r (Field f) = IsField (action_of o.command)
 IsFirstPlace slot o r (Read w u) =
-    (action_of o.command ≡ action.Read) × Lies slot w (bytes_at (extent_of o.command) (track_of slot) o.area) × (u ≡ outcome (end_of_area (track_of slot) o r))
+    (action_of o.command ≡ action.Read) × Lies slot w (bytes_at (extent_of o.command) (track_of slot) o.area) × (u ≡ command_end (end_of_area (track_of slot) o r))
 IsFirstPlace slot o r (Search w so_far) =
     (action_of o.command ≡ action.Search) × Lies slot w (bytes_at (extent_of o.command) (track_of slot) o.area) × (so_far ≡ order.Equal)
 IsFirstPlace slot o r (Fill w u) =
-    (action_of o.command ≡ action.Update) × Lies slot w (bytes_at (extent_of o.command) (track_of slot) o.area) × PlaceIn (extent_of o.command) (track_in slot) o.area w × (u ≡ outcome (end_of_area (track_of slot) o r))
+    (action_of o.command ≡ action.Update) × Lies slot w (bytes_at (extent_of o.command) (track_of slot) o.area) × PlaceIn (extent_of o.command) (track_in slot) o.area w × (u ≡ command_end (end_of_area (track_of slot) o r))
 IsFirstPlace slot o r _ = ⊥
 
 -- the arm and the credit are as they were
@@ -261,7 +261,7 @@ ReadsWhole a t = is_readable t ≡ true
 pub record Goes (c : CacheState) (r : Registers) (before passed : List ℕ) (p : Progress) : Type 0 where
   pub moved : length passed ≡ p.moved
   pub left : p.left ≤ remaining (action_of p.opened.command) p.place (length passed)
-  pub placed : IsPlaced c c.image.geometry r (number c.image.geometry r) p.opened before passed p.place
+  pub placed : IsPlaced c c.image.geometry r (track_under c.image.geometry r) p.opened before passed p.place
   pub no_credit : r.credit ≡ None
 
 -- between commands a credit is for a track that is at hand
@@ -272,15 +272,15 @@ CreditIs (Some credit) c n = AtHand c n
 -- a command that looks for its area
 pub record WillLook (c : CacheState) (r : Registers) (o : Opened) : Type 0 where
   pub transfers : action_of o.command ≡ action.NoTransfer → ⊥
-  pub credit : CreditAtHand (aim o.command) c (number c.image.geometry r)
+  pub credit : CreditAtHand (aim o.command) c (track_under c.image.geometry r)
   pub no_credit : r.credit ≡ None
 
 abbrev pub StageIs : CacheState → Registers → (before passed : List ℕ) → Stage → Type 0
 StageIs c r before passed (stage.Looking o) = WillLook c r o
 StageIs c r before passed (stage.Passing p) = Goes c r before passed p
-StageIs c r before passed _ = CreditIs r.credit c (number c.image.geometry r)
+StageIs c r before passed _ = CreditIs r.credit c (track_under c.image.geometry r)
 
-abbrev pub is_filled_by : Place → Bool
+abbrev pub is_filled_by : Transfer → Bool
 is_filled_by (Filled w u) = true
 is_filled_by _ = false
 
@@ -291,7 +291,7 @@ is_filled _ = false
 pub record Stands (c : CacheState) (r : Registers) (m : Mark) (s : Stage) (before passed : List ℕ) : Type 0 where
   pub volume : IsVolume c
   pub arm : IsAtTrack c.image.geometry r
-  pub anchored : c.changed ≡ true → c.held ≡ Some (number c.image.geometry r)
+  pub anchored : c.changed ≡ true → c.held ≡ Some (track_under c.image.geometry r)
   pub marked : c.changed ≡ (is_written_by m || is_filled s)
   pub work : StageIs c r before passed s
 
@@ -311,16 +311,16 @@ BeginsWell c n r (beginning.ToCylinderZero q (Some o)) = IsCleared r q × (actio
 
 -- More bytes.
 
-abbrev pub next_progress : Progress → (more : ℕ) → Place → Progress
+abbrev pub next_progress : Progress → (more : ℕ) → Transfer → Progress
 next_progress p n place = record { opened = p.opened; moved = p.moved + n; left = p.left - n; place = place }
 
 -- so many bytes may be given that have this place
-abbrev pub MayGive : Place → ℕ → Type 0
+abbrev pub MayGive : Transfer → ℕ → Type 0
 MayGive (Read w u) n = (n ≤ w.len) × (w.start + w.len < 2 ^ 32)
 MayGive _ n = Unit {0}
 
 -- the place of those behind them
-abbrev pub given_on : Place → ℕ → Place
+abbrev pub given_on : Transfer → ℕ → Transfer
 given_on (Read w u) n = Read (record { start = w.start + n; len = w.len - n }) u
 given_on p n = p
 
@@ -335,20 +335,20 @@ field_ends action.WriteHomeAddress g o r b = whole_field (at_end o r) b 5 (fails
 field_ends action.Format g o r b = whole_field r b 8 (fails r cause.RECORD_DOES_NOT_FIT)
 field_ends _ g o r b = ends r ending_status
 
-abbrev pub outcome_at : Geometry → Registers → Opened → (moved : ℕ) → Place → Outcome
-outcome_at g r o moved (Field f) = outcome (field_ends (action_of o.command) g o r (take moved f))
-outcome_at g r o moved (Search w so_far) = outcome (search_ends o r (nat_lt 0 moved && accepts (comparison o.command) so_far) (w.len == 0))
-outcome_at g r o moved (Sense b u) = u
-outcome_at g r o moved (Read w u) = u
-outcome_at g r o moved (Fill w u) = u
-outcome_at g r o moved (Filled w u) = u
+abbrev pub command_end_at : Geometry → Registers → Opened → (moved : ℕ) → Transfer → CommandEnd
+command_end_at g r o moved (Field f) = command_end (field_ends (action_of o.command) g o r (take moved f))
+command_end_at g r o moved (Search w so_far) = command_end (search_ends o r (nat_lt 0 moved && accepts (comparison o.command) so_far) (w.len == 0))
+command_end_at g r o moved (Sense b u) = u
+command_end_at g r o moved (Read w u) = u
+command_end_at g r o moved (Fill w u) = u
+command_end_at g r o moved (Filled w u) = u
 
-abbrev pub MovedInField : Action → (moved : ℕ) → Place → Type 0
+abbrev pub MovedInField : Action → (moved : ℕ) → Transfer → Type 0
 MovedInField a moved (Field f) = moved ≤ field_size a
 MovedInField a moved _ = Unit {0}
 
 -- the mark of a track that a command leaves whose arm stays
-abbrev pub mark_left : Place → Mark → Mark
+abbrev pub mark_left : Transfer → Mark → Mark
 mark_left (Filled w u) m = Written
 mark_left _ m = m
 
@@ -364,7 +364,7 @@ whole_of _ own moved f = whole.No
 pub record Works (c : CacheState) (r : Registers) (before passed : List ℕ) (p : Progress) : Type 0 where
   pub volume : IsVolume c
   pub arm : IsAtTrack c.image.geometry r
-  pub anchored : c.changed ≡ true → c.held ≡ Some (number c.image.geometry r)
+  pub anchored : c.changed ≡ true → c.held ≡ Some (track_under c.image.geometry r)
   pub goes : Goes c r before passed p
 
 -- these bytes are taken by the drive, and may be
@@ -373,10 +373,10 @@ pub record MayTake (p : Progress) (more : List ℕ) : Type 0 where
   pub taking : is_giving (action_of p.opened.command) ≡ false
 
 -- the command half done takes these bytes, and the rest have this place
-pub record Absorbs (c c' : CacheState) (r : Registers) (before before' passed : List ℕ) (p : Progress) (more : List ℕ) (place : Place) : Type 0 where
+pub record Absorbs (c c' : CacheState) (r : Registers) (before before' passed : List ℕ) (p : Progress) (more : List ℕ) (place : Transfer) : Type 0 where
   pub works : Works c' r before' (passed ++ more) (next_progress p (length more) place)
   pub image : c'.image ≡ c.image
-  pub seen_same : seen_by c'.slots (number c.image.geometry r) before' place ≡ seen_by c.slots (number c.image.geometry r) before p.place
+  pub seen_same : seen_by c'.slots (track_under c.image.geometry r) before' place ≡ seen_by c.slots (track_under c.image.geometry r) before p.place
   pub changed : c'.changed ≡ (c.changed || is_filled_by place)
   pub still : is_filled_by p.place ≡ true → is_filled_by place ≡ true
   pub small : length passed + length more < 2 ^ 32

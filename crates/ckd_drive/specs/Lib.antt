@@ -1,5 +1,5 @@
 pub mod Work
-pub mod Places
+pub mod Transfers
 pub mod Stage
 pub mod Half
 pub mod Held

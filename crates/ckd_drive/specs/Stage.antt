@@ -1,7 +1,7 @@
 -- What a drive does: nothing; a command is over, and waits for its end; one looks for its area; or its bytes pass.
-use Rattle.ckd_command.specs.declared.steps.DriveEnding.{DriveEnding}
-use Rattle.ckd_command.specs.declared.steps.Opened.{Opened}
-use Rattle.ckd_drive.specs.Places.{Progress}
+use Rattle.ckd_command.specs.declared.close.DriveEnding.{DriveEnding}
+use Rattle.ckd_command.specs.declared.begin.Opened.{Opened}
+use Rattle.ckd_drive.specs.Transfers.{Progress}
 
 pub data Stage : Type 0 where
   Idle : Stage

@@ -3,11 +3,11 @@ use Rattle.std.specs.Prelude.{◌≡◌, ◌⊎◌, ℕ, ◌+◌, ◌-◌, List,
 use Rattle.ckd_image.specs.Image.{ImageState}
 use Rattle.ckd_command.specs.declared.registers.Mark.{Mark}
 use Rattle.ckd_command.specs.declared.registers.Mark.TheVariants as mark
-use Rattle.ckd_command.specs.declared.steps.Aim.{Aim}
-use Rattle.ckd_command.specs.declared.steps.Aim.TheVariants.{Next}
+use Rattle.ckd_command.specs.declared.tables.Aim.{Aim}
+use Rattle.ckd_command.specs.declared.tables.Aim.TheVariants.{Next}
 use Rattle.ckd_command.specs.Beginnings.{Beginning, ToCylinderZero}
-use Rattle.ckd_command.specs.declared.steps.DriveEnding.{DriveEnding}
-use Rattle.ckd_command.specs.declared.steps.Opened.{Opened}
+use Rattle.ckd_command.specs.declared.close.DriveEnding.{DriveEnding}
+use Rattle.ckd_command.specs.declared.begin.Opened.{Opened}
 use Rattle.ckd_command.specs.Sights.{Sight, NextHead}
 use Rattle.ckd_command.specs.Tables.{aim, action_of, is_giving}
 use Rattle.ckd_command.specs.Commands.{ending_status, in_motion_status, unit_check_status, beginning, sight, closing}
@@ -50,6 +50,10 @@ abbrev pub may_end : Work → Bool
 may_end (Over e) = true
 may_end (Passing o b left) = true
 may_end w = false
+
+abbrev pub passes_now : Work → Bool
+passes_now (Passing o b left) = true
+passes_now w = false
 
 abbrev pub passed_of : Work → List ℕ
 passed_of (Passing o b left) = b

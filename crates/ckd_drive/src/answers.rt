@@ -1,4 +1,4 @@
-//! What a drive answers.
+//! What a drive answers, and the stages of a command by which it does.
 
 /// What a command code led to.
 #[derive(Clone, Copy, Debug, PartialEq, Eq)]
@@ -48,4 +48,21 @@ pub enum Phase {
         /// How many more may pass by the last look.
         left: usize,
     },
+}
+
+/// What a drive does.
+#[derive(Clone, Copy, Debug, PartialEq, Eq)]
+pub enum Stage {
+    /// Nothing.
+    Idle,
+    /// A command is over, and waits for its end.
+    Ended,
+    /// A command is over with the arm in motion, and waits for its end.
+    InMotion,
+    /// A command has failed, as the sense bytes tell, and waits for its end.
+    Failed,
+    /// A command looks for its area.
+    Looking,
+    /// A command has found its area, and its bytes pass.
+    Passing,
 }

@@ -5,16 +5,16 @@ ghost use Rattle.ckd_sense.specs.SenseBytes.{sense_bytes};
 ghost use Rattle.ckd_image.specs.Store.{Counts};
 ghost use Rattle.ckd_command.specs.Drive.{unsaved as unsaved_track, begin as begin_of, is_written as is_track_written};
 ghost use Rattle.ckd_drive.specs.declared.answers.Begun.TheVariants as begun;
-ghost use Rattle.ckd_drive.specs.Work.{DriveState, Over, CallsStore, Reports, fault_met, begin_saves, look_loads, look_saves, end_saves, failed_ending, after_begin, after_look, moved_on, left_of, gives_now, takes_now, given_now, passed_of, closed_of, after_end, ending_of, is_idle, is_working, may_end, after_settle, begun_program, answer_of_begin, answer_of_look, with_image, new_drive, without_sense, phase_of, Allows};
+ghost use Rattle.ckd_drive.specs.Work.{DriveState, Over, CallsStore, Reports, fault_met, begin_saves, look_loads, look_saves, end_saves, failed_ending, after_begin, after_look, moved_on, left_of, gives_now, takes_now, given_now, passed_of, closed_of, after_end, ending_of, is_idle, is_working, may_end, passes_now, after_settle, begun_program, answer_of_begin, answer_of_look, with_image, new_drive, without_sense, phase_of, Allows};
 
-use crate::answers::{Begun, Look, Phase};
-use crate::places::{Place, Progress, Stage};
-use crate::stages::{ENDED, IN_MOTION, UNIT_CHECK};
-use crate::{leaving, looking, placing, stages, starting, taking};
+use crate::answers::{Begun, Look, Phase, Stage};
+use crate::close::{ENDED, FAILED, IN_MOTION};
+use crate::transfer::{Progress, Transfer};
+use crate::{begin, close, look, transfer};
 use ckd_cache::TrackCache;
-use ckd_command::registers::{Mark, Registers};
-use ckd_command::steps::{Closed, DriveEnding, Opened};
-use ckd_command::{beginning, tables};
+use ckd_command::{
+    Closed, DriveEnding, Mark, Opened, Registers, first_registers, start_program, tables,
+};
 use ckd_image::{Image, ImageStore, StoreFault};
 use ckd_sense::{Command, Sense};
 use ghost_data::Trace;
@@ -67,7 +67,7 @@ impl<S: ImageStore> Drive<S> {
         let _geometry = cache.geometry();
         Ok(Drive {
             cache,
-            registers: beginning::first_registers(),
+            registers: first_registers(),
             mark: Mark::Saved,
             stage: Stage::Idle,
             opened: Opened {
@@ -78,7 +78,7 @@ impl<S: ImageStore> Drive<S> {
             progress: Progress {
                 moved: 0,
                 left: 0,
-                place: Place::Field([0; 8]),
+                place: Transfer::Field([0; 8]),
             },
             before: Trace::new(),
             passed: Trace::new(),
@@ -99,14 +99,14 @@ impl<S: ImageStore> Drive<S> {
         ensures calls { CallsStore false (begin_saves code self.old) self.old self.new }
         ensures reported { Reports (result ≡ begun.Rejected) self.old self.new }
     {
-        self.stage = starting::start(
+        self.stage = begin::start(
             &mut self.cache,
             &mut self.registers,
             &mut self.mark,
             &mut self.opened,
             code,
         );
-        stages::begun(self.stage)
+        begin::begun(self.stage)
     }
 
     /// Looks at the track under the arm for the area of the command that works.
@@ -126,20 +126,20 @@ impl<S: ImageStore> Drive<S> {
         match self.stage {
             Stage::Idle | Stage::Ended | Stage::InMotion | Stage::Failed => unreachable!(),
             Stage::Passing => {
-                stages::make_ready(tables::action(self.opened.command), &mut self.progress);
+                look::make_ready(tables::action_of(self.opened.command), &mut self.progress);
                 return Look::Ready(self.progress.left);
             }
             Stage::Looking => {}
         }
         self.passed = Trace::new();
-        self.stage = looking::look(
+        self.stage = look::look(
             &mut self.cache,
             &mut self.registers,
             &mut self.mark,
             &mut self.opened,
             &mut self.progress,
         );
-        stages::looked(self.stage, self.progress.left)
+        look::looked(self.stage, self.progress.left)
     }
 
     /// Gives the next bytes of a read or of Sense: as many as are asked for, and no more than the last look allows less
@@ -166,8 +166,8 @@ impl<S: ImageStore> Drive<S> {
         };
         let p = &self.progress;
         match &p.place {
-            Place::Sense(bytes) => &bytes[p.moved..p.moved + p.left],
-            Place::Read(window, _) => {
+            Transfer::Sense(bytes) => &bytes[p.moved..p.moved + p.left],
+            Transfer::Read(window, _) => {
                 &self.cache.buffer().bytes()[window.start..window.start + p.left]
             }
             _ => unreachable!(),
@@ -185,7 +185,7 @@ impl<S: ImageStore> Drive<S> {
         let Stage::Passing = self.stage else {
             unreachable!();
         };
-        placing::give_on(&mut self.progress.place, n);
+        transfer::give_on(&mut self.progress.place, n);
         self.progress.moved += n;
         self.progress.left -= n;
     }
@@ -200,7 +200,7 @@ impl<S: ImageStore> Drive<S> {
         let Stage::Passing = self.stage else {
             unreachable!();
         };
-        taking::absorb(
+        transfer::absorb(
             &mut self.cache,
             &self.registers,
             &mut self.before,
@@ -229,9 +229,9 @@ impl<S: ImageStore> Drive<S> {
         // the commands by themselves that end at an area, and so leave the arm where it is
         if let Stage::Passing = self.stage {
             match self.progress.place {
-                Place::Read(_, _) => return self.end_here(),
-                Place::Search(_, _) => return self.end_here(),
-                Place::Filled(_, _) => return self.end_here(),
+                Transfer::Read(_, _) => return self.end_here(),
+                Transfer::Search(_, _) => return self.end_here(),
+                Transfer::Filled(_, _) => return self.end_here(),
                 _ => {}
             }
         }
@@ -263,19 +263,30 @@ impl<S: ImageStore> Drive<S> {
             Stage::Idle | Stage::Looking => unreachable!(),
             Stage::Ended => {
                 self.stage = Stage::Idle;
-                return ENDED;
+                ENDED
             }
             Stage::InMotion => {
                 self.stage = Stage::Idle;
-                return IN_MOTION;
+                IN_MOTION
             }
             Stage::Failed => {
                 self.stage = Stage::Idle;
-                return UNIT_CHECK;
+                FAILED
             }
-            Stage::Passing => {}
+            Stage::Passing => self.end_passing(),
         }
-        let closed = placing::close(
+    }
+
+    // The end of a command whose bytes pass: by those that have passed.
+    #[inline(always)]
+    fn end_passing(&mut self) -> DriveEnding
+        requires passing { passes_now self.old.work ≡ true }
+        ensures state { self.new ≡ with_image (after_end (fault_met self.old self.new) self.old) self.new.image }
+        ensures ending { result ≡ ending_of (closed_of (fault_met self.old self.new) self.old self.old.work) }
+        ensures calls { CallsStore false (end_saves self.old) self.old self.new }
+        ensures reported { Reports (result ≡ failed_ending) self.old self.new }
+    {
+        let closed = close::close(
             self.cache.geometry(),
             &self.opened,
             &mut self.registers,
@@ -285,14 +296,14 @@ impl<S: ImageStore> Drive<S> {
         self.stage = Stage::Idle;
         match closed {
             Closed::Stays(unit) => {
-                self.mark = placing::mark_left(&self.progress.place, self.mark);
+                self.mark = close::mark_left(&self.progress.place, self.mark);
                 DriveEnding {
                     unit,
                     motion: false,
                 }
             }
             Closed::Moves(cylinder, head, ending) => {
-                let left = leaving::leave(
+                let left = begin::leave(
                     &mut self.cache,
                     &mut self.registers,
                     &mut self.mark,
@@ -300,7 +311,7 @@ impl<S: ImageStore> Drive<S> {
                     head,
                 );
                 if left.is_err() {
-                    return UNIT_CHECK;
+                    return FAILED;
                 }
                 ending
             }
@@ -324,11 +335,11 @@ impl<S: ImageStore> Drive<S> {
         self.stage = Stage::Idle;
         match self.cache.save() {
             Ok(()) => {
-                self.mark = placing::settled_mark(self.mark);
+                self.mark = close::settled_mark(self.mark);
                 Ok(())
             }
             Err(fault) => {
-                leaving::lose(&mut self.registers);
+                begin::lose(&mut self.registers);
                 self.mark = Mark::Lost;
                 Err(fault)
             }
@@ -341,8 +352,8 @@ impl<S: ImageStore> Drive<S> {
         requires { is_idle self.old.work ≡ true }
         ensures { self.new ≡ record self.old { state = begun_program self.old.state } }
     {
-        beginning::start_program(&mut self.registers);
-        self.mark = placing::owed_mark(self.mark);
+        start_program(&mut self.registers);
+        self.mark = close::owed_mark(self.mark);
     }
 
     /// How far the command is, and so what may be called next.
@@ -355,7 +366,7 @@ impl<S: ImageStore> Drive<S> {
             Stage::Idle => Phase::Idle,
             Stage::Ended | Stage::InMotion | Stage::Failed => Phase::Over,
             Stage::Looking => Phase::Looking,
-            Stage::Passing if tables::is_giving(tables::action(self.opened.command)) => {
+            Stage::Passing if tables::is_giving(tables::action_of(self.opened.command)) => {
                 Phase::Gives {
                     passed: p.moved,
                     left: p.left,

@@ -2,13 +2,14 @@
 //! one change of the drive's state.
 #![tactic(auto)]
 
-pub mod answers;
-pub mod drive;
-pub mod laws;
-mod leaving;
-mod looking;
-mod places;
-mod placing;
-mod stages;
-mod starting;
-mod taking;
+mod answers;
+mod begin;
+mod close;
+mod drive;
+mod laws;
+mod look;
+mod transfer;
+
+pub use crate::answers::{Begun, Look, Phase};
+pub use crate::drive::Drive;
+pub use crate::laws::{each_call_tells, each_trail_tells};

@@ -3,8 +3,7 @@
 ghost use Rattle.std.specs.Prelude.{◌≤◌, length};
 
 use anyhow::{Result, bail};
-use ckd_drive::answers::{Begun, Look, Phase};
-use ckd_drive::drive::Drive;
+use ckd_drive::{Begun, Drive, Look, Phase};
 use std::alloc::Global;
 use test_rows::{Failure, Files, RowFiles, RowStore};
 

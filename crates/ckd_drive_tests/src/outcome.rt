@@ -5,7 +5,7 @@ ghost use Rattle.std.specs.Prelude.{◌≤◌};
 use crate::calls::{self, RecordedDrive, new_drive, stores_of};
 use crate::row::{Played, play_calls};
 use anyhow::{Context, Result, bail};
-use ckd_drive::answers::Phase;
+use ckd_drive::Phase;
 use std::alloc::Global;
 use std::fmt;
 use test_rows::{

@@ -5,14 +5,14 @@ ghost use Rattle.std.specs.Prelude.{◌≤◌};
 use crate::calls::{self, RecordedDrive};
 use crate::pieces::{gives, takes};
 use anyhow::{Result, bail};
-use ckd_drive::answers::{Begun, Look, Phase};
+use ckd_drive::{Begun, Look, Phase};
 use std::alloc::Global;
 use test_rows::{byte, bytes, number, words_of};
 
 /// The unit status where only the channel end has come, and the arm still moves; and with unit check.
 const MOVING: u8 = 0x08;
 
-const UNIT_CHECK: u8 = 0x0E;
+const END_WITH_UNIT_CHECK: u8 = 0x0E;
 
 // Whether the command ends with this unit status.
 fn ends(drive: &mut RecordedDrive, status: u8) -> bool {
@@ -98,7 +98,9 @@ fn command(drive: &mut RecordedDrive, words: &[&str]) -> Result<bool> {
         }
         [code, passed, "found"] => { finds(drive, code, passed)? && drive.phase() != Phase::Over }
         [code, passed, "fails"] => {
-            finds(drive, code, passed)? && drive.phase() == Phase::Over && ends(drive, UNIT_CHECK)
+            finds(drive, code, passed)?
+                && drive.phase() == Phase::Over
+                && ends(drive, END_WITH_UNIT_CHECK)
         }
         _ => bail!("no such call"),
     })

@@ -3,8 +3,7 @@
 //! may be called next, so that nothing has to be proved about it.
 #![tactic(auto)]
 
-use ckd_drive::answers::{Begun, Phase};
-use ckd_drive::drive::Drive;
+use ckd_drive::{Begun, Drive, Phase};
 use ckd_image::{Image, MemoryStore, image_len};
 use ckd_track::DriveModel;
 use s360_words::UnitStatus;
@@ -24,13 +23,13 @@ const WRITE_DATA: u8 = 0x05;
 const SET_FILE_MASK: u8 = 0x1F;
 
 /// Channel end and device end.
-const ENDED: UnitStatus = UnitStatus(0x0C);
+const CHANNEL_AND_DEVICE_END: UnitStatus = UnitStatus(0x0C);
 
 /// These and status modifier: a search is satisfied.
-const SATISFIED: UnitStatus = UnitStatus(0x4C);
+const END_WITH_STATUS_MODIFIER: UnitStatus = UnitStatus(0x4C);
 
 /// Channel end alone: the arm still moves.
-const IN_MOTION: UnitStatus = UnitStatus(0x08);
+const CHANNEL_END_ALONE: UnitStatus = UnitStatus(0x08);
 
 /// The most calls of one command: a search that fails passes the index twice.
 const MOST_CALLS: usize = 100;
@@ -76,8 +75,8 @@ fn command(drive: &mut Drive<MemoryStore>, code: u8, bytes: &mut [u8]) -> Option
 /// What a command came to, in words.
 fn told(ending: Option<UnitStatus>) -> &'static str {
     match ending {
-        Some(ENDED) => "ended",
-        Some(IN_MOTION) => "ended, the arm moves",
+        Some(CHANNEL_AND_DEVICE_END) => "ended",
+        Some(CHANNEL_END_ALONE) => "ended, the arm moves",
         Some(_) => "ended with a check",
         None => "not begun",
     }
@@ -88,8 +87,8 @@ fn search(drive: &mut Drive<MemoryStore>, identifier: [u8; 5]) -> bool {
     for _ in 0..MOST_CALLS {
         let mut identifier = identifier;
         match command(drive, SEARCH_ID_EQUAL, &mut identifier) {
-            Some(SATISFIED) => return true,
-            Some(ENDED) => {}
+            Some(END_WITH_STATUS_MODIFIER) => return true,
+            Some(CHANNEL_AND_DEVICE_END) => {}
             _ => return false,
         }
     }

@@ -10,7 +10,7 @@ use Rattle.ckd_drive.specs.Work.{DriveState}
 use Rattle.s360_runs.specs.Scripts.{units}
 use Rattle.s360_runs.specs.Starts.{First, BadStart, RejectedStart, ImmediateStart, AcceptedStart, first}
 use Rattle.s360_runs.specs.Status.{no_channel_status, no_unit_status, with_interruption}
-use Rattle.ckd_command.specs.declared.steps.DriveEnding.{DriveEnding}
+use Rattle.ckd_command.specs.declared.close.DriveEnding.{DriveEnding}
 use Rattle.s360_program.specs.Laws.{AcceptedStands}
 use Rattle.s360_program.specs.Stands.{RunningState}
 use Rattle.s360_program.specs.declared.program.Start.TheVariants as start

@@ -9,7 +9,7 @@ ghost use Rattle.s360_channel.specs.Attaches.{RefusedAs, NotRefused};
 use crate::channel::Channel;
 use crate::faults::AttachFault;
 use crate::unit::Unit;
-use ckd_drive::drive::Drive;
+use ckd_drive::Drive;
 use ckd_image::{Image, ImageStore};
 use s360_laws::arm::Arm;
 use std::alloc::{AllocError, Global};

@@ -2,7 +2,7 @@
 
 ghost use Rattle.std.specs.Prelude.{◌≡◌};
 
-use ckd_drive::drive::Drive;
+use ckd_drive::Drive;
 use ckd_image::ImageStore;
 use s360_laws::arm::Arm;
 use std::marker::Model;

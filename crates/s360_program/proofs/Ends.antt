@@ -6,7 +6,7 @@ use Rattle.s360_words.specs.Words.{chains_command}
 use Rattle.s360_words.specs.declared.flags.TheConstants.UnitStatus.{UNIT_CHECK}
 use Rattle.s360_words.specs.declared.words.Ccw.{Ccw}
 use Rattle.s360_words.specs.declared.words.Csw.{Csw}
-use Rattle.ckd_command.specs.declared.steps.DriveEnding.{DriveEnding}
+use Rattle.ckd_command.specs.declared.close.DriveEnding.{DriveEnding}
 use Rattle.ckd_command.specs.Drive.{Closed, Fault, SaveFails, drive_of, is_written, unsaved, tells_equipment_check}
 use Rattle.ckd_command.proofs.Marks.{Calm, close_calm}
 use Rattle.ckd_command.proofs.Stable.{close_stable}

@@ -2,7 +2,7 @@
 use Rattle.std.proofs.Common.{◌≡◌, ℕ, zero, suc, ◌+◌, ◌<◌, ◌≤◌, refl, sym, ap, subst, ◌∙◌, arith, false, Bool, [], Option, None}
 use Rattle.s360_words.specs.Storage.{Storage}
 use Rattle.s360_words.specs.declared.words.Csw.{Csw}
-use Rattle.ckd_command.specs.declared.steps.Opened.{Opened}
+use Rattle.ckd_command.specs.declared.begin.Opened.{Opened}
 use Rattle.ckd_command.specs.Drive.{Open, Fault, AfterLook, Ready, Passed, Failed, look, length_of, drive_of, is_written, tells_equipment_check}
 use Rattle.ckd_command.proofs.Marks.{Calm, LookCalm, look_calm}
 use Rattle.ckd_command.proofs.Stable.{look_stable}

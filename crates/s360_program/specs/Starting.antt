@@ -5,7 +5,7 @@ use Rattle.s360_words.specs.Words.{caw_of, chains_command}
 use Rattle.s360_words.specs.declared.words.Ccw.{Ccw}
 use Rattle.s360_words.specs.declared.words.Caw.{Caw}
 use Rattle.ckd_command.specs.Drive.{AfterBegin, begin, drive_of}
-use Rattle.ckd_command.specs.declared.steps.DriveEnding.{DriveEnding}
+use Rattle.ckd_command.specs.declared.close.DriveEnding.{DriveEnding}
 use Rattle.ckd_drive.specs.Work.{DriveState, Idle}
 use Rattle.s360_runs.specs.Endings.{Ending, ending, immediate}
 use Rattle.s360_runs.specs.Runs.{Start, start_point}

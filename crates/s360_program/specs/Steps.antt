@@ -8,7 +8,7 @@ use Rattle.s360_words.specs.declared.flags.TheConstants.UnitStatus.{UNIT_CHECK}
 use Rattle.s360_words.specs.declared.flags.UnitStatus.{UnitStatus}
 use Rattle.s360_words.specs.declared.words.Ccw.{Ccw}
 use Rattle.s360_words.specs.declared.words.Csw.{Csw}
-use Rattle.ckd_command.specs.declared.steps.DriveEnding.{DriveEnding}
+use Rattle.ckd_command.specs.declared.close.DriveEnding.{DriveEnding}
 use Rattle.ckd_command.specs.Drive.{State, Open, Closed, Fault, LoadFails, SaveFails, length_of, drive_of, is_written}
 use Rattle.ckd_command.specs.Tables.{action_of, is_giving}
 use Rattle.ckd_drive.specs.Work.{DriveState, Work, Passing, passed_of, moved_on, closed_of, look_loads}

@@ -10,8 +10,8 @@ ghost use Rattle.s360_program.specs.Steps.{status_of, closed_with, told_of};
 
 use crate::conditions::{Condition, csw_at, with_interruption};
 use crate::stages::{Ended, Run};
-use ckd_command::steps::DriveEnding;
-use ckd_drive::drive::Drive;
+use ckd_command::DriveEnding;
+use ckd_drive::Drive;
 use ckd_image::ImageStore;
 use s360_words::{Csw, UnitStatus};
 

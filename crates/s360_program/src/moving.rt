@@ -7,8 +7,7 @@ ghost use Rattle.s360_program.specs.Advances.{KeepsStorage};
 ghost use Rattle.s360_program.specs.Steps.{Flows, HasFound, IsMoving, Passes};
 
 use crate::conditions::Condition;
-use ckd_drive::answers::{Look, Phase};
-use ckd_drive::drive::Drive;
+use ckd_drive::{Drive, Look, Phase};
 use ckd_image::ImageStore;
 use s360_words::{Ccw, Storage};
 

@@ -7,9 +7,8 @@ ghost use Rattle.s360_program.specs.Starting.{FirstBegun, ImmediateDone, StartsQ
 
 use crate::places::Place;
 use crate::stages::{Comes, NOT_ENDED, Run};
-use ckd_command::steps::DriveEnding;
-use ckd_drive::answers::Begun;
-use ckd_drive::drive::Drive;
+use ckd_command::DriveEnding;
+use ckd_drive::{Begun, Drive};
 use ckd_image::ImageStore;
 use s360_words::{Ccw, Storage};
 

@@ -19,8 +19,7 @@ use crate::moving::{flow_of, pass};
 use crate::places::Fetched;
 use crate::program::Advance;
 use crate::stages::{Comes, Run, Step};
-use ckd_drive::answers::{Begun, Look, Phase};
-use ckd_drive::drive::Drive;
+use ckd_drive::{Begun, Drive, Look, Phase};
 use ckd_image::ImageStore;
 use s360_words::{Ccw, Csw, Storage};
 

@@ -5,8 +5,7 @@ ghost use Rattle.s360_program.specs.Stands.{Stands};
 ghost use Rattle.s360_program_tests.specs.Standing.{if-stands-prop};
 
 use anyhow::{Result, bail};
-use ckd_drive::answers::Phase;
-use ckd_drive::drive::Drive;
+use ckd_drive::{Drive, Phase};
 use ckd_image::Image;
 use s360_program::program::{Advance, Running, Start};
 use s360_words::{Csw, Storage};

@@ -6,8 +6,8 @@ use Rattle.s360_words.specs.declared.words.Caw.{Caw}
 use Rattle.ckd_command.specs.Commands.{beginning}
 use Rattle.ckd_command.specs.Drive.{AfterBegin, AfterLook, Failed, Fault, Immediate, LoadFails, Open, Passed, Ready, Rejected, Started, State, begin, close, drive_of, begun, look, look_for, looked, state_of, track_under, unsaved, with_store_fault}
 use Rattle.ckd_command.specs.Tables.{aim}
-use Rattle.ckd_command.specs.declared.steps.Aim.{Aim}
-use Rattle.ckd_command.specs.declared.steps.Aim.TheVariants.{NoArea, Next as NextArea, Credited}
+use Rattle.ckd_command.specs.declared.tables.Aim.{Aim}
+use Rattle.ckd_command.specs.declared.tables.Aim.TheVariants.{NoArea, Next as NextArea, Credited}
 use Rattle.ckd_command.specs.Beginnings.{Beginning}
 use Rattle.ckd_command.specs.Beginnings as beginning
 use Rattle.ckd_command.specs.Sights.{Sight}

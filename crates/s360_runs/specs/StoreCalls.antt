@@ -5,8 +5,8 @@ use Rattle.s360_words.specs.declared.flags.ChannelStatus.{ChannelStatus}
 use Rattle.ckd_command.specs.Commands.{Closing, beginning, closing, sight}
 use Rattle.ckd_command.specs.Drive.{Closed, Fault, LoadFails, SaveFails, Open, is_written, track_under, AfterBegin, Rejected, Immediate, Started, begin, AfterLook, Ready, Passed, Failed, look, close}
 use Rattle.ckd_command.specs.Tables.{aim}
-use Rattle.ckd_command.specs.declared.steps.Aim.{Aim}
-use Rattle.ckd_command.specs.declared.steps.Aim.TheVariants.{Next as NextArea}
+use Rattle.ckd_command.specs.declared.tables.Aim.{Aim}
+use Rattle.ckd_command.specs.declared.tables.Aim.TheVariants.{Next as NextArea}
 use Rattle.ckd_command.specs.Beginnings.{Beginning, ToCylinderZero}
 use Rattle.ckd_command.specs.Sights.{Sight, NextHead}
 use Rattle.s360_runs.specs.Commands.{Point, goes_on_chaining, length_status, requested}

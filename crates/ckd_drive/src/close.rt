@@ -1,0 +1,170 @@
+//! A command closes, by its bytes that have passed.
+
+ghost use Rattle.std.specs.Prelude.{◌≡◌, ◌≤◌, length};
+ghost use Rattle.ckd_position.specs.Comparisons.{accepts as accepts_order};
+ghost use Rattle.ckd_command.specs.declared.registers.Registers.{Registers};
+ghost use Rattle.ckd_command.specs.declared.begin.Opened.{Opened};
+ghost use Rattle.ckd_command.specs.Tables.{action_of};
+ghost use Rattle.ckd_command.specs.Commands.{command_end, whole_field, at_end as ends_behind, fails};
+ghost use Rattle.ckd_command.specs.Steps.{closed_as, ClosedStays};
+ghost use Rattle.ckd_sense.specs.declared.sense_bytes.TheConstants.Sense.{WRONG_HOME_ADDRESS};
+ghost use Rattle.ckd_drive.specs.Work.{settled_mark as mark_settled, owed_mark as mark_owed};
+ghost use Rattle.ckd_drive.specs.Half.{field_ends as field_closes, command_end_at, MovedInField, mark_left as mark_left_by, field_size as size_of_field};
+ghost use Rattle.ckd_drive.specs.Held.{place_seen, closes_by};
+
+use crate::transfer::{Transfer, Written, field_size};
+use ckd_command::{
+    Action, CHANNEL_AND_DEVICE_END, CHANNEL_END_ALONE, Closed, DriveEnding, END_WITH_UNIT_CHECK,
+    Mark, Opened, Registers, close_area, close_format, close_home_address, close_in_unit_check,
+    close_search, close_seek, close_seek_head, close_set_file_mask, end_at_area, tables,
+};
+use ckd_position::Compare;
+use ckd_sense::Sense;
+use ckd_track::Geometry;
+use std::cmp::Ordering;
+
+/// How a command ends whose arm stays.
+pub(crate) const ENDED: DriveEnding = DriveEnding {
+    unit: CHANNEL_AND_DEVICE_END,
+    motion: false,
+};
+
+/// How a command ends whose arm still moves.
+pub(crate) const IN_MOTION: DriveEnding = DriveEnding {
+    unit: CHANNEL_END_ALONE,
+    motion: true,
+};
+
+/// How a command ends whose sense bytes tell why it failed.
+pub(crate) const FAILED: DriveEnding = DriveEnding {
+    unit: END_WITH_UNIT_CHECK,
+    motion: false,
+};
+
+/// The mark of a track that a command leaves whose arm stays.
+#[inline(always)]
+pub(crate) fn mark_left(place: &Transfer, mark: Mark) -> Mark
+    ensures { (o : Opened) (r : Registers) → result ≡ mark_left_by (place_seen r o place.now) mark }
+{
+    match place {
+        Transfer::Filled(_, _) => Mark::Written,
+        _ => mark,
+    }
+}
+
+/// The mark of a track that is saved, if it was written.
+pub(crate) fn settled_mark(mark: Mark) -> Mark
+    ensures { result ≡ mark_settled mark }
+{
+    match mark {
+        Mark::Written => Mark::Saved,
+        _ => mark,
+    }
+}
+
+/// The mark of the track as a program begins: one that is written stays to be saved.
+pub(crate) fn owed_mark(mark: Mark) -> Mark
+    ensures { result ≡ mark_owed mark }
+{
+    match mark {
+        Mark::Written => Mark::Written,
+        _ => Mark::Saved,
+    }
+}
+
+// Whether this order of the area's bytes to those given is as a search asks.
+fn accepts(compare: Compare, order: Ordering) -> bool
+    ensures { result ≡ accepts_order compare order }
+{
+    match compare {
+        Compare::Equal => order.is_eq(),
+        Compare::High => order.is_gt(),
+        Compare::EqualOrHigh => order.is_ge(),
+    }
+}
+
+// How Write Home Address closes where the track is as it was.
+fn home_address_ends(opened: &Opened, registers: &mut Registers, bytes: &[u8]) -> Closed
+    ensures closes { closed_as result registers.new ≡ command_end (whole_field (ends_behind opened.now registers.old) bytes.now 5 (fails (ends_behind opened.now registers.old) WRONG_HOME_ADDRESS)) }
+    ensures stays { ClosedStays result registers.old registers.new }
+{
+    end_at_area(opened, registers);
+    if bytes.is_empty() {
+        return Closed::Stays(CHANNEL_AND_DEVICE_END);
+    }
+    if bytes.len() < 5 {
+        return close_in_unit_check(registers, Sense::FIELD_CUT_SHORT);
+    }
+    close_in_unit_check(registers, Sense::WRONG_HOME_ADDRESS)
+}
+
+// How a command closes that takes a field which must come whole, where these bytes of it came and the track is as it was.
+fn field_ends(
+    geometry: Geometry,
+    opened: &Opened,
+    registers: &mut Registers,
+    bytes: &[u8],
+) -> Closed
+    requires { length bytes.now ≤ size_of_field (action_of opened.now.command) }
+    ensures closes { closed_as result registers.new ≡ command_end (field_closes (action_of opened.now.command) geometry opened.now registers.old bytes.now) }
+    ensures stays { ClosedStays result registers.old registers.new }
+{
+    let action = tables::action_of(opened.command);
+    if action == Action::SetFileMask {
+        return close_set_file_mask(registers, bytes);
+    }
+    if action == Action::WriteHomeAddress {
+        return home_address_ends(opened, registers, bytes);
+    }
+    if bytes.is_empty() {
+        return Closed::Stays(CHANNEL_AND_DEVICE_END);
+    }
+    if bytes.len() < field_size(action) {
+        return close_in_unit_check(registers, Sense::FIELD_CUT_SHORT);
+    }
+    match action {
+        Action::SeekCylinderAndHead => close_seek(geometry, registers, bytes),
+        Action::SeekHead => close_seek_head(geometry, registers, bytes),
+        Action::Format => close_in_unit_check(registers, Sense::RECORD_DOES_NOT_FIT),
+        _ => Closed::Stays(CHANNEL_AND_DEVICE_END),
+    }
+}
+
+// How a command closes that has written.
+fn written_ends(opened: &Opened, registers: &mut Registers, written: Written) -> Closed
+    ensures closes { closed_as result registers.new ≡ closes_by registers.old opened.now written }
+    ensures stays { ClosedStays result registers.old registers.new }
+{
+    match written {
+        Written::HomeAddress => close_home_address(opened, registers),
+        Written::Record(number) => close_format(registers, number),
+        Written::Area(no_data) => close_area(opened, registers, no_data),
+    }
+}
+
+/// How a command closes, as far as it is known by the place of its bytes, so many of which have passed.
+#[inline(always)]
+pub(crate) fn close(
+    geometry: Geometry,
+    opened: &Opened,
+    registers: &mut Registers,
+    moved: usize,
+    place: &Transfer,
+) -> Closed
+    requires { MovedInField (action_of opened.now.command) moved (place_seen registers.old opened.now place.now) }
+    ensures closes { closed_as result registers.new ≡ command_end_at geometry registers.old opened.now moved (place_seen registers.old opened.now place.now) }
+    ensures stays { ClosedStays result registers.old registers.new }
+{
+    match place {
+        Transfer::Sense(_) => close_area(opened, registers, false),
+        Transfer::Read(_, no_data) | Transfer::Fill(_, no_data) => close_area(
+            opened, registers, *no_data,
+        ),
+        Transfer::Filled(_, written) => written_ends(opened, registers, *written),
+        Transfer::Search(window, so_far) => {
+            let satisfied = moved > 0 && accepts(tables::comparison(opened.command), *so_far);
+            close_search(opened, registers, satisfied, window.len == 0)
+        }
+        Transfer::Field(field) => field_ends(geometry, opened, registers, &field[..moved]),
+    }
+}

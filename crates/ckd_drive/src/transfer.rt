@@ -1,0 +1,354 @@
+//! The bytes of a command that pass: where they stand, and what becomes of those that it takes.
+
+ghost use Rattle.std.specs.Prelude.{◌≡◌, ◌≤◌, ◌<◌, ◌+◌, length, ◌-◌, ◌^◌, slice_range};
+ghost use Rattle.ckd_drive.specs.Transfers as place;
+ghost use Rattle.ckd_drive.specs.Half.{Works, MayTake, Absorbs, whole_of, remaining as remaining_by, field_size as size_of_field, given_on as place_given};
+ghost use Rattle.ckd_drive.specs.Held.{closes_by, place_seen, progress_seen, IsNoSearch, MayGiveHeld};
+ghost use Rattle.ckd_command.specs.Commands.{command_end, area_ends, own_home_address};
+ghost use Rattle.std.specs.Ordering.{nat_cmp, ordering_then};
+ghost use Rattle.std.specs.Cmp.Lexicographic.{slice_cmp};
+ghost use Rattle.ckd_command.specs.declared.registers.Registers.{Registers};
+ghost use Rattle.ckd_command.specs.declared.begin.Opened.{Opened};
+ghost use Rattle.ckd_command.specs.Tables.{action_of};
+ghost use Rattle.ckd_track.specs.Changes.{overwritten};
+ghost use Rattle.ckd_drive.specs.declared.transfer.Transfer.TheVariants as held;
+
+use ckd_cache::TrackCache;
+use ckd_command::{Action, Opened, Registers, own_home_address, tables};
+use ckd_image::ImageStore;
+use ckd_position::{Area, Extent, Part};
+use ckd_sense::Sense;
+use ckd_slot::Window;
+use ghost_data::Trace;
+use std::cmp::Ordering;
+
+/// What becomes of the bytes that pass, and where in the slot those stand that are still to pass.
+#[derive(Clone, Copy, Debug, PartialEq, Eq)]
+pub enum Transfer {
+    /// These sense bytes are given.
+    Sense([u8; 6]),
+    /// The bytes of a field are collected.
+    Field([u8; 8]),
+    /// These bytes are given; and whether the area's record has no data.
+    Read(Window, bool),
+    /// These bytes are still to be compared, and those before them are in this order to those that were given.
+    Search(Window, Ordering),
+    /// These bytes are to be replaced, none was yet; and whether the area's record has no data.
+    Fill(Window, bool),
+    /// The track is changed, these bytes are zeros that may still be replaced, and the command then closes so.
+    Filled(Window, Written),
+}
+
+/// What a command has written.
+#[derive(Clone, Copy, Debug, PartialEq, Eq)]
+pub enum Written {
+    /// The home address.
+    HomeAddress,
+    /// The record of this number.
+    Record(usize),
+    /// Bytes of an area; and whether its record has no data.
+    Area(bool),
+}
+
+/// What the bytes of a field are, once they came whole, to a command that may then change the track.
+#[derive(Clone, Copy, Debug, PartialEq, Eq)]
+pub enum Whole {
+    /// They did not come whole, or the track is not changed.
+    No,
+    /// The track's own home address.
+    HomeAddress([u8; 5]),
+    /// The count area of a new record.
+    Count([u8; 8]),
+}
+
+/// A command half done, whose area is found.
+#[derive(Clone, Copy, Debug, PartialEq, Eq)]
+pub struct Progress {
+    /// How many bytes passed.
+    pub moved: usize,
+    /// How many more the last look allows.
+    pub left: usize,
+    /// What becomes of them.
+    pub place: Transfer,
+}
+
+/// How many bytes a field has that must come whole.
+pub(crate) fn field_size(action: Action) -> usize
+    ensures { result ≡ size_of_field action }
+{
+    match action {
+        Action::SeekCylinderAndHead | Action::SeekHead => 6,
+        Action::SetFileMask => 1,
+        Action::WriteHomeAddress => 5,
+        Action::Format => 8,
+        Action::NoTransfer | Action::GiveSense | Action::Search | Action::Read | Action::Update =>
+            0,
+    }
+}
+
+/// How many bytes are still to pass, as far as that is known.
+pub(crate) fn remaining(action: Action, place: &Transfer, moved: usize) -> usize
+    ensures { (o : Opened) (r : Registers) → result ≡ remaining_by action (place_seen r o place.now) moved }
+{
+    match place {
+        Transfer::Sense(_) => 6usize.saturating_sub(moved),
+        Transfer::Field(_) => field_size(action).saturating_sub(moved),
+        Transfer::Read(window, _)
+        | Transfer::Search(window, _)
+        | Transfer::Fill(window, _)
+        | Transfer::Filled(window, _) => window.len,
+    }
+}
+
+// The window without its first bytes, so many of them.
+fn behind(window: Window, n: usize) -> Window
+    requires within { n ≤ window.len }
+    requires room { window.start + window.len < 2 ^ 32 }
+    ensures { result ≡ record { start = window.start + n; len = window.len - n } }
+{
+    Window {
+        start: window.start + n,
+        len: window.len - n,
+    }
+}
+
+/// So many more bytes of this place are given.
+pub(crate) fn give_on(place: &mut Transfer, n: usize)
+    requires { MayGiveHeld place.old n }
+    ensures { (o : Opened) (r : Registers) → place_seen r o place.new ≡ place_given (place_seen r o place.old) n }
+{
+    if let Transfer::Read(window, _) = place {
+        *window = behind(*window, n);
+    }
+}
+
+// The order of an area's bytes to those that were given so far, once these are given too.
+fn compared(so_far: Ordering, slot: &[u8], window: Window, bytes: &[u8]) -> Ordering
+    requires { window.start + length bytes.now ≤ length slot.now }
+    ensures { result ≡ ordering_then so_far (slice_cmp nat_cmp (slice_range slot.now window.start (window.start + length bytes.now)) bytes.now) }
+{
+    let end = window.start + bytes.len();
+    so_far.then(slot[window.start..end].cmp(bytes))
+}
+
+// A search goes on here, with this order so far.
+// A search that is one already is changed in place, so that little is written.
+#[inline(always)]
+fn search_on(place: &mut Transfer, rest: Window, order: Ordering)
+    ensures { place.new ≡ held.Search rest order }
+{
+    match place {
+        Transfer::Search(window, so_far) => {
+            *window = rest;
+            *so_far = order;
+        }
+        _ => *place = Transfer::Search(rest, order),
+    }
+}
+
+// A search compares the bytes.
+#[inline(always)]
+fn search<S: ImageStore>(
+    cache: &TrackCache<S>,
+    registers: &Registers,
+    before: &Trace,
+    passed: &Trace,
+    opened: &Opened,
+    p: &mut Progress,
+    bytes: &[u8],
+    window: Window,
+    so_far: Ordering,
+)
+    requires works { Works cache.now registers.now before.now.bytes passed.now.bytes (progress_seen registers.now opened.now p.old) }
+    requires may { MayTake (progress_seen registers.now opened.now p.old) bytes.now }
+    requires at { place_seen registers.now opened.now p.old.place ≡ place.Search window so_far }
+    ensures absorbs { Absorbs cache.now cache.now registers.now before.now.bytes before.now.bytes passed.now.bytes (progress_seen registers.now opened.now p.old) bytes.now (place_seen registers.now opened.now p.new.place) }
+    ensures moved { p.new.moved ≡ p.old.moved }
+    ensures left { p.new.left ≡ p.old.left }
+{
+    let so_far = compared(so_far, cache.buffer().bytes(), window, bytes);
+    search_on(&mut p.place, behind(window, bytes.len()), so_far);
+}
+
+// The field once these bytes came too.
+fn collected(field: [u8; 8], at: usize, bytes: &[u8]) -> [u8; 8]
+    requires { at + length bytes.now ≤ 8 }
+    ensures { result ≡ overwritten field at bytes.now }
+{
+    let mut field = field;
+    field[at..at + bytes.len()].copy_from_slice(bytes);
+    field
+}
+
+// What a field is once so many of its bytes came.
+fn whole_field(opened: &Opened, registers: &Registers, moved: usize, field: [u8; 8]) -> Whole
+    ensures { result ≡ whole_of (action_of opened.now.command) (own_home_address registers.now) moved field }
+{
+    match tables::action_of(opened.command) {
+        Action::WriteHomeAddress => {
+            let home_address = [field[0], field[1], field[2], field[3], field[4]];
+            if moved == 5 && home_address == own_home_address(*registers) {
+                Whole::HomeAddress(home_address)
+            } else {
+                Whole::No
+            }
+        }
+        Action::Format if moved == 8 => Whole::Count(field),
+        _ => Whole::No,
+    }
+}
+
+// A field is collected, and once it came whole the track is changed where that is allowed.
+fn collect<S: ImageStore>(
+    cache: &mut TrackCache<S>,
+    registers: &Registers,
+    before: &mut Trace,
+    passed: &Trace,
+    opened: &Opened,
+    p: &mut Progress,
+    bytes: &[u8],
+    field: [u8; 8],
+)
+    requires works { Works cache.old registers.now before.old.bytes passed.now.bytes (progress_seen registers.now opened.now p.old) }
+    requires may { MayTake (progress_seen registers.now opened.now p.old) bytes.now }
+    requires at { place_seen registers.now opened.now p.old.place ≡ place.Field field }
+    ensures absorbs { Absorbs cache.old cache.new registers.now before.old.bytes before.new.bytes passed.now.bytes (progress_seen registers.now opened.now p.old) bytes.now (place_seen registers.now opened.now p.new.place) }
+    ensures moved { p.new.moved ≡ p.old.moved }
+    ensures left { p.new.left ≡ p.old.left }
+{
+    let field = collected(field, p.moved, bytes);
+    match whole_field(opened, registers, p.moved + bytes.len(), field) {
+        Whole::No => p.place = Transfer::Field(field),
+        Whole::HomeAddress(home_address) => {
+            *before = Trace::of(cache.buffer().bytes());
+            cache.write_home_address(home_address);
+            p.place = Transfer::Filled(Window { start: 5, len: 0 }, Written::HomeAddress);
+        }
+        Whole::Count(count) => {
+            if !cache.fits(opened.area, count) {
+                p.place = Transfer::Field(field);
+                return;
+            }
+            *before = Trace::of(cache.buffer().bytes());
+            let number = cache.format(opened.area, count);
+            let rest = cache
+                .buffer()
+                .window(Extent::KeyAndData, Area::Of(Part::Data, number));
+            p.place = Transfer::Filled(rest, Written::Record(number));
+        }
+    }
+}
+
+// The bytes of an area are replaced: those that came by their own, the others by zeros.
+fn fill<S: ImageStore>(
+    cache: &mut TrackCache<S>,
+    registers: &Registers,
+    before: &mut Trace,
+    passed: &Trace,
+    opened: &Opened,
+    p: &mut Progress,
+    bytes: &[u8],
+    window: Window,
+    no_data: bool,
+)
+    requires works { Works cache.old registers.now before.old.bytes passed.now.bytes (progress_seen registers.now opened.now p.old) }
+    requires may { MayTake (progress_seen registers.now opened.now p.old) bytes.now }
+    requires at { place_seen registers.now opened.now p.old.place ≡ place.Fill window (command_end (area_ends opened.now registers.now no_data)) }
+    ensures absorbs { Absorbs cache.old cache.new registers.now before.old.bytes before.new.bytes passed.now.bytes (progress_seen registers.now opened.now p.old) bytes.now (place_seen registers.now opened.now p.new.place) }
+    ensures moved { p.new.moved ≡ p.old.moved }
+    ensures left { p.new.left ≡ p.old.left }
+{
+    if bytes.is_empty() {
+        p.place = Transfer::Fill(window, no_data);
+        return;
+    }
+    let Some(area) = opened.area else {
+        p.place = Transfer::Fill(window, no_data);
+        return;
+    };
+    *before = Trace::of(cache.buffer().bytes());
+    cache.clear(tables::extent(opened.command), area);
+    cache.put(window.start, bytes);
+    p.place = Transfer::Filled(behind(window, bytes.len()), Written::Area(no_data));
+}
+
+// More bytes of an area that is being written.
+fn fill_on<S: ImageStore>(
+    cache: &mut TrackCache<S>,
+    registers: &Registers,
+    before: &Trace,
+    passed: &Trace,
+    opened: &Opened,
+    p: &mut Progress,
+    bytes: &[u8],
+    window: Window,
+    written: Written,
+)
+    requires works { Works cache.old registers.now before.now.bytes passed.now.bytes (progress_seen registers.now opened.now p.old) }
+    requires may { MayTake (progress_seen registers.now opened.now p.old) bytes.now }
+    requires at { place_seen registers.now opened.now p.old.place ≡ place.Filled window (closes_by registers.now opened.now written) }
+    ensures absorbs { Absorbs cache.old cache.new registers.now before.now.bytes before.now.bytes passed.now.bytes (progress_seen registers.now opened.now p.old) bytes.now (place_seen registers.now opened.now p.new.place) }
+    ensures moved { p.new.moved ≡ p.old.moved }
+    ensures left { p.new.left ≡ p.old.left }
+{
+    cache.put(window.start, bytes);
+    p.place = Transfer::Filled(behind(window, bytes.len()), written);
+}
+
+// A command that has found its area, and is no search, takes these bytes.
+#[inline(never)]
+fn absorb_elsewhere<S: ImageStore>(
+    cache: &mut TrackCache<S>,
+    registers: &Registers,
+    before: &mut Trace,
+    passed: &Trace,
+    opened: &Opened,
+    p: &mut Progress,
+    bytes: &[u8],
+)
+    requires works { Works cache.old registers.now before.old.bytes passed.now.bytes (progress_seen registers.now opened.now p.old) }
+    requires may { MayTake (progress_seen registers.now opened.now p.old) bytes.now }
+    requires elsewhere { IsNoSearch p.old.place }
+    ensures absorbs { Absorbs cache.old cache.new registers.now before.old.bytes before.new.bytes passed.now.bytes (progress_seen registers.now opened.now p.old) bytes.now (place_seen registers.now opened.now p.new.place) }
+    ensures moved { p.new.moved ≡ p.old.moved }
+    ensures left { p.new.left ≡ p.old.left }
+{
+    match p.place {
+        Transfer::Field(field) => collect(
+            cache, registers, before, passed, opened, p, bytes, field,
+        ),
+        Transfer::Fill(window, no_data) => fill(
+            cache, registers, before, passed, opened, p, bytes, window, no_data,
+        ),
+        Transfer::Filled(window, written) => fill_on(
+            cache, registers, before, passed, opened, p, bytes, window, written,
+        ),
+        Transfer::Search(_, _) | Transfer::Sense(_) | Transfer::Read(_, _) => unreachable!(),
+    }
+}
+
+/// A command that has found its area takes these bytes, and the rest have the place that is left.
+// A search by itself, since fewer commands write.
+#[inline(always)]
+pub(crate) fn absorb<S: ImageStore>(
+    cache: &mut TrackCache<S>,
+    registers: &Registers,
+    before: &mut Trace,
+    passed: &Trace,
+    opened: &Opened,
+    p: &mut Progress,
+    bytes: &[u8],
+)
+    requires works { Works cache.old registers.now before.old.bytes passed.now.bytes (progress_seen registers.now opened.now p.old) }
+    requires may { MayTake (progress_seen registers.now opened.now p.old) bytes.now }
+    ensures absorbs { Absorbs cache.old cache.new registers.now before.old.bytes before.new.bytes passed.now.bytes (progress_seen registers.now opened.now p.old) bytes.now (place_seen registers.now opened.now p.new.place) }
+    ensures moved { p.new.moved ≡ p.old.moved }
+    ensures left { p.new.left ≡ p.old.left }
+{
+    match p.place {
+        Transfer::Search(window, so_far) => search(
+            cache, registers, before, passed, opened, p, bytes, window, so_far,
+        ),
+        _ => absorb_elsewhere(cache, registers, before, passed, opened, p, bytes),
+    }
+}
