@@ -1,7 +1,6 @@
 //! A command closes, by its bytes that have passed.
 
 ghost use Rattle.std.specs.Prelude.{◌≡◌, ◌≤◌, length};
-ghost use Rattle.ckd_position.specs.Comparisons.{accepts as accepts_order};
 ghost use Rattle.ckd_command.specs.declared.registers.Registers.{Registers};
 ghost use Rattle.ckd_command.specs.declared.begin.Opened.{Opened};
 ghost use Rattle.ckd_command.specs.Tables.{action_of};
@@ -18,10 +17,8 @@ use ckd_command::{
     Mark, Opened, Registers, close_area, close_format, close_home_address, close_in_unit_check,
     close_search, close_seek, close_seek_head, close_set_file_mask, end_at_area, tables,
 };
-use ckd_position::Compare;
 use ckd_sense::Sense;
 use ckd_track::Geometry;
-use std::cmp::Ordering;
 
 /// How a command ends whose arm stays.
 pub(crate) const ENDED: DriveEnding = DriveEnding {
@@ -69,17 +66,6 @@ pub(crate) fn owed_mark(mark: Mark) -> Mark
     match mark {
         Mark::Written => Mark::Written,
         _ => Mark::Saved,
-    }
-}
-
-// Whether this order of the area's bytes to those given is as a search asks.
-fn accepts(compare: Compare, order: Ordering) -> bool
-    ensures { result ≡ accepts_order compare order }
-{
-    match compare {
-        Compare::Equal => order.is_eq(),
-        Compare::High => order.is_gt(),
-        Compare::EqualOrHigh => order.is_ge(),
     }
 }
 
@@ -162,7 +148,7 @@ pub(crate) fn close(
         ),
         Transfer::Filled(_, written) => written_ends(opened, registers, *written),
         Transfer::Search(window, so_far) => {
-            let satisfied = moved > 0 && accepts(tables::comparison(opened.command), *so_far);
+            let satisfied = moved > 0 && tables::comparison(opened.command).accepts(*so_far);
             close_search(opened, registers, satisfied, window.len == 0)
         }
         Transfer::Field(field) => field_ends(geometry, opened, registers, &field[..moved]),

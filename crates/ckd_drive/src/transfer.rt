@@ -128,7 +128,7 @@ fn compared(so_far: Ordering, slot: &[u8], window: Window, bytes: &[u8]) -> Orde
     ensures { result ≡ ordering_then so_far (slice_cmp nat_cmp (slice_range slot.now window.start (window.start + length bytes.now)) bytes.now) }
 {
     let end = window.start + bytes.len();
-    so_far.then(slot[window.start..end].cmp(bytes))
+    ckd_position::compared(so_far, &slot[window.start..end], bytes)
 }
 
 // A search goes on here, with this order so far.
