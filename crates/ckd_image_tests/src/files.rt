@@ -27,20 +27,30 @@ fn put(store: &mut MemoryStore, at: u64, bytes: &[u8]) -> Result<()> {
     Ok(())
 }
 
-/// A file of a new volume of three cylinders of a 2311, from one place to another, with this sequence and highest cylinder.
-fn part(alloc: Global, from: usize, to: usize, sequence: u8, highest: u16) -> Result<MemoryStore> {
-    let whole = new_file(alloc, DriveModel::D2311, 3)?;
-    let header = whole.bytes().get(..512).context("no header")?;
-    let slots = whole.bytes().get(from..to).context("no slots")?;
-    file_of(alloc, header, slots, sequence, highest)
+/// A file of a new volume of three cylinders of a 2311: from one place, to another, with this sequence and highest cylinder.
+#[derive(Clone, Copy)]
+struct Part(usize, usize, u8, u16);
+
+impl Part {
+    fn file(self, alloc: Global) -> Result<MemoryStore> {
+        let Part(from, to, sequence, highest) = self;
+        let whole = new_file(alloc, DriveModel::D2311, 3)?;
+        let header = whole.bytes().get(..512).context("no header")?;
+        let slots = whole.bytes().get(from..to).context("no slots")?;
+        file_of(alloc, header, slots, sequence, highest)
+    }
 }
 
+const A: Part = Part(512, LENGTH_A, 1, 1);
+
+const B: Part = Part(LENGTH_A, LENGTH_A + LENGTH_B - 512, 2, 0);
+
 fn file_a(alloc: Global) -> Result<MemoryStore> {
-    part(alloc, 512, LENGTH_A, 1, 1)
+    A.file(alloc)
 }
 
 fn file_b(alloc: Global) -> Result<MemoryStore> {
-    part(alloc, LENGTH_A, LENGTH_A + LENGTH_B - 512, 2, 0)
+    B.file(alloc)
 }
 
 /// The fault of a mount of two files, if one is answered. They come back in their order, with their bytes.
@@ -54,15 +64,25 @@ fn fault_of_two(
         Ok(image) => (None, image.into_stores()),
         Err((fault, files)) => (Some(fault), files),
     };
-    match files.as_slice() {
-        [Some(first), Some(second)] => {
-            if first.bytes() != before[0].as_slice() || second.bytes() != before[1].as_slice() {
-                bail!("the files came back changed");
-            }
-            Ok(fault)
-        }
-        _ => bail!("not two files"),
+    if !hold(&files, before[0].as_slice(), before[1].as_slice()) {
+        bail!("the files came back changed");
     }
+    Ok(fault)
+}
+
+/// Whether these are two files with these bytes.
+fn hold(files: &Files<MemoryStore>, first: &[u8], second: &[u8]) -> bool {
+    match files.as_slice() {
+        [Some(one), Some(other)] => one.bytes() == first && other.bytes() == second,
+        _ => false,
+    }
+}
+
+/// The fault of a mount of two parts, if one is answered.
+fn fault_of_parts(alloc: Global, first: Part, second: Part) -> Result<Option<MountFault>> {
+    let first = first.file(alloc)?;
+    let second = second.file(alloc)?;
+    fault_of_two(alloc, first, second)
 }
 
 /// The fault of a mount of one file, if one is answered.
@@ -76,32 +96,62 @@ fn fault_of_one(store: MemoryStore) -> Option<MountFault> {
 pub(crate) fn lists_of_files(alloc: Global) -> Result<()> {
     must(file_a(alloc)?.len() == LENGTH_A as u64)?;
     must(file_b(alloc)?.len() == LENGTH_B as u64)?;
-    must(fault_of_two(alloc, file_a(alloc)?, file_b(alloc)?)? == None)?;
-    must(fault_of_two(alloc, file_b(alloc)?, file_a(alloc)?)? == Some(MountFault::Split))?;
-    must(fault_of_one(file_a(alloc)?) == Some(MountFault::Split))?;
-    must(fault_of_one(file_b(alloc)?) == Some(MountFault::Split))?;
-    must(fault_of_two(alloc, file_a(alloc)?, file_a(alloc)?)? == Some(MountFault::Split))?;
-    must(fault_of_one(part(alloc, 512, LENGTH_A, 1, 0)?) == None)?;
+    let pairs = [
+        (A, B, None),
+        (B, A, Some(MountFault::Split)),
+        (A, A, Some(MountFault::Split)),
+    ];
+    for (first, second, want) in pairs {
+        must(fault_of_parts(alloc, first, second)? == want)?;
+    }
+    let alone = [
+        (A, Some(MountFault::Split)),
+        (B, Some(MountFault::Split)),
+        (Part(512, LENGTH_A, 1, 0), None),
+    ];
+    for (part, want) in alone {
+        must(fault_of_one(part.file(alloc)?) == want)?;
+    }
     match Image::<MemoryStore>::mount_files(ArrayVec::new()) {
         Ok(_) => bail!("mounted"),
-        Err((fault, files)) => {
-            must(fault == MountFault::Split)?;
-            must(files.is_empty())?;
-            Ok(())
-        }
+        Err((fault, files)) => must(fault == MountFault::Split && files.is_empty()),
     }
 }
 
 pub(crate) fn lengths_of_files(alloc: Global) -> Result<()> {
-    let short = part(alloc, LENGTH_A, LENGTH_A + LENGTH_B - 513, 2, 0)?;
-    must(fault_of_two(alloc, file_a(alloc)?, short)? == Some(MountFault::Length))?;
-    let higher = part(alloc, 512, LENGTH_A, 1, 2)?;
-    must(fault_of_two(alloc, higher, file_b(alloc)?)? == Some(MountFault::Length))?;
-    // a cylinder of the second file stands in the first one: together they are as long as they must be
-    let longer = part(alloc, 512, LENGTH_A + 40_960, 1, 1)?;
-    let shorter = part(alloc, LENGTH_A, LENGTH_A, 2, 0)?;
-    must(fault_of_two(alloc, longer, shorter)? == Some(MountFault::Length))?;
+    let pairs = [
+        (A, Part(LENGTH_A, LENGTH_A + LENGTH_B - 513, 2, 0)),
+        (Part(512, LENGTH_A, 1, 2), B),
+        // a cylinder of the second file stands in the first one: together they are as long as they must be
+        (
+            Part(512, LENGTH_A + 40_960, 1, 1),
+            Part(LENGTH_A, LENGTH_A, 2, 0),
+        ),
+    ];
+    for (first, second) in pairs {
+        must(fault_of_parts(alloc, first, second)? == Some(MountFault::Length))?;
+    }
     Ok(())
+}
+
+/// A part with other bytes from a place on.
+#[derive(Clone, Copy)]
+struct Changed<'a>(Part, u64, &'a [u8]);
+
+impl Changed<'_> {
+    fn file(self, alloc: Global) -> Result<MemoryStore> {
+        let Changed(part, at, bytes) = self;
+        let mut file = part.file(alloc)?;
+        put(&mut file, at, bytes)?;
+        Ok(file)
+    }
+}
+
+/// The fault of a mount of two parts with other bytes, if one is answered.
+fn fault_of_changed(alloc: Global, first: Changed, second: Changed) -> Result<Option<MountFault>> {
+    let first = first.file(alloc)?;
+    let second = second.file(alloc)?;
+    fault_of_two(alloc, first, second)
 }
 
 pub(crate) fn the_first_fault_is_told(alloc: Global) -> Result<()> {
@@ -118,21 +168,15 @@ pub(crate) fn the_first_fault_is_told(alloc: Global) -> Result<()> {
         (18, &[5], MountFault::Split),
     ];
     for (at, bytes, want) in rows {
-        let mut second = file_b(alloc)?;
-        put(&mut second, at, bytes)?;
-        let fault = fault_of_two(alloc, file_a(alloc)?, second)?;
+        let fault = fault_of_changed(alloc, Changed(A, 0, &[]), Changed(B, at, bytes))?;
         must(fault == Some(want))?;
     }
     // a fault of the first file comes before one of the second, and one of a header before those of the list
-    let mut first = file_a(alloc)?;
-    put(&mut first, 8, &[11])?;
-    let mut second = file_b(alloc)?;
-    put(&mut second, 0, b"CKD_C370")?;
-    must(fault_of_two(alloc, first, second)? == Some(MountFault::Heads))?;
-    let mut second = file_b(alloc)?;
-    put(&mut second, 0, b"CKD_C370")?;
-    must(fault_of_two(alloc, second, file_a(alloc)?)? == Some(MountFault::Compressed))?;
-    Ok(())
+    let compressed = Changed(B, 0, b"CKD_C370");
+    let fault = fault_of_changed(alloc, Changed(A, 8, &[11]), compressed)?;
+    must(fault == Some(MountFault::Heads))?;
+    let fault = fault_of_changed(alloc, compressed, Changed(A, 0, &[]))?;
+    must(fault == Some(MountFault::Compressed))
 }
 
 /// Files A and B, of which this call of the one or the other fails.
@@ -160,8 +204,7 @@ pub(crate) fn the_read_of_a_header_fails(alloc: Global) -> Result<()> {
         match Image::mount_files(failing_files(alloc, a, b)?) {
             Ok(_) => bail!("mounted"),
             Err((fault, files)) => {
-                must(fault == MountFault::StoreFault)?;
-                must(calls_of(&files) == Some(calls))?;
+                must(fault == MountFault::StoreFault && calls_of(&files) == Some(calls))?;
             }
         }
     }
@@ -190,9 +233,10 @@ fn loads_from(alloc: Global, track: u32, cylinder: u8, head: u8, calls: (u64, u6
 {
     let mut image = failing_image(alloc, 0, 0)?;
     let mut slot = [0; 4096];
-    must(image.load(track, &mut slot) == Ok(()))?;
-    must(slot.get(..5) == Some([0, 0, cylinder, 0, head].as_slice()))?;
-    must(calls_of(&image.into_stores()) == Some(calls))
+    let is_loaded = image.load(track, &mut slot) == Ok(());
+    let is_slot = slot.get(..5) == Some([0, 0, cylinder, 0, head].as_slice());
+    let is_called = calls_of(&image.into_stores()) == Some(calls);
+    must(is_loaded && is_slot && is_called)
 }
 
 pub(crate) fn each_load_goes_to_one_file(alloc: Global) -> Result<()> {
@@ -205,15 +249,25 @@ pub(crate) fn each_load_goes_to_one_file(alloc: Global) -> Result<()> {
 
 pub(crate) fn each_save_goes_to_one_file(alloc: Global) -> Result<()> {
     let mut image = failing_image(alloc, 0, 0)?;
-    must(image.save(20, &[0xD7; 4096]) == Ok(()))?;
+    let is_saved = image.save(20, &[0xD7; 4096]) == Ok(());
     let files = image.into_stores();
-    must(calls_of(&files) == Some((1, 2)))?;
+    must(is_saved && calls_of(&files) == Some((1, 2)))?;
+    leave_a_and_b(alloc, files, 512, 4096)
+}
+
+/// That these are file A as it was, and file B with so many other bytes from a place on.
+fn leave_a_and_b(alloc: Global, files: Files<FailingStore>, at: usize, count: usize) -> Result<()> {
     let (first, second) = inner_files(files).context("not two files")?;
-    must(first.bytes() == file_a(alloc)?.bytes())?;
-    must(second.bytes().get(..512) == file_b(alloc)?.bytes().get(..512))?;
-    must(are_all(second.bytes().get(512..4608), 4096, 0xD7))?;
-    must(second.bytes().get(4608..) == file_b(alloc)?.bytes().get(4608..))?;
-    Ok(())
+    let is_a = first.bytes() == file_a(alloc)?.bytes();
+    must(is_a && is_saved(second.bytes(), file_b(alloc)?.bytes(), at, count))
+}
+
+/// Whether a file is a new one with so many other bytes from a place on.
+fn is_saved(file: &[u8], new: &[u8], at: usize, count: usize) -> bool {
+    let behind = at.saturating_add(count);
+    file.get(..at) == new.get(..at)
+        && are_all(file.get(at..behind), count, 0xD7)
+        && file.get(behind..) == new.get(behind..)
 }
 
 /// The stores within two files.
@@ -224,18 +278,13 @@ fn inner_files(mut files: Files<FailingStore>) -> Option<(MemoryStore, MemorySto
 }
 
 pub(crate) fn a_load_or_a_save_of_one_file_fails(alloc: Global) -> Result<()> {
-    let mut slot = [0; 4096];
     let mut image = failing_image(alloc, 2, 3)?;
-    must(image.load(19, &mut slot) == Err(StoreFault))?;
-    must(image.load(20, &mut slot) == Ok(()))?;
-    must(image.save(21, &[0xD7; 4096]) == Err(StoreFault))?;
+    let mut slot = [0; 4096];
+    let is_refused = image.load(19, &mut slot) == Err(StoreFault);
+    let is_loaded = image.load(20, &mut slot) == Ok(());
+    let is_torn = image.save(21, &[0xD7; 4096]) == Err(StoreFault);
     let files = image.into_stores();
-    must(calls_of(&files) == Some((2, 3)))?;
-    let (first, second) = inner_files(files).context("not two files")?;
-    must(first.bytes() == file_a(alloc)?.bytes())?;
+    must(is_refused && is_loaded && is_torn && calls_of(&files) == Some((2, 3)))?;
     // a write that fails leaves its first 60 bytes
-    let at = 512 + 4096;
-    must(are_all(second.bytes().get(at..at + 60), 60, 0xD7))?;
-    must(second.bytes().get(at + 60..) == file_b(alloc)?.bytes().get(at + 60..))?;
-    Ok(())
+    leave_a_and_b(alloc, files, 512 + 4096, 60)
 }

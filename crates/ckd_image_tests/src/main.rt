@@ -9,89 +9,85 @@ mod volumes;
 
 use anyhow::Result;
 
-// What a row came to.
-fn told(row: Result<()>) -> &'static str {
-    match row {
+// Tells what a row came to.
+fn tell(rt: &HostRuntime, name: &str, row: Result<()>) -> Result<()> {
+    let came = match row {
         Ok(()) => "as it must",
         Err(_) => "OTHERWISE",
-    }
+    };
+    println!(rt; "{name}: {came}")?;
+    Ok(())
 }
 
 fn main(rt: HostRuntime) -> Result<()> {
+    rows_of_headers(&rt)?;
+    rows_of_slots(&rt)?;
+    rows_of_stores(&rt)?;
+    rows_of_several_files(&rt)
+}
+
+fn rows_of_headers(rt: &HostRuntime) -> Result<()> {
     let alloc = rt.alloc();
-    println!(rt; "lengths: {}", told(one_file::lengths()))?;
-    println!(rt; "a new 2311: {}", told(one_file::a_new_2311(alloc)))?;
-    println!(rt; "a new 2314: {}", told(one_file::a_new_2314(alloc)))?;
-    println!(rt;
-        "formats and mounts: {}",
-        told(one_file::formats_and_mounts(alloc))
+    tell(rt, "lengths", one_file::lengths())?;
+    tell(rt, "a new 2311", one_file::a_new_2311(alloc))?;
+    tell(rt, "a new 2314", one_file::a_new_2314(alloc))?;
+    tell(
+        rt,
+        "formats and mounts",
+        one_file::formats_and_mounts(alloc),
     )?;
-    println!(rt;
-        "refuses to format: {}",
-        told(one_file::refuses_to_format(alloc))
+    tell(rt, "refuses to format", one_file::refuses_to_format(alloc))?;
+    tell(rt, "refuses to mount", one_file::refuses_to_mount(alloc))?;
+    tell(rt, "short files", one_file::short_files(alloc))?;
+    tell(
+        rt,
+        "no prefix is mounted",
+        one_file::no_prefix_is_mounted(alloc),
     )?;
-    println!(rt;
-        "refuses to mount: {}",
-        told(one_file::refuses_to_mount(alloc))
+    tell(
+        rt,
+        "every byte of a header",
+        one_file::every_byte_of_a_header(alloc),
+    )
+}
+
+fn rows_of_slots(rt: &HostRuntime) -> Result<()> {
+    let alloc = rt.alloc();
+    tell(rt, "loads and saves", one_file::loads_and_saves(alloc))?;
+    let row = one_file::each_write_of_a_format_fails(alloc);
+    tell(rt, "each write of a format fails", row)?;
+    let row = one_file::the_read_of_a_mount_fails(alloc);
+    tell(rt, "the read of a mount fails", row)?;
+    tell(rt, "a load fails", one_file::a_load_fails(alloc))?;
+    tell(rt, "a save fails", one_file::a_save_fails(alloc))
+}
+
+fn rows_of_stores(rt: &HostRuntime) -> Result<()> {
+    let alloc = rt.alloc();
+    let row = one_file::fewer_than_sixty_bytes_are_all_written(alloc);
+    tell(rt, "fewer than sixty bytes are all written", row)?;
+    let row = one_file::no_call_is_made_to_fail(alloc);
+    tell(rt, "no call is made to fail", row)?;
+    tell(rt, "track numbers", one_file::track_numbers())?;
+    tell(rt, "memory", one_file::memory(alloc))?;
+    tell(rt, "texts", one_file::texts(alloc))
+}
+
+fn rows_of_several_files(rt: &HostRuntime) -> Result<()> {
+    let alloc = rt.alloc();
+    tell(rt, "lists of files", files::lists_of_files(alloc))?;
+    tell(rt, "lengths of files", files::lengths_of_files(alloc))?;
+    tell(
+        rt,
+        "the first fault is told",
+        files::the_first_fault_is_told(alloc),
     )?;
-    println!(rt; "short files: {}", told(one_file::short_files(alloc)))?;
-    println!(rt;
-        "no prefix is mounted: {}",
-        told(one_file::no_prefix_is_mounted(alloc))
-    )?;
-    println!(rt;
-        "every byte of a header: {}",
-        told(one_file::every_byte_of_a_header(alloc))
-    )?;
-    println!(rt;
-        "loads and saves: {}",
-        told(one_file::loads_and_saves(alloc))
-    )?;
-    println!(rt;
-        "each write of a format fails: {}",
-        told(one_file::each_write_of_a_format_fails(alloc))
-    )?;
-    println!(rt;
-        "the read of a mount fails: {}",
-        told(one_file::the_read_of_a_mount_fails(alloc))
-    )?;
-    println!(rt; "a load fails: {}", told(one_file::a_load_fails(alloc)))?;
-    println!(rt; "a save fails: {}", told(one_file::a_save_fails(alloc)))?;
-    println!(rt;
-        "fewer than sixty bytes are all written: {}",
-        told(one_file::fewer_than_sixty_bytes_are_all_written(alloc))
-    )?;
-    println!(rt;
-        "no call is made to fail: {}",
-        told(one_file::no_call_is_made_to_fail(alloc))
-    )?;
-    println!(rt; "track numbers: {}", told(one_file::track_numbers()))?;
-    println!(rt; "memory: {}", told(one_file::memory(alloc)))?;
-    println!(rt; "texts: {}", told(one_file::texts(alloc)))?;
-    println!(rt; "lists of files: {}", told(files::lists_of_files(alloc)))?;
-    println!(rt;
-        "lengths of files: {}",
-        told(files::lengths_of_files(alloc))
-    )?;
-    println!(rt;
-        "the first fault is told: {}",
-        told(files::the_first_fault_is_told(alloc))
-    )?;
-    println!(rt;
-        "the read of a header fails: {}",
-        told(files::the_read_of_a_header_fails(alloc))
-    )?;
-    println!(rt;
-        "each load goes to one file: {}",
-        told(files::each_load_goes_to_one_file(alloc))
-    )?;
-    println!(rt;
-        "each save goes to one file: {}",
-        told(files::each_save_goes_to_one_file(alloc))
-    )?;
-    println!(rt;
-        "a load or a save of one file fails: {}",
-        told(files::a_load_or_a_save_of_one_file_fails(alloc))
-    )?;
-    Ok(())
+    let row = files::the_read_of_a_header_fails(alloc);
+    tell(rt, "the read of a header fails", row)?;
+    let row = files::each_load_goes_to_one_file(alloc);
+    tell(rt, "each load goes to one file", row)?;
+    let row = files::each_save_goes_to_one_file(alloc);
+    tell(rt, "each save goes to one file", row)?;
+    let row = files::a_load_or_a_save_of_one_file_fails(alloc);
+    tell(rt, "a load or a save of one file fails", row)
 }

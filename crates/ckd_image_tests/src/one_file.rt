@@ -37,36 +37,35 @@ pub(crate) fn a_new_2311(alloc: Global) -> Result<()> {
     let store = new_file(alloc, DriveModel::D2311, 2)?;
     let file = store.bytes();
     let fields = b"CKD_P370\x0A\0\0\0\0\x10\0\0\x11\0\0\0";
-    must(file.get(..20) == Some(fields.as_slice()))?;
-    must(are_all(file.get(20..512), 492, 0))?;
-    must(file.len() == 512 + 20 * 4096)?;
     // track 13: cylinder 1, head 3
-    let slot = file
-        .get(512 + 13 * 4096..512 + 14 * 4096)
-        .context("no slot")?;
-    must(slot.get(..5) == Some([0, 0, 1, 0, 3].as_slice()))?;
-    must(slot.get(5..13) == Some([0, 1, 0, 3, 0, 0, 0, 8].as_slice()))?;
-    must(are_all(slot.get(13..21), 8, 0))?;
-    must(are_all(slot.get(21..29), 8, 0xFF))?;
-    must(are_all(slot.get(29..), 4067, 0))?;
-    Ok(())
+    let slot = file.get(512 + 13 * 4096..512 + 14 * 4096);
+    must(file.len() == 512 + 20 * 4096 && is_header(file, fields) && is_slot(slot, 1, 3, 4096))
 }
 
 pub(crate) fn a_new_2314(alloc: Global) -> Result<()> {
     let store = new_file(alloc, DriveModel::D2314, 1)?;
     let file = store.bytes();
     let fields = b"CKD_P370\x14\0\0\0\0\x1E\0\0\x14\0\0\0";
-    must(file.get(..20) == Some(fields.as_slice()))?;
-    must(are_all(file.get(20..512), 492, 0))?;
-    must(file.len() == 512 + 20 * 7680)?;
     // the last track: head 19
-    let slot = file.get(512 + 19 * 7680..).context("no slot")?;
-    must(slot.get(..5) == Some([0, 0, 0, 0, 19].as_slice()))?;
-    must(slot.get(5..13) == Some([0, 0, 0, 19, 0, 0, 0, 8].as_slice()))?;
-    must(are_all(slot.get(13..21), 8, 0))?;
-    must(are_all(slot.get(21..29), 8, 0xFF))?;
-    must(are_all(slot.get(29..), 7651, 0))?;
-    Ok(())
+    let slot = file.get(512 + 19 * 7680..);
+    must(file.len() == 512 + 20 * 7680 && is_header(file, fields) && is_slot(slot, 0, 19, 7680))
+}
+
+/// Whether a file begins with a header of these fields, and of zeros.
+fn is_header(file: &[u8], fields: &[u8]) -> bool {
+    file.get(..20) == Some(fields) && are_all(file.get(20..512), 492, 0)
+}
+
+/// Whether this is a slot of so many bytes as a new volume has it: home address, R0 and the end mark, and zeros behind.
+fn is_slot(slot: Option<&[u8]>, cylinder: u8, head: u8, length: usize) -> bool {
+    let Some(slot) = slot else {
+        return false;
+    };
+    slot.get(..5) == Some([0, 0, cylinder, 0, head].as_slice())
+        && slot.get(5..13) == Some([0, cylinder, 0, head, 0, 0, 0, 8].as_slice())
+        && are_all(slot.get(13..21), 8, 0)
+        && are_all(slot.get(21..29), 8, 0xFF)
+        && are_all(slot.get(29..), length.saturating_sub(29), 0)
 }
 
 pub(crate) fn formats_and_mounts(alloc: Global) -> Result<()> {
@@ -80,13 +79,18 @@ pub(crate) fn formats_and_mounts(alloc: Global) -> Result<()> {
             cylinders,
             track_size,
         };
-        must(formatted.geometry() == geometry)?;
-        match Image::mount(only_store(formatted.into_stores())?) {
-            Ok(image) => must(image.geometry() == geometry)?,
-            Err((fault, _)) => bail!("{fault}"),
-        }
+        must(is_mounted_again(formatted, geometry)?)?;
     }
     Ok(())
+}
+
+/// Whether an image has this geometry, and its store is mounted with it again.
+fn is_mounted_again(image: Image<MemoryStore>, geometry: Geometry) -> Result<bool> {
+    let is_formatted = image.geometry() == geometry;
+    match Image::mount(only_store(image.into_stores())?) {
+        Ok(image) => Ok(is_formatted && image.geometry() == geometry),
+        Err((fault, _)) => bail!("{fault}"),
+    }
 }
 
 pub(crate) fn refuses_to_format(alloc: Global) -> Result<()> {
@@ -101,10 +105,9 @@ pub(crate) fn refuses_to_format(alloc: Global) -> Result<()> {
         match Image::format(store, DriveModel::D2311, cylinders) {
             Ok(_) => bail!("formatted"),
             Err((fault, store)) => {
-                must(fault == want)?;
-                must(store.bytes().len() == len)?;
                 let kept = are_all(Some(store.bytes()), len, 0xAA);
-                must(kept == (want == MountFault::Length || len == 0))?;
+                let must_be_kept = want == MountFault::Length || len == 0;
+                must(fault == want && store.bytes().len() == len && kept == must_be_kept)?;
             }
         }
     }
@@ -202,8 +205,7 @@ pub(crate) fn no_prefix_is_mounted(alloc: Global) -> Result<()> {
         match Image::mount(prefix) {
             Ok(_) => bail!("{len}"),
             Err((fault, store)) => {
-                must(fault == MountFault::Length)?;
-                must(store.bytes.len() == len)?;
+                must(fault == MountFault::Length && store.bytes.len() == len)?;
             }
         }
     }
@@ -269,22 +271,36 @@ pub(crate) fn every_byte_of_a_header(alloc: Global) -> Result<()> {
 
 pub(crate) fn loads_and_saves(alloc: Global) -> Result<()> {
     let mut image = new_volume(alloc, DriveModel::D2311, 2)?;
-    let mut slot = [0; 4096];
-    image.save(13, &[0xD7; 4096])?;
-    image.load(13, &mut slot)?;
-    must(are_all(Some(&slot), 4096, 0xD7))?;
-    image.load(12, &mut slot)?;
-    must(slot.get(..6) == Some([0, 0, 1, 0, 2, 0].as_slice()))?;
-    image.load(14, &mut slot)?;
-    must(slot.get(..6) == Some([0, 0, 1, 0, 4, 0].as_slice()))?;
+    let loads = loads_what_it_saves(&mut image);
     let store = only_store(image.into_stores())?;
     let whole = new_file(alloc, DriveModel::D2311, 2)?;
+    must(loads && is_track_13_saved(store.bytes(), whole.bytes()))
+}
+
+/// Whether an image of two cylinders loads track 13 as it was saved, and the tracks beside it as they were.
+fn loads_what_it_saves(image: &mut Image<MemoryStore>) -> bool
+    requires { image.old.geometry ≡ new_geometry DriveModel.D2311 2 }
+{
+    let mut slot = [0; 4096];
+    let is_saved = image.save(13, &[0xD7; 4096]) == Ok(());
+    let is_loaded = image.load(13, &mut slot) == Ok(()) && are_all(Some(&slot), 4096, 0xD7);
+    let is_before = image.load(12, &mut slot) == Ok(()) && begins(&slot, [0, 0, 1, 0, 2, 0]);
+    let is_behind = image.load(14, &mut slot) == Ok(()) && begins(&slot, [0, 0, 1, 0, 4, 0]);
+    is_saved && is_loaded && is_before && is_behind
+}
+
+/// Whether a slot begins with these bytes.
+fn begins(slot: &[u8], bytes: [u8; 6]) -> bool {
+    slot.get(..6) == Some(bytes.as_slice())
+}
+
+/// Whether a file is a new one of 2311 tracks, of which track 13 is saved.
+fn is_track_13_saved(file: &[u8], new: &[u8]) -> bool {
     let at = 512 + 13 * 4096;
-    must(first_difference(store.bytes(), whole.bytes()) == Some(at))?;
     let behind = at + 4096;
-    must(are_all(store.bytes().get(at..behind), 4096, 0xD7))?;
-    must(store.bytes().get(behind..) == whole.bytes().get(behind..))?;
-    Ok(())
+    first_difference(file, new) == Some(at)
+        && are_all(file.get(at..behind), 4096, 0xD7)
+        && file.get(behind..) == new.get(behind..)
 }
 
 /// A store of these bytes of which call `at` fails.
@@ -321,47 +337,60 @@ pub(crate) fn each_write_of_a_format_fails(alloc: Global) -> Result<()> {
     let new = new_file(alloc, DriveModel::D2311, 1)?;
     // the header, and ten slots
     for at in 1..=11 {
-        let written = written_before(at);
         for for_good in [false, true] {
-            let store = failed_format(alloc, &old, at, for_good)?;
-            must(store.calls() == at)?;
-            let inner = store.into_inner();
-            must(inner.bytes().get(..written) == new.bytes().get(..written))?;
-            must(inner.bytes().get(written..) == old.get(written..))?;
+            must(writes_a_front(alloc, old.as_slice(), new.bytes(), at, for_good)?)?;
         }
     }
-    match Image::format(failing(alloc, &old, 12, true)?, DriveModel::D2311, 1) {
+    must(writes_all(alloc, old.as_slice(), new.bytes())?)
+}
+
+/// Whether a format of which this write fails leaves what is written before it, and the rest as it was.
+fn writes_a_front(alloc: Global, old: &[u8], new: &[u8], at: u64, for_good: bool) -> Result<bool>
+    requires { at < 1000 }
+{
+    let written = written_before(at);
+    let store = failed_format(alloc, old, at, for_good)?;
+    let calls = store.calls();
+    let inner = store.into_inner();
+    let file = inner.bytes();
+    Ok(
+        calls == at
+            && file.get(..written) == new.get(..written)
+            && file.get(written..) == old.get(written..),
+    )
+}
+
+/// Whether a format whose eleven writes do not fail writes all.
+fn writes_all(alloc: Global, old: &[u8], new: &[u8]) -> Result<bool> {
+    match Image::format(failing(alloc, old, 12, true)?, DriveModel::D2311, 1) {
         Ok(image) => {
             let store = only_store(image.into_stores())?;
-            must(store.calls() == 11)?;
-            must(store.into_inner().bytes() == new.bytes())?;
+            Ok(store.calls() == 11 && store.into_inner().bytes() == new)
         }
         Err((fault, _)) => bail!("{fault}"),
     }
-    Ok(())
 }
 
 pub(crate) fn the_read_of_a_mount_fails(alloc: Global) -> Result<()> {
     let new = new_file(alloc, DriveModel::D2311, 1)?;
     for for_good in [false, true] {
-        match Image::mount(failing(alloc, new.bytes(), 1, for_good)?) {
-            Ok(_) => bail!("mounted"),
-            Err((fault, store)) => {
-                must(fault == MountFault::StoreFault)?;
-                must(store.calls() == 1)?;
-                must(store.into_inner().bytes() == new.bytes())?;
-            }
-        }
+        let fault = first_read_fails(alloc, new.bytes(), for_good)?;
+        must(fault == (MountFault::StoreFault, 1))?;
     }
     // below 512 bytes nothing is read
-    match Image::mount(failing(alloc, &[0; 511], 1, true)?) {
+    must(first_read_fails(alloc, &[0; 511], true)? == (MountFault::Length, 0))
+}
+
+/// The fault of a mount of these bytes of which the first read fails, and how often they were read. They come back as they were.
+fn first_read_fails(alloc: Global, bytes: &[u8], for_good: bool) -> Result<(MountFault, u64)> {
+    match Image::mount(failing(alloc, bytes, 1, for_good)?) {
         Ok(_) => bail!("mounted"),
         Err((fault, store)) => {
-            must(fault == MountFault::Length)?;
-            must(store.calls() == 0)?;
+            let calls = store.calls();
+            must(store.into_inner().bytes() == bytes)?;
+            Ok((fault, calls))
         }
     }
-    Ok(())
 }
 
 /// An image of one cylinder of a 2311, of which call `at` of the store fails after the mount.
@@ -381,40 +410,52 @@ fn failing_image(alloc: Global, at: u64, for_good: bool) -> Result<Image<Failing
 }
 
 pub(crate) fn a_load_fails(alloc: Global) -> Result<()> {
+    let new = new_file(alloc, DriveModel::D2311, 1)?;
     for for_good in [false, true] {
         let mut image = failing_image(alloc, 2, for_good)?;
-        let mut slot = [0; 4096];
-        must(image.load(4, &mut slot) == Ok(()))?;
-        must(slot.get(..6) == Some([0, 0, 0, 0, 4, 0].as_slice()))?;
-        must(image.load(5, &mut slot) == Err(StoreFault))?;
-        must(image.load(6, &mut slot).is_err() == for_good)?;
+        let is_so = second_load_fails(&mut image, for_good);
         let store = only_store(image.into_stores())?;
-        must(store.calls() == 4)?;
-        let new = new_file(alloc, DriveModel::D2311, 1)?;
-        must(store.into_inner().bytes() == new.bytes())?;
+        let is_called = store.calls() == 4;
+        must(is_so && is_called && store.into_inner().bytes() == new.bytes())?;
     }
     Ok(())
 }
 
+/// Whether the second load of an image fails, and the third where it fails for good.
+fn second_load_fails(image: &mut Image<FailingStore>, for_good: bool) -> bool
+    requires { image.old.geometry ≡ new_geometry DriveModel.D2311 1 }
+{
+    let mut slot = [0; 4096];
+    let is_loaded = image.load(4, &mut slot) == Ok(()) && begins(&slot, [0, 0, 0, 0, 4, 0]);
+    let is_refused = image.load(5, &mut slot) == Err(StoreFault);
+    is_loaded && is_refused && image.load(6, &mut slot).is_err() == for_good
+}
+
 pub(crate) fn a_save_fails(alloc: Global) -> Result<()> {
-    let at = 512 + 5 * 4096;
+    let new = new_file(alloc, DriveModel::D2311, 1)?;
     for for_good in [false, true] {
         let mut image = failing_image(alloc, 1, for_good)?;
-        must(image.save(5, &[0xD7; 4096]) == Err(StoreFault))?;
-        must(image.save(7, &[0xD8; 4096]).is_err() == for_good)?;
+        let is_refused = image.save(5, &[0xD7; 4096]) == Err(StoreFault);
+        let is_again = image.save(7, &[0xD8; 4096]).is_err() == for_good;
         let store = only_store(image.into_stores())?;
-        must(store.calls() == 3)?;
+        let is_called = store.calls() == 3;
         let inner = store.into_inner();
-        let new = new_file(alloc, DriveModel::D2311, 1)?;
-        must(first_difference(inner.bytes(), new.bytes()) == Some(at))?;
-        must(are_all(inner.bytes().get(at..at + 60), 60, 0xD7))?;
-        let next = at + 2 * 4096;
-        must(inner.bytes().get(at + 60..next) == new.bytes().get(at + 60..next))?;
-        let behind = next + if for_good { 60 } else { 4096 };
-        must(are_all(inner.bytes().get(next..behind), behind - next, 0xD8))?;
-        must(inner.bytes().get(behind..) == new.bytes().get(behind..))?;
+        must(is_refused && is_again && is_called && is_torn(inner.bytes(), new.bytes(), for_good))?;
     }
     Ok(())
+}
+
+/// Whether a file is a new one with the first 60 bytes of track 5 saved, and all or as many of track 7.
+fn is_torn(file: &[u8], new: &[u8], for_good: bool) -> bool {
+    let at = 512 + 5 * 4096;
+    let next = at + 2 * 4096;
+    let count = if for_good { 60 } else { 4096 };
+    let behind = next + count;
+    first_difference(file, new) == Some(at)
+        && are_all(file.get(at..at + 60), 60, 0xD7)
+        && file.get(at + 60..next) == new.get(at + 60..next)
+        && are_all(file.get(next..behind), count, 0xD8)
+        && file.get(behind..) == new.get(behind..)
 }
 
 pub(crate) fn fewer_than_sixty_bytes_are_all_written(alloc: Global) -> Result<()> {
@@ -426,9 +467,8 @@ pub(crate) fn fewer_than_sixty_bytes_are_all_written(alloc: Global) -> Result<()
     ];
     for (at, want) in rows {
         let mut store = failing(alloc, &[0; 8], 1, false)?;
-        must(at <= store.len())?;
-        must(store.write_at(at, &[1; 3]) == Err(StoreFault))?;
-        must(store.into_inner().bytes() == want.as_slice())?;
+        let is_torn = at <= store.len() && store.write_at(at, &[1; 3]) == Err(StoreFault);
+        must(is_torn && store.into_inner().bytes() == want.as_slice())?;
     }
     Ok(())
 }
@@ -436,15 +476,13 @@ pub(crate) fn fewer_than_sixty_bytes_are_all_written(alloc: Global) -> Result<()
 pub(crate) fn no_call_is_made_to_fail(alloc: Global) -> Result<()> {
     let mut store = failing(alloc, &[1, 2, 3], 0, true)?;
     let mut two = [0; 2];
-    must(store.read_at(1, &mut two) == Ok(()))?;
-    must(two == [2, 3])?;
-    must(store.write_at(0, &[9]) == Ok(()))?;
+    let is_read = store.read_at(1, &mut two) == Ok(()) && two == [2, 3];
+    let is_written = store.write_at(0, &[9]) == Ok(());
     // past the end it fails as in the store within
-    must(store.write_at(2, &[7, 7]) == Err(StoreFault))?;
-    must(store.calls() == 3)?;
-    must(store.len() == 3)?;
-    must(store.into_inner().bytes() == [9, 2, 3].as_slice())?;
-    Ok(())
+    let is_refused = store.write_at(2, &[7, 7]) == Err(StoreFault);
+    let is_called = store.calls() == 3 && store.len() == 3;
+    let bytes_are_kept = store.into_inner().bytes() == [9, 2, 3].as_slice();
+    must(is_read && is_written && is_refused && is_called && bytes_are_kept)
 }
 
 pub(crate) fn track_numbers() -> Result<()> {
@@ -459,17 +497,14 @@ pub(crate) fn track_numbers() -> Result<()> {
 pub(crate) fn memory(alloc: Global) -> Result<()> {
     let mut store = MemoryStore::new(alloc, &[1, 2, 3, 4, 5, 6])?;
     let mut two = [0; 2];
-    store.read_at(4, &mut two)?;
-    must(two == [5, 6])?;
-    must(store.write_at(1, &[8, 9]) == Ok(()))?;
-    must(store.write_at(6, &[]) == Ok(()))?;
-    must(store.write_at(5, &[7, 7]) == Err(StoreFault))?;
-    must(store.bytes() == [1, 8, 9, 4, 5, 6].as_slice())?;
-    must(store.len() == 6)?;
+    let is_read = store.read_at(4, &mut two) == Ok(()) && two == [5, 6];
+    let is_written = store.write_at(1, &[8, 9]) == Ok(()) && store.write_at(6, &[]) == Ok(());
+    let is_refused = store.write_at(5, &[7, 7]) == Err(StoreFault);
+    let bytes_are_kept = store.bytes() == [1, 8, 9, 4, 5, 6].as_slice() && store.len() == 6;
+    must(is_read && is_written && is_refused && bytes_are_kept)?;
     must(MemoryStore::zeros(alloc, 3)?.bytes() == [0, 0, 0].as_slice())?;
     // more than there is
-    must(MemoryStore::zeros(alloc, u64::MAX).is_err())?;
-    Ok(())
+    must(MemoryStore::zeros(alloc, u64::MAX).is_err())
 }
 
 pub(crate) fn texts(alloc: Global) -> Result<()> {
