@@ -2,7 +2,7 @@
 
 use crate::left::{Left, LeftDrive, LeftFile, attached};
 use crate::row::Player;
-use crate::stage::{DriveFailure, start_sense};
+use crate::stage::{Disks, DriveFailure, start_sense};
 use crate::volume::Volumes;
 use anyhow::{Result, bail};
 use ckd_image::MemoryStore;
@@ -88,6 +88,25 @@ fn play_course(
     failing: DriveFailure,
 ) -> Result<Option<Course>> {
     let mut player = Player::new(alloc, failing)?;
+    let Some(answers) = answers_of(alloc, volumes, row, &mut player)? else {
+        return Ok(None);
+    };
+    let Player { stage, .. } = player;
+    let mut channel = stage.channel;
+    Ok(Some(Course {
+        answers,
+        sense: sense_of(&mut channel, device),
+        left: Left::of(alloc, channel)?,
+    }))
+}
+
+// The answers to a row. None where an image is not mounted since its store fails.
+fn answers_of(
+    alloc: Global,
+    volumes: &Volumes,
+    row: &str,
+    player: &mut Player,
+) -> Result<Option<String>> {
     let mut answers = String::new(alloc);
     for line in row.lines().skip(1) {
         player.follows(alloc, volumes, line, &mut answers)?;
@@ -95,19 +114,17 @@ fn play_course(
             return Ok(None);
         }
     }
-    let Player { stage, .. } = player;
-    let mut channel = stage.channel;
-    let sense = match start_sense(&mut channel, CHANNEL | u16::from(device)) {
-        true => channel
-            .peek(0x710, 1)
-            .and_then(|bytes| bytes.first().copied()),
-        false => None,
-    };
-    Ok(Some(Course {
-        answers,
-        sense,
-        left: Left::of(alloc, channel)?,
-    }))
+    Ok(Some(answers))
+}
+
+// The first sense byte of a drive, where a Sense can start.
+fn sense_of(channel: &mut Disks, device: u8) -> Option<u8> {
+    if !start_sense(channel, CHANNEL | u16::from(device)) {
+        return None;
+    }
+    channel
+        .peek(0x710, 1)
+        .and_then(|bytes| bytes.first().copied())
 }
 
 // What is told where a call of a drive's store fails, beside a course without faults.

@@ -72,6 +72,14 @@ struct Progress {
 }
 
 impl Progress {
+    // Does what the lines of a row ask.
+    fn walk_row(&mut self, alloc: Global, volumes: &Volumes, row: &str) -> Result<()> {
+        for line in row.lines().skip(1) {
+            self.walk_line(alloc, volumes, line)?;
+        }
+        Ok(())
+    }
+
     // Does what a line asks that makes something, or the events of a line.
     fn walk_line(&mut self, alloc: Global, volumes: &Volumes, line: &str) -> Result<()> {
         match line.strip_prefix("> ") {
@@ -99,9 +107,7 @@ fn walk(
         rest: count,
         most: 0,
     };
-    for line in row.lines().skip(1) {
-        progress.walk_line(alloc, volumes, line)?;
-    }
+    progress.walk_row(alloc, volumes, row)?;
     let Progress { player, rest, most } = progress;
     let left = player.left(alloc)?;
     Ok(if rest > 0 { None } else { Some((left, most)) })

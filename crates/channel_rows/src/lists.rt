@@ -1,11 +1,12 @@
 //! Serial lists: what they are, and that they come to the same.
 
+ghost use Rattle.std.specs.Prelude.{IfOk};
 ghost use Rattle.s360_events.specs.Answered.{AllAnswered};
 
 use crate::calls::line_of;
 use crate::left::Left;
 use crate::row::Player;
-use crate::stage::Stage;
+use crate::stage::Disks;
 use crate::volume::Volumes;
 use anyhow::{Result, bail};
 use s360_channel::drive;
@@ -26,16 +27,33 @@ struct Played {
 
 // Drives a list of events and its serial list, each on a channel as the lines of a row make it.
 fn play_both(alloc: Global, volumes: &Volumes, row: &str, events: &[Event]) -> Result<Played> {
-    let mut first = set_up(alloc, volumes, row)?;
-    let mut second = set_up(alloc, volumes, row)?;
-    let answers = drive(alloc, &mut first.channel, events)?;
-    let list = list_of(alloc, events, answers.as_slice())?;
-    let kept = drive(alloc, &mut second.channel, list.as_slice())?;
+    let first = drive_row(alloc, volumes, row, events)?;
+    let list = list_of(alloc, events, first.answers.as_slice())?;
+    let second = drive_row(alloc, volumes, row, list.as_slice())?;
     Ok(Played {
-        answers,
+        leave_the_same: first.left.is_same(&second.left),
+        answers: first.answers,
         list,
-        kept,
-        leave_the_same: same_left(alloc, first, second)?,
+        kept: second.answers,
+    })
+}
+
+// What a channel answers to a list of events, and leaves.
+#[derive(Drop)]
+struct Driven {
+    answers: Vec<Answer>,
+    left: Left,
+}
+
+// Drives a list of events on a channel as the lines of a row make it.
+fn drive_row(alloc: Global, volumes: &Volumes, row: &str, events: &[Event]) -> Result<Driven>
+    ensures { IfOk result (λ driven. AllAnswered events.now driven.answers.items) }
+{
+    let mut channel = set_up(alloc, volumes, row)?;
+    let answers = drive(alloc, &mut channel, events)?;
+    Ok(Driven {
+        answers,
+        left: Left::of(alloc, channel)?,
     })
 }
 
@@ -164,15 +182,21 @@ fn list_of(alloc: Global, events: &[Event], answers: &[Answer]) -> Result<Vec<Ev
 }
 
 // A channel as the lines of a row before its list make it.
-fn set_up(alloc: Global, volumes: &Volumes, row: &str) -> Result<Stage> {
+fn set_up(alloc: Global, volumes: &Volumes, row: &str) -> Result<Disks> {
     let mut player = Player::new(alloc, None)?;
+    does_all(alloc, volumes, row, &mut player)?;
+    let Player { stage, .. } = player;
+    Ok(stage.channel)
+}
+
+// Does what the lines of a row say.
+fn does_all(alloc: Global, volumes: &Volumes, row: &str, player: &mut Player) -> Result<()> {
     for line in row.lines().skip(1) {
         if !player.does(alloc, volumes, line)? {
             bail!("otherwise before its list");
         }
     }
-    let Player { stage, .. } = player;
-    Ok(stage)
+    Ok(())
 }
 
 // The events of the lines that begin so.
@@ -217,11 +241,4 @@ fn other_line<'a>(deck: &'a str, prefix: &str, came: &str) -> Option<&'a str> {
         }
     }
     came.next().map(|_| "more answers")
-}
-
-// Whether two channels leave the same storage and volumes.
-fn same_left(alloc: Global, first: Stage, second: Stage) -> Result<bool> {
-    let first = Left::of(alloc, first.channel)?;
-    let second = Left::of(alloc, second.channel)?;
-    Ok(first.is_same(&second))
 }
