@@ -32,7 +32,7 @@ pub(crate) struct LineWriter {
 }
 
 impl LineWriter {
-    pub fn new(alloc: Global, room: Option<usize>) -> LineWriter {
+    pub(crate) fn new(alloc: Global, room: Option<usize>) -> LineWriter {
         LineWriter {
             printed: Vec::new(alloc),
             room,
@@ -66,7 +66,7 @@ pub(crate) struct ShownLines {
 }
 
 impl ShownLines {
-    pub fn new(alloc: Global) -> ShownLines {
+    pub(crate) fn new(alloc: Global) -> ShownLines {
         ShownLines {
             alloc,
             lines: String::new(alloc),
@@ -75,7 +75,7 @@ impl ShownLines {
     }
 
     /// The lines; and one more where the last was not cleared.
-    pub fn into_lines(self) -> Result<String> {
+    pub(crate) fn into_lines(self) -> Result<String> {
         let ShownLines {
             alloc: _,
             mut lines,

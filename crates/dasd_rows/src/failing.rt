@@ -2,12 +2,13 @@
 
 use crate::ends::{LineWriter, ShownLines};
 use anyhow::{Result, bail};
-use ckd_image::{FailingStore, Image, MemoryStore, image_len};
-use ckd_track::DriveModel;
+use ckd_image::{FailingStore, Image};
+use ckd_track::{DriveModel, Geometry};
 use dasd_jobs::JobFault;
 use dasd_run::ProgramFault;
+use dasd_volumes::{VolumeFault, check, list};
 use std::alloc::Global;
-use test_rows::only_store;
+use test_rows::new_volume;
 
 /// Lists or checks a new volume of one cylinder of a 2311, of whose reads, the first of which mounts it, this one fails; and
 /// tells the fault that it came to.
@@ -18,35 +19,36 @@ pub(crate) fn over_failing(
     writer: &mut LineWriter,
 ) -> Result<Option<ProgramFault>> {
     let mut image = failing_image(alloc, read)?;
-    let done = match job {
-        "list" => dasd_volumes::list(alloc, &mut image, writer),
-        "check" => match dasd_volumes::check(
-            alloc,
-            &mut image,
-            writer,
-            &mut ShownLines::new(alloc),
-        ) {
-            Ok(_) => Ok(()),
-            Err(fault) => Err(fault),
-        },
-        _ => bail!("no such job: {job}"),
-    };
-    Ok(match done {
+    Ok(match do_job(alloc, job, &mut image, writer)? {
         Ok(()) => None,
         Err(fault) => Some(ProgramFault::Job(JobFault::from(fault))),
     })
 }
 
+// Lists or checks an image.
+fn do_job(
+    alloc: Global,
+    job: &str,
+    image: &mut Image<FailingStore>,
+    writer: &mut LineWriter,
+) -> Result<std::result::Result<(), VolumeFault>> {
+    match job {
+        "list" => Ok(list(alloc, image, writer)),
+        "check" => {
+            let mut progress = ShownLines::new(alloc);
+            match check(alloc, image, writer, &mut progress) {
+                Ok(_) => Ok(Ok(())),
+                Err(fault) => Ok(Err(fault)),
+            }
+        }
+        _ => bail!("no such job: {job}"),
+    }
+}
+
 // The volume.
 fn failing_image(alloc: Global, read: u32) -> Result<Image<FailingStore>> {
-    let model = DriveModel::D2311;
-    let store = MemoryStore::zeros(alloc, image_len(model, 1))?;
-    let image = match Image::format(store, model, 1) {
-        Ok(image) => image,
-        Err((fault, _)) => bail!("{fault}"),
-    };
-    let store = FailingStore::new(only_store(image.into_stores())?, u64::from(read), false);
-    match Image::mount(store) {
+    let store = new_volume(alloc, Geometry::new(DriveModel::D2311, 1))?;
+    match Image::mount(FailingStore::new(store, u64::from(read), false)) {
         Ok(image) => Ok(image),
         Err((fault, _)) => bail!("{fault}"),
     }

@@ -2,13 +2,12 @@
 
 ghost use Rattle.std.specs.Prelude.{◌≡◌, ◌+◌};
 
-use anyhow::{Context, Result, bail};
-use ckd_image::{Image, MemoryStore, image_len};
-use ckd_track::DriveModel;
+use anyhow::{Context, Result};
+use ckd_track::Geometry;
 use dasd_jobs::{FileFault, ImageFiles};
 use ghost_data::Count;
 use std::alloc::Global;
-use test_rows::only_store;
+use test_rows::{model_of, new_volume};
 
 #[derive(Debug, Drop)]
 struct File {
@@ -27,7 +26,7 @@ pub(crate) struct MemoryFiles {
 }
 
 impl MemoryFiles {
-    pub fn new(alloc: Global) -> MemoryFiles {
+    pub(crate) fn new(alloc: Global) -> MemoryFiles {
         MemoryFiles {
             list: Vec::new(alloc),
             replaced: String::new(alloc),
@@ -36,39 +35,42 @@ impl MemoryFiles {
     }
 
     /// The bytes of a file, if it is there.
-    pub fn bytes(&self, name: &str) -> Option<&[u8]> {
+    pub(crate) fn bytes(&self, name: &str) -> Option<&[u8]> {
         let file = self.list.iter().find(|file| file.name.as_str() == name)?;
         Some(file.bytes.as_slice())
     }
 
+    /// The bytes of a file that must be there.
+    pub(crate) fn held(&self, name: &str) -> Result<&[u8]> {
+        self.bytes(name).context("no such file")
+    }
+
     /// Makes a file, or puts these bytes in the place of all that it held.
-    pub fn put(&mut self, alloc: Global, name: &str, bytes: &[u8]) -> Result<()> {
+    pub(crate) fn put(&mut self, alloc: Global, name: &str, bytes: &[u8]) -> Result<()> {
         put(&mut self.list, alloc, name, bytes)
     }
 
     /// Makes a file with a new volume.
-    pub fn put_volume(
+    pub(crate) fn put_volume(
         &mut self,
         alloc: Global,
         name: &str,
         model: &str,
         cylinders: u16,
     ) -> Result<()> {
-        let model = match model {
-            "2311" => DriveModel::D2311,
-            "2314" => DriveModel::D2314,
-            _ => bail!("no such model: {model}"),
-        };
-        let store = MemoryStore::zeros(alloc, image_len(model, cylinders))?;
-        match Image::format(store, model, cylinders) {
-            Ok(image) => self.put(alloc, name, only_store(image.into_stores())?.bytes()),
-            Err((fault, _)) => bail!("{fault}"),
-        }
+        let geometry = Geometry::new(model_of(model)?, cylinders);
+        self.put(alloc, name, new_volume(alloc, geometry)?.bytes())
     }
 
     /// Puts bytes over those of a file from a place on.
-    pub fn patch(&mut self, alloc: Global, name: &str, at: usize, bytes: &[u8]) -> Result<()> {
-        let mut held = Vec::from_slice(alloc, self.bytes(name).context("no such file")?)?;
+    pub(crate) fn patch(
+        &mut self,
+        alloc: Global,
+        name: &str,
+        at: usize,
+        bytes: &[u8],
+    ) -> Result<()> {
+        let mut held = Vec::from_slice(alloc, self.held(name)?)?;
         for (place, byte) in held.iter_mut().skip(at).zip(bytes) {
             *place = *byte;
         }
@@ -76,7 +78,7 @@ impl MemoryFiles {
     }
 
     /// Appends bytes of a file, from a place on, to another, which is made if it is not there.
-    pub fn copy(
+    pub(crate) fn copy(
         &mut self,
         alloc: Global,
         name: &str,
@@ -85,18 +87,14 @@ impl MemoryFiles {
         count: usize,
     ) -> Result<()> {
         let mut held = Vec::from_slice(alloc, self.bytes(name).unwrap_or(&[]))?;
-        let behind = self
-            .bytes(from)
-            .context("no such file")?
-            .get(at..)
-            .context("too short")?;
+        let behind = self.held(from)?.get(at..).context("too short")?;
         held.extend_from_slice(behind.get(..count).context("too short")?)?;
         self.put(alloc, name, held.as_slice())
     }
 
     /// Takes the last bytes of a file away.
-    pub fn cut(&mut self, alloc: Global, name: &str, left: usize) -> Result<()> {
-        let held = self.bytes(name).context("no such file")?;
+    pub(crate) fn cut(&mut self, alloc: Global, name: &str, left: usize) -> Result<()> {
+        let held = self.held(name)?;
         let held = Vec::from_slice(alloc, held.get(..left).context("too short")?)?;
         self.put(alloc, name, held.as_slice())
     }
@@ -130,16 +128,21 @@ impl ImageFiles for MemoryFiles {
 
 // Makes a file of a list, or puts these bytes in the place of all that it held.
 fn put(list: &mut Vec<File>, alloc: Global, name: &str, bytes: &[u8]) -> Result<()> {
-    let bytes = Vec::from_slice(alloc, bytes)?;
-    for file in list.iter_mut() {
-        if file.name.as_str() == name {
-            file.bytes = bytes;
-            return Ok(());
-        }
+    match list.iter().position(|file| file.name.as_str() == name) {
+        Some(place) => put_at(list, place, Vec::from_slice(alloc, bytes)?),
+        None => list.push(File {
+            name: name.to_string(alloc)?,
+            bytes: Vec::from_slice(alloc, bytes)?,
+        })?,
     }
-    let name = name.to_string(alloc)?;
-    list.push(File { name, bytes })?;
     Ok(())
+}
+
+// Puts these bytes in the place of all that a file of a list held.
+fn put_at(list: &mut Vec<File>, place: usize, bytes: Vec<u8>) {
+    if let Some(file) = list.get_mut(place) {
+        file.bytes = bytes;
+    }
 }
 
 // Puts a file into a list, and its name into those that were replaced.

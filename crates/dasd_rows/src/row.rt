@@ -57,15 +57,20 @@ pub(crate) fn play<'a>(alloc: Global, lines: &'a str) -> Result<Outcome<'a>> {
         status: 0,
         commands: 0,
     };
-    for line in lines.lines() {
-        if !play_line(alloc, &mut stage, line)? {
-            return Ok(Outcome::Otherwise(line));
-        }
-    }
-    if stage.is_unsaid() {
-        return Ok(Outcome::Otherwise("the end"));
+    if let Some(line) = play_lines(alloc, &mut stage, lines)? {
+        return Ok(Outcome::Otherwise(line));
     }
     Ok(Outcome::AsItMust(stage.commands))
+}
+
+// Plays the lines of a row, and answers the first that is not as it must be.
+fn play_lines<'a>(alloc: Global, stage: &mut Stage, lines: &'a str) -> Result<Option<&'a str>> {
+    for line in lines.lines() {
+        if !play_line(alloc, stage, line)? {
+            return Ok(Some(line));
+        }
+    }
+    Ok(stage.is_unsaid().then_some("the end"))
 }
 
 // One line of a row; false where what came is not what it says.
@@ -106,42 +111,65 @@ fn command(alloc: Global, stage: &mut Stage, line: &str) -> Result<bool> {
         return Ok(false);
     }
     let words: Vec<&str> = line.split(' ').collect(alloc)?;
-    let mut reader = DeckReader {
-        rest: stage.deck.as_slice(),
-        fails: stage.deck_fails,
-    };
     let mut writer = LineWriter::new(alloc, stage.room);
     let mut progress = ShownLines::new(alloc);
-    stage.files.replaced.clear();
-    let ending = obey(
+    (stage.status, stage.told) = ending_of(
         alloc,
+        stage,
         words.as_slice(),
-        &mut stage.files,
-        &mut reader,
         &mut writer,
         &mut progress,
-    );
-    let ending = match ending {
-        Ok(Ending::Done) => (0, String::new(alloc)),
-        Ok(Ending::Findings) => (1, String::new(alloc)),
-        Err(fault) => status_of(alloc, fault)?,
-    };
-    keep(alloc, stage, ending, writer, progress)?;
+    )?;
+    stage.shown = progress.into_lines()?;
+    keep(alloc, stage, writer.printed.as_slice())?;
     stage.deck.clear();
     stage.deck_fails = false;
     stage.room = None;
     Ok(true)
 }
 
+// Does what words ask; the status, and what is told on standard error.
+fn ending_of(
+    alloc: Global,
+    stage: &mut Stage,
+    words: &[&str],
+    writer: &mut LineWriter,
+    progress: &mut ShownLines,
+) -> Result<(u8, String)> {
+    let mut reader = DeckReader {
+        rest: stage.deck.as_slice(),
+        fails: stage.deck_fails,
+    };
+    stage.files.replaced.clear();
+    match obey(
+        alloc,
+        words,
+        &mut stage.files,
+        &mut reader,
+        writer,
+        progress,
+    ) {
+        Ok(Ending::Done) => Ok((0, String::new(alloc))),
+        Ok(Ending::Findings) => Ok((1, String::new(alloc))),
+        Err(fault) => status_of(alloc, fault),
+    }
+}
+
 // Lists or checks a volume whose store fails.
 fn failing(alloc: Global, stage: &mut Stage, words: &str) -> Result<bool> {
     let (job, read) = words.split_once(' ').context("which read?")?;
     let mut writer = LineWriter::new(alloc, stage.room);
-    let ending = match over_failing(alloc, job, read.parse::<u32>()?, &mut writer)? {
+    (stage.status, stage.told) = match over_failing(
+        alloc,
+        job,
+        read.parse::<u32>()?,
+        &mut writer,
+    )? {
         None => (0, String::new(alloc)),
         Some(fault) => status_of(alloc, fault)?,
     };
-    keep(alloc, stage, ending, writer, ShownLines::new(alloc))?;
+    stage.shown = String::new(alloc);
+    keep(alloc, stage, writer.printed.as_slice())?;
     Ok(true)
 }
 
@@ -153,20 +181,12 @@ fn status_of(alloc: Global, fault: ProgramFault) -> Result<(u8, String)> {
     }
 }
 
-// Keeps what a command came to, until lines have said it.
-fn keep(
-    alloc: Global,
-    stage: &mut Stage,
-    ending: (u8, String),
-    writer: LineWriter,
-    progress: ShownLines,
-) -> Result<()> {
-    (stage.status, stage.told) = ending;
-    stage.printed = match std::str::from_utf8(writer.printed.as_slice()) {
+// Keeps what a command printed, until lines have said it.
+fn keep(alloc: Global, stage: &mut Stage, printed: &[u8]) -> Result<()> {
+    stage.printed = match std::str::from_utf8(printed) {
         Ok(text) => text.to_string(alloc)?,
         Err(_) => bail!("no text"),
     };
-    stage.shown = progress.into_lines()?;
     stage.commands = stage.commands.saturating_add(1);
     Ok(())
 }
@@ -221,8 +241,20 @@ fn is_usage(alloc: Global, stage: &mut Stage) -> Result<bool> {
 // A line that makes a file, or says what it holds.
 fn file_line(alloc: Global, stage: &mut Stage, word: &str, rest: &str) -> Result<bool> {
     let words: Vec<&str> = rest.split(' ').collect(alloc)?;
-    let files = &mut stage.files;
-    match (word, words.as_slice()) {
+    if changes_file(alloc, &mut stage.files, word, words.as_slice())? {
+        return Ok(true);
+    }
+    is_held(alloc, &stage.files, word, words.as_slice())
+}
+
+// Makes a file or changes it, where the line asks that.
+fn changes_file(
+    alloc: Global,
+    files: &mut MemoryFiles,
+    word: &str,
+    words: &[&str],
+) -> Result<bool> {
+    match (word, words) {
         ("file", [name, model, cylinders]) => {
             files.put_volume(alloc, name, model, cylinders.parse::<u16>()?)?;
         }
@@ -235,19 +267,20 @@ fn file_line(alloc: Global, stage: &mut Stage, word: &str, rest: &str) -> Result
         ("copy", [name, from, at, count]) => {
             files.copy(alloc, name, from, number(at)?, number(count)?)?;
         }
-        ("same", [name, other]) => {
-            let held = files.bytes(name).context("no such file")?;
-            return Ok(held == files.bytes(other).context("no such file")?);
-        }
-        ("length", [name, length]) => {
-            return Ok(files.bytes(name).context("no such file")?.len() == number(length)?);
-        }
+        _ => return Ok(false),
+    }
+    Ok(true)
+}
+
+// Whether files hold what a line says.
+fn is_held(alloc: Global, files: &MemoryFiles, word: &str, words: &[&str]) -> Result<bool> {
+    match (word, words) {
+        ("same", [name, other]) => Ok(files.held(name)? == files.held(other)?),
+        ("length", [name, length]) => Ok(files.held(name)?.len() == number(length)?),
         ("holds", [name, at, body]) => {
-            let held = files.bytes(name).context("no such file")?;
-            let behind = held.get(number(at)?..).context("too short")?;
-            return Ok(behind.starts_with(bytes(alloc, body)?.as_slice()));
+            let behind = files.held(name)?.get(number(at)?..).context("too short")?;
+            Ok(behind.starts_with(bytes(alloc, body)?.as_slice()))
         }
         _ => bail!("what is this? {word}"),
     }
-    Ok(true)
 }

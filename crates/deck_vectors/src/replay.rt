@@ -5,7 +5,7 @@ use anyhow::{Result, bail};
 use ckd_image::{Image, ImageStore, MemoryStore, image_len};
 use ckd_track::Geometry;
 use s360_channel::Channel;
-use s360_deck::run;
+use s360_deck::{RunFault, run};
 use s360_words::Storage;
 use sha2::{Digest, Sha256};
 use std::alloc::Global;
@@ -43,34 +43,60 @@ type Disks = Channel<MemoryStore>;
 pub(crate) fn replay(rt: &HostRuntime, vector: &Vector) -> Result<Option<Difference>> {
     let alloc = rt.alloc();
     let mut channel = channel_of(alloc, vector)?;
-    for (device, source) in &vector.volumes {
-        attach(alloc, &mut channel, *device, image_of(rt, source)?)?;
+    attach_all(rt, &mut channel, vector)?;
+    match answers_differ(alloc, &mut channel, vector)? {
+        None => Ok(images_differ(vector, channel)),
+        difference => Ok(difference),
     }
+}
+
+// Attaches the drives of a vector.
+fn attach_all(rt: &HostRuntime, channel: &mut Disks, vector: &Vector) -> Result<()> {
+    for (device, source) in &vector.volumes {
+        attach(rt.alloc(), channel, *device, image_of(rt, source)?)?;
+    }
+    Ok(())
+}
+
+// Runs the deck of a vector, and tells how its fault or its answers differ.
+fn answers_differ(
+    alloc: Global,
+    channel: &mut Disks,
+    vector: &Vector,
+) -> Result<Option<Difference>> {
     let mut output = Vec::new(alloc);
-    let fault = match run(
-        alloc,
-        &mut vector.deck.as_slice(),
-        &mut output,
-        &mut channel,
-    ) {
-        Ok(()) => String::new(alloc),
-        Err(fault) => format!(in alloc; "{fault}")?,
-    };
-    if fault.as_str() != vector.fault.unwrap_or("") {
+    let ran = run(alloc, &mut vector.deck.as_slice(), &mut output, channel);
+    if fault_of(alloc, ran)?.as_str() != vector.fault.unwrap_or("") {
         return Ok(Some(Difference::Fault));
     }
-    if let Some(line) = first_difference(output.as_slice(), vector.answers.as_bytes()) {
-        return Ok(Some(Difference::Answer(line)));
-    }
-    let finished = channel.finish();
-    for entry in finished.images {
+    Ok(
+        match first_difference(output.as_slice(), vector.answers.as_bytes()) {
+            Some(line) => Some(Difference::Answer(line)),
+            None => None,
+        },
+    )
+}
+
+// The text of a fault; of none it is empty.
+fn fault_of(alloc: Global, ran: std::result::Result<(), RunFault>) -> Result<String> {
+    Ok(match ran {
+        Ok(()) => String::new(alloc),
+        Err(fault) => format!(in alloc; "{fault}")?,
+    })
+}
+
+// How the first image differs that a channel leaves otherwise than the vector says.
+fn images_differ(vector: &Vector, channel: Disks) -> Option<Difference> {
+    let mut difference = None;
+    for entry in channel.finish().images {
         if let Some((device, image)) = entry {
-            if let Some(difference) = image_differs(vector, device, image) {
-                return Ok(Some(difference));
+            let of_image = image_differs(vector, device, image);
+            if difference.is_none() {
+                difference = of_image;
             }
         }
     }
-    Ok(None)
+    difference
 }
 
 fn channel_of(alloc: Global, vector: &Vector) -> Result<Disks> {
@@ -124,16 +150,25 @@ fn first_difference(output: &[u8], answers: &[u8]) -> Option<usize> {
 // How the image that a run leaves differs from what the vector says of it.
 fn image_differs(vector: &Vector, device: u8, image: Image<MemoryStore>) -> Option<Difference> {
     let geometry = image.geometry();
-    let stores = image.into_stores();
-    let [Some(store)] = stores.as_slice() else {
-        return Some(Difference::Image(device));
-    };
+    match image.into_stores().as_slice() {
+        [Some(store)] => file_differs(vector, device, geometry, store.bytes()),
+        _ => Some(Difference::Image(device)),
+    }
+}
+
+// The same of its file.
+fn file_differs(
+    vector: &Vector,
+    device: u8,
+    geometry: Geometry,
+    file: &[u8],
+) -> Option<Difference> {
     for slot in &vector.slots {
-        if slot.device == device && !holds_slot(store.bytes(), geometry, slot) {
+        if slot.device == device && !holds_slot(file, geometry, slot) {
             return Some(Difference::Slot(device, slot.cylinder, slot.head));
         }
     }
-    let digest = Sha256::digest(store.bytes());
+    let digest = Sha256::digest(file);
     let differs = vector.images.iter().any(|(named, wanted)| *named == device
         && wanted.as_slice() != &digest[..]);
     differs.then_some(Difference::Image(device))

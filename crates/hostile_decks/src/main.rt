@@ -14,6 +14,7 @@ use crate::cuts::cut_lines;
 use crate::limits::try_limits;
 use crate::stage::new_file;
 use crate::streams::{fail_reads, fail_writes, read_endlessly, read_in_pieces, write_in_pieces};
+use crate::tally::Tally;
 use anyhow::Result;
 use std::io;
 
@@ -21,21 +22,34 @@ fn main(rt: HostRuntime) -> Result<()> {
     let alloc = rt.alloc();
     let deck = io::read_to_string(alloc, rt.reader())?;
     let file = new_file(alloc)?;
-    let file = file.as_slice();
-    let cut = cut_lines(alloc, file, deck.as_str())?;
+    tell_cuts(&rt, file.as_slice(), deck.as_str())?;
+    tell_ends(&rt, file.as_slice(), deck.as_bytes())
+}
+
+fn tell_cuts(rt: &HostRuntime, file: &[u8], deck: &str) -> Result<()> {
+    let cut = cut_lines(rt.alloc(), file, deck)?;
     println!(rt;
         "lines cut at every byte: {}, of which {} are refused",
         cut.tally, cut.refused
     )?;
-    let deck = deck.as_bytes();
-    println!(rt; "reads in pieces: {}", read_in_pieces(alloc, file, deck)?)?;
-    println!(rt; "reads failing in turn: {}", fail_reads(alloc, file, deck)?)?;
-    println!(rt; "reads without an end: {}", read_endlessly(alloc, file)?)?;
-    println!(rt; "writes in pieces: {}", write_in_pieces(alloc, file, deck)?)?;
-    println!(rt;
-        "writes failing in turn: {}",
-        fail_writes(alloc, file, deck)?
+    Ok(())
+}
+
+fn tell_ends(rt: &HostRuntime, file: &[u8], deck: &[u8]) -> Result<()> {
+    let alloc = rt.alloc();
+    tell(rt, "reads in pieces", read_in_pieces(alloc, file, deck)?)?;
+    tell(rt, "reads failing in turn", fail_reads(alloc, file, deck)?)?;
+    tell(rt, "reads without an end", read_endlessly(alloc, file)?)?;
+    tell(rt, "writes in pieces", write_in_pieces(alloc, file, deck)?)?;
+    tell(
+        rt,
+        "writes failing in turn",
+        fail_writes(alloc, file, deck)?,
     )?;
-    println!(rt; "texts at the limits: {}", try_limits(alloc, file)?)?;
+    tell(rt, "texts at the limits", try_limits(alloc, file)?)
+}
+
+fn tell(rt: &HostRuntime, name: &str, tally: Tally) -> Result<()> {
+    println!(rt; "{name}: {tally}")?;
     Ok(())
 }

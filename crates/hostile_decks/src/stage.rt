@@ -2,14 +2,14 @@
 
 use crate::ends::Room;
 use anyhow::{Result, bail};
-use ckd_image::{Image, MemoryStore, image_len};
-use ckd_track::DriveModel;
+use ckd_image::{Image, MemoryStore};
+use ckd_track::{DriveModel, Geometry};
 use s360_channel::{Channel, View};
 use s360_deck::{RunFault, run};
 use s360_words::Storage;
 use std::alloc::Global;
 use std::io::Read;
-use test_rows::only_store;
+use test_rows::new_volume;
 
 /// The bytes of storage.
 const STORAGE: u32 = 4_096;
@@ -62,29 +62,34 @@ impl Came {
     }
 }
 
+// A channel with a drive over a copy of this file.
 fn new_channel(alloc: Global, file: &[u8]) -> Result<Channel<MemoryStore>> {
-    let storage = Storage::new(alloc, STORAGE)?;
-    let mut channel = match Channel::new(1, storage) {
-        Ok(channel) => channel,
-        Err((fault, _)) => bail!("{fault}"),
-    };
-    let image = match Image::mount(MemoryStore::new(alloc, file)?) {
-        Ok(image) => image,
-        Err((fault, _)) => bail!("{fault}"),
-    };
+    let image = mounted(alloc, file)?;
+    let mut channel = channel_without_drives(alloc)?;
     match channel.attach(alloc, 0x90, image) {
         Ok(()) => Ok(channel),
         Err((fault, _)) => bail!("{fault}"),
     }
 }
 
-/// The file of a new volume.
-pub(crate) fn new_file(alloc: Global) -> Result<Vec<u8>> {
-    let store = MemoryStore::zeros(alloc, image_len(DriveModel::D2311, 1))?;
-    match Image::format(store, DriveModel::D2311, 1) {
-        Ok(image) => Ok(Vec::from_slice(alloc, only_store(image.into_stores())?.bytes())?),
+fn channel_without_drives(alloc: Global) -> Result<Channel<MemoryStore>> {
+    match Channel::new(1, Storage::new(alloc, STORAGE)?) {
+        Ok(channel) => Ok(channel),
         Err((fault, _)) => bail!("{fault}"),
     }
+}
+
+fn mounted(alloc: Global, file: &[u8]) -> Result<Image<MemoryStore>> {
+    match Image::mount(MemoryStore::new(alloc, file)?) {
+        Ok(image) => Ok(image),
+        Err((fault, _)) => bail!("{fault}"),
+    }
+}
+
+/// The file of a new volume.
+pub(crate) fn new_file(alloc: Global) -> Result<Vec<u8>> {
+    let store = new_volume(alloc, Geometry::new(DriveModel::D2311, 1))?;
+    Ok(Vec::from_slice(alloc, store.bytes())?)
 }
 
 /// Runs what a reader gives at a channel over a new volume's file, and writes into this room.

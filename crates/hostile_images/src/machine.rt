@@ -57,14 +57,18 @@ pub(crate) fn mount(
     }
 }
 
+// A channel without a drive.
+fn new_channel(alloc: Global) -> Result<Channel<MemoryStore>> {
+    match Channel::new(1, Storage::new(alloc, STORAGE)?) {
+        Ok(channel) => Ok(channel),
+        Err((fault, _)) => bail!("{fault}"),
+    }
+}
+
 impl Machine {
     /// A channel over this image.
     pub(crate) fn new(alloc: Global, image: Image<MemoryStore>) -> Result<Machine> {
-        let storage = Storage::new(alloc, STORAGE)?;
-        let mut channel = match Channel::new(1, storage) {
-            Ok(channel) => channel,
-            Err((fault, _)) => bail!("{fault}"),
-        };
+        let mut channel = new_channel(alloc)?;
         match channel.attach(alloc, 0x90, image) {
             Ok(()) => Ok(Machine { channel }),
             Err((fault, _)) => bail!("{fault}"),

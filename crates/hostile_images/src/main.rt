@@ -57,15 +57,37 @@ fn replace_bytes(alloc: Global, file: &[u8]) -> Result<Tallies> {
             record(3, &[], &[0xC3; 80]),
         ];
         let slot = slot_of(alloc, &records)?;
-        for at in 0..slot.len() {
-            for other in OTHERS {
-                let changed = with_byte(alloc, slot.as_slice(), at, other)?;
-                let changed = changed.as_slice();
-                tallies.try_slot(alloc, file, changed, identifier(2), identifier(1))?;
-            }
-        }
+        tallies.replace_bytes(alloc, file, slot.as_slice())?;
     }
     Ok(tallies)
+}
+
+impl Tallies {
+    // Tries a slot with each of its bytes replaced.
+    fn replace_bytes(&mut self, alloc: Global, file: &[u8], slot: &[u8]) -> Result<()> {
+        for at in 0..slot.len() {
+            for other in OTHERS {
+                let changed = with_byte(alloc, slot, at, other)?;
+                self.try_slot(
+                    alloc,
+                    file,
+                    changed.as_slice(),
+                    identifier(2),
+                    identifier(1),
+                )?;
+            }
+        }
+        Ok(())
+    }
+
+    // Tries a slot with a hundred empty records: behind the first there is room for another, behind the last there is none.
+    fn try_many(&mut self, alloc: Global, file: &[u8], slot: &[u8]) -> Result<()> {
+        for number in 0..100 {
+            let sought = identifier(number);
+            self.try_slot(alloc, file, slot, sought, sought)?;
+        }
+        Ok(())
+    }
 }
 
 fn record<'a>(number: u8, key: &'a [u8], data: &'a [u8]) -> Record<'a> {
@@ -84,11 +106,6 @@ fn try_odd_slots(alloc: Global, file: &[u8]) -> Result<Tallies> {
             tallies.try_slot(alloc, file, slot.as_slice(), sought, sought)?;
         }
     }
-    // behind the first of these there is room for another record, behind the last there is none
-    let many = with_empty_records(alloc, 100)?;
-    for number in 0..100 {
-        let sought = identifier(number);
-        tallies.try_slot(alloc, file, many.as_slice(), sought, sought)?;
-    }
+    tallies.try_many(alloc, file, with_empty_records(alloc, 100)?.as_slice())?;
     Ok(tallies)
 }

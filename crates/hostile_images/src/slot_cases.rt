@@ -76,7 +76,8 @@ fn leaves_file(
 ) -> Result<bool> {
     let mut machine = Machine::new(alloc, mounted(alloc, file)?)?;
     let right = is_read(&mut machine, slot, spelled, &identifier)?;
-    Ok(right && machine.into_store()?.bytes() == file)
+    let left = machine.into_store()?;
+    Ok(right && left.bytes() == file)
 }
 
 // Whether a record is written as it must be, and the rest of the file stays.
@@ -88,9 +89,10 @@ fn leaves_written(
     identifier: [u8; 5],
 ) -> Result<bool> {
     let mut machine = Machine::new(alloc, mounted(alloc, file)?)?;
-    let (right, left) = is_written(alloc, &mut machine, slot, spelled, &identifier)?;
-    let wanted = file_with(alloc, file, left.as_slice())?;
-    Ok(right && machine.into_store()?.bytes() == wanted.as_slice())
+    let (right, slot) = is_written(alloc, &mut machine, slot, spelled, &identifier)?;
+    let left = machine.into_store()?;
+    let wanted = file_with(alloc, file, slot.as_slice())?;
+    Ok(right && left.bytes() == wanted.as_slice())
 }
 
 // A line at which nobody looks.

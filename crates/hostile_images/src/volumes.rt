@@ -1,10 +1,10 @@
 //! A 2311 volume of one cylinder, and slots of its first track.
 
 use anyhow::{Result, bail};
-use ckd_image::{Image, ImageStore, MemoryStore, image_len};
-use ckd_track::DriveModel;
+use ckd_image::{ImageStore, MemoryStore};
+use ckd_track::{DriveModel, Geometry};
 use std::alloc::Global;
-use test_rows::only_store;
+use test_rows::new_volume;
 
 /// The length of an image's header, and of a slot.
 pub(crate) const HEADER_LENGTH: usize = 512;
@@ -21,11 +21,8 @@ pub(crate) struct Record<'a> {
 
 /// The file of a new volume.
 pub(crate) fn new_file(alloc: Global) -> Result<Vec<u8>> {
-    let store = MemoryStore::zeros(alloc, image_len(DriveModel::D2311, 1))?;
-    match Image::format(store, DriveModel::D2311, 1) {
-        Ok(image) => Ok(Vec::from_slice(alloc, only_store(image.into_stores())?.bytes())?),
-        Err((fault, _)) => bail!("{fault}"),
-    }
+    let store = new_volume(alloc, Geometry::new(DriveModel::D2311, 1))?;
+    Ok(Vec::from_slice(alloc, store.bytes())?)
 }
 
 /// The file of a volume whose first slot is another.
