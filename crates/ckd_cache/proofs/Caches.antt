@@ -38,3 +38,9 @@ write_holds i held changed s new now is h some e =
 pub size_is : (i : ImageState) (held : Option ℕ) (changed : Bool) (s : List ℕ) (now : CacheState)
     → record { image = i; slots = held_over i.slots held s; held = held; changed = changed } ≡ now → Holds i held changed s → length s ≡ now.image.geometry.track_size
 size_is i held changed s now is h = h.size ∙ ap (λ (d : CacheState). d.image.geometry.track_size) is
+
+-- the buffer is the slot at hand
+pub held_is : (i : ImageState) (held : Option ℕ) (changed : Bool) (s : List ℕ) (now : CacheState)
+    → record { image = i; slots = held_over i.slots held s; held = held; changed = changed } ≡ now → Holds i held changed s → IsSome now.held → slot_held now ≡ s
+held_is i None changed s now is h some = absurd (let none : None ≡ now.held = ap (λ (d : CacheState). d.held) is in let P : Option ℕ → Type 0 = λ x. IsSome x in let bad = subst P (sym none) some in grind (arith, bad))
+held_is i (Some t) changed s now is h some = (let lt : t < length i.slots = rw h.image.count h.there in rw (← is) (get_or-set_same i.slots t s [] lt))

@@ -2,6 +2,11 @@
 use Rattle.std.specs.Prelude.{◌≡◌, ℕ, ◌+◌, ◌<◌, List, [], Bool, true, false, ◌==◌, Option, Some, None, IsSome, unwrap_or, length, slice_index_or, slice_set, All}
 use Rattle.ckd_track.specs.Geometry.{IsGeometry, tracks_of}
 use Rattle.ckd_image.specs.Image.{ImageState}
+use Rattle.ckd_track.specs.Track.{track_of, slot_of}
+use Rattle.ckd_position.specs.declared.areas.Area.{Area}
+use Rattle.ckd_position.specs.Contents.{formatted}
+use Rattle.ckd_slot.specs.declared.windows.Window.{Window}
+use Rattle.ckd_slot.specs.Buffer.{HasFormatted, fits_track}
 
 pub record CacheState : Type 0 where
   pub image : ImageState
@@ -78,3 +83,12 @@ pub record IsVolume (c : CacheState) : Type 0 where
   pub count : length c.slots ≡ tracks_of c.image.geometry
   pub sizes : All (λ slot. length slot ≡ c.image.geometry.track_size) c.slots
   pub clean : c.changed ≡ false → c.slots ≡ c.image.slots
+
+-- after a formatting write: the slot at hand is that of the track with the new record, or stays where that does not fit
+abbrev pub after_format : CacheState → Option Area → (count : List ℕ) → CacheState
+after_format c after count = with_held c (slot_of c.image.geometry.track_size (formatted (track_of (slot_held c)) after count))
+
+abbrev pub FormatsHeld : (old new : CacheState) → Option Area → (count : List ℕ) → Option (ℕ × Window) → Type 0
+FormatsHeld old new after count (Some n) =
+    HasFormatted old.image.geometry.model old.image.geometry.track_size after count (track_of (slot_held old)) n.0 n.1 × (new ≡ after_format old after count)
+FormatsHeld old new after count None = (fits_track old.image.geometry.model after count (track_of (slot_held old)) ≡ false) × (new ≡ old)

@@ -1,18 +1,16 @@
 //! An image, with the slot of one track at hand: loaded when it is first wanted, written in place, saved late.
 
-ghost use Rattle.std.specs.Prelude.{◌≡◌, ◌≤◌, ◌<◌, ◌+◌, Some, None, true, false, [], length, bytes_eq, unwrap_or, slice_index_or, IfOk, IfErr, OnOk, OnErr, IsSome};
+ghost use Rattle.std.specs.Prelude.{◌≡◌, ◌≤◌, ◌<◌, ◌+◌, Some, None, true, false, [], length, unwrap_or, slice_index_or, IfOk, IfErr, OnOk, OnErr, IsSome};
 ghost use Rattle.ckd_track.specs.Geometry.{tracks_of};
-ghost use Rattle.ckd_track.specs.Track.{track_of, track_in, slot_of, spelling, end_mark, key_length, data_length};
-ghost use Rattle.ckd_track.specs.Model.{capacity_of};
-ghost use Rattle.ckd_track.specs.Charges.{has_room};
+ghost use Rattle.ckd_track.specs.Track.{track_of, track_in, slot_of};
 ghost use Rattle.ckd_track.specs.Changes.{overwritten, bare_track};
-ghost use Rattle.ckd_position.specs.Contents.{is_readable, formatted as track_formatted, with_record_changed, replaced, kept};
+ghost use Rattle.ckd_position.specs.Contents.{is_readable, with_record_changed, replaced, kept};
 ghost use Rattle.ckd_slot.specs.Buffer.{SameRecords, FitsSlot, IsUpdate, IsRecordOf};
-ghost use Rattle.ckd_cache.specs.Cache.{slot_held, with_held, holds, after_hold, after_failed_hold, after_save, after_failed_save, IsVolume};
+ghost use Rattle.ckd_cache.specs.Cache.{slot_held, with_held, holds, after_hold, after_failed_hold, after_save, after_failed_save, IsVolume, FormatsHeld};
 
 use ckd_image::{Image, ImageStore, StoreFault};
 use ckd_position::{Area, Extent};
-use ckd_slot::TrackBuffer;
+use ckd_slot::{TrackBuffer, Window};
 use ckd_track::Geometry;
 use std::alloc::{AllocError, Global};
 use std::marker::Model;
@@ -104,18 +102,6 @@ impl<S: ImageStore> TrackCache<S> {
         &self.buffer
     }
 
-    /// Whether a new record with these count bytes fits the track at hand.
-    pub fn fits(&mut self, after: Option<Area>, count: [u8; 8]) -> bool
-        requires held { IsSome self.old.held }
-        requires readable { is_readable (track_of (slot_held self.old)) ≡ true }
-        ensures value { result ≡ has_room self.old.image.geometry.model (kept (track_of (slot_held self.old)) after) (key_length count) (data_length count) }
-        ensures room { result ≡ true → length (spelling (track_formatted (track_of (slot_held self.old)) after count)) ≤ capacity_of self.old.image.geometry.model + 37 }
-        ensures no_end_mark { result ≡ true → bytes_eq count end_mark ≡ false }
-        ensures stays { self.new ≡ self.old }
-    {
-        self.buffer.fits(self.image.geometry().model, after, count)
-    }
-
     /// Writes the home address into the slot at hand, and removes all records.
     pub fn write_home_address(&mut self, home_address: [u8; 5])
         requires held { IsSome self.old.held }
@@ -127,20 +113,19 @@ impl<S: ImageStore> TrackCache<S> {
         self.changed = true;
     }
 
-    /// Writes a record of these count bytes behind the kept ones into the slot at hand, with zeros in its key and data,
-    /// removes all records behind it, and answers its number.
-    pub fn format(&mut self, after: Option<Area>, count: [u8; 8]) -> usize
+    /// Writes a record of these count bytes behind the kept ones into the slot at hand, with zeros in its key and data, and
+    /// removes all records behind it, where it fits the track. Answers its number, and where its key and data stand; or nothing
+    /// where it does not fit, and the slot stays.
+    pub fn format(&mut self, after: Option<Area>, count: [u8; 8]) -> Option<(usize, Window)>
         requires held { IsSome self.old.held }
         requires readable { is_readable (track_of (slot_held self.old)) ≡ true }
-        requires no_end_mark { bytes_eq count end_mark ≡ false }
-        requires room { length (spelling (track_formatted (track_of (slot_held self.old)) after count)) ≤ self.old.image.geometry.track_size }
-        ensures slot { self.new ≡ with_held self.old (slot_of self.old.image.geometry.track_size (track_formatted (track_of (slot_held self.old)) after count)) }
-        ensures number { result ≡ length (kept (track_of (slot_held self.old)) after) }
-        ensures fits { FitsSlot self.old.image.geometry.track_size (track_formatted (track_of (slot_held self.old)) after count) }
+        ensures { FormatsHeld self.old self.new after count result }
     {
-        let number = self.buffer.format(after, count);
+        let formatted = self
+            .buffer
+            .format(self.image.geometry().model, after, count)?;
         self.changed = true;
-        number
+        Some(formatted)
     }
 
     /// Puts zeros in the place of the bytes of a record's area in the slot at hand, and behind the end mark.
@@ -163,8 +148,9 @@ impl<S: ImageStore> TrackCache<S> {
         requires records { SameRecords (slot_held self.old) (overwritten (slot_held self.old) at bytes.now) }
         ensures { self.new ≡ with_held self.old (overwritten (slot_held self.old) at bytes.now) }
     {
-        self.buffer.put(at, bytes);
+        // noted first, so that the copy is the last that is done
         self.changed = true;
+        self.buffer.put(at, bytes);
     }
 
     /// Saves the slot at hand if it was written since it was last saved.

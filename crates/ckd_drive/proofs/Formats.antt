@@ -1,5 +1,5 @@
 -- A track that gets a new record.
-use Rattle.std.proofs.Common.{◌≡◌, ◌∙◌, ap, sym, subst, refl, ℕ, ◌+◌, ◌-◌, ◌<◌, ◌≤◌, List, [], ◌∷◌, ◌++◌, Bool, true, false, ◌==◌, nat_lt, Option, Some, length, take, drop, set, slice_range, slice_index, replicate, length-append, length-drop, length-take, drop-drop, append_assoc, append-nil, arith}
+use Rattle.std.proofs.Common.{◌≡◌, ◌∙◌, ap, sym, subst, refl, ℕ, ◌+◌, ◌-◌, ◌<◌, ◌≤◌, List, [], ◌∷◌, ◌++◌, true, false, ◌==◌, nat_lt, Option, Some, length, take, drop, set, slice_range, slice_index, replicate, length-append, length-drop, length-take, drop-drop, append_assoc, append-nil, arith}
 use Rattle.std.proofs.Math.Seq.{get_or-append_seam, set-append_seam}
 use Rattle.std.proofs.lemmas.List.{drop_at, take_all, get_or_append_left, take-append-le}
 use Rattle.std.proofs.lemmas.Bool.Decides.{nat_tests}
@@ -10,6 +10,7 @@ use Rattle.ckd_track.specs.declared.geometries.Geometry.{Geometry}
 use Rattle.ckd_position.specs.declared.areas.Area.{Area}
 use Rattle.ckd_position.specs.declared.areas.Area.TheVariants.{Of}
 use Rattle.ckd_position.specs.declared.areas.Part.{Part}
+use Rattle.ckd_position.specs.declared.areas.Part.TheVariants as part
 use Rattle.ckd_command.specs.declared.registers.Registers.{Registers}
 use Rattle.ckd_command.specs.declared.tables.Action.{Action}
 use Rattle.ckd_command.specs.declared.tables.Action.TheVariants as action
@@ -19,10 +20,10 @@ use Rattle.ckd_drive.specs.declared.transfer.Whole.TheVariants as whole
 use Rattle.ckd_slot.specs.declared.windows.Window.{Window}
 use Rattle.ckd_drive.specs.Transfers.{Field, Filled, Progress}
 use Rattle.ckd_command.specs.Tables.{action_of}
-use Rattle.ckd_position.specs.Contents.{Sighted, is_readable, new_record, formatted, kept, padded, replaced, with_key_and_data, with_record_changed}
+use Rattle.ckd_position.specs.Contents.{Sighted, new_record, formatted, kept, padded, replaced, with_key_and_data, with_record_changed}
 use Rattle.ckd_command.specs.Commands.{Closing, length_after, closing, command_end, own_home_address, new_record_fits, format_ends, writes}
-use Rattle.ckd_slot.specs.Buffer.{FitsSlot, IsPlaceOf, lengths_on}
-use Rattle.ckd_cache.specs.Cache.{CacheState, with_held, slot_held}
+use Rattle.ckd_slot.specs.Buffer.{HasFormatted, fits_track, lengths_on}
+use Rattle.ckd_cache.specs.Cache.{CacheState, with_held, slot_held, after_format}
 use Rattle.ckd_drive.specs.Half.{Works, MayTake, Absorbs, IsFilled, AtHand, FieldAtHand, slot_at, track_under, whole_of}
 use Rattle.ckd_slot.proofs.Writes.{update_length, update_place}
 use Rattle.ckd_drive.proofs.Fills.{there, new_slot_at, reads_new, ClosesFilled, form_filled, length-padded}
@@ -192,29 +193,24 @@ format_goes c r before passed p more f field count x may at is long e =
 
 -- a record that does not fit
 pub format_stays : (c : CacheState) (r : Registers) (before passed : List ℕ) (p : Progress) (more f field count : List ℕ) → Works c r before passed p → MayTake p more → p.place ≡ Field f → field ≡ overwritten f p.moved more
-    → FormatGoes c r passed p more count → new_record_fits c.image.geometry (track_of (slot_at c.slots (track_under c.image.geometry r))) p.opened count ≡ false → Absorbs c c r before before passed p more (Field field)
+    → FormatGoes c r passed p more count → fits_track c.image.geometry.model p.opened.area count (track_of (slot_held c)) ≡ false → Absorbs c c r before before passed p more (Field field)
 format_stays c r before passed p more f field count x may at is k no_room =
     let g = c.image.geometry in
     let t = track_of (slot_at c.slots (track_under g r)) in
     let N : Action → Type 0 = λ a. ChangesNothing a g t p.opened r (passed ++ more) in
     let P : List ℕ → Type 0 = λ b. new_record_fits g t p.opened b ≡ false in
-    let none : ChangesNothing action.Format g t p.opened r (passed ++ more) = λ _. subst P k.whole no_room in
+    let held = slot_is c (track_under g r) (slot_held c) k.at_hand.held refl in
+    let none : ChangesNothing action.Format g t p.opened r (passed ++ more) = λ _. subst P k.whole (rw held at no_room) in
     field_absorbs c r before passed p more f field x may at is (subst N (sym k.is) none)
-
--- what is known of the new record
-pub record IsNew (c : CacheState) (r : Registers) (p : Progress) (count new : List ℕ) (part : Part) (i : ℕ) (w : Window) : Type 0 where
-  pub fits : new_record_fits c.image.geometry (track_of (slot_at c.slots (track_under c.image.geometry r))) p.opened count ≡ true
-  pub last : i ≡ length (kept (track_of (slot_at c.slots (track_under c.image.geometry r))) p.opened.area)
-  pub room : FitsSlot c.image.geometry.track_size (formatted (track_of (slot_at c.slots (track_under c.image.geometry r))) p.opened.area count)
-  pub made : new ≡ slot_of c.image.geometry.track_size (formatted (track_of (slot_at c.slots (track_under c.image.geometry r))) p.opened.area count)
-  pub place : IsPlaceOf extent.KeyAndData (track_in new) (Of part i) w
 
 takes_format : (a : Action) → a ≡ action.Format → (a ≡ action.GiveSense → ⊥) × (a ≡ action.Read → ⊥)
 takes_format a e = (λ z. cc, λ z. cc)
 
-pub format_absorbs : (c : CacheState) (r : Registers) (before passed : List ℕ) (p : Progress) (more f field count new : List ℕ) (part : Part) (i : ℕ) (w : Window) → Works c r before passed p → MayTake p more → p.place ≡ Field f
-    → FormatGoes c r passed p more count → IsNew c r p count new part i w → Absorbs c (with_held c new) r before (slot_at c.slots (track_under c.image.geometry r)) passed p more (Filled w (command_end (format_ends r i)))
-format_absorbs c r before passed p more f field count new part i w x may at k new_is =
+-- a record that fits
+pub format_absorbs : (c : CacheState) (r : Registers) (before passed : List ℕ) (p : Progress) (more f count : List ℕ) (i : ℕ) (w : Window) → Works c r before passed p → MayTake p more → p.place ≡ Field f → FormatGoes c r passed p more count
+    → HasFormatted c.image.geometry.model c.image.geometry.track_size p.opened.area count (track_of (slot_held c)) i w
+    → Absorbs c (after_format c p.opened.area count) r before (slot_at c.slots (track_under c.image.geometry r)) passed p more (Filled w (command_end (format_ends r i)))
+format_absorbs c r before passed p more f count i w x may at k has =
     let g = c.image.geometry in
     let n : ℕ = track_under g r in
     let old = slot_at c.slots n in
@@ -223,65 +219,24 @@ format_absorbs c r before passed p more f field count new part i w x may at k ne
     let b = passed ++ more in
     let goes = field_goes c r before passed p more f x may at in
     let t0 = formatted t a b in
-    let Fit : List ℕ → Type 0 = λ y. new_record_fits g t p.opened y ≡ true in
-    let Room : List ℕ → Type 0 = λ y. FitsSlot g.track_size (formatted t a y) in
-    let fits = subst Fit k.whole new_is.fits in
-    let room = subst Room k.whole new_is.room in
-    let made : new ≡ slot_of g.track_size t0 = new_is.made ∙ ap (λ (y : List ℕ). slot_of g.track_size (formatted t a y)) k.whole in
-    let read = reads_new g.track_size t0 new room made in
+    let held = slot_is c n (slot_held c) k.at_hand.held refl in
+    let new = slot_of g.track_size (formatted (track_of (slot_held c)) a count) in
+    let H : List ℕ → Type 0 = λ y. HasFormatted g.model g.track_size a y t i w in
+    let is_new : HasFormatted g.model g.track_size a b t i w = subst H k.whole (rw held at has) in
+    let made : new ≡ slot_of g.track_size t0 = ap (λ (y : List ℕ). slot_of g.track_size (formatted (track_of y) a count)) held ∙ ap (λ (y : List ℕ). slot_of g.track_size (formatted t a y)) k.whole in
+    let read = reads_new g.track_size t0 new is_new.spelled made in
     let at_new = new_slot_at c n new k.at_hand.held (there c r before passed p x) in
     let now : List ℕ = slot_at (with_held c new).slots n in
     let lens : lengths_on (track_in now) ≡ lengths_on t0 = ap (λ (y : List ℕ). lengths_on (track_in y)) at_new ∙ ap lengths_on read.1 in
-    let last = format_there t a b i new_is.last in
-    let P : Track → Type 0 = λ y. IsPlaceOf extent.KeyAndData y (Of part i) w in
-    let place = update_place extent.KeyAndData t0 part i w tt last (subst P read.1 new_is.place) in
-    let bytes = format_bytes t a b i new_is.last k.eight in
+    let last = format_there t a b i is_new.is_last in
+    let place = update_place extent.KeyAndData t0 part.Data i w tt last is_new.place in
+    let bytes = format_bytes t a b i is_new.is_last k.eight in
     let filled : IsFilled g r old now p.opened b w (command_end (format_ends r i)) =
-    form_filled g r old now p.opened b w (command_end (format_ends r i)) t0 extent.KeyAndData part i 8 tt room last lens (omega (arith, k.eight)) (omega arith) (omega (arith, place.0, k.eight)) (omega (arith, place.1, k.eight))
-    (λ m le. format_filled g r old p.opened b m part i k.is k.eight fits new_is.last (omega (arith, le, place.1))) in
-    let whole : with_record_changed (replaced extent.KeyAndData (padded (drop 8 (b ++ [])) (update_length extent.KeyAndData (record_in t0 i)))) (Of part i) t0 ≡ t0 =
-    format_written t a b [] part i k.eight new_is.last (omega arith) ∙ ap (λ (y : List ℕ). formatted t a y) (append-nil b) in
+    form_filled g r old now p.opened b w (command_end (format_ends r i)) t0 extent.KeyAndData part.Data i 8 tt is_new.spelled last lens (omega (arith, k.eight)) (omega arith) (omega (arith, place.0, k.eight)) (omega (arith, place.1, k.eight))
+    (λ m le. format_filled g r old p.opened b m part.Data i k.is k.eight is_new.fits is_new.is_last (omega (arith, le, place.1))) in
+    let whole : with_record_changed (replaced extent.KeyAndData (padded (drop 8 (b ++ [])) (update_length extent.KeyAndData (record_in t0 i)))) (Of part.Data i) t0 ≡ t0 =
+    format_written t a b [] part.Data i k.eight is_new.is_last (omega arith) ∙ ap (λ (y : List ℕ). formatted t a y) (append-nil b) in
     let left : p.left ≤ 8 - length passed = rw (at, k.is) at x.goes.left in
     newly_absorbs c r before passed p more new w (command_end (format_ends r i)) (omega arith) x k.at_hand.held (rw at refl) goes.again
     (takes_format (action_of p.opened.command) k.is) (record { stays = refl; cylinder = refl; head = refl }) (omega (arith, k.eight, goes.long)) (omega (arith, left, k.eight, goes.long)) (omega (arith, k.eight, goes.long))
     filled (made ∙ ap (slot_of g.track_size) (sym whole))
-
--- The slot at hand, and what is known of it.
-
-pub held_new : (c c' : CacheState) (n : ℕ) (new slot : List ℕ) → c.held ≡ Some n → n < length c.slots → c' ≡ with_held c new → slot ≡ slot_held c' → slot ≡ new
-held_new c c' n new slot held lt is e = slot_is (with_held c new) n slot held (e ∙ ap slot_held is) ∙ new_slot_at c n new held lt
-
-pub room_is : (c : CacheState) (n : ℕ) (o : Opened) (slot count : List ℕ) (answer : Bool) → slot ≡ slot_at c.slots n
-    → answer ≡ has_room c.image.geometry.model (kept (track_of slot) o.area) (key_length count) (data_length count) → answer ≡ new_record_fits c.image.geometry (track_of (slot_at c.slots n)) o count
-room_is c n o slot count answer is e =
-    let P : List ℕ → Type 0 = λ s. answer ≡ has_room c.image.geometry.model (kept (track_of s) o.area) (key_length count) (data_length count) in
-    subst P is e
-
--- what is known once the record is written
-pub record Written (c c' : CacheState) (n : ℕ) (o : Opened) (count new slot : List ℕ) (i : ℕ) : Type 0 where
-  pub last : i ≡ length (kept (track_of (slot_at c.slots n)) o.area)
-  pub room : FitsSlot c.image.geometry.track_size (formatted (track_of (slot_at c.slots n)) o.area count)
-  pub made : new ≡ slot_of c.image.geometry.track_size (formatted (track_of (slot_at c.slots n)) o.area count)
-  pub whole : c' ≡ with_held c new
-  pub slot_is : slot ≡ new
-  pub readable : is_readable (track_of slot) ≡ true
-
-pub written : (c c' : CacheState) (n : ℕ) (o : Opened) (count slot : List ℕ) (i : ℕ) → c.held ≡ Some n → n < length c.slots
-    → c' ≡ with_held c (slot_of c.image.geometry.track_size (formatted (track_of (slot_held c)) o.area count)) → i ≡ length (kept (track_of (slot_held c)) o.area)
-    → FitsSlot c.image.geometry.track_size (formatted (track_of (slot_held c)) o.area count) → slot ≡ slot_held c'
-    → Written c c' n o count (slot_of c.image.geometry.track_size (formatted (track_of (slot_held c)) o.area count)) slot i
-written c c' n o count slot i held lt made number fits slot_held_is =
-    let old : slot_held c ≡ slot_at c.slots n = slot_is c n (slot_held c) held refl in
-    let new = slot_of c.image.geometry.track_size (formatted (track_of (slot_held c)) o.area count) in
-    let now = held_new c c' n new slot held lt made slot_held_is in
-    let read = reads_new c.image.geometry.track_size (formatted (track_of (slot_held c)) o.area count) slot fits now in
-    let L : List ℕ → Type 0 = λ s. i ≡ length (kept (track_of s) o.area) in
-    let R : List ℕ → Type 0 = λ s. FitsSlot c.image.geometry.track_size (formatted (track_of s) o.area count) in
-    record {
-      last = subst L old number;
-      room = subst R old fits;
-      made = ap (λ (s : List ℕ). slot_of c.image.geometry.track_size (formatted (track_of s) o.area count)) old;
-      whole = made;
-      slot_is = now;
-      readable = read.0;
-    }

@@ -134,6 +134,7 @@ pub(crate) fn start<S: ImageStore>(
     match code {
         0x05 => start_here(cache, registers, mark, opened, 0x05),
         0x06 => start_here(cache, registers, mark, opened, 0x06),
+        0x07 => start_here(cache, registers, mark, opened, 0x07),
         0x86 => start_here(cache, registers, mark, opened, 0x86),
         0x1D => start_here(cache, registers, mark, opened, 0x1D),
         0x1E => start_here(cache, registers, mark, opened, 0x1E),

@@ -192,6 +192,8 @@ impl<S: ImageStore> Drive<S> {
 
     /// Takes the next bytes of any other command: no more than the last look allows less what has passed since. What is
     /// written goes straight into the slot at hand, with zeros behind it up to the end of the area.
+    // In line, so that a caller that gives a field has no more than its own copy.
+    #[inline(always)]
     pub fn take(&mut self, bytes: &[u8])
         requires takes { takes_now self.old.work ≡ true }
         requires room { length bytes.now ≤ left_of self.old.work }
@@ -219,6 +221,7 @@ impl<S: ImageStore> Drive<S> {
     ///
     /// Where no byte came nothing changes; a field cut short is a command reject. A seek saves a written track first: where
     /// that fails the arm and the head stay, and unit check and equipment check are told.
+    #[inline(always)]
     pub fn end(&mut self) -> DriveEnding
         requires { may_end self.old.work ≡ true }
         ensures state { self.new ≡ with_image (after_end (fault_met self.old self.new) self.old) self.new.image }

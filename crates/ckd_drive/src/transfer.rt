@@ -16,7 +16,6 @@ ghost use Rattle.ckd_drive.specs.declared.transfer.Transfer.TheVariants as held;
 use ckd_cache::TrackCache;
 use ckd_command::{Action, Opened, Registers, own_home_address, tables};
 use ckd_image::ImageStore;
-use ckd_position::{Area, Extent, Part};
 use ckd_sense::Sense;
 use ckd_slot::Window;
 use ghost_data::Trace;
@@ -175,6 +174,10 @@ fn collected(field: [u8; 8], at: usize, bytes: &[u8]) -> [u8; 8]
     requires { at + length bytes.now ≤ 8 }
     ensures { result ≡ overwritten field at bytes.now }
 {
+    // mostly all eight bytes come at once
+    if let Ok(whole) = <[u8; 8]>::try_from(bytes) {
+        return whole;
+    }
     let mut field = field;
     field[at..at + bytes.len()].copy_from_slice(bytes);
     field
@@ -225,15 +228,12 @@ fn collect<S: ImageStore>(
             p.place = Transfer::Filled(Window { start: 5, len: 0 }, Written::HomeAddress);
         }
         Whole::Count(count) => {
-            if !cache.fits(opened.area, count) {
+            let was = Trace::of(cache.buffer().bytes());
+            let Some((number, rest)) = cache.format(opened.area, count) else {
                 p.place = Transfer::Field(field);
                 return;
-            }
-            *before = Trace::of(cache.buffer().bytes());
-            let number = cache.format(opened.area, count);
-            let rest = cache
-                .buffer()
-                .window(Extent::KeyAndData, Area::Of(Part::Data, number));
+            };
+            *before = was;
             p.place = Transfer::Filled(rest, Written::Record(number));
         }
     }
@@ -291,8 +291,9 @@ fn fill_on<S: ImageStore>(
     ensures moved { p.new.moved ≡ p.old.moved }
     ensures left { p.new.left ≡ p.old.left }
 {
-    cache.put(window.start, bytes);
+    // noted first, so that the copy is the last that is done
     p.place = Transfer::Filled(behind(window, bytes.len()), written);
+    cache.put(window.start, bytes);
 }
 
 // A command that has found its area, and is no search, takes these bytes.

@@ -1,8 +1,8 @@
 -- What writes leave of the slot and of the table.
-use Rattle.std.proofs.Common.{◌≡◌, ◌∙◌, ap, sym, subst, refl, inl, inr, ◌⊎◌, ℕ, zero, suc, ◌+◌, ◌-◌, ◌/◌, ◌^◌, ◌≤◌, ◌<◌, min, List, [], ◌∷◌, ◌++◌, true, false, length, take, drop, set, flat_map, replicate, slice_index, bytes_eq, length-append, length-take, length-set, append-nil, Option, Some, None, unwrap_or, All, sum_by, add-one, arith}
+use Rattle.std.proofs.Common.{◌≡◌, ◌∙◌, ap, sym, subst, refl, inl, inr, ◌⊎◌, ℕ, zero, suc, ◌+◌, ◌-◌, ◌/◌, ◌^◌, ◌≤◌, ◌<◌, min, List, [], ◌∷◌, ◌++◌, Bool, true, false, length, take, drop, set, flat_map, replicate, slice_index, bytes_eq, length-append, length-take, length-set, append-nil, Option, Some, None, Ok, unwrap_or, All, sum_by, add-one, arith}
 use Rattle.std.specs.Option.{ForSome}
 use Rattle.std.proofs.lemmas.Bool.{cases_lt}
-use Rattle.std.proofs.lemmas.List.{length-replicate, take_all, take_at, take-take}
+use Rattle.std.proofs.lemmas.List.{length-replicate, take_all, take_at, take-take, get_or_at}
 use Rattle.std.proofs.Math.Seq.{take-suc-set, map-set_same}
 use Rattle.std.proofs.lemmas.List.Sums.{sum_by-cons}
 use Rattle.std.proofs.lemmas.List.Elements.{All-set, All-nil, All-take, All-push, All-replicate, All-head, All-tail}
@@ -17,12 +17,13 @@ use Rattle.ckd_track.proofs.Writing.{Makes, makes, new_slot, new_room, data_slot
 use Rattle.ckd_track.specs.declared.model.DriveModel.{DriveModel}
 use Rattle.ckd_track.specs.Model.{capacity_of}
 use Rattle.ckd_track.specs.Charges.{has_room}
-use Rattle.ckd_track.proofs.ChargeLaws.{leaves_room}
+use Rattle.ckd_track.proofs.ChargeLaws.{leaves_room, no_end_mark}
 use Rattle.ckd_position.specs.declared.areas.Area.{Area}
 use Rattle.ckd_position.specs.declared.areas.Area.TheVariants.{HomeAddress, Of}
 use Rattle.ckd_position.specs.declared.areas.Part.{Part}
+use Rattle.ckd_position.specs.declared.areas.Part.TheVariants as part
 use Rattle.ckd_position.specs.Contents.{is_readable, padded, new_record, formatted, kept, replaced, with_record_changed}
-use Rattle.ckd_slot.specs.Buffer.{Tabled, IsIndexed, StandsThere, number_up_to, FitsSlot, IsUpdate, IsRecordOf, IsPlaceOf, end_of_records, record_place, lengths_on, IsCharged}
+use Rattle.ckd_slot.specs.Buffer.{Tabled, IsIndexed, StandsThere, number_up_to, FitsSlot, IsUpdate, IsRecordOf, IsPlaceOf, end_of_records, record_place, lengths_on, IsCharged, fits_track}
 use Rattle.ckd_slot.specs.declared.charges.Charged.{Charged}
 use Rattle.ckd_position.specs.declared.extents.Extent.{Extent}
 use Rattle.ckd_position.specs.declared.extents.Extent.TheVariants as extent
@@ -198,7 +199,7 @@ format_table slot before after count offsets n at s eight same table le lt e =
 
 -- Room in the table.
 
-length-kept : (t : Track) (before : Option ℕ) → ForSome before (λ i. i < length t.records) → length (kept_records before t) ≡ number_up_to before
+pub length-kept : (t : Track) (before : Option ℕ) → ForSome before (λ i. i < length t.records) → length (kept_records before t) ≡ number_up_to before
 length-kept t None lt = refl
 length-kept t (Some i) lt = omega (arith, length-take (i + 1) t.records, lt i refl)
 
@@ -387,3 +388,61 @@ pub fits_room : (model : DriveModel) (slot : List ℕ) (before : Option ℕ) (af
 fits_room model slot before after count s eight same fits =
     let S : Track → Type 0 = λ x. length (spelling x) ≤ capacity_of model + 37 in
     subst S (formatted_is slot before after count eight same) (leaves_room model (track_in slot) before (key_length count) (data_length count) s.home_address s.records fits count (replicate (body_length count) 0) eight refl refl (length-replicate {A = ℕ} (body_length count) 0))
+
+-- A new record as it is answered.
+
+-- the new record stands where the kept ones end
+pub format_stands : (slot : List ℕ) (before : Option ℕ) (after : Option Area) (count : List ℕ) → kept_records before (track_in slot) ≡ kept (track_of slot) after → length count ≡ 8
+    → ForSome before (λ i. i < length (track_in slot).records) → end_of_records (formatted (track_of slot) after count) (number_up_to before) ≡ end_of_records (track_in slot) (number_up_to before)
+format_stands slot before after count same eight lt =
+    let t = track_in slot in
+    let k = number_up_to before in
+    let new = record_at (count ++ replicate (body_length count) 0) in
+    let is = ap (λ (x : Track). take k x.records) (sym (formatted_is slot before after count eight same)) ∙ take_at (kept_records before t) (new ∷ []) k (length-kept t before lt) ∙ kept_take t before in
+    ap (λ (rs : List Record). length t.home_address + length (flat_map record_bytes rs)) is
+
+pub format_place : (slot : List ℕ) (before : Option ℕ) (after : Option Area) (count : List ℕ) (number at : ℕ) → Spells slot (track_in slot) → AreBytes count → length count ≡ 8 → bytes_eq count end_mark ≡ false
+    → kept_records before (track_in slot) ≡ kept (track_of slot) after → ForSome before (λ i. i < length (track_in slot).records) → FitsSlot (length slot) (formatted (track_of slot) after count)
+    → number ≡ number_up_to before → at ≡ end_of_records (track_in slot) (number_up_to before)
+    → IsPlaceOf extent.KeyAndData (formatted (track_of slot) after count) (Of part.Data number) (record { start = at + 8; len = body_length count })
+format_place slot before after count number at s b eight no_mark same lt f is at_is = λ last.
+    (let t' = formatted (track_of slot) after count in
+    let body = replicate (body_length count) 0 in
+    let m = makes_new count b eight no_mark in
+    let spells = slot_of_spells (length slot) t' f.home_address f.records in
+    let offset : slice_index (record_offsets t') number ≡ at = offset_is (slot_of (length slot) t') t' spells number last ∙ ap (end_of_records t') is ∙ format_stands slot before after count same eight lt ∙ sym at_is in
+    let there : record_in t' number ≡ record_at (count ++ body) =
+    ap (λ (x : Track). record_in x number) (sym (formatted_is slot before after count eight same)) ∙ get_or_at (kept_records before (track_in slot)) (record_at (count ++ body)) [] no_record number (length-kept (track_in slot) before lt ∙ sym is) in
+    let long_all : length (count ++ body) ≡ 8 + body_length count = omega (arith, length-append count body, eight, length-replicate {A = ℕ} (body_length count) 0) in
+    let size : 8 + (length (record_in t' number).key_area + length (record_in t' number).data_area) ≡ 8 + body_length count =
+    ap record_size there ∙ sym (length-record_bytes (record_at (count ++ body)) m.is_record) ∙ ap length m.all ∙ long_all in
+    let long : length (record_in t' number).key_area + length (record_in t' number).data_area ≡ body_length count = omega (arith, size) in
+    rw (offset, long) refl)
+
+-- what is known of a new record that fits
+pub record Fitting (slot : List ℕ) (model : DriveModel) (before : Option ℕ) (after : Option Area) (count : List ℕ) : Type 0 where
+  pub fits : fits_track model after count (track_of slot) ≡ true
+  pub spells : Spells slot (track_in slot)
+  pub bytes : AreBytes count
+  pub eight : length count ≡ 8
+  pub no_mark : bytes_eq count end_mark ≡ false
+  pub same : kept_records before (track_in slot) ≡ kept (track_of slot) after
+  pub room : length (spelling (formatted (track_of slot) after count)) ≤ length slot
+
+-- by the answer for the first records of the track as it is seen
+pub fitting : (slot : List ℕ) (model : DriveModel) (before : Option ℕ) (after : Option Area) (count : List ℕ) (seen : Track) (n : ℕ) (answer : Bool) → Spells slot (track_in slot) → AreBytes count → length count ≡ 8
+    → kept_records before (track_in slot) ≡ kept (track_of slot) after → track_of slot ≡ Ok seen → n ≡ number_up_to before
+    → answer ≡ has_room model (take n seen.records) (key_length count) (data_length count) → answer ≡ true → capacity_of model + 37 ≤ length slot → Fitting slot model before after count
+fitting slot model before after count seen n answer s b eight same read is by_sum holds size =
+    let same_track : track_in slot ≡ seen = ap track_or_none read in
+    let has : has_room model (kept_records before (track_in slot)) (key_length count) (data_length count) ≡ true = rw (kept_take (track_in slot) before, same_track, ← is) (sym by_sum ∙ holds) in
+    let le = fits_room model slot before after count s eight same has in
+    record {
+      fits = ap (λ (rs : List Record). has_room model rs (key_length count) (data_length count)) (sym same) ∙ has;
+      spells = s;
+      bytes = b;
+      eight = eight;
+      no_mark = no_end_mark model (kept_records before (track_in slot)) count has;
+      same = same;
+      room = omega (arith, le, size);
+    }

@@ -1,15 +1,17 @@
 -- One slot at hand, and a table of its records.
-use Rattle.std.specs.Prelude.{◌≡◌, ℕ, ◌+◌, ◌-◌, ◌/◌, ◌≤◌, ◌<◌, ◌^◌, List, false, Option, Some, None, Ok, length, take, map, flat_map, slice_range, slice_index, All}
-use Rattle.ckd_track.specs.Track.{Record, Track, IsRecord, Spells, track_of, track_in, record_offsets, record_in, record_bytes, spelling}
+use Rattle.std.specs.Prelude.{◌≡◌, ℕ, ◌+◌, ◌-◌, ◌/◌, ◌≤◌, ◌<◌, ◌^◌, List, Bool, true, false, Option, Some, None, Ok, length, take, map, flat_map, slice_range, slice_index, All}
+use Rattle.ckd_track.specs.Track.{Record, Track, IsRecord, Spells, track_of, track_in, record_offsets, record_in, record_bytes, spelling, slot_of, key_length, data_length}
+use Rattle.ckd_track.specs.declared.model.DriveModel.{DriveModel}
 use Rattle.ckd_position.specs.declared.areas.Area.{Area}
 use Rattle.ckd_position.specs.declared.areas.Area.TheVariants.{HomeAddress, Of}
+use Rattle.ckd_position.specs.declared.areas.Part.TheVariants as part
 use Rattle.ckd_track.specs.Changes.{IsZeroFrom}
-use Rattle.ckd_track.specs.Charges.{capacity_left}
+use Rattle.ckd_track.specs.Charges.{capacity_left, has_room}
 use Rattle.ckd_slot.specs.declared.windows.Window.{Window}
 use Rattle.ckd_slot.specs.declared.charges.Charged.{Charged}
 use Rattle.ckd_position.specs.declared.extents.Extent.{Extent}
 use Rattle.ckd_position.specs.declared.extents.Extent.TheVariants as extent
-use Rattle.ckd_position.specs.Contents.{Sighted, is_readable, records_on}
+use Rattle.ckd_position.specs.Contents.{Sighted, is_readable, records_on, kept, formatted}
 
 -- these bytes stand there in the slot
 pub record Lies (slot : List ℕ) (w : Window) (bytes : List ℕ) : Type 0 where
@@ -110,3 +112,22 @@ IsRecordOf t HomeAddress = ⊥
 abbrev pub number_up_to : Option ℕ → ℕ
 number_up_to None = 0
 number_up_to (Some i) = i + 1
+
+-- A formatting write.
+
+-- whether a new record with these count bytes fits the track behind this area
+abbrev pub fits_track : DriveModel → Option Area → (count : List ℕ) → Sighted → Bool
+fits_track model after count t = has_room model (kept t after) (key_length count) (data_length count)
+
+-- it fits a track of a slot of this size, has this number, and its key and data stand there
+pub record HasFormatted (model : DriveModel) (size : ℕ) (after : Option Area) (count : List ℕ) (t : Sighted) (number : ℕ) (rest : Window) : Type 0 where
+  pub fits : fits_track model after count t ≡ true
+  pub is_last : number ≡ length (kept t after)
+  pub spelled : FitsSlot size (formatted t after count)
+  pub place : IsPlaceOf extent.KeyAndData (formatted t after count) (Of part.Data number) rest
+
+-- the slot is that of the track with the new record, or stays where that does not fit
+abbrev pub Formats : DriveModel → Option Area → (count old new : List ℕ) → Option (ℕ × Window) → Type 0
+Formats model after count old new (Some n) =
+    HasFormatted model (length old) after count (track_of old) n.0 n.1 × (new ≡ slot_of (length old) (formatted (track_of old) after count))
+Formats model after count old new None = (fits_track model after count (track_of old) ≡ false) × (new ≡ old)

@@ -1,23 +1,22 @@
 //! The slot of one track at hand, with a table of where its records stand.
 
-ghost use Rattle.std.specs.Prelude.{◌≡◌, ◌≤◌, ◌<◌, ◌+◌, ◌-◌, ◌/◌, ◌^◌, ◌++◌, ◌==◌, max, length, take, drop, replicate, bytes_eq, false, slice_index_or, IfOk, OnOk, OnErr, Ok, Some, [], true, IsSome};
-ghost use Rattle.ckd_track.specs.Track.{track_of, track_in, track_or_none, no_track, spelling, slot_of, end_mark, key_length as key_length_of, data_length as data_length_of, IsRecord};
+ghost use Rattle.std.specs.Prelude.{◌≡◌, ◌≤◌, ◌<◌, ◌+◌, ◌-◌, ◌/◌, ◌^◌, ◌==◌, length, drop, false, slice_index_or, IfOk, OnOk, OnErr, Ok, Some, [], true};
+ghost use Rattle.ckd_track.specs.Track.{track_of, track_in, track_or_none, no_track, slot_of, key_length as key_length_of, data_length as data_length_of};
 ghost use Rattle.ckd_track.specs.Geometry.{tracks_of};
 ghost use Rattle.ckd_position.specs.Areas.{next_of_kind, IsOnTrack, IfFound};
-ghost use Rattle.ckd_track.specs.Changes.{overwritten, ended_at, bare_track, kept_records};
-ghost use Rattle.ckd_track.specs.Charges.{has_room};
+ghost use Rattle.ckd_track.specs.Changes.{overwritten, bare_track, kept_records};
 ghost use Rattle.ckd_track.specs.Model.{capacity_of};
 ghost use Rattle.std.specs.Option.{ForSome};
-ghost use Rattle.ckd_position.specs.Contents.{records_on, bytes_of, is_readable as reads, has_no_data as lacks_data, formatted as track_formatted, with_record_changed, replaced, kept as kept_on, record_before as before_of};
-ghost use Rattle.ckd_slot.specs.Buffer.{Lies, HasBytes, IsPlaceOf, StandsThere, home_address_place, record_place, IsRead, end_of_records, number_up_to, IsRecordOf, SameRecords, FitsSlot, IsUpdate};
+ghost use Rattle.ckd_position.specs.Contents.{bytes_of, is_readable as reads, has_no_data as lacks_data, with_record_changed, replaced, kept as kept_on, record_before as before_of};
+ghost use Rattle.ckd_slot.specs.Buffer.{Lies, HasBytes, IsPlaceOf, StandsThere, home_address_place, record_place, IsRead, end_of_records, number_up_to, IsRecordOf, SameRecords, FitsSlot, IsUpdate, Formats};
 
 use crate::charges::Charged;
 use crate::windows::Window;
 use ckd_image::{Image, ImageStore, StoreFault};
 use ckd_position::{Area, Extent, Kind, Next, Position, next_area};
 use ckd_track::{
-    COUNT_LENGTH, DriveModel, RECORDS_START, body_length, clear_area, data_length, fits_behind,
-    format_record, index_slot, key_length, lengths, overwrite, put_home_address, view_at,
+    COUNT_LENGTH, DriveModel, RECORDS_START, body_length, clear_area, data_length, format_record,
+    index_slot, key_length, overwrite, put_home_address, view_at,
 };
 use std::alloc::{AllocError, Global};
 use std::marker::Model;
@@ -299,25 +298,6 @@ impl TrackBuffer {
         Some(i.min(n - 1))
     }
 
-    /// Whether a new record with these count bytes fits.
-    ///
-    /// What the records take is kept from one such question to the next, so that those that are formatted one behind
-    /// another are each counted once.
-    pub fn fits(&mut self, model: DriveModel, after: Option<Area>, count: [u8; 8]) -> bool
-        requires { reads (track_of self.old) ≡ true }
-        ensures value { result ≡ has_room model (kept_on (track_of self.old) after) (key_length_of count) (data_length_of count) }
-        ensures room { result ≡ true → length (spelling (track_formatted (track_of self.old) after count)) ≤ capacity_of model + 37 }
-        ensures no_end_mark { result ≡ true → bytes_eq count end_mark ≡ false }
-        ensures stays { self.new ≡ self.old }
-    {
-        let kept = records_up_to(self.before(after));
-        let n = self.records.unwrap_or(0);
-        let view = view_at(&self.slot, &self.offsets[..n]);
-        self.charged.reach(model, &view, kept);
-        let (kl, dl) = lengths(&count);
-        fits_behind(model, kept, self.charged.left, kl, dl)
-    }
-
     /// Writes the home address, and removes all records.
     pub fn write_home_address(&mut self, home_address: [u8; 5])
         requires { 13 ≤ length self.old }
@@ -330,26 +310,34 @@ impl TrackBuffer {
         self.charged.keep(0);
     }
 
-    /// Writes a record of these count bytes behind the kept ones, with zeros in its key and data, removes all records
-    /// behind it, and answers its number.
-    pub fn format(&mut self, after: Option<Area>, count: [u8; 8]) -> usize
+    /// Writes a record of these count bytes behind the kept ones, with zeros in its key and data, and removes all records
+    /// behind it, where it fits. Answers its number, and where its key and data stand; or nothing where it does not fit, and
+    /// the slot stays.
+    pub fn format(
+        &mut self,
+        model: DriveModel,
+        after: Option<Area>,
+        count: [u8; 8],
+    ) -> Option<(usize, Window)>
         requires readable { reads (track_of self.old) ≡ true }
-        requires no_end_mark { bytes_eq count end_mark ≡ false }
-        requires room { length (spelling (track_formatted (track_of self.old) after count)) ≤ length self.old }
-        ensures slot { self.new ≡ slot_of (length self.old) (track_formatted (track_of self.old) after count) }
-        ensures number { result ≡ length (kept_on (track_of self.old) after) }
-        ensures fits { FitsSlot (length self.old) (track_formatted (track_of self.old) after count) }
+        requires size { capacity_of model + 37 ≤ length self.old }
+        ensures formats { Formats model after count self.old self.new result }
         ensures size { length self.new ≡ length self.old }
     {
         let kept = records_up_to(self.before(after));
         let at = self.end_of(kept);
+        let n = self.records.unwrap_or(0);
+        let view = view_at(&self.slot, &self.offsets[..n]);
+        if !self.charged.fits(model, &view, kept, &count) {
+            return None;
+        }
         let body = body_length(&count);
         format_record(&mut self.slot, at, &count, body, self.zeros_from);
         self.offsets[kept] = at as u32;
         self.records = Some(kept + 1);
-        self.zeros_from = at + COUNT_LENGTH + body + COUNT_LENGTH;
-        self.charged.keep(kept);
-        kept
+        let start = at + COUNT_LENGTH;
+        self.zeros_from = start + body + COUNT_LENGTH;
+        Some((kept, Window { start, len: body }))
     }
 
     /// Puts zeros in the place of the bytes of a record's area, and behind the end mark.
@@ -380,7 +368,8 @@ impl TrackBuffer {
         ensures slot { self.new ≡ overwritten self.old at bytes.now }
         ensures size { length self.new ≡ length self.old }
     {
-        overwrite(&mut self.slot, at, bytes);
+        // noted first, so that the copy is the last that is done
         self.zeros_from = self.zeros_from.max(at + bytes.len());
+        overwrite(&mut self.slot, at, bytes);
     }
 }

@@ -6,6 +6,9 @@ returns-in-5-clause-state g c = rw c.in-5.is c.start_here.ensures.state
 pub returns-in-6-clause-state : goal.returns-in-6-clause-state
 returns-in-6-clause-state g c = rw c.in-6.is c.start_here-in-6.ensures.state
 
+pub returns-in-7-clause-state : goal.returns-in-7-clause-state
+returns-in-7-clause-state g c = rw c.in-7.is c.start_here-in-7.ensures.state
+
 pub returns-in-134-clause-state : goal.returns-in-134-clause-state
 returns-in-134-clause-state g c = rw c.in-134.is c.start_here-in-134.ensures.state
 
