@@ -27,8 +27,8 @@ use Rattle.ckd_command.specs.declared.registers.Lap.TheVariants.{First, Second}
 use Rattle.ckd_command.specs.declared.tables.Aim.{Aim}
 use Rattle.ckd_command.specs.declared.tables.Aim.TheVariants.{NoArea, Next, Credited}
 use Rattle.ckd_command.specs.declared.begin.Opened.{Opened}
-use Rattle.ckd_command.specs.Beginnings.{Beginning, Rejected, Immediate, Started, ToCylinderZero}
-use Rattle.ckd_command.specs.Sights.{Sight, Found, IndexPassed, NextHead, Missed}
+use Rattle.ckd_command.specs.Answers.{Beginning, Rejected, Immediate, Started, ToCylinderZero}
+use Rattle.ckd_command.specs.Answers.{Sight, Found, IndexPassed, NextHead, Missed}
 use Rattle.ckd_command.specs.Tables.{aim, action_of, extent_of, comparison, ends_with_data, needs_readable}
 use Rattle.ckd_position.specs.Contents.{Sighted, has_no_data, replaced, formatted, kept, is_readable}
 use Rattle.ckd_command.specs.Commands.{Closing, ends, fails, writes, closing, close_by, whole_field, with_cause, at_end, seek_cylinder_and_head, seek_head, set_file_mask, search, search_ends, area_bytes, end_of_area, update, updated, format, format_ends, new_record_fits, write_home_address, own_home_address, home_address_ends, ending_status, unit_exception_status, number, beginning, begin_decoded, begin_allowed, started, cleared, refusal, refusal_under, is_out_of_sequence, sight, look_for, sight_of, next_head, turned}

@@ -8,10 +8,8 @@ use Rattle.ckd_command.specs.declared.registers.Registers.{Registers}
 use Rattle.ckd_command.specs.declared.tables.Aim.{Aim}
 use Rattle.ckd_command.specs.declared.tables.Aim.TheVariants.{NoArea, Next, Credited}
 use Rattle.ckd_command.specs.declared.begin.Opened.{Opened}
-use Rattle.ckd_command.specs.Beginnings.{Beginning}
-use Rattle.ckd_command.specs.Beginnings as beginning
-use Rattle.ckd_command.specs.Sights.{Sight}
-use Rattle.ckd_command.specs.Sights as sight
+use Rattle.ckd_command.specs.Answers.{Beginning, Sight}
+use Rattle.ckd_command.specs.Answers as answer
 use Rattle.ckd_track.specs.Track.{Track}
 use Rattle.ckd_command.specs.Tables.{aim}
 use Rattle.ckd_command.specs.Commands.{Closing, beginning, closing}
@@ -79,10 +77,10 @@ begin_traces f code s e = go (beginning code s.registers)
     at_zero r (Some o) = saved_mark s _
 
     go : (b : Beginning) → BegunTraces s (begun f s b)
-    go (beginning.Rejected r) = same_mark s r e
-    go (beginning.Immediate r) = same_mark s r e
-    go (beginning.Started r o) = same_mark s r e
-    go (beginning.ToCylinderZero r o) = by_save (BegunTraces s) f (with_registers s r) Rejected (at_cylinder_zero s r o) (at_zero r o) (λ left w. lost_mark s (with_registers s r) left w)
+    go (answer.Rejected r) = same_mark s r e
+    go (answer.Immediate r) = same_mark s r e
+    go (answer.Started r o) = same_mark s r e
+    go (answer.ToCylinderZero r o) = by_save (BegunTraces s) f (with_registers s r) Rejected (at_cylinder_zero s r o) (at_zero r o) (λ left w. lost_mark s (with_registers s r) left w)
 
 abbrev pub LookTraces : State → AfterLook → Type 0
 LookTraces before (Ready o) = Traces before (state_of o)
@@ -93,10 +91,10 @@ pub look_traces : (f : Option Fault) (o : Open) → unsaved (state_of o) ≡ Non
 look_traces f o e = go f (aim o.opened.command) _
   where
     at : (f : Option Fault) (s : Sight) → LookTraces o.state (looked f o s)
-    at f (sight.Found opened) = same_mark o.state o.state.registers e
-    at f (sight.IndexPassed r) = same_mark o.state r e
-    at f (sight.NextHead r) = by_save (LookTraces o.state) f o.state Failed (Passed (record o { state = moved o.state r })) (saved_mark o.state r) (λ left w. lost_mark o.state o.state left w)
-    at f (sight.Missed r) = same_mark o.state r e
+    at f (answer.Found opened) = same_mark o.state o.state.registers e
+    at f (answer.IndexPassed r) = same_mark o.state r e
+    at f (answer.NextHead r) = by_save (LookTraces o.state) f o.state Failed (Passed (record o { state = moved o.state r })) (saved_mark o.state r) (λ left w. lost_mark o.state o.state left w)
+    at f (answer.Missed r) = same_mark o.state r e
 
     go : (f : Option Fault) (a : Aim) (s : Sight) → LookTraces o.state (look_for f o a s)
     go (Some LoadFails) (Next kind) s = same_mark o.state _ e
@@ -119,10 +117,10 @@ pub look_finds : (f : Option Fault) (o : Open) → unsaved (state_of o) ≡ None
 look_finds f o e = go f (aim o.opened.command) _
   where
     at : (f : Option Fault) (s : Sight) → LookFinds (looked f o s)
-    at f (sight.Found opened) = e
-    at f (sight.IndexPassed r) = tt
-    at f (sight.NextHead r) = by_save LookFinds f o.state Failed (Passed (record o { state = moved o.state r })) tt (λ left w. tt)
-    at f (sight.Missed r) = tt
+    at f (answer.Found opened) = e
+    at f (answer.IndexPassed r) = tt
+    at f (answer.NextHead r) = by_save LookFinds f o.state Failed (Passed (record o { state = moved o.state r })) tt (λ left w. tt)
+    at f (answer.Missed r) = tt
 
     go : (f : Option Fault) (a : Aim) (s : Sight) → LookFinds (look_for f o a s)
     go (Some LoadFails) (Next kind) s = tt
@@ -197,10 +195,10 @@ begin_calm Q code s h = go (beginning code s.registers) (beginning_silent code s
     at_zero r (Some o) k = calm_moved Q s _ h k
 
     go : (b : Beginning) → BeginsSilent s.registers b → BegunCalm Q (begun None s b)
-    go (beginning.Rejected r) k = calm_registers Q s r h k
-    go (beginning.Immediate r) k = calm_registers Q s r h k
-    go (beginning.Started r o) k = calm_registers Q s r h k
-    go (beginning.ToCylinderZero r o) k = by_save_alone (BegunCalm Q) (with_registers s r) Rejected (at_cylinder_zero s r o) (at_zero r o k)
+    go (answer.Rejected r) k = calm_registers Q s r h k
+    go (answer.Immediate r) k = calm_registers Q s r h k
+    go (answer.Started r o) k = calm_registers Q s r h k
+    go (answer.ToCylinderZero r o) k = by_save_alone (BegunCalm Q) (with_registers s r) Rejected (at_cylinder_zero s r o) (at_zero r o k)
 
 abbrev pub LookCalm : Type 0 → AfterLook → Type 0
 LookCalm Q (Ready o) = Calm Q (state_of o)
@@ -211,10 +209,10 @@ pub look_calm : (Q : Type 0) (o : Open) → Calm Q (state_of o) → LookCalm Q (
 look_calm Q o h = go (aim o.opened.command) _ (sight_silent o.state.volume.geometry (track_under o.state) o.opened o.state.registers)
   where
     at : (s : Sight) → SightSilent o.state.registers s → LookCalm Q (looked None o s)
-    at (sight.Found opened) k = h
-    at (sight.IndexPassed r) k = calm_registers Q o.state r h k
-    at (sight.NextHead r) k = by_save_alone (LookCalm Q) o.state Failed (Passed (record o { state = moved o.state r })) (calm_moved Q o.state r h k)
-    at (sight.Missed r) k = calm_registers Q o.state r h k
+    at (answer.Found opened) k = h
+    at (answer.IndexPassed r) k = calm_registers Q o.state r h k
+    at (answer.NextHead r) k = by_save_alone (LookCalm Q) o.state Failed (Passed (record o { state = moved o.state r })) (calm_moved Q o.state r h k)
+    at (answer.Missed r) k = calm_registers Q o.state r h k
 
     go : (a : Aim) (s : Sight) → SightSilent o.state.registers s → LookCalm Q (look_for None o a s)
     go (Next kind) s k = at s k

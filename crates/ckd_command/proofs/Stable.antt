@@ -4,10 +4,8 @@ use Rattle.std.proofs.Common.{◌≡◌, refl, sym, ap, subst, ◌∙◌, true, 
 use Rattle.ckd_command.specs.declared.tables.Aim.{Aim}
 use Rattle.ckd_command.specs.declared.tables.Aim.TheVariants.{NoArea, Next, Credited}
 use Rattle.ckd_command.specs.declared.begin.Opened.{Opened}
-use Rattle.ckd_command.specs.Beginnings.{Beginning}
-use Rattle.ckd_command.specs.Beginnings as beginning
-use Rattle.ckd_command.specs.Sights.{Sight}
-use Rattle.ckd_command.specs.Sights as sight
+use Rattle.ckd_command.specs.Answers.{Beginning, Sight}
+use Rattle.ckd_command.specs.Answers as answer
 use Rattle.ckd_command.specs.Tables.{aim}
 use Rattle.ckd_command.specs.Commands.{Closing, closing}
 use Rattle.ckd_command.specs.Commands as commands
@@ -33,14 +31,14 @@ begun_state (Started o) = o.state
 
 -- whether a beginning sends the arm to cylinder 0, head 0
 abbrev pub moves_arm : Beginning → Bool
-moves_arm (beginning.ToCylinderZero r o) = true
+moves_arm (answer.ToCylinderZero r o) = true
 moves_arm b = false
 
 begun_moved : (f : Option Fault) (s : State) (b : Beginning) → moves_arm b ≡ true → is_written (begun_state (begun f s b)) ≡ false
-begun_moved f s (beginning.Rejected r) h = never h
-begun_moved f s (beginning.Immediate r) h = never h
-begun_moved f s (beginning.Started r o) h = never h
-begun_moved f s (beginning.ToCylinderZero r o) h =
+begun_moved f s (answer.Rejected r) h = never h
+begun_moved f s (answer.Immediate r) h = never h
+begun_moved f s (answer.Started r o) h = never h
+begun_moved f s (answer.ToCylinderZero r o) h =
     left_behind (λ b. is_written (begun_state b) ≡ false) f (with_registers s r) Rejected (at_cylinder_zero s r o) (at_zero o) (λ left. refl)
   where
     at_zero : (o : Option Opened) → is_written (begun_state (at_cylinder_zero s r o)) ≡ false
@@ -51,10 +49,10 @@ pub begin_moved : (f : Option Fault) (code : ℕ) (s : State) → moves_arm (com
 begin_moved f code s h = begun_moved f s (commands.beginning code s.registers) h
 
 begun_stable : (s : State) (b : Beginning) (left : List ℕ) → is_written (begun_state (begun None s b)) ≡ true → begun (Some (SaveFails left)) s b ≡ begun None s b
-begun_stable s (beginning.Rejected r) left h = refl
-begun_stable s (beginning.Immediate r) left h = refl
-begun_stable s (beginning.Started r o) left h = refl
-begun_stable s (beginning.ToCylinderZero r o) left h = never (sym (begun_moved None s (beginning.ToCylinderZero r o) refl) ∙ h)
+begun_stable s (answer.Rejected r) left h = refl
+begun_stable s (answer.Immediate r) left h = refl
+begun_stable s (answer.Started r o) left h = refl
+begun_stable s (answer.ToCylinderZero r o) left h = never (sym (begun_moved None s (answer.ToCylinderZero r o) refl) ∙ h)
 
 pub begin_stable : (code : ℕ) (s : State) (left : List ℕ) (b : AfterBegin) → begin None code s ≡ b → is_written (begun_state b) ≡ true → begin (Some (SaveFails left)) code s ≡ b
 begin_stable code s left b e h =
@@ -67,10 +65,10 @@ NotPassed (Passed o) = ⊥
 NotPassed _ = Unit {0}
 
 looked_stable : (left : List ℕ) (o : Open) (s : Sight) → NotPassed (looked None o s) → looked (Some (SaveFails left)) o s ≡ looked None o s
-looked_stable left o (sight.Found opened) h = refl
-looked_stable left o (sight.IndexPassed r) h = refl
-looked_stable left o (sight.NextHead r) h = absurd h
-looked_stable left o (sight.Missed r) h = refl
+looked_stable left o (answer.Found opened) h = refl
+looked_stable left o (answer.IndexPassed r) h = refl
+looked_stable left o (answer.NextHead r) h = absurd h
+looked_stable left o (answer.Missed r) h = refl
 
 look_for_stable : (left : List ℕ) (o : Open) (a : Aim) (s : Sight) → NotPassed (look_for None o a s) → look_for (Some (SaveFails left)) o a s ≡ look_for None o a s
 look_for_stable left o (Next kind) s h = looked_stable left o s h

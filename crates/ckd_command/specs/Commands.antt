@@ -32,9 +32,8 @@ use Rattle.ckd_command.specs.declared.registers.Lap.TheVariants.{First, Second}
 use Rattle.ckd_command.specs.declared.tables.Aim.{Aim}
 use Rattle.ckd_command.specs.declared.tables.Aim.TheVariants.{Next, Credited}
 use Rattle.ckd_command.specs.declared.begin.Opened.{Opened}
-use Rattle.ckd_command.specs.Beginnings.{Beginning, Rejected, Immediate, Started, ToCylinderZero}
-use Rattle.ckd_command.specs.Sights.{Sight, Found, IndexPassed, NextHead, Missed}
-use Rattle.ckd_command.specs.Steps.{CommandEnd, moved_to}
+use Rattle.ckd_command.specs.Answers.{Beginning, Rejected, Immediate, Started, ToCylinderZero}
+use Rattle.ckd_command.specs.Answers.{Sight, Found, IndexPassed, NextHead, Missed, CommandEnd, moved_to}
 use Rattle.ckd_command.specs.declared.tables.Action.{Action}
 use Rattle.ckd_command.specs.declared.tables.Action.TheVariants as action
 use Rattle.ckd_position.specs.declared.extents.Extent.{Extent}

@@ -19,14 +19,11 @@ use Rattle.ckd_command.specs.declared.registers.Lap.TheVariants.{First}
 use Rattle.ckd_command.specs.declared.tables.Aim.{Aim}
 use Rattle.ckd_command.specs.declared.tables.Aim.TheVariants.{Next}
 use Rattle.ckd_command.specs.declared.begin.Opened.{Opened}
-use Rattle.ckd_command.specs.Beginnings.{Beginning}
-use Rattle.ckd_command.specs.Sights.{Sight}
-use Rattle.ckd_command.specs.Beginnings as beginning
-use Rattle.ckd_command.specs.Sights as sight
+use Rattle.ckd_command.specs.Answers.{Beginning, Sight, moved_to}
+use Rattle.ckd_command.specs.Answers as answer
 use Rattle.ckd_command.specs.Tables.{aim, action_of, is_giving}
 use Rattle.ckd_position.specs.Contents.{Sighted}
 use Rattle.ckd_command.specs.Commands.{Closing, beginning, sight, area_bytes, length_after, closing, with_cause, program_start, unit_check_status}
-use Rattle.ckd_command.specs.Steps.{moved_to}
 
 -- A volume: a slot for each track, cylinder by cylinder and head by head.
 pub record Volume : Type 0 where
@@ -156,10 +153,10 @@ at_cylinder_zero s r None = Immediate (moved s (moved_to r 0 0)) true
 at_cylinder_zero s r (Some o) = Started (record { opened = o; state = moved s (moved_to r 0 0) })
 
 abbrev pub begun : Option Fault → State → Beginning → AfterBegin
-begun f s (beginning.Rejected r) = Rejected (with_registers s r)
-begun f s (beginning.Immediate r) = Immediate (with_registers s r) false
-begun f s (beginning.Started r o) = Started (record { opened = o; state = with_registers s r })
-begun f s (beginning.ToCylinderZero r o) = moving_off f (with_registers s r) Rejected (at_cylinder_zero s r o)
+begun f s (answer.Rejected r) = Rejected (with_registers s r)
+begun f s (answer.Immediate r) = Immediate (with_registers s r) false
+begun f s (answer.Started r o) = Started (record { opened = o; state = with_registers s r })
+begun f s (answer.ToCylinderZero r o) = moving_off f (with_registers s r) Rejected (at_cylinder_zero s r o)
 
 abbrev pub begin : Option Fault → (code : ℕ) → State → AfterBegin
 begin f code s = begun f s (beginning code s.registers)
@@ -173,10 +170,10 @@ pub data AfterLook : Type 0 where
   Failed : State → AfterLook
 
 abbrev pub looked : Option Fault → Open → Sight → AfterLook
-looked f o (sight.Found opened) = Ready (record o { opened = opened })
-looked f o (sight.IndexPassed r) = Passed (record o { state = with_registers o.state r })
-looked f o (sight.NextHead r) = moving_off f o.state Failed (Passed (record o { state = moved o.state r }))
-looked f o (sight.Missed r) = Failed (with_registers o.state r)
+looked f o (answer.Found opened) = Ready (record o { opened = opened })
+looked f o (answer.IndexPassed r) = Passed (record o { state = with_registers o.state r })
+looked f o (answer.NextHead r) = moving_off f o.state Failed (Passed (record o { state = moved o.state r }))
+looked f o (answer.Missed r) = Failed (with_registers o.state r)
 
 -- a load that fails ends the command, where it looks for an area
 abbrev pub look_for : Option Fault → Open → Aim → Sight → AfterLook

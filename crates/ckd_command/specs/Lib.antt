@@ -1,6 +1,4 @@
 pub mod Tables
-pub mod Beginnings
-pub mod Sights
-pub mod Steps
+pub mod Answers
 pub mod Commands
 pub mod Drive

@@ -4,9 +4,8 @@
 ghost use Rattle.std.specs.Prelude.{◌≡◌};
 ghost use Rattle.ckd_command.specs.Drive.{first_registers as at_first};
 ghost use Rattle.ckd_command.specs.Commands.{beginning, cleared, refusal as refusal_of, is_out_of_sequence as out_of_sequence, with_cause, program_start as start_of_program, at_index, sense_after_begin, started as started_by};
-ghost use Rattle.ckd_command.specs.Beginnings.{Rejected};
+ghost use Rattle.ckd_command.specs.Answers.{Rejected, moved_to, begun_as};
 ghost use Rattle.ckd_command.specs.declared.registers.Registers.{Registers};
-ghost use Rattle.ckd_command.specs.Steps.{moved_to, begun_as};
 
 use crate::registers::{Lap, Registers};
 use crate::tables;

@@ -3,7 +3,7 @@
 
 ghost use Rattle.std.specs.Prelude.{◌≡◌, ◌+◌, ◌≤◌, length, slice_range};
 ghost use Rattle.ckd_command.specs.Commands.{command_end, fails as fails_by, at_end as registers_at_end, search_ends as search_closes, area_ends as area_closes, format_ends as format_closes, home_address_ends as home_address_closes, set_file_mask as mask_closes, seek_head as seek_head_closes, seek_cylinder_and_head as seek_closes, own_home_address as address_of, number as number_of};
-ghost use Rattle.ckd_command.specs.Steps.{closed_as, ClosedStays};
+ghost use Rattle.ckd_command.specs.Answers.{closed_as, ClosedStays};
 
 use crate::begin::{Opened, add_cause};
 use crate::registers::{Credit, Registers};

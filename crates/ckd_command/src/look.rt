@@ -4,8 +4,7 @@
 ghost use Rattle.std.specs.Prelude.{◌≡◌, ◌<◌};
 ghost use Rattle.ckd_track.specs.Model.{heads_of};
 ghost use Rattle.ckd_command.specs.Commands.{turned as turned_by, next_head as at_next_head, sight_of as sight_by, at_index, with_cause};
-ghost use Rattle.ckd_command.specs.Sights.{Missed};
-ghost use Rattle.ckd_command.specs.Steps.{seen_as, SeenStays};
+ghost use Rattle.ckd_command.specs.Answers.{Missed, seen_as, SeenStays};
 ghost use Rattle.ckd_command.specs.declared.begin.Opened.{Opened};
 
 use crate::begin::{Opened, add_cause, to_index};

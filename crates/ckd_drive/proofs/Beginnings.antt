@@ -16,7 +16,7 @@ use Rattle.ckd_command.specs.declared.begin.Opened.{Opened}
 use Rattle.ckd_command.specs.Tables.{aim, credited}
 use Rattle.ckd_command.specs.Commands.{beginning, begin_decoded, begin_allowed, started, refusal, refusal_under, is_out_of_sequence, is_credited}
 use Rattle.ckd_cache.specs.Cache.{CacheState}
-use Rattle.ckd_drive.specs.Half.{CreditIs, CreditAtHand, BeginsWell}
+use Rattle.ckd_drive.specs.Invariant.{CreditIs, CreditAtHand, BeginsWell}
 
 none_credited : (c : Command) → credited c None ≡ None
 none_credited command.WriteR0 = refl

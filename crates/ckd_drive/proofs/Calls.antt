@@ -6,7 +6,7 @@ use Rattle.ckd_drive.specs.Stage.{Stage}
 use Rattle.ckd_cache.specs.Cache.{CacheState, saved, after_save, after_failed_save, after_failed_hold}
 use Rattle.ckd_command.specs.Drive.{is_written_by}
 use Rattle.ckd_drive.specs.Work.{DriveState, CallsStore}
-use Rattle.ckd_drive.specs.Half.{Stands, is_filled}
+use Rattle.ckd_drive.specs.Invariant.{Stands, is_filled}
 
 pub or_false : (b : Bool) → (b || false) ≡ b
 or_false true = refl

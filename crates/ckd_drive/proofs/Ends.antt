@@ -12,7 +12,7 @@ use Rattle.ckd_command.specs.declared.registers.Mark.TheVariants.{Saved, Written
 use Rattle.ckd_command.specs.declared.tables.Action.{Action}
 use Rattle.ckd_command.specs.declared.tables.Action.TheVariants as action
 use Rattle.ckd_command.specs.declared.begin.Opened.{Opened}
-use Rattle.ckd_command.specs.Steps.{CommandEnd}
+use Rattle.ckd_command.specs.Answers.{CommandEnd}
 use Rattle.ckd_slot.specs.declared.windows.Window.{Window}
 use Rattle.ckd_drive.specs.Transfers.{Transfer, Sense, Field, Read, Search, Fill, Filled, Progress}
 use Rattle.ckd_drive.specs.Stage.{Stage, Idle, Passing}
@@ -20,7 +20,7 @@ use Rattle.ckd_command.specs.Tables.{action_of}
 use Rattle.ckd_position.specs.Contents.{Sighted}
 use Rattle.ckd_command.specs.Commands.{Closing, IsAtTrack, area_bytes, closing, close_by, command_end, search_ends, area_ends, own_home_address, new_record_fits, number as number_of}
 use Rattle.ckd_cache.specs.Cache.{CacheState, IsVolume, after_save, after_failed_save}
-use Rattle.ckd_drive.specs.Half.{Stands, mark_left, HasFilled, state_of, IsPlaced, IsField, CreditIs, AtHand, command_end_at, field_ends, seen_by, slot_at, track_under, is_filled, is_filled_by}
+use Rattle.ckd_drive.specs.Invariant.{Stands, mark_left, HasFilled, state_of, IsPlaced, IsField, CreditIs, AtHand, command_end_at, field_ends, seen_by, slot_at, track_under, is_filled, is_filled_by}
 use Rattle.ckd_command.specs.Drive.{closed_staying, SaveFails, is_written_by}
 use Rattle.ckd_drive.specs.Work.{DriveState, CallsStore, closed_of, ending_of, after_end, end_saves, fault_met, with_image}
 use Rattle.ckd_image.specs.Image.{ImageState}

@@ -6,12 +6,12 @@ use Rattle.ckd_command.specs.declared.registers.Registers.{Registers}
 use Rattle.ckd_command.specs.declared.registers.Mark.{Mark}
 use Rattle.ckd_command.specs.declared.registers.Mark.TheVariants.{Saved, Written, Lost}
 use Rattle.ckd_command.specs.declared.begin.Opened.{Opened}
-use Rattle.ckd_command.specs.Beginnings.{ToCylinderZero}
+use Rattle.ckd_command.specs.Answers.{ToCylinderZero}
 use Rattle.ckd_command.specs.Commands.{with_cause}
 use Rattle.ckd_command.specs.Drive.{LoadFails, SaveFails, number_under, is_written_by}
 use Rattle.ckd_cache.specs.Cache.{CacheState, after_failed_save}
 use Rattle.ckd_drive.specs.Work.{DriveState, fault_met}
-use Rattle.ckd_drive.specs.Half.{BeginsWell, IsCleared}
+use Rattle.ckd_drive.specs.Invariant.{BeginsWell, IsCleared}
 
 more_not : (n : ℕ) → (n + 1 == n) ≡ false
 more_not n = grind (arith, nat_tests)

@@ -11,14 +11,14 @@ use Rattle.ckd_position.specs.declared.areas.Part.{Part}
 use Rattle.ckd_command.specs.declared.registers.Registers.{Registers}
 use Rattle.ckd_position.specs.declared.extents.Extent.{Extent}
 use Rattle.ckd_command.specs.declared.begin.Opened.{Opened}
-use Rattle.ckd_command.specs.Steps.{CommandEnd}
+use Rattle.ckd_command.specs.Answers.{CommandEnd}
 use Rattle.ckd_slot.specs.declared.windows.Window.{Window}
 use Rattle.ckd_drive.specs.Transfers.{Transfer, Filled, Progress}
 use Rattle.ckd_position.specs.Contents.{Sighted, is_readable, padded, replaced, with_record_changed}
 use Rattle.ckd_command.specs.Commands.{length_after, closing, command_end}
 use Rattle.ckd_slot.specs.Buffer.{FitsSlot, IsUpdate, SameRecords, lengths_on}
 use Rattle.ckd_cache.specs.Cache.{CacheState, with_held}
-use Rattle.ckd_drive.specs.Half.{Works, MayTake, Absorbs, IsPlaced, HasFilled, IsFilled, next_progress, slot_at, track_under, seen_by}
+use Rattle.ckd_drive.specs.Invariant.{Works, MayTake, Absorbs, IsPlaced, HasFilled, IsFilled, next_progress, slot_at, track_under, seen_by}
 use Rattle.ckd_slot.proofs.Writes.{update_offset, update_length}
 use Rattle.ckd_slot.proofs.Updates.{form_of, padded_on, same_records}
 use Rattle.ckd_drive.proofs.Numbers.{number_below}

@@ -10,7 +10,7 @@ use Rattle.ckd_command.specs.declared.registers.Mark.{Mark}
 use Rattle.ckd_command.specs.declared.registers.Mark.TheVariants.{Saved, Written, Lost}
 use Rattle.ckd_command.specs.declared.tables.Aim.TheVariants.{Next}
 use Rattle.ckd_command.specs.declared.begin.Opened.{Opened}
-use Rattle.ckd_command.specs.Sights.{Sight, Found, IndexPassed, NextHead, Missed}
+use Rattle.ckd_command.specs.Answers.{Sight, Found, IndexPassed, NextHead, Missed}
 use Rattle.ckd_drive.specs.Transfers.{Transfer, Progress}
 use Rattle.ckd_drive.specs.Stage.{Stage, Idle, Over, Looking, Passing}
 use Rattle.ckd_command.specs.Tables.{aim}
@@ -18,8 +18,8 @@ use Rattle.ckd_command.specs.Commands.{sight, with_cause}
 use Rattle.ckd_command.specs.Drive.{AfterLook, Ready, Passed, Failed, LoadFails, SaveFails, is_written_by, look as look_by}
 use Rattle.ckd_cache.specs.Cache.{CacheState, holds, loaded, after_hold, after_failed_hold, after_save, after_failed_save}
 use Rattle.ckd_drive.specs.Work.{DriveState, fault_met, with_image, after_sight, after_look, answer_of_look, look_loads, look_saves, failed_ending}
-use Rattle.ckd_drive.specs.Half.{Stands, SightKeeps, IsFirstPlace, track_under, slot_at, state_of, work_of}
-use Rattle.ckd_drive.specs.Stages.{Comes, Looks, Leaves, Loses, looked_at}
+use Rattle.ckd_drive.specs.Invariant.{Stands, SightKeeps, IsFirstPlace, track_under, slot_at, state_of, work_of}
+use Rattle.ckd_drive.specs.Calls.{Comes, Looks, Leaves, Loses, looked_at}
 use Rattle.ckd_drive.proofs.Calls.{changed_is, and_false, and_true, no_more, loads_saved, calls_none, calls_of_save, calls_of_failed_save, calls_of_failed_hold, calls_behind_load}
 use Rattle.ckd_drive.proofs.Faults.{fault_none, fault_loading, fault_saving, failed_left, mark_written, lost_registers}
 use Rattle.ckd_drive.proofs.First.{HandIfAimed}

@@ -24,7 +24,7 @@ use Rattle.ckd_position.specs.Contents.{Sighted, new_record, formatted, kept, pa
 use Rattle.ckd_command.specs.Commands.{Closing, length_after, closing, command_end, own_home_address, new_record_fits, format_ends, writes}
 use Rattle.ckd_slot.specs.Buffer.{HasFormatted, fits_track, lengths_on}
 use Rattle.ckd_cache.specs.Cache.{CacheState, with_held, slot_held, after_format}
-use Rattle.ckd_drive.specs.Half.{Works, MayTake, Absorbs, IsFilled, AtHand, FieldAtHand, slot_at, track_under, whole_of}
+use Rattle.ckd_drive.specs.Invariant.{Works, MayTake, Absorbs, IsFilled, AtHand, FieldAtHand, slot_at, track_under, whole_of}
 use Rattle.ckd_slot.proofs.Writes.{update_length, update_place}
 use Rattle.ckd_drive.proofs.Fills.{there, new_slot_at, reads_new, ClosesFilled, form_filled, length-padded}
 use Rattle.ckd_drive.proofs.Looks.{slot_is}

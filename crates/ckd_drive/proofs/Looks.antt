@@ -8,7 +8,7 @@ use Rattle.ckd_command.specs.declared.tables.Aim.TheVariants.{NoArea, Credited}
 use Rattle.ckd_command.specs.declared.tables.Action.{Action}
 use Rattle.ckd_command.specs.declared.tables.Action.TheVariants as action
 use Rattle.ckd_command.specs.declared.begin.Opened.{Opened}
-use Rattle.ckd_command.specs.Sights.{Found}
+use Rattle.ckd_command.specs.Answers.{Found}
 use Rattle.ckd_drive.specs.Transfers.{Transfer, Sense, Field, Read, Search, Fill, Filled, Progress}
 use Rattle.ckd_drive.specs.Stage.{Stage, Looking, Passing}
 use Rattle.ckd_command.specs.Tables.{action_of, aim}
@@ -18,7 +18,7 @@ use Rattle.ckd_cache.specs.Cache.{CacheState, slot_held}
 use Rattle.ckd_drive.proofs.Numbers.{number_there}
 use Rattle.ckd_drive.specs.Work.{DriveState, fault_met, with_image, after_look}
 use Rattle.ckd_command.specs.Drive.{is_written_by}
-use Rattle.ckd_drive.specs.Half.{Stands, StaysAt, AtHand, ReadsWhole, IsFound, StageIs, Goes, IsPlaced, IsFirstPlace, CreditAtHand, remaining, state_of, seen_by, slot_at, track_under, is_filled_by}
+use Rattle.ckd_drive.specs.Invariant.{Stands, StaysAt, AtHand, ReadsWhole, IsFound, StageIs, Goes, IsPlaced, IsFirstPlace, CreditAtHand, remaining, state_of, seen_by, slot_at, track_under, is_filled_by}
 use Rattle.ckd_drive.proofs.First.{first_placed, HandIfAimed}
 use Rattle.ckd_drive.proofs.Faults.{fault_none}
 

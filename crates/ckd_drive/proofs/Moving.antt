@@ -9,7 +9,7 @@ use Rattle.ckd_command.specs.declared.registers.Mark.{Mark}
 use Rattle.ckd_command.specs.declared.tables.Action.{Action}
 use Rattle.ckd_command.specs.declared.tables.Action.TheVariants as action
 use Rattle.ckd_command.specs.declared.begin.Opened.{Opened}
-use Rattle.ckd_command.specs.Steps.{CommandEnd}
+use Rattle.ckd_command.specs.Answers.{CommandEnd}
 use Rattle.ckd_slot.specs.declared.windows.Window.{Window}
 use Rattle.ckd_drive.specs.Transfers.{Transfer, Sense, Field, Read, Search, Fill, Filled, Progress}
 use Rattle.ckd_drive.specs.Stage.{Stage, Passing}
@@ -20,7 +20,7 @@ use Rattle.ckd_slot.specs.Buffer.{Lies}
 use Rattle.ckd_cache.specs.Cache.{CacheState, IsVolume}
 use Rattle.ckd_drive.specs.Work as work
 use Rattle.ckd_drive.specs.Work.{DriveState, gives_now, takes_now, left_of, given_now, passed_of, moved_on}
-use Rattle.ckd_drive.specs.Half.{Stands, IsPlaced, IsField, ClosesUnwritten, remaining, next_progress, given_on, state_of, slot_at, track_under, is_filled_by, seen_by}
+use Rattle.ckd_drive.specs.Invariant.{Stands, IsPlaced, IsField, ClosesUnwritten, remaining, next_progress, given_on, state_of, slot_at, track_under, is_filled_by, seen_by}
 use Rattle.ckd_drive.proofs.First.{length_by, area_by, closing_by, sense_length, sense_outcome}
 use Rattle.ckd_drive.proofs.Looks.{goes_of}
 use Rattle.std.specs.declared.cmp.Ordering.{Ordering}

@@ -10,8 +10,7 @@ use Rattle.ckd_command.specs.declared.registers.Registers.{Registers}
 use Rattle.ckd_command.specs.declared.tables.Action.{Action}
 use Rattle.ckd_command.specs.declared.tables.Action.TheVariants as action
 use Rattle.ckd_command.specs.declared.begin.Opened.{Opened}
-use Rattle.ckd_command.specs.Steps.{CommandEnd}
-use Rattle.ckd_command.specs.Sights.{Found}
+use Rattle.ckd_command.specs.Answers.{CommandEnd, Found}
 use Rattle.ckd_drive.specs.declared.transfer.Whole.{Whole}
 use Rattle.ckd_drive.specs.declared.transfer.Whole.TheVariants as whole
 use Rattle.ckd_slot.specs.declared.windows.Window.{Window}
@@ -21,7 +20,7 @@ use Rattle.ckd_position.specs.Contents.{Sighted, padded}
 use Rattle.ckd_command.specs.Commands.{Closing, sight, length_after, closing, command_end, own_home_address, home_address_ends, writes}
 use Rattle.ckd_slot.specs.Buffer.{lengths_on}
 use Rattle.ckd_cache.specs.Cache.{CacheState, IsVolume, with_held}
-use Rattle.ckd_drive.specs.Half.{Works, MayTake, Absorbs, HasFilled, IsFilled, FieldAtHand, slot_at, track_under, seen_by, is_filled_by, whole_of}
+use Rattle.ckd_drive.specs.Invariant.{Works, MayTake, Absorbs, HasFilled, IsFilled, FieldAtHand, slot_at, track_under, seen_by, is_filled_by, whole_of}
 use Rattle.ckd_slot.proofs.Writes.{bare_fits}
 use Rattle.ckd_drive.proofs.Fills.{written_works, there, new_slot_at, written_absorbs, reads_new}
 use Rattle.ckd_drive.proofs.First.{length_by, closing_by}

@@ -9,7 +9,7 @@ use Rattle.ckd_command.specs.declared.registers.Mark.{Mark}
 use Rattle.ckd_drive.specs.Stage.{Stage}
 use Rattle.ckd_command.specs.Commands.{IsAtTrack}
 use Rattle.ckd_cache.specs.Cache.{CacheState}
-use Rattle.ckd_drive.specs.Half.{Stands, track_under}
+use Rattle.ckd_drive.specs.Invariant.{Stands, track_under}
 
 pub number_below : (g : Geometry) (r : Registers) → IsAtTrack g r → track_under g r < tracks_of g
 number_below g r at = below g.cylinders (heads_of g.model) r.cylinder r.head at.cylinder at.head

@@ -18,8 +18,7 @@ use Rattle.ckd_command.specs.declared.tables.Action.TheVariants as action
 use Rattle.ckd_position.specs.declared.extents.Extent.{Extent}
 use Rattle.ckd_position.specs.declared.extents.Extent.TheVariants as extent
 use Rattle.ckd_command.specs.declared.begin.Opened.{Opened}
-use Rattle.ckd_command.specs.Steps.{CommandEnd}
-use Rattle.ckd_command.specs.Sights.{Found}
+use Rattle.ckd_command.specs.Answers.{CommandEnd, Found}
 use Rattle.ckd_slot.specs.declared.windows.Window.{Window}
 use Rattle.ckd_drive.specs.Transfers.{Transfer, Fill, Filled, Progress}
 use Rattle.ckd_command.specs.Tables.{action_of, extent_of}
@@ -27,7 +26,7 @@ use Rattle.ckd_position.specs.Contents.{Sighted, bytes_of, padded, replaced, wit
 use Rattle.ckd_command.specs.Commands.{Closing, bytes_at, area_bytes, sight, closing, end_of_area, updated, command_end, writes}
 use Rattle.ckd_slot.specs.Buffer.{FitsSlot, IsUpdate, IsRecordOf, SameRecords, IsPlaceOf, lengths_on}
 use Rattle.ckd_cache.specs.Cache.{CacheState, with_held, slot_held}
-use Rattle.ckd_drive.specs.Half.{Works, MayTake, Absorbs, IsPlaced, IsFilled, ClosesUnwritten, AtHand, PlaceIn, slot_at, track_under}
+use Rattle.ckd_drive.specs.Invariant.{Works, MayTake, Absorbs, IsPlaced, IsFilled, ClosesUnwritten, AtHand, PlaceIn, slot_at, track_under}
 use Rattle.ckd_slot.proofs.Writes.{update_offset, update_length, update_place}
 use Rattle.ckd_slot.proofs.Updates.{form_of, same_records}
 use Rattle.ckd_drive.proofs.Fills.{there, new_slot_at, reads_new, ClosesFilled, form_filled, length-padded, next_made, old_read}

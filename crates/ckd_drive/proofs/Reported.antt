@@ -6,11 +6,9 @@ use Rattle.ckd_command.specs.declared.registers.Mark.{Mark}
 use Rattle.ckd_command.specs.declared.registers.Mark.TheVariants.{Saved, Written, Lost}
 use Rattle.ckd_command.specs.declared.tables.Aim.{Aim}
 use Rattle.ckd_command.specs.declared.tables.Aim.TheVariants.{NoArea, Next, Credited}
-use Rattle.ckd_command.specs.Beginnings.{Beginning}
-use Rattle.ckd_command.specs.Beginnings as beginning
+use Rattle.ckd_command.specs.Answers.{Beginning, Sight}
+use Rattle.ckd_command.specs.Answers as command_answer
 use Rattle.ckd_command.specs.declared.close.DriveEnding.{DriveEnding}
-use Rattle.ckd_command.specs.Sights.{Sight}
-use Rattle.ckd_command.specs.Sights as sight
 use Rattle.ckd_command.specs.Tables.{aim}
 use Rattle.ckd_command.specs.Commands.{Closing, beginning, sight, closing}
 use Rattle.ckd_command.specs.Drive.{State, Fault, LoadFails, SaveFails, Rejected, Closed, begin, begun, looked, look_for, closed, with_registers, is_written, is_written_by, number_under, track_under, tells_equipment_check, unsaved, lost, failed, closed_by}
@@ -81,11 +79,11 @@ lost_tells s left = record { told = store_fault_is_told (record s.registers { cr
 -- Begin.
 
 begun_quiet : (d : DriveState) (b : Beginning) → BeginsSilent d.state.registers b → NotTold d.state.registers (after_begun (begun None d.state b) d).state.registers
-begun_quiet d (beginning.Rejected r) k = k
-begun_quiet d (beginning.Immediate r) k = k
-begun_quiet d (beginning.Started r o) k = k
-begun_quiet d (beginning.ToCylinderZero r None) k = k
-begun_quiet d (beginning.ToCylinderZero r (Some o)) k = k
+begun_quiet d (command_answer.Rejected r) k = k
+begun_quiet d (command_answer.Immediate r) k = k
+begun_quiet d (command_answer.Started r o) k = k
+begun_quiet d (command_answer.ToCylinderZero r None) k = k
+begun_quiet d (command_answer.ToCylinderZero r (Some o)) k = k
 
 pub record LosesAtBegin (f : Option Fault) (s : State) (b : Beginning) : Type 0 where
   pub state : State
@@ -93,12 +91,12 @@ pub record LosesAtBegin (f : Option Fault) (s : State) (b : Beginning) : Type 0 
   pub tells : TellsFault state
 
 loses_at_begin : (s : State) (b : Beginning) (left : List ℕ) → is_written s ≡ true → goes_to_cylinder_zero b ≡ true → LosesAtBegin (Some (SaveFails left)) s b
-loses_at_begin s (beginning.ToCylinderZero r o) left w e =
+loses_at_begin s (command_answer.ToCylinderZero r o) left w e =
     let written : s.mark ≡ Written = written_mark s.mark w in
     record { state = lost (with_registers s r) left; rejected = rw written refl; tells = lost_tells (with_registers s r) left }
-loses_at_begin s (beginning.Rejected r) left w e = absurd cc
-loses_at_begin s (beginning.Immediate r) left w e = absurd cc
-loses_at_begin s (beginning.Started r o) left w e = absurd cc
+loses_at_begin s (command_answer.Rejected r) left w e = absurd cc
+loses_at_begin s (command_answer.Immediate r) left w e = absurd cc
+loses_at_begin s (command_answer.Started r o) left w e = absurd cc
 
 pub begin_reports : (old new : DriveState) (code : ℕ) (a : Begun)
     → new ≡ with_image (after_begin (fault_met old new) code old) new.image → a ≡ answer_of_begin (begin (fault_met old new) code old.state) → CallsStore false (begin_saves code old) old new
@@ -130,10 +128,10 @@ look_quiet d (Passing o b left) = λ e. e
 look_quiet d (Looking o) = go (aim o.command) _ (sight_silent d.state.volume.geometry (track_under d.state) o d.state.registers)
   where
     at : (s : Sight) → SightSilent d.state.registers s → NotTold d.state.registers (after_sight (looked None (open_at d o) s) d).state.registers
-    at (sight.Found opened) k = λ e. e
-    at (sight.IndexPassed r) k = k
-    at (sight.NextHead r) k = k
-    at (sight.Missed r) k = k
+    at (command_answer.Found opened) k = λ e. e
+    at (command_answer.IndexPassed r) k = k
+    at (command_answer.NextHead r) k = k
+    at (command_answer.Missed r) k = k
 
     go : (a : Aim) (s : Sight) → SightSilent d.state.registers s → NotTold d.state.registers (after_sight (look_for None (open_at d o) a s) d).state.registers
     go (Next kind) s k = at s k
@@ -154,10 +152,10 @@ loses_at_look d (Looking o) left e = (let x = go (aim o.command) _ both.1 in rec
     both = both_hold (is_written d.state) _ e
 
     at : (s : Sight) → goes_to_next_head s ≡ true → ((after_sight (looked (Some (SaveFails left)) (open_at d o) s) d).work ≡ Over failed_ending) × TellsFault (after_sight (looked (Some (SaveFails left)) (open_at d o) s) d).state
-    at (sight.NextHead r) h = (let written : d.state.mark ≡ Written = written_mark d.state.mark both.0 in rw written (refl, lost_tells d.state left))
-    at (sight.Found opened) h = absurd cc
-    at (sight.IndexPassed r) h = absurd cc
-    at (sight.Missed r) h = absurd cc
+    at (command_answer.NextHead r) h = (let written : d.state.mark ≡ Written = written_mark d.state.mark both.0 in rw written (refl, lost_tells d.state left))
+    at (command_answer.Found opened) h = absurd cc
+    at (command_answer.IndexPassed r) h = absurd cc
+    at (command_answer.Missed r) h = absurd cc
 
     go : (a : Aim) (s : Sight) → goes_to_next_head s ≡ true
         → ((after_sight (look_for (Some (SaveFails left)) (open_at d o) a s) d).work ≡ Over failed_ending) × TellsFault (after_sight (look_for (Some (SaveFails left)) (open_at d o) a s) d).state

@@ -9,7 +9,7 @@ use Rattle.ckd_drive.specs.Stage.{Stage, Idle, Over, Looking, Passing}
 use Rattle.ckd_command.specs.Drive.{SaveFails}
 use Rattle.ckd_cache.specs.Cache.{CacheState, after_save, after_failed_save}
 use Rattle.ckd_drive.specs.Work.{DriveState, passed_of, fault_met, with_image, after_settle, settled_mark}
-use Rattle.ckd_drive.specs.Half.{Stands, StageIs, IsPlaced, state_of, work_of, seen, track_under, is_filled, is_filled_by}
+use Rattle.ckd_drive.specs.Invariant.{Stands, StageIs, IsPlaced, state_of, work_of, seen, track_under, is_filled, is_filled_by}
 use Rattle.ckd_drive.proofs.Calls.{changed_is}
 use Rattle.ckd_drive.proofs.Torn.{torn_whole}
 use Rattle.ckd_drive.proofs.Numbers.{number_there}

@@ -24,14 +24,13 @@ use Rattle.ckd_command.specs.declared.tables.Action.TheVariants as action
 use Rattle.ckd_position.specs.declared.extents.Extent.{Extent}
 use Rattle.ckd_position.specs.declared.extents.Extent.TheVariants as extent
 use Rattle.ckd_command.specs.declared.begin.Opened.{Opened}
-use Rattle.ckd_command.specs.Sights.{Sight, Found, IndexPassed, NextHead, Missed}
+use Rattle.ckd_command.specs.Answers.{Sight, Found, IndexPassed, NextHead, Missed, moved_to}
 use Rattle.ckd_command.specs.Tables.{aim, action_of, needs_readable}
 use Rattle.ckd_position.specs.Contents.{Sighted, is_readable}
 use Rattle.ckd_command.specs.Commands.{IsAtTrack, sight, sight_of, look_for, next_head, turned, at_index, with_cause}
-use Rattle.ckd_command.specs.Steps.{moved_to}
 use Rattle.ckd_sense.specs.declared.sense_bytes.TheConstants.Sense as cause
 use Rattle.ckd_slot.specs.Buffer.{HasBytes}
-use Rattle.ckd_drive.specs.Half.{AreaIsThere, ReadsWhole, SightKeeps}
+use Rattle.ckd_drive.specs.Invariant.{AreaIsThere, ReadsWhole, SightKeeps}
 
 on_track : (e : Extent) (t : Sighted) (a : Area) → IsOnTrack (track_or_none t) a → HasBytes e t a
 on_track extent.Count t (Of part i) on = on

@@ -11,18 +11,17 @@ use Rattle.ckd_command.specs.declared.registers.Mark.{Mark}
 use Rattle.ckd_command.specs.declared.registers.Mark.TheVariants.{Saved, Lost}
 use Rattle.ckd_drive.specs.Stage.{Stage, Idle, Over, Looking, Passing}
 use Rattle.ckd_command.specs.Commands.{IsAtTrack}
-use Rattle.ckd_command.specs.Steps.{moved_to}
+use Rattle.ckd_command.specs.Answers.{moved_to, Beginning}
 use Rattle.ckd_cache.specs.Cache.{CacheState, IsVolume, saved, after_save, after_failed_save, after_failed_hold}
 use Rattle.ckd_command.specs.declared.begin.Opened.{Opened}
 use Rattle.ckd_drive.specs.declared.transfer.Progress.{Progress as ProgressHeld}
 use Rattle.ckd_drive.specs.declared.answers.Stage.{Stage as StageHeld}
 use Rattle.ckd_drive.specs.declared.answers.Stage.TheVariants as held
-use Rattle.ckd_drive.specs.Held.{stage_seen, progress_seen}
+use Rattle.ckd_drive.specs.Fields.{stage_seen, progress_seen}
 use Rattle.ckd_drive.specs.Work.{DriveState, is_idle, passes_now}
-use Rattle.ckd_command.specs.Beginnings.{Beginning}
 use Rattle.ckd_command.specs.Commands.{beginning}
 use Rattle.ckd_drive.proofs.Beginnings.{begins_well}
-use Rattle.ckd_drive.specs.Half.{Stands, StageIs, state_of, BeginsWell, CreditIs, track_under, is_filled, work_of}
+use Rattle.ckd_drive.specs.Invariant.{Stands, StageIs, state_of, BeginsWell, CreditIs, track_under, is_filled, work_of}
 
 pub on_ok : (r : Result (Unit {0}) StoreFault) (P : Type 0) → is_err r ≡ false → OnOk r P → P
 on_ok (Ok u) P e p = p

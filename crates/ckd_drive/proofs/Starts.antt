@@ -3,16 +3,15 @@ use Rattle.std.proofs.Common.{◌≡◌, ◌∙◌, ap, sym, refl, ℕ, List, []
 use Rattle.ckd_command.specs.declared.registers.Registers.{Registers}
 use Rattle.ckd_command.specs.declared.registers.Mark.{Mark}
 use Rattle.ckd_command.specs.declared.registers.Mark.TheVariants.{Saved, Written, Lost}
-use Rattle.ckd_command.specs.Beginnings.{Beginning, ToCylinderZero}
+use Rattle.ckd_command.specs.Answers.{Beginning, ToCylinderZero, moved_to}
 use Rattle.ckd_command.specs.declared.begin.Opened.{Opened}
 use Rattle.ckd_drive.specs.Stage.{Stage, Idle, Over, Looking, Passing}
 use Rattle.ckd_command.specs.Commands.{beginning}
-use Rattle.ckd_command.specs.Steps.{moved_to}
 use Rattle.ckd_command.specs.Drive.{AfterBegin, Rejected, Immediate, Started, SaveFails, begin, is_written_by}
 use Rattle.ckd_cache.specs.Cache.{CacheState, after_save, after_failed_save}
 use Rattle.ckd_drive.specs.Work.{DriveState, fault_met, after_begun, after_begin, answer_of_begin, begin_saves, immediate_ending, is_idle}
-use Rattle.ckd_drive.specs.Half.{Stands, BeginsWell, track_under, state_of, work_of}
-use Rattle.ckd_drive.specs.Stages.{Comes, Begins, Leaves, Loses, begun_at}
+use Rattle.ckd_drive.specs.Invariant.{Stands, BeginsWell, track_under, state_of, work_of}
+use Rattle.ckd_drive.specs.Calls.{Comes, Begins, Leaves, Loses, begun_at}
 use Rattle.ckd_drive.proofs.Calls.{changed_is, and_true, no_more, loads_saved, calls_of_save, calls_of_failed_save}
 use Rattle.ckd_drive.proofs.Faults.{fault_none, fault_saving, failed_left, mark_written, lost_registers, to_zero}
 use Rattle.ckd_drive.proofs.Numbers.{number_there}

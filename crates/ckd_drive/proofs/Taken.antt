@@ -9,7 +9,7 @@ use Rattle.ckd_cache.specs.Cache.{CacheState}
 use Rattle.ckd_drive.specs.Work as work
 use Rattle.ckd_drive.specs.Work.{DriveState, takes_now, left_of, moved_on}
 use Rattle.ckd_command.specs.Drive.{is_written_by}
-use Rattle.ckd_drive.specs.Half.{Stands, Works, MayTake, Absorbs, next_progress, state_of, is_filled_by}
+use Rattle.ckd_drive.specs.Invariant.{Stands, Works, MayTake, Absorbs, next_progress, state_of, is_filled_by}
 use Rattle.ckd_drive.proofs.Looks.{goes_of}
 
 not_giving : (b : Bool) → not b ≡ true → b ≡ false

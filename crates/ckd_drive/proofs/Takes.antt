@@ -13,7 +13,7 @@ use Rattle.ckd_command.specs.declared.registers.Registers.{Registers}
 use Rattle.ckd_command.specs.declared.tables.Action.{Action}
 use Rattle.ckd_command.specs.declared.tables.Action.TheVariants as action
 use Rattle.ckd_command.specs.declared.begin.Opened.{Opened}
-use Rattle.ckd_command.specs.Sights.{Found}
+use Rattle.ckd_command.specs.Answers.{Found}
 use Rattle.ckd_slot.specs.declared.windows.Window.{Window}
 use Rattle.ckd_drive.specs.Transfers.{Transfer, Field, Search, Progress}
 use Rattle.ckd_command.specs.Tables.{action_of}
@@ -21,7 +21,7 @@ use Rattle.ckd_position.specs.Contents.{Sighted}
 use Rattle.ckd_command.specs.Commands.{Closing, sight, area_bytes, length_after, length_for, close_by, own_home_address, new_record_fits, write_home_address, format}
 use Rattle.ckd_slot.specs.Buffer.{Lies}
 use Rattle.ckd_cache.specs.Cache.{CacheState}
-use Rattle.ckd_drive.specs.Half.{Works, MayTake, Absorbs, IsPlaced, IsField, HasField, remaining, slot_at, track_under, seen_by, is_filled_by, order_of, field_size}
+use Rattle.ckd_drive.specs.Invariant.{Works, MayTake, Absorbs, IsPlaced, IsField, HasField, remaining, slot_at, track_under, seen_by, is_filled_by, order_of, field_size}
 use Rattle.ckd_drive.proofs.First.{length_by, closing_by}
 use Rattle.ckd_drive.proofs.Moving.{slot_small, lies_first, lies_rest, next_left}
 

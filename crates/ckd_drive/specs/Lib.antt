@@ -1,7 +1,7 @@
 pub mod Work
 pub mod Transfers
 pub mod Stage
-pub mod Half
-pub mod Held
-pub mod Stages
+pub mod Invariant
+pub mod Fields
+pub mod Calls
 pub mod Laws

@@ -2,7 +2,7 @@
 use Rattle.std.specs.Prelude.{ℕ, List}
 use Rattle.std.specs.declared.cmp.Ordering.{Ordering}
 use Rattle.ckd_command.specs.declared.begin.Opened.{Opened}
-use Rattle.ckd_command.specs.Steps.{CommandEnd}
+use Rattle.ckd_command.specs.Answers.{CommandEnd}
 use Rattle.ckd_slot.specs.declared.windows.Window.{Window}
 
 -- What becomes of the bytes that pass, and where in the slot those stand that are still to pass: sense bytes, or those of a

@@ -5,10 +5,9 @@ use Rattle.ckd_command.specs.declared.registers.Mark.{Mark}
 use Rattle.ckd_command.specs.declared.registers.Mark.TheVariants as mark
 use Rattle.ckd_command.specs.declared.tables.Aim.{Aim}
 use Rattle.ckd_command.specs.declared.tables.Aim.TheVariants.{Next}
-use Rattle.ckd_command.specs.Beginnings.{Beginning, ToCylinderZero}
+use Rattle.ckd_command.specs.Answers.{Beginning, ToCylinderZero, Sight, NextHead}
 use Rattle.ckd_command.specs.declared.close.DriveEnding.{DriveEnding}
 use Rattle.ckd_command.specs.declared.begin.Opened.{Opened}
-use Rattle.ckd_command.specs.Sights.{Sight, NextHead}
 use Rattle.ckd_command.specs.Tables.{aim, action_of, is_giving}
 use Rattle.ckd_command.specs.Commands.{ending_status, in_motion_status, unit_check_status, beginning, sight, closing}
 use Rattle.ckd_command.specs.Drive.{State, with_registers, Fault, LoadFails, SaveFails, Open, AfterBegin, Rejected, Immediate, Started, AfterLook, Ready, Passed, Failed, Closed, begin, look, given, length_of, close, saving, left_by, begin_program, drive_of, first_drive, number_under, track_under, is_written, tells_equipment_check, no_sense}

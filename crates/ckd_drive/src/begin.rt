@@ -4,11 +4,11 @@ ghost use Rattle.std.specs.Prelude.{◌≡◌, [], None, OnOk, OnErr};
 ghost use Rattle.ckd_command.specs.Commands.{beginning, with_cause};
 ghost use Rattle.ckd_drive.specs.declared.transfer.Progress.{Progress};
 ghost use Rattle.ckd_drive.specs.Stage.{Idle};
-ghost use Rattle.ckd_drive.specs.Half.{Stands, BeginsWell, track_under};
-ghost use Rattle.ckd_drive.specs.Held.{stage_seen, IsBegunHeld};
-ghost use Rattle.ckd_drive.specs.Stages.{Begins, Leaves, Loses, begun_at};
+ghost use Rattle.ckd_drive.specs.Invariant.{Stands, BeginsWell, track_under};
+ghost use Rattle.ckd_drive.specs.Fields.{stage_seen, IsBegunHeld};
+ghost use Rattle.ckd_drive.specs.Calls.{Begins, Leaves, Loses, begun_at};
 ghost use Rattle.ckd_sense.specs.declared.sense_bytes.TheConstants.Sense.{STORE_FAULT};
-ghost use Rattle.ckd_command.specs.Steps.{moved_to};
+ghost use Rattle.ckd_command.specs.Answers.{moved_to};
 ghost use Rattle.ckd_command.specs.declared.registers.Registers.{Registers};
 ghost use Rattle.ckd_command.specs.declared.begin.Opened.{Opened};
 

@@ -5,11 +5,11 @@ ghost use Rattle.ckd_command.specs.declared.registers.Registers.{Registers};
 ghost use Rattle.ckd_command.specs.declared.begin.Opened.{Opened};
 ghost use Rattle.ckd_command.specs.Tables.{action_of};
 ghost use Rattle.ckd_command.specs.Commands.{command_end, whole_field, at_end as ends_behind, fails};
-ghost use Rattle.ckd_command.specs.Steps.{closed_as, ClosedStays};
+ghost use Rattle.ckd_command.specs.Answers.{closed_as, ClosedStays};
 ghost use Rattle.ckd_sense.specs.declared.sense_bytes.TheConstants.Sense.{WRONG_HOME_ADDRESS};
 ghost use Rattle.ckd_drive.specs.Work.{settled_mark as mark_settled, owed_mark as mark_owed};
-ghost use Rattle.ckd_drive.specs.Half.{field_ends as field_closes, command_end_at, MovedInField, mark_left as mark_left_by, field_size as size_of_field};
-ghost use Rattle.ckd_drive.specs.Held.{place_seen, closes_by};
+ghost use Rattle.ckd_drive.specs.Invariant.{field_ends as field_closes, command_end_at, MovedInField, mark_left as mark_left_by, field_size as size_of_field};
+ghost use Rattle.ckd_drive.specs.Fields.{place_seen, closes_by};
 
 use crate::transfer::{Transfer, Written, field_size};
 use ckd_command::{

@@ -40,8 +40,8 @@ pub struct Drive<S: ImageStore> {
 
 impl<S: ImageStore> Model for Drive<S> {
     ghost use Rattle.ckd_drive.specs.Work.{DriveState};
-    ghost use Rattle.ckd_drive.specs.Half.{state_of, Stands};
-    ghost use Rattle.ckd_drive.specs.Held.{stage_seen};
+    ghost use Rattle.ckd_drive.specs.Invariant.{state_of, Stands};
+    ghost use Rattle.ckd_drive.specs.Fields.{stage_seen};
 
     ghost Value = { DriveState };
 

@@ -3,16 +3,16 @@
 ghost use Rattle.std.specs.Prelude.{◌≡◌, [], Some, ◌<◌, List, ℕ};
 ghost use Rattle.ckd_command.specs.declared.tables.Aim.TheVariants.{Next, NoArea};
 ghost use Rattle.ckd_command.specs.Tables.{aim as aim_of, action_of};
-ghost use Rattle.ckd_drive.specs.Half.{Stands, track_under, remaining as remaining_by, AreaIsThere, AreaOf, IsFirstPlace, ReadsWhole};
-ghost use Rattle.ckd_drive.specs.Held.{stage_seen, IsLookedHeld, place_seen, IsReady};
+ghost use Rattle.ckd_drive.specs.Invariant.{Stands, track_under, remaining as remaining_by, AreaIsThere, AreaOf, IsFirstPlace, ReadsWhole};
+ghost use Rattle.ckd_drive.specs.Fields.{stage_seen, IsLookedHeld, place_seen, IsReady};
 ghost use Rattle.ckd_drive.specs.Stage.{Looking};
-ghost use Rattle.ckd_drive.specs.Stages.{Looks, looked_at};
+ghost use Rattle.ckd_drive.specs.Calls.{Looks, looked_at};
 ghost use Rattle.ckd_command.specs.declared.registers.Registers.{Registers};
 ghost use Rattle.ckd_command.specs.declared.begin.Opened.{Opened};
 ghost use Rattle.ckd_track.specs.Model.{heads_of};
 ghost use Rattle.ckd_track.specs.Track.{track_of};
 ghost use Rattle.ckd_command.specs.Commands.{sight as sight_of_track};
-ghost use Rattle.ckd_command.specs.Steps.{seen_as, SeenStays};
+ghost use Rattle.ckd_command.specs.Answers.{seen_as, SeenStays};
 ghost use Rattle.ckd_command.specs.declared.tables.Action.TheVariants.{NoTransfer};
 
 use crate::answers::{Look, Stage};

@@ -2,8 +2,8 @@
 
 ghost use Rattle.std.specs.Prelude.{◌≡◌, ◌≤◌, ◌<◌, ◌+◌, length, ◌-◌, ◌^◌, slice_range};
 ghost use Rattle.ckd_drive.specs.Transfers as place;
-ghost use Rattle.ckd_drive.specs.Half.{Works, MayTake, Absorbs, whole_of, remaining as remaining_by, field_size as size_of_field, given_on as place_given};
-ghost use Rattle.ckd_drive.specs.Held.{closes_by, place_seen, progress_seen, IsNoSearch, MayGiveHeld};
+ghost use Rattle.ckd_drive.specs.Invariant.{Works, MayTake, Absorbs, whole_of, remaining as remaining_by, field_size as size_of_field, given_on as place_given};
+ghost use Rattle.ckd_drive.specs.Fields.{closes_by, place_seen, progress_seen, IsNoSearch, MayGiveHeld};
 ghost use Rattle.ckd_command.specs.Commands.{command_end, area_ends, own_home_address};
 ghost use Rattle.std.specs.Ordering.{nat_cmp, ordering_then};
 ghost use Rattle.std.specs.Cmp.Lexicographic.{slice_cmp};

@@ -8,7 +8,7 @@ use Rattle.std.proofs.Math.Seq.{take-append-add, drop-append-add}
 use Rattle.std.proofs.Math.Nat.{zero-add, add-mul}
 use Rattle.std.specs.List.{sum}
 use Rattle.ckd_image.specs.declared.store.StoreFault.{StoreFault}
-use Rattle.ckd_image.specs.declared.files.Place.{Place}
+use Rattle.ckd_image.specs.declared.files.SlotPlace.{SlotPlace}
 use Rattle.ckd_image.specs.Store.{overwritten, Torn, Counts}
 use Rattle.ckd_image.specs.Header.{no_head, head_of}
 use Rattle.ckd_image.specs.Files.{slot_bytes, behind, place_in, file_at, held, each, HoldTracks}
@@ -80,7 +80,7 @@ module _ {S : Type 0} where
   tracks-set content size (Some s ∷ files) (n ∷ tracks) (suc place) x holds h a b e = (holds.0, tracks-set content size files tracks place x holds.1 (omega arith) a b e)
 
   -- the slot of a track is in this file, with these bytes before its slots and behind them
-  pub record Located (content : S → List ℕ) (size : ℕ) (files : List (Option S)) (track : ℕ) (p : Place) : Type 0 where
+  pub record Located (content : S → List ℕ) (size : ℕ) (files : List (Option S)) (track : ℕ) (p : SlotPlace) : Type 0 where
     pub front : List ℕ
     pub back : List ℕ
     pub exists : p.file < length files
@@ -107,7 +107,7 @@ module _ {S : Type 0} where
     split = split_first content s files;
   }
 
-  next_located : (content : S → List ℕ) (size : ℕ) (f : Option S) (files : List (Option S)) (n : ℕ) (tracks : List ℕ) (track : ℕ) (p : Place) → HoldTracks content size (f ∷ files) (n ∷ tracks) → n ≤ track → Located content size files (track - n) p → Located content size (f ∷ files) track (behind p)
+  next_located : (content : S → List ℕ) (size : ℕ) (f : Option S) (files : List (Option S)) (n : ℕ) (tracks : List ℕ) (track : ℕ) (p : SlotPlace) → HoldTracks content size (f ∷ files) (n ∷ tracks) → n ≤ track → Located content size files (track - n) p → Located content size (f ∷ files) track (behind p)
   next_located content size None files n tracks track p holds h l = record {
     front = l.front;
     back = l.back;
@@ -167,13 +167,13 @@ module _ {S : Type 0} where
       by true e next = first_located content size f files n tracks track holds (ltb-true track n e)
       by false e next = let above = ltb-false track n e in next_located content size f files n tracks track (place_in tracks (track - n)) holds above (next above)
 
-  pub located_at : (content : S → List ℕ) (size : ℕ) (files : List (Option S)) (tracks : List ℕ) (track : ℕ) (p : Place) → HoldTracks content size files tracks → length files ≡ length tracks → track < sum tracks → p ≡ place_in tracks track → Located content size files track p
+  pub located_at : (content : S → List ℕ) (size : ℕ) (files : List (Option S)) (tracks : List ℕ) (track : ℕ) (p : SlotPlace) → HoldTracks content size files tracks → length files ≡ length tracks → track < sum tracks → p ≡ place_in tracks track → Located content size files track p
   located_at content size files tracks track p holds count h is = rw is (located content size files tracks track holds count h)
 
   -- A read.
 
   -- what is read of the file is the slot
-  pub range_located : (content : S → List ℕ) (size : ℕ) (files : List (Option S)) (track at : ℕ) (p : Place) → Located content size files track p → at ≡ 512 + p.track * size → slice_range (held content [] (file_at files p.file)) at (at + size) ≡ slice_range (slot_bytes (each content files)) (track * size) (track * size + size)
+  pub range_located : (content : S → List ℕ) (size : ℕ) (files : List (Option S)) (track at : ℕ) (p : SlotPlace) → Located content size files track p → at ≡ 512 + p.track * size → slice_range (held content [] (file_at files p.file)) at (at + size) ≡ slice_range (slot_bytes (each content files)) (track * size) (track * size + size)
   range_located content size files track at p l is =
       let file = held content [] (file_at files p.file) in
       let within = l.within in
@@ -196,7 +196,7 @@ module _ {S : Type 0} where
     pub headers : map (take 512) (each content new) ≡ map (take 512) (each content files)
     pub tracks_held : HoldTracks content size new tracks
 
-  pub written_at : (content : S → List ℕ) (size : ℕ) (files : List (Option S)) (tracks : List ℕ) (track : ℕ) (p : Place) (x : Option S) (bytes : List ℕ) → HoldTracks content size files tracks → Located content size files track p → IsSome x → length bytes ≡ size → held content [] x ≡ overwritten (held content [] (file_at files p.file)) (512 + p.track * size) bytes → Written content size files tracks track (set files p.file x) bytes
+  pub written_at : (content : S → List ℕ) (size : ℕ) (files : List (Option S)) (tracks : List ℕ) (track : ℕ) (p : SlotPlace) (x : Option S) (bytes : List ℕ) → HoldTracks content size files tracks → Located content size files track p → IsSome x → length bytes ≡ size → held content [] x ≡ overwritten (held content [] (file_at files p.file)) (512 + p.track * size) bytes → Written content size files tracks track (set files p.file x) bytes
   written_at content size files tracks track p x bytes holds l some long is =
       let file = held content [] (file_at files p.file) in
       let at = p.track * size in
@@ -237,7 +237,7 @@ module _ {S : Type 0} where
     pub headers : map (take 512) (each content new) ≡ map (take 512) (each content files)
     pub tracks_held : HoldTracks content size new tracks
 
-  pub stored_at : (content : S → List ℕ) (size : ℕ) (files : List (Option S)) (tracks : List ℕ) (track at : ℕ) (p : Place) (x : Option S) (bytes : List ℕ) (r : Result (Unit {0}) StoreFault) → HoldTracks content size files tracks → Located content size files track p → IsSome x → length bytes ≡ size → at ≡ 512 + p.track * size → OnOk r (held content [] x ≡ overwritten (held content [] (file_at files p.file)) at bytes) → OnErr r (Torn (held content [] (file_at files p.file)) (held content [] x) at (length bytes)) → Stored content size files tracks track (set files p.file x) bytes r
+  pub stored_at : (content : S → List ℕ) (size : ℕ) (files : List (Option S)) (tracks : List ℕ) (track at : ℕ) (p : SlotPlace) (x : Option S) (bytes : List ℕ) (r : Result (Unit {0}) StoreFault) → HoldTracks content size files tracks → Located content size files track p → IsSome x → length bytes ≡ size → at ≡ 512 + p.track * size → OnOk r (held content [] x ≡ overwritten (held content [] (file_at files p.file)) at bytes) → OnErr r (Torn (held content [] (file_at files p.file)) (held content [] x) at (length bytes)) → Stored content size files tracks track (set files p.file x) bytes r
   stored_at content size files tracks track at p x bytes (Ok v) holds l some long is written torn =
       let w = written_at content size files tracks track p x bytes holds l some long (written ∙ ap (λ (n : ℕ). overwritten (held content [] (file_at files p.file)) n bytes) is) in
       record { written = w.slots; torn = tt; heads = w.heads; headers = w.headers; tracks_held = w.tracks_held }

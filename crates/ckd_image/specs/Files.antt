@@ -1,7 +1,7 @@
 -- The files of an image, one behind the other.
 use Rattle.std.specs.Prelude.{◌≡◌, ℕ, ◌+◌, ◌-◌, nat_lt, if◌then◌else◌, ◌*◌, ◌<◌, ◌≤◌, ◌^◌, List, [], ◌∷◌, length, drop, take, map, slice_index, slice_index_or, slice_set, Option, Some, None, Err, IsOk}
 use Rattle.std.specs.List.{concat}
-use Rattle.ckd_image.specs.declared.files.Place.{Place}
+use Rattle.ckd_image.specs.declared.files.SlotPlace.{SlotPlace}
 use Rattle.ckd_image.specs.declared.stores.Stores.{Stores}
 use Rattle.ckd_image.specs.declared.fault.MountFault.{MountFault}
 use Rattle.ckd_image.specs.declared.fault.MountFault.TheVariants.{StoreFault}
@@ -13,10 +13,10 @@ slot_bytes files = concat (map (drop 512) files)
 
 -- where the slot of a track is, in files of so many tracks each: the file's place, and the track's
 -- number in that file
-abbrev pub behind : Place → Place
+abbrev pub behind : SlotPlace → SlotPlace
 behind p = record p { file = p.file + 1 }
 
-abbrev pub place_in : List ℕ → ℕ → Place
+abbrev pub place_in : List ℕ → ℕ → SlotPlace
 place_in [] track = record { file = 0; track = track }
 place_in (n ∷ tracks) track = if nat_lt track n then record { file = 0; track = track } else behind (place_in tracks (track - n))
 

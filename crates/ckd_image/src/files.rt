@@ -17,13 +17,13 @@ use arrayvec::ArrayVec;
 /// Where the slot of a track is: the place of the file that holds it, and the track's number among
 /// those of that file.
 #[derive(Clone, Copy, Debug)]
-struct Place {
+struct SlotPlace {
     file: usize,
     track: u32,
 }
 
 /// Where the slot of a track is, in files of so many tracks each.
-fn place_of(tracks: &[u32], track: u32) -> Place
+fn place_of(tracks: &[u32], track: u32) -> SlotPlace
     requires { track < sum tracks.now }
     ensures place { result ≡ place_in tracks.now track }
     ensures exists { result.file < length tracks.now }
@@ -32,10 +32,10 @@ fn place_of(tracks: &[u32], track: u32) -> Place
         unreachable!()
     };
     if track < *held {
-        return Place { file: 0, track };
+        return SlotPlace { file: 0, track };
     }
     let behind = place_of(others, track - *held);
-    Place {
+    SlotPlace {
         file: behind.file + 1,
         track: behind.track,
     }

@@ -10,7 +10,7 @@ mod failing;
 mod files;
 mod row;
 
-use crate::row::{Outcome, play};
+use crate::row::{RowResult, play};
 use anyhow::Result;
 use std::io;
 
@@ -19,8 +19,8 @@ fn main(rt: HostRuntime) -> Result<()> {
     for row in text.as_str().split("\n\n") {
         let (name, lines) = row.split_once('\n').unwrap_or((row, ""));
         match play(rt.alloc(), lines)? {
-            Outcome::AsItMust(commands) => println!(rt; "{name}: {commands}")?,
-            Outcome::Otherwise(line) => println!(rt; "{name}: OTHERWISE at: {line}")?,
+            RowResult::AsItMust(commands) => println!(rt; "{name}: {commands}")?,
+            RowResult::Otherwise(line) => println!(rt; "{name}: OTHERWISE at: {line}")?,
         }
     }
     Ok(())

@@ -10,7 +10,7 @@ use test_rows::{bytes, number};
 
 /// What comes of a row.
 #[derive(Debug, Drop)]
-pub(crate) enum Outcome<'a> {
+pub(crate) enum RowResult<'a> {
     /// Each of its commands comes to what it must.
     AsItMust(usize),
     /// This line is not as it must be.
@@ -44,7 +44,7 @@ impl Stage {
 }
 
 /// Plays a row.
-pub(crate) fn play<'a>(alloc: Global, lines: &'a str) -> Result<Outcome<'a>> {
+pub(crate) fn play<'a>(alloc: Global, lines: &'a str) -> Result<RowResult<'a>> {
     let mut stage = Stage {
         files: MemoryFiles::new(alloc),
         deck: Vec::new(alloc),
@@ -58,9 +58,9 @@ pub(crate) fn play<'a>(alloc: Global, lines: &'a str) -> Result<Outcome<'a>> {
         commands: 0,
     };
     if let Some(line) = play_lines(alloc, &mut stage, lines)? {
-        return Ok(Outcome::Otherwise(line));
+        return Ok(RowResult::Otherwise(line));
     }
-    Ok(Outcome::AsItMust(stage.commands))
+    Ok(RowResult::AsItMust(stage.commands))
 }
 
 // Plays the lines of a row, and answers the first that is not as it must be.

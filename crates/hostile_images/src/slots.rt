@@ -9,13 +9,13 @@ const CAPACITY: usize = 3_625;
 
 /// A record in a slot: where its count area begins, and the lengths of its key and its data.
 #[derive(Clone, Copy)]
-pub(crate) struct Place {
+pub(crate) struct RecordPlace {
     pub at: usize,
     pub key_length: usize,
     pub data_length: usize,
 }
 
-impl Place {
+impl RecordPlace {
     /// Where its data begins.
     pub(crate) fn data_at(self) -> usize {
         self.at.saturating_add(8).saturating_add(self.key_length)
@@ -50,7 +50,7 @@ impl Place {
 #[derive(Drop)]
 pub(crate) struct Spelled {
     /// The records that are whole, one after another.
-    pub places: Vec<Place>,
+    pub places: Vec<RecordPlace>,
     /// Why no end mark stands behind them.
     pub fault: Option<SlotFault>,
 }
@@ -85,14 +85,14 @@ pub(crate) fn read(alloc: Global, slot: &[u8]) -> Result<Spelled> {
 }
 
 // The record whose count area this is; none where it is the end mark.
-fn place_of(at: usize, count: &[u8]) -> Option<Place> {
+fn place_of(at: usize, count: &[u8]) -> Option<RecordPlace> {
     let [_, _, _, _, _, key_length, high, low] = count else {
         return None;
     };
     if count.iter().all(|byte| *byte == 0xFF) {
         return None;
     }
-    Some(Place {
+    Some(RecordPlace {
         at,
         key_length: usize::from(*key_length),
         data_length: usize::from(u16::from_be_bytes([*high, *low])),
@@ -105,12 +105,12 @@ pub(crate) fn bytes_at(bytes: &[u8], at: usize, len: usize) -> Option<&[u8]> {
 }
 
 /// The first record with this identifier.
-pub(crate) fn find(slot: &[u8], places: &[Place], identifier: &[u8; 5]) -> Option<usize> {
+pub(crate) fn find(slot: &[u8], places: &[RecordPlace], identifier: &[u8; 5]) -> Option<usize> {
     places.iter().position(|place| bytes_at(slot, place.at, 5) == Some(&identifier[..]))
 }
 
 /// Whether a record without key and with so many bytes of data has room as the last one behind record `after`.
-pub(crate) fn has_room(places: &[Place], after: usize, data_length: usize) -> bool {
+pub(crate) fn has_room(places: &[RecordPlace], after: usize, data_length: usize) -> bool {
     let kept = places.iter().enumerate().take(after.saturating_add(1));
     let mut taken: usize = 0;
     for (number, place) in kept {
@@ -122,7 +122,7 @@ pub(crate) fn has_room(places: &[Place], after: usize, data_length: usize) -> bo
         };
         taken = taken.saturating_add(charge);
     }
-    let new = Place {
+    let new = RecordPlace {
         at: 0,
         key_length: 0,
         data_length,

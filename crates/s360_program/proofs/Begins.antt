@@ -18,8 +18,8 @@ use Rattle.s360_program.specs.Advances.{IsEnding}
 use Rattle.s360_program.specs.Steps.{EndsBy, ComesBy, status_of, condition_for}
 use Rattle.ckd_drive.specs.declared.answers.Begun.TheVariants as begun
 use Rattle.s360_program.specs.declared.conditions.Condition.TheVariants as condition
-use Rattle.s360_program.specs.declared.stages.Run.{Run}
-use Rattle.s360_program.specs.declared.stages.Step.{Step}
+use Rattle.s360_program.specs.declared.run.Run.{Run}
+use Rattle.s360_program.specs.declared.run.Step.{Step}
 use Rattle.s360_program.proofs.Ends.{calm_before}
 use Rattle.s360_program.proofs.Meeting.{ends_after, ends_now, comes_after, met_none}
 

@@ -18,11 +18,11 @@ use Rattle.s360_runs.specs.Units.{Between, Next, GoesOn, EndsIn, next_chosen}
 use Rattle.s360_runs.specs.Unsaved.{GainsNoCheck}
 use Rattle.ckd_drive.specs.Work.{DriveState, Work, Idle, Over, Looking, Passing, fault_met, with_image, CallsStore, Reports, after_end, closed_of, ending_of, end_saves, failed_ending}
 use Rattle.s360_program.specs.Advances.{IsEnding}
-use Rattle.s360_program.specs.Places.{place_of, modified_place}
+use Rattle.s360_program.specs.Place.{place_of, modified_place}
 use Rattle.s360_program.specs.Stands.{StageFits, StageWithin, PlaceWithin, phase_by}
 use Rattle.s360_program.specs.Steps.{EndsBy, GoesBy, closed_with, request_at, status_of, condition_for, chains_after}
 use Rattle.s360_program.specs.declared.conditions.Condition.{Condition}
-use Rattle.s360_program.specs.declared.stages.Run.{Run}
+use Rattle.s360_program.specs.declared.run.Run.{Run}
 use Rattle.s360_program.specs.Stage.{stage_of}
 use Rattle.s360_program.specs.Stage as stage
 use Rattle.s360_program.proofs.Meeting.{ends_after, met_none}

@@ -18,10 +18,10 @@ use Rattle.s360_runs.specs.Status.{no_channel_status, with_interruption, stops_c
 use Rattle.s360_runs.specs.Transfers.{Request}
 use Rattle.s360_runs.specs.Units.{Between, GoesOn, next_chosen, next_begun}
 use Rattle.s360_runs.specs.Unsaved.{GainsNoCheck}
-use Rattle.s360_program.specs.Places.{place_of}
+use Rattle.s360_program.specs.Place.{place_of}
 use Rattle.s360_program.specs.Stands.{RunningState, StageFits, Stands, Within, phase_in}
 use Rattle.s360_program.specs.Starting.{ImmediateDone, FirstBegun, StartsQuietly, request_for}
-use Rattle.s360_program.specs.declared.places.Place.{Place}
+use Rattle.s360_program.specs.declared.place.Place.{Place}
 use Rattle.s360_program.specs.Stage as stage
 use Rattle.s360_program.specs.declared.starting.First.{First}
 use Rattle.s360_program.specs.declared.starting.First.TheVariants as first

@@ -15,16 +15,16 @@ use Rattle.s360_runs.specs.Transfers.{Request}
 use Rattle.s360_runs.specs.Units.{GoesOn, unit, next_looked, walk, on_next, StandsIn}
 use Rattle.s360_runs.specs.Units as phase
 use Rattle.s360_program.specs.Advances.{IsEnding}
-use Rattle.s360_program.specs.Places.{place_of}
+use Rattle.s360_program.specs.Place.{place_of}
 use Rattle.s360_program.specs.Stands.{StageFits, StageWithin, phase_by, phase_in}
 use Rattle.s360_program.specs.Steps.{run_of, Fits, EndsBy, Steps, WalksBy, told_of}
 use Rattle.s360_program.specs.declared.conditions.Condition.TheVariants as condition
-use Rattle.s360_program.specs.declared.stages.Run.{Run}
+use Rattle.s360_program.specs.declared.run.Run.{Run}
 use Rattle.s360_program.specs.Stage.{stage_by, stage_of}
 use Rattle.s360_program.specs.Stage as stage
-use Rattle.s360_program.specs.declared.stages.Comes.TheVariants as comes
-use Rattle.s360_program.specs.declared.stages.Step.{Step}
-use Rattle.s360_program.specs.declared.stages.Step.TheVariants as step
+use Rattle.s360_program.specs.declared.run.Comes.TheVariants as comes
+use Rattle.s360_program.specs.declared.run.Step.{Step}
+use Rattle.s360_program.specs.declared.run.Step.TheVariants as step
 use Rattle.s360_program.proofs.Begins.{unfailed}
 use Rattle.s360_program.proofs.Ends.{calm_before}
 use Rattle.s360_program.proofs.Meeting.{ends_after, more_after, met_none}

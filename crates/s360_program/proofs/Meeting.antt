@@ -24,9 +24,9 @@ use Rattle.s360_program.specs.Advances.{IsEnding, TellsFault, CallsAtMost}
 use Rattle.s360_program.specs.Steps.{IsMetBy, ToldOf, EndsBy, ComesBy, told_of, status_of}
 use Rattle.s360_program.specs.declared.conditions.Condition.{Condition}
 use Rattle.s360_program.specs.declared.conditions.Condition.TheVariants as condition
-use Rattle.s360_program.specs.declared.stages.Run.{Run}
-use Rattle.s360_program.specs.declared.stages.Step.{Step}
-use Rattle.s360_program.specs.declared.stages.Step.TheVariants as step
+use Rattle.s360_program.specs.declared.run.Run.{Run}
+use Rattle.s360_program.specs.declared.run.Step.{Step}
+use Rattle.s360_program.specs.declared.run.Step.TheVariants as step
 
 never : {P : Type 0} → ◌≡◌ {A = Bool} false true → P
 never h = absurd (cc)

@@ -19,10 +19,10 @@ use Rattle.s360_program.specs.Advances.{NeedsNoStore, NeedNoStore}
 use Rattle.s360_program.specs.Stands.{RunningState, Stands, StageFits, phase_by, phase_in}
 use Rattle.s360_program.specs.Steps.{Fits, Flows, FlowsBy, IsQuiet, with_left}
 use Rattle.s360_program.specs.declared.moving.Flow.{Flow}
-use Rattle.s360_program.specs.declared.stages.Run.{Run}
+use Rattle.s360_program.specs.declared.run.Run.{Run}
 use Rattle.s360_program.specs.Stage.{Stage}
 use Rattle.s360_program.specs.Stage as stage
-use Rattle.s360_program.specs.declared.stages.Comes.TheVariants as comes
+use Rattle.s360_program.specs.declared.run.Comes.TheVariants as comes
 use Rattle.s360_program.proofs.Looking.{looking_is}
 use Rattle.s360_program.proofs.Meeting.{untouched}
 

@@ -18,18 +18,18 @@ use Rattle.s360_runs.specs.Scripts.{units}
 use Rattle.s360_runs.specs.Status.{no_channel_status, tells}
 use Rattle.s360_runs.specs.Transfers.{Transfer, Moves, Stops, Completes, chained_data, byte_or_check, check_of, needs_byte, after_bytes, next_bytes}
 use Rattle.s360_runs.specs.Units.{ProgramPhase, Moving, Next, EndsIn, unit, next_chosen, next_moved, walk, on_next, StandsIn}
-use Rattle.s360_program.specs.Places.{place_of}
+use Rattle.s360_program.specs.Place.{place_of}
 use Rattle.s360_program.specs.Stands.{StageFits, StageWithin, phase_by, phase_in}
 use Rattle.s360_program.specs.Steps.{run_of, Fits, ComesBy, Steps, WalksBy, Flows, FlowsBy, with_left, Passes, PassesBy, PassesAs, status_of, condition_for, differs}
 use Rattle.s360_program.specs.declared.conditions.Condition.{Condition}
 use Rattle.s360_program.specs.declared.conditions.Condition.TheVariants as condition
 use Rattle.s360_program.specs.declared.moving.Flow.{Flow}
-use Rattle.s360_program.specs.declared.stages.Run.{Run}
+use Rattle.s360_program.specs.declared.run.Run.{Run}
 use Rattle.s360_program.specs.Stage.{stage_by, stage_of}
 use Rattle.s360_program.specs.Stage as stage
-use Rattle.s360_program.specs.declared.stages.Comes.TheVariants as comes
-use Rattle.s360_program.specs.declared.stages.Step.{Step}
-use Rattle.s360_program.specs.declared.stages.Step.TheVariants as step
+use Rattle.s360_program.specs.declared.run.Comes.TheVariants as comes
+use Rattle.s360_program.specs.declared.run.Step.{Step}
+use Rattle.s360_program.specs.declared.run.Step.TheVariants as step
 use Rattle.s360_program.proofs.Meeting.{comes_after}
 use Rattle.s360_runs.proofs.AtOnce.{at_once}
 

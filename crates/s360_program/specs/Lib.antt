@@ -1,4 +1,4 @@
-pub mod Places
+pub mod Place
 pub mod Stage
 pub mod Stands
 pub mod Advances

@@ -1,9 +1,9 @@
 -- What comes next in a running program.
 use Rattle.std.specs.Prelude.{ℕ}
 use Rattle.s360_words.specs.declared.words.Ccw.{Ccw}
-use Rattle.s360_program.specs.declared.stages.Comes.{Comes}
-use Rattle.s360_program.specs.declared.stages.Comes.TheVariants as comes
-use Rattle.s360_program.specs.declared.stages.Run.{Run}
+use Rattle.s360_program.specs.declared.run.Comes.{Comes}
+use Rattle.s360_program.specs.declared.run.Comes.TheVariants as comes
+use Rattle.s360_program.specs.declared.run.Run.{Run}
 
 -- the fetch of a word that begins a command; a look for the area of the command of this word; or bytes under this word, from or to
 -- this address on

@@ -16,9 +16,9 @@ use Rattle.s360_runs.specs.Transfers.{Request}
 use Rattle.s360_runs.specs.Unsaved.{GainsNoCheck}
 use Rattle.s360_program.specs.Advances.{Rests, Leaves}
 use Rattle.s360_program.specs.Stands.{RunningState, Stands, phase_in}
-use Rattle.s360_program.specs.Places.{place_of}
+use Rattle.s360_program.specs.Place.{place_of}
 use Rattle.s360_program.specs.Steps.{run_of, Fits}
-use Rattle.s360_program.specs.declared.places.Place.{Place as KeptPlace}
+use Rattle.s360_program.specs.declared.place.Place.{Place as KeptPlace}
 use Rattle.s360_program.specs.Stage as stage
 use Rattle.s360_program.specs.declared.starting.First.{First as FirstAnswer}
 use Rattle.s360_program.specs.declared.starting.First.TheVariants as begun

@@ -22,17 +22,17 @@ use Rattle.s360_runs.specs.Transfers.{Request, Transfer, next_bytes, storage_aft
 use Rattle.s360_runs.specs.Units.{ProgramPhase, Next, GoesOn, EndsIn, unit, walk, StandsIn}
 use Rattle.s360_runs.specs.Unsaved.{GainsNoCheck}
 use Rattle.s360_program.specs.Advances.{IsEnding, TellsFault, TellsNoFault}
-use Rattle.s360_program.specs.Places.{place_of}
+use Rattle.s360_program.specs.Place.{place_of}
 use Rattle.s360_program.specs.Stands.{RunningState, LeftFits, Stands, Within, phase_in}
 use Rattle.s360_program.specs.declared.conditions.Condition.{Condition}
 use Rattle.s360_program.specs.declared.conditions.Condition.TheVariants as condition
 use Rattle.s360_program.specs.declared.moving.Flow.{Flow}
 use Rattle.s360_program.specs.declared.program.Advance.{Advance}
-use Rattle.s360_program.specs.declared.stages.Run.{Run}
+use Rattle.s360_program.specs.declared.run.Run.{Run}
 use Rattle.s360_program.specs.Stage.{Stage, stage_of}
 use Rattle.s360_program.specs.Stage as stage
-use Rattle.s360_program.specs.declared.stages.Step.{Step}
-use Rattle.s360_program.specs.declared.stages.Step.TheVariants as step
+use Rattle.s360_program.specs.declared.run.Step.{Step}
+use Rattle.s360_program.specs.declared.run.Step.TheVariants as step
 
 -- The running program.
 

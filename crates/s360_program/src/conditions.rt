@@ -4,10 +4,10 @@
 ghost use Rattle.std.specs.Prelude.{◌≡◌};
 ghost use Rattle.s360_runs.specs.Endings.{csw_at};
 ghost use Rattle.s360_runs.specs.Status.{beside, with_interruption};
-ghost use Rattle.s360_program.specs.Places.{place_of};
+ghost use Rattle.s360_program.specs.Place.{place_of};
 ghost use Rattle.s360_program.specs.Steps.{status_of, condition_for, chains_after};
 
-use crate::places::Place;
+use crate::place::Place;
 use bitflags::Flags;
 use s360_words::{Ccw, ChannelStatus, Csw, UnitStatus};
 

@@ -5,11 +5,11 @@ ghost use Rattle.ckd_command.specs.Drive.{is_written, unsaved};
 ghost use Rattle.s360_runs.specs.Endings.{ending as ending_with};
 ghost use Rattle.ckd_drive.specs.Work.{passed_of, fault_met, CallsStore, Reports};
 ghost use Rattle.s360_program.specs.Advances.{IsEnding};
-ghost use Rattle.s360_program.specs.Places.{place_of};
+ghost use Rattle.s360_program.specs.Place.{place_of};
 ghost use Rattle.s360_program.specs.Steps.{status_of, closed_with, told_of};
 
 use crate::conditions::{Condition, csw_at, with_interruption};
-use crate::stages::{Ended, Run};
+use crate::run::{Ended, Run};
 use ckd_command::DriveEnding;
 use ckd_drive::Drive;
 use ckd_image::ImageStore;

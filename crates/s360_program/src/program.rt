@@ -12,8 +12,8 @@ ghost use Rattle.s360_program.specs.Stands.{Stands, phase_in};
 ghost use Rattle.s360_program.specs.Starting.{IsFirst, StartsQuietly};
 
 use crate::conditions::csw_at;
-use crate::places::{Fetched, Place};
-use crate::stages::Run;
+use crate::place::{Fetched, Place};
+use crate::run::Run;
 use crate::starting::{First, first_command};
 use ckd_command::DriveEnding;
 use ckd_drive::Drive;
@@ -32,7 +32,7 @@ impl Model for Running {
 
     ghost Value = { RunningState };
 
-    ghost use Rattle.s360_program.specs.Places.{place_of};
+    ghost use Rattle.s360_program.specs.Place.{place_of};
     ghost use Rattle.s360_program.specs.Stage.{stage_of};
 
     ghost view = { λ r. record { key = r.run.key; place = place_of r.run.place; stage = stage_of r.run } };

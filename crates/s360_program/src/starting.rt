@@ -5,8 +5,8 @@ ghost use Rattle.ckd_command.specs.Drive.{is_written, unsaved};
 ghost use Rattle.ckd_drive.specs.Work.{is_idle, may_end, immediate_ending, Over as IsOver};
 ghost use Rattle.s360_program.specs.Starting.{FirstBegun, ImmediateDone, StartsQuietly};
 
-use crate::places::Place;
-use crate::stages::{Comes, NOT_ENDED, Run};
+use crate::place::Place;
+use crate::run::{Comes, NOT_ENDED, Run};
 use ckd_command::DriveEnding;
 use ckd_drive::{Begun, Drive};
 use ckd_image::ImageStore;

@@ -16,9 +16,9 @@ ghost use Rattle.s360_program.specs.Steps.{run_of, Fits, IsQuiet, ComesBy, EndsB
 use crate::conditions::{Condition, chains};
 use crate::endings::{FAILED, UNTOUCHED, end_program, told};
 use crate::moving::{flow_of, pass};
-use crate::places::Fetched;
+use crate::place::Fetched;
 use crate::program::Advance;
-use crate::stages::{Comes, Run, Step};
+use crate::run::{Comes, Run, Step};
 use ckd_drive::{Begun, Drive, Look, Phase};
 use ckd_image::ImageStore;
 use s360_words::{Ccw, Csw, Storage};

@@ -9,8 +9,8 @@
 
 mod events;
 mod machine;
-mod outcome;
 mod row;
+mod row_result;
 
 use anyhow::Result;
 use std::io;
@@ -24,7 +24,7 @@ fn main(rt: HostRuntime) -> Result<()> {
             volume = block;
             continue;
         }
-        let played = outcome::play(rt.alloc(), volume, block)?;
+        let played = row_result::play(rt.alloc(), volume, block)?;
         println!(rt; "{}: {played}", name_of(block))?;
     }
     Ok(())

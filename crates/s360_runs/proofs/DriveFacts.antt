@@ -12,10 +12,8 @@ use Rattle.ckd_command.specs.declared.registers.Registers.{Registers}
 use Rattle.ckd_command.specs.declared.tables.Aim.{Aim}
 use Rattle.ckd_command.specs.declared.tables.Aim.TheVariants.{NoArea, Next, Credited}
 use Rattle.ckd_command.specs.declared.begin.Opened.{Opened}
-use Rattle.ckd_command.specs.Beginnings.{Beginning}
-use Rattle.ckd_command.specs.Beginnings as beginning
-use Rattle.ckd_command.specs.Sights.{Sight}
-use Rattle.ckd_command.specs.Sights as sight
+use Rattle.ckd_command.specs.Answers.{Beginning, Sight}
+use Rattle.ckd_command.specs.Answers as answer
 use Rattle.ckd_command.specs.Tables.{aim}
 use Rattle.ckd_command.specs.Commands.{Closing, beginning, sight}
 use Rattle.ckd_command.specs.Drive.{IdleDrive, State, is_written, is_written_by, drive_of, number_under, slot_under, track_under, Fault, LoadFails, SaveFails, left_by, lost, saving, moving_off, moved, with_registers, with_store_fault, Open, state_of, AfterBegin, Rejected, Immediate, Started, begin, begun, at_cylinder_zero, AfterLook, Ready, Passed, Failed, look, looked, look_for, with_written, Closed, failed, close, closed, closed_by, closed_moving, settled, with_unit_check, unsaved_by}
@@ -205,10 +203,10 @@ pub load_fails : (o : Open) → Fails LoadFails (drive_of o.state) o.state.regis
 load_fails o = record { equipment_check = store_fault_is_told o.state.registers; slots = refl; arm = record { cylinder = refl; head = refl } }
 
 looked_loads : (o : Open) (s : Sight) → looked (Some LoadFails) o s ≡ looked None o s
-looked_loads o (sight.Found opened) = refl
-looked_loads o (sight.IndexPassed r) = refl
-looked_loads o (sight.NextHead r) = let y = Passed (record o { state = moved o.state r }) in loads_no o.state Failed y ∙ sym (goes o.state Failed y)
-looked_loads o (sight.Missed r) = refl
+looked_loads o (answer.Found opened) = refl
+looked_loads o (answer.IndexPassed r) = refl
+looked_loads o (answer.NextHead r) = let y = Passed (record o { state = moved o.state r }) in loads_no o.state Failed y ∙ sym (goes o.state Failed y)
+looked_loads o (answer.Missed r) = refl
 
 -- one that does not look for any makes none
 pub look_loads_not : (o : Open) → looks_for_area o ≡ false → look (Some LoadFails) o ≡ look None o
@@ -226,10 +224,10 @@ LooksOr left o leaves x y =
     × ((leaves && is_written o.state) ≡ false → x ≡ y)
 
 looked_saves : (left : List ℕ) (o : Open) (s : Sight) → LooksOr left o (goes_to_next_head s) (looked (Some (SaveFails left)) o s) (looked None o s)
-looked_saves left o (sight.Found opened) = (λ h. no h, λ h. refl)
-looked_saves left o (sight.IndexPassed r) = (λ h. no h, λ h. refl)
-looked_saves left o (sight.Missed r) = (λ h. no h, λ h. refl)
-looked_saves left o (sight.NextHead r) =
+looked_saves left o (answer.Found opened) = (λ h. no h, λ h. refl)
+looked_saves left o (answer.IndexPassed r) = (λ h. no h, λ h. refl)
+looked_saves left o (answer.Missed r) = (λ h. no h, λ h. refl)
+looked_saves left o (answer.NextHead r) =
     let y = Passed (record o { state = moved o.state r }) in
     let h = saving_or left o.state Failed y in
     (λ w. (lost o.state left, h.0 w, lost_fails o.state left), λ w. h.1 w ∙ sym (goes o.state Failed y))
@@ -248,10 +246,10 @@ pub begin_loads : (code : ℕ) (s : State) → begin (Some LoadFails) code s ≡
 begin_loads code s = go (beginning code s.registers)
   where
     go : (b : Beginning) → begun (Some LoadFails) s b ≡ begun None s b
-    go (beginning.Rejected r) = refl
-    go (beginning.Immediate r) = refl
-    go (beginning.Started r o) = refl
-    go (beginning.ToCylinderZero r o) = loads_no (with_registers s r) Rejected (at_cylinder_zero s r o) ∙ sym (goes (with_registers s r) Rejected (at_cylinder_zero s r o))
+    go (answer.Rejected r) = refl
+    go (answer.Immediate r) = refl
+    go (answer.Started r o) = refl
+    go (answer.ToCylinderZero r o) = loads_no (with_registers s r) Rejected (at_cylinder_zero s r o) ∙ sym (goes (with_registers s r) Rejected (at_cylinder_zero s r o))
 
 -- a save fails before the arm goes to cylinder 0
 abbrev BeginsOr : List ℕ → State → (leaves : Bool) → (with_fault without : AfterBegin) → Type 0
@@ -262,7 +260,7 @@ BeginsOr left s leaves x y =
 pub begin_saves : (left : List ℕ) (code : ℕ) (s : State) → BeginsOr left s (leaves_as_it_begins (beginning code s.registers)) (begin (Some (SaveFails left)) code s) (begin None code s)
 begin_saves left code s = go (beginning code s.registers) (beginning_at code s.registers)
   where
-    to_zero : (r : Registers) (o : Option Opened) → AtSameTrack s.registers r → BeginsOr left s true (begun (Some (SaveFails left)) s (beginning.ToCylinderZero r o)) (begun None s (beginning.ToCylinderZero r o))
+    to_zero : (r : Registers) (o : Option Opened) → AtSameTrack s.registers r → BeginsOr left s true (begun (Some (SaveFails left)) s (answer.ToCylinderZero r o)) (begun None s (answer.ToCylinderZero r o))
     to_zero r o k =
         let t = with_registers s r in
         let y = at_cylinder_zero s r o in
@@ -270,11 +268,11 @@ begin_saves left code s = go (beginning code s.registers) (beginning_at code s.r
         (λ w. (lost t left, h.0 w, fails_from (SaveFails left) (drive_of t) (drive_of s) r s.registers (lost t left) refl k (lost_fails t left)), λ w. h.1 w ∙ sym (goes t Rejected y))
 
     go : (b : Beginning) → BeginsAt s.registers b → BeginsOr left s (leaves_as_it_begins b) (begun (Some (SaveFails left)) s b) (begun None s b)
-    go (beginning.Rejected r) k = (λ h. no h, λ h. refl)
-    go (beginning.Immediate r) k = (λ h. no h, λ h. refl)
-    go (beginning.Started r o) k = (λ h. no h, λ h. refl)
-    go (beginning.ToCylinderZero r None) k = to_zero r None k
-    go (beginning.ToCylinderZero r (Some o)) k = to_zero r (Some o) k.0
+    go (answer.Rejected r) k = (λ h. no h, λ h. refl)
+    go (answer.Immediate r) k = (λ h. no h, λ h. refl)
+    go (answer.Started r o) k = (λ h. no h, λ h. refl)
+    go (answer.ToCylinderZero r None) k = to_zero r None k
+    go (answer.ToCylinderZero r (Some o)) k = to_zero r (Some o) k.0
 
 -- where a command begins the arm stays, but where it moves
 abbrev pub BegunStays : Registers → AfterBegin → Type 0
@@ -290,10 +288,10 @@ begin_stays code s = go (beginning code s.registers) (beginning_at code s.regist
     at_zero r (Some o) = tt
 
     go : (b : Beginning) → BeginsAt s.registers b → BegunStays s.registers (begun None s b)
-    go (beginning.Rejected r) k = k
-    go (beginning.Immediate r) k = λ w. (refl, k)
-    go (beginning.Started r o) k = tt
-    go (beginning.ToCylinderZero r o) k = subst (BegunStays s.registers) (sym (goes (with_registers s r) Rejected (at_cylinder_zero s r o))) (at_zero r o)
+    go (answer.Rejected r) k = k
+    go (answer.Immediate r) k = λ w. (refl, k)
+    go (answer.Started r o) k = tt
+    go (answer.ToCylinderZero r o) k = subst (BegunStays s.registers) (sym (goes (with_registers s r) Rejected (at_cylinder_zero s r o))) (at_zero r o)
 
 -- and so where it looks
 abbrev pub LookStays : Registers → AfterLook → Type 0
@@ -305,10 +303,10 @@ pub look_stays : (o : Open) → LookStays o.state.registers (look None o)
 look_stays o = go (aim o.opened.command) _ (sight_at o.state.volume.geometry (track_under o.state) o.opened o.state.registers)
   where
     at : (s : Sight) → SightAt o.state.registers o.opened s → LookStays o.state.registers (looked None o s)
-    at (sight.Found opened) k = record { cylinder = refl; head = refl }
-    at (sight.IndexPassed r) k = tt
-    at (sight.NextHead r) k = subst (LookStays o.state.registers) (sym (goes o.state Failed (Passed (record o { state = moved o.state r })))) tt
-    at (sight.Missed r) k = k
+    at (answer.Found opened) k = record { cylinder = refl; head = refl }
+    at (answer.IndexPassed r) k = tt
+    at (answer.NextHead r) k = subst (LookStays o.state.registers) (sym (goes o.state Failed (Passed (record o { state = moved o.state r })))) tt
+    at (answer.Missed r) k = k
 
     go : (a : Aim) (s : Sight) → SightAt o.state.registers o.opened s → LookStays o.state.registers (look_for None o a s)
     go (Next kind) s k = at s k
@@ -325,10 +323,10 @@ pub look_ready : (o : Open) → LookReady o (look None o)
 look_ready o = go (aim o.opened.command) (sight o.state.volume.geometry (track_under o.state) o.opened o.state.registers) refl
   where
     at : (s : Sight) → sight o.state.volume.geometry (track_under o.state) o.opened o.state.registers ≡ s → LookReady o (looked None o s)
-    at (sight.Found opened) k = (ap goes_to_next_head k, refl)
-    at (sight.IndexPassed r) k = tt
-    at (sight.NextHead r) k = subst (LookReady o) (sym (goes o.state Failed (Passed (record o { state = moved o.state r })))) tt
-    at (sight.Missed r) k = tt
+    at (answer.Found opened) k = (ap goes_to_next_head k, refl)
+    at (answer.IndexPassed r) k = tt
+    at (answer.NextHead r) k = subst (LookReady o) (sym (goes o.state Failed (Passed (record o { state = moved o.state r })))) tt
+    at (answer.Missed r) k = tt
 
     go : (a : Aim) (s : Sight) → sight o.state.volume.geometry (track_under o.state) o.opened o.state.registers ≡ s → LookReady o (look_for None o a s)
     go (Next kind) s k = at s k
@@ -338,10 +336,10 @@ look_ready o = go (aim o.opened.command) (sight o.state.volume.geometry (track_u
 -- Beginning and looking change no slot.
 
 begun_keeps : (s : State) (b : Beginning) → BegunKeeps (drive_of s) (begun None s b)
-begun_keeps s (beginning.Rejected r) = refl
-begun_keeps s (beginning.Immediate r) = refl
-begun_keeps s (beginning.Started r o) = refl
-begun_keeps s (beginning.ToCylinderZero r o) = subst (BegunKeeps (drive_of s)) (sym (goes (with_registers s r) Rejected (at_cylinder_zero s r o))) (go o)
+begun_keeps s (answer.Rejected r) = refl
+begun_keeps s (answer.Immediate r) = refl
+begun_keeps s (answer.Started r o) = refl
+begun_keeps s (answer.ToCylinderZero r o) = subst (BegunKeeps (drive_of s)) (sym (goes (with_registers s r) Rejected (at_cylinder_zero s r o))) (go o)
   where
     go : (o : Option Opened) → BegunKeeps (drive_of s) (at_cylinder_zero s r o)
     go None = refl
@@ -351,10 +349,10 @@ pub begin_keeps : (code : ℕ) (s : State) → BegunKeeps (drive_of s) (begin No
 begin_keeps code s = begun_keeps s (beginning code s.registers)
 
 looked_keeps : (o : Open) (s : Sight) → LookKeeps (drive_of o.state) (looked None o s)
-looked_keeps o (sight.Found opened) = refl
-looked_keeps o (sight.IndexPassed r) = refl
-looked_keeps o (sight.NextHead r) = subst (LookKeeps (drive_of o.state)) (sym (goes o.state Failed (Passed (record o { state = moved o.state r })))) refl
-looked_keeps o (sight.Missed r) = refl
+looked_keeps o (answer.Found opened) = refl
+looked_keeps o (answer.IndexPassed r) = refl
+looked_keeps o (answer.NextHead r) = subst (LookKeeps (drive_of o.state)) (sym (goes o.state Failed (Passed (record o { state = moved o.state r })))) refl
+looked_keeps o (answer.Missed r) = refl
 
 pub look_keeps : (o : Open) → LookKeeps (drive_of (state_of o)) (look None o)
 look_keeps o = go (aim o.opened.command) _

@@ -8,10 +8,8 @@ use Rattle.ckd_command.specs.Drive.{AfterBegin, AfterLook, Failed, Fault, Immedi
 use Rattle.ckd_command.specs.Tables.{aim}
 use Rattle.ckd_command.specs.declared.tables.Aim.{Aim}
 use Rattle.ckd_command.specs.declared.tables.Aim.TheVariants.{NoArea, Next as NextArea, Credited}
-use Rattle.ckd_command.specs.Beginnings.{Beginning}
-use Rattle.ckd_command.specs.Beginnings as beginning
-use Rattle.ckd_command.specs.Sights.{Sight}
-use Rattle.ckd_command.specs.Sights as sight
+use Rattle.ckd_command.specs.Answers.{Beginning, Sight}
+use Rattle.ckd_command.specs.Answers as answer
 use Rattle.ckd_sense.specs.declared.sense_bytes.Sense.{Sense}
 use Rattle.ckd_sense.specs.declared.sense_bytes.TheConstants.Sense.{ZERO, STORE_FAULT}
 use Rattle.ckd_sense.specs.SenseBytes.{joined}
@@ -53,11 +51,11 @@ begin_fresh : (code : ℕ) (s : State) → BegunFresh (begin None code s)
 begin_fresh code s = go (beginning code s.registers) (beginning_at code s.registers)
   where
     go : (b : Beginning) → BeginsAt s.registers b → BegunFresh (begun None s b)
-    go (beginning.Rejected r) h = tt
-    go (beginning.Immediate r) h = tt
-    go (beginning.Started r o) h = h.1
-    go (beginning.ToCylinderZero r None) h = tt
-    go (beginning.ToCylinderZero r (Some o)) h = h.1
+    go (answer.Rejected r) h = tt
+    go (answer.Immediate r) h = tt
+    go (answer.Started r o) h = h.1
+    go (answer.ToCylinderZero r None) h = tt
+    go (answer.ToCylinderZero r (Some o)) h = h.1
 
 abbrev LookFresh : AfterLook → Type 0
 LookFresh (Passed o) = NoSenseFor (aim o.opened.command) o.state.registers.sense
@@ -67,10 +65,10 @@ look_fresh : (o : Open) → NoSenseFor (aim o.opened.command) o.state.registers.
 look_fresh o n = go (aim o.opened.command) _ (sight_at o.state.volume.geometry (track_under o.state) o.opened o.state.registers)
   where
     at : (s : Sight) → SightAt o.state.registers o.opened s → LookFresh (looked None o s)
-    at (sight.Found opened) h = tt
-    at (sight.IndexPassed r) h = subst (NoSenseFor (aim o.opened.command)) (sym h.1) n
-    at (sight.NextHead r) h = subst (NoSenseFor (aim o.opened.command)) (sym h) n
-    at (sight.Missed r) h = tt
+    at (answer.Found opened) h = tt
+    at (answer.IndexPassed r) h = subst (NoSenseFor (aim o.opened.command)) (sym h.1) n
+    at (answer.NextHead r) h = subst (NoSenseFor (aim o.opened.command)) (sym h) n
+    at (answer.Missed r) h = tt
 
     go : (a : Aim) (s : Sight) → SightAt o.state.registers o.opened s → LookFresh (look_for None o a s)
     go (NextArea kind) s h = at s h

@@ -8,10 +8,8 @@ use Rattle.ckd_command.specs.declared.registers.Registers.{Registers}
 use Rattle.ckd_command.specs.declared.tables.Aim.{Aim}
 use Rattle.ckd_command.specs.declared.tables.Aim.TheVariants.{NoArea, Next as NextArea, Credited}
 use Rattle.ckd_command.specs.declared.begin.Opened.{Opened}
-use Rattle.ckd_command.specs.Beginnings.{Beginning}
-use Rattle.ckd_command.specs.Beginnings as beginning
-use Rattle.ckd_command.specs.Sights.{Sight}
-use Rattle.ckd_command.specs.Sights as sight
+use Rattle.ckd_command.specs.Answers.{Beginning, Sight}
+use Rattle.ckd_command.specs.Answers as answer
 use Rattle.ckd_command.specs.Commands.{Closing, beginning, sight, closing}
 use Rattle.ckd_command.specs.Tables.{aim}
 use Rattle.ckd_command.specs.Drive.{State, Fault, is_written, track_under, Open, state_of, AfterBegin, Rejected, Immediate, Started, begin, begun, at_cylinder_zero, AfterLook, Ready, Passed, Failed, look, look_for, looked, moved, with_registers, Closed, close, closed, closed_moving, with_written, failed as close_failed}
@@ -90,10 +88,10 @@ look_marked : (o : Open) → LookMarked (cond (leaves_looking o) false (is_writt
 look_marked o = go (aim o.opened.command) (sight o.state.volume.geometry (track_under o.state) o.opened o.state.registers)
   where
     at : (s : Sight) → LookMarked (cond (goes_to_next_head s) false (is_written o.state)) (looked None o s)
-    at (sight.Found opened) = refl
-    at (sight.IndexPassed r) = refl
-    at (sight.NextHead r) = subst (LookMarked false) (sym (goes o.state Failed (Passed (record o { state = moved o.state r })))) refl
-    at (sight.Missed r) = tt
+    at (answer.Found opened) = refl
+    at (answer.IndexPassed r) = refl
+    at (answer.NextHead r) = subst (LookMarked false) (sym (goes o.state Failed (Passed (record o { state = moved o.state r })))) refl
+    at (answer.Missed r) = tt
 
     go : (a : Aim) (s : Sight) → LookMarked (cond (goes_to_next_head s) false (is_written o.state)) (look_for None o a s)
     go (NextArea kind) s = at s
@@ -119,10 +117,10 @@ begin_marked code s = go (beginning code s.registers)
     at_zero r (Some o) = refl
 
     go : (b : Beginning) → BegunMarked (cond (leaves_as_it_begins b) false (is_written s)) (begun None s b)
-    go (beginning.Rejected r) = tt
-    go (beginning.Immediate r) = refl
-    go (beginning.Started r o) = refl
-    go (beginning.ToCylinderZero r o) = subst (BegunMarked false) (sym (goes (with_registers s r) Rejected (at_cylinder_zero s r o))) (at_zero r o)
+    go (answer.Rejected r) = tt
+    go (answer.Immediate r) = refl
+    go (answer.Started r o) = refl
+    go (answer.ToCylinderZero r o) = subst (BegunMarked false) (sym (goes (with_registers s r) Rejected (at_cylinder_zero s r o))) (at_zero r o)
 
 fetched_marked : (key : ℕ) (p : Point) (w : Fetched) → Marked (cond (leaves_fetched p w) false (is_written p.state)) (next_fetched None key p w)
 fetched_marked key p NoCcw = tt

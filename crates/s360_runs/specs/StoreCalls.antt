@@ -7,8 +7,7 @@ use Rattle.ckd_command.specs.Drive.{Closed, Fault, LoadFails, SaveFails, Open, i
 use Rattle.ckd_command.specs.Tables.{aim}
 use Rattle.ckd_command.specs.declared.tables.Aim.{Aim}
 use Rattle.ckd_command.specs.declared.tables.Aim.TheVariants.{Next as NextArea}
-use Rattle.ckd_command.specs.Beginnings.{Beginning, ToCylinderZero}
-use Rattle.ckd_command.specs.Sights.{Sight, NextHead}
+use Rattle.ckd_command.specs.Answers.{Beginning, ToCylinderZero, Sight, NextHead}
 use Rattle.s360_runs.specs.Commands.{Point, goes_on_chaining, length_status, requested}
 use Rattle.s360_runs.specs.Endings.{closed_by_cut, immediate}
 use Rattle.s360_runs.specs.Places.{fetch, Fetched, NoCcw, TransferTo, GoodCcw}

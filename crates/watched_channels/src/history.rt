@@ -70,7 +70,7 @@ pub(crate) fn changes_nothing(answer: &Answer) -> bool
 
 // Where a list is, among the steps of a program.
 #[derive(Clone, Copy, PartialEq, Eq)]
-enum Place {
+enum ListPlace {
     BeforeSteps,
     BehindSteps,
     BehindArrival,
@@ -81,7 +81,7 @@ enum Place {
 pub(crate) fn is_serial(events: &[Event], answers: &[Answer]) -> bool
     ensures { IsTrue result → length events.now ≡ length answers.now }
 {
-    let mut place = Place::BeforeSteps;
+    let mut place = ListPlace::BeforeSteps;
     let mut units: u16 = 65_535;
     for (event, answer) in events.iter().zip(answers) {
         if changes_nothing(answer) || !is_next(place, units, event, answer) {
@@ -97,20 +97,20 @@ pub(crate) fn is_serial(events: &[Event], answers: &[Answer]) -> bool
 }
 
 // Whether an event may stand at a place, behind a step of so many units.
-fn is_next(place: Place, units: u16, event: &Event, answer: &Answer) -> bool {
+fn is_next(place: ListPlace, units: u16, event: &Event, answer: &Answer) -> bool {
     match (event, answer) {
         (Event::Step(asked), Answer::Step(done)) => {
-            place != Place::BehindArrival && units == 65_535 && *asked == *done
+            place != ListPlace::BehindArrival && units == 65_535 && *asked == *done
         }
         _ => true,
     }
 }
 
-fn place_behind(place: Place, event: &Event) -> Place {
+fn place_behind(place: ListPlace, event: &Event) -> ListPlace {
     match event {
-        Event::Sio(_) | Event::Hio(_) | Event::Reset => Place::BeforeSteps,
-        Event::Step(_) => Place::BehindSteps,
-        Event::Arrive(_) if place == Place::BehindSteps => Place::BehindArrival,
+        Event::Sio(_) | Event::Hio(_) | Event::Reset => ListPlace::BeforeSteps,
+        Event::Step(_) => ListPlace::BehindSteps,
+        Event::Arrive(_) if place == ListPlace::BehindSteps => ListPlace::BehindArrival,
         _ => place,
     }
 }

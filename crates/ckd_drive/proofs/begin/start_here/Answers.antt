@@ -1,8 +1,7 @@
 use Rattle.std.proofs.Common.{◌≡◌, ◌∙◌, sym, refl, Some, None}
-use Rattle.ckd_command.specs.Beginnings.{ToCylinderZero}
+use Rattle.ckd_command.specs.Answers.{ToCylinderZero, moved_to}
 use Rattle.ckd_command.specs.Commands.{beginning}
-use Rattle.ckd_command.specs.Steps.{moved_to}
-use Rattle.ckd_drive.specs.Stages.{Leaves, Loses}
+use Rattle.ckd_drive.specs.Calls.{Leaves, Loses}
 use Rattle.ckd_drive.proofs.Standing.{on_ok, on_err}
 use Rattle.ckd_drive.proofs.Starts.{lost_begins, zero_begins, zero_ends}
 use Rattle.ckd_drive.proofs.begin.start_here.Goals as goal

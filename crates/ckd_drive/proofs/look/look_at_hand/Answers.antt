@@ -1,13 +1,12 @@
 use Rattle.std.proofs.Common.{◌≡◌, ◌∙◌, ◌+◌, sym, refl, ℕ, Some}
 use Rattle.ckd_track.specs.Track.{track_of}
 use Rattle.ckd_command.specs.declared.begin.Opened.{Opened}
-use Rattle.ckd_command.specs.Sights.{Found, IndexPassed, NextHead, Missed}
+use Rattle.ckd_command.specs.Answers.{Found, IndexPassed, NextHead, Missed, moved_to, seen_as}
 use Rattle.ckd_command.specs.Tables.{action_of}
 use Rattle.ckd_command.specs.Commands.{sight}
-use Rattle.ckd_command.specs.Steps.{moved_to, seen_as}
-use Rattle.ckd_drive.specs.Half.{track_under, slot_at, ReadsWhole}
-use Rattle.ckd_drive.specs.Held.{place_seen, stage_seen}
-use Rattle.ckd_drive.specs.Stages.{Leaves, Loses}
+use Rattle.ckd_drive.specs.Invariant.{track_under, slot_at, ReadsWhole}
+use Rattle.ckd_drive.specs.Fields.{place_seen, stage_seen}
+use Rattle.ckd_drive.specs.Calls.{Leaves, Loses}
 use Rattle.ckd_drive.proofs.Sights.{look_again, found_whole}
 use Rattle.ckd_drive.proofs.Standing.{on_ok, on_err}
 use Rattle.ckd_drive.proofs.Looks.{slot_is, first_at}

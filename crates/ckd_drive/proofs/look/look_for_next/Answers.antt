@@ -1,7 +1,7 @@
 use Rattle.std.proofs.Common.{◌≡◌, ◌∙◌, sym, ℕ, false}
 use Rattle.ckd_cache.specs.Cache.{holds, after_hold, after_failed_hold}
-use Rattle.ckd_drive.specs.Half.{track_under}
-use Rattle.ckd_drive.specs.Held.{stage_seen}
+use Rattle.ckd_drive.specs.Invariant.{track_under}
+use Rattle.ckd_drive.specs.Fields.{stage_seen}
 use Rattle.ckd_drive.proofs.Standing.{on_ok, on_err}
 use Rattle.ckd_drive.proofs.FirstLooks.{held_looks, unloaded_looks}
 use Rattle.ckd_drive.proofs.look.look_for_next.Goals as goal

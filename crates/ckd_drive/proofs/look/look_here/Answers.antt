@@ -1,8 +1,8 @@
 use Rattle.std.proofs.Common.{◌≡◌, ◌∙◌, sym, Some, ℕ}
 use Rattle.ckd_command.specs.declared.tables.Aim.TheVariants.{NoArea, Credited}
 use Rattle.ckd_command.specs.Tables.{aim}
-use Rattle.ckd_drive.specs.Half.{track_under, slot_at}
-use Rattle.ckd_drive.specs.Held.{place_seen, stage_seen}
+use Rattle.ckd_drive.specs.Invariant.{track_under, slot_at}
+use Rattle.ckd_drive.specs.Fields.{place_seen, stage_seen}
 use Rattle.ckd_drive.proofs.Looks.{slot_is, first_at, credit_hand, plain_sight, credited_sight}
 use Rattle.ckd_drive.proofs.FirstLooks.{found_looks}
 use Rattle.ckd_drive.proofs.look.look_here.Goals as goal

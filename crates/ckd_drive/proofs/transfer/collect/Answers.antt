@@ -1,6 +1,6 @@
 use Rattle.std.proofs.Common.{◌≡◌, ◌∙◌, sym, refl, ℕ, rules}
-use Rattle.ckd_drive.specs.Half.{track_under, slot_at}
-use Rattle.ckd_drive.specs.Held.{progress_seen}
+use Rattle.ckd_drive.specs.Invariant.{track_under, slot_at}
+use Rattle.ckd_drive.specs.Fields.{progress_seen}
 use Rattle.ckd_drive.proofs.Looks.{slot_is}
 use Rattle.ckd_drive.proofs.News.{field_stays, home_absorbs, home_held}
 use Rattle.ckd_drive.proofs.Formats.{format_goes, format_stays, format_absorbs}

@@ -6,8 +6,8 @@ use Rattle.ckd_position.specs.Contents.{with_record_changed, replaced}
 use Rattle.ckd_slot.specs.Buffer.{FitsSlot}
 use Rattle.ckd_cache.specs.Cache.{CacheState, slot_held, with_held}
 use Rattle.ckd_command.specs.Commands.{command_end, area_ends}
-use Rattle.ckd_drive.specs.Half.{track_under, slot_at}
-use Rattle.ckd_drive.specs.Held.{progress_seen}
+use Rattle.ckd_drive.specs.Invariant.{track_under, slot_at}
+use Rattle.ckd_drive.specs.Fields.{progress_seen}
 use Rattle.ckd_drive.proofs.Fills.{there}
 use Rattle.ckd_drive.proofs.Looks.{slot_is}
 use Rattle.ckd_drive.proofs.Replaces.{no_area, fill_goes, fill_absorbs, held_slot, held_now, held_twice, cleared_slot, some_of}

@@ -1,7 +1,7 @@
 use Rattle.std.proofs.Common.{◌≡◌, refl, ℕ}
 use Rattle.ckd_cache.specs.Cache.{slot_held}
-use Rattle.ckd_drive.specs.Half.{track_under, slot_at}
-use Rattle.ckd_drive.specs.Held.{closes_by, progress_seen}
+use Rattle.ckd_drive.specs.Invariant.{track_under, slot_at}
+use Rattle.ckd_drive.specs.Fields.{closes_by, progress_seen}
 use Rattle.ckd_drive.proofs.Looks.{slot_is}
 use Rattle.ckd_drive.proofs.Fills.{filled_absorbs}
 use Rattle.ckd_drive.proofs.transfer.fill_on.Goals as goal

@@ -1,7 +1,7 @@
 use Rattle.std.proofs.Common.{◌≡◌, ◌∙◌, subst, ℕ}
 use Rattle.ckd_drive.specs.Transfers.{Transfer}
-use Rattle.ckd_drive.specs.Half.{track_under, IsPlaced, slot_at}
-use Rattle.ckd_drive.specs.Held.{progress_seen}
+use Rattle.ckd_drive.specs.Invariant.{track_under, IsPlaced, slot_at}
+use Rattle.ckd_drive.specs.Fields.{progress_seen}
 use Rattle.ckd_drive.proofs.Looks.{slot_is}
 use Rattle.ckd_drive.proofs.Takes.{search_absorbs}
 use Rattle.ckd_drive.proofs.transfer.search.Goals as goal

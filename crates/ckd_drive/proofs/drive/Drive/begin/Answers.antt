@@ -1,6 +1,6 @@
 use Rattle.std.proofs.Common.{◌∙◌, refl}
 use Rattle.ckd_command.specs.Commands.{beginning}
-use Rattle.ckd_drive.specs.Held.{stage_seen}
+use Rattle.ckd_drive.specs.Fields.{stage_seen}
 use Rattle.ckd_drive.proofs.Reported.{begin_reports}
 use Rattle.ckd_drive.proofs.Standing.{well_begun}
 use Rattle.ckd_drive.proofs.Starts.{has_begun}

@@ -1,9 +1,9 @@
 use Rattle.std.proofs.Common.{◌≡◌, ◌∙◌, ap, sym, refl}
 use Rattle.ckd_command.specs.declared.close.Closed.TheVariants.{Stays, Moves}
 use Rattle.ckd_command.specs.Drive.{Closed}
-use Rattle.ckd_command.specs.Steps.{moved_to, closed_as}
-use Rattle.ckd_drive.specs.Held.{progress_seen, stage_seen}
-use Rattle.ckd_drive.specs.Stages.{Leaves, Loses}
+use Rattle.ckd_command.specs.Answers.{moved_to, closed_as}
+use Rattle.ckd_drive.specs.Fields.{progress_seen, stage_seen}
+use Rattle.ckd_drive.specs.Calls.{Leaves, Loses}
 use Rattle.ckd_drive.specs.Work.{ending_of}
 use Rattle.ckd_drive.proofs.Standing.{on_ok, on_err, at_passing}
 use Rattle.ckd_drive.proofs.Ends.{stays_state, stays_stands, moves_state, moves_stands, lost_state, stays_calls, moves_calls, lost_calls}

@@ -1,5 +1,5 @@
 use Rattle.std.proofs.Common.{◌∙◌, refl}
-use Rattle.ckd_drive.specs.Held.{stage_seen}
+use Rattle.ckd_drive.specs.Fields.{stage_seen}
 use Rattle.ckd_drive.proofs.FirstLooks.{has_looked}
 use Rattle.ckd_drive.proofs.Reported.{look_reports}
 use Rattle.ckd_drive.proofs.drive.Drive.look.Goals as goal

@@ -1,7 +1,7 @@
 use Rattle.std.proofs.Common.{◌≡◌, ◌∙◌, refl, false}
 use Rattle.ckd_command.specs.Commands.{area_ends, command_end}
-use Rattle.ckd_drive.specs.Half.{track_under, slot_at}
-use Rattle.ckd_drive.specs.Held.{progress_seen, stage_seen}
+use Rattle.ckd_drive.specs.Invariant.{track_under, slot_at}
+use Rattle.ckd_drive.specs.Fields.{progress_seen, stage_seen}
 use Rattle.ckd_drive.proofs.Looks.{slot_is}
 use Rattle.ckd_drive.proofs.Moving.{sense_lends, read_window, read_lends}
 use Rattle.ckd_drive.proofs.drive.Drive.next_bytes.Goals as goal

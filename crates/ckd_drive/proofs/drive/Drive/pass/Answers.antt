@@ -1,5 +1,5 @@
 use Rattle.std.proofs.Common.{refl}
-use Rattle.ckd_drive.specs.Held.{progress_seen, stage_seen}
+use Rattle.ckd_drive.specs.Fields.{progress_seen, stage_seen}
 use Rattle.ckd_drive.proofs.Moving.{has_passed}
 use Rattle.ckd_drive.proofs.drive.Drive.pass.Goals as goal
 

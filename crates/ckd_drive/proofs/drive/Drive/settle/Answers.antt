@@ -1,7 +1,7 @@
 use Rattle.std.proofs.Common.{◌∙◌, ap, sym, refl, [], ℕ, List, slice_index_or, unwrap_or}
 use Rattle.ckd_cache.specs.Cache.{CacheState}
 use Rattle.ckd_command.specs.Drive.{is_written}
-use Rattle.ckd_drive.specs.Held.{stage_seen}
+use Rattle.ckd_drive.specs.Fields.{stage_seen}
 use Rattle.ckd_drive.specs.Work.{DriveState}
 use Rattle.ckd_drive.proofs.Calls.{changed_is, calls_of_save, calls_of_failed_save}
 use Rattle.ckd_drive.proofs.Reported.{settle_reports}

@@ -1,0 +1,65 @@
+-- The stage that a command comes to within one call, and the track that it may leave there.
+use Rattle.std.specs.Prelude.{◌≡◌, ℕ, ◌+◌, List, [], Bool, true, false, ◌&&◌, Option, None, unwrap_or, length, slice_index_or}
+use Rattle.ckd_sense.specs.declared.sense_bytes.TheConstants.Sense.{STORE_FAULT}
+use Rattle.ckd_command.specs.declared.registers.Registers.{Registers}
+use Rattle.ckd_command.specs.declared.registers.Mark.{Mark}
+use Rattle.ckd_command.specs.declared.registers.Mark.TheVariants.{Saved, Lost}
+use Rattle.ckd_command.specs.declared.begin.Opened.{Opened}
+use Rattle.ckd_command.specs.Answers.{Beginning}
+use Rattle.ckd_drive.specs.Stage.{Stage, Idle, Over, Looking, Passing}
+use Rattle.ckd_drive.specs.declared.answers.Begun.{Begun}
+use Rattle.ckd_drive.specs.declared.answers.Begun.TheVariants as begun
+use Rattle.ckd_drive.specs.declared.answers.Look.{Look}
+use Rattle.ckd_drive.specs.declared.answers.Look.TheVariants as looked
+use Rattle.ckd_command.specs.Commands.{with_cause}
+use Rattle.ckd_command.specs.Drive.{Fault, is_written, is_written_by}
+use Rattle.ckd_command.specs.Drive as drive
+use Rattle.ckd_cache.specs.Cache.{CacheState, after_save, after_failed_save}
+use Rattle.ckd_drive.specs.Work.{DriveState, CallsStore, fault_met, with_image, after_begun, after_look, goes_to_cylinder_zero, look_loads, look_saves}
+use Rattle.ckd_drive.specs.Invariant.{Stands, state_of}
+
+-- what a begin answers, by the stage that it came to
+abbrev pub begun_at : Stage → Begun
+begun_at Idle = begun.Rejected
+begun_at (Over e) = begun.Immediate
+begun_at s = begun.Started
+
+-- what a look answers, by the stage that it came to
+abbrev pub looked_at : Stage → Look
+looked_at (Passing p) = looked.Ready p.left
+looked_at (Looking o) = looked.Passed
+looked_at s = looked.Failed
+
+-- the track was left: it is saved, if it was written
+pub record Leaves (c c' : CacheState) (r' : Registers) (m' : Mark) (next : Registers) : Type 0 where
+  pub cache : c' ≡ after_save c
+  pub registers : r' ≡ next
+  pub mark : m' ≡ Saved
+
+-- its saving failed: it is lost, and the arm stays
+pub record Loses (c c' : CacheState) (r r' : Registers) (m' : Mark) : Type 0 where
+  pub changed : c.changed ≡ true
+  pub left : List ℕ
+  pub size : length left ≡ c.image.geometry.track_size
+  pub there : left ≡ slice_index_or c'.image.slots (unwrap_or c.held 0) []
+  pub cache : c' ≡ after_failed_save c left
+  pub registers : r' ≡ with_cause (record r { credit = None }) STORE_FAULT
+  pub mark : m' ≡ Lost
+
+-- A part of a call came to this: it stands, it is as the definitions have it by the fault that was met, the store was
+-- called so, and no track that was written made way for another.
+pub record Comes (loads saves : Bool) (old : DriveState) (after : Option Fault → DriveState) (c : CacheState) (r : Registers) (m : Mark) (s : Stage) (before passed : List ℕ) : Type 0 where
+  pub stands : Stands c r m s before passed
+  pub state : state_of c r m s before passed ≡ with_image (after (fault_met old (state_of c r m s before passed))) c.image
+  pub calls : CallsStore loads saves old (state_of c r m s before passed)
+  pub at_hand : c.image.loads ≡ old.image.loads + 1 → is_written old.state ≡ false
+
+-- an idle drive begins a command that its code leads to so
+abbrev pub Begins : (c c' : CacheState) → (r r' : Registers) → (m m' : Mark) → Beginning → Stage → Type 0
+Begins c c' r r' m m' b s = (before passed : List ℕ)
+    → Comes false (is_written_by m && goes_to_cylinder_zero b) (state_of c r m Idle [] []) (λ f. after_begun (drive.begun f (state_of c r m Idle [] []).state b) (state_of c r m Idle [] [])) c' r' m' s before passed
+
+-- a command that looks for its area looks
+abbrev pub Looks : (c c' : CacheState) → (r r' : Registers) → (m m' : Mark) → Opened → Stage → Type 0
+Looks c c' r r' m m' o s = (before : List ℕ)
+    → Comes (look_loads (state_of c r m (Looking o) [] [])) (look_saves (state_of c r m (Looking o) [] [])) (state_of c r m (Looking o) [] []) (λ f. after_look f (state_of c r m (Looking o) [] [])) c' r' m' s before []

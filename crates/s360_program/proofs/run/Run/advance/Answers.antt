@@ -1,0 +1,52 @@
+use Rattle.std.proofs.Common.{◌≡◌, ◌∙◌, ◌+◌, ◌-◌, ◌≤◌, ℕ, sym, subst, arith}
+use Rattle.s360_runs.specs.Scripts.{units}
+use Rattle.s360_runs.specs.Units.{walk, StandsIn}
+use Rattle.s360_program.specs.Advances.{CameToEnd}
+use Rattle.s360_program.specs.Stands.{phase_in}
+use Rattle.s360_program.specs.Steps.{run_of, told_of}
+use Rattle.s360_program.proofs.Advancing.{more_units, last_unit}
+use Rattle.s360_program.proofs.Quiet.{still_quiet}
+use Rattle.s360_program.proofs.run.Run.advance.Goals as goal
+
+-- so many are done where so many less are left
+fewer_left : (all left n : ℕ) → left ≤ all → n ≤ left → (all - left) + n ≡ all - (left - n)
+fewer_left all left n h k = omega arith
+
+pub loop-left-preserved : goal.loop-left-preserved
+loop-left-preserved g c =
+    let i = c.loop-left.invariant in
+    let l = c.loop-left in
+    let a = c.args in
+    let n = c.in-Units.n in
+    let e = c.in-Units.ensures in
+    let w = e.steps in
+    let d = a.units - l.left in
+    let fewer = fewer_left a.units l.left n i.within w.few in
+    record {
+      within = omega (arith, w.few, i.within);
+      failures = w.failures ∙ i.failures;
+      key = w.same_key ∙ i.key;
+      fits = w.fits;
+      no_check = λ q. w.no_check (i.no_check q);
+      storage = record { size = e.storage.size ∙ i.storage.size; keys = e.storage.keys ∙ i.storage.keys };
+      calls = record { calls = omega (arith, w.some, w.few, i.within, e.calls.calls, i.calls.calls); header = e.calls.header ∙ i.calls.header; geometry = e.calls.geometry ∙ i.calls.geometry };
+      walked = subst (λ done. walk (units done) a.self.now.key (phase_in (run_of a.self.now) a.storage.now a.drive.now) ≡ StandsIn (phase_in (run_of c.step.new.self) c.step.new.storage c.step.new.drive)) fewer
+          (more_units a.self.now.key l.self.key (phase_in (run_of a.self.now) a.storage.now a.drive.now) (phase_in (run_of l.self) l.storage l.drive) (phase_in (run_of c.step.new.self) c.step.new.storage c.step.new.drive) d n i.key i.walked w.goes);
+      quiet = still_quiet a.self.now.key (phase_in (run_of a.self.now) a.storage.now a.drive.now) d (a.units - (l.left - n)) (run_of l.self) l.storage a.drive.now l.drive c.step.new.drive (omega (arith, w.some, w.few, i.within)) i.fits.stands i.walked i.quiet e.quiet;
+    }
+
+pub returns-in-Over-clause-advances : goal.returns-in-Over-clause-advances
+returns-in-Over-clause-advances g c =
+    let i = c.loop-left.invariant in
+    let l = c.loop-left in
+    let a = c.args in
+    subst (λ t. CameToEnd a.self.now.key (phase_in (run_of a.self.now) a.storage.now a.drive.now) a.units ((a.units - l.left) + 1) t c.step.new.storage a.drive.now c.step.new.drive) (sym c.told.ensures)
+    (last_unit a.self.now.key l.self.key (phase_in (run_of a.self.now) a.storage.now a.drive.now) (phase_in (run_of l.self) l.storage l.drive) (a.units - l.left) a.units (told_of c.step.new.self) c.step.new.storage a.drive.now l.drive c.step.new.drive
+    i.key i.walked i.failures (omega (arith, i.within)) c.in-Over.ensures.steps)
+
+pub returns-in-Over-clause-quiet : goal.returns-in-Over-clause-quiet
+returns-in-Over-clause-quiet g c =
+    let i = c.loop-left.invariant in
+    let l = c.loop-left in
+    let a = c.args in
+    still_quiet a.self.now.key (phase_in (run_of a.self.now) a.storage.now a.drive.now) (a.units - l.left) ((a.units - l.left) + 1) (run_of l.self) l.storage a.drive.now l.drive c.step.new.drive (omega arith) i.fits.stands i.walked i.quiet c.in-Over.ensures.quiet

@@ -1,0 +1,35 @@
+use Rattle.s360_program.proofs.Looking.{look_fails, look_passes, look_fits, look_finds}
+use Rattle.s360_program.proofs.Quiet.{finds_quiet}
+use Rattle.s360_program.proofs.run.Run.look.Goals as goal
+
+pub returns-in-Failed-clause-steps : goal.returns-in-Failed-clause-steps
+returns-in-Failed-clause-steps g c =
+    let a = c.args in
+    let l = c.in-Failed.ensures in
+    let p = c.end_program in
+    look_fails a.self.now a.storage.now a.drive.now c.look.new.self c.requires.fits c.requires.stage l.state _ _ p.new.drive l.answer l.calls l.reported p.ensures.calls p.ensures.reported p.ensures.ending
+
+pub returns-in-Passed-clause-steps : goal.returns-in-Passed-clause-steps
+returns-in-Passed-clause-steps g c =
+    let a = c.args in
+    let l = c.in-Passed.ensures in
+    look_passes a.self.now a.storage.now a.drive.now c.look.new.self c.requires.fits c.requires.stage l.state a.most c.requires.some l.answer l.reported
+
+pub transfer-requires-clause-fits : goal.transfer-requires-clause-fits
+transfer-requires-clause-fits g c =
+    let a = c.args in
+    let l = c.in-Ready.ensures in
+    look_fits a.self.now a.storage.now a.drive.now c.look.new.self c.requires.fits c.requires.stage l.state _ l.answer l.reported
+
+pub returns-in-Ready-clause-steps : goal.returns-in-Ready-clause-steps
+returns-in-Ready-clause-steps g c =
+    let a = c.args in
+    let l = c.in-Ready.ensures in
+    let t = c.transfer in
+    look_finds a.self.now a.storage.now a.drive.now c.look.new.self c.requires.fits c.requires.stage l.state _ l.answer l.reported a.most t.new.self t.new.storage t.result t.new.drive t.ensures.loads t.ensures.steps
+
+pub returns-in-Ready-clause-quiet : goal.returns-in-Ready-clause-quiet
+returns-in-Ready-clause-quiet g c =
+    let a = c.args in
+    let l = c.in-Ready.ensures in
+    finds_quiet a.self.now _ a.drive.now c.look.new.self c.transfer.new.drive c.requires.fits c.requires.stage l.state l.answer l.calls c.transfer.ensures.quiet

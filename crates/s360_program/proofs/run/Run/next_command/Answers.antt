@@ -1,0 +1,32 @@
+use Rattle.s360_program.specs.Place.{place_of}
+use Rattle.s360_program.proofs.Begins.{misses, rejects, immediately}
+use Rattle.s360_program.proofs.Quiet.{immediately_quiet}
+use Rattle.s360_program.proofs.run.Run.next_command.Goals as goal
+
+pub returns-in-NoCcw-clause-comes : goal.returns-in-NoCcw-clause-comes
+returns-in-NoCcw-clause-comes g c =
+    let a = c.args in
+    let p = c.end_program in
+    misses a.self.now.key (place_of a.self.now.place) (place_of c.miss.new.self) a.storage.now _ _ a.drive.now p.new.drive c.in-NoCcw.ensures.fetched c.requires.fits.stands.saved
+    p.ensures.calls p.ensures.reported c.miss.ensures p.ensures.ending
+
+pub returns-in-Rejected-clause-comes : goal.returns-in-Rejected-clause-comes
+returns-in-Rejected-clause-comes g c =
+    let a = c.args in
+    let b = c.in-Rejected.ensures in
+    let p = c.end_program-in-Rejected in
+    rejects a.self.now.key (place_of a.self.now.place) a.storage.now c.in-GoodCcw.ccw a.drive.now c.begin.new.self c.in-GoodCcw.ensures.fetched c.requires.fits.stands.saved b.state
+    _ _ p.new.drive b.answer b.calls b.reported p.ensures.calls p.ensures.reported (place_of c.pass.new.self) c.pass.ensures p.ensures.ending
+
+pub returns-in-Immediate-clause-comes : goal.returns-in-Immediate-clause-comes
+returns-in-Immediate-clause-comes g c =
+    let a = c.args in
+    let b = c.in-Immediate.ensures in
+    let e = c.conclude in
+    immediately a.self.now.key (place_of a.self.now.place) a.storage.now c.in-GoodCcw.ccw a.drive.now c.begin.new.self c.in-GoodCcw.ensures.fetched c.requires.fits.stands.saved b.state
+    e.new.self e.result e.new.drive b.answer b.reported e.ensures.loads e.ensures.unwritten (place_of c.pass.new.self) c.pass.ensures e.ensures.comes
+
+pub returns-in-Immediate-clause-quiet : goal.returns-in-Immediate-clause-quiet
+returns-in-Immediate-clause-quiet g c =
+    let b = c.in-Immediate.ensures in
+    immediately_quiet _ c.in-GoodCcw.ccw.code c.args.drive.now c.begin.new.self c.conclude.new.drive c.requires.fits.stands.saved c.requires.idle b.state b.calls c.conclude.ensures.unwritten

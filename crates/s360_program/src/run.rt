@@ -1,0 +1,75 @@
+//! What a running program keeps, and what units of it come to.
+
+ghost use Rattle.std.specs.Prelude.{◌≡◌};
+
+use crate::place::Place;
+use s360_words::{Ccw, ChannelStatus, UnitStatus};
+
+/// What comes next.
+#[derive(Clone, Copy, Debug, PartialEq, Eq)]
+pub enum Comes {
+    /// The fetch of a word that begins a command.
+    NextCommand,
+    /// A look for the area of the command of the last word.
+    Look,
+    /// Bytes under the last word.
+    Bytes,
+}
+
+/// What a running program keeps. It is flat, since it is changed in place with each unit.
+#[derive(Clone, Copy, Debug, PartialEq, Eq)]
+pub struct Run {
+    /// The protection key of its stores.
+    pub key: u8,
+    /// What comes next.
+    pub comes: Comes,
+    /// Where the channel is in it.
+    pub place: Place,
+    /// The last good word, where a command is open.
+    pub ccw: Ccw,
+    /// The address from or to which bytes pass.
+    pub address: u32,
+    /// What its end told, once it is over.
+    pub ended: Ended,
+}
+
+/// What a program's end tells beside where the channel is in it.
+#[derive(Clone, Copy, Debug, PartialEq, Eq)]
+pub struct Ended {
+    /// The unit status.
+    pub unit: UnitStatus,
+    /// The channel status.
+    pub channel: ChannelStatus,
+    /// Whether the arm still moves.
+    pub motion: bool,
+}
+
+/// What units came to.
+#[derive(Clone, Copy, Debug, PartialEq, Eq)]
+pub enum Step {
+    /// So many were done, and the program goes on.
+    Units(u16),
+    /// One was done, and the program is over.
+    Over,
+}
+
+/// No end has been told.
+pub const NOT_ENDED: Ended = Ended {
+    unit: UnitStatus(0),
+    channel: ChannelStatus(0),
+    motion: false,
+};
+
+impl Run {
+    /// Keeps the word of the command that works.
+    // Part by part, which is leaner than the whole: the parts were just read from storage.
+    #[inline(always)]
+    pub fn keep(&mut self, ccw: Ccw)
+        ensures { self.new ≡ record self.old { ccw = ccw } }
+    {
+        self.ccw.code = ccw.code;
+        self.ccw.address = ccw.address;
+        self.ccw.flags = ccw.flags;
+        self.ccw.count = ccw.count;
+    }
+}
