@@ -1,10 +1,10 @@
 -- What may be called at a drive, by what a look has answered.
-use Rattle.std.proofs.Common.{◌≡◌, ◌∙◌, ap, sym, refl, ◌⊎◌, inl, inr, ℕ, [], true, false, Option}
+use Rattle.std.proofs.Common.{◌≡◌, ◌∙◌, ap, sym, subst, refl, ◌⊎◌, inl, inr, ℕ, List, [], true, false, Option}
 use Rattle.ckd_image.specs.Image.{ImageState}
 use Rattle.ckd_command.specs.Drive.{Fault, AfterLook, Ready, Passed, Failed, look}
 use Rattle.ckd_drive.specs.declared.answers.Look.{Look}
 use Rattle.ckd_drive.specs.declared.answers.Look.TheVariants as looked
-use Rattle.ckd_drive.specs.Work.{DriveState, Work, Idle, Over, Looking, Passing, is_idle, is_working, may_end, passed_of, open_at, after_sight, after_look_of, after_look, answer_of_look, with_image}
+use Rattle.ckd_drive.specs.Work.{DriveState, Work, Idle, Over, Looking, Passing, is_idle, is_working, may_end, takes_now, left_of, moved_on, passed_of, open_at, after_sight, after_look_of, after_look, answer_of_look, with_image}
 
 sight_opens : (l : AfterLook) (d : DriveState) → is_idle (after_sight l d).work ≡ false
 sight_opens (Ready o) d = refl
@@ -39,3 +39,33 @@ found f old new i r e is h a =
 -- one whose index passed goes on to look
 pub goes_on : (new : DriveState) (r : Look) → r ≡ looked.Passed → r ≡ answer_of_look new.work → (is_working new.work ≡ true) × (passed_of new.work ≡ [])
 goes_on new r h a = works_by new.work (sym h ∙ a)
+
+-- A command that takes bytes takes more of them, as many as it looks for.
+
+pub takes_on : (w : Work) (more : List ℕ) → takes_now w ≡ true → (takes_now (moved_on more w) ≡ true) × (is_working (moved_on more w) ≡ true) × (may_end (moved_on more w) ≡ true)
+takes_on Idle more e = absurd cc
+takes_on (Over k) more e = absurd cc
+takes_on (Looking o) more e = absurd cc
+takes_on (Passing o b left) more e = (e, refl, refl)
+
+looks_on : (f : Option Fault) (d : DriveState) (w : Work) → takes_now w ≡ true → (takes_now (after_look_of f d w).work ≡ true) × (may_end (after_look_of f d w).work ≡ true)
+looks_on f d Idle e = absurd cc
+looks_on f d (Over k) e = absurd cc
+looks_on f d (Looking o) e = absurd cc
+looks_on f d (Passing o b left) e = (e, refl)
+
+pub takes_again : (f : Option Fault) (old new : DriveState) (i : ImageState) → takes_now old.work ≡ true → new ≡ with_image (after_look f old) i → (takes_now new.work ≡ true) × (may_end new.work ≡ true)
+takes_again f old new i e is =
+    let P : DriveState → Type 0 = λ d. (takes_now d.work ≡ true) × (may_end d.work ≡ true) in
+    subst P (sym is) (looks_on f old old.work e)
+
+pub left_by : (w : Work) (r : Look) (n : ℕ) → r ≡ answer_of_look w → r ≡ looked.Ready n → left_of w ≡ n
+left_by Idle r n a e = (let x : looked.Failed ≡ looked.Ready n = sym a ∙ e in absurd cc)
+left_by (Over k) r n a e = (let x : looked.Failed ≡ looked.Ready n = sym a ∙ e in absurd cc)
+left_by (Looking o) r n a e = (let x : looked.Passed ≡ looked.Ready n = sym a ∙ e in absurd cc)
+left_by (Passing o b left) r n a e = ap ready_left (sym a ∙ e)
+  where
+    ready_left : Look → ℕ
+    ready_left (looked.Ready k) = k
+    ready_left looked.Passed = 0
+    ready_left looked.Failed = 0

@@ -68,12 +68,20 @@ pub(crate) fn take(drive: &mut Drive<MemoryStore>, bytes: &[u8]) -> usize
     n
 }
 
-/// The drive looks how many bytes more it takes, where it takes any.
-pub(crate) fn look_again(drive: &mut Drive<MemoryStore>)
+/// Has the drive take a count area, look how many bytes more it takes, and take so many of these; answers how many it took.
+pub(crate) fn take_record(drive: &mut Drive<MemoryStore>, count: &[u8; 8], body: &[u8]) -> usize
     requires { may_end drive.old.work ≡ true }
     ensures { may_end drive.new.work ≡ true }
 {
-    if let Phase::Takes { .. } = drive.phase() {
-        drive.look();
-    }
+    let Phase::Takes { left, .. } = drive.phase() else {
+        return 0;
+    };
+    let first = left.min(count.len());
+    drive.take(&count[..first]);
+    let Look::Ready(left) = drive.look() else {
+        return first;
+    };
+    let second = left.min(body.len());
+    drive.take(&body[..second]);
+    first + second
 }

@@ -4,7 +4,7 @@ ghost use Rattle.std.specs.Prelude.{◌≡◌, true, length};
 ghost use Rattle.ckd_drive.specs.Work.{is_idle};
 ghost use Rattle.s360_program.specs.Advances.{Rests};
 
-use crate::commands::{find, give, give_up, look_again, take};
+use crate::commands::{find, give, give_up, take, take_record};
 use crate::tally::Tally;
 use ckd_drive::Drive;
 use ckd_image::{Image, MemoryStore, image_len};
@@ -98,9 +98,7 @@ impl Disk {
             self.tally.add(UnitStatus::UNIT_CHECK, 0);
             return;
         }
-        let moved = take(&mut self.drive, &count);
-        look_again(&mut self.drive);
-        let moved = moved.saturating_add(take(&mut self.drive, body));
+        let moved = take_record(&mut self.drive, &count, body);
         let ending = self.drive.end();
         self.tally.add(ending.unit, moved);
     }

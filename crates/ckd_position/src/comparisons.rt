@@ -37,7 +37,20 @@ impl Compare {
 pub fn compared(so_far: Ordering, area: &[u8], comparand: &[u8]) -> Ordering
     ensures { result ≡ ordering_then so_far (slice_cmp nat_cmp area.now comparand.now) }
 {
-    so_far.then(area.cmp(comparand))
+    so_far.then(order_of(area, comparand))
+}
+
+// The order of an area's bytes to those given.
+// The five of an identifier by themselves: how many they are is then known as the crate is compiled.
+#[inline(always)]
+fn order_of(area: &[u8], comparand: &[u8]) -> Ordering
+    ensures { result ≡ slice_cmp nat_cmp area.now comparand.now }
+{
+    let identifiers = (<&[u8; 5]>::try_from(area), <&[u8; 5]>::try_from(comparand));
+    if let (Ok(identifier), Ok(other)) = identifiers {
+        return identifier.cmp(other);
+    }
+    area.cmp(comparand)
 }
 
 /// Whether the bytes of an area are as the search asks, beside as many bytes as it is given: unsigned bytes, from the
