@@ -1,13 +1,14 @@
 //! Calls of a channel that a deck has no words for: any address of 16 bits, any place in storage, and what the channel shows.
 
 use crate::stage::Disks;
+use crate::words::unit_address;
 use anyhow::{Result, bail};
 use s360_channel::{SubchannelView, View};
 use s360_deck::AnswerLine;
 use s360_events::Answer;
 use std::alloc::Global;
 use std::fmt;
-use test_rows::{address, byte, bytes, unit_address, words_of};
+use test_rows::{address, byte, bytes, words_of};
 
 /// Makes the call that these words ask for, and tells its answer in a line.
 pub(crate) fn call(alloc: Global, channel: &mut Disks, line: &str) -> Result<String> {

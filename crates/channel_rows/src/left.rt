@@ -2,11 +2,12 @@
 
 use crate::stage::Disks;
 use crate::volume::Volumes;
+use crate::words::unit_address;
 use anyhow::{Result, bail};
 use ckd_image::Image;
 use s360_words::Storage;
 use std::alloc::Global;
-use test_rows::{Calls, RowFiles, RowStore, address, byte, bytes, unit_address, words_of};
+use test_rows::{Calls, Recorder, RowFiles, RowStore, address, byte, bytes, words_of};
 
 /// What came out of a channel.
 #[derive(Drop)]
@@ -230,8 +231,11 @@ fn drive_of(alloc: Global, device: u8, image: Image<RowStore>) -> Result<LeftDri
 }
 
 fn file_of(alloc: Global, store: RowStore) -> Result<LeftFile> {
-    let (reads, writes) = (store.reads(), store.writes());
-    let store = store.into_inner();
+    let Recorder {
+        store,
+        reads,
+        writes,
+    } = store;
     let calls = store.calls();
     let bytes = Vec::from_slice(alloc, store.into_inner().bytes())?;
     Ok(LeftFile {

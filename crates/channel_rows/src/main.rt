@@ -46,6 +46,7 @@ mod lists;
 mod row;
 mod stage;
 mod volume;
+mod words;
 
 use crate::row::Player;
 use crate::volume::Volumes;

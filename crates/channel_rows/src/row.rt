@@ -1,14 +1,14 @@
 //! A row is played.
 
 use crate::calls::call;
-use crate::ends::{DeckReader, LineWriter};
+use crate::ends::LineWriter;
 use crate::left::Left;
 use crate::stage::{DriveFailure, Stage};
 use crate::volume::Volumes;
 use anyhow::{Result, bail};
 use s360_deck::{DeckFault, RunFault, run};
 use std::alloc::Global;
-use test_rows::{bytes, number};
+use test_rows::{DeckReader, bytes, number};
 
 /// What a row does, and what is there between its lines.
 #[derive(Drop)]

@@ -1,13 +1,14 @@
 //! A channel and its drives, as the lines of a row make them.
 
 use crate::volume::Volumes;
+use crate::words::unit_address;
 use anyhow::{Context, Result, bail};
 use ckd_image::Image;
 use s360_channel::{AttachFault, Channel};
 use s360_events::Condition;
 use s360_words::Storage;
 use std::alloc::Global;
-use test_rows::{Failure, Files, RowStore, address, byte, bytes, unit_address, words_of};
+use test_rows::{Failure, Files, RowStore, address, byte, bytes, words_of};
 
 pub(crate) type Disks = Channel<RowStore>;
 

@@ -8,9 +8,7 @@ use anyhow::{Context, Result, bail};
 use ckd_drive::Phase;
 use std::alloc::Global;
 use std::fmt;
-use test_rows::{
-    Calls, Failure, Files, RowStore, failure_of, files_left, files_of, number, words_of,
-};
+use test_rows::{Calls, Failure, Files, RowStore, failure_of, files_of, number, words_of};
 
 /// What comes of a row.
 #[derive(Clone, Copy, Debug, PartialEq, Eq)]
@@ -58,8 +56,8 @@ fn was_called(alloc: Global, line: &str, stores: &Files<RowStore>) -> Result<boo
 // Whether a store was read or written so.
 fn was_called_so(kind: &str, store: &RowStore, calls: Calls) -> Result<bool> {
     match kind {
-        "reads" => Ok(store.reads() == calls),
-        "writes" => Ok(store.writes() == calls),
+        "reads" => Ok(store.reads == calls),
+        "writes" => Ok(store.writes == calls),
         _ => bail!("no such calls"),
     }
 }
@@ -82,7 +80,8 @@ fn leaves(alloc: Global, volume: &str, row: &str, stores: Files<RowStore>) -> Re
     if !row.contains("\nleft ") {
         return Ok(true);
     }
-    Ok(files_left(alloc, volume, row)?.are_in(stores))
+    let left = files_of(alloc, volume, row, &["track ", "left "])?;
+    Ok(left.are_in(stores))
 }
 
 // Plays a row, its bytes in pieces of a size.
@@ -95,7 +94,8 @@ fn play_in_pieces(
 ) -> Result<RowResult>
     requires { 1 ≤ piece }
 {
-    let mut drive = new_drive(alloc, files_of(alloc, volume, row)?, failure)?;
+    let files = files_of(alloc, volume, row, &["track "])?;
+    let mut drive = new_drive(alloc, files, failure)?;
     let played = play_calls(alloc, &mut drive, row, piece)?;
     if !played.all {
         return Ok(RowResult::Otherwise(played.calls, piece));
@@ -123,14 +123,15 @@ enum Report {
 // How often the store of the file at this place was called; a file that is not there is never.
 fn calls_in(stores: &Files<RowStore>, file: usize) -> u64 {
     match stores.as_slice().get(file) {
-        Some(Some(store)) => store.inner().calls(),
+        Some(Some(store)) => store.store.calls(),
         _ => 0,
     }
 }
 
 // Plays a row of which a store's call fails.
 fn report_of(alloc: Global, volume: &str, row: &str, failure: Failure) -> Result<Report> {
-    let mut drive = new_drive(alloc, files_of(alloc, volume, row)?, failure)?;
+    let files = files_of(alloc, volume, row, &["track "])?;
+    let mut drive = new_drive(alloc, files, failure)?;
     let played = play_calls(alloc, &mut drive, row, 100)?;
     let is_over = matches!(drive.phase(), Phase::Idle | Phase::Over);
     let settles = calls::settle(&mut drive) == Some(true);

@@ -22,6 +22,7 @@
 
 mod charges;
 mod reads;
+mod spelling;
 mod tables;
 mod writes;
 

@@ -2,10 +2,10 @@
 
 ghost use Rattle.std.specs.Prelude.{◌<◌, length};
 
+use crate::spelling::spelled;
 use anyhow::Result;
 use ckd_track::{TrackView, read_slot};
 use std::alloc::Global;
-use test_rows::spelled;
 
 /// The home address of a slot, and the parts of its records; or why it can not be read.
 pub(crate) fn parts(alloc: Global, slot: &[u8]) -> Result<String> {

@@ -1,10 +1,11 @@
 //! Slots behind writes.
 
 use crate::record_before;
+use crate::spelling::spelled;
 use anyhow::{Context, Result, bail};
 use ckd_track::{DriveModel, fits, put_data, put_key_data, put_record, read_slot, write_ha};
 use std::alloc::Global;
-use test_rows::{bytes, model_of, number, spelled};
+use test_rows::{bytes, model_of, number};
 
 /// The slot behind the write that these words ask for, or that it is not written.
 pub(crate) fn written(alloc: Global, slot: &[u8], words: &[&str]) -> Result<String> {

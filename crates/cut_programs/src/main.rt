@@ -7,10 +7,10 @@
 
 mod programs;
 
-use crate::programs::{Cut, cut_at_each_unit};
+use crate::programs::{Cut, cut_at_each_unit, sum_of};
 use anyhow::Result;
 use std::io;
-use watched_channels::{Tally, worked_disks};
+use watched_channels::{Tally, test_disks};
 
 fn main(rt: HostRuntime) -> Result<()> {
     let text = io::read_to_string(rt.alloc(), rt.reader())?;
@@ -24,7 +24,7 @@ fn main(rt: HostRuntime) -> Result<()> {
 // Cuts the program of each deck behind each of its units.
 fn cut_programs(rt: &HostRuntime, text: &str, cut: Cut) -> Result<Tally> {
     let alloc = rt.alloc();
-    let disks = worked_disks(alloc)?;
+    let disks = test_disks(alloc, 2)?;
     let mut all = Tally::NONE;
     for deck in text.split("\n\n") {
         let tally = cut_at_each_unit(alloc, disks.as_slice(), deck, cut)?;
@@ -32,7 +32,7 @@ fn cut_programs(rt: &HostRuntime, text: &str, cut: Cut) -> Result<Tally> {
             println!(rt; "{deck}")?;
             println!(rt; "{cut}: {tally}")?;
         }
-        all = all.with(tally);
+        all = sum_of(all, tally);
     }
     Ok(all)
 }

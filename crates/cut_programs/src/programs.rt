@@ -1,5 +1,7 @@
 //! Programs that are halted, or reset, behind each of their units.
 
+ghost use Rattle.std.specs.Prelude.{◌≡◌, ◌+◌, ◌-◌, ◌^◌, min};
+
 use anyhow::{Result, bail};
 use s360_deck::{Answer, Event, drive, parse};
 use std::alloc::Global;
@@ -98,4 +100,15 @@ fn cut_behind(alloc: Global, before: &[Event], units: u16, cut: Cut) -> Result<V
         Cut::Reset => events.push(Event::Reset)?,
     }
     Ok(events)
+}
+
+/// Of two tallies, what was tried for both, and what came out right.
+pub(crate) fn sum_of(one: Tally, other: Tally) -> Tally
+    ensures tried { result.tried ≡ min (one.tried + other.tried) (2 ^ 32 - 1) }
+    ensures right { result.right ≡ min (one.right + other.right) (2 ^ 32 - 1) }
+{
+    Tally {
+        tried: one.tried.saturating_add(other.tried),
+        right: one.right.saturating_add(other.right),
+    }
 }

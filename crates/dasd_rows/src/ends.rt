@@ -1,28 +1,9 @@
-//! Readers and writers that fail, and a line that is kept.
+//! Writers that fail, and a line that is kept.
 
 use anyhow::Result;
 use dasd_jobs::{Progress, Stage};
 use std::alloc::Global;
-use std::io::{Error, ErrorKind, Read, Write};
-
-/// A deck, and whether the read behind it fails.
-#[derive(Debug, Drop)]
-pub(crate) struct DeckReader<'a> {
-    pub rest: &'a [u8],
-    pub fails: bool,
-}
-
-impl Read for DeckReader<'_> {
-    fn read(&mut self, into: &mut [u8]) -> std::io::Result<usize> {
-        if self.rest.is_empty() && self.fails {
-            return Err(Error::from(ErrorKind::Other));
-        }
-        let count = self.rest.len().min(into.len());
-        into[..count].copy_from_slice(&self.rest[..count]);
-        self.rest = &self.rest[count..];
-        Ok(count)
-    }
-}
+use std::io::{Error, ErrorKind, Write};
 
 /// What was printed; and how many bytes may be, where a write behind them fails.
 #[derive(Debug, Drop)]

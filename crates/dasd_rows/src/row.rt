@@ -1,12 +1,12 @@
 //! A row is played.
 
-use crate::ends::{DeckReader, LineWriter, ShownLines};
+use crate::ends::{LineWriter, ShownLines};
 use crate::failing::over_failing;
 use crate::files::MemoryFiles;
 use anyhow::{Context, Result, bail};
 use dasd_run::{Ending, ProgramFault, obey};
 use std::alloc::Global;
-use test_rows::{bytes, number};
+use test_rows::{DeckReader, bytes, number};
 
 /// What comes of a row.
 #[derive(Debug, Drop)]

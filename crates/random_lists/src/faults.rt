@@ -10,7 +10,7 @@ use std::fmt;
 use watched_channels::{Content, Disk, Failure, Left, TestChannel, Watch, channel_over, finish};
 
 /// The length of an image's header, behind which the slots stand.
-const HEADER_LENGTH: usize = 512;
+pub(crate) const HEADER_LENGTH: usize = 512;
 
 /// The most units of a step that are done one by one, and at all.
 const MOST_UNITS: u16 = 300;

@@ -19,7 +19,7 @@ use crate::watching::{Breach, watch_list};
 use anyhow::Result;
 use s360_deck::Event;
 use std::alloc::Global;
-use watched_channels::{Comparison, Disk, Failure, Tally, compare_lists, many_disks};
+use watched_channels::{Comparison, Disk, Failure, Tally, compare_lists, test_disks};
 
 /// How many lists by chance are tried over stores that do not fail.
 const LISTS: u32 = 3_000;
@@ -41,7 +41,7 @@ fn play_random_lists(rt: &HostRuntime) -> Result<()> {
     for number in 0..LISTS {
         let mut chance = Chance::new(u64::from(number));
         let drives = chance.below(4).saturating_add(1);
-        let disks = many_disks(alloc, drives)?;
+        let disks = test_disks(alloc, drives)?;
         let list = random_list(alloc, &mut chance, drives)?;
         let comparison = compare_lists(alloc, disks.as_slice(), list.as_slice())?;
         serial = serial.and(comparison == Comparison::Same);
@@ -109,7 +109,7 @@ impl FailingLists {
         let alloc = rt.alloc();
         let mut chance = Chance::new(u64::from(number).saturating_add(1_000_000));
         let drives = chance.below(4).saturating_add(1);
-        let disks = many_disks(alloc, drives)?;
+        let disks = test_disks(alloc, drives)?;
         let list = random_list(alloc, &mut chance, drives)?;
         let failure = random_failure(&mut chance, list.as_slice());
         let ending = fail_list(alloc, disks.as_slice(), list.as_slice(), failure)?;

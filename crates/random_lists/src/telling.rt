@@ -1,6 +1,12 @@
 //! How a call of a store that fails is told.
 
+ghost use Rattle.std.specs.Prelude.{◌≡◌, ◌+◌, ◌/◌, ◌%◌};
+ghost use Rattle.ckd_track.specs.Model.{heads_of};
+ghost use Rattle.random_lists.specs.Places.{track_number};
+
+use crate::faults::HEADER_LENGTH;
 use crate::lists::FREE;
+use ckd_track::Geometry;
 use s360_channel::{SubchannelView, View};
 use s360_deck::Answer;
 use watched_channels::{Disk, TestChannel};
@@ -29,7 +35,25 @@ fn names(disks: &[Disk], unsaved: Option<(u16, u16, u16)>, lost: Option<u64>) ->
     };
     disks
         .iter()
-        .any(|disk| disk.track_at(at) == (address, cylinder, head))
+        .any(|disk| track_at(disk, at) == (address, cylinder, head))
+}
+
+// The input/output address of a disk, and the cylinder and head of the track whose slot begins at this place of its image.
+fn track_at(disk: &Disk, at: u64) -> (u16, u16, u16)
+    ensures address { result.0 ≡ 256 + disk.now.device }
+    ensures cylinder { result.1 ≡ track_number disk.now.model at / heads_of disk.now.model }
+    ensures head { result.2 ≡ track_number disk.now.model at % heads_of disk.now.model }
+{
+    let size = u64::from(Geometry::new(disk.model, 1).track_size);
+    let track = at
+        .saturating_sub(HEADER_LENGTH as u64)
+        .checked_div(size)
+        .unwrap_or(0);
+    let track = track.min(65_535) as u16;
+    let heads = disk.model.heads();
+    let cylinder = track.checked_div(heads).unwrap_or(0);
+    let head = track.checked_rem(heads).unwrap_or(0);
+    (u16::from(disk.device).saturating_add(0x100), cylinder, head)
 }
 
 /// Whether a program is over with unit check and without incorrect length.

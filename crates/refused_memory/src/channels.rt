@@ -10,9 +10,7 @@ use s360_channel::{AttachFault, Channel, View};
 use s360_deck::{Answer, AnswerLine, DeckFault, RunFault, drive, parse, run};
 use s360_words::Storage;
 use std::alloc::Global;
-use watched_channels::{
-    Disk, Failure, Left, TestChannel, Watch, channel_over, finish, worked_disks,
-};
+use watched_channels::{Disk, Failure, Left, TestChannel, Watch, channel_over, finish, test_disks};
 
 /// Attaches a drive to a channel that has none.
 pub(crate) fn make_attach(rt: &HostRuntime) -> Result<Came> {
@@ -98,7 +96,7 @@ fn lines(alloc: Global, answers: &[Answer]) -> Result<String> {
 /// Drives a channel through a deck's events.
 pub(crate) fn make_driven(rt: &HostRuntime) -> Result<Came> {
     let alloc = rt.alloc();
-    let disks = worked_disks(alloc)?;
+    let disks = test_disks(alloc, 2)?;
     let events = parse(alloc, DECK)?;
     let wanted = Ran::of(alloc, disks.as_slice())?;
     let watch = Watch::new();
@@ -122,7 +120,7 @@ pub(crate) fn make_driven(rt: &HostRuntime) -> Result<Came> {
 /// Runs a deck.
 pub(crate) fn make_run(rt: &HostRuntime) -> Result<Came> {
     let alloc = rt.alloc();
-    let disks = worked_disks(alloc)?;
+    let disks = test_disks(alloc, 2)?;
     let wanted = Ran::of(alloc, disks.as_slice())?;
     let watch = Watch::new();
     let mut channel = channel_over(alloc, &watch, disks.as_slice(), Failure::NONE)?;

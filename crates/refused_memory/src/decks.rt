@@ -4,7 +4,7 @@ use crate::calls::{Call, Came, begin, end};
 use anyhow::Result;
 use s360_deck::{DeckFault, Event, drive, parse, serial};
 use std::alloc::Global;
-use watched_channels::{Failure, TestChannel, Watch, channel_over, finish, worked_disks};
+use watched_channels::{Failure, TestChannel, Watch, channel_over, finish, test_disks};
 
 /// A deck: an arm moves while a program writes a record.
 pub(crate) const DECK: &[u8] = b"STORE 48 000003F8
@@ -66,7 +66,7 @@ pub(crate) fn make_parse(rt: &HostRuntime) -> Result<Came> {
 /// Makes the serial list of a deck's events.
 pub(crate) fn make_serial(rt: &HostRuntime) -> Result<Came> {
     let alloc = rt.alloc();
-    let disks = worked_disks(alloc)?;
+    let disks = test_disks(alloc, 2)?;
     let events = parse(alloc, DECK)?;
     let wanted = texts(alloc, parse(alloc, SERIAL_DECK)?.as_slice())?;
     let watch = Watch::new();

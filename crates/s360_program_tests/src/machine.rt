@@ -6,11 +6,10 @@ ghost use Rattle.s360_program_tests.specs.Standing.{if-stands-prop};
 
 use anyhow::{Result, bail};
 use ckd_drive::{Drive, Phase};
-use ckd_image::Image;
 use s360_program::program::{Advance, Running, Start};
 use s360_words::{Csw, Storage};
 use std::alloc::Global;
-use test_rows::{RowStore, only_store};
+use test_rows::{Failure, RowFiles, RowStore, only_store};
 
 /// The bytes of storage.
 const SIZE: u32 = 65536;
@@ -47,9 +46,9 @@ pub(crate) fn all_bytes(storage: &Storage) -> Option<&[u8]> {
 }
 
 impl Machine {
-    /// A drive over this store, and a storage.
-    pub(crate) fn new(alloc: Global, store: RowStore) -> Result<Machine> {
-        let image = match Image::mount(store) {
+    /// A drive over these files, and a storage.
+    pub(crate) fn new(alloc: Global, files: RowFiles, failure: Failure) -> Result<Machine> {
+        let image = match files.mount(failure) {
             Ok(image) => image,
             Err((fault, _)) => bail!("{fault}"),
         };

@@ -5,7 +5,7 @@ use crate::machine::{all_bytes, new_storage};
 use anyhow::{Result, bail};
 use s360_words::Storage;
 use std::alloc::Global;
-use test_rows::{Calls, RowStore, address, bytes, number, volume_left, words_of};
+use test_rows::{Calls, RowStore, address, bytes, files_of, number, words_of};
 
 // Whether a line does nothing: it says what the volume holds, which call of the store fails, or what is left in the end.
 fn does_nothing(line: &str) -> bool {
@@ -38,8 +38,8 @@ pub(crate) fn play_lines<'a>(
 // last one was. The first read is that of the mount.
 fn was_called(alloc: Global, line: &str, store: &RowStore) -> Result<bool> {
     Ok(match words_of(alloc, line)?.as_slice() {
-        ["reads", count, at, len] => store.reads() == calls_of(count, at, len)?,
-        ["writes", count, at, len] => store.writes() == calls_of(count, at, len)?,
+        ["reads", count, at, len] => store.reads == calls_of(count, at, len)?,
+        ["writes", count, at, len] => store.writes == calls_of(count, at, len)?,
         _ => true,
     })
 }
@@ -83,8 +83,8 @@ pub(crate) fn differs(
     if all_bytes(storage) != all_bytes(&left) {
         return Ok(Some("storage"));
     }
-    let left = volume_left(alloc, volume, row)?;
-    if store.into_inner().into_inner().bytes() != left.bytes() {
+    let left = files_of(alloc, volume, row, &["track ", "left "])?;
+    if store.store.into_inner().bytes() != left.first.bytes() {
         return Ok(Some("the volume"));
     }
     Ok(None)

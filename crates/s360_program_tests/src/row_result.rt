@@ -8,7 +8,7 @@ use bitflags::Flags;
 use s360_words::{ChannelStatus, UnitStatus};
 use std::alloc::Global;
 use std::fmt;
-use test_rows::{Failure, failure_of, row_store, volume_of};
+use test_rows::{Failure, failure_of, files_of};
 
 /// What comes of a row.
 #[derive(Clone, Copy, Debug, PartialEq, Eq)]
@@ -50,9 +50,9 @@ fn new_player(
     step: u16,
     failure: Failure,
 ) -> Result<Player> {
-    let store = row_store(volume_of(alloc, volume, row)?, failure);
+    let files = files_of(alloc, volume, row, &["track "])?;
     Ok(Player {
-        machine: Machine::new(alloc, store)?,
+        machine: Machine::new(alloc, files, failure)?,
         step,
         last: None,
     })
@@ -105,7 +105,7 @@ fn report_of(alloc: Global, volume: &str, row: &str, failure: Failure) -> Result
     let differs = play_lines(alloc, &mut player, row)?.is_some();
     let told = differs && is_checked(player.last) && player.machine.sense()[0] & 0x10 != 0;
     let (_, store) = player.machine.into_parts().context("a program runs")?;
-    if store.into_inner().calls() < failure.at as u64 {
+    if store.store.calls() < failure.at as u64 {
         return Ok(Report::NoCall);
     }
     Ok(if told { Report::Told } else { Report::Silent })

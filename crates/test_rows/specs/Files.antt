@@ -8,7 +8,6 @@ use Rattle.ckd_image.specs.Header.{mount_of}
 use Rattle.ckd_image.specs.Files.{each, slot_bytes}
 use Rattle.test_rows.specs.declared.files.RowFiles.{RowFiles}
 use Rattle.test_rows.specs.declared.stores.Recorder.{Recorder}
-use Rattle.test_rows.specs.Stores.{store_in}
 
 -- this header, but for its sequence and highest cylinder, and these slots behind it
 abbrev pub file_with : List ℕ → List ℕ → ℕ → ℕ → List ℕ
@@ -25,11 +24,11 @@ failures_of files = each (λ (s : Stored). s.failures) (Some files.first ∷ fil
 
 -- what a row's store holds
 abbrev pub content_of : Recorder Failing → List ℕ
-content_of r = (store_in r).store.content
+content_of r = r.store.store.content
 
 -- how many calls of a row's store failed
 abbrev pub failures_in : Recorder Failing → ℕ
-failures_in r = (store_in r).store.failures + (store_in r).made_to_fail
+failures_in r = r.store.store.failures + r.store.made_to_fail
 
 -- where a cylinder begins in the file that holds a whole volume
 abbrev pub cylinder_start : Geometry → ℕ → ℕ

@@ -1,7 +1,6 @@
 -- What a store that keeps a record of its calls shows.
 use Rattle.std.specs.Prelude.{ℕ, ◌+◌, ◌-◌, ◌^◌, min}
 use Rattle.test_rows.specs.declared.stores.Calls.{Calls}
-use Rattle.test_rows.specs.declared.stores.Recorder.{Recorder}
 
 -- no call was made
 abbrev pub no_calls : Calls
@@ -10,16 +9,3 @@ no_calls = record { count = 0; at = 0; len = 0 }
 -- one more call, of so many bytes from this place on; the count stays at its greatest
 abbrev pub after_call : Calls → ℕ → ℕ → Calls
 after_call calls at len = record { count = min (calls.count + 1) (2 ^ 64 - 1); at = at; len = len }
-
-module _ {S : Type 0} where
-  -- the store within
-  abbrev pub store_in : Recorder S → S
-  store_in r = r.store
-
-  -- its reads so far
-  abbrev pub reads_of : Recorder S → Calls
-  reads_of r = r.reads
-
-  -- its writes so far
-  abbrev pub writes_of : Recorder S → Calls
-  writes_of r = r.writes

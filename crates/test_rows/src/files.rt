@@ -26,7 +26,7 @@ const FIELDS_END: usize = 20;
 pub type Files<S> = ArrayVec<Option<S>, 8>;
 
 /// The list with one more file.
-pub fn with_file<S: ImageStore>(mut files: Files<S>, store: S) -> Files<S>
+pub(crate) fn with_file<S: ImageStore>(mut files: Files<S>, store: S) -> Files<S>
     requires room { array_vec_len files < 8 }
     requires there { All IsSome files.items }
     ensures there { All IsSome result.items }
@@ -135,7 +135,7 @@ impl RowFiles {
     /// # Errors
     ///
     /// Fails where there is no such cylinder, and where memory runs out.
-    pub fn of(
+    pub(crate) fn of(
         alloc: Global,
         whole: MemoryStore,
         geometry: Geometry,
@@ -197,7 +197,7 @@ impl RowFiles {
 fn holds(store: RowStore, file: &MemoryStore) -> bool
     ensures { IsTrue result ↔ (content_of store ≡ file.now.content) }
 {
-    store.into_inner().into_inner().bytes() == file.bytes()
+    store.store.into_inner().bytes() == file.bytes()
 }
 
 // Whether the only store holds what the file does.

@@ -3,7 +3,7 @@
 ghost use Rattle.std.specs.Prelude.{◌≡◌, ◌==◌, ◌+◌, ◌≤◌, false, length, slice_range, IfOk, OnOk, OnErr};
 ghost use Rattle.std.specs.Str.Parse.{digits_value, without_leading_plus};
 ghost use Rattle.ckd_image.specs.Store.{overwritten, Torn, Counts};
-ghost use Rattle.test_rows.specs.Stores.{no_calls, after_call, store_in, reads_of, writes_of};
+ghost use Rattle.test_rows.specs.Stores.{no_calls, after_call};
 
 use crate::words::words_of;
 use ckd_image::{FailingStore, ImageStore, MemoryStore, StoreFault};
@@ -65,7 +65,7 @@ impl Failure {
     };
 
     /// What of it befalls the store of the file at this place.
-    pub fn in_file(self, file: usize) -> Failure
+    pub(crate) fn in_file(self, file: usize) -> Failure
         ensures here { self.file ≡ file → result ≡ self }
         ensures elsewhere { (self.file == file) ≡ false → result.at ≡ 0 }
     {
@@ -114,57 +114,12 @@ fn failure_at(at: &str, for_good: bool) -> anyhow::Result<Failure>
 /// A store that keeps a record of its calls.
 #[derive(Drop)]
 pub struct Recorder<S: ImageStore> {
-    store: S,
-    reads: Calls,
-    writes: Calls,
-}
-
-impl<S: ImageStore> Recorder<S> {
-    /// A record of a store's calls, of which none was made.
-    pub fn new(store: S) -> Recorder<S>
-        ensures store { store_in result ≡ store }
-        ensures reads { reads_of result ≡ no_calls }
-        ensures writes { writes_of result ≡ no_calls }
-    {
-        Recorder {
-            store,
-            reads: NO_CALLS,
-            writes: NO_CALLS,
-        }
-    }
-
-    /// How often it was read.
-    pub fn reads(&self) -> Calls
-        ensures { result ≡ reads_of self.now }
-    {
-        self.reads
-    }
-
-    /// How often it was written.
-    pub fn writes(&self) -> Calls
-        ensures { result ≡ writes_of self.now }
-    {
-        self.writes
-    }
-
     /// The store.
-    pub fn inner(&self) -> &S
-        ensures { result.now ≡ store_in self.now }
-    {
-        &self.store
-    }
-
-    /// The store alone.
-    pub fn into_inner(self) -> S
-        ensures { result ≡ store_in self }
-    {
-        let Recorder {
-            store,
-            reads: _,
-            writes: _,
-        } = self;
-        store
-    }
+    pub store: S,
+    /// How often it was read.
+    pub reads: Calls,
+    /// How often it was written.
+    pub writes: Calls,
 }
 
 impl<S: ImageStore> ImageStore for Recorder<S> {
@@ -177,27 +132,27 @@ impl<S: ImageStore> ImageStore for Recorder<S> {
     }
 
     fn read_at(&mut self, at: u64, into: &mut [u8]) -> Result<(), StoreFault>
-        requires { at + length into.old ≤ length (S.content (store_in self.old)) }
+        requires { at + length into.old ≤ length (S.content self.old.store) }
         ensures read { OnOk result
-            (into.new ≡ slice_range (S.content (store_in self.old)) at (at + length into.old)) }
-        ensures kept { S.content (store_in self.new) ≡ S.content (store_in self.old) }
-        ensures counted { Counts (S.failures (store_in self.old)) (S.failures (store_in self.new)) result }
-        ensures reads { reads_of self.new ≡ after_call (reads_of self.old) at (length into.old) }
-        ensures writes { writes_of self.new ≡ writes_of self.old }
+            (into.new ≡ slice_range (S.content self.old.store) at (at + length into.old)) }
+        ensures kept { S.content self.new.store ≡ S.content self.old.store }
+        ensures counted { Counts (S.failures self.old.store) (S.failures self.new.store) result }
+        ensures reads { self.new.reads ≡ after_call self.old.reads at (length into.old) }
+        ensures writes { self.new.writes ≡ self.old.writes }
     {
         self.reads = self.reads.and(at, into.len());
         self.store.read_at(at, into)
     }
 
     fn write_at(&mut self, at: u64, bytes: &[u8]) -> Result<(), StoreFault>
-        requires { at ≤ length (S.content (store_in self.old)) }
+        requires { at ≤ length (S.content self.old.store) }
         ensures written { OnOk result
-            (S.content (store_in self.new) ≡ overwritten (S.content (store_in self.old)) at bytes.now) }
+            (S.content self.new.store ≡ overwritten (S.content self.old.store) at bytes.now) }
         ensures torn { OnErr result
-            (Torn (S.content (store_in self.old)) (S.content (store_in self.new)) at (length bytes.now)) }
-        ensures counted { Counts (S.failures (store_in self.old)) (S.failures (store_in self.new)) result }
-        ensures reads { reads_of self.new ≡ reads_of self.old }
-        ensures writes { writes_of self.new ≡ after_call (writes_of self.old) at (length bytes.now) }
+            (Torn (S.content self.old.store) (S.content self.new.store) at (length bytes.now)) }
+        ensures counted { Counts (S.failures self.old.store) (S.failures self.new.store) result }
+        ensures reads { self.new.reads ≡ self.old.reads }
+        ensures writes { self.new.writes ≡ after_call self.old.writes at (length bytes.now) }
     {
         self.writes = self.writes.and(at, bytes.len());
         self.store.write_at(at, bytes)
@@ -208,16 +163,20 @@ impl<S: ImageStore> ImageStore for Recorder<S> {
 pub type RowStore = Recorder<FailingStore>;
 
 /// The store of a row over bytes in memory.
-pub fn row_store(store: MemoryStore, failure: Failure) -> RowStore
-    ensures store { store_in result ≡ record {
+pub(crate) fn row_store(store: MemoryStore, failure: Failure) -> RowStore
+    ensures store { result.store ≡ record {
       store = store;
       calls = 0;
       fails_at = failure.at;
       for_good = failure.for_good;
       made_to_fail = 0;
     } }
-    ensures reads { reads_of result ≡ no_calls }
-    ensures writes { writes_of result ≡ no_calls }
+    ensures reads { result.reads ≡ no_calls }
+    ensures writes { result.writes ≡ no_calls }
 {
-    Recorder::new(FailingStore::new(store, u64::from(failure.at), failure.for_good))
+    Recorder {
+        store: FailingStore::new(store, u64::from(failure.at), failure.for_good),
+        reads: NO_CALLS,
+        writes: NO_CALLS,
+    }
 }

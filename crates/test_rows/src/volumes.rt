@@ -37,23 +37,19 @@ pub fn new_volume(alloc: Global, geometry: Geometry) -> Result<MemoryStore>
     }
 }
 
-// What the first line of a volume's block asks for: `volume 2311 2`.
+// What the first line of a volume's block asks for: `volume 2311 2`, or with a name `volume X 2311 2`.
 fn geometry_of(alloc: Global, block: &str) -> Result<Geometry> {
     for line in block.lines() {
-        if let ["volume", model, cylinders] = words_of(alloc, line)?.as_slice() {
+        if let ["volume", .., model, cylinders] = words_of(alloc, line)?.as_slice() {
             return Ok(Geometry::new(model_of(model)?, cylinders.parse::<u16>()?));
         }
     }
     bail!("no volume")
 }
 
-/// Puts what the lines of a block say that begin so, as `track 0 21 C1*80` with `track `: a track, a place in its slot, and
-/// bytes.
-///
-/// # Errors
-///
-/// Fails where such a line is spelled otherwise, where its bytes do not stand in the store, and where memory runs out.
-pub fn put_lines(
+// Puts what the lines of a block say that begin so, as `track 0 21 C1*80` with `track `: a track, a place in its slot, and
+// bytes.
+fn put_lines(
     alloc: Global,
     store: &mut MemoryStore,
     geometry: Geometry,
@@ -113,41 +109,26 @@ fn place_of(geometry: Geometry, track: usize, at: usize) -> u64
         .saturating_add(at as u64)
 }
 
-/// The volume of a row, as its own block and that of its volumes say.
-///
-/// # Errors
-///
-/// Fails where a block is spelled otherwise, and where memory runs out.
-pub fn volume_of(alloc: Global, volume: &str, row: &str) -> Result<MemoryStore>
+// The volume that its own block says, with what the lines of a row put there that begin with these prefixes.
+fn volume_of(
+    alloc: Global,
+    geometry: Geometry,
+    volume: &str,
+    row: &str,
+    prefixes: &[&str],
+) -> Result<MemoryStore>
     ensures { IfOk result (λ file. IsOk (mount_of (file.content ∷ []))) }
 {
-    let geometry = geometry_of(alloc, volume)?;
     let mut store = new_volume(alloc, geometry)?;
     put_lines(alloc, &mut store, geometry, volume, "track ")?;
-    put_lines(alloc, &mut store, geometry, row, "track ")?;
+    for prefix in prefixes {
+        put_lines(alloc, &mut store, geometry, row, prefix)?;
+    }
     Ok(store)
 }
 
-/// The volume that a row leaves, as its lines say that begin with `left`.
-///
-/// # Errors
-///
-/// Fails where a block is spelled otherwise, and where memory runs out.
-pub fn volume_left(alloc: Global, volume: &str, row: &str) -> Result<MemoryStore>
-    ensures { IfOk result (λ file. IsOk (mount_of (file.content ∷ []))) }
-{
-    let mut store = volume_of(alloc, volume, row)?;
-    let geometry = geometry_of(alloc, volume)?;
-    put_lines(alloc, &mut store, geometry, row, "left ")?;
-    Ok(store)
-}
-
-/// The cylinder with which the second file of a volume begins, where its block says `split 2`.
-///
-/// # Errors
-///
-/// Fails where the block is spelled otherwise, and where memory runs out.
-pub fn split_of(alloc: Global, block: &str) -> Result<Option<u16>> {
+// The cylinder with which the second file of a volume begins, where its block says `split 2`.
+fn split_of(alloc: Global, block: &str) -> Result<Option<u16>> {
     for line in block.lines() {
         if let ["split", cylinder] = words_of(alloc, line)?.as_slice() {
             return Ok(Some(cylinder.parse::<u16>()?));
@@ -156,36 +137,17 @@ pub fn split_of(alloc: Global, block: &str) -> Result<Option<u16>> {
     Ok(None)
 }
 
-/// The files that hold the volume of a row: one, or two where the volume's block says with which cylinder the second begins.
+/// The files that hold a volume: one, or two where its block says with which cylinder the second begins. Its tracks have what
+/// the block says by its lines such as `track 0 21 C1*80`, of a track, a place in its slot, and bytes; and then what a row says
+/// by its lines that begin with each of these prefixes, as with `track ` or `left `.
 ///
 /// # Errors
 ///
-/// Fails where a block is spelled otherwise, and where memory runs out.
-pub fn files_of(alloc: Global, volume: &str, row: &str) -> Result<RowFiles>
+/// Fails where a line is spelled otherwise, where its bytes do not stand in the volume, and where memory runs out.
+pub fn files_of(alloc: Global, volume: &str, row: &str, prefixes: &[&str]) -> Result<RowFiles>
     ensures { IfOk result (λ files. HaveSlots (bytes_of files)) }
 {
-    let whole = volume_of(alloc, volume, row)?;
-    RowFiles::of(
-        alloc,
-        whole,
-        geometry_of(alloc, volume)?,
-        split_of(alloc, volume)?,
-    )
-}
-
-/// The files that hold the volume that a row leaves.
-///
-/// # Errors
-///
-/// Fails where a block is spelled otherwise, and where memory runs out.
-pub fn files_left(alloc: Global, volume: &str, row: &str) -> Result<RowFiles>
-    ensures { IfOk result (λ files. HaveSlots (bytes_of files)) }
-{
-    let whole = volume_left(alloc, volume, row)?;
-    RowFiles::of(
-        alloc,
-        whole,
-        geometry_of(alloc, volume)?,
-        split_of(alloc, volume)?,
-    )
+    let geometry = geometry_of(alloc, volume)?;
+    let whole = volume_of(alloc, geometry, volume, row, prefixes)?;
+    RowFiles::of(alloc, whole, geometry, split_of(alloc, volume)?)
 }

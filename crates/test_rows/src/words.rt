@@ -54,17 +54,6 @@ pub fn address(word: &str) -> Result<u32>
     u32::from_str_radix(word, 16).context("no address")
 }
 
-/// An input/output address, or another number of two bytes, in hexadecimal digits.
-///
-/// # Errors
-///
-/// Fails where the word is none.
-pub fn unit_address(word: &str) -> Result<u16>
-    ensures { ParsesUnsigned 16 16 word.now result }
-{
-    u16::from_str_radix(word, 16).context("no address")
-}
-
 /// A decimal number.
 ///
 /// # Errors
@@ -110,35 +99,4 @@ pub fn bytes(alloc: Global, word: &str) -> Result<Vec<u8>> {
         }
     }
     Ok(bytes)
-}
-
-/// How bytes are spelled: each with how often it stands there, as in `00*2+C1*80`; or none, `-`.
-///
-/// # Errors
-///
-/// Fails where memory runs out.
-pub fn spelled(alloc: Global, bytes: &[u8]) -> Result<String> {
-    let mut text = String::new(alloc);
-    for run in bytes.chunk_by(|one, other| one == other) {
-        if !text.is_empty() {
-            text.push('+')?;
-        }
-        text.push_str(spelled_run(alloc, run)?.as_str())?;
-    }
-    if text.is_empty() {
-        text.push('-')?;
-    }
-    Ok(text)
-}
-
-// One byte, and how often it stands there.
-fn spelled_run(alloc: Global, run: &[u8]) -> Result<String> {
-    Ok(match run {
-        [byte] => format!(in alloc; "{byte:02X}")?,
-        [byte, ..] => {
-            let times = run.len();
-            format!(in alloc; "{byte:02X}*{times}")?
-        }
-        [] => String::new(alloc),
-    })
 }

@@ -1,12 +1,10 @@
 //! Disks in memory, and channels over them.
 
-ghost use Rattle.std.specs.Prelude.{◌≡◌, ◌+◌, ◌/◌, ◌%◌, ◌++◌, ◌∷◌, [], ◌↔◌, IsTrue, IsSome, IfSome, IfOk, OnOk};
-ghost use Rattle.ckd_track.specs.Model.{heads_of};
+ghost use Rattle.std.specs.Prelude.{◌≡◌, ◌++◌, ◌∷◌, [], ◌↔◌, IsTrue, IsSome, IfSome, IfOk, OnOk};
 ghost use Rattle.ckd_image.specs.Header.{head_of};
 ghost use Rattle.s360_words.specs.Storage.{cleared};
 ghost use Rattle.s360_channel.specs.declared.subchannel.Subchannel.TheVariants.{Idle};
 ghost use Rattle.watched_channels.specs.Disks.{devices_of, units_at};
-ghost use Rattle.watched_channels.specs.Places.{track_number};
 
 use crate::watched::{Watch, WatchedStore};
 use anyhow::{Result, bail};
@@ -29,26 +27,6 @@ pub struct Disk {
     pub device: u8,
     pub model: DriveModel,
     pub content: MemoryStore,
-}
-
-impl Disk {
-    /// The input/output address of the disk, and the cylinder and head of the track whose slot begins at this place of its image.
-    pub fn track_at(&self, at: u64) -> (u16, u16, u16)
-        ensures address { result.0 ≡ 256 + self.now.device }
-        ensures cylinder { result.1 ≡ track_number self.now.model at / heads_of self.now.model }
-        ensures head { result.2 ≡ track_number self.now.model at % heads_of self.now.model }
-    {
-        let size = u64::from(Geometry::new(self.model, 1).track_size);
-        let track = at
-            .saturating_sub(HEADER_LENGTH)
-            .checked_div(size)
-            .unwrap_or(0);
-        let track = track.min(65_535) as u16;
-        let heads = self.model.heads();
-        let cylinder = track.checked_div(heads).unwrap_or(0);
-        let head = track.checked_rem(heads).unwrap_or(0);
-        (u16::from(self.device).saturating_add(0x100), cylinder, head)
-    }
 }
 
 /// A record of a track; its identifier has the track's own cylinder and head.

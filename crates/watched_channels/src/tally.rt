@@ -24,17 +24,6 @@ impl Tally {
             right: self.right.saturating_add(u32::from(right)),
         }
     }
-
-    /// Those of both.
-    pub fn with(self, other: Tally) -> Tally
-        ensures tried { result.tried ≡ min (self.tried + other.tried) (2 ^ 32 - 1) }
-        ensures right { result.right ≡ min (self.right + other.right) (2 ^ 32 - 1) }
-    {
-        Tally {
-            tried: self.tried.saturating_add(other.tried),
-            right: self.right.saturating_add(other.right),
-        }
-    }
 }
 
 impl fmt::Display for Tally {

@@ -1,7 +1,7 @@
 //! The disks of the lists.
 
-ghost use Rattle.std.specs.Prelude.{◌≡◌, ◌∷◌, [], min, All, IfOk, vec_len};
-ghost use Rattle.watched_channels.specs.Disks.{Mounts, devices_of};
+ghost use Rattle.std.specs.Prelude.{◌≡◌, min, All, IfOk, vec_len};
+ghost use Rattle.watched_channels.specs.Disks.{Mounts};
 
 use crate::disks::{Disk, Record, put_track};
 use anyhow::Result;
@@ -10,28 +10,10 @@ use ckd_track::{DriveModel, Geometry};
 use std::alloc::Global;
 use test_rows::new_volume;
 
-/// A 2311 with records of 80 bytes, one without data, and channel command words as data; and a new 2311.
-pub fn worked_disks(alloc: Global) -> Result<Vec<Disk>>
-    ensures devices { IfOk result (λ disks. devices_of disks.items ≡ 0x90 ∷ 0x91 ∷ []) }
-    ensures mounts { IfOk result (λ disks. All (λ disk. Mounts disk.content.content) disks.items) }
-{
-    let mut disks = Vec::new(alloc);
-    disks.push(Disk {
-        device: 0x90,
-        model: DriveModel::D2311,
-        content: worked_volume(alloc)?,
-    })?;
-    disks.push(Disk {
-        device: 0x91,
-        model: DriveModel::D2311,
-        content: new_volume(alloc, Geometry::new(DriveModel::D2311, 1))?,
-    })?;
-    Ok(disks)
-}
-
-/// So many disks, of both models: the two of `worked_disks`' kinds, and two with keys, records without data, tracks nearly full
-/// and tracks that can't be read.
-pub fn many_disks(alloc: Global, drives: u32) -> Result<Vec<Disk>>
+/// So many disks, four at most, from address 190 on: a 2311 with records of 80 bytes, one without data, and channel command words
+/// as data; a 2311 with keys, records without data, a track nearly full and one that can't be read; a new 2311; and a 2314 as the
+/// second.
+pub fn test_disks(alloc: Global, drives: u32) -> Result<Vec<Disk>>
     ensures count { IfOk result (λ disks. vec_len disks ≡ min drives 4) }
     ensures mounts { IfOk result (λ disks. All (λ disk. Mounts disk.content.content) disks.items) }
 {

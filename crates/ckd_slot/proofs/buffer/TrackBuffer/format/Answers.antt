@@ -101,10 +101,12 @@ returns-clause-formats c =
     let s = c.args.self.now in
     let b = c.before-2.result in
     let k = (fits_at c).fitting in
-    let f = format_fits s b c.args.after c.args.count k.spells k.bytes k.eight k.no_mark c.before-2.ensures.kept k.room in
-    (record {
-      fits = k.fits;
-      is_last = c.records_up_to-kept.ensures ∙ sym (length-kept (track_in s) b c.before-2.ensures.there) ∙ ap (λ (rs : List Record). length rs) c.before-2.ensures.kept;
-      spelled = f;
-      place = rw c.body_length-body.ensures (format_place s b c.args.after c.args.count c.records_up_to-kept.result c.end_of-at.result k.spells k.bytes k.eight k.no_mark c.before-2.ensures.kept c.before-2.ensures.there f c.records_up_to-kept.ensures (fits_at c).at);
-    }, rw (items c) (made c))
+    let f = format_fits s b c.args.after c.args.count k.spells k.bytes k.eight k.no_mark c.before-2.ensures.kept k.room in (
+      record {
+        fits = k.fits;
+        is_last = c.records_up_to-kept.ensures ∙ sym (length-kept (track_in s) b c.before-2.ensures.there) ∙ ap (λ (rs : List Record). length rs) c.before-2.ensures.kept;
+        spelled = f;
+        place = rw c.body_length-body.ensures (format_place s b c.args.after c.args.count c.records_up_to-kept.result c.end_of-at.result k.spells k.bytes k.eight k.no_mark c.before-2.ensures.kept c.before-2.ensures.there f c.records_up_to-kept.ensures (fits_at c).at);
+      },
+      rw (items c) (made c),
+    )

@@ -1,7 +1,7 @@
 use Rattle.std.proofs.Common.{◌≡◌, All, vec_len}
 use Rattle.watched_channels.specs.declared.disks.Disk.{Disk}
 use Rattle.watched_channels.specs.Disks.{Mounts}
-use Rattle.watched_channels.proofs.volumes.many_disks.Given as goal
+use Rattle.watched_channels.proofs.volumes.test_disks.Given as goal
 
 abbrev pub invariant-loop-device : goal.invariant-loop-device
 invariant-loop-device l =
