@@ -158,6 +158,8 @@ impl<S: ImageStore> TrackCache<S> {
     /// # Errors
     ///
     /// Where the save fails no slot is at hand, and the image's slot is what the store was left with.
+    // The question in line, since most tracks are left as they were.
+    #[inline(always)]
     pub fn save(&mut self) -> Result<(), StoreFault>
         ensures ok { OnOk result (self.new ≡ after_save self.old) }
         ensures err { OnErr result (self.new ≡ after_failed_save self.old (slice_index_or self.new.image.slots (unwrap_or self.old.held 0) [])) }
@@ -167,6 +169,17 @@ impl<S: ImageStore> TrackCache<S> {
         if !self.changed {
             return Ok(());
         }
+        self.save_changed()
+    }
+
+    // Saves the slot at hand, which was written.
+    #[inline(never)]
+    fn save_changed(&mut self) -> Result<(), StoreFault>
+        requires { self.old.changed ≡ true }
+        ensures ok { OnOk result (self.new ≡ after_save self.old) }
+        ensures err { OnErr result (self.new ≡ after_failed_save self.old (slice_index_or self.new.image.slots (unwrap_or self.old.held 0) [])) }
+        ensures size { OnErr result (length (slice_index_or self.new.image.slots (unwrap_or self.old.held 0) []) ≡ self.old.image.geometry.track_size) }
+    {
         let Some(track) = self.held else {
             return Ok(());
         };

@@ -11,7 +11,7 @@ ghost use Rattle.ckd_drive.specs.Work.{settled_mark as mark_settled, owed_mark a
 ghost use Rattle.ckd_drive.specs.Invariant.{field_ends as field_closes, command_end_at, MovedInField, mark_left as mark_left_by, field_size as size_of_field};
 ghost use Rattle.ckd_drive.specs.Fields.{place_seen, closes_by};
 
-use crate::transfer::{Transfer, Written, field_size};
+use crate::transfer::{Transfer, Written};
 use ckd_command::{
     Action, CHANNEL_AND_DEVICE_END, CHANNEL_END_ALONE, Closed, DriveEnding, END_WITH_UNIT_CHECK,
     Mark, Opened, Registers, close_area, close_format, close_home_address, close_in_unit_check,
@@ -95,23 +95,17 @@ fn field_ends(
     ensures closes { closed_as result registers.new ≡ command_end (field_closes (action_of opened.now.command) geometry opened.now registers.old bytes.now) }
     ensures stays { ClosedStays result registers.old registers.new }
 {
-    let action = tables::action_of(opened.command);
-    if action == Action::SetFileMask {
-        return close_set_file_mask(registers, bytes);
-    }
-    if action == Action::WriteHomeAddress {
-        return home_address_ends(opened, registers, bytes);
-    }
-    if bytes.is_empty() {
-        return Closed::Stays(CHANNEL_AND_DEVICE_END);
-    }
-    if bytes.len() < field_size(action) {
-        return close_in_unit_check(registers, Sense::FIELD_CUT_SHORT);
-    }
-    match action {
-        Action::SeekCylinderAndHead => close_seek(geometry, registers, bytes),
-        Action::SeekHead => close_seek_head(geometry, registers, bytes),
-        Action::Format => close_in_unit_check(registers, Sense::RECORD_DOES_NOT_FIT),
+    match tables::action_of(opened.command) {
+        Action::SeekCylinderAndHead if bytes.len() == 6 => close_seek(geometry, registers, bytes),
+        Action::SeekHead if bytes.len() == 6 => close_seek_head(geometry, registers, bytes),
+        Action::Format if bytes.len() == 8 => {
+            close_in_unit_check(registers, Sense::RECORD_DOES_NOT_FIT)
+        }
+        Action::SetFileMask => close_set_file_mask(registers, bytes),
+        Action::WriteHomeAddress => home_address_ends(opened, registers, bytes),
+        Action::SeekCylinderAndHead | Action::SeekHead | Action::Format if !bytes.is_empty() => {
+            close_in_unit_check(registers, Sense::FIELD_CUT_SHORT)
+        }
         _ => Closed::Stays(CHANNEL_AND_DEVICE_END),
     }
 }

@@ -151,8 +151,21 @@ impl<S: ImageStore> Drive<S> {
         ensures moved { self.new ≡ record self.old { work = moved_on into.new self.old.work } }
     {
         let n = into.len();
-        into.copy_from_slice(&self.next_bytes()[..n]);
-        self.pass(n);
+        let passed = self.passed.and(&self.next_bytes()[..n]);
+        let Stage::Passing = self.stage else {
+            unreachable!();
+        };
+        let Transfer::Read(window, _) = self.progress.place else {
+            into.copy_from_slice(&self.next_bytes()[..n]);
+            self.pass(n);
+            return;
+        };
+        // noted first, so that the copy is the last that is done
+        self.passed = passed;
+        transfer::give_on(&mut self.progress.place, n);
+        self.progress.moved += n;
+        self.progress.left -= n;
+        into.copy_from_slice(&self.cache.buffer().bytes()[window.start..window.start + n]);
     }
 
     /// The next bytes of a read or of Sense, lent as they stand: all that may be given now.

@@ -24,7 +24,7 @@ use ckd_command::{Action, Aim, Mark, Opened, Registers, Seen, add_cause, sight_o
 use ckd_image::ImageStore;
 use ckd_position::Kind;
 use ckd_sense::Command::{
-    ReadCountKeyAndData, ReadData, SearchIdEqual, WriteCountKeyAndData, WriteData,
+    ReadCountKeyAndData, ReadData, SearchIdEqual, Seek, WriteCountKeyAndData, WriteData,
 };
 use ckd_sense::{Command, Sense};
 use ckd_slot::{TrackBuffer, Window};
@@ -92,14 +92,21 @@ fn look_at(
 }
 
 // The place of a command that works on no area.
-fn place_without_area(opened: &Opened, registers: &Registers, progress: &mut Progress) -> Stage
+#[inline(always)]
+fn place_without_area(
+    opened: &Opened,
+    registers: &Registers,
+    command: Command,
+    progress: &mut Progress,
+) -> Stage
+    requires command { command ≡ opened.now.command }
     requires aim { aim_of opened.now.command ≡ NoArea }
     requires transfers { action_of opened.now.command ≡ NoTransfer → ⊥ }
     ensures first { (slot : List ℕ) → IsFirstPlace slot opened.now registers.now (place_seen registers.now opened.now progress.new.place) }
     ensures ready { IsReady registers.now opened.now progress.new result }
     ensures passing { IsLookedHeld result }
 {
-    let action = tables::action_of(opened.command);
+    let action = tables::action_of(command);
     let place = match action {
         Action::GiveSense => Transfer::Sense(registers.sense.to_bytes()),
         _ => Transfer::Field([0; 8]),
@@ -219,7 +226,7 @@ fn look_here<S: ImageStore>(
     ensures looked { IsLookedHeld result }
 {
     match tables::aim_of(command) {
-        Aim::NoArea => place_without_area(opened, registers, progress),
+        Aim::NoArea => place_without_area(opened, registers, command, progress),
         Aim::Credited => place_on(cache.buffer(), opened, command, progress),
         Aim::Next(kind) => look_for_next(cache, registers, mark, opened, progress, command, kind),
     }
@@ -276,6 +283,7 @@ pub(crate) fn look<S: ImageStore>(
             WriteCountKeyAndData,
         ),
         WriteData => look_here(cache, registers, mark, opened, progress, WriteData),
+        Seek => look_here(cache, registers, mark, opened, progress, Seek),
         _ => look_elsewhere(cache, registers, mark, opened, progress),
     }
 }

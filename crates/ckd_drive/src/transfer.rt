@@ -174,11 +174,15 @@ fn collected(field: [u8; 8], at: usize, bytes: &[u8]) -> [u8; 8]
     requires { at + length bytes.now ≤ 8 }
     ensures { result ≡ overwritten field at bytes.now }
 {
-    // mostly all eight bytes come at once
+    // mostly a count area or a seek address comes at once
     if let Ok(whole) = <[u8; 8]>::try_from(bytes) {
         return whole;
     }
     let mut field = field;
+    if at == 0 && bytes.len() == 6 {
+        field[..6].copy_from_slice(&bytes[..6]);
+        return field;
+    }
     field[at..at + bytes.len()].copy_from_slice(bytes);
     field
 }

@@ -218,6 +218,10 @@ impl Storage {
         ensures next { result < len → may_store self.now key (start + result) ≡ false }
     {
         let end = start + len.min(self.bytes.len().saturating_sub(start));
+        // key 0 may store into every block
+        if key == 0 {
+            return end - start;
+        }
         let mut reach = start;
         while reach < end && admits(self.keys[reach / BLOCK_SIZE as usize], key) {
             reach = (reach / BLOCK_SIZE as usize + 1) * BLOCK_SIZE as usize;
