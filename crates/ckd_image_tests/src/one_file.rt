@@ -114,43 +114,45 @@ pub(crate) fn refuses_to_format(alloc: Global) -> Result<()> {
     Ok(())
 }
 
+// What is put into a new file of a 2311, from which byte on, and the fault of its mount.
+const MOUNTS: [(u64, &[u8], Option<MountFault>); 18] = [
+    (0, b"CKD_P370", None),
+    (0, b"CKD_C370", Some(MountFault::Compressed)),
+    (0, b"CKD_S370", Some(MountFault::Compressed)),
+    (0, b"CKD_P371", Some(MountFault::NotCkdP370)),
+    (16, &[0x12], Some(MountFault::DeviceType)),
+    (8, &[11], Some(MountFault::Heads)),
+    (8, &[20], Some(MountFault::Heads)),
+    // 3,661 and 65,537 bytes
+    (12, &[0x4D, 0x0E], Some(MountFault::TrackSize)),
+    (12, &[0x01, 0x00, 0x01], Some(MountFault::TrackSize)),
+    (17, &[1], None),
+    (17, &[2], Some(MountFault::Split)),
+    (18, &[5], Some(MountFault::Split)),
+    (18, &[0, 1], Some(MountFault::Split)),
+    // 4,097 bytes
+    (12, &[0x01, 0x10], Some(MountFault::Length)),
+    // the first fault is told: id, device type, heads, track size, file sequence
+    (
+        0,
+        b"CKD_P371\x0B\0\0\0\x4D\x0E\0\0\x12\x02",
+        Some(MountFault::NotCkdP370),
+    ),
+    (
+        8,
+        b"\x0B\0\0\0\x4D\x0E\0\0\x12\x02",
+        Some(MountFault::DeviceType),
+    ),
+    (
+        8,
+        b"\x0B\0\0\0\x4D\x0E\0\0\x11\x02",
+        Some(MountFault::Heads),
+    ),
+    (12, b"\x4D\x0E\0\0\x11\x02", Some(MountFault::TrackSize)),
+];
+
 pub(crate) fn refuses_to_mount(alloc: Global) -> Result<()> {
-    let rows: [(u64, &[u8], Option<MountFault>); 18] = [
-        (0, b"CKD_P370", None),
-        (0, b"CKD_C370", Some(MountFault::Compressed)),
-        (0, b"CKD_S370", Some(MountFault::Compressed)),
-        (0, b"CKD_P371", Some(MountFault::NotCkdP370)),
-        (16, &[0x12], Some(MountFault::DeviceType)),
-        (8, &[11], Some(MountFault::Heads)),
-        (8, &[20], Some(MountFault::Heads)),
-        // 3,661 and 65,537 bytes
-        (12, &[0x4D, 0x0E], Some(MountFault::TrackSize)),
-        (12, &[0x01, 0x00, 0x01], Some(MountFault::TrackSize)),
-        (17, &[1], None),
-        (17, &[2], Some(MountFault::Split)),
-        (18, &[5], Some(MountFault::Split)),
-        (18, &[0, 1], Some(MountFault::Split)),
-        // 4,097 bytes
-        (12, &[0x01, 0x10], Some(MountFault::Length)),
-        // the first fault is told: id, device type, heads, track size, file sequence
-        (
-            0,
-            b"CKD_P371\x0B\0\0\0\x4D\x0E\0\0\x12\x02",
-            Some(MountFault::NotCkdP370),
-        ),
-        (
-            8,
-            b"\x0B\0\0\0\x4D\x0E\0\0\x12\x02",
-            Some(MountFault::DeviceType),
-        ),
-        (
-            8,
-            b"\x0B\0\0\0\x4D\x0E\0\0\x11\x02",
-            Some(MountFault::Heads),
-        ),
-        (12, b"\x4D\x0E\0\0\x11\x02", Some(MountFault::TrackSize)),
-    ];
-    for (at, bytes, want) in rows {
+    for (at, bytes, want) in MOUNTS {
         let store = changed(alloc, at, bytes)?;
         must(mount_fault(alloc, store)? == want)?;
     }
