@@ -137,7 +137,7 @@ fn prints_speed(rt: &HostRuntime, speed: Option<Speed>, way: Way) -> bool {
     println!(rt; "{many} {items} a second, {bytes} bytes a second").is_ok()
 }
 
-/// Does each work once in each way; whether all were done and told.
+/// Does each work once in each way; whether all were done and reported.
 fn do_each(rt: &HostRuntime) -> bool {
     let all = |works: &[Work], way: Way| -> bool {
         works

@@ -75,7 +75,7 @@ impl Program {
     }
 
     /// Whether a program that ended so did all that it has to: the last word was fetched, nothing of its count is left, and
-    /// nothing but channel end and device end is told.
+    /// nothing but channel end and device end is reported.
     pub(crate) fn ends_with(&self, csw: Csw) -> bool {
         csw.address == self.next
             && csw.count == 0

@@ -10,7 +10,7 @@ use std::alloc::Global;
 use std::fmt;
 use test_rows::{address, byte, bytes, words_of};
 
-/// Makes the call that these words ask for, and tells its answer in a line.
+/// Makes the call that these words ask for, and reports its answer in a line.
 pub(crate) fn call(alloc: Global, channel: &mut Disks, line: &str) -> Result<String> {
     let words = words_of(alloc, line)?;
     match words.as_slice() {

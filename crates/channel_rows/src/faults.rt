@@ -1,4 +1,4 @@
-//! Each call of each store of a drive fails in turn, once and for good, and each failure must be told.
+//! Each call of each store of a drive fails in turn, once and for good, and each failure must be reported.
 
 use crate::left::{Left, LeftDrive, LeftFile, attached};
 use crate::row::Player;
@@ -21,17 +21,17 @@ struct Course {
     left: Left,
 }
 
-// What is told of a call that fails.
+// What is reported of a call that fails.
 #[derive(Clone, Copy, Debug, PartialEq, Eq)]
 enum Report {
     // There is no such call.
     NoCall,
     Told,
-    // Why it is not told.
+    // Why it is not reported.
     Silent(&'static str),
 }
 
-/// Plays a row with each call of each store of a drive failing, and answers the first that is not told as it must be; counts
+/// Plays a row with each call of each store of a drive failing, and answers the first that is not reported as it must be; counts
 /// those that were tried.
 pub(crate) fn sweep(
     alloc: Global,
@@ -52,7 +52,7 @@ pub(crate) fn sweep(
     Ok(None)
 }
 
-// The first call of the store of a drive's file that is not told where it fails, beside a course without faults.
+// The first call of the store of a drive's file that is not reported where it fails, beside a course without faults.
 fn silent_call(
     alloc: Global,
     volumes: &Volumes,
@@ -127,7 +127,7 @@ fn sense_of(channel: &mut Disks, device: u8) -> Option<u8> {
         .and_then(|bytes| bytes.first().copied())
 }
 
-// What is told where a call of a drive's store fails, beside a course without faults.
+// What is reported where a call of a drive's store fails, beside a course without faults.
 fn report_of(
     alloc: Global,
     volumes: &Volumes,
@@ -144,7 +144,7 @@ fn report_of(
     }
 }
 
-// What is told where a call fails, by a course beside one without faults.
+// What is reported where a call fails, by a course beside one without faults.
 fn report_beside(
     alloc: Global,
     volumes: &Volumes,
@@ -166,14 +166,14 @@ fn report_beside(
     told(alloc, sound, faulty)
 }
 
-// What the answers tell of a fault: they are the same up to it.
+// What the answers report of a fault: they are the same up to it.
 fn told(alloc: Global, sound: &Course, faulty: &Course) -> Result<Report> {
     let lines: Vec<&str> = faulty.answers.as_str().lines().collect(alloc)?;
     let same = same_lines(sound.answers.as_str(), faulty.answers.as_str());
     match lines.as_slice().get(same..).unwrap_or(&[]) {
         [] if faulty.left.unsaved.is_some() => Ok(Report::Told),
         [] => {
-            // the program ends in this unit as it does without the fault: the sense bytes tell it
+            // the program ends in this unit as it does without the fault: the sense bytes report it
             let lines: Vec<&str> = sound.answers.as_str().lines().collect(alloc)?;
             told_by_csw(alloc, lines.as_slice(), faulty)
         }

@@ -35,7 +35,7 @@ pub(crate) fn too_often(
 
 // How often the store was called until so many events were over, and how often the last of them may have called it; before it
 // there were so many calls. None where
-// there are fewer. The call by which the last reset saves a track is none of theirs: where it fails, that reset tells it.
+// there are fewer. The call by which the last reset saves a track is none of theirs: where it fails, that reset reports it.
 fn calls_of(
     alloc: Global,
     volumes: &Volumes,

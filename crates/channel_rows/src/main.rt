@@ -24,7 +24,7 @@
 //! | `reader fails`, `writer 12` | the read behind the deck fails; the write behind so many bytes fails |
 //! | `call sio 1190` | a call of the channel |
 //! | `< INT NONE` | a line that is printed |
-//! | `! read fault` | what is told of a refusal |
+//! | `! read fault` | what is reported of a refusal |
 //! | `sense 190 100000000000` | a Sense starts, runs to its end, and gives these bytes |
 //! | `holds 600 C1*80` | what storage holds in the end |
 //! | `left 90 0 29 E7*30` | what a track of the volume has from a place of its slot on; all else is as it was |
@@ -34,7 +34,7 @@
 //! | `cuts` | the program is cut at each of its units, and done again by its serial list |
 //!
 //! For each row its name is printed, with `ok` or the first line that is not as it must be; and in the end how many calls of a
-//! store failed in turn, each of which was told.
+//! store failed in turn, each of which was reported.
 #![tactic(auto)]
 
 mod calls;

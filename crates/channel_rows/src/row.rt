@@ -90,7 +90,7 @@ impl Player {
         Ok(true)
     }
 
-    // Whether something was printed or told that no line said.
+    // Whether something was printed or reported that no line said.
     fn is_unsaid(&self) -> bool {
         !self.printed.is_empty() || !self.stage.told.is_empty()
     }
@@ -154,7 +154,7 @@ impl Player {
         Ok(is_wanted)
     }
 
-    // Whether this is told of what was refused.
+    // Whether this is reported of what was refused.
     fn tells(&mut self, alloc: Global, wanted: &str) -> Result<bool> {
         let is_wanted = self.stage.told.as_str() == wanted;
         self.stage.told = String::new(alloc);
@@ -188,7 +188,7 @@ impl Player {
         Left::of(alloc, stage.channel)
     }
 
-    /// Runs what is left of the deck, and answers whether nothing was printed or told that no line said.
+    /// Runs what is left of the deck, and answers whether nothing was printed or reported that no line said.
     pub(crate) fn is_over(&mut self, alloc: Global) -> Result<bool> {
         if self.is_deck {
             self.run(alloc)?;

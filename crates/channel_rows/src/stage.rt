@@ -15,7 +15,7 @@ pub(crate) type Disks = Channel<RowStore>;
 /// The call of a store of a drive that fails, beside those that a row itself names.
 pub(crate) type DriveFailure = Option<(u8, Failure)>;
 
-/// A channel, and what was told of the last thing that it refused.
+/// A channel, and what was reported of the last thing that it refused.
 #[derive(Drop)]
 pub(crate) struct Stage {
     pub channel: Disks,
@@ -84,7 +84,7 @@ impl Stage {
         }
     }
 
-    // Makes another channel, or tells why there is none; then its storage must come back as it was.
+    // Makes another channel, or says why there is none; then its storage must come back as it was.
     fn make_channel(&mut self, alloc: Global, line: &str) -> Result<()> {
         let (number, size) = line.split_once(' ').context("no size")?;
         let (number, size) = (number.parse::<u8>()?, size.parse::<u32>()?);
@@ -104,7 +104,7 @@ impl Stage {
         Ok(())
     }
 
-    // Attaches a drive, or tells why it is not; then its image must come back as it was.
+    // Attaches a drive, or says why it is not; then its image must come back as it was.
     fn attach(
         &mut self,
         alloc: Global,
@@ -126,7 +126,7 @@ impl Stage {
         }
     }
 
-    // Mounts an image, or tells why it is not mounted; then its files must come back as they were.
+    // Mounts an image, or says why it is not mounted; then its files must come back as they were.
     fn mount(
         &mut self,
         alloc: Global,

@@ -80,7 +80,7 @@ pub beginning_at : (code : ℕ) (r : Registers) → BeginsAt r (beginning code r
 unfolding beginning
 beginning_at code r = decoded_at (decoded code) r
 
--- How it looks: the head stays, but where the next head's track follows; and nothing is told but where the look fails.
+-- How it looks: the head stays, but where the next head's track follows; and nothing is reported but where the look fails.
 
 abbrev pub SightAt : Registers → Opened → Sight → Type 0
 SightAt before o (Found opened) = opened.command ≡ o.command

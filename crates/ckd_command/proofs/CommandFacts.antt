@@ -33,27 +33,27 @@ use Rattle.ckd_command.specs.Tables.{aim, action_of, extent_of, comparison, ends
 use Rattle.ckd_position.specs.Contents.{Sighted, has_no_data, replaced, formatted, kept, is_readable}
 use Rattle.ckd_command.specs.Commands.{Closing, ends, fails, writes, closing, close_by, whole_field, with_cause, at_end, seek_cylinder_and_head, seek_head, set_file_mask, search, search_ends, area_bytes, end_of_area, update, updated, format, format_ends, new_record_fits, write_home_address, own_home_address, home_address_ends, ending_status, unit_exception_status, number, beginning, begin_decoded, begin_allowed, started, cleared, refusal, refusal_under, is_out_of_sequence, sight, look_for, sight_of, next_head, turned}
 
--- Equipment check, which tells of the store alone.
+-- Equipment check, which is of the store alone.
 
 abbrev pub tells_store : Registers → Bool
 tells_store r = has r.sense.0 cause.EQUIPMENT_CHECK.0
 
--- the cause of a fault of the store tells of it
+-- the cause of a fault of the store has it
 pub store_fault_is_told : (r : Registers) → tells_store (with_cause r cause.STORE_FAULT) ≡ true
 store_fault_is_told r = ap (λ n. not (n == 0)) (and_or_self cause.EQUIPMENT_CHECK.0 r.sense.0)
 
--- it is not told where it was not told before
+-- it is not reported where it was not reported before
 abbrev pub NotTold : Registers → Registers → Type 0
 NotTold before after = tells_store before ≡ false → tells_store after ≡ false
 
--- no other cause tells of it
+-- no other cause has it
 with_other : (r : Registers) (bits : ℕ) → bit_and bits cause.EQUIPMENT_CHECK.0 ≡ 0 → NotTold r (with_cause r (record { 0 = bits }))
 with_other r bits h e = ap (λ n. not (n == 0)) (and_or_apart cause.EQUIPMENT_CHECK.0 r.sense.0 bits h) ∙ e
 
 -- How a command closes.
 
 -- with channel end, and device end unless the arm still moves; no track is written without a byte, nor by a command that is no
--- write; and equipment check is not told
+-- write; and equipment check is not reported
 pub record IsClosing (before : Registers) (b : List ℕ) (write : Bool) (c : Closing) : Type 0 where
   pub channel_end : has c.unit 0x08 ≡ true
   pub device_end : has c.unit 0x04 ≡ not c.motion
@@ -170,7 +170,7 @@ pub closing_facts : (g : Geometry) (t : Sighted) (o : Opened) (r : Registers) (b
 unfolding closing
 closing_facts g t o r b = closes o.command g t o r b
 
--- How a command begins: equipment check is not told.
+-- How a command begins: equipment check is not reported.
 
 abbrev pub BeginsSilent : Registers → Beginning → Type 0
 BeginsSilent before (Rejected r) = NotTold before r
@@ -188,7 +188,7 @@ starts_silent command.Recalibrate before r o h = h
 starts_silent command.ReadIpl before r o h = h
 starts_silent _ before r o h = h
 
--- a command is refused for a cause that does not tell of the store
+-- a command is refused for a cause without equipment check
 abbrev IsOther : Option Sense → Type 0
 IsOther (Some s) = bit_and s.0 cause.EQUIPMENT_CHECK.0 ≡ 0
 IsOther None = Unit {0}
@@ -214,7 +214,7 @@ pub beginning_silent : (code : ℕ) (r : Registers) → BeginsSilent r (beginnin
 unfolding beginning
 beginning_silent code r = decoded_silent (decoded code) r
 
--- How it looks: equipment check is not told.
+-- How it looks: equipment check is not reported.
 
 abbrev pub SightSilent : Registers → Sight → Type 0
 SightSilent before (Found o) = Unit {0}

@@ -51,7 +51,7 @@ equal_le x y e = omega arith
 not_short : (n : ℕ) → 8 ≤ n → nat_lt n 8 ≡ false
 not_short n h = grind (arith, nat_tests)
 
--- the length of a formatting write is 8, until the count area tells it, which later bytes do not change
+-- the length of a formatting write is 8, until the count area gives it, which later bytes do not change
 format_stays : (g : Geometry) (t : Sighted) (o : Opened) (b more : List ℕ) → nat_lt (length b) 8 ≡ false → format_length g t o b ≡ format_length g t o (b ++ more)
 format_stays g t o b more k =
     let long : 8 ≤ length b = grind (arith, nat_tests) in

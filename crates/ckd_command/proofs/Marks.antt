@@ -1,5 +1,5 @@
 -- What becomes of the track under the arm in the parts of a command: only a track that was written is lost, and without a fault
--- none is, and no equipment check is told.
+-- none is, and no equipment check is reported.
 use Rattle.std.proofs.Common.{◌≡◌, ℕ, refl, ap, sym, ◌∙◌, true, false, Bool, List, [], Option, Some, None, ◌⊎◌, inl, inr}
 use Rattle.std.specs.Prelude.{is_some}
 use Rattle.ckd_command.specs.declared.registers.Mark.{Mark}
@@ -171,7 +171,7 @@ settle_traces f c = by_save (λ x. is_some (unsaved x.state) ≡ true → (is_so
 
 -- Without a fault.
 
--- nothing is lost, and no equipment check is told that was not told before
+-- nothing is lost, and no equipment check is reported that was not reported before
 pub record Calm (quiet_before : Type 0) (s : State) : Type 0 where
   pub saved : unsaved s ≡ None
   pub quiet : quiet_before → tells_equipment_check (drive_of s).sense ≡ false

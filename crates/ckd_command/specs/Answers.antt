@@ -12,7 +12,7 @@ use Rattle.ckd_command.specs.declared.look.Seen.TheVariants as seen
 use Rattle.ckd_command.specs.declared.close.Closed.{Closed}
 use Rattle.ckd_command.specs.declared.close.Closed.TheVariants.{Stays, Moves}
 
--- what a command code leads to: the command is not begun, and the sense tells why; it is over at once; it works; or the
+-- what a command code leads to: the command is not begun, and the sense says why; it is over at once; it works; or the
 -- arm goes to cylinder 0, head 0 first, where a command is over that has no more to do, and another works
 pub data Beginning : Type 0 where
   Rejected : (registers : Registers) → Beginning
@@ -21,7 +21,7 @@ pub data Beginning : Type 0 where
   ToCylinderZero : (registers : Registers) (opened : Option Opened) → Beginning
 
 -- what a look at the track under the arm leads to: the area is found, or none is looked for; the index passed, and the
--- looks go on at the index of the same track, or of the next head's; or the command ends, and the sense tells why
+-- looks go on at the index of the same track, or of the next head's; or the command ends, and the sense says why
 pub data Sight : Type 0 where
   Found : (opened : Opened) → Sight
   IndexPassed : (registers : Registers) → Sight

@@ -172,7 +172,7 @@ area_bytes t o r = bytes_for (action_of o.command) t o r
 abbrev pub new_record_fits : Geometry → Sighted → Opened → List ℕ → Bool
 new_record_fits g t o b = has_room g.model (kept t o.area) (key_length b) (data_length b)
 
--- eight count bytes; then the key and the data that they tell of, where the record fits
+-- eight count bytes; then the key and the data whose lengths they give, where the record fits
 abbrev pub format_length : Geometry → Sighted → Opened → List ℕ → ℕ
 format_length g t o b =
     if nat_lt (length b) 8 || not (new_record_fits g t o b) then 8 else 8 + body_length b

@@ -132,7 +132,7 @@ is_giving action.GiveSense = true
 is_giving action.Read = true
 is_giving _ = false
 
--- whether the bytes end with a record's data: a record without data is then told by unit exception
+-- whether the bytes end with a record's data: a record without data is then reported by unit exception
 abbrev pub ends_with_data : Extent → Bool
 ends_with_data extent.Data = true
 ends_with_data extent.KeyAndData = true

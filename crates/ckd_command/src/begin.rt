@@ -27,7 +27,7 @@ pub struct Opened {
 /// What a command code leads to, beside what the drive remembers then.
 #[derive(Clone, Copy, Debug, PartialEq, Eq)]
 pub enum Start {
-    /// The command is not begun: the sense tells why.
+    /// The command is not begun: the sense says why.
     Rejected,
     /// The command is over at once, and no byte passes.
     Immediate,
@@ -38,7 +38,7 @@ pub enum Start {
     ToCylinderZero(Option<Opened>),
 }
 
-/// One more cause is told by the sense bytes.
+/// One more cause is reported by the sense bytes.
 pub fn add_cause(registers: &mut Registers, cause: Sense)
     ensures { registers.new ≡ with_cause registers.old cause }
 {

@@ -1,4 +1,4 @@
-//! How a command closes, as far as the registers tell (component descriptions of the 2841 and the 2314, the sections
+//! How a command closes, as far as the registers go (component descriptions of the 2841 and the 2314, the sections
 //! of the commands).
 
 ghost use Rattle.std.specs.Prelude.{◌≡◌, ◌+◌, ◌≤◌, length, slice_range};

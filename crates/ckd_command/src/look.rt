@@ -1,4 +1,4 @@
-//! What a look at a track leads to, as far as the registers tell (component descriptions of the 2841 and the 2314,
+//! What a look at a track leads to, as far as the registers go (component descriptions of the 2841 and the 2314,
 //! 'Multiple-Track Operation' and 'No Record Found').
 
 ghost use Rattle.std.specs.Prelude.{◌≡◌, ◌<◌};
@@ -22,7 +22,7 @@ pub enum Seen {
     IndexPassed,
     /// The index passed, and the looks go on at the index of the next head's track, for which the arm has still to leave this one.
     NextHead,
-    /// The command ends: the sense tells why.
+    /// The command ends: the sense says why.
     Missed,
 }
 

@@ -32,7 +32,7 @@ use Rattle.ckd_drive.proofs.First.{length_by, closing_by}
 use Rattle.ckd_drive.proofs.Takes.{ChangesNothing, field_goes, field_absorbs}
 use Rattle.ckd_drive.proofs.News.{newly_absorbs, is_count}
 
--- The count bytes tell the lengths, whatever comes behind them.
+-- The count bytes give the lengths, whatever comes behind them.
 pub record SameCount (b m : List ℕ) : Type 0 where
   pub key : key_length (b ++ m) ≡ key_length b
   pub bytes : data_length (b ++ m) ≡ data_length b
@@ -47,7 +47,7 @@ same_count b m eight =
 abbrev record_with : (b body : List ℕ) → Record
 record_with b body = record { id = take 5 b; key_area = take (key_length b) body; data_area = drop (key_length b) body }
 
--- a record of count bytes and as many bytes as these tell
+-- a record of count bytes and as many bytes as these give
 parts : (b body : List ℕ) → length b ≡ 8 → length body ≡ body_length b → record_at (b ++ body) ≡ record_with b body
 parts b body eight long =
     let s = same_count b body eight in

@@ -45,9 +45,9 @@ failure_of loads saves old new k = go k.failures
     go (inl same) = NoFailure same
     go (inr x) = by x.0 x.1
 
--- What is told.
+-- What is reported.
 
--- what is told at the end, and is not told anew, was told before
+-- what is reported at the end, and is not reported anew, was reported before
 heard : (r q : Registers) → NotTold r q → tells_equipment_check q.sense ≡ true → tells_equipment_check r.sense ≡ true
 heard r q n e = go (tells_equipment_check r.sense) refl
   where
@@ -55,7 +55,7 @@ heard r q n e = go (tells_equipment_check r.sense) refl
     go true is = is
     go false is = absurd (let quiet : tells_equipment_check q.sense ≡ false = n is in cc)
 
--- a fault is told, and nothing is left to be saved
+-- a fault is reported, and nothing is left to be saved
 pub record TellsFault (s : State) : Type 0 where
   pub told : tells_equipment_check s.registers.sense ≡ true
   pub unwritten : is_written s ≡ false

@@ -1,11 +1,11 @@
--- Each failed call of the store is told, over any calls of the drive.
+-- Each failed call of the store is reported, over any calls of the drive.
 use Rattle.std.proofs.Common.{◌≡◌, ◌∙◌, inl, inr, ◌⊎◌, ap, sym, ◌+◌, Bool, false, arith}
 use Rattle.ckd_command.specs.Drive.{is_written, tells_equipment_check}
 use Rattle.ckd_drive.proofs.Calls.{no_more}
 use Rattle.ckd_drive.specs.Work.{DriveState, CallsStore, Reports}
 use Rattle.ckd_drive.specs.Laws.{Begin, Look, Pass, End, Settle, TellsFailures, EachCallTells, Start, Then, GainsByFailures, EachTrailTells, tells}
 
--- what is told where the count rose
+-- what is reported where the count rose
 told_more : (so : Type 0) (old new : DriveState) → new.image.failures ≡ old.image.failures + 1
     → (new.image.failures ≡ old.image.failures) ⊎ (so × tells new × (is_written new.state ≡ false)) → tells new × (is_written new.state ≡ false)
 told_more so old new more (inl same) = absurd (no_more old.image.failures (sym same ∙ more))

@@ -70,7 +70,7 @@ abbrev pub takes_now : Work → Bool
 takes_now (Passing o b left) = not (is_giving (action_of o.command))
 takes_now w = false
 
--- How far a command is, as it is told to those who call.
+-- How far a command is, as it is reported to those who call.
 
 abbrev pub phase_of_transfer : (gives : Bool) (passed left : ℕ) → Phase
 phase_of_transfer gives passed left = if gives then phase.Gives passed left else phase.Takes passed left
@@ -112,7 +112,7 @@ answer_of_begin (Started o) = begun.Started
 
 -- Look.
 
--- a command that ended in a look, whose sense bytes tell why
+-- a command that ended in a look, whose sense bytes say why
 abbrev pub failed_ending : DriveEnding
 failed_ending = record { unit = record { 0 = unit_check_status }; motion = false }
 
@@ -121,7 +121,7 @@ after_sight (Ready o) d = record d { state = o.state; work = Passing o.opened []
 after_sight (Passed o) d = record d { state = o.state; work = Looking o.opened }
 after_sight (Failed s) d = record d { state = s; work = Over failed_ending }
 
--- a command that looks for its area looks at the track under the arm; one that has found it tells how many bytes more may
+-- a command that looks for its area looks at the track under the arm; one that has found it says how many bytes more may
 -- pass, and looks at no track
 abbrev pub after_look_of : Option Fault → DriveState → Work → DriveState
 after_look_of f d (Looking o) = after_sight (look f (open_at d o)) d

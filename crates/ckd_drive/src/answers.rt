@@ -3,7 +3,7 @@
 /// What a command code led to.
 #[derive(Clone, Copy, Debug, PartialEq, Eq)]
 pub enum Begun {
-    /// The command is not begun: the sense bytes tell why.
+    /// The command is not begun: the sense bytes say why.
     Rejected,
     /// The command is over, and waits for its end.
     Immediate,
@@ -18,7 +18,7 @@ pub enum Look {
     Ready(usize),
     /// The index passed.
     Passed,
-    /// The command is over, and waits for its end: the sense bytes tell why.
+    /// The command is over, and waits for its end: the sense bytes say why.
     Failed,
 }
 
@@ -59,7 +59,7 @@ pub enum Stage {
     Ended,
     /// A command is over with the arm in motion, and waits for its end.
     InMotion,
-    /// A command has failed, as the sense bytes tell, and waits for its end.
+    /// A command has failed, as the sense bytes report, and waits for its end.
     Failed,
     /// A command looks for its area.
     Looking,

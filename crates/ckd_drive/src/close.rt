@@ -32,7 +32,7 @@ pub(crate) const IN_MOTION: DriveEnding = DriveEnding {
     motion: true,
 };
 
-/// How a command ends whose sense bytes tell why it failed.
+/// How a command ends whose sense bytes say why it failed.
 pub(crate) const FAILED: DriveEnding = DriveEnding {
     unit: END_WITH_UNIT_CHECK,
     motion: false,

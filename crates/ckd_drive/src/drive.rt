@@ -87,7 +87,7 @@ impl<S: ImageStore> Drive<S> {
 
     /// Begins the command of this code, where none is open.
     ///
-    /// `Rejected`: it is not begun, and the sense bytes tell why: no such command, the file mask, the sequence, or a written
+    /// `Rejected`: it is not begun, and the sense bytes say why: no such command, the file mask, the sequence, or a written
     /// track that could not be saved as the arm leaves it. `Immediate`: it is over, and waits for `end`. `Started`: it works,
     /// and `look` is next. Every command takes the sequence credit away, and all but Sense make the sense bytes zero;
     /// Recalibrate and Read IPL send the arm to cylinder 0, head 0 (component descriptions of the 2841 and the 2314, the
@@ -112,10 +112,10 @@ impl<S: ImageStore> Drive<S> {
     /// Looks at the track under the arm for the area of the command that works.
     ///
     /// `Ready`: so many bytes may pass; a formatting write asks for the count area first, and for key and data once that
-    /// came. `Passed`: the index passed, and another look is next. `Failed`: the command is over, and the sense bytes tell
+    /// came. `Passed`: the index passed, and another look is next. `Failed`: the command is over, and the sense bytes report
     /// why. The track is loaded where it is not at hand, and one that was written is saved before the next head's
     /// (component descriptions, 'Multiple-Track Operation' and 'No Record Found'). A command that has found its area looks
-    /// at no track: the look tells how many bytes more may pass.
+    /// at no track: the look says how many bytes more may pass.
     pub fn look(&mut self) -> Look
         requires { is_working self.old.work ≡ true }
         ensures state { self.new ≡ with_image (after_look (fault_met self.old self.new) self.old) self.new.image }
@@ -233,7 +233,7 @@ impl<S: ImageStore> Drive<S> {
     /// unit status, and whether the arm still moves.
     ///
     /// Where no byte came nothing changes; a field cut short is a command reject. A seek saves a written track first: where
-    /// that fails the arm and the head stay, and unit check and equipment check are told.
+    /// that fails the arm and the head stay, and unit check and equipment check are reported.
     #[inline(always)]
     pub fn end(&mut self) -> DriveEnding
         requires { may_end self.old.work ≡ true }
@@ -339,7 +339,7 @@ impl<S: ImageStore> Drive<S> {
     /// # Errors
     ///
     /// Where the store fails the slot holds any bytes, and nothing of what was written is saved later; the sense bytes gain
-    /// equipment check, and `unsaved` tells the track.
+    /// equipment check, and `unsaved` reports the track.
     pub fn settle(&mut self) -> Result<(), StoreFault>
         requires { passed_of self.old.work ≡ [] }
         ensures state { self.new ≡ with_image (after_settle (fault_met self.old self.new) self.old) self.new.image }

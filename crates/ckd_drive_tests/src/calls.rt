@@ -1,4 +1,4 @@
-//! Calls of a drive by someone who knows of it what `phase` tells, and nothing else.
+//! Calls of a drive by someone who knows of it what `phase` reports, and nothing else.
 
 ghost use Rattle.std.specs.Prelude.{◌≤◌, length};
 
@@ -69,7 +69,7 @@ pub(crate) fn find(drive: &mut RecordedDrive, code: u8) -> Option<usize> {
     None
 }
 
-/// Whether the drive gives these bytes next, and tells before that so many are left at least.
+/// Whether the drive gives these bytes next, and reports before that so many are left at least.
 pub(crate) fn give(drive: &mut RecordedDrive, bytes: &[u8]) -> bool {
     let Phase::Gives { passed, left } = drive.phase() else {
         return false;

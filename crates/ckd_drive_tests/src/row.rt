@@ -19,7 +19,7 @@ fn ends(drive: &mut RecordedDrive, status: u8) -> bool {
     calls::end(drive) == Some((status, status == MOVING))
 }
 
-// What the drive tells, between two calls.
+// What the drive reports, between two calls.
 fn tells(drive: &RecordedDrive, words: &[&str]) -> Result<Option<bool>> {
     Ok(Some(match words {
         ["sense", first, second] => drive.sense() == [byte(first)?, byte(second)?, 0, 0, 0, 0],

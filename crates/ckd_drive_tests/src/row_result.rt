@@ -109,14 +109,14 @@ fn play_in_pieces(
     }
 }
 
-// What is told of a call of the store that fails.
+// What is reported of a call of the store that fails.
 #[derive(Clone, Copy, Debug, PartialEq, Eq)]
 enum Report {
     // There is no such call.
     NoCall,
     // The command in which it fails is over, or not begun, and the sense bytes have equipment check.
     Told,
-    // All calls come to what they must, or another thing is told.
+    // All calls come to what they must, or another thing is reported.
     Silent,
 }
 
@@ -147,7 +147,7 @@ fn report_of(alloc: Global, volume: &str, row: &str, failure: Failure) -> Result
 }
 
 // Plays a row with each call of the store of the file at this place failing, once and for good, and answers the first that is
-// not told.
+// not reported.
 fn not_told(alloc: Global, volume: &str, row: &str, file: usize) -> Result<Option<u32>> {
     // the first call reads the header, as the image is mounted
     for at in 2..100 {

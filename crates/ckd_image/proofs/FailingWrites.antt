@@ -1,4 +1,4 @@
--- A write of a store that fails as it was told, in the words of every store.
+-- A write of a store that fails at the calls asked for, in the words of every store.
 use Rattle.std.proofs.Common.{◌≡◌, ℕ, ◌+◌, ◌-◌, ◌≤◌, min, Bool, true, false, not, ◌&&◌, if◌then◌else◌, is_ok, Result, Ok, Err, OnOk, OnErr, List, length, take, refl, ap, arith, length-take}
 use Rattle.ckd_image.specs.declared.store.StoreFault.{StoreFault}
 use Rattle.ckd_image.specs.Store.{Stored, overwritten, Torn, Counts}

@@ -1,4 +1,4 @@
--- A store whose calls fail as it was told.
+-- A store whose calls fail where that is asked for.
 use Rattle.std.specs.Prelude.{ℕ, ◌+◌, ◌-◌, ◌^◌, min, Bool, not, ◌&&◌, ◌||◌, ◌==◌, nat_lt, List, length, take, if◌then◌else◌}
 use Rattle.ckd_image.specs.Store.{Stored, overwritten, after_write}
 

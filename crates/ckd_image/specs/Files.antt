@@ -44,7 +44,7 @@ module _ {S : Type 0} where
   each f (None ∷ stores) = each f stores
   each f (Some s ∷ stores) = f s ∷ each f stores
 
-  -- the stores that are there hold a header and as many slots of this size as are told, and those
+  -- the stores that are there hold a header and as many slots of this size as they say, and those
   -- that are not there hold none
   abbrev pub HoldTracks : (S → List ℕ) → ℕ → List (Option S) → List ℕ → Type 0
   HoldTracks content size [] tracks = Unit {0}

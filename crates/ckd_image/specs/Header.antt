@@ -108,7 +108,7 @@ are_parts first n before (f ∷ g ∷ rest) =
     is_part first n f && (nat_lt before f.highest_cylinder && are_parts first (n + 1) f.highest_cylinder (g ∷ rest))
 
 -- an only file may have the sequence 0 or 1; several are numbered from 1 on, and each but the last
--- tells its highest cylinder, which rises
+-- has its highest cylinder, which rises
 abbrev pub are_together : List FileHeader → Bool
 are_together [] = false
 are_together (only ∷ []) = nat_le only.sequence 1 && (only.highest_cylinder == 0)

@@ -31,7 +31,7 @@ pub record Holds (files : List (List ℕ)) (g : Geometry) (slots : List (List �
   pub sizes : All (λ slot. length slot ≡ g.track_size) slots
   pub order : slot_bytes files ≡ concat slots
 
--- these files hold the image. Their headers tell how many slots each one has, so no others do
+-- these files hold the image. Their headers say how many slots each one has, so no others do
 pub record HoldsImage (files : List (List ℕ)) (i : ImageState) : Type 0 where
   pub holds : Holds files i.geometry i.slots
   pub headers : concat (map (take 512) files) ≡ i.header

@@ -1,4 +1,4 @@
-//! A store that fails as it is told, for tests.
+//! A store that fails at the calls asked for, for tests.
 
 ghost use Rattle.std.specs.Prelude.{◌≡◌, ℕ, ◌+◌, ◌-◌, ◌≤◌, ◌<◌, ◌^◌, not, ◌&&◌, is_ok, List, length, slice_range, OnOk};
 ghost use Rattle.ckd_image.specs.Store.{has_room};

@@ -12,7 +12,7 @@ use crate::store::{ImageStore, StoreFault};
 pub(crate) const MOST_FILES: usize = 8;
 
 /// The stores that hold the files of an image, in order, and none behind them. Each has a field of
-/// its own: what the prover is told of an array of them is so long that searches above stop at it.
+/// its own: what the prover is given of an array of them is so long that searches above stop at it.
 #[derive(Drop)]
 pub(crate) struct Stores<S: ImageStore> {
     first: Option<S>,

@@ -132,7 +132,7 @@ const MOUNTS: [(u64, &[u8], Option<MountFault>); 18] = [
     (18, &[0, 1], Some(MountFault::Split)),
     // 4,097 bytes
     (12, &[0x01, 0x10], Some(MountFault::Length)),
-    // the first fault is told: id, device type, heads, track size, file sequence
+    // the first fault is reported: id, device type, heads, track size, file sequence
     (
         0,
         b"CKD_P371\x0B\0\0\0\x4D\x0E\0\0\x12\x02",

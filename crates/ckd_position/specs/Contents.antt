@@ -42,7 +42,7 @@ bytes_of extent.KeyAndData t (Of part i) = (record_on t i).key_area ++ (record_o
 bytes_of extent.CountKeyAndData t (Of part i) = record_bytes (record_on t i)
 bytes_of _ t a = []
 
--- whether the record that was found has no data: it is told by unit exception
+-- whether the record that was found has no data: it is reported by unit exception
 abbrev pub has_no_data : Sighted → Option Area → Bool
 has_no_data t (Some (Of part i)) = length (record_on t i).data_area == 0
 has_no_data t _ = false

@@ -71,7 +71,7 @@ impl Flags for Sense {
     }
 }
 
-// What is told for each cause. A bit that is told alone is its own cause: `NO_RECORD_FOUND`, `END_OF_CYLINDER`.
+// What is reported for each cause. A bit that is reported alone is its own cause: `NO_RECORD_FOUND`, `END_OF_CYLINDER`.
 // Which bits go together is this project's profile.
 impl Sense {
     /// No bit: the sense bytes as a command other than Sense begins.

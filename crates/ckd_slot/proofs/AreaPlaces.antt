@@ -122,7 +122,7 @@ no_window slot extent.Data part i le on = lies_nowhere slot _ (ap (λ (r : Recor
 no_window slot extent.KeyAndData part i le on = lies_nowhere slot _ (ap (λ (r : Record). r.key_area ++ r.data_area) (not_there (track_of slot) i le))
 no_window slot extent.CountKeyAndData part i le on = absurd (omega (arith, le, on))
 
--- whether a record has data is told by its count area
+-- whether a record has data is read off its count area
 pub no_data_there : (slot offsets : List ℕ) (records : Option ℕ) (i at : ℕ) → IsIndexed slot offsets records → is_readable (track_of slot) ≡ true → StandsThere slot i (Some at)
     → data_length (drop at slot) ≡ length (record_on (track_of slot) i).data_area
 no_data_there slot offsets records i at x r there =
@@ -133,7 +133,7 @@ no_data_there slot offsets records i at x r there =
 pub no_data_nowhere : (slot : List ℕ) (i : ℕ) → StandsThere slot i None → (length (record_on (track_of slot) i).data_area == 0) ≡ true
 no_data_nowhere slot i le = rw (not_there (track_of slot) i le) refl
 
--- the table tells where a record stands
+-- the table has where a record stands
 pub table_there : (slot offsets : List ℕ) (n i : ℕ) → Tabled slot offsets n → i < n → StandsThere slot i (Some (get_or offsets i 0))
 table_there slot offsets n i t lt =
     let same : length (take n offsets) ≡ length (track_in slot).records = ap length t.table ∙ length-offsets_from 5 (track_in slot).records in

@@ -359,7 +359,7 @@ fault_is_read slot (RecordPastEnd offset) past =
     let runs_over : length slot < offset + 8 + body_length (drop offset slot) = past.3 in
     read_up_to slot offset (RecordPastEnd offset) past.0 (at_past offset (drop offset slot) (omega (arith, length-drop offset slot)) past.2 (omega (arith, length-drop offset slot)))
 
--- what a reader that gives the slot's one track tells
+-- what a reader that gives the slot's one track answers
 module _ (slot : List ℕ) (small : AreBytes slot) (r : Result Track SlotFault) (is : r ≡ track_of slot) where
   pub tells_whole : (t : Track) → (r ≡ Ok t) ↔ Spells slot t
   tells_whole t = (λ e. read_is_spelled slot t small (sym is ∙ e), λ s. is ∙ spelled_is_read slot t s)

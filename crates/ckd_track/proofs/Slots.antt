@@ -33,7 +33,7 @@ pub length-spelling : (t : Track) → length t.home_address ≡ 5 → All IsReco
 length-spelling t ha are =
     omega (arith, ha, length-append t.home_address (flat_map record_bytes t.records ++ end_mark), length-append (flat_map record_bytes t.records) end_mark, length-records t.records are)
 
--- what a count area tells of its record
+-- what a count area says of its record
 pub record CountTells (r : Record) : Type 0 where
   pub size : length (count_area r) ≡ 8
   pub id : take 5 (count_area r) ≡ r.id

@@ -24,7 +24,7 @@ asks code bytes = record { code = code; bytes = bytes; fault = None }
 abbrev pub failing : Fault → Asked → Asked
 failing fault a = record a { fault = Some fault }
 
--- What is told: the drive rejects the command; it is over as it begins, and its arm moves or not; it finds no area; or it ends with this
+-- What is reported: the drive rejects the command; it is over as it begins, and its arm moves or not; it finds no area; or it ends with this
 -- unit status, and its arm moves or not.
 pub data Told : Type 0 where
   IsRejected : Told
@@ -32,7 +32,7 @@ pub data Told : Type 0 where
   FindsNone : Told
   Ends : (unit : ℕ) → (motion : Bool) → Told
 
--- what was told, the bytes that the drive gave, how many bytes it gave or wanted in all, and the drive behind the command
+-- what was reported, the bytes that the drive gave, how many bytes it gave or wanted in all, and the drive behind the command
 pub record Done : Type 0 where
   pub told : Told
   pub gave : List ℕ
@@ -73,7 +73,7 @@ last_of (a ∷ rest) s = last_of rest (does a s).state
 
 -- What is seen of it.
 
--- what was told; sense bytes 0 and 1, as four hexadecimal digits; the last area that passed; and the credit
+-- what was reported; sense bytes 0 and 1, as four hexadecimal digits; the last area that passed; and the credit
 pub record Seen : Type 0 where
   pub told : Told
   pub sense : ℕ

@@ -13,7 +13,7 @@ ghost use Rattle.ckd_command.specs.declared.registers.Mark.TheVariants.{Saved, W
 ghost use Rattle.ckd_worked.specs.Commands.{asks, failing, does, seen, saw, arm, track, settled_after, IsRejected, FindsNone, Ends};
 ghost use Rattle.ckd_worked.specs.Volumes.{drive, at_track, at_head, slot, track_of_head, track_0, track_1, behind, credited_with, masked_by, on_second_turn, written, lost_track};
 
-/// A load that fails ends the command: equipment check alone is told, and the track stays where it is.
+/// A load that fails ends the command: equipment check alone is reported, and the track stays where it is.
 pub fn failed_load()
     ensures read { seen (does (failing LoadFails (asks 0x06 [])) (behind (At (Of Data 1)) drive)) ≡ saw FindsNone 0x1000 (At (Of Data 1)) None }
     ensures search { seen (does (failing LoadFails (asks 0x31 (0 ∷ 0 ∷ 0 ∷ 0 ∷ 0 ∷ []))) (behind (At (Of Data 1)) drive)) ≡ saw FindsNone 0x1000 (At (Of Data 1)) None }
@@ -81,7 +81,7 @@ pub fn nothing_to_save()
     ensures same_track { track (does (failing (SaveFails (slot (track_of_head 0 []))) (asks 0x12 [])) (written drive)) ≡ (Ok track_0, Written) }
 {}
 
-/// At a program's end a written track is saved. Where that fails unit check and equipment check join what was told; a track that
+/// At a program's end a written track is saved. Where that fails unit check and equipment check join what was reported; a track that
 /// was not written is left alone.
 pub fn end_of_a_program()
     ensures told { seen (settled_after (Some (SaveFails (slot (track_of_head 0 [])))) (does (asks 0x05 (0x11 ∷ [])) (credited_with (EqualId 1) drive))) ≡ saw (Ends 0x0E false) 0x1000 (At (Of Data 1)) None }

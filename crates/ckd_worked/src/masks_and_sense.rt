@@ -13,7 +13,7 @@ ghost use Rattle.ckd_worked.specs.Commands.{asks, does, last_of, seen, saw, arm,
 ghost use Rattle.ckd_worked.specs.Volumes.{drive, at_track, behind, credited_with, masked_by};
 
 /// Write Home Address, Write R0, Write Count, Key and Data, Write Data, Write Key and Data under each mask. What the mask does
-/// not allow is told as file protected before a sequence is looked at.
+/// not allow is reported as file protected before a sequence is looked at.
 pub fn writes_under_each_mask()
     ensures no_home_address_and_r0 { senses_of (0x19 ∷ 0x15 ∷ 0x1D ∷ 0x05 ∷ 0x0D ∷ []) (masked_by 0x00 drive) ≡ 0x8004 ∷ 0x8004 ∷ 0x8010 ∷ 0x8010 ∷ 0x8010 ∷ [] }
     ensures none { senses_of (0x19 ∷ 0x15 ∷ 0x1D ∷ 0x05 ∷ 0x0D ∷ []) (masked_by 0x40 drive) ≡ replicate 5 0x8004 }
@@ -97,7 +97,7 @@ pub fn next_program()
     ensures sense { moved (does (asks 0x04 []) (next_program (last_of (asks 0x05 [] ∷ []) drive))) ≡ (0x80 ∷ 0x10 ∷ 0 ∷ 0 ∷ 0 ∷ 0 ∷ [], 6) }
 {}
 
-/// Every other command makes the sense zero as it begins, No-Operation too; a rejected one then tells its own cause.
+/// Every other command makes the sense zero as it begins, No-Operation too; a rejected one then reports its own cause.
 pub fn sense_becomes_zero()
     ensures no_operation { seen (last_of (asks 0x05 [] ∷ asks 0x03 [] ∷ []) drive) ≡ saw (IsOver false) 0x0000 AtIndex None }
     ensures then_sense { moved (last_of (asks 0x05 [] ∷ asks 0x03 [] ∷ asks 0x04 [] ∷ []) drive) ≡ (0 ∷ 0 ∷ 0 ∷ 0 ∷ 0 ∷ 0 ∷ [], 6) }

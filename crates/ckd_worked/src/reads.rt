@@ -18,7 +18,7 @@ pub fn read_home_address()
     ensures bytes { moved (does (asks 0x1A []) (at_head 1)) ≡ (0 ∷ 0 ∷ 0 ∷ 0 ∷ 1 ∷ [], 5) }
 {}
 
-/// Read R0 gives the whole of R0, and leaves the track behind its data. An R0 without data is told by unit exception.
+/// Read R0 gives the whole of R0, and leaves the track behind its data. An R0 without data is reported by unit exception.
 pub fn read_r0()
     ensures seen { seen (does (asks 0x16 []) drive) ≡ saw (Ends 0x0C false) 0x0000 (At (Of Data 0)) None }
     ensures bytes { moved (does (asks 0x16 []) drive) ≡ (0 ∷ 0 ∷ 0 ∷ 0 ∷ 0 ∷ 0 ∷ 0 ∷ 8 ∷ 0 ∷ 0 ∷ 0 ∷ 0 ∷ 0 ∷ 0 ∷ 0 ∷ 0 ∷ [], 16) }
@@ -26,7 +26,7 @@ pub fn read_r0()
     ensures without_data { seen (does (asks 0x16 []) (at_head 1)) ≡ saw (Ends 0x0D false) 0x0000 (At (Of Data 0)) None }
 {}
 
-/// Read Count gives the next count area behind that of R0, and leaves the track there. It does not tell of a record without data.
+/// Read Count gives the next count area behind that of R0, and leaves the track there. It does not report a record without data.
 pub fn read_count()
     ensures from_the_index { seen (does (asks 0x12 []) drive) ≡ saw (Ends 0x0C false) 0x0000 (At (Of Count 1)) None }
     ensures bytes { moved (does (asks 0x12 []) drive) ≡ (0 ∷ 0 ∷ 0 ∷ 0 ∷ 1 ∷ 2 ∷ 0 ∷ 4 ∷ [], 8) }
@@ -82,7 +82,7 @@ pub fn initial_program_loading_without_record_1()
     ensures arm { arm (does (asks 0x02 []) (drive_over (slot (track_of_head 0 (usual_r0 0 ∷ []))) 1 3)) ≡ (0, 0, First) }
 {}
 
-/// A record without data is told by unit exception in each read whose bytes end with its data.
+/// A record without data is reported by unit exception in each read whose bytes end with its data.
 pub fn records_without_data()
     ensures read_data { seen (does (asks 0x06 []) (behind (At (Of Count 2)) drive)) ≡ saw (Ends 0x0D false) 0x0000 (At (Of Data 2)) None }
     ensures read_key_and_data { seen (does (asks 0x0E []) (behind (At (Of Count 2)) drive)) ≡ saw (Ends 0x0D false) 0x0000 (At (Of Data 2)) None }
@@ -92,7 +92,7 @@ pub fn records_without_data()
     ensures no_bytes { moved (does (asks 0x06 []) (behind (At (Of Count 2)) drive)) ≡ ([], 0) }
 {}
 
-/// The commands that work on another area of such a record tell no unit exception.
+/// The commands that work on another area of such a record report no unit exception.
 pub fn no_unit_exception_elsewhere()
     ensures read_count { seen (does (asks 0x12 []) (behind (At (Of Count 1)) drive)) ≡ saw (Ends 0x0C false) 0x0000 (At (Of Count 2)) None }
     ensures search_identifier { seen (does (asks 0x31 (0 ∷ 0 ∷ 0 ∷ 0 ∷ 2 ∷ [])) (behind (At (Of Count 1)) drive)) ≡ saw (Ends 0x4C false) 0x0000 (At (Of Count 2)) (Some (EqualId 2)) }

@@ -78,7 +78,7 @@ pub fn end_of_cylinder()
     ensures arm { arm (does (asks 0x92 []) (at_head 9)) ≡ (0, 9, First) }
 {}
 
-/// A file mask that allows no head change is told before the cylinder's end, and the head stays. The other masks allow it.
+/// A file mask that allows no head change is reported before the cylinder's end, and the head stays. The other masks allow it.
 pub fn head_change_not_allowed()
     ensures on_the_first_head { seen (does (asks 0x92 []) (masked_by 0x18 (behind (At (Of Count 3)) drive))) ≡ saw FindsNone 0x0004 AtIndex None }
     ensures arm { arm (does (asks 0x92 []) (masked_by 0x18 (behind (At (Of Count 3)) drive))) ≡ (0, 0, First) }

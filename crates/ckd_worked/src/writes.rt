@@ -119,7 +119,7 @@ pub fn count_cut_short()
 {}
 
 /// A record that does not fit: eight bytes are wanted and no more, the track and its place are as they were, and track overrun is
-/// told; nothing may be written behind it.
+/// reported; nothing may be written behind it.
 pub fn record_that_does_not_fit()
     ensures seen { seen (does (asks 0x1D (0 ∷ 0 ∷ 0 ∷ 0 ∷ 7 ∷ 0 ∷ 0x0F ∷ 0 ∷ [])) (behind (At (Of Count 1)) (credited_with (EqualId 1) drive))) ≡ saw (Ends 0x0E false) 0x0040 (At (Of Count 1)) None }
     ensures track { track (does (asks 0x1D (0 ∷ 0 ∷ 0 ∷ 0 ∷ 7 ∷ 0 ∷ 0x0F ∷ 0 ∷ [])) (behind (At (Of Count 1)) (credited_with (EqualId 1) drive))) ≡ (Ok track_0, Saved) }
@@ -158,7 +158,7 @@ pub fn update_cut_short()
     ensures status_without_a_byte { seen (does (asks 0x05 []) (credited_with (EqualId 1) drive)) ≡ saw (Ends 0x0C false) 0x0000 (At (Of Data 1)) None }
 {}
 
-/// An update of a record without data is told by unit exception; nothing is written where it has no key either.
+/// An update of a record without data is reported by unit exception; nothing is written where it has no key either.
 pub fn update_of_a_record_without_data()
     ensures write_data { seen (does (asks 0x05 []) (credited_with (EqualId 2) drive)) ≡ saw (Ends 0x0D false) 0x0000 (At (Of Data 2)) None }
     ensures track { track (does (asks 0x05 []) (credited_with (EqualId 2) drive)) ≡ (Ok track_0, Saved) }

@@ -18,7 +18,7 @@ SHOW 40 8
 INT
 ";
 
-/// What is told of words that are no text.
+/// What is said of words that are no text.
 const NO_TEXT: &str = "error: a word is not UTF-8\n";
 
 /// What `dasd` does without words.

@@ -90,7 +90,7 @@ impl ImageStore for FileStore {
     }
 }
 
-// Puts bytes over those from a place on, and tells whether one of them is another.
+// Puts bytes over those from a place on, and says whether one of them is another.
 fn overwrite(held: &mut [u8], at: usize, bytes: &[u8]) -> bool
     requires { at + length bytes.now ≤ length held.old }
     ensures put { held.new ≡ overwritten held.old at bytes.now }

@@ -11,7 +11,7 @@ use std::alloc::Global;
 use test_rows::new_volume;
 
 /// Lists or checks a new volume of one cylinder of a 2311, of whose reads, the first of which mounts it, this one fails; and
-/// tells the fault that it came to.
+/// reports the fault that it came to.
 pub(crate) fn over_failing(
     alloc: Global,
     job: &str,

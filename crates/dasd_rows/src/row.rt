@@ -30,7 +30,7 @@ struct Stage {
     shown: String,
     /// What an earlier command printed, to compare with.
     kept: String,
-    /// What it told on standard error, and the status.
+    /// What it reported on standard error, and the status.
     told: String,
     status: u8,
     commands: usize,
@@ -128,7 +128,7 @@ fn command(alloc: Global, stage: &mut Stage, line: &str) -> Result<bool> {
     Ok(true)
 }
 
-// Does what words ask; the status, and what is told on standard error.
+// Does what words ask; the status, and what is reported on standard error.
 fn ending_of(
     alloc: Global,
     stage: &mut Stage,
@@ -223,14 +223,14 @@ fn prints_again(alloc: Global, stage: &mut Stage) -> bool {
     is_again
 }
 
-// Whether this is told on standard error.
+// Whether this is reported on standard error.
 fn tells(alloc: Global, stage: &mut Stage, wanted: &str) -> Result<bool> {
     let is_wanted = stage.told.as_str() == wanted;
     stage.told = String::new(alloc);
     Ok(is_wanted)
 }
 
-// Whether a text of the words is told.
+// Whether a text of the words is reported.
 fn is_usage(alloc: Global, stage: &mut Stage) -> Result<bool> {
     let told = stage.told.as_str();
     let is_usage = !told.is_empty() && !told.starts_with("dasd: ");

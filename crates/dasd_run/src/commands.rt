@@ -14,7 +14,7 @@ use std::io::{Read, Write};
 /// How a command ended that did what it was asked.
 #[derive(Clone, Copy, Debug, PartialEq, Eq)]
 pub enum Ending {
-    /// It has nothing to tell.
+    /// It has nothing to report.
     Done,
     /// A volume has tracks that can't be read.
     Findings,
@@ -134,7 +134,7 @@ fn run_deck<F: ImageFiles, R: Read, W: Write>(
     }
 }
 
-// Writes the changed files of a run whose deck was run, and tells its fault, if it had one.
+// Writes the changed files of a run whose deck was run, and reports its fault, if it had one.
 fn conclude<F: ImageFiles>(
     alloc: Global,
     files: &mut F,

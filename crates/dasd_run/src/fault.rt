@@ -13,7 +13,7 @@ pub enum ProgramFault {
     /// There is no memory for it.
     #[error("out of memory")]
     OutOfMemory,
-    /// The words are wrong, or ask for help: this text of several lines tells it.
+    /// The words are wrong, or ask for help: this text of several lines says which.
     #[error("{0}")]
     Words(String),
     /// A word of a volume is of another form, or is the ninth file of an image.

@@ -62,7 +62,7 @@ findings_text findings = finding_lines findings ++ concat (decimal (length findi
 -- Images.
 
 -- An image was only read: all but the numbers of its loads and failures stays, and a failure is counted exactly where a fault of
--- the store is told.
+-- the store is reported.
 abbrev pub IsRead : {A : Type 0} → Result A VolumeFault → (before now : ImageState) → Type 0
 IsRead (Err Store) before now = now ≡ record before { loads = now.loads; failures = before.failures + 1 }
 IsRead result before now = now ≡ record before { loads = now.loads }

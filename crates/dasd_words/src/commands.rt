@@ -116,7 +116,7 @@ fn dasd_command<'a>(alloc: Global) -> Result<Command<'a>, AllocError> {
 ///
 /// # Errors
 ///
-/// Wrong words, or a request for help, with the text that tells it; a request for the version; a word of a volume that has
+/// Wrong words, or a request for help, with the text that says so; a request for the version; a word of a volume that has
 /// another form; or no memory.
 pub fn read_words<'a>(alloc: Global, words: &'a [&'a str]) -> Result<Request<'a>, WordFault> {
     let Ok(command) = dasd_command(alloc) else {
@@ -135,7 +135,7 @@ pub fn read_words<'a>(alloc: Global, words: &'a [&'a str]) -> Result<Request<'a>
     }
 }
 
-// Words that are wrong, and the text that tells it.
+// Words that are wrong, and the text that says so.
 fn wrong(alloc: Global, text: &str) -> WordFault {
     match text.to_string(alloc) {
         Ok(text) => WordFault::Usage(text),
@@ -143,7 +143,7 @@ fn wrong(alloc: Global, text: &str) -> WordFault {
     }
 }
 
-// What is told of words that are wrong.
+// What is said of words that are wrong.
 fn told(alloc: Global, error: &Error) -> WordFault {
     if error.kind() == ErrorKind::OutOfMemory {
         return WordFault::OutOfMemory;

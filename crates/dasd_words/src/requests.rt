@@ -39,7 +39,7 @@ pub enum WordFault {
     OutOfMemory,
     /// A word of a volume is of another form, or is the ninth file of an image.
     BadVolume,
-    /// They are wrong, or ask for help: this text tells it.
+    /// They are wrong, or ask for help: this text says which.
     Usage(String),
     /// They ask for the version, which is this text.
     Version(String),

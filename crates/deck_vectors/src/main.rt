@@ -43,7 +43,7 @@ fn main(rt: HostRuntime) -> Result<()> {
     Ok(())
 }
 
-// Replays a group, and tells how many vectors it has and how many come out as they must.
+// Replays a group, and says how many vectors it has and how many come out as they must.
 fn play_group(rt: &HostRuntime, group: &str) -> Result<(usize, usize)> {
     let alloc = rt.alloc();
     let path = format!(in alloc; "{group}.vectors")?;
@@ -58,7 +58,7 @@ fn play_group(rt: &HostRuntime, group: &str) -> Result<(usize, usize)> {
     Ok((vectors.len(), right))
 }
 
-// Replays a vector; whether it comes out as it must. Where it does not, it is told why.
+// Replays a vector; whether it comes out as it must. Where it does not, what differs is printed.
 fn play_vector(rt: &HostRuntime, group: &str, vector: &Vector) -> Result<bool> {
     match replay(rt, vector)? {
         None => Ok(true),

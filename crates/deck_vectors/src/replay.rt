@@ -39,7 +39,7 @@ impl fmt::Display for Difference {
 
 type Disks = Channel<MemoryStore>;
 
-/// Runs the deck of a vector, and tells how what comes of it differs from what must.
+/// Runs the deck of a vector, and says how what comes of it differs from what must.
 pub(crate) fn replay(rt: &HostRuntime, vector: &Vector) -> Result<Option<Difference>> {
     let alloc = rt.alloc();
     let mut channel = channel_of(alloc, vector)?;
@@ -58,7 +58,7 @@ fn attach_all(rt: &HostRuntime, channel: &mut Disks, vector: &Vector) -> Result<
     Ok(())
 }
 
-// Runs the deck of a vector, and tells how its fault or its answers differ.
+// Runs the deck of a vector, and says how its fault or its answers differ.
 fn answers_differ(
     alloc: Global,
     channel: &mut Disks,

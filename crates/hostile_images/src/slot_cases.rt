@@ -105,7 +105,7 @@ impl Progress for Unseen {
     fn clear(&mut self) {}
 }
 
-// Whether a check of the volume tells the first track's fault, and no other.
+// Whether a check of the volume reports the first track's fault, and no other.
 fn is_checked(alloc: Global, file: &[u8], spelled: &Spelled) -> Result<bool> {
     let mut image = mounted(alloc, file)?;
     let mut printed = Vec::new(alloc);

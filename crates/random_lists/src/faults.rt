@@ -20,9 +20,9 @@ const MOST_UNITS: u16 = 300;
 pub(crate) enum Ending {
     /// There was no such call, and all is as without faults.
     NoCall,
-    /// It was told as it must be, and at most the track that was written is another.
+    /// It was reported as it must be, and at most the track that was written is another.
     Told,
-    /// It was not told.
+    /// It was not reported.
     NotTold,
     /// Without a fault, another answer or image came.
     OtherWithoutFault,
@@ -52,7 +52,7 @@ enum Met {
     Nothing,
     /// A fault, in a step or at a halt.
     InProgram,
-    /// A fault at a reset, which tells this track.
+    /// A fault at a reset, which reports this track.
     AtReset(Option<(u16, u16, u16)>),
     /// Too many calls.
     Calls,

@@ -1,6 +1,6 @@
 //! Lists of events by chance at a channel with one to four drives. Each is compared with its serial list at a fresh channel, and its
 //! answers are looked at one by one, whether they may come. In other lists calls of a store fail, once or for good: up to the first fault
-//! all is as without it, and at most the slot differs that could not be saved; each fault is told by its event; and the list
+//! all is as without it, and at most the slot differs that could not be saved; each fault is reported by its event; and the list
 //! goes on past it, with answers that may come. It is printed how many lists were tried, and how many came out as they must.
 #![tactic(auto)]
 

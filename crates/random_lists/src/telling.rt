@@ -1,4 +1,4 @@
-//! How a call of a store that fails is told.
+//! How a call of a store that fails is reported.
 
 ghost use Rattle.std.specs.Prelude.{◌≡◌, ◌+◌, ◌/◌, ◌%◌};
 ghost use Rattle.ckd_track.specs.Model.{heads_of};
@@ -11,7 +11,7 @@ use s360_channel::{SubchannelView, View};
 use s360_deck::Answer;
 use watched_channels::{Disk, TestChannel};
 
-/// Whether an event tells so many faults: none where none was met, and otherwise one. A step and a halt tell it by unit check, a reset by
+/// Whether an event reports so many faults: none where none was met, and otherwise one. A step and a halt report it by unit check, a reset by
 /// the track that is lost.
 pub(crate) fn tells(
     disks: &[Disk],

@@ -1,5 +1,5 @@
 //! Lists of events, one by one: what each answer must be, how many calls of the stores each event may make, and how a call that
-//! fails is told.
+//! fails is reported.
 
 use crate::ledger::{Ledger, may_answer};
 use crate::telling::{has_equipment_check, tells};
@@ -20,9 +20,9 @@ pub(crate) enum Breach {
     Ledger,
     /// An event makes too many calls of stores.
     Calls,
-    /// A call of a store failed, and its event does not tell it; or it tells one that did not fail.
+    /// A call of a store failed, and its event does not report it; or it reports one that did not fail.
     Telling,
-    /// A call of a store failed, and the sense bytes do not tell it.
+    /// A call of a store failed, and the sense bytes do not report it.
     Sense,
     /// Storage or images are not those that `drive` leaves.
     Left,
@@ -176,8 +176,8 @@ fn watch_event(
     Ok(answer)
 }
 
-// What these events leave at a channel of their own, of which the last met a fault; nothing where the sense bytes do not tell it. A
-// reset tells it by itself.
+// What these events leave at a channel of their own, of which the last met a fault; nothing where the sense bytes do not report it. A
+// reset reports it by itself.
 fn left_behind(
     alloc: Global,
     disks: &[Disk],

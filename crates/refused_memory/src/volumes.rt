@@ -17,7 +17,7 @@ impl Progress for Unseen {
     fn clear(&mut self) {}
 }
 
-/// Lists a volume. Where there is no memory, nothing but the line of its geometry is written before that is told.
+/// Lists a volume. Where there is no memory, nothing but the line of its geometry is written before that is reported.
 pub(crate) fn make_list(rt: &HostRuntime) -> Result<Came> {
     let alloc = rt.alloc();
     let mut image = new_image(alloc)?;

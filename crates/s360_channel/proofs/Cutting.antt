@@ -187,7 +187,7 @@ module _ (c : ChannelState) (place : ℕ) (r : RunningState) (m : Machine) (w : 
   reset_met None h = rest_failures (slice_set c.units place (with_drive w.unit new)) ∙ same_failures c c.storage Idle place w.unit (with_drive w.unit new) w.is_there h
   reset_met (Some f) h = rest_failures (slice_set c.units place (with_drive w.unit new)) ∙ one_failure c c.storage Idle place w.unit (with_drive w.unit new) w.is_there h
 
-  -- where no fault is met no track is told
+  -- where no fault is met no track is reported
   untold : react Reset None m ≡ react Reset (met_at how.fault) m → is_some told.2 ≡ true → ⊥
   untold same some = none_some told.2 (no_track (option_map {U = ℕ × ℕ × ℕ} (λ t. (256 * c.number + w.unit.device, t.0, t.1)) told.2) (ap (λ (a : Answer × Machine). a.0) (same ∙ reset_by how.fault refl)) (no_fault_none_told m Reset (runs_of m sound)).0) some
     where

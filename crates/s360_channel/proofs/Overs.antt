@@ -71,7 +71,7 @@ failures_told told old new t = go t.failed
     go (inl h) = inl h
     go (inr h) = inr h.0
 
--- where one failed it is told
+-- where one failed it is reported
 pub fault_told : (told : Csw × Bool) (old new : DriveState) → TellsOf (Some told) old new → new.image.failures ≡ old.image.failures + 1 → program.TellsFault told.0 new
 fault_told told old new t rose = go t.failed
   where
@@ -130,7 +130,7 @@ module _ (c : ChannelState) (place : ℕ) (r : RunningState) (m : Machine) (w : 
   pub over_rest : AllRest (slice_set c.units place (with_both w.unit told.1 new))
   over_rest = all_of_others c.units place (with_both w.unit told.1 new) w.others is.drive.rests
 
-  -- a fault that was met is told
+  -- a fault that was met is reported
   pub over_fault : (answer : Answer) → program.TellsFault told.0 new → EndedByFault (answer, ended w.unit.device s e m) answer
   over_fault answer t = record {
     answers = refl;

@@ -17,7 +17,7 @@ use Rattle.s360_channel.specs.declared.subchannel.Subchannel.TheVariants.{Workin
 abbrev pub arm_told : (motion : Bool) → Arm
 arm_told motion = if motion then InMotion else AtRest
 
--- its channel status word pends for the unit at a place, whose arm moves or rests as the drive told
+-- its channel status word pends for the unit at a place, whose arm moves or rests as the drive reported
 pub record IsOver (place : ℕ) (csw : Csw) (motion : Bool) (old new : List UnitState) (subchannel : Subchannel) : Type 0 where
   pub unit : UnitState
   pub was : slice_get old place ≡ Some unit
@@ -42,7 +42,7 @@ abbrev pub CutsProgram : Subchannel → (old new : List UnitState) → Subchanne
 CutsProgram (Working place r) old new subchannel = IsCut place r old new subchannel
 CutsProgram s old new subchannel = (new ≡ old) × (subchannel ≡ s)
 
--- A cut whose channel status word is lost; a track that was not saved is told with the address.
+-- A cut whose channel status word is lost; a track that was not saved is reported with the address.
 pub record IsLost (place : ℕ) (r : RunningState) (number : ℕ) (old new : List UnitState) (unsaved : Option (ℕ × ℕ × ℕ)) : Type 0 where
   pub told : Csw × Bool × Option (ℕ × ℕ)
   pub unit : UnitState

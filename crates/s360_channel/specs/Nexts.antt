@@ -46,7 +46,7 @@ storage_told None s = s
 storage_told (Some t) s = changed (csw_stored t.1) s
 
 -- The interruption that a running program asked for is taken, if it asked for one: the address that interrupts and the
--- channel status word are told, and the word is stored.
+-- channel status word are reported, and the word is stored.
 pub record TakesProgram (number device : ℕ) (answer : Option (ℕ × Csw)) (r r' : RunningState) (s s' : Storage) : Type 0 where
   pub told : (t : Storage) (d : DriveState) → answer ≡ option_map (λ csw. (256 * number + device, csw)) (standing_in r.key (phase_in r t d)).interruption
   pub storage : s' ≡ storage_told answer s

@@ -96,7 +96,7 @@ fn interrupt_program(
     Some(interrupted(number, device, csw, storage))
 }
 
-// The channel status word is stored, and told with the address.
+// The channel status word is stored, and reported with the address.
 fn interrupted(number: u8, device: u8, csw: Csw, storage: &mut Storage) -> (u16, Csw)
     ensures told { result ≡ (256 * number + device, csw) }
     ensures storage { storage.new ≡ changed (csw_stored csw) storage.old }

@@ -102,7 +102,7 @@ fn start_program<S: ImageStore>(
     }
 }
 
-// Unit status and channel status are stored, and told with code 1.
+// Unit status and channel status are stored, and reported with code 1.
 fn status_stored(
     unit: UnitStatus,
     channel: ChannelStatus,

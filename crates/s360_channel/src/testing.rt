@@ -71,7 +71,7 @@ fn test_device<S: ImageStore>(
     }
 }
 
-// A channel status word is stored, and told with code 1.
+// A channel status word is stored, and reported with code 1.
 fn csw_stored(csw: Csw, storage: &mut Storage) -> Condition<Csw>
     ensures answer { result ≡ Stored csw }
     ensures storage { storage.new ≡ changed (csw_stored csw) storage.old }

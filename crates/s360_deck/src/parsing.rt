@@ -23,7 +23,7 @@ const LINE_LENGTH: usize = 512;
 ///
 /// # Errors
 ///
-/// The first faulty line is told: too long, an unknown event or a bad operand, in this order. Memory may run out
+/// The first faulty line is reported: too long, an unknown event or a bad operand, in this order. Memory may run out
 /// before a faulty line is come to.
 pub fn parse(alloc: Global, text: &[u8]) -> Result<Vec<Event>, DeckFault>
     ensures { IsRead (events_of text.now) result }

@@ -1,4 +1,4 @@
--- Without a fault no event tells of one; and a reset tells a track only where the program had written it.
+-- Without a fault no event reports one; and a reset reports a track only where the program had written it.
 use Rattle.std.proofs.Common.{◌≡◌, ℕ, zero, suc, ◌/◌, ◌%◌, refl, sym, ap, subst, ◌∙◌, true, false, Bool, cond, ◌==◌, [], ◌∷◌, ◌++◌, map, Option, Some, None, append-nil}
 use Rattle.std.proofs.lemmas.Bool.{eqb-true}
 use Rattle.std.specs.Prelude.{find, filter, option_map, is_some}
@@ -145,7 +145,7 @@ told_calm m d v None h = refl
 told_calm m d v (Some (Ended used st e)) h = refl
 told_calm m d v (Some (NotEnded seen)) h = ap (option_map (λ t. (address_of m d, t.0, t.1))) h.saved
 
--- at rest no sense tells anything
+-- at rest no sense reports anything
 rests_calm : (m n : Machine) → NoneGainsCheck m (all_at_rest n)
 rests_calm m n d v e at after = λ q. go (device_at n d) (sym (found_map (λ b. b == d) at_rest (λ w. refl) n.devices) ∙ after)
   where
@@ -217,7 +217,7 @@ by_event m (Show at len) c r = (tt, none_changed m)
 pub no_fault_none_told : NoFaultNoneTold
 no_fault_none_told m e r = by_event m e m.subchannel r
 
--- Resets that tell a track.
+-- Resets that report a track.
 
 told_some : (address : ℕ) (y : Option (ℕ × ℕ)) (track : ℕ × ℕ × ℕ) → WasReset (option_map (λ t. (address, t.0, t.1)) y) ≡ WasReset (Some track) → is_some y ≡ true
 told_some address None track h = absurd (cc)

@@ -36,9 +36,9 @@ pub record Headline (m : Machine) (es : List Input) : Type 0 where
   -- counted unit;
   pub is_serial : AtEveryMoment m es (λ so_far now rest.
       is_working now.subchannel ≡ false → world_of now ≡ history (world_of m) (all_acts m so_far))
-  -- a fault of the store either is not met, or ends the program in that unit or at that cut, and is told;
+  -- a fault of the store either is not met, or ends the program in that unit or at that cut, and is reported;
   pub faults_end_programs : AtEveryMoment m es (λ so_far now rest. (e : Event) (x : FaultAfter) → FaultDoes now e x)
-  -- and without one nothing is told of any;
+  -- and without one nothing is reported of any;
   pub no_fault_none_told : AtEveryMoment m es (λ so_far now rest.
       (e : Event) → let r = react e None now in TellsNoTrack r.0 × NoneGainsCheck now r.1)
   -- and the machine stays sound, so that all this holds of what comes next.

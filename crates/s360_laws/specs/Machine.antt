@@ -110,7 +110,7 @@ started device m AcceptedStart = (Condition Zero, with_subchannel (Working devic
 abbrev pub refused : UnitStatus → Machine → Answer × Machine
 refused unit m = (StatusStored unit no_channel_status, with_status unit no_channel_status m)
 
--- a drive whose arm moves is busy; where it has arrived, its device end is told with busy
+-- a drive whose arm moves is busy; where it has arrived, its device end is reported with busy
 abbrev pub start_device : (device : ℕ) → Machine → Option Device → Answer × Machine
 start_device device m None = (Condition Three, m)
 start_device device m (Some d) = elim d.arm [

@@ -1,4 +1,4 @@
--- Which tracks a reset may tell as not saved, and that without a fault no event tells of one.
+-- Which tracks a reset may report as not saved, and that without a fault no event reports one.
 use Rattle.std.specs.Prelude.{◌≡◌, ℕ, true, Option, Some, None}
 use Rattle.s360_words.specs.declared.words.Caw.{Caw}
 use Rattle.s360_runs.specs.Runs.{start_point}
@@ -18,7 +18,7 @@ abbrev pub NoneGainsCheck : (before after : Machine) → Type 0
 NoneGainsCheck before after =
     (device : ℕ) (d e : Device) → device_at before device ≡ Some d → device_at after device ≡ Some e → GainsNoCheck d.drive e.drive
 
--- An event that comes with no fault tells no track as not saved, and no device's sense gains equipment check.
+-- An event that comes with no fault reports no track as not saved, and no device's sense gains equipment check.
 abbrev pub NoFaultNoneTold : Type 0
 NoFaultNoneTold = (m : Machine) (e : Event) → Runs m m.subchannel →
     let r = react e None m in TellsNoTrack r.0 × NoneGainsCheck m r.1
@@ -35,7 +35,7 @@ pub record HadWritten (m : Machine) : Type 0 where
   pub stands : walk script caw.key (Between (start_point caw (start_of m drive.drive))) ≡ StandsIn phase
   pub written : has_written phase ≡ true
 
--- A reset tells a track as not saved only where the program that it cuts had written it.
+-- A reset reports a track as not saved only where the program that it cuts had written it.
 abbrev pub ResetTellsWritten : Type 0
 ResetTellsWritten = (m : Machine) (x : Option FaultAfter) (track : ℕ × ℕ × ℕ)
     → (react Reset x m).0 ≡ WasReset (Some track) → HadWritten m

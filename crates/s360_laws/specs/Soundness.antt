@@ -28,7 +28,7 @@ device_owes (Some d) = arm_owes d.arm
 abbrev pub device_for : Machine → (address : ℕ) → Option Device
 device_for m u = find (λ d. address_of m d.device == u) m.devices
 
--- how often the channel owes an end to an address: each end of a program that runs, and of one that ended what its CSW tells
+-- how often the channel owes an end to an address: each end of a program that runs, and of one that ended what its CSW reports
 abbrev pub channel_owes : (end : UnitStatus) → (address : ℕ) → Machine → Subchannel → ℕ
 channel_owes end u m Idle = 0
 channel_owes end u m (Working device script) = if address_of m device == u then 1 else 0

@@ -69,7 +69,7 @@ abbrev pub FaultEndsHalt : Type 0
 FaultEndsHalt = (m : Machine) (a : ℕ) (x : FaultAfter) → Runs m m.subchannel →
     (react (Hio a) (Some x) m ≡ react (Hio a) None m) ⊎ EndedByFault (react (Hio a) (Some x) m) (Condition Two)
 
--- A reset that meets it tells the address of the drive that works, and the cylinder and head of its track.
+-- A reset that meets it reports the address of the drive that works, and the cylinder and head of its track.
 pub record ToldByReset (m : Machine) (r : Answer × Machine) : Type 0 where
   pub device : ℕ
   pub script : Script

@@ -120,12 +120,12 @@ pub fn fault_ends_step()
     ensures { FaultEndsStep }
 {}
 
-/// A fault that Halt I/O meets is told by the CSW and the sense.
+/// A fault that Halt I/O meets is reported by the CSW and the sense.
 pub fn fault_ends_halt()
     ensures { FaultEndsHalt }
 {}
 
-/// A fault that a reset meets is told by its answer: the address, and the cylinder and head of the track that was not
+/// A fault that a reset meets is reported by its answer: the address, and the cylinder and head of the track that was not
 /// saved.
 pub fn fault_told_by_reset()
     ensures { FaultToldByReset }
@@ -136,12 +136,12 @@ pub fn others_meet_none()
     ensures { OthersMeetNone }
 {}
 
-/// An event that comes with no fault tells no track as not saved, and no device's sense gains equipment check.
+/// An event that comes with no fault reports no track as not saved, and no device's sense gains equipment check.
 pub fn no_fault_none_told()
     ensures { NoFaultNoneTold }
 {}
 
-/// A reset tells a track as not saved only where the program that it cuts had written it.
+/// A reset reports a track as not saved only where the program that it cuts had written it.
 pub fn reset_tells_written()
     ensures { ResetTellsWritten }
 {}

@@ -27,7 +27,7 @@ use Rattle.s360_program.specs.Stage.{stage_of}
 use Rattle.s360_program.specs.Stage as stage
 use Rattle.s360_program.proofs.Meeting.{ends_after, met_none}
 
--- a drive in which no track is told as not saved, before any call
+-- a drive in which no track is reported as not saved, before any call
 pub calm_before : (d : DriveState) → unsaved d.state ≡ None → Calm (tells_equipment_check (drive_of d.state).sense ≡ false) d.state
 calm_before d h = record { saved = h; quiet = λ q. q }
 

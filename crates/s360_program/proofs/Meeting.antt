@@ -107,7 +107,7 @@ settled_unwritten (Some (SaveFails left)) c h = go c.state.mark h
     go Lost k = refl
     go Written k = never (sym k)
 
--- where a written track can't be saved, unit check is told
+-- where a written track can't be saved, unit check is reported
 settled_failed : (left : List ℕ) (c : Closed) → is_written c.state ≡ true → tells (settled (Some (SaveFails left)) c).unit UNIT_CHECK ≡ true
 settled_failed left c h = go c.state.mark h
   where
@@ -120,7 +120,7 @@ ending_unwritten : (f g : Option Fault) (key : ℕ) (p : Place) (c : Closed) (k 
 ending_unwritten f g key p c k h =
     ap (λ c. settled_ending key p c (status_of k)) (settled_unwritten f c h) ∙ sym (ap (λ c. settled_ending key p c (status_of k)) (settled_unwritten g c h))
 
--- incorrect length is not told beside unit check
+-- incorrect length is not reported beside unit check
 length_untold : (asked : Bool) (unit : UnitStatus) (k : Condition) → tells unit UNIT_CHECK ≡ true → has (with_interruption asked (beside unit (status_of k))).0 INCORRECT_LENGTH.0 ≡ false
 length_untold asked unit k h = ap (λ b. has (with_interruption asked (if b && is_length k then record { 0 = 0 } else status_of k)).0 INCORRECT_LENGTH.0) h ∙ go asked k
   where

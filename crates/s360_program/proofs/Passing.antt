@@ -244,7 +244,7 @@ gives_so m key ccw a most s s2 d d2 (Passing o b left) f g p le ml free e es = (
     counted : length (take m (drop (length b) (given (record { opened = o; state = d.state })))) ≡ m
     counted = omega (arith, length-take-le m (drop (length b) (given (record { opened = o; state = d.state }))) (omega (arith, length-drop (length b) (given (record { opened = o; state = d.state })), long)))
 
--- a check tells why the first byte may not pass
+-- a check says why the first byte may not pass
 pub gives_not : (check : Condition) (key : ℕ) (ccw : Ccw) (a most : ℕ) (s : Storage) (d : DriveState) (w : Work) → MovesBy d.state w → gives_now w ≡ true → is_clear (status_of check) ≡ false
     → (if skips ccw then no_channel_status else (if not (is_some (slice_get s.bytes a)) then PROGRAM_CHECK else (if not (admits (key_at s a) key) then PROTECTION_CHECK else no_channel_status))) ≡ status_of check
     → PassesBy key ccw a most (Err check) s s d d w

@@ -111,7 +111,7 @@ looked_quiet f o d0 d1 e at w is =
     go (Passed q) t = (let n = not_so (is_written d0.state) (is_written q.state) t.written w in (n, n))
     go (Failed s) t = (let n = not_so (is_written d0.state) (is_written s) t.written w in (n, n))
 
--- nor what tells how many bytes are left
+-- nor what says how many bytes are left
 pub flows_quiet : (flow : Flow) (d0 d1 : DriveState) → Flows flow d0 d1 → IsQuiet d0 → IsQuiet d1
 flows_quiet flow d0 d1 h q = subst IsQuiet (sym h.drive) (go d0.work h.told q)
   where

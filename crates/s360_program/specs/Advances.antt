@@ -37,7 +37,7 @@ pub record Leaves (e : Ending) (d : DriveState) : Type 0 where
   pub unsaved : unsaved d.state ≡ e.unsaved
   pub slots : d.image.slots ≡ d.state.volume.slots
 
--- the CSW and the motion that are told, and the drive that is left, are those of an ending
+-- the CSW and the motion that are reported, and the drive that is left, are those of an ending
 pub record IsEnding (e : Ending) (told : Csw × Bool) (d : DriveState) : Type 0 where
   pub csw : told.0 ≡ e.csw
   pub motion : told.1 ≡ e.motion
@@ -78,14 +78,14 @@ pub record KeepsStorage (before after : Storage) : Type 0 where
 
 -- A cut.
 
--- the program is over as its cut there tells
+-- the program is over as its cut there reports
 pub record Cuts (key : ℕ) (phase : ProgramPhase) (told : Csw × Bool × Option (ℕ × ℕ)) (old new : DriveState) : Type 0 where
   pub fault : Option Fault
   pub met : IsMet fault old new
   pub is_ending : IsEnding ((standing_in key phase).cut fault) (told.0, told.1) new
   pub unsaved : told.2 ≡ ((standing_in key phase).cut fault).unsaved
 
--- Calls of the store, and what is told of their faults.
+-- Calls of the store, and what is reported of their faults.
 
 -- at most so many loads and saves together
 pub record CallsAtMost (most : ℕ) (old new : DriveState) : Type 0 where
@@ -103,18 +103,18 @@ abbrev pub EndsWithFault : Option (Csw × Bool) → DriveState → Type 0
 EndsWithFault None d = ⊥
 EndsWithFault (Some told) d = TellsFault told.0 d
 
--- no track is told as not saved, and equipment check is not gained
+-- no track is reported as not saved, and equipment check is not gained
 pub record TellsNoFault (old new : DriveState) : Type 0 where
   pub saved : unsaved new.state ≡ None
   pub no_check : GainsNoCheck (drive_of old.state) (drive_of new.state)
 
--- where a call of the store failed the program is over and tells it; where none did nothing is told
+-- where a call of the store failed the program is over and reports it; where none did nothing is reported
 pub record TellsOf (told : Option (Csw × Bool)) (old new : DriveState) : Type 0 where
   pub failed : (new.image.failures ≡ old.image.failures)
       ⊎ ((new.image.failures ≡ old.image.failures + 1) × EndsWithFault told new)
   pub good : new.image.failures ≡ old.image.failures → TellsNoFault old new
 
--- a cut whose saving failed tells the track too
+-- a cut whose saving failed reports the track too
 pub record CutTellsOf (told : Csw × Bool × Option (ℕ × ℕ)) (old new : DriveState) : Type 0 where
   pub fault : TellsOf (Some (told.0, told.1)) old new
   pub unsaved : (new.image.failures ≡ old.image.failures) ⊎ (is_some told.2 ≡ true)

@@ -27,8 +27,8 @@ phase_by _ p s d _ = Between (record { storage = s; place = p; state = d })
 abbrev pub phase_in : RunningState → Storage → DriveState → ProgramPhase
 phase_in r s d = phase_by r.stage r.place s d.state d.work
 
--- the drive tells no more bytes as left than may pass, and where it gives them it tells all; where it takes them it tells
--- all of them too, but for the eight of a count area, which it tells first
+-- the drive reports no more bytes as left than may pass, and where it gives them it reports all; where it takes them it reports
+-- all of them too, but for the eight of a count area, which it reports first
 abbrev pub LeftFits : Open → List ℕ → (left : ℕ) → Type 0
 LeftFits o b left =
     (length b + left ≤ length_of o b) × (gives o ≡ true → length b + left ≡ length_of o b)

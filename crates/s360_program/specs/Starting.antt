@@ -30,7 +30,7 @@ pub record IsBad (s : Start) (old new : DriveState) : Type 0 where
   pub first : first s ≡ BadStart
   pub drive : new ≡ old
 
--- the drive rejects the command; its sense tells why
+-- the drive rejects the command; its sense says why
 pub record IsRejected (s : Start) (new : DriveState) : Type 0 where
   pub first : first s ≡ RejectedStart (drive_of new.state)
   pub rests : Rests new
@@ -59,7 +59,7 @@ IsFirst s start.Rejected old new = IsRejected s new
 IsFirst s (start.Immediate told asked) old new = IsImmediate s told asked new
 IsFirst s (start.Accepted r) old new = IsAccepted s r new
 
--- A start makes no call of the store, so it meets no fault, and tells of none.
+-- A start makes no call of the store, so it meets no fault, and reports none.
 pub record StartsQuietly (old new : DriveState) : Type 0 where
   pub image : new.image ≡ old.image
   pub no_check : GainsNoCheck (drive_of old.state) (drive_of new.state)

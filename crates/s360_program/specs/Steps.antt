@@ -51,7 +51,7 @@ status_of condition.IncorrectLength = INCORRECT_LENGTH
 status_of condition.ProgramCheck = PROGRAM_CHECK
 status_of condition.ProtectionCheck = PROTECTION_CHECK
 
--- incorrect length is not told beside unit check
+-- incorrect length is not reported beside unit check
 abbrev pub condition_for : (incorrect : Bool) → UnitStatus → Condition
 condition_for incorrect unit = if incorrect && not (tells unit UNIT_CHECK) then condition.IncorrectLength else condition.Clear
 
@@ -67,7 +67,7 @@ IsMetBy (Some LoadFails) old new =
     (new.image.failures ≡ old.image.failures + 1) × (old.image.loads < new.image.loads)
 IsMetBy (Some (SaveFails left)) old new = new.image.failures ≡ old.image.failures + 1
 
--- what is told of it at the end of the program
+-- what is reported of it at the end of the program
 abbrev pub ToldOf : Option Fault → Csw → (old new : DriveState) → Type 0
 ToldOf None csw old new = TellsNoFault old new
 ToldOf (Some f) csw old new = TellsFault csw new
@@ -99,7 +99,7 @@ pub record EndsBy (next : Option Fault → Next) (told : Csw × Bool) (s : Stora
   pub is_ending : IsEnding ending told new
   pub told_of : ToldOf fault told.0 old new
 
--- what is told of a program that ended: its key, and where the channel is in it, are the run's
+-- what is reported of a program that ended: its key, and where the channel is in it, are the run's
 abbrev pub told_of : Run → Csw × Bool
 told_of r = (csw_at r.key (place_of r.place) r.ended.unit r.ended.channel, r.ended.motion)
 
@@ -143,7 +143,7 @@ MovesBy s w = ⊥
 abbrev pub IsMoving : DriveState → Type 0
 IsMoving d = MovesBy d.state d.work
 
--- and of the bytes that the drive gives all are told as left
+-- and of the bytes that the drive gives all are reported as left
 abbrev pub FindsBy : State → Work → Type 0
 FindsBy s (Passing o b left) = LeftFits (record { opened = o; state = s }) b left
 FindsBy s w = ⊥
@@ -151,7 +151,7 @@ FindsBy s w = ⊥
 abbrev pub HasFound : DriveState → Type 0
 HasFound d = FindsBy d.state d.work
 
--- whether the drive gives or takes bytes, and how many are left; a look that tells it makes no call of the store
+-- whether the drive gives or takes bytes, and how many are left; a look that reports it makes no call of the store
 abbrev pub FlowsBy : Flow → State → Work → Type 0
 FlowsBy flow s (Passing o b left) =
     let all = length_of (record { opened = o; state = s }) b in

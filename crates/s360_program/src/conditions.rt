@@ -1,4 +1,4 @@
-//! What the channel tells of a program's end, beside what the drive tells (Principles of Operation, Input/Output Operations:
+//! What the channel reports of a program's end, beside what the drive reports (Principles of Operation, Input/Output Operations:
 //! 'Channel Status Conditions').
 
 ghost use Rattle.std.specs.Prelude.{◌≡◌};
@@ -11,7 +11,7 @@ use crate::place::Place;
 use bitflags::Flags;
 use s360_words::{Ccw, ChannelStatus, Csw, UnitStatus};
 
-/// What the channel itself has to tell.
+/// What the channel itself has to report.
 #[derive(Clone, Copy, Debug, PartialEq, Eq)]
 pub enum Condition {
     /// Nothing.
@@ -25,7 +25,7 @@ pub enum Condition {
 }
 
 impl Condition {
-    /// How the length of a command is told: incorrect length is not told beside unit check.
+    /// How the length of a command is reported: incorrect length is not reported beside unit check.
     pub fn of_length(incorrect: bool, unit: UnitStatus) -> Condition
         ensures { result ≡ condition_for incorrect unit }
     {
@@ -69,7 +69,7 @@ pub fn chains(ccw: Ccw, unit: UnitStatus, condition: Condition) -> bool
         && condition == Condition::Clear
 }
 
-/// An interruption that was asked for and not taken is told with the ending.
+/// An interruption that was asked for and not taken is reported with the ending.
 pub fn with_interruption(asked: bool, status: ChannelStatus) -> ChannelStatus
     ensures { result ≡ with_interruption asked status }
 {

@@ -24,7 +24,7 @@ pub struct Flow {
 const COUNT_AREA: usize = 8;
 
 /// What a drive has or wants now. Where eight bytes have passed, and nothing is left of the drive's last look, another one
-/// tells: a formatting write wants more once the count area came. With any other number all bytes have passed.
+/// reports: a formatting write wants more once the count area came. With any other number all bytes have passed.
 pub fn flow_of<S: ImageStore>(drive: &mut Drive<S>) -> Flow
     requires { HasFound drive.old }
     ensures { Flows result drive.old drive.new }
@@ -43,7 +43,7 @@ pub fn flow_of<S: ImageStore>(drive: &mut Drive<S>) -> Flow
     Flow { gives: false, left }
 }
 
-/// Passes so many bytes at once at most, and at least one, or tells why the first may not pass.
+/// Passes so many bytes at once at most, and at least one, or says why the first may not pass.
 #[inline(always)]
 pub fn pass<S: ImageStore>(
     gives: bool,

@@ -45,7 +45,7 @@ impl Model for Running {
 pub enum Start {
     /// A bad channel address word, or a program check at the first word: nothing is started.
     Bad,
-    /// The drive rejects the first command; its sense bytes tell why.
+    /// The drive rejects the first command; its sense bytes say why.
     Rejected,
     /// The program is over at once, as the drive ended its only command; and whether an interruption was asked for.
     Immediate(DriveEnding, bool),

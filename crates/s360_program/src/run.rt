@@ -29,11 +29,11 @@ pub struct Run {
     pub ccw: Ccw,
     /// The address from or to which bytes pass.
     pub address: u32,
-    /// What its end told, once it is over.
+    /// What its end reported, once it is over.
     pub ended: Ended,
 }
 
-/// What a program's end tells beside where the channel is in it.
+/// What a program's end reports beside where the channel is in it.
 #[derive(Clone, Copy, Debug, PartialEq, Eq)]
 pub struct Ended {
     /// The unit status.
@@ -53,7 +53,7 @@ pub enum Step {
     Over,
 }
 
-/// No end has been told.
+/// No end has been reported.
 pub const NOT_ENDED: Ended = Ended {
     unit: UnitStatus(0),
     channel: ChannelStatus(0),

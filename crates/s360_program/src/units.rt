@@ -236,15 +236,8 @@ impl Run {
             return self.conclude(self.ccw, incorrect, storage, drive);
         }
         let most = least(most, residual, flow.left);
-        match pass(
-            flow.gives,
-            self.key,
-            self.ccw,
-            self.address,
-            most,
-            storage,
-            drive,
-        ) {
+        let (key, ccw, address) = (self.key, self.ccw, self.address);
+        match pass(flow.gives, key, ccw, address, most, storage, drive) {
             Ok(m) => {
                 self.place.residual -= m;
                 self.address += u32::from(m);

@@ -84,7 +84,7 @@ impl Player {
         None
     }
 
-    // Cuts the program; whether it ends so, and tells this track as not saved.
+    // Cuts the program; whether it ends so, and reports this track as not saved.
     fn is_cut(&mut self, csw: [u8; 8], unsaved: Option<(u16, u16)>) -> bool {
         let Some((told, motion, lost)) = self.machine.cut() else {
             return false;

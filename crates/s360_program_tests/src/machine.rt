@@ -1,4 +1,4 @@
-//! Storage, a drive and the program that runs, by someone who knows of the drive what `phase` and `is_written` tell.
+//! Storage, a drive and the program that runs, by someone who knows of the drive what `phase` and `is_written` report.
 
 ghost use Rattle.std.specs.Option.{IfSome};
 ghost use Rattle.s360_program.specs.Stands.{Stands};
@@ -97,7 +97,7 @@ impl Machine {
     }
 
     /// Takes the interruption of the program that runs, if it asked for one. None where no program runs, or where
-    /// it is not told that one is asked for as it is.
+    /// `interruption_asked` answers otherwise.
     pub(crate) fn take_interruption(&mut self) -> Option<Option<Csw>> {
         let mut running = self.running.take()?;
         let asked = running.interruption_asked();

@@ -19,7 +19,7 @@ pub(crate) enum RowResult<'a> {
     Otherwise(&'a str, u16, Option<Ended>),
     /// This is not what it must be in the end, in steps of a size.
     LeavesOther(&'static str, u16),
-    /// A call of the store that failed is not told.
+    /// A call of the store that failed is not reported.
     NotTold(u32),
 }
 
@@ -77,14 +77,14 @@ fn play_in_steps<'a>(
     })
 }
 
-// What is told of a call of the store that fails.
+// What is reported of a call of the store that fails.
 #[derive(Clone, Copy, Debug, PartialEq, Eq)]
 enum Report {
     // There is no such call.
     NoCall,
     // The program is over with unit check and without incorrect length, and the sense bytes have equipment check.
     Told,
-    // All is as it must be, or another thing is told.
+    // All is as it must be, or another thing is reported.
     Silent,
 }
 
@@ -111,7 +111,7 @@ fn report_of(alloc: Global, volume: &str, row: &str, failure: Failure) -> Result
     Ok(if told { Report::Told } else { Report::Silent })
 }
 
-// Plays a row with each call of its store failing, once and for good, and answers the first that is not told.
+// Plays a row with each call of its store failing, once and for good, and answers the first that is not reported.
 fn not_told(alloc: Global, volume: &str, row: &str) -> Result<Option<u32>> {
     // the first call reads the header, as the image is mounted
     for at in 2..100 {

@@ -30,7 +30,7 @@ use Rattle.s360_runs.proofs.DriveTerms.{no}
 use Rattle.s360_runs.proofs.FaultsMet.{unmet_walk}
 use Rattle.s360_runs.proofs.UnsavedTracks.{stands_saved}
 
--- While a command looks for its area no sense is told, and its whole count is left.
+-- While a command looks for its area the sense reports nothing, and its whole count is left.
 
 abbrev IsFresh : Open → Request → Type 0
 IsFresh o r = NoSenseFor (aim o.opened.command) o.state.registers.sense × (r.place.residual ≡ r.ccw.count)
@@ -140,7 +140,7 @@ no_sense_before o h n = go (aim o.opened.command) h n
     go NoArea h n = no h
     go Credited h n = no h
 
--- the ending, by its sense, its channel status, its count and the track that it tells as not saved
+-- the ending, by its sense, its channel status, its count and the track that it reports as not saved
 abbrev made : (key : ℕ) → Open → Request → Sense → ChannelStatus → ℕ → Option (ℕ × ℕ) → Ending
 made key o r sense channel count lost = record {
   drive = record (drive_of (state_of o)) { sense = sense };

@@ -1,4 +1,4 @@
--- A fault that is met ends the program, and is told; at most one slot is lost; and it is met exactly where the call is made.
+-- A fault that is met ends the program, and is reported; at most one slot is lost; and it is met exactly where the call is made.
 use Rattle.std.proofs.Common.{◌≡◌, ◌+◌, ◌-◌, ℕ, suc, refl, sym, ap, subst, ◌∙◌, arith, true, false, Bool, cond, not, ◌&&◌, ◌||◌, List, [], ◌∷◌, ◌++◌, Option, Some, None, ◌⊎◌, inl, inr}
 use Rattle.std.specs.Prelude.{◌==◌, bit_and, is_some, slice_get}
 use Rattle.std.proofs.lemmas.Bool.{eqb-true}
@@ -30,7 +30,7 @@ use Rattle.s360_runs.proofs.DriveTerms.{no, Fails, fails_from, LookKeeps, BegunK
 use Rattle.s360_runs.proofs.Standing.{stands_somewhere, goes_by, begins}
 use Rattle.s360_runs.proofs.Walks.{units_in_two, run_is_walk}
 
--- Incorrect length is never told beside unit check.
+-- Incorrect length is never reported beside unit check.
 
 abbrev NoLength : ChannelStatus → Type 0
 NoLength channel = has channel.0 0x40 ≡ false

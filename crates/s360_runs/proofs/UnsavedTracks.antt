@@ -1,4 +1,4 @@
--- Which tracks a program may tell as not saved, and that it tells none without a fault of the store.
+-- Which tracks a program may report as not saved, and that it reports none without a fault of the store.
 use Rattle.std.proofs.Common.{◌≡◌, ℕ, refl, subst, sym, true, false, Bool, cond, not, ◌&&◌, ◌||◌, List, [], ◌∷◌, Option, Some, None, ◌⊎◌, inl, inr}
 use Rattle.std.specs.Prelude.{is_some}
 use Rattle.s360_words.specs.Words.{chains_command, caw_of}
@@ -24,7 +24,7 @@ use Rattle.s360_runs.proofs.Walks.{run_walk}
 
 -- Without faults.
 
--- what the sense told before
+-- what the sense reported before
 abbrev Quiet : IdleDrive → Type 0
 Quiet before = tells_equipment_check before.sense ≡ false
 

@@ -23,7 +23,7 @@ pub record SameButTrack (before after : IdleDrive) : Type 0 where
   pub others : (n : ℕ) → (n ≡ track_number after → ⊥) → slice_get (slots_of after) n ≡ slice_get (slots_of before) n
   pub size : length_at (track_number after) after ≡ length_at (track_number after) before
 
--- A load that fails loses no slot. A save that fails loses at most that of the track under the arm, which is told as not
+-- A load that fails loses no slot. A save that fails loses at most that of the track under the arm, which is reported as not
 -- saved.
 abbrev pub LosesAtMost : Fault → (before after : IdleDrive) → (unsaved : Option (ℕ × ℕ)) → Type 0
 LosesAtMost LoadFails before after unsaved = after.volume ≡ before.volume

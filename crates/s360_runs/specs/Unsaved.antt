@@ -1,4 +1,4 @@
--- Which tracks a program may tell as not saved, and that it tells none without a fault of the store.
+-- Which tracks a program may report as not saved, and that it reports none without a fault of the store.
 use Rattle.std.specs.Prelude.{◌≡◌, ◌⊎◌, ℕ, List, [], true, false, Bool, ◌||◌, Option, None, is_some}
 use Rattle.s360_words.specs.declared.words.Caw.{Caw}
 use Rattle.ckd_command.specs.Drive.{IdleDrive, Open, state_of, Fault, close, is_written, is_write_command, tells_equipment_check}
@@ -28,7 +28,7 @@ pub record WritesByCommands : Type 0 where
       → walk script caw.key (Between (start_point caw s)) ≡ StandsIn phase
       → unit fault caw.key phase ≡ GoesOn next → is_written (state_in next) ≡ true → has_written phase ≡ true
 
--- A track that is told as not saved was written.
+-- A track that is reported as not saved was written.
 
 abbrev pub TellsWritten : ProgramPhase → Ending → Type 0
 TellsWritten phase e = is_some e.unsaved ≡ true → has_written phase ≡ true
@@ -37,7 +37,7 @@ abbrev pub NextTellsWritten : ProgramPhase → Next → Type 0
 NextTellsWritten phase (GoesOn next) = Unit {0}
 NextTellsWritten phase (EndsIn s e) = TellsWritten phase e
 
--- A track that a unit or a cut tells as not saved was written by the program, and not saved since.
+-- A track that a unit or a cut reports as not saved was written by the program, and not saved since.
 abbrev pub UnsavedWasWritten : Type 0
 UnsavedWasWritten = (s : Start) (caw : Caw) (script : Script) (phase : ProgramPhase) (fault : Option Fault)
     → walk script caw.key (Between (start_point caw s)) ≡ StandsIn phase
@@ -49,7 +49,7 @@ UnsavedWasWritten = (s : Start) (caw : Caw) (script : Script) (phase : ProgramPh
 abbrev pub GainsNoCheck : (before after : IdleDrive) → Type 0
 GainsNoCheck before after = tells_equipment_check before.sense ≡ false → tells_equipment_check after.sense ≡ false
 
--- no track is told as not saved, and the sense gains no equipment check
+-- no track is reported as not saved, and the sense gains no equipment check
 pub record TellsNoFault (before : IdleDrive) (e : Ending) : Type 0 where
   pub saved : e.unsaved ≡ None
   pub no_check : GainsNoCheck before e.drive
@@ -64,7 +64,7 @@ FirstTellsNoFault before (ImmediateStart e) = TellsNoFault before e
 FirstTellsNoFault before BadStart = Unit {0}
 FirstTellsNoFault before AcceptedStart = Unit {0}
 
--- A program that meets no fault tells of none: where it ends by itself, where it is cut, and where it is rejected at its
+-- A program that meets no fault reports none: where it ends by itself, where it is cut, and where it is rejected at its
 -- start.
 abbrev pub NoFaultNothingTold : Type 0
 NoFaultNothingTold = (s : Start) (script : Script)

@@ -62,7 +62,7 @@ OutcomeKeeps track v (NotEnded seen) = (fault : Option Fault) → slot_in (seen.
 abbrev pub RunKeeps : Type 0
 RunKeeps = (s : Start) (script : Script) (track : ℕ) → run_writes track script s ≡ false → OutcomeKeeps track s.drive.volume (run script s)
 
--- 'Written and not saved since', told from the units of a script alone.
+-- 'Written and not saved since', read off the units of a script alone.
 
 -- whether a unit closes a command that has changed the track
 abbrev pub writes_moved : Open → Transfer → TransferUnit → Bool

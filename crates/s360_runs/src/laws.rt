@@ -66,7 +66,7 @@ pub fn fault_ends_unit()
     ensures { FaultEndsUnit }
 {}
 
-/// The same of a run: unit check and equipment check tell of the fault, and at most one slot is lost.
+/// The same of a run: unit check and equipment check report the fault, and at most one slot is lost.
 pub fn fault_ends_program()
     ensures { FaultEndsProgram }
 {}
@@ -86,12 +86,12 @@ pub fn writes_by_commands()
     ensures { WritesByCommands }
 {}
 
-/// A track that is told as not saved was written by the program, and not saved since.
+/// A track that is reported as not saved was written by the program, and not saved since.
 pub fn unsaved_was_written()
     ensures { UnsavedWasWritten }
 {}
 
-/// Without a fault no track is told as not saved, and the sense gains no equipment check.
+/// Without a fault no track is reported as not saved, and the sense gains no equipment check.
 pub fn no_fault_nothing_told()
     ensures { NoFaultNothingTold }
 {}

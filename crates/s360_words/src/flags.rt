@@ -7,7 +7,7 @@ ghost use Rattle.s360_words.specs.Flags.{ccw_flags, unit_status_bits, channel_st
 use bitflags::{Flag, Flags, bitflag_items};
 
 /// The flag byte of a channel command word, its bits 32 to 39. The low three bits have no name and must be
-/// zero; they are kept as they stand, so that a word that sets one can be told.
+/// zero; they are kept as they stand, so that a word that sets one can be recognized.
 #[derive(Clone, Copy, Debug, PartialEq, Eq)]
 pub struct CcwFlags(pub u8);
 
@@ -17,7 +17,7 @@ bitflag_items! {
         const CHAIN_DATA = 0x80;
         /// The next channel command word has a further command, where chain data is off.
         const CHAIN_COMMAND = 0x40;
-        /// Incorrect length is not told, where chain data is off.
+        /// Incorrect length is not reported, where chain data is off.
         const SUPPRESS_LENGTH_INDICATION = 0x20;
         /// What is read is not put into storage.
         const SKIP = 0x10;
@@ -66,7 +66,7 @@ bitflag_items! {
         const CHANNEL_END = 0x08;
         /// The device is done with the command.
         const DEVICE_END = 0x04;
-        /// The sense bytes tell what went wrong.
+        /// The sense bytes say what went wrong.
         const UNIT_CHECK = 0x02;
         /// The device met what does not usually come, as a record of no data.
         const UNIT_EXCEPTION = 0x01;

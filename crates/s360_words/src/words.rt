@@ -80,7 +80,7 @@ impl Ccw {
         self.flags.intersects(CcwFlags::CHAIN_COMMAND) && !self.chains_data()
     }
 
-    /// Whether incorrect length is not told. Where the word chains data, it is told.
+    /// Whether incorrect length is not reported. Where the word chains data, it is reported.
     pub fn suppresses_length(self) -> bool
         ensures { result ≡ suppresses_length self }
     {

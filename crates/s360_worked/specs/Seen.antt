@@ -32,7 +32,7 @@ csw address unit channel count =
 abbrev pub csw_with_key : (key address unit channel count : ℕ) → Csw
 csw_with_key key address unit channel count = record (csw address unit channel count) { key = key }
 
--- six sense bytes, of which the first two tell anything
+-- six sense bytes, of which the first two report anything
 abbrev pub sense_of : (first second : ℕ) → List ℕ
 sense_of first second = first ∷ second ∷ 0 ∷ 0 ∷ 0 ∷ 0 ∷ []
 

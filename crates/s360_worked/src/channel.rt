@@ -21,13 +21,13 @@ pub fn two_drives()
 {}
 
 /// The serial list of the second program's events: its steps are one, the arrival stands behind them, and what was
-/// refused or told nothing is left out.
+/// refused or reported nothing is left out.
 pub fn serial_list_of_second_program()
     ensures { serial_events (channel_with seek_and_sense (device_with 0x90 new_drive ∷ device_with 0x91 new_drive ∷ [])) ≡ Sio 0x191 ∷ StepBy 7 ∷ Arrive 0x190 ∷ Interrupt ∷ Interrupt ∷ [] }
 {}
 
 /// While the ending of a program pends, only Test I/O at its drive takes it: every other start or test finds the channel
-/// busy, and Halt I/O and Test Channel tell that an interruption pends.
+/// busy, and Halt I/O and Test Channel say that an interruption pends.
 pub fn ending_that_pends()
     ensures { answers while_pending (channel (read 0x600 0x00 100) written_drive) ≡ Condition Zero ∷ Stepped 81 ∷ Condition One ∷ Condition Zero ∷ Condition Two ∷ Condition Two ∷ CswStored (csw 0x408 0x0C 0x40 0x14) ∷ Condition Zero ∷ [] }
 {}

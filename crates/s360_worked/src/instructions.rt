@@ -57,7 +57,7 @@ pub fn halt_of_an_arm()
     ensures { answers halted_in_motion (channel recalibrate small_drive) ≡ StatusStored (record { 0 = 0x08 }) (record { 0 = 0 }) ∷ StatusStored (record { 0 = 0 }) (record { 0 = 0 }) ∷ HasArrived true ∷ StatusStored (record { 0 = 0 }) (record { 0 = 0 }) ∷ Interrupted (Some (0x190, csw 0 0x04 0 0)) ∷ [] }
 {}
 
-/// While an ending pends, Test I/O and Start I/O to another device find the channel busy, Halt I/O tells that an interruption pends, and the ending is still there.
+/// While an ending pends, Test I/O and Start I/O to another device find the channel busy, Halt I/O says that an interruption pends, and the ending is still there.
 pub fn other_device_while_an_ending_pends()
     ensures { answers asked_pending (channel_with (program (ccw 0x06 0x600 0 4)) (device_with 0x90 small_drive ∷ device_with 0x91 small_drive ∷ [])) ≡ Condition Zero ∷ Stepped 5 ∷ Condition Two ∷ Condition Zero ∷ Condition Two ∷ Condition One ∷ CswStored (csw 0x408 0x0C 0 0) ∷ Condition Zero ∷ [] }
 {}

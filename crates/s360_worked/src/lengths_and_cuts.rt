@@ -17,7 +17,7 @@ pub fn no_suppression_while_data_chains()
     ensures { seen 0 0 (run (units 9) (start small_drive (program (ccw 0x06 0x600 0xA0 6)))) ≡ saw 6 (csw 0x408 0x0C 0x40 2) (sense_of 0x00 0x00) [] }
 {}
 
-/// Incorrect length is not told beside unit check: a seek address of seven bytes, and its cylinder is not there.
+/// Incorrect length is not reported beside unit check: a seek address of seven bytes, and its cylinder is not there.
 pub fn no_length_beside_unit_check()
     ensures { seen 0 0 (run (units 9) (start small_drive (seek_with 0 7 5))) ≡ saw 8 (csw 0x408 0x0E 0 1) (sense_of 0x81 0x00) [] }
 {}
@@ -53,7 +53,7 @@ pub fn home_address_without_a_byte()
     ensures halted { answers (steps_and 3 (Hio 0x190)) (channel home_address_past_storage small_drive) ≡ Condition Zero ∷ Stepped 3 ∷ Condition Two ∷ Interrupted (Some (0x190, csw 0x410 0x0C 0 5)) ∷ [] }
 {}
 
-/// Three bytes for a record of four are told as incorrect length; but where the save at the program's end fails, unit check is told and not
+/// Three bytes for a record of four are reported as incorrect length; but where the save at the program's end fails, unit check is reported and not
 /// incorrect length.
 pub fn length_beside_a_failed_save()
     ensures saved { seen 0 0 (run (units 30) (start small_drive short_write)) ≡ saw 21 (csw 0x420 0x0C 0x40 0) (sense_of 0x00 0x00) [] }

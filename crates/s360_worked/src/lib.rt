@@ -6,7 +6,7 @@
 //! A new drive has one new cylinder. A written drive has two; the tracks that are not new are at heads 0 to 3 of cylinder 0:
 //! three records of 80 bytes; a record without data; and two records whose data begins with a channel command word. The first
 //! unit of a program is the one in which Start I/O fetches its first word; where events are given, it is not among the
-//! units that their steps tell of.
+//! units that their steps report.
 #![tactic(auto, unfolding(ckd_command::specs::Commands::beginning, ckd_command::specs::Commands::sight, ckd_command::specs::Commands::area_bytes, ckd_command::specs::Commands::length_after, ckd_command::specs::Commands::closing, ckd_track::specs::Track::track_of, ckd_track::specs::Track::records_from, ckd_track::specs::Track::slot_of,))]
 
 pub mod chaining;

@@ -10,19 +10,19 @@ ghost use Rattle.s360_worked.specs.Channels.{channel, channel_with_key_1, glance
 ghost use Rattle.s360_worked.specs.Seen.{sense_of, csw, csw_with_key};
 ghost use Rattle.s360_worked.specs.Volumes.{written_drive, first_track};
 
-/// The interruption is taken while the program runs, and is not told again with the ending.
+/// The interruption is taken while the program runs, and is not reported again with the ending.
 pub fn interruption_taken_while_running()
     ensures told { answers interruption_taken (channel (read 0x600 0x08 80) written_drive) ≡ Condition Zero ∷ Interrupted (Some (0x190, csw 0x408 0 0x80 80)) ∷ Stepped 81 ∷ Interrupted (Some (0x190, csw 0x408 0x0C 0 0)) ∷ [] }
     ensures state { glance_after interruption_taken (channel (read 0x600 0x08 80) written_drive) ≡ glanced (0 ∷ 0 ∷ 0x04 ∷ 0x08 ∷ 0x0C ∷ 0 ∷ 0 ∷ 0 ∷ []) ((0, 0, sense_of 0x00 0x00, Ok (first_track (replicate 80 0xC1))) ∷ []) }
     ensures serial { glance_after_programs interruption_taken (channel (read 0x600 0x08 80) written_drive) ≡ glanced (0 ∷ 0 ∷ 0x04 ∷ 0x08 ∷ 0x0C ∷ 0 ∷ 0 ∷ 0 ∷ []) ((0, 0, sense_of 0x00 0x00, Ok (first_track (replicate 80 0xC1))) ∷ []) }
 {}
 
-/// The interruption is not taken before the program ends, and is told with its ending.
+/// The interruption is not taken before the program ends, and is reported with its ending.
 pub fn interruption_told_with_the_ending()
     ensures { answers interruption_left (channel (read 0x600 0x08 80) written_drive) ≡ Condition Zero ∷ Stepped 81 ∷ Interrupted (Some (0x190, csw 0x408 0x0C 0x80 0)) ∷ Interrupted None ∷ [] }
 {}
 
-/// A command that is over as it starts tells the interruption in the status that Start I/O stores.
+/// A command that is over as it starts reports the interruption in the status that Start I/O stores.
 pub fn interruption_of_an_immediate_command()
     ensures { answers whole_program (channel interrupting_no_operation written_drive) ≡ StatusStored (record { 0 = 0x0C }) (record { 0 = 0x80 }) ∷ Stepped 0 ∷ Interrupted None ∷ [] }
 {}

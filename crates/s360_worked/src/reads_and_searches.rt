@@ -1,4 +1,4 @@
-//! Reads and searches: where they end, and what their lengths tell.
+//! Reads and searches: where they end, and what their lengths come to.
 //! Component descriptions of the 2841 and the 2314, the sections of the search and read commands; Principles of Operation,
 //! Input/Output Operations: 'Incorrect Length', 'Program Check', 'Protection Check'.
 
@@ -21,7 +21,7 @@ pub fn no_record_found()
     ensures { seen 0 0 (run (units 200) (start written_drive (search_and_read 9))) ≡ saw 75 (csw 0x410 0x0E 0 5) (sense_of 0x00 0x08) [] }
 {}
 
-/// A count of 100 for a record of 80 bytes. With the flag that suppresses it, incorrect length is not told.
+/// A count of 100 for a record of 80 bytes. With the flag that suppresses it, incorrect length is not reported.
 pub fn incorrect_length()
     ensures told { seen 0x600 80 (run (units 200) (start written_drive (read 0x600 0x00 100))) ≡ saw 82 (csw 0x408 0x0C 0x40 20) (sense_of 0x00 0x00) (replicate 80 0xC1) }
     ensures suppressed { seen 0x600 80 (run (units 200) (start written_drive (read 0x600 0x20 100))) ≡ saw 82 (csw 0x408 0x0C 0 20) (sense_of 0x00 0x00) (replicate 80 0xC1) }

@@ -18,7 +18,7 @@ pub fn first_load_failed()
     ensures serial { glance_after_programs first_load_fails (channel (read 0x600 0x00 100) written_drive) ≡ glanced (0 ∷ 0 ∷ 0x04 ∷ 0x08 ∷ 0x0E ∷ 0 ∷ 0 ∷ 100 ∷ []) ((0, 0, sense_of 0x10 0x00, Ok (first_track (replicate 80 0xC1))) ∷ []) }
 {}
 
-/// A reset cuts an update, and the save of its track fails: the reset tells which track was not saved. The sense bytes are
+/// A reset cuts an update, and the save of its track fails: the reset says which track was not saved. The sense bytes are
 /// zero, as after every reset.
 pub fn reset_with_a_failed_save()
     ensures told { answers (cut_fails Reset) (channel update_record_1 written_drive) ≡ Condition Zero ∷ Stepped 45 ∷ WasReset (Some (0x190, 0, 0)) ∷ Interrupted None ∷ [] }

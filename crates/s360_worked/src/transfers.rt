@@ -45,7 +45,7 @@ pub fn count_too_short()
     ensures suppressed { seen 0 0 (run (units 9) (start small_drive (short_read 0x60))) ≡ saw 5 (csw 0x410 0x0C 0 1) (sense_of 0x00 0x00) [] }
 {}
 
-/// An interruption that was asked for and not taken is told with the ending, also where a further word was fetched, by command
+/// An interruption that was asked for and not taken is reported with the ending, also where a further word was fetched, by command
 /// chaining or by data chaining, and where Halt I/O ends the program.
 pub fn interruption_that_waits()
     ensures chained { seen 0 0 (run (units 9) (start small_drive interruption_before_fetch)) ≡ saw 2 (csw 0x410 0x0C 0x80 1) (sense_of 0x00 0x00) [] }

@@ -13,7 +13,7 @@ ghost use Rattle.s360_worked.specs.Channels.{channel, glance_after, glance_after
 ghost use Rattle.s360_worked.specs.Seen.{sense_of, seen, saw, csw};
 ghost use Rattle.s360_worked.specs.Volumes.{written_drive, first_track, track_with, record_of};
 
-/// Write Data as a program's first command: Start I/O stores unit check, and the sense bytes tell command reject and invalid
+/// Write Data as a program's first command: Start I/O stores unit check, and the sense bytes report command reject and invalid
 /// sequence.
 pub fn write_out_of_sequence()
     ensures told { answers whole_program (channel write_at_once written_drive) ≡ StatusStored (record { 0 = 0x02 }) (record { 0 = 0 }) ∷ Stepped 0 ∷ Interrupted None ∷ [] }
@@ -37,7 +37,7 @@ pub fn format_cut_short()
     ensures track { glance_after (steps_and 25 (Hio 0x190)) (channel format_record_1 written_drive) ≡ glanced (0 ∷ 0 ∷ 0x04 ∷ 0x18 ∷ 0x0C ∷ 0 ∷ 0 ∷ 0x0A ∷ []) ((0, 0, sense_of 0x00 0x00, Ok (track_with 0 0 (record_of 0 0 1 (replicate 10 0xD5 ++ replicate 10 0) ∷ []))) ∷ []) }
 {}
 
-/// Write Data that a reset cuts: its record has zeros behind the bytes that came, and nothing is told of the program.
+/// Write Data that a reset cuts: its record has zeros behind the bytes that came, and nothing is reported of the program.
 pub fn update_cut_by_reset()
     ensures told { answers (steps_and 45 Reset) (channel update_record_1 written_drive) ≡ Condition Zero ∷ Stepped 45 ∷ WasReset None ∷ Interrupted None ∷ [] }
     ensures track { glance_after (steps_and 45 Reset) (channel update_record_1 written_drive) ≡ glanced (replicate 8 0) ((0, 0, sense_of 0x00 0x00, Ok (first_track (replicate 30 0xD7 ++ replicate 50 0))) ∷ []) }

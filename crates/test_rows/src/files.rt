@@ -130,7 +130,7 @@ fn split_at(alloc: Global, bytes: &[u8], at: usize, highest: u16) -> Result<RowF
 }
 
 impl RowFiles {
-    /// The files of a volume that one file holds: two, where a cylinder is told with which the second begins.
+    /// The files of a volume that one file holds: two, where a cylinder is given with which the second begins.
     ///
     /// # Errors
     ///

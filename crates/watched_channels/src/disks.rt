@@ -53,7 +53,7 @@ impl Failure {
     };
 }
 
-/// A channel over stores that are watched, and fail as they are told.
+/// A channel over stores that are watched, and fail at the calls asked for.
 pub type TestChannel<'a> = Channel<WatchedStore<'a, FailingStore>>;
 
 /// Spells a track with these records behind the usual record 0 into the slot of a new volume.

@@ -1,4 +1,4 @@
-//! For tests: channels over disks in memory whose stores are watched and fail as they are told, and lists of events that are compared with
+//! For tests: channels over disks in memory whose stores are watched and fail at the calls asked for, and lists of events that are compared with
 //! their serial lists.
 #![tactic(auto)]
 
