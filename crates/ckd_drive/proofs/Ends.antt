@@ -15,12 +15,12 @@ use Rattle.ckd_command.specs.declared.begin.Opened.{Opened}
 use Rattle.ckd_command.specs.Answers.{CommandEnd}
 use Rattle.ckd_slot.specs.declared.windows.Window.{Window}
 use Rattle.ckd_drive.specs.Transfers.{Transfer, Sense, Field, Read, Search, Fill, Filled, Progress}
-use Rattle.ckd_drive.specs.Stage.{Stage, Idle, Passing}
+use Rattle.ckd_drive.specs.Stage.{Idle, Passing}
 use Rattle.ckd_command.specs.Tables.{action_of}
 use Rattle.ckd_position.specs.Contents.{Sighted}
 use Rattle.ckd_command.specs.Commands.{Closing, IsAtTrack, area_bytes, closing, close_by, command_end, search_ends, area_ends, own_home_address, new_record_fits, number as number_of}
 use Rattle.ckd_cache.specs.Cache.{CacheState, IsVolume, after_save, after_failed_save}
-use Rattle.ckd_drive.specs.Invariant.{Stands, mark_left, HasFilled, state_of, IsPlaced, IsField, CreditIs, AtHand, command_end_at, field_ends, seen_by, slot_at, track_under, is_filled, is_filled_by}
+use Rattle.ckd_drive.specs.Invariant.{Stands, mark_left, HasFilled, state_of, IsPlaced, IsField, CreditIs, AtHand, command_end_at, field_ends, seen_by, slot_at, track_under, is_filled, is_filled_by, kept, Parts, parts_of, track_in_reach, AtWork, geometry_in, number_in, slot_in, closing_in, work_in}
 use Rattle.ckd_command.specs.Drive.{closed_staying, SaveFails, is_written_by}
 use Rattle.ckd_drive.specs.Work.{DriveState, CallsStore, closed_of, ending_of, after_end, end_saves, fault_met, with_image}
 use Rattle.ckd_image.specs.Image.{ImageState}
@@ -29,12 +29,10 @@ use Rattle.ckd_drive.proofs.Torn.{torn_whole}
 use Rattle.ckd_drive.proofs.Faults.{fault_none, fault_saving, mark_written, failed_left, lost_registers}
 use Rattle.ckd_drive.proofs.Standing.{no_credit, geometry_saved, failures_saved, volume_saved}
 use Rattle.ckd_drive.proofs.Numbers.{number_there}
-use Rattle.ckd_drive.proofs.Looks.{goes_of, no_filled_seen}
+use Rattle.ckd_drive.proofs.Looks.{seen_track, goes_of, no_filled_seen}
 use Rattle.ckd_drive.proofs.First.{closing_by, sense_outcome}
 
 -- the track that the definitions see under the arm
-abbrev pub seen_track : CacheState → ℕ → List ℕ → Transfer → Sighted
-seen_track c n before p = track_of (slot_at (seen_by c.slots n before p) n)
 
 is_some_not : (t : Track) → Some t ≡ None → ⊥
 is_some_not t e = cc
@@ -70,78 +68,81 @@ whole_same : (m l n : ℕ) → n ≡ m + l → (m == n) ≡ (l == 0)
 whole_same m l n e = grind (arith, nat_tests, e)
 
 -- how a command closes is known by its place
-pub command_end_is : (c : CacheState) (g : Geometry) (r : Registers) (n : ℕ) (o : Opened) (before passed : List ℕ) (p : Transfer) (moved : ℕ)
-    → n < length c.slots → IsPlaced c g r n o before passed p → length passed ≡ moved → command_end (closing g (seen_track c n before p) o r passed) ≡ command_end_at g r o moved p
-command_end_is c g r n o before passed (Sense b u) moved lt x m = x.2.so
-command_end_is c g r n o before passed (Read w u) moved lt x m = x.2.so
-command_end_is c g r n o before passed (Fill w u) moved lt x m = x.2.so
-command_end_is c g r n o before passed (Filled w u) moved lt x m =
+pub command_end_is : (job : AtWork) (p : Transfer) (moved : ℕ)
+    → number_in job < length job.cache.slots → IsPlaced job p → length job.passed ≡ moved → command_end (closing_in job (seen_track job p)) ≡ command_end_at (geometry_in job) job.registers job.opened moved p
+command_end_is job (Sense b u) moved lt x m = x.2.so
+command_end_is job (Read w u) moved lt x m = x.2.so
+command_end_is job (Fill w u) moved lt x m = x.2.so
+command_end_is job (Filled w u) moved lt x m =
     let k = x.filled.closes [] (omega arith) in
-    let same : passed ++ [] ≡ passed = append-nil passed in
-    rw (seen_filled c n before lt) (rw same at k.so)
-command_end_is c g r n o before passed (Field f) moved lt x m =
-    let t = track_of (slot_at c.slots n) in
-    let a = action_of o.command in
-    let is : closing g t o r passed ≡ close_by a g t o r passed = closing_by a g t o r passed refl in
-    let plain = field_closes a g t o r passed x.0.is_field (ap (λ (k : Closing). k.written) (sym is) ∙ x.2) in
-    let bytes : take moved f ≡ passed = rw m at x.0.collected in
+    let same : job.passed ++ [] ≡ job.passed = append-nil job.passed in
+    rw (seen_filled job.cache (number_in job) job.before lt) (rw same at k.so)
+command_end_is job (Field f) moved lt x m =
+    let t = track_of (slot_in job) in
+    let a = action_of job.opened.command in
+    let is : closing (geometry_in job) t job.opened job.registers job.passed ≡ close_by a (geometry_in job) t job.opened job.registers job.passed = closing_by a (geometry_in job) t job.opened job.registers job.passed refl in
+    let plain = field_closes a (geometry_in job) t job.opened job.registers job.passed x.0.is_field (ap (λ (k : Closing). k.written) (sym is) ∙ x.2) in
+    let bytes : take moved f ≡ job.passed = rw m at x.0.collected in
     rw bytes (ap command_end (is ∙ plain))
-command_end_is c g r n o before passed (Search w so_far) moved lt x m =
-    let t = track_of (slot_at c.slots n) in
-    let area = area_bytes t o r in
-    let is = closing_by action.Search g t o r passed x.0.is_search in
-    let size : length area ≡ length passed + w.len = omega (arith, x.0.lies.size, length-drop (length passed) area, x.0.room) in
-    let whole : (length passed == length area) ≡ (w.len == 0) = whole_same (length passed) w.len (length area) size in
+command_end_is job (Search w so_far) moved lt x m =
+    let t = track_of (slot_in job) in
+    let area = area_bytes t job.opened job.registers in
+    let is = closing_by action.Search (geometry_in job) t job.opened job.registers job.passed x.0.is_search in
+    let size : length area ≡ length job.passed + w.len = omega (arith, x.0.lies.size, length-drop (length job.passed) area, x.0.room) in
+    let whole : (length job.passed == length area) ≡ (w.len == 0) = whole_same (length job.passed) w.len (length area) size in
     ap command_end is ∙ rw (whole, x.0.compared, m) refl
 
-pub unwritten_is : (c : CacheState) (g : Geometry) (r : Registers) (n : ℕ) (o : Opened) (before passed : List ℕ) (p : Transfer)
-    → IsPlaced c g r n o before passed p → is_filled_by p ≡ false → (closing g (seen_track c n before p) o r passed).written ≡ None
-unwritten_is c g r n o before passed (Sense b u) x f = x.2.unwritten
-unwritten_is c g r n o before passed (Read w u) x f = x.2.unwritten
-unwritten_is c g r n o before passed (Fill w u) x f = x.2.unwritten
-unwritten_is c g r n o before passed (Filled w u) x f = absurd cc
-unwritten_is c g r n o before passed (Field y) x f = x.2
-unwritten_is c g r n o before passed (Search w so_far) x f =
-    ap (λ (k : Closing). k.written) (closing_by action.Search g (track_of (slot_at c.slots n)) o r passed x.0.is_search) ∙ search_unwritten o r _ _
+pub unwritten_is : (job : AtWork) (p : Transfer)
+    → IsPlaced job p → is_filled_by p ≡ false → (closing_in job (seen_track job p)).written ≡ None
+unwritten_is job (Sense b u) x f = x.2.unwritten
+unwritten_is job (Read w u) x f = x.2.unwritten
+unwritten_is job (Fill w u) x f = x.2.unwritten
+unwritten_is job (Filled w u) x f = absurd cc
+unwritten_is job (Field y) x f = x.2
+unwritten_is job (Search w so_far) x f =
+    ap (λ (k : Closing). k.written) (closing_by action.Search (geometry_in job) (track_of (slot_in job)) job.opened job.registers job.passed x.0.is_search) ∙ search_unwritten job.opened job.registers _ _
 
 -- The state that is left.
 
 -- a track that was written is in its place
-written_there : (c : CacheState) (g : Geometry) (r : Registers) (n : ℕ) (o : Opened) (before passed : List ℕ) (w : Window) (u : CommandEnd) → n < length c.slots → HasFilled c g r n o before passed w u
-    → (t : Track) × ((closing g (seen_track c n before (Filled w u)) o r passed).written ≡ Some t) × (slice_set (slice_set c.slots n before) n (slot_of g.track_size t) ≡ c.slots)
-written_there c g r n o before passed w u lt x =
+written_there : (job : AtWork) (w : Window) (u : CommandEnd) → number_in job < length job.cache.slots → HasFilled job w u
+    → (t : Track) × ((closing_in job (seen_track job (Filled w u))).written ≡ Some t) × (slice_set (slice_set job.cache.slots (number_in job) job.before) (number_in job) (slot_of (geometry_in job).track_size t) ≡ job.cache.slots)
+written_there job w u lt x =
     let k = x.filled.closes [] (omega arith) in
-    let same : passed ++ [] ≡ passed = append-nil passed in
-    let slot : slot_of g.track_size k.track ≡ slot_at c.slots n = k.slot_is ∙ rw same (sym x.slot_is) in
-    (k.track, rw (seen_filled c n before lt) (rw same at k.written), rw (slot, set-set c.slots n before (slot_at c.slots n)) (set-get_or c.slots n []))
+    let same : job.passed ++ [] ≡ job.passed = append-nil job.passed in
+    let slot : slot_of (geometry_in job).track_size k.track ≡ slot_in job = k.slot_is ∙ rw same (sym x.slot_is) in
+    (k.track, rw (seen_filled job.cache (number_in job) job.before lt) (rw same at k.written), rw (slot, set-set job.cache.slots (number_in job) job.before (slot_in job)) (set-get_or job.cache.slots (number_in job) []))
 
-pub staying : (c : CacheState) (r : Registers) (m : Mark) (n : ℕ) (o : Opened) (before passed : List ℕ) (p : Transfer) (u : CommandEnd) (k : Closing)
-    → n ≡ track_under c.image.geometry r → n < length c.slots → IsPlaced c c.image.geometry r n o before passed p → k ≡ closing c.image.geometry (seen_track c n before p) o r passed → command_end k ≡ u
-    → closed_staying (record { volume = record { geometry = c.image.geometry; slots = seen_by c.slots n before p }; registers = r; mark = m }) k
-    ≡ record { state = record { volume = record { geometry = c.image.geometry; slots = c.slots }; registers = u.registers; mark = mark_left p m }; unit = u.ending.unit; motion = u.ending.motion }
-staying c r m n o before passed (Filled w v') u k n_is lt x is out =
-    let there = written_there c c.image.geometry r n o before passed w v' lt x in
-    let written : k.written ≡ Some there.0 = ap (λ (y : Closing). y.written) is ∙ there.1 in
-    rw (written, ← n_is, there.2, ← out) refl
-staying c r m n o before passed (Sense b v') u k n_is lt x is out = (let w : k.written ≡ None = ap (λ (y : Closing). y.written) is ∙ unwritten_is c c.image.geometry r n o before passed (Sense b v') x refl in rw (w, ← out) refl)
-staying c r m n o before passed (Field f) u k n_is lt x is out = (let w : k.written ≡ None = ap (λ (y : Closing). y.written) is ∙ unwritten_is c c.image.geometry r n o before passed (Field f) x refl in rw (w, ← out) refl)
-staying c r m n o before passed (Read v v') u k n_is lt x is out = (let w : k.written ≡ None = ap (λ (y : Closing). y.written) is ∙ unwritten_is c c.image.geometry r n o before passed (Read v v') x refl in rw (w, ← out) refl)
-staying c r m n o before passed (Search v v') u k n_is lt x is out = (let w : k.written ≡ None = ap (λ (y : Closing). y.written) is ∙ unwritten_is c c.image.geometry r n o before passed (Search v v') x refl in rw (w, ← out) refl)
-staying c r m n o before passed (Fill v v') u k n_is lt x is out = (let w : k.written ≡ None = ap (λ (y : Closing). y.written) is ∙ unwritten_is c c.image.geometry r n o before passed (Fill v v') x refl in rw (w, ← out) refl)
+pub staying : (job : AtWork) (m : Mark) (p : Transfer) (u : CommandEnd)
+    → number_in job < length job.cache.slots → IsPlaced job p → command_end (closing_in job (seen_track job p)) ≡ u
+    → closed_staying (record { volume = record { geometry = geometry_in job; slots = seen_by job.cache.slots (number_in job) job.before p }; registers = job.registers; mark = m }) (closing_in job (seen_track job p))
+    ≡ record { state = record { volume = record { geometry = geometry_in job; slots = job.cache.slots }; registers = u.registers; mark = mark_left p m }; unit = u.ending.unit; motion = u.ending.motion }
+staying job m (Filled w v) u lt x out = (let there = written_there job w v lt x in rw (there.1, there.2, ← out) refl)
+staying job m (Sense b v) u lt x out = rw (unwritten_is job (Sense b v) x refl, ← out) refl
+staying job m (Field f) u lt x out = rw (unwritten_is job (Field f) x refl, ← out) refl
+staying job m (Read w v) u lt x out = rw (unwritten_is job (Read w v) x refl, ← out) refl
+staying job m (Search w v) u lt x out = rw (unwritten_is job (Search w v) x refl, ← out) refl
+staying job m (Fill w v) u lt x out = rw (unwritten_is job (Fill w v) x refl, ← out) refl
+
+-- A drive stands while the bytes of a command pass, which would close so.
+pub record Closes (parts : Parts) (p : Progress) (now : DriveState) (u : CommandEnd) : Type 0 where
+  pub stands : Stands parts
+  pub passes : parts.stage ≡ Passing p
+  pub is : state_of parts ≡ now
+  pub out : u ≡ command_end_at parts.cache.image.geometry parts.registers p.opened p.moved p.place
 
 -- what a command closes to whose arm stays
-pub stays_closed : (c : CacheState) (r : Registers) (m : Mark) (s : Stage) (p : Progress) (before passed : List ℕ) (now : DriveState) (u : CommandEnd)
-    → Stands c r m s before passed → s ≡ Passing p → state_of c r m s before passed ≡ now → u ≡ command_end_at c.image.geometry r p.opened p.moved p.place → u.moves_off ≡ false
-    → closed_of None now now.work ≡ record { state = record { volume = record { geometry = c.image.geometry; slots = c.slots }; registers = u.registers; mark = mark_left p.place m }; unit = u.ending.unit; motion = u.ending.motion }
-stays_closed c r m s p before passed now u x is now_is out stays =
-    let g = c.image.geometry in
-    let n : ℕ = track_under g r in
-    let goes = goes_of c r m s p before passed x is in
-    let lt = number_there c r m s before passed x in
-    let k = closing g (seen_track c n before p.place) p.opened r passed in
-    let o_is : command_end k ≡ u = command_end_is c g r n p.opened before passed p.place p.moved lt goes.placed goes.moved ∙ sym out in
+pub stays_closed : (parts : Parts) (p : Progress) (now : DriveState) (u : CommandEnd)
+    → Closes parts p now u → u.moves_off ≡ false
+    → closed_of None now now.work ≡ record { state = record { volume = record { geometry = parts.cache.image.geometry; slots = parts.cache.slots }; registers = u.registers; mark = mark_left p.place parts.mark }; unit = u.ending.unit; motion = u.ending.motion }
+stays_closed parts p now u e stays =
+    let job = work_in parts p.opened in
+    let goes = goes_of parts p e.stands e.passes in
+    let lt = number_there parts e.stands in
+    let k = closing_in job (seen_track job p.place) in
+    let o_is : command_end k ≡ u = command_end_is job p.place p.moved lt goes.placed goes.moved ∙ sym e.out in
     let off : k.moves_off ≡ false = ap (λ (y : CommandEnd). y.moves_off) o_is ∙ stays in
-    rw (← now_is, is, off) (staying c r m n p.opened before passed p.place u k refl lt goes.placed refl o_is)
+    rw (← e.is, e.passes, off) (staying job parts.mark p.place u lt goes.placed o_is)
 
 -- Where the arm is then, and the credit.
 
@@ -211,113 +212,116 @@ lands_field c g n r o action.Update b none at f = absurd f
 lands_area : (c : CacheState) (g : Geometry) (n : ℕ) (r : Registers) (o : Opened) (b : Bool) (u : CommandEnd) → command_end (area_ends o r b) ≡ u → r.credit ≡ None → Lands c g n r u
 lands_area c g n r o b u e none = (let P : CommandEnd → Type 0 = λ x. Lands c g n r x in subst P e (lands_plain c g n r _ refl refl refl refl none))
 
-pub lands : (c : CacheState) (g : Geometry) (r : Registers) (n : ℕ) (o : Opened) (before passed : List ℕ) (p : Transfer) (moved : ℕ) → IsPlaced c g r n o before passed p → r.credit ≡ None → IsAtTrack g r
-    → Lands c g n r (command_end_at g r o moved p)
-lands c g r n o before passed (Sense b u) moved x none at = lands_area c g n r o false u (ap command_end (sym (sense_outcome g (track_of (slot_at c.slots n)) o r passed x.0.is_sense)) ∙ x.2.so) none
-lands c g r n o before passed (Read w u) moved x none at = lands_area c g n r o _ u (ap command_end (sym (closing_by action.Read g (track_of (slot_at c.slots n)) o r passed x.0.is_read)) ∙ x.2.so) none
-lands c g r n o before passed (Fill w u) moved x none at =
-    let nothing : passed ≡ [] = x.0.none in
-    lands_area c g n r o _ u (ap command_end (sym (closing_by action.Update g (track_of (slot_at c.slots n)) o r [] x.0.is_update)) ∙ rw nothing at x.2.so) none
-lands c g r n o before passed (Filled w u) moved x none at = record { stays = λ _. (x.cylinder, x.head, any_credit c n _ x.at_hand); moves = λ e. absurd (let s = x.stays in cc) }
-lands c g r n o before passed (Search w so_far) moved x none at = lands_search c g n r o _ _ x.0.at_hand none
-lands c g r n o before passed (Field f) moved x none at = lands_field c g n r o (action_of o.command) (take moved f) none at x.0.is_field
+pub lands : (job : AtWork) (p : Transfer) (moved : ℕ) → IsPlaced job p → job.registers.credit ≡ None → IsAtTrack (geometry_in job) job.registers
+    → Lands job.cache (geometry_in job) (number_in job) job.registers (command_end_at (geometry_in job) job.registers job.opened moved p)
+lands job (Sense b u) moved x none at = lands_area job.cache (geometry_in job) (number_in job) job.registers job.opened false u (ap command_end (sym (sense_outcome (geometry_in job) (track_of (slot_in job)) job.opened job.registers job.passed x.0.is_sense)) ∙ x.2.so) none
+lands job (Read w u) moved x none at = lands_area job.cache (geometry_in job) (number_in job) job.registers job.opened _ u (ap command_end (sym (closing_by action.Read (geometry_in job) (track_of (slot_in job)) job.opened job.registers job.passed x.0.is_read)) ∙ x.2.so) none
+lands job (Fill w u) moved x none at =
+    let nothing : job.passed ≡ [] = x.0.none in
+    lands_area job.cache (geometry_in job) (number_in job) job.registers job.opened _ u (ap command_end (sym (closing_by action.Update (geometry_in job) (track_of (slot_in job)) job.opened job.registers [] x.0.is_update)) ∙ rw nothing at x.2.so) none
+lands job (Filled w u) moved x none at = record { stays = λ _. (x.cylinder, x.head, any_credit job.cache (number_in job) _ x.at_hand); moves = λ e. absurd (let s = x.stays in cc) }
+lands job (Search w so_far) moved x none at = lands_search job.cache (geometry_in job) (number_in job) job.registers job.opened _ _ x.0.at_hand none
+lands job (Field f) moved x none at = lands_field job.cache (geometry_in job) (number_in job) job.registers job.opened (action_of job.opened.command) (take moved f) none at x.0.is_field
 
 -- a command that moves the arm has written nothing
-pub moving_unfilled : (c : CacheState) (g : Geometry) (r : Registers) (n : ℕ) (o : Opened) (before passed : List ℕ) (p : Transfer) (moved : ℕ) → IsPlaced c g r n o before passed p → (command_end_at g r o moved p).moves_off ≡ true → is_filled_by p ≡ false
-moving_unfilled c g r n o before passed (Filled w u) moved x e = absurd (let s = x.stays in cc)
-moving_unfilled c g r n o before passed (Sense b u) moved x e = refl
-moving_unfilled c g r n o before passed (Read w u) moved x e = refl
-moving_unfilled c g r n o before passed (Fill w u) moved x e = refl
-moving_unfilled c g r n o before passed (Search w u) moved x e = refl
-moving_unfilled c g r n o before passed (Field f) moved x e = refl
+pub moving_unfilled : (job : AtWork) (p : Transfer) (moved : ℕ) → IsPlaced job p → (command_end_at (geometry_in job) job.registers job.opened moved p).moves_off ≡ true → is_filled_by p ≡ false
+moving_unfilled job (Filled w u) moved x e = absurd (let s = x.stays in cc)
+moving_unfilled job (Sense b u) moved x e = refl
+moving_unfilled job (Read w u) moved x e = refl
+moving_unfilled job (Fill w u) moved x e = refl
+moving_unfilled job (Search w u) moved x e = refl
+moving_unfilled job (Field f) moved x e = refl
 
-pub moves_unfilled : (c : CacheState) (r : Registers) (m : Mark) (s : Stage) (p : Progress) (before passed : List ℕ) (u : CommandEnd)
-    → Stands c r m s before passed → s ≡ Passing p → u ≡ command_end_at c.image.geometry r p.opened p.moved p.place → u.moves_off ≡ true → is_filled s ≡ false
-moves_unfilled c r m s p before passed u x is out moves =
-    let goes = goes_of c r m s p before passed x is in
-    rw is (moving_unfilled c c.image.geometry r (track_under c.image.geometry r) p.opened before passed p.place p.moved goes.placed (ap (λ (y : CommandEnd). y.moves_off) (sym out) ∙ moves))
+-- what is known of a command that closes with the arm in motion
+pub record MovesOff (parts : Parts) (p : Progress) (u : CommandEnd) : Type 0 where
+  pub off : (closing_in (work_in parts p.opened) (seen_track (work_in parts p.opened) p.place)).moves_off ≡ true
+  pub so : command_end (closing_in (work_in parts p.opened) (seen_track (work_in parts p.opened) p.place)) ≡ u
+  pub unfilled : is_filled parts.stage ≡ false
+  pub plain : seen_by parts.cache.slots (track_in_reach parts) parts.before p.place ≡ parts.cache.slots
+
+pub moves_off : (parts : Parts) (p : Progress) (now : DriveState) (u : CommandEnd) → Closes parts p now u → u.moves_off ≡ true → MovesOff parts p u
+moves_off parts p now u e moves =
+    let job = work_in parts p.opened in
+    let goes = goes_of parts p e.stands e.passes in
+    let so = command_end_is job p.place p.moved (number_there parts e.stands) goes.placed goes.moved ∙ sym e.out in
+    let unfilled : is_filled_by p.place ≡ false = moving_unfilled job p.place p.moved goes.placed (ap (λ (y : CommandEnd). y.moves_off) (sym e.out) ∙ moves) in
+    record {
+      off = ap (λ (y : CommandEnd). y.moves_off) so ∙ moves;
+      so = so;
+      unfilled = rw e.passes unfilled;
+      plain = no_filled_seen parts.cache.slots (track_in_reach parts) parts.before p.place unfilled;
+    }
 
 -- The drive after the end.
 
-pub stays_state : (c : CacheState) (r : Registers) (m : Mark) (s : Stage) (p : Progress) (before passed : List ℕ) (now : DriveState) (u : CommandEnd)
-    → Stands c r m s before passed → s ≡ Passing p → state_of c r m s before passed ≡ now → u ≡ command_end_at c.image.geometry r p.opened p.moved p.place → u.moves_off ≡ false
-    → (state_of c u.registers (mark_left p.place m) Idle before passed ≡ with_image (after_end (fault_met now (state_of c u.registers (mark_left p.place m) Idle before passed)) now) c.image)
-    × (u.ending ≡ ending_of (closed_of (fault_met now (state_of c u.registers (mark_left p.place m) Idle before passed)) now now.work))
-stays_state c r m s p before passed now u x is now_is out stays =
-    let new = state_of c u.registers (mark_left p.place m) Idle before passed in
-    let image : now.image ≡ c.image = sym (ap (λ (d : DriveState). d.image) now_is) in
+pub stays_state : (parts : Parts) (p : Progress) (now : DriveState) (u : CommandEnd)
+    → Closes parts p now u → u.moves_off ≡ false
+    → (state_of (record parts { registers = u.registers; mark = mark_left p.place parts.mark; stage = Idle }) ≡ with_image (after_end (fault_met now (state_of (record parts { registers = u.registers; mark = mark_left p.place parts.mark; stage = Idle }))) now) parts.cache.image)
+    × (u.ending ≡ ending_of (closed_of (fault_met now (state_of (record parts { registers = u.registers; mark = mark_left p.place parts.mark; stage = Idle }))) now now.work))
+stays_state parts p now u e stays =
+    let new = state_of (record parts { registers = u.registers; mark = mark_left p.place parts.mark; stage = Idle }) in
+    let image : now.image ≡ parts.cache.image = sym (ap (λ (d : DriveState). d.image) e.is) in
     let none : fault_met now new ≡ None = fault_none now new (sym (ap (λ (i : ImageState). i.failures) image)) in
-    let closed = stays_closed c r m s p before passed now u x is now_is out stays in
+    let closed = stays_closed parts p now u e stays in
     (rw (none, closed) refl, rw (none, closed) refl)
 
-pub moves_state : (c c' : CacheState) (r : Registers) (m : Mark) (s : Stage) (p : Progress) (before passed : List ℕ) (now : DriveState) (u : CommandEnd)
-    → Stands c r m s before passed → s ≡ Passing p → state_of c r m s before passed ≡ now → u ≡ command_end_at c.image.geometry r p.opened p.moved p.place → u.moves_off ≡ true → c' ≡ after_save c
-    → (state_of c' u.registers Saved Idle before passed ≡ with_image (after_end (fault_met now (state_of c' u.registers Saved Idle before passed)) now) c'.image)
-    × (u.ending ≡ ending_of (closed_of (fault_met now (state_of c' u.registers Saved Idle before passed)) now now.work))
-moves_state c c' r m s p before passed now u x is now_is out moves save =
+pub moves_state : (parts : Parts) (c' : CacheState) (p : Progress) (now : DriveState) (u : CommandEnd)
+    → Closes parts p now u → u.moves_off ≡ true → c' ≡ after_save parts.cache
+    → (state_of (parts_of (kept c' u.registers Saved) Idle parts.before parts.passed) ≡ with_image (after_end (fault_met now (state_of (parts_of (kept c' u.registers Saved) Idle parts.before parts.passed))) now) c'.image)
+    × (u.ending ≡ ending_of (closed_of (fault_met now (state_of (parts_of (kept c' u.registers Saved) Idle parts.before parts.passed))) now now.work))
+moves_state parts c' p now u e moves save =
+    let c = parts.cache in
     let g = c.image.geometry in
-    let n : ℕ = track_under g r in
-    let goes = goes_of c r m s p before passed x is in
-    let lt = number_there c r m s before passed x in
-    let k = closing g (seen_track c n before p.place) p.opened r passed in
-    let o_is : command_end k ≡ u = command_end_is c g r n p.opened before passed p.place p.moved lt goes.placed goes.moved ∙ sym out in
-    let off : k.moves_off ≡ true = ap (λ (y : CommandEnd). y.moves_off) o_is ∙ moves in
-    let unfilled : is_filled_by p.place ≡ false = moving_unfilled c g r n p.opened before passed p.place p.moved goes.placed (ap (λ (y : CommandEnd). y.moves_off) (sym out) ∙ moves) in
-    let plain = no_filled_seen c.slots n before p.place unfilled in
-    let new = state_of c' u.registers Saved Idle before passed in
-    let image : now.image ≡ c.image = sym (ap (λ (d : DriveState). d.image) now_is) in
+    let k = moves_off parts p now u e moves in
+    let new = state_of (parts_of (kept c' u.registers Saved) Idle parts.before parts.passed) in
+    let image : now.image ≡ c.image = sym (ap (λ (d : DriveState). d.image) e.is) in
     let image' : c'.image.failures ≡ c.image.failures = ap (λ (d : CacheState). d.image.failures) save ∙ failures_saved c in
     let none : fault_met now new ≡ None = fault_none now new (image' ∙ sym (ap (λ (i : ImageState). i.failures) image)) in
     let closed : closed_of None now now.work ≡ record { state = record { volume = record { geometry = g; slots = c.slots }; registers = u.registers; mark = Saved }; unit = u.ending.unit; motion = u.ending.motion } =
-    rw (← now_is, is, off, ← o_is, plain) refl in
+    rw (← e.is, e.passes, k.off, ← k.so, k.plain) refl in
     let geometry : c'.image.geometry ≡ g = ap (λ (d : CacheState). d.image.geometry) save ∙ geometry_saved c in
     let slots : c'.slots ≡ c.slots = ap (λ (d : CacheState). d.slots) save in
     (rw (none, closed, geometry, slots) refl, rw (none, closed) refl)
 
-pub lost_state : (c c' : CacheState) (r : Registers) (m : Mark) (s : Stage) (p : Progress) (before passed left : List ℕ) (now : DriveState) (u : CommandEnd)
-    → Stands c r m s before passed → s ≡ Passing p → state_of c r m s before passed ≡ now → u ≡ command_end_at c.image.geometry r p.opened p.moved p.place → u.moves_off ≡ true
-    → c.changed ≡ true → c' ≡ after_failed_save c left → left ≡ slice_index_or c'.image.slots (unwrap_or c.held 0) [] → length left ≡ c.image.geometry.track_size
-    → (state_of c' (lost_registers r) Lost Idle before passed ≡ with_image (after_end (fault_met now (state_of c' (lost_registers r) Lost Idle before passed)) now) c'.image)
-    × (closed_of (fault_met now (state_of c' (lost_registers r) Lost Idle before passed)) now now.work ≡ record { state = (state_of c' (lost_registers r) Lost Idle before passed).state; unit = record { 0 = 0x0E }; motion = false })
-lost_state c c' r m s p before passed left now u x is now_is out moves changed failed there size =
+pub lost_state : (parts : Parts) (c' : CacheState) (p : Progress) (left : List ℕ) (now : DriveState) (u : CommandEnd)
+    → Closes parts p now u → u.moves_off ≡ true
+    → parts.cache.changed ≡ true → c' ≡ after_failed_save parts.cache left → left ≡ slice_index_or c'.image.slots (unwrap_or parts.cache.held 0) [] → length left ≡ parts.cache.image.geometry.track_size
+    → (state_of (parts_of (kept c' (lost_registers parts.registers) Lost) Idle parts.before parts.passed) ≡ with_image (after_end (fault_met now (state_of (parts_of (kept c' (lost_registers parts.registers) Lost) Idle parts.before parts.passed))) now) c'.image)
+    × (closed_of (fault_met now (state_of (parts_of (kept c' (lost_registers parts.registers) Lost) Idle parts.before parts.passed))) now now.work ≡ record { state = (state_of (parts_of (kept c' (lost_registers parts.registers) Lost) Idle parts.before parts.passed)).state; unit = record { 0 = 0x0E }; motion = false })
+lost_state parts c' p left now u e moves changed failed there size =
+    let c = parts.cache in
     let g = c.image.geometry in
-    let n : ℕ = track_under g r in
-    let goes = goes_of c r m s p before passed x is in
-    let lt = number_there c r m s before passed x in
-    let k = closing g (seen_track c n before p.place) p.opened r passed in
-    let o_is : command_end k ≡ u = command_end_is c g r n p.opened before passed p.place p.moved lt goes.placed goes.moved ∙ sym out in
-    let off : k.moves_off ≡ true = ap (λ (y : CommandEnd). y.moves_off) o_is ∙ moves in
-    let unfilled : is_filled_by p.place ≡ false = moving_unfilled c g r n p.opened before passed p.place p.moved goes.placed (ap (λ (y : CommandEnd). y.moves_off) (sym out) ∙ moves) in
-    let plain = no_filled_seen c.slots n before p.place unfilled in
-    let held : c.held ≡ Some n = x.anchored changed in
-    let written : m ≡ Written = mark_written m (sym (changed_is c r m s before passed x (rw is unfilled)) ∙ changed) in
+    let n : ℕ = track_under g parts.registers in
+    let k = moves_off parts p now u e moves in
+    let held : c.held ≡ Some n = e.stands.anchored changed in
+    let written : parts.mark ≡ Written = mark_written parts.mark (sym (changed_is parts e.stands k.unfilled) ∙ changed) in
     let there' : left ≡ slice_index_or (after_failed_save c left).image.slots (unwrap_or c.held 0) [] = there ∙ ap (λ (d : CacheState). slice_index_or d.image.slots (unwrap_or c.held 0) []) failed in
     let at = failed_left c n left held there' in
-    let whole = torn_whole c n left x.volume lt size in
-    let new = state_of (after_failed_save c left) (lost_registers r) Lost Idle before passed in
-    let old = state_of c r m s before passed in
+    let whole = torn_whole c n left e.stands.volume (number_there parts e.stands) size in
+    let new = state_of (parts_of (kept (after_failed_save c left) (lost_registers parts.registers) Lost) Idle parts.before parts.passed) in
+    let old = state_of parts in
     let f : fault_met old new ≡ Some (SaveFails left) = fault_saving old new refl refl ∙ (rw (held, at) refl) in
     let closed : closed_of (Some (SaveFails left)) old old.work ≡ record { state = new.state; unit = record { 0 = 0x0E }; motion = false } =
-    rw (is, off, plain, written, held, whole) refl in
-    (rw (failed, ← now_is, f, closed) refl, rw (failed, ← now_is, f) closed)
+    rw (e.passes, k.off, k.plain, written, held, whole) refl in
+    (rw (failed, ← e.is, f, closed) refl, rw (failed, ← e.is, f) closed)
 
 -- An idle drive stands where the arm has stayed.
-pub stays_stands : (c : CacheState) (r : Registers) (m : Mark) (s : Stage) (p : Progress) (before passed : List ℕ) (now : DriveState) (u : CommandEnd)
-    → Stands c r m s before passed → s ≡ Passing p → state_of c r m s before passed ≡ now → u ≡ command_end_at c.image.geometry r p.opened p.moved p.place → u.moves_off ≡ false
-    → Stands c u.registers (mark_left p.place m) Idle before passed
-stays_stands c r m s p before passed now u x is now_is out off =
-    let g = c.image.geometry in
-    let n : ℕ = track_under g r in
-    let goes = goes_of c r m s p before passed x is in
-    let L = λ (y : CommandEnd). Lands c g n r y in
-    let land = subst L (sym out) (lands c g r n p.opened before passed p.place p.moved goes.placed goes.no_credit x.arm) in
+pub stays_stands : (parts : Parts) (p : Progress) (now : DriveState) (u : CommandEnd)
+    → Closes parts p now u → u.moves_off ≡ false
+    → Stands (record parts { registers = u.registers; mark = mark_left p.place parts.mark; stage = Idle })
+stays_stands parts p now u e off =
+    let g = parts.cache.image.geometry in
+    let n : ℕ = track_in_reach parts in
+    let goes = goes_of parts p e.stands e.passes in
+    let L = λ (y : CommandEnd). Lands parts.cache g n parts.registers y in
+    let land = subst L (sym e.out) (lands (work_in parts p.opened) p.place p.moved goes.placed goes.no_credit e.stands.arm) in
     let k = land.stays off in
     let same : track_under g u.registers ≡ n = rw (k.0, k.1) refl in
     record {
-      volume = x.volume;
-      arm = record { cylinder = rw k.0 x.arm.cylinder; head = rw k.1 x.arm.head };
-      anchored = rw same x.anchored;
-      marked = marks p.place m c.changed (rw is at x.marked);
+      volume = e.stands.volume;
+      arm = record { cylinder = rw k.0 e.stands.arm.cylinder; head = rw k.1 e.stands.arm.head };
+      anchored = rw same e.stands.anchored;
+      marked = marks p.place parts.mark parts.cache.changed (rw e.passes at e.stands.marked);
       work = rw same k.2;
     }
   where
@@ -332,24 +336,25 @@ stays_stands c r m s p before passed now u x is now_is out off =
     marks (Fill w u) m b e = e
 
 -- and where it has moved
-pub moves_stands : (c c' : CacheState) (r : Registers) (m : Mark) (s : Stage) (p : Progress) (before passed : List ℕ) (now : DriveState) (u : CommandEnd)
-    → Stands c r m s before passed → s ≡ Passing p → state_of c r m s before passed ≡ now → u ≡ command_end_at c.image.geometry r p.opened p.moved p.place → u.moves_off ≡ true → c' ≡ after_save c
-    → Stands c' u.registers Saved Idle before passed
-moves_stands c c' r m s p before passed now u x is now_is out off save =
+pub moves_stands : (parts : Parts) (c' : CacheState) (p : Progress) (now : DriveState) (u : CommandEnd)
+    → Closes parts p now u → u.moves_off ≡ true → c' ≡ after_save parts.cache
+    → Stands (parts_of (kept c' u.registers Saved) Idle parts.before parts.passed)
+moves_stands parts c' p now u e off save =
+    let c = parts.cache in
     let g = c.image.geometry in
-    let n : ℕ = track_under g r in
-    let goes = goes_of c r m s p before passed x is in
-    let L = λ (y : CommandEnd). Lands c g n r y in
-    let land = subst L (sym out) (lands c g r n p.opened before passed p.place p.moved goes.placed goes.no_credit x.arm) in
+    let n : ℕ = track_under g parts.registers in
+    let goes = goes_of parts p e.stands e.passes in
+    let L = λ (y : CommandEnd). Lands c g n parts.registers y in
+    let land = subst L (sym e.out) (lands (work_in parts p.opened) p.place p.moved goes.placed goes.no_credit e.stands.arm) in
     let k = land.moves off in
     let geometry : c'.image.geometry ≡ g = ap (λ (d : CacheState). d.image.geometry) save ∙ geometry_saved c in
     let changed : c'.changed ≡ false = ap (λ (d : CacheState). d.changed) save in
     let V : CacheState → Type 0 = λ d. IsVolume d in
     let A : Geometry → Type 0 = λ y. IsAtTrack y u.registers in
     record {
-      volume = subst V (sym save) (volume_saved c x.volume);
+      volume = subst V (sym save) (volume_saved c e.stands.volume);
       arm = subst A (sym geometry) k.0;
-      anchored = λ e. absurd cc;
+      anchored = λ z. absurd cc;
       marked = changed;
       work = no_credit c' u.registers (track_under c'.image.geometry u.registers) k.1;
     }
@@ -357,38 +362,39 @@ moves_stands c c' r m s p before passed now u x is now_is out off save =
 -- The calls of the store.
 
 -- which saving the definitions see at the end
-pub saves_at_end : (c : CacheState) (r : Registers) (m : Mark) (s : Stage) (p : Progress) (before passed : List ℕ) (now : DriveState) (u : CommandEnd)
-    → Stands c r m s before passed → s ≡ Passing p → state_of c r m s before passed ≡ now → u ≡ command_end_at c.image.geometry r p.opened p.moved p.place → end_saves now ≡ (is_written_by m && u.moves_off)
-saves_at_end c r m s p before passed now u x is now_is out =
-    let g = c.image.geometry in
-    let n : ℕ = track_under g r in
-    let goes = goes_of c r m s p before passed x is in
-    let k = closing g (seen_track c n before p.place) p.opened r passed in
-    let o_is : command_end k ≡ u = command_end_is c g r n p.opened before passed p.place p.moved (number_there c r m s before passed x) goes.placed goes.moved ∙ sym out in
+pub saves_at_end : (parts : Parts) (p : Progress) (now : DriveState) (u : CommandEnd)
+    → Closes parts p now u → end_saves now ≡ (is_written_by parts.mark && u.moves_off)
+saves_at_end parts p now u e =
+    let g = parts.cache.image.geometry in
+    let n : ℕ = track_under g parts.registers in
+    let job = work_in parts p.opened in
+    let goes = goes_of parts p e.stands e.passes in
+    let k = closing_in job (seen_track job p.place) in
+    let o_is : command_end k ≡ u = command_end_is job p.place p.moved (number_there parts e.stands) goes.placed goes.moved ∙ sym e.out in
     let off : k.moves_off ≡ u.moves_off = ap (λ (y : CommandEnd). y.moves_off) o_is in
-    rw (← now_is, is, off) refl
+    rw (← e.is, e.passes, off) refl
 
 -- none where the arm stays
-pub stays_calls : (c : CacheState) (r : Registers) (m : Mark) (s : Stage) (p : Progress) (before passed : List ℕ) (now new : DriveState) (u : CommandEnd)
-    → Stands c r m s before passed → s ≡ Passing p → state_of c r m s before passed ≡ now → u ≡ command_end_at c.image.geometry r p.opened p.moved p.place → u.moves_off ≡ false
-    → new.image ≡ c.image → CallsStore false (end_saves now) now new
-stays_calls c r m s p before passed now new u x is now_is out off image =
-    let old_image : c.image ≡ now.image = ap (λ (d : DriveState). d.image) now_is in
-    calls_none _ _ now new (image ∙ old_image) (saves_at_end c r m s p before passed now u x is now_is out ∙ rw off (and_false (is_written_by m)))
+pub stays_calls : (parts : Parts) (p : Progress) (now new : DriveState) (u : CommandEnd)
+    → Closes parts p now u → u.moves_off ≡ false
+    → new.image ≡ parts.cache.image → CallsStore false (end_saves now) now new
+stays_calls parts p now new u e off image =
+    let old_image : parts.cache.image ≡ now.image = ap (λ (d : DriveState). d.image) e.is in
+    calls_none _ _ now new (image ∙ old_image) (saves_at_end parts p now u e ∙ rw off (and_false (is_written_by parts.mark)))
 
 -- the track is saved that the arm leaves
-pub moves_calls : (c c' : CacheState) (r : Registers) (m : Mark) (s : Stage) (p : Progress) (before passed : List ℕ) (now new : DriveState) (u : CommandEnd)
-    → Stands c r m s before passed → s ≡ Passing p → state_of c r m s before passed ≡ now → u ≡ command_end_at c.image.geometry r p.opened p.moved p.place → u.moves_off ≡ true
-    → c' ≡ after_save c → new.image ≡ c'.image → CallsStore false (end_saves now) now new
-moves_calls c c' r m s p before passed now new u x is now_is out off save image =
-    let old_image : now.image ≡ c.image = sym (ap (λ (d : DriveState). d.image) now_is) in
-    let changed = changed_is c r m s before passed x (moves_unfilled c r m s p before passed u x is out off) in
-    calls_of_save _ _ c now new old_image (image ∙ ap (λ (d : CacheState). d.image) save) (changed ∙ sym (saves_at_end c r m s p before passed now u x is now_is out ∙ rw off (and_true (is_written_by m))))
+pub moves_calls : (parts : Parts) (c' : CacheState) (p : Progress) (now new : DriveState) (u : CommandEnd)
+    → Closes parts p now u → u.moves_off ≡ true
+    → c' ≡ after_save parts.cache → new.image ≡ c'.image → CallsStore false (end_saves now) now new
+moves_calls parts c' p now new u e off save image =
+    let old_image : now.image ≡ parts.cache.image = sym (ap (λ (d : DriveState). d.image) e.is) in
+    let changed = changed_is parts e.stands (moves_off parts p now u e off).unfilled in
+    calls_of_save _ _ parts.cache now new old_image (image ∙ ap (λ (d : CacheState). d.image) save) (changed ∙ sym (saves_at_end parts p now u e ∙ rw off (and_true (is_written_by parts.mark))))
 
-pub lost_calls : (c c' : CacheState) (r : Registers) (m : Mark) (s : Stage) (p : Progress) (before passed left : List ℕ) (now new : DriveState) (u : CommandEnd)
-    → Stands c r m s before passed → s ≡ Passing p → state_of c r m s before passed ≡ now → u ≡ command_end_at c.image.geometry r p.opened p.moved p.place → u.moves_off ≡ true
-    → c.changed ≡ true → c' ≡ after_failed_save c left → new.image ≡ c'.image → CallsStore false (end_saves now) now new
-lost_calls c c' r m s p before passed left now new u x is now_is out off written failed image =
-    let old_image : now.image ≡ c.image = sym (ap (λ (d : DriveState). d.image) now_is) in
-    let changed = changed_is c r m s before passed x (moves_unfilled c r m s p before passed u x is out off) in
-    calls_of_failed_save _ _ c left now new old_image (image ∙ ap (λ (d : CacheState). d.image) failed) (changed ∙ sym (saves_at_end c r m s p before passed now u x is now_is out ∙ rw off (and_true (is_written_by m)))) written
+pub lost_calls : (parts : Parts) (c' : CacheState) (p : Progress) (left : List ℕ) (now new : DriveState) (u : CommandEnd)
+    → Closes parts p now u → u.moves_off ≡ true
+    → parts.cache.changed ≡ true → c' ≡ after_failed_save parts.cache left → new.image ≡ c'.image → CallsStore false (end_saves now) now new
+lost_calls parts c' p left now new u e off written failed image =
+    let old_image : now.image ≡ parts.cache.image = sym (ap (λ (d : DriveState). d.image) e.is) in
+    let changed = changed_is parts e.stands (moves_off parts p now u e off).unfilled in
+    calls_of_failed_save _ _ parts.cache left now new old_image (image ∙ ap (λ (d : CacheState). d.image) failed) (changed ∙ sym (saves_at_end parts p now u e ∙ rw off (and_true (is_written_by parts.mark)))) written

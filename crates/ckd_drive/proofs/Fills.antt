@@ -5,20 +5,17 @@ use Rattle.std.proofs.lemmas.List.Elements.{All-set}
 use Rattle.ckd_track.specs.Track.{Track, track_of, track_in, track_or_none, record_in, slot_of}
 use Rattle.ckd_track.specs.Changes.{overwritten}
 use Rattle.ckd_track.proofs.Slots.{slot_of_reads, length-slot_of}
-use Rattle.ckd_track.specs.declared.geometries.Geometry.{Geometry}
 use Rattle.ckd_position.specs.declared.areas.Area.TheVariants.{Of}
 use Rattle.ckd_position.specs.declared.areas.Part.{Part}
-use Rattle.ckd_command.specs.declared.registers.Registers.{Registers}
 use Rattle.ckd_position.specs.declared.extents.Extent.{Extent}
-use Rattle.ckd_command.specs.declared.begin.Opened.{Opened}
 use Rattle.ckd_command.specs.Answers.{CommandEnd}
 use Rattle.ckd_slot.specs.declared.windows.Window.{Window}
-use Rattle.ckd_drive.specs.Transfers.{Transfer, Filled, Progress}
+use Rattle.ckd_drive.specs.Transfers.{Transfer, Filled}
 use Rattle.ckd_position.specs.Contents.{Sighted, is_readable, padded, replaced, with_record_changed}
 use Rattle.ckd_command.specs.Commands.{length_after, closing, command_end}
 use Rattle.ckd_slot.specs.Buffer.{FitsSlot, IsUpdate, SameRecords, lengths_on}
 use Rattle.ckd_cache.specs.Cache.{CacheState, with_held}
-use Rattle.ckd_drive.specs.Invariant.{Works, MayTake, Absorbs, IsPlaced, HasFilled, IsFilled, next_progress, slot_at, track_under, seen_by}
+use Rattle.ckd_drive.specs.Invariant.{HalfDone, Works, MayTake, Absorbs, own_track, own_slot, seen_with, with_taken, IsPlaced, HasFilled, IsFilled, slot_at, track_under, AtWork, geometry_in, slot_in, at_work}
 use Rattle.ckd_slot.proofs.Writes.{update_offset, update_length}
 use Rattle.ckd_slot.proofs.Updates.{form_of, padded_on, same_records}
 use Rattle.ckd_drive.proofs.Numbers.{number_below}
@@ -31,11 +28,12 @@ pub length-padded : (b : List ℕ) (n : ℕ) → length b ≤ n → length (padd
 length-padded b n le = omega (arith, length-append b (replicate (n - length b) 0), length-replicate {A = ℕ} (n - length b) 0, le)
 
 -- The slot at hand has become another, made of a track.
-pub written_works : (c : CacheState) (r : Registers) (before before' passed : List ℕ) (p : Progress) (more new : List ℕ) (w : Window) (u : CommandEnd)
-    → Works c r before passed p → c.held ≡ Some (track_under c.image.geometry r) → length new ≡ c.image.geometry.track_size → p.left - length more ≤ w.len
-    → HasFilled (with_held c new) c.image.geometry r (track_under c.image.geometry r) p.opened before' (passed ++ more) w u
-    → Works (with_held c new) r before' (passed ++ more) (next_progress p (length more) (Filled w u))
-written_works c r before before' passed p more new w u x held size le filled =
+pub written_works : (half : HalfDone) (before' : List ℕ) (more new : List ℕ) (w : Window) (u : CommandEnd)
+    → Works half → half.cache.held ≡ Some (own_track half) → length new ≡ half.cache.image.geometry.track_size → half.progress.left - length more ≤ w.len
+    → HasFilled (at_work (with_taken half more (with_held half.cache new) before' (Filled w u))) w u
+    → Works (with_taken half more (with_held half.cache new) before' (Filled w u))
+written_works half before' more new w u x held size le filled =
+    let c = half.cache in
     let goes = x.goes in
     record {
       volume = record {
@@ -47,31 +45,33 @@ written_works c r before before' passed p more new w u x held size le filled =
       arm = x.arm;
       anchored = λ _. held;
       goes = record {
-        moved = rw (← goes.moved) (length-append passed more);
+        moved = rw (← goes.moved) (length-append half.passed more);
         left = le;
         placed = filled;
         no_credit = goes.no_credit;
       };
     }
 
-pub there : (c : CacheState) (r : Registers) (before passed : List ℕ) (p : Progress) → Works c r before passed p → track_under c.image.geometry r < length c.slots
-there c r before passed p x = rw x.volume.count (number_below c.image.geometry r x.arm)
+pub there : (half : HalfDone) → Works half → own_track half < length half.cache.slots
+there half x =
+    rw x.volume.count (number_below half.cache.image.geometry half.registers x.arm)
 
 pub new_slot_at : (c : CacheState) (n : ℕ) (new : List ℕ) → c.held ≡ Some n → n < length c.slots → slot_at (with_held c new).slots n ≡ new
 new_slot_at c n new held lt = rw held (get_or-set_same c.slots n new [] lt)
 
-pub written_absorbs : (c : CacheState) (r : Registers) (before before' passed : List ℕ) (p : Progress) (more new : List ℕ) (w : Window) (u : CommandEnd)
-    → Works (with_held c new) r before' (passed ++ more) (next_progress p (length more) (Filled w u)) → c.held ≡ Some (track_under c.image.geometry r)
-    → slice_set c.slots (track_under c.image.geometry r) before' ≡ seen_by c.slots (track_under c.image.geometry r) before p.place → length passed + length more < 2 ^ 32
-    → Absorbs c (with_held c new) r before before' passed p more (Filled w u)
-written_absorbs c r before before' passed p more new w u works held seen small = record {
-  works = works;
-  image = refl;
-  seen_same = rw held (set-set c.slots (track_under c.image.geometry r) new before' ∙ seen);
-  changed = or_true c.changed;
-  still = λ _. refl;
-  small = small;
-}
+pub written_absorbs : (half : HalfDone) (before' : List ℕ) (more new : List ℕ) (w : Window) (u : CommandEnd)
+    → Works (with_taken half more (with_held half.cache new) before' (Filled w u)) → half.cache.held ≡ Some (own_track half)
+    → slice_set half.cache.slots (own_track half) before' ≡ seen_with half half.before half.progress.place → length half.passed + length more < 2 ^ 32
+    → Absorbs half more (with_held half.cache new) before' (Filled w u)
+written_absorbs half before' more new w u works held seen small =
+    record {
+      works = works;
+      image = refl;
+      seen_same = rw held (set-set half.cache.slots (track_under half.cache.image.geometry half.registers) new before' ∙ seen);
+      changed = or_true half.cache.changed;
+      still = λ _. refl;
+      small = small;
+    }
 
 -- a slot that reads whole reads to its track
 pub old_read : (slot : List ℕ) → is_readable (track_of slot) ≡ true → track_of slot ≡ Ok (track_in slot)
@@ -87,29 +87,45 @@ reads_new size t new f e =
     let read = slot_of_reads size t f.home_address f.records in
     (rw (e, read) refl, ap (λ (s : List ℕ). track_in s) e ∙ ap track_or_none read, ap length e ∙ length-slot_of size t f.room)
 
--- What a command that fills an area closes to.
-pub record ClosesFilled (g : Geometry) (r : Registers) (before : List ℕ) (o : Opened) (b : List ℕ) (u : CommandEnd) (t0 : Track) (e : Extent) (part : Part) (i lead room : ℕ) : Type 0 where
-  pub so : command_end (closing g (track_of before) o r b) ≡ u
-  pub written : (closing g (track_of before) o r b).written ≡ Some (with_record_changed (replaced e (padded (drop lead b) room)) (Of part i) t0)
-  pub wants : length_after g (track_of before) o r b ≡ lead + room
+-- An area that is filled, of which record of which track and behind how many bytes, and how its command closes.
+pub record Filling : Type 0 where
+  pub closes : CommandEnd
+  pub track : Track
+  pub extent : Extent
+  pub part : Part
+  pub number : ℕ
+  pub lead : ℕ
 
-abbrev pub form_filled : (g : Geometry) (r : Registers) (before now : List ℕ) (o : Opened) (passed : List ℕ) (w : Window) (u : CommandEnd) (t0 : Track) (e : Extent) (part : Part) (i lead : ℕ)
-    → IsUpdate e → FitsSlot g.track_size t0 → i < length t0.records → lengths_on (track_in now) ≡ lengths_on t0 → lead ≤ length passed → lead ≤ 8
-    → w.start ≡ update_offset e t0 i + (length passed - lead) → w.len + (length passed - lead) ≡ update_length e (record_in t0 i)
-    → ((more : List ℕ) → length more ≤ w.len → ClosesFilled g r before o (passed ++ more) u t0 e part i lead (update_length e (record_in t0 i)))
-    → IsFilled g r before now o passed w u
-form_filled g r before now o passed w u t0 e part i lead upd f lt lens begins small start len k =
-    let size = g.track_size in
-    let off = update_offset e t0 i in
-    let room = update_length e (record_in t0 i) in
+abbrev pub room_of : Filling → ℕ
+room_of fill = update_length fill.extent (record_in fill.track fill.number)
+
+abbrev filled_with : Filling → List ℕ → Track
+filled_with fill body = with_record_changed (replaced fill.extent body) (Of fill.part fill.number) fill.track
+
+-- what the command closes to once these bytes came
+pub record ClosesFilled (job : AtWork) (b : List ℕ) (fill : Filling) : Type 0 where
+  pub so : command_end (closing (geometry_in job) (track_of job.before) job.opened job.registers b) ≡ fill.closes
+  pub written : (closing (geometry_in job) (track_of job.before) job.opened job.registers b).written ≡ Some (filled_with fill (padded (drop fill.lead b) (room_of fill)))
+  pub wants : length_after (geometry_in job) (track_of job.before) job.opened job.registers b ≡ fill.lead + room_of fill
+
+abbrev pub form_filled : (job : AtWork) (now : List ℕ) (w : Window) (fill : Filling)
+    → IsUpdate fill.extent → FitsSlot (geometry_in job).track_size fill.track → fill.number < length fill.track.records → lengths_on (track_in now) ≡ lengths_on fill.track → fill.lead ≤ length job.passed → fill.lead ≤ 8
+    → w.start ≡ update_offset fill.extent fill.track fill.number + (length job.passed - fill.lead) → w.len + (length job.passed - fill.lead) ≡ room_of fill
+    → ((more : List ℕ) → length more ≤ w.len → ClosesFilled job (job.passed ++ more) fill)
+    → IsFilled job now w fill.closes
+form_filled job now w fill upd f lt lens begins small start len k =
+    let size = (geometry_in job).track_size in
+    let t0 = fill.track in
+    let off = update_offset fill.extent t0 fill.number in
+    let room = room_of fill in
     let s0 = slot_of size t0 in
     let long = length-slot_of size t0 f.room in
-    let zeros = form_of size t0 e part i (replicate room 0) upd f lt (length-replicate {A = ℕ} room 0) in
+    let zeros = form_of size t0 fill.extent fill.part fill.number (replicate room 0) upd f lt (length-replicate {A = ℕ} room 0) in
     let within : off + room ≤ size = omega (arith, zeros.within, length-replicate {A = ℕ} room 0) in
     record {
       head = take off s0;
       tail = drop (off + room) s0;
-      lead = lead;
+      lead = fill.lead;
       room = room;
       begins = begins;
       lead_small = small;
@@ -118,12 +134,12 @@ form_filled g r before now o passed w u t0 e part i lead upd f lt lens begins sm
       rest = len;
       closes = λ more le.
           (let c = k more le in
-          let b = passed ++ more in
-          let body = padded (drop lead b) room in
-          let body_long : length body ≡ room = length-padded (drop lead b) room (omega (arith, length-drop lead b, length-append passed more, le, len, begins)) in
-          let form = form_of size t0 e part i body upd f lt body_long in
+          let b = job.passed ++ more in
+          let body = padded (drop fill.lead b) room in
+          let body_long : length body ≡ room = length-padded (drop fill.lead b) room (omega (arith, length-drop fill.lead b, length-append job.passed more, le, len, begins)) in
+          let form = form_of size t0 fill.extent fill.part fill.number body upd f lt body_long in
           record {
-            track = with_record_changed (replaced e body) (Of part i) t0;
+            track = filled_with fill body;
             so = c.so;
             written = c.written;
             fits = form.fits;
@@ -133,11 +149,12 @@ form_filled g r before now o passed w u t0 e part i lead upd f lt lens begins sm
       wants = λ more le. (k more le).wants;
     }
 
--- More bytes.
+-- More bytes, which leave the slot so.
 
-abbrev pub filled_on : (g : Geometry) (r : Registers) (before now now' : List ℕ) (o : Opened) (passed more : List ℕ) (w : Window) (u : CommandEnd) → length more ≤ w.len → lengths_on (track_in now') ≡ lengths_on (track_in now)
-    → IsFilled g r before now o passed w u → IsFilled g r before now' o (passed ++ more) (record { start = w.start + length more; len = w.len - length more }) u
-filled_on g r before now now' o passed more w u le lens f =
+abbrev pub filled_on : (job : AtWork) (new now' more : List ℕ) (w : Window) (u : CommandEnd) → length more ≤ w.len → lengths_on (track_in now') ≡ lengths_on (track_in (slot_in job))
+    → IsFilled job (slot_in job) w u → IsFilled (record job { cache = with_held job.cache new; passed = job.passed ++ more }) now' (record { start = w.start + length more; len = w.len - length more }) u
+filled_on job new now' more w u le lens f =
+    let passed = job.passed in
     let far = length-append passed more in
     record {
       head = f.head;
@@ -164,30 +181,32 @@ pub next_made : (old head tail mid more : List ℕ) (room start : ℕ) → old �
 next_made old head tail mid more room start is at le = rw (is, ← at) (padded_on head tail mid more room le)
 
 -- the slot that a filled track has next
-pub record NextSlot (c : CacheState) (r : Registers) (before passed : List ℕ) (p : Progress) (more : List ℕ) (w : Window) (u : CommandEnd) : Type 0 where
-  pub held : c.held ≡ Some (track_under c.image.geometry r)
+pub record NextSlot (half : HalfDone) (more : List ℕ) (w : Window) (u : CommandEnd) : Type 0 where
+  pub held : half.cache.held ≡ Some (own_track half)
   pub le : length more ≤ w.len
-  pub room : w.start + length more ≤ c.image.geometry.track_size
-  pub records : SameRecords (slot_at c.slots (track_under c.image.geometry r)) (overwritten (slot_at c.slots (track_under c.image.geometry r)) w.start more)
-  pub absorbs : Absorbs c (with_held c (overwritten (slot_at c.slots (track_under c.image.geometry r)) w.start more)) r before before passed p more (Filled (record { start = w.start + length more; len = w.len - length more }) u)
+  pub room : w.start + length more ≤ half.cache.image.geometry.track_size
+  pub records : SameRecords (own_slot half) (overwritten (own_slot half) w.start more)
+  pub absorbs : Absorbs half more (with_held half.cache (overwritten (own_slot half) w.start more)) half.before (Filled (record { start = w.start + length more; len = w.len - length more }) u)
 
 next_bytes : (lead : ℕ) (passed more : List ℕ) → lead ≤ length passed → drop lead (passed ++ more) ≡ drop lead passed ++ more
 next_bytes lead passed more le = drop-append-le lead passed more le
 
-pub filled_absorbs : (c : CacheState) (r : Registers) (before passed : List ℕ) (p : Progress) (more : List ℕ) (w : Window) (u : CommandEnd)
-    → Works c r before passed p → MayTake p more → p.place ≡ Filled w u → NextSlot c r before passed p more w u
-filled_absorbs c r before passed p more w u x may at =
+pub filled_absorbs : (half : HalfDone) (more : List ℕ) (w : Window) (u : CommandEnd)
+    → MayTake half more → half.progress.place ≡ Filled w u → NextSlot half more w u
+filled_absorbs half more w u may at =
+    let c = half.cache in
+    let passed = half.passed in
     let g = c.image.geometry in
-    let n : ℕ = track_under g r in
-    let goes = x.goes in
-    let left : p.left ≤ w.len = rw at at goes.left in
+    let n : ℕ = track_under g half.registers in
+    let goes = may.works.goes in
+    let left : half.progress.left ≤ w.len = rw at at goes.left in
     let le : length more ≤ w.len = omega (arith, left, may.room) in
-    let P : Transfer → Type 0 = λ y. IsPlaced c g r n p.opened before passed y in
-    let h : HasFilled c g r n p.opened before passed w u = subst P at goes.placed in
+    let P : Transfer → Type 0 = λ y. IsPlaced (at_work half) y in
+    let h : HasFilled (at_work half) w u = subst P at goes.placed in
     let f = h.filled in
     let old = slot_at c.slots n in
     let new = overwritten old w.start more in
-    let lt = there c r before passed p x in
+    let lt = there half may.works in
     let k = f.closes more le in
     let far = length-append passed more in
     let lead_len : length (drop f.lead passed) ≡ length passed - f.lead = length-drop f.lead passed in
@@ -201,9 +220,9 @@ filled_absorbs c r before passed p more w u x may at =
     let at_new = new_slot_at c n new h.at_hand.held lt in
     let w' : Window = record { start = w.start + length more; len = w.len - length more } in
     let now : List ℕ = slot_at (with_held c new).slots n in
-    let on = filled_on g r before old now p.opened passed more w u le (ap (λ (y : List ℕ). lengths_on (track_in y)) at_new ∙ lens) f in
+    let on = filled_on (at_work half) new now more w u le (ap (λ (y : List ℕ). lengths_on (track_in y)) at_new ∙ lens) f in
     let wants = f.wants more le in
-    let has : HasFilled (with_held c new) g r n p.opened before (passed ++ more) w' u = record {
+    let has : HasFilled (at_work (with_taken half more (with_held c new) half.before (Filled w' u))) w' u = record {
       at_hand = record { held = h.at_hand.held; readable = rw at_new read.0 };
       size = h.size;
       filled = on;
@@ -215,11 +234,11 @@ filled_absorbs c r before passed p more w u x may at =
       cylinder = h.cylinder;
       head = h.head;
     } in
-    let works = written_works c r before before passed p more new w' u x h.at_hand.held read.2 (omega (arith, left, le)) has in
+    let works = written_works half half.before more new w' u may.works h.at_hand.held read.2 (omega (arith, left, le)) has in
     record {
       held = h.at_hand.held;
       le = le;
       room = omega (arith, f.within, le);
       records = same_records g.track_size old new k.track (old_read old h.at_hand.readable) k.fits slot k.lengths_stay;
-      absorbs = written_absorbs c r before before passed p more new w' u works h.at_hand.held (rw at refl) (omega (arith, f.start, f.within, f.begins, f.lead_small, le, x.volume.geometry.limit));
+      absorbs = written_absorbs half half.before more new w' u works h.at_hand.held (rw at refl) (omega (arith, f.start, f.within, f.begins, f.lead_small, le, may.works.volume.geometry.limit));
     }

@@ -18,7 +18,7 @@ use Rattle.ckd_position.specs.Contents.{Sighted, is_readable}
 use Rattle.ckd_command.specs.Commands.{Closing, sight, area_bytes, bytes_for, area_ends, length_after, length_for, closing, close_by, command_end}
 use Rattle.ckd_slot.specs.Buffer.{Lies}
 use Rattle.ckd_cache.specs.Cache.{CacheState}
-use Rattle.ckd_drive.specs.Invariant.{IsFirstPlace, IsPlaced, IsField, ReadsWhole, FieldAtHand, AtHand, field_size, slot_at}
+use Rattle.ckd_drive.specs.Invariant.{IsFirstPlace, IsPlaced, IsField, ReadsWhole, FieldAtHand, AtHand, field_size, slot_at, AtWork, geometry_in, number_in, slot_in}
 
 -- whether a command of this action works on an area
 abbrev pub NeedsArea : Action → Type 0
@@ -122,39 +122,39 @@ none_passed n = omega arith
 lies_behind : (slot : List ℕ) (w : Window) (a b : List ℕ) → a ≡ b → Lies slot w a → Lies slot w b
 lies_behind slot w a b e l = (let P : List ℕ → Type 0 = λ x. Lies slot w x in subst P e l)
 
-pub first_placed : (c : CacheState) (g : Geometry) (r : Registers) (n : ℕ) (o : Opened) (before : List ℕ) (p : Transfer)
-    → IsFirstPlace (slot_at c.slots n) o r p → HandIfAimed c n o → sight g (track_of (slot_at c.slots n)) o r ≡ Found o → IsPlaced c g r n o before [] p
-first_placed c g r n o before (Sense b u) f h again =
-    let t = track_of (slot_at c.slots n) in
-    let is = sense_outcome g t o r [] f.0 in
-    (record { is_sense = f.0; bytes_are = f.1; room = omega arith }, record { again = again; len = sense_length g t o r [] f.0 }, record { so = ap command_end is ∙ sym f.2; unwritten = ap (λ (k : Closing). k.written) is })
-first_placed c g r n o before (Field x) f h again =
-    let t = track_of (slot_at c.slots n) in
-    let a = action_of o.command in (
-      record { is_field = f; room = omega arith; collected = refl; at_hand = field_at_hand a c n o refl f h },
-      record { again = again; len = length_by a g t o r [] refl ∙ field_length a g t o r f ∙ all_left (field_size a) },
-      ap (λ (k : Closing). k.written) (closing_by a g t o r [] refl) ∙ field_unwritten a g t o r f,
+pub first_placed : (job : AtWork) (p : Transfer)
+    → IsFirstPlace (slot_in job) job.opened job.registers p → HandIfAimed job.cache (number_in job) job.opened → sight (geometry_in job) (track_of (slot_in job)) job.opened job.registers ≡ Found job.opened → IsPlaced (record job { passed = [] }) p
+first_placed job (Sense b u) f h again =
+    let t = track_of (slot_in job) in
+    let is = sense_outcome (geometry_in job) t job.opened job.registers [] f.0 in
+    (record { is_sense = f.0; bytes_are = f.1; room = omega arith }, record { again = again; len = sense_length (geometry_in job) t job.opened job.registers [] f.0 }, record { so = ap command_end is ∙ sym f.2; unwritten = ap (λ (k : Closing). k.written) is })
+first_placed job (Field x) f h again =
+    let t = track_of (slot_in job) in
+    let a = action_of job.opened.command in (
+      record { is_field = f; room = omega arith; collected = refl; at_hand = field_at_hand a job.cache (number_in job) job.opened refl f h },
+      record { again = again; len = length_by a (geometry_in job) t job.opened job.registers [] refl ∙ field_length a (geometry_in job) t job.opened job.registers f ∙ all_left (field_size a) },
+      ap (λ (k : Closing). k.written) (closing_by a (geometry_in job) t job.opened job.registers [] refl) ∙ field_unwritten a (geometry_in job) t job.opened job.registers f,
     )
-first_placed c g r n o before (Read w u) f h again =
-    let t = track_of (slot_at c.slots n) in
-    let area = area_by action.Read t o r f.0 in
-    let is = closing_by action.Read g t o r [] f.0 in (
-      record { is_read = f.0; held = (hand_for c n o action.Read f.0 tt h).held; lies = lies_behind (slot_at c.slots n) w _ (area_bytes t o r) (sym area) f.1; room = omega arith; begins = omega arith },
-      record { again = again; len = length_by action.Read g t o r [] f.0 ∙ ap length area ∙ f.1.size ∙ none_passed w.len },
+first_placed job (Read w u) f h again =
+    let t = track_of (slot_in job) in
+    let area = area_by action.Read t job.opened job.registers f.0 in
+    let is = closing_by action.Read (geometry_in job) t job.opened job.registers [] f.0 in (
+      record { is_read = f.0; held = (hand_for job.cache (number_in job) job.opened action.Read f.0 tt h).held; lies = lies_behind (slot_in job) w _ (area_bytes t job.opened job.registers) (sym area) f.1; room = omega arith; begins = omega arith },
+      record { again = again; len = length_by action.Read (geometry_in job) t job.opened job.registers [] f.0 ∙ ap length area ∙ f.1.size ∙ none_passed w.len },
       record { so = ap command_end is ∙ sym f.2; unwritten = ap (λ (k : Closing). k.written) is },
     )
-first_placed c g r n o before (Search w so_far) f h again =
-    let t = track_of (slot_at c.slots n) in
-    let area = area_by action.Search t o r f.0 in (
-      record { is_search = f.0; at_hand = whole_at c n o action.Search f.0 (λ x. x) (hand_for c n o action.Search f.0 tt h); lies = lies_behind (slot_at c.slots n) w _ (area_bytes t o r) (sym area) f.1; room = omega arith; begins = omega arith; compared = f.2 },
-      record { again = again; len = length_by action.Search g t o r [] f.0 ∙ ap length area ∙ f.1.size ∙ none_passed w.len },
+first_placed job (Search w so_far) f h again =
+    let t = track_of (slot_in job) in
+    let area = area_by action.Search t job.opened job.registers f.0 in (
+      record { is_search = f.0; at_hand = whole_at job.cache (number_in job) job.opened action.Search f.0 (λ x. x) (hand_for job.cache (number_in job) job.opened action.Search f.0 tt h); lies = lies_behind (slot_in job) w _ (area_bytes t job.opened job.registers) (sym area) f.1; room = omega arith; begins = omega arith; compared = f.2 },
+      record { again = again; len = length_by action.Search (geometry_in job) t job.opened job.registers [] f.0 ∙ ap length area ∙ f.1.size ∙ none_passed w.len },
     )
-first_placed c g r n o before (Fill w u) f h again =
-    let t = track_of (slot_at c.slots n) in
-    let area = area_by action.Update t o r f.0 in
-    let is = closing_by action.Update g t o r [] f.0 in (
-      record { is_update = f.0; at_hand = whole_at c n o action.Update f.0 (λ x. x) (hand_for c n o action.Update f.0 tt h); lies = lies_behind (slot_at c.slots n) w _ (area_bytes t o r) (sym area) f.1; place = f.2; none = refl },
-      record { again = again; len = length_by action.Update g t o r [] f.0 ∙ ap length area ∙ f.1.size ∙ none_passed w.len },
+first_placed job (Fill w u) f h again =
+    let t = track_of (slot_in job) in
+    let area = area_by action.Update t job.opened job.registers f.0 in
+    let is = closing_by action.Update (geometry_in job) t job.opened job.registers [] f.0 in (
+      record { is_update = f.0; at_hand = whole_at job.cache (number_in job) job.opened action.Update f.0 (λ x. x) (hand_for job.cache (number_in job) job.opened action.Update f.0 tt h); lies = lies_behind (slot_in job) w _ (area_bytes t job.opened job.registers) (sym area) f.1; place = f.2; none = refl },
+      record { again = again; len = length_by action.Update (geometry_in job) t job.opened job.registers [] f.0 ∙ ap length area ∙ f.1.size ∙ none_passed w.len },
       record { so = ap command_end is ∙ sym f.3; unwritten = ap (λ (k : Closing). k.written) is },
     )
-first_placed c g r n o before (Filled w u) f h again = absurd f
+first_placed job (Filled w u) f h again = absurd f

@@ -18,19 +18,19 @@ use Rattle.ckd_position.specs.declared.extents.Extent.TheVariants as extent
 use Rattle.ckd_command.specs.declared.begin.Opened.{Opened}
 use Rattle.ckd_drive.specs.declared.transfer.Whole.TheVariants as whole
 use Rattle.ckd_slot.specs.declared.windows.Window.{Window}
-use Rattle.ckd_drive.specs.Transfers.{Field, Filled, Progress}
+use Rattle.ckd_drive.specs.Transfers.{Field, Filled}
 use Rattle.ckd_command.specs.Tables.{action_of}
 use Rattle.ckd_position.specs.Contents.{Sighted, new_record, formatted, kept, padded, replaced, with_key_and_data, with_record_changed}
 use Rattle.ckd_command.specs.Commands.{Closing, length_after, closing, command_end, own_home_address, new_record_fits, format_ends, writes}
 use Rattle.ckd_slot.specs.Buffer.{HasFormatted, fits_track, lengths_on}
 use Rattle.ckd_cache.specs.Cache.{CacheState, with_held, slot_held, after_format}
-use Rattle.ckd_drive.specs.Invariant.{Works, MayTake, Absorbs, IsFilled, AtHand, FieldAtHand, slot_at, track_under, whole_of}
+use Rattle.ckd_drive.specs.Invariant.{HalfDone, MayTake, Absorbs, own_track, own_slot, action_now, IsFilled, AtHand, FieldAtHand, slot_at, track_under, whole_of, AtWork, geometry_in, action_in}
 use Rattle.ckd_slot.proofs.Writes.{update_length, update_place}
-use Rattle.ckd_drive.proofs.Fills.{there, new_slot_at, reads_new, ClosesFilled, form_filled, length-padded}
+use Rattle.ckd_drive.proofs.Fills.{there, new_slot_at, reads_new, Filling, room_of, ClosesFilled, form_filled, length-padded}
 use Rattle.ckd_drive.proofs.Looks.{slot_is}
 use Rattle.ckd_drive.proofs.First.{length_by, closing_by}
 use Rattle.ckd_drive.proofs.Takes.{ChangesNothing, field_goes, field_absorbs}
-use Rattle.ckd_drive.proofs.News.{newly_absorbs, is_count}
+use Rattle.ckd_drive.proofs.News.{new_work, newly_absorbs, is_count}
 
 -- The count bytes give the lengths, whatever comes behind them.
 pub record SameCount (b m : List ℕ) : Type 0 where
@@ -152,72 +152,80 @@ format_wants g t o r b m is eight fits =
     let s = same_count b m eight in
     length_by action.Format g t o r (b ++ m) is ∙ rw (long.0, still, s.key, s.bytes) refl
 
-pub format_filled : (g : Geometry) (r : Registers) (before : List ℕ) (o : Opened) (b m : List ℕ) (part : Part) (i : ℕ) → action_of o.command ≡ action.Format → length b ≡ 8 → new_record_fits g (track_of before) o b ≡ true
-    → i ≡ length (kept (track_of before) o.area) → length m ≤ update_length extent.KeyAndData (record_in (formatted (track_of before) o.area b) i)
-    → ClosesFilled g r before o (b ++ m) (command_end (format_ends r i)) (formatted (track_of before) o.area b) extent.KeyAndData part i 8 (update_length extent.KeyAndData (record_in (formatted (track_of before) o.area b) i))
-format_filled g r before o b m part i is eight fits e le =
-    let t = track_of before in
+-- the record that a formatting write fills, behind its count bytes
+abbrev format_filling : AtWork → Part → ℕ → Filling
+format_filling job part i = record { closes = command_end (format_ends job.registers i); track = formatted (track_of job.before) job.opened.area job.passed; extent = extent.KeyAndData; part = part; number = i; lead = 8 }
+
+pub format_filled : (job : AtWork) (m : List ℕ) (part : Part) (i : ℕ) → action_in job ≡ action.Format → length job.passed ≡ 8 → new_record_fits (geometry_in job) (track_of job.before) job.opened job.passed ≡ true
+    → i ≡ length (kept (track_of job.before) job.opened.area) → length m ≤ room_of (format_filling job part i) → ClosesFilled job (job.passed ++ m) (format_filling job part i)
+format_filled job m part i is eight fits e le =
+    let t = track_of job.before in
+    let o = job.opened in
+    let b = job.passed in
     let n = format_bytes t o.area b i e eight in
-    let k = format_closes g t o r b m is eight fits in
+    let k = format_closes (geometry_in job) t o job.registers b m is eight fits in
     record {
       so = ap command_end k ∙ rw e refl;
       written = ap (λ (y : Closing). y.written) k ∙ ap (λ (y : Track). Some y) (sym (format_written t o.area b m part i eight e (rw n at le)));
-      wants = rw n (format_wants g t o r b m is eight fits);
+      wants = rw n (format_wants (geometry_in job) t o job.registers b m is eight fits);
     }
 
 -- the count bytes have come whole, and fit
-pub record FormatGoes (c : CacheState) (r : Registers) (passed : List ℕ) (p : Progress) (more count : List ℕ) : Type 0 where
-  pub is : action_of p.opened.command ≡ action.Format
-  pub eight : length (passed ++ more) ≡ 8
-  pub whole : count ≡ passed ++ more
-  pub at_hand : AtHand c (track_under c.image.geometry r)
+pub record FormatGoes (half : HalfDone) (more count : List ℕ) : Type 0 where
+  pub is : action_now half ≡ action.Format
+  pub eight : length (half.passed ++ more) ≡ 8
+  pub whole : count ≡ half.passed ++ more
+  pub at_hand : AtHand half.cache (own_track half)
 
 format_hand : (a : Action) (c : CacheState) (n : ℕ) → a ≡ action.Format → FieldAtHand a c n → AtHand c n
 format_hand a c n is h = (let P : Action → Type 0 = λ y. FieldAtHand y c n in subst P is h)
 
-pub format_goes : (c : CacheState) (r : Registers) (before passed : List ℕ) (p : Progress) (more f field count : List ℕ) → Works c r before passed p → MayTake p more → p.place ≡ Field f → field ≡ overwritten f p.moved more → length field ≡ 8
-    → whole_of (action_of p.opened.command) (own_home_address r) (p.moved + length more) field ≡ whole.Count count → FormatGoes c r passed p more count
-format_goes c r before passed p more f field count x may at is long e =
-    let k = field_goes c r before passed p more f x may at in
-    let goes = x.goes in
-    let moved : p.moved + length more ≡ length (passed ++ more) = omega (arith, goes.moved, k.long) in
-    let new = is_count (action_of p.opened.command) (own_home_address r) (p.moved + length more) field count e in
-    let eight : length (passed ++ more) ≡ 8 = sym moved ∙ new.eight in
-    let come : take 8 field ≡ passed ++ more = rw (eight, ← is) at k.collected in
+pub format_goes : (half : HalfDone) (more f field count : List ℕ) → MayTake half more → half.progress.place ≡ Field f → field ≡ overwritten f half.progress.moved more → length field ≡ 8
+    → whole_of (action_now half) (own_home_address half.registers) (half.progress.moved + length more) field ≡ whole.Count count → FormatGoes half more count
+format_goes half more f field count may at is long e =
+    let p = half.progress in
+    let k = field_goes half more f may at in
+    let goes = may.works.goes in
+    let moved : p.moved + length more ≡ length (half.passed ++ more) = omega (arith, goes.moved, k.long) in
+    let new = is_count (action_of p.opened.command) (own_home_address half.registers) (p.moved + length more) field count e in
+    let eight : length (half.passed ++ more) ≡ 8 = sym moved ∙ new.eight in
+    let come : take 8 field ≡ half.passed ++ more = rw (eight, ← is) at k.collected in
     record {
       is = new.is;
       eight = eight;
       whole = new.count ∙ sym (take_all 8 field (omega (arith, long))) ∙ come;
-      at_hand = format_hand (action_of p.opened.command) c (track_under c.image.geometry r) new.is k.has.at_hand;
+      at_hand = format_hand (action_of p.opened.command) half.cache (track_under half.cache.image.geometry half.registers) new.is k.has.at_hand;
     }
 
 -- a record that does not fit
-pub format_stays : (c : CacheState) (r : Registers) (before passed : List ℕ) (p : Progress) (more f field count : List ℕ) → Works c r before passed p → MayTake p more → p.place ≡ Field f → field ≡ overwritten f p.moved more
-    → FormatGoes c r passed p more count → fits_track c.image.geometry.model p.opened.area count (track_of (slot_held c)) ≡ false → Absorbs c c r before before passed p more (Field field)
-format_stays c r before passed p more f field count x may at is k no_room =
-    let g = c.image.geometry in
-    let t = track_of (slot_at c.slots (track_under g r)) in
-    let N : Action → Type 0 = λ a. ChangesNothing a g t p.opened r (passed ++ more) in
-    let P : List ℕ → Type 0 = λ b. new_record_fits g t p.opened b ≡ false in
-    let held = slot_is c (track_under g r) (slot_held c) k.at_hand.held refl in
-    let none : ChangesNothing action.Format g t p.opened r (passed ++ more) = λ _. subst P k.whole (rw held at no_room) in
-    field_absorbs c r before passed p more f field x may at is (subst N (sym k.is) none)
+pub format_stays : (half : HalfDone) (more f field count : List ℕ) → MayTake half more → half.progress.place ≡ Field f → field ≡ overwritten f half.progress.moved more
+    → FormatGoes half more count → fits_track half.cache.image.geometry.model half.progress.opened.area count (track_of (slot_held half.cache)) ≡ false → Absorbs half more half.cache half.before (Field field)
+format_stays half more f field count may at is k no_room =
+    let g = half.cache.image.geometry in
+    let t = track_of (slot_at half.cache.slots (track_under g half.registers)) in
+    let N : Action → Type 0 = λ a. ChangesNothing a g t half.progress.opened half.registers (half.passed ++ more) in
+    let P : List ℕ → Type 0 = λ b. new_record_fits g t half.progress.opened b ≡ false in
+    let held = slot_is half.cache (track_under g half.registers) (slot_held half.cache) k.at_hand.held refl in
+    let none : ChangesNothing action.Format g t half.progress.opened half.registers (half.passed ++ more) = λ _. subst P k.whole (rw held at no_room) in
+    field_absorbs half more f field may at is (subst N (sym k.is) none)
 
 takes_format : (a : Action) → a ≡ action.Format → (a ≡ action.GiveSense → ⊥) × (a ≡ action.Read → ⊥)
 takes_format a e = (λ z. cc, λ z. cc)
 
 -- a record that fits
-pub format_absorbs : (c : CacheState) (r : Registers) (before passed : List ℕ) (p : Progress) (more f count : List ℕ) (i : ℕ) (w : Window) → Works c r before passed p → MayTake p more → p.place ≡ Field f → FormatGoes c r passed p more count
-    → HasFormatted c.image.geometry.model c.image.geometry.track_size p.opened.area count (track_of (slot_held c)) i w
-    → Absorbs c (after_format c p.opened.area count) r before (slot_at c.slots (track_under c.image.geometry r)) passed p more (Filled w (command_end (format_ends r i)))
-format_absorbs c r before passed p more f count i w x may at k has =
+pub format_absorbs : (half : HalfDone) (more f count : List ℕ) (i : ℕ) (w : Window) → MayTake half more → half.progress.place ≡ Field f → FormatGoes half more count
+    → HasFormatted half.cache.image.geometry.model half.cache.image.geometry.track_size half.progress.opened.area count (track_of (slot_held half.cache)) i w
+    → Absorbs half more (after_format half.cache half.progress.opened.area count) (own_slot half) (Filled w (command_end (format_ends half.registers i)))
+format_absorbs half more f count i w may at k has =
+    let c = half.cache in
+    let r = half.registers in
     let g = c.image.geometry in
     let n : ℕ = track_under g r in
     let old = slot_at c.slots n in
     let t = track_of old in
-    let a = p.opened.area in
-    let b = passed ++ more in
-    let goes = field_goes c r before passed p more f x may at in
+    let a = half.progress.opened.area in
+    let b = half.passed ++ more in
+    let goes = field_goes half more f may at in
     let t0 = formatted t a b in
     let held = slot_is c n (slot_held c) k.at_hand.held refl in
     let new = slot_of g.track_size (formatted (track_of (slot_held c)) a count) in
@@ -225,18 +233,19 @@ format_absorbs c r before passed p more f count i w x may at k has =
     let is_new : HasFormatted g.model g.track_size a b t i w = subst H k.whole (rw held at has) in
     let made : new ≡ slot_of g.track_size t0 = ap (λ (y : List ℕ). slot_of g.track_size (formatted (track_of y) a count)) held ∙ ap (λ (y : List ℕ). slot_of g.track_size (formatted t a y)) k.whole in
     let read = reads_new g.track_size t0 new is_new.spelled made in
-    let at_new = new_slot_at c n new k.at_hand.held (there c r before passed p x) in
+    let at_new = new_slot_at c n new k.at_hand.held (there half may.works) in
     let now : List ℕ = slot_at (with_held c new).slots n in
     let lens : lengths_on (track_in now) ≡ lengths_on t0 = ap (λ (y : List ℕ). lengths_on (track_in y)) at_new ∙ ap lengths_on read.1 in
     let last = format_there t a b i is_new.is_last in
     let place = update_place extent.KeyAndData t0 part.Data i w tt last is_new.place in
     let bytes = format_bytes t a b i is_new.is_last k.eight in
-    let filled : IsFilled g r old now p.opened b w (command_end (format_ends r i)) =
-    form_filled g r old now p.opened b w (command_end (format_ends r i)) t0 extent.KeyAndData part.Data i 8 tt is_new.spelled last lens (omega (arith, k.eight)) (omega arith) (omega (arith, place.0, k.eight)) (omega (arith, place.1, k.eight))
-    (λ m le. format_filled g r old p.opened b m part.Data i k.is k.eight is_new.fits is_new.is_last (omega (arith, le, place.1))) in
+    let job = new_work half more new w (command_end (format_ends r i)) in
+    let filled : IsFilled job now w (command_end (format_ends r i)) =
+    form_filled job now w (format_filling job part.Data i) tt is_new.spelled last lens (omega (arith, k.eight)) (omega arith) (omega (arith, place.0, k.eight)) (omega (arith, place.1, k.eight))
+    (λ m le. format_filled job m part.Data i k.is k.eight is_new.fits is_new.is_last (omega (arith, le, place.1))) in
     let whole : with_record_changed (replaced extent.KeyAndData (padded (drop 8 (b ++ [])) (update_length extent.KeyAndData (record_in t0 i)))) (Of part.Data i) t0 ≡ t0 =
     format_written t a b [] part.Data i k.eight is_new.is_last (omega arith) ∙ ap (λ (y : List ℕ). formatted t a y) (append-nil b) in
-    let left : p.left ≤ 8 - length passed = rw (at, k.is) at x.goes.left in
-    newly_absorbs c r before passed p more new w (command_end (format_ends r i)) (omega arith) x k.at_hand.held (rw at refl) goes.again
-    (takes_format (action_of p.opened.command) k.is) (record { stays = refl; cylinder = refl; head = refl }) (omega (arith, k.eight, goes.long)) (omega (arith, left, k.eight, goes.long)) (omega (arith, k.eight, goes.long))
+    let left : half.progress.left ≤ 8 - length half.passed = rw (at, k.is) at may.works.goes.left in
+    newly_absorbs half more new w (command_end (format_ends r i)) (omega arith) may.works k.at_hand.held (rw at refl) goes.again
+    (takes_format (action_of half.progress.opened.command) k.is) (record { stays = refl; cylinder = refl; head = refl }) (omega (arith, k.eight, goes.long)) (omega (arith, left, k.eight, goes.long)) (omega (arith, k.eight, goes.long))
     filled (made ∙ ap (slot_of g.track_size) (sym whole))

@@ -1,6 +1,7 @@
 pub mod Sights
 pub mod Beginnings
 pub mod Standing
+pub mod Inside
 pub mod Faults
 pub mod First
 pub mod Looks

@@ -3,14 +3,13 @@ use Rattle.std.proofs.Common.{◌≡◌, ◌∙◌, subst, refl, ℕ, ◌+◌, �
 use Rattle.ckd_track.specs.Track.{track_of}
 use Rattle.ckd_track.specs.declared.geometries.Geometry.{Geometry}
 use Rattle.ckd_command.specs.declared.registers.Registers.{Registers}
-use Rattle.ckd_command.specs.declared.registers.Mark.{Mark}
 use Rattle.ckd_command.specs.declared.tables.Aim.TheVariants.{NoArea, Credited}
 use Rattle.ckd_command.specs.declared.tables.Action.{Action}
 use Rattle.ckd_command.specs.declared.tables.Action.TheVariants as action
 use Rattle.ckd_command.specs.declared.begin.Opened.{Opened}
 use Rattle.ckd_command.specs.Answers.{Found}
 use Rattle.ckd_drive.specs.Transfers.{Transfer, Sense, Field, Read, Search, Fill, Filled, Progress}
-use Rattle.ckd_drive.specs.Stage.{Stage, Looking, Passing}
+use Rattle.ckd_drive.specs.Stage.{Stage, Passing}
 use Rattle.ckd_command.specs.Tables.{action_of, aim}
 use Rattle.ckd_position.specs.Contents.{Sighted, is_readable}
 use Rattle.ckd_command.specs.Commands.{IsAtTrack, sight, length_after}
@@ -18,9 +17,10 @@ use Rattle.ckd_cache.specs.Cache.{CacheState, slot_held}
 use Rattle.ckd_drive.proofs.Numbers.{number_there}
 use Rattle.ckd_drive.specs.Work.{DriveState, fault_met, with_image, after_look}
 use Rattle.ckd_command.specs.Drive.{is_written_by}
-use Rattle.ckd_drive.specs.Invariant.{Stands, StaysAt, AtHand, ReadsWhole, IsFound, StageIs, Goes, IsPlaced, IsFirstPlace, CreditAtHand, remaining, state_of, seen_by, slot_at, track_under, is_filled_by}
+use Rattle.ckd_drive.specs.Invariant.{Stands, StaysAt, AtHand, ReadsWhole, IsFound, StageIs, Goes, IsPlaced, IsFirstPlace, CreditAtHand, remaining, state_of, seen_by, slot_at, track_under, is_filled_by, Kept, Parts, parts_of, AtWork, geometry_in, number_in, slot_in, work_in, number_under, slot_under}
 use Rattle.ckd_drive.proofs.First.{first_placed, HandIfAimed}
 use Rattle.ckd_drive.proofs.Faults.{fault_none}
+use Rattle.ckd_drive.specs.Calls.{looking_drive}
 
 first_not_filled : (slot : List ℕ) (o : Opened) (r : Registers) (p : Transfer) → IsFirstPlace slot o r p → is_filled_by p ≡ false
 first_not_filled slot o r (Filled w u) f = absurd f
@@ -39,89 +39,98 @@ no_filled_seen slots n before (Search w u) f = refl
 no_filled_seen slots n before (Fill w u) f = refl
 
 -- how many bytes it wants, by its place
-pub first_len : (c : CacheState) (g : Geometry) (r : Registers) (n : ℕ) (o : Opened) (before : List ℕ) (p : Transfer) → IsFirstPlace (slot_at c.slots n) o r p → IsPlaced c g r n o before [] p
-    → length_after g (track_of (slot_at c.slots n)) o r [] ≡ 0 + remaining (action_of o.command) p 0
-first_len c g r n o before (Filled w u) f x = absurd f
-first_len c g r n o before (Sense b u) f x = x.1.len
-first_len c g r n o before (Field y) f x = x.1.len
-first_len c g r n o before (Read w u) f x = x.1.len
-first_len c g r n o before (Search w u) f x = x.1.len
-first_len c g r n o before (Fill w u) f x = x.1.len
+pub first_len : (job : AtWork) (p : Transfer) → IsFirstPlace (slot_in job) job.opened job.registers p → IsPlaced (record job { passed = [] }) p
+    → length_after (geometry_in job) (track_of (slot_in job)) job.opened job.registers [] ≡ 0 + remaining (action_of job.opened.command) p 0
+first_len job (Filled w u) f x = absurd f
+first_len job (Sense b u) f x = x.1.len
+first_len job (Field y) f x = x.1.len
+first_len job (Read w u) f x = x.1.len
+first_len job (Search w u) f x = x.1.len
+first_len job (Fill w u) f x = x.1.len
 
 -- A look that finds the area.
 
 abbrev pub found_at : Opened → Transfer → Stage
 found_at o place = Passing (record { opened = o; moved = 0; left = remaining (action_of o.command) place 0; place = place })
 
-pub found_stands : (c : CacheState) (r : Registers) (m : Mark) (o o' : Opened) (before : List ℕ) (place : Transfer)
-    → Stands c r m (Looking o) [] []
-    → IsFirstPlace (slot_at c.slots (track_under c.image.geometry r)) o' r place → HandIfAimed c (track_under c.image.geometry r) o' → sight c.image.geometry (track_of (slot_at c.slots (track_under c.image.geometry r))) o' r ≡ Found o'
-    → Stands c r m (found_at o' place) before []
-found_stands c r m o o' before place x f h again =
-    let marked : c.changed ≡ (is_written_by m || false) = x.marked in
+abbrev first_work : Kept → Opened → (before : List ℕ) → AtWork
+first_work was o before = record { cache = was.cache; registers = was.registers; opened = o; before = before; passed = [] }
+
+pub found_stands : (was : Kept) (o o' : Opened) (before : List ℕ) (place : Transfer)
+    → Stands (looking_drive was o)
+    → IsFirstPlace (slot_under was) o' was.registers place → HandIfAimed was.cache (number_under was) o' → sight was.cache.image.geometry (track_of (slot_under was)) o' was.registers ≡ Found o'
+    → Stands (parts_of was (found_at o' place) before [])
+found_stands was o o' before place x f h again =
+    let marked : was.cache.changed ≡ (is_written_by was.mark || false) = x.marked in
     record {
       volume = x.volume;
       arm = x.arm;
       anchored = x.anchored;
-      marked = rw (first_not_filled (slot_at c.slots (track_under c.image.geometry r)) o' r place f) marked;
+      marked = rw (first_not_filled (slot_at was.cache.slots (track_under was.cache.image.geometry was.registers)) o' was.registers place f) marked;
       work = record {
         moved = refl;
         left = omega arith;
-        placed = first_placed c c.image.geometry r (track_under c.image.geometry r) o' before place f h again;
+        placed = first_placed (first_work was o' before) place f h again;
         no_credit = x.work.no_credit;
       };
     }
 
-pub found_state : (c : CacheState) (r : Registers) (m : Mark) (o o' : Opened) (before : List ℕ) (place : Transfer)
-    → Stands c r m (Looking o) [] []
-    → IsFirstPlace (slot_at c.slots (track_under c.image.geometry r)) o' r place → HandIfAimed c (track_under c.image.geometry r) o'
-    → sight c.image.geometry (track_of (slot_at c.slots (track_under c.image.geometry r))) o' r ≡ Found o'
-    → sight c.image.geometry (track_of (slot_at c.slots (track_under c.image.geometry r))) o r ≡ Found o'
-    → state_of c r m (found_at o' place) before [] ≡ with_image (after_look (fault_met (state_of c r m (Looking o) [] []) (state_of c r m (found_at o' place) before [])) (state_of c r m (Looking o) [] [])) c.image
-found_state c r m o o' before place x f h again first =
+pub found_state : (was : Kept) (o o' : Opened) (before : List ℕ) (place : Transfer)
+    → Stands (looking_drive was o)
+    → IsFirstPlace (slot_under was) o' was.registers place → HandIfAimed was.cache (number_under was) o'
+    → sight was.cache.image.geometry (track_of (slot_under was)) o' was.registers ≡ Found o'
+    → sight was.cache.image.geometry (track_of (slot_under was)) o was.registers ≡ Found o'
+    → state_of (parts_of was (found_at o' place) before []) ≡ with_image (after_look (fault_met (state_of (looking_drive was o)) (state_of (parts_of was (found_at o' place) before []))) (state_of (looking_drive was o))) was.cache.image
+found_state was o o' before place x f h again first =
+    let c = was.cache in
+    let r = was.registers in
     let n : ℕ = track_under c.image.geometry r in
     let t = track_of (slot_at c.slots n) in
-    let old = state_of c r m (Looking o) [] [] in
-    let new = state_of c r m (found_at o' place) before [] in
+    let old = state_of (looking_drive was o) in
+    let new = state_of (parts_of was (found_at o' place) before []) in
     let none : fault_met old new ≡ None = fault_none old new refl in
-    let len : length_after c.image.geometry t o' r [] ≡ 0 + remaining (action_of o'.command) place 0 = first_len c c.image.geometry r n o' before place f (first_placed c c.image.geometry r n o' before place f h again) in
+    let len : length_after c.image.geometry t o' r [] ≡ 0 + remaining (action_of o'.command) place 0 = first_len (first_work was o' before) place f (first_placed (first_work was o' before) place f h again) in
     let left_is : remaining (action_of o'.command) place 0 ≡ length_after c.image.geometry t o' r [] = omega (arith, len) in
     let plain = no_filled_seen c.slots n before place (first_not_filled (slot_at c.slots n) o' r place f) in
     rw (none, plain, first, left_is) refl
 
 -- A further look.
 
-pub is_found : (c : CacheState) (g : Geometry) (r : Registers) (n : ℕ) (o : Opened) (before passed : List ℕ) (p : Transfer) → n < length c.slots → IsPlaced c g r n o before passed p
-    → IsFound g r (track_of (slot_at (seen_by c.slots n before p) n)) o passed p
-is_found c g r n o before passed (Sense b u) lt x = x.1
-is_found c g r n o before passed (Field f) lt x = x.1
-is_found c g r n o before passed (Read w u) lt x = x.1
-is_found c g r n o before passed (Search w u) lt x = x.1
-is_found c g r n o before passed (Fill w u) lt x = x.1
-is_found c g r n o before passed (Filled w u) lt x =
-    let same : get_or (set c.slots n before) n [] ≡ before = get_or-set_same c.slots n before [] lt in
+-- the track as the definitions see it
+abbrev pub seen_track : AtWork → Transfer → Sighted
+seen_track job p = track_of (slot_at (seen_by job.cache.slots (number_in job) job.before p) (number_in job))
+
+pub is_found : (job : AtWork) (p : Transfer) → number_in job < length job.cache.slots → IsPlaced job p
+    → IsFound job (seen_track job p) p
+is_found job (Sense b u) lt x = x.1
+is_found job (Field f) lt x = x.1
+is_found job (Read w u) lt x = x.1
+is_found job (Search w u) lt x = x.1
+is_found job (Fill w u) lt x = x.1
+is_found job (Filled w u) lt x =
+    let same : get_or (set job.cache.slots (number_in job) job.before) (number_in job) [] ≡ job.before = get_or-set_same job.cache.slots (number_in job) job.before [] lt in
     rw same x.found
 
-pub goes_of : (c : CacheState) (r : Registers) (m : Mark) (s : Stage) (p : Progress) (before passed : List ℕ) → Stands c r m s before passed → s ≡ Passing p → Goes c r before passed p
-goes_of c r m s p before passed x is = (let P : Stage → Type 0 = λ t. StageIs c r before passed t in subst P is x.work)
+pub goes_of : (parts : Parts) (p : Progress) → Stands parts → parts.stage ≡ Passing p → Goes parts.cache parts.registers parts.before parts.passed p
+goes_of parts p x is = (let P : Stage → Type 0 = λ t. StageIs parts.cache parts.registers parts.before parts.passed t in subst P is x.work)
 
 abbrev pub again_at : Progress → Stage
 again_at p = Passing (record p { left = remaining (action_of p.opened.command) p.place p.moved })
 
-pub again_state : (c : CacheState) (r : Registers) (m : Mark) (s : Stage) (p : Progress) (before passed : List ℕ) (now : DriveState)
-    → Stands c r m s before passed → s ≡ Passing p → state_of c r m s before passed ≡ now
-    → state_of c r m (again_at p) before passed ≡ with_image (after_look (fault_met now (state_of c r m (again_at p) before passed)) now) c.image
-again_state c r m s p before passed now x is now_is =
-    let goes = goes_of c r m s p before passed x is in
-    let n : ℕ = track_under c.image.geometry r in
-    let f = is_found c c.image.geometry r n p.opened before passed p.place (number_there c r m s before passed x) goes.placed in
-    let left_is : remaining (action_of p.opened.command) p.place (length passed) ≡ length_after c.image.geometry (track_of (slot_at (seen_by c.slots n before p.place) n)) p.opened r passed - length passed = omega (arith, f.len) in
+pub again_state : (parts : Parts) (p : Progress) (now : DriveState)
+    → Stands parts → parts.stage ≡ Passing p → state_of parts ≡ now
+    → state_of (record parts { stage = again_at p }) ≡ with_image (after_look (fault_met now (state_of (record parts { stage = again_at p }))) now) parts.cache.image
+again_state parts p now x is now_is =
+    let goes = goes_of parts p x is in
+    let n : ℕ = track_under parts.cache.image.geometry parts.registers in
+    let f = is_found (work_in parts p.opened) p.place (number_there parts x) goes.placed in
+    let left_is : remaining (action_of p.opened.command) p.place (length parts.passed) ≡ length_after parts.cache.image.geometry (track_of (slot_at (seen_by parts.cache.slots n parts.before p.place) n)) p.opened parts.registers parts.passed - length parts.passed = omega (arith, f.len) in
     rw (← now_is, is, ← goes.moved, left_is) refl
 
-pub again_stands : (c : CacheState) (r : Registers) (m : Mark) (s : Stage) (p : Progress) (before passed : List ℕ)
-    → Stands c r m s before passed → s ≡ Passing p → Stands c r m (again_at p) before passed
-again_stands c r m s p before passed x is =
-    let goes = goes_of c r m s p before passed x is in
+pub again_stands : (parts : Parts) (p : Progress)
+    → Stands parts → parts.stage ≡ Passing p → Stands (record parts { stage = again_at p })
+again_stands parts p x is =
+    let goes = goes_of parts p x is in
     let marked = rw is at x.marked in
     record {
       volume = x.volume;

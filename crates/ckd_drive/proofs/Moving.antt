@@ -3,24 +3,21 @@ use Rattle.std.proofs.Common.{◌≡◌, ◌∙◌, ap, sym, subst, refl, inl, i
 use Rattle.std.proofs.lemmas.List.{take-take, drop-take, get_or_past}
 use Rattle.std.proofs.lemmas.Bool.{cases_lt}
 use Rattle.ckd_track.specs.Track.{track_of}
-use Rattle.ckd_track.specs.declared.geometries.Geometry.{Geometry}
 use Rattle.ckd_command.specs.declared.registers.Registers.{Registers}
-use Rattle.ckd_command.specs.declared.registers.Mark.{Mark}
 use Rattle.ckd_command.specs.declared.tables.Action.{Action}
 use Rattle.ckd_command.specs.declared.tables.Action.TheVariants as action
-use Rattle.ckd_command.specs.declared.begin.Opened.{Opened}
 use Rattle.ckd_command.specs.Answers.{CommandEnd}
 use Rattle.ckd_slot.specs.declared.windows.Window.{Window}
 use Rattle.ckd_drive.specs.Transfers.{Transfer, Sense, Field, Read, Search, Fill, Filled, Progress}
-use Rattle.ckd_drive.specs.Stage.{Stage, Passing}
+use Rattle.ckd_drive.specs.Stage.{Passing}
 use Rattle.ckd_command.specs.Tables.{action_of, is_giving}
 use Rattle.ckd_position.specs.Contents.{Sighted}
-use Rattle.ckd_command.specs.Commands.{Closing, area_bytes, length_after, closing, command_end}
+use Rattle.ckd_command.specs.Commands.{Closing, area_bytes, length_after, command_end}
 use Rattle.ckd_slot.specs.Buffer.{Lies}
 use Rattle.ckd_cache.specs.Cache.{CacheState, IsVolume}
 use Rattle.ckd_drive.specs.Work as work
 use Rattle.ckd_drive.specs.Work.{DriveState, gives_now, takes_now, left_of, given_now, passed_of, moved_on}
-use Rattle.ckd_drive.specs.Invariant.{Stands, IsPlaced, IsField, ClosesUnwritten, remaining, next_progress, given_on, state_of, slot_at, track_under, is_filled_by, seen_by}
+use Rattle.ckd_drive.specs.Invariant.{Stands, IsPlaced, IsField, ClosesUnwritten, remaining, next_progress, given_on, state_of, slot_at, track_under, is_filled_by, seen_by, Parts, track_in_reach, AtWork, geometry_in, action_in, closing_in, work_in}
 use Rattle.ckd_drive.proofs.First.{length_by, area_by, closing_by, sense_length, sense_outcome}
 use Rattle.ckd_drive.proofs.Looks.{goes_of}
 use Rattle.std.specs.declared.cmp.Ordering.{Ordering}
@@ -61,23 +58,23 @@ pub record MayMove (p : Progress) (more : List ℕ) : Type 0 where
   pub room : length more ≤ p.left
   pub giving : is_giving (action_of p.opened.command) ≡ true
 
-pub may_give : (c : CacheState) (r : Registers) (m : Mark) (s : Stage) (p : Progress) (before passed more : List ℕ) (now : DriveState)
-    → s ≡ Passing p → state_of c r m s before passed ≡ now → gives_now now.work ≡ true → length more ≤ left_of now.work → MayMove p more
-may_give c r m s p before passed more now is now_is gives room =
-    let work_is : now.work ≡ work.Passing p.opened passed p.left = sym (ap (λ (d : DriveState). d.work) now_is) ∙ rw is refl in
+pub may_give : (parts : Parts) (p : Progress) (more : List ℕ) (now : DriveState)
+    → parts.stage ≡ Passing p → state_of parts ≡ now → gives_now now.work ≡ true → length more ≤ left_of now.work → MayMove p more
+may_give parts p more now is now_is gives room =
+    let work_is : now.work ≡ work.Passing p.opened parts.passed p.left = sym (ap (λ (d : DriveState). d.work) now_is) ∙ rw is refl in
     record { room = rw work_is at room; giving = rw work_is at gives }
 
 pub next_left : (l k x y : ℕ) → l ≤ x → y ≡ x - k → l - k ≤ y
 next_left l k x y le e = omega (arith, le, e)
 
 -- the command goes on, and the track stays as it is
-pub goes_on : (c : CacheState) (r : Registers) (m : Mark) (s : Stage) (p : Progress) (before passed more : List ℕ) (place' : Transfer) (k : ℕ)
-    → Stands c r m s before passed → s ≡ Passing p → k ≡ length more → is_filled_by p.place ≡ false → is_filled_by place' ≡ false
-    → remaining (action_of p.opened.command) place' (length (passed ++ more)) ≡ remaining (action_of p.opened.command) p.place (length passed) - length more
-    → IsPlaced c c.image.geometry r (track_under c.image.geometry r) p.opened before (passed ++ more) place'
-    → Stands c r m (Passing (next_progress p k place')) before (passed ++ more)
-goes_on c r m s p before passed more place' k x is n f f' rest placed =
-    let goes = goes_of c r m s p before passed x is in
+pub goes_on : (parts : Parts) (p : Progress) (more : List ℕ) (place' : Transfer) (k : ℕ)
+    → Stands parts → parts.stage ≡ Passing p → k ≡ length more → is_filled_by p.place ≡ false → is_filled_by place' ≡ false
+    → remaining (action_of p.opened.command) place' (length (parts.passed ++ more)) ≡ remaining (action_of p.opened.command) p.place (length parts.passed) - length more
+    → IsPlaced (work_in (record parts { passed = parts.passed ++ more }) p.opened) place'
+    → Stands (record parts { stage = Passing (next_progress p k place'); passed = parts.passed ++ more })
+goes_on parts p more place' k x is n f f' rest placed =
+    let goes = goes_of parts p x is in
     let marked = rw (is, f) at x.marked in
     record {
       volume = x.volume;
@@ -85,7 +82,7 @@ goes_on c r m s p before passed more place' k x is n f f' rest placed =
       anchored = x.anchored;
       marked = rw f' marked;
       work = record {
-        moved = rw (n, ← goes.moved) (length-append passed more);
+        moved = rw (n, ← goes.moved) (length-append parts.passed more);
         left = rw n (next_left p.left (length more) _ _ goes.left rest);
         placed = placed;
         no_credit = goes.no_credit;
@@ -94,21 +91,24 @@ goes_on c r m s p before passed more place' k x is n f f' rest placed =
 
 -- Giving.
 
-read_closes : (g : Geometry) (r : Registers) (t : Sighted) (o : Opened) (passed more : List ℕ) (u : CommandEnd) → action_of o.command ≡ action.Read → ClosesUnwritten g r t o passed u → ClosesUnwritten g r t o (passed ++ more) u
-read_closes g r t o passed more u is k =
-    let same : closing g t o r (passed ++ more) ≡ closing g t o r passed = closing_by action.Read g t o r (passed ++ more) is ∙ sym (closing_by action.Read g t o r passed is) in
+read_closes : (job : AtWork) (t : Sighted) (more : List ℕ) (u : CommandEnd) → action_in job ≡ action.Read → ClosesUnwritten job t u → ClosesUnwritten (record job { passed = job.passed ++ more }) t u
+read_closes job t more u is k =
+    let same : closing_in (record job { passed = job.passed ++ more }) t ≡ closing_in job t = closing_by action.Read (geometry_in job) t job.opened job.registers (job.passed ++ more) is ∙ sym (closing_by action.Read (geometry_in job) t job.opened job.registers job.passed is) in
     record { so = ap command_end same ∙ k.so; unwritten = ap (λ (x : Closing). x.written) same ∙ k.unwritten }
 
-pub read_stands : (c : CacheState) (r : Registers) (m : Mark) (s : Stage) (p : Progress) (before passed more : List ℕ) (w : Window) (u : CommandEnd) (k : ℕ)
-    → Stands c r m s before passed → s ≡ Passing p → p.place ≡ Read w u → MayMove p more → k ≡ length more
-    → Stands c r m (Passing (next_progress p k (Read (record { start = w.start + k; len = w.len - k }) u))) before (passed ++ more)
-read_stands c r m s p before passed more w u k x is at may n =
+pub read_stands : (parts : Parts) (p : Progress) (more : List ℕ) (w : Window) (u : CommandEnd) (k : ℕ)
+    → Stands parts → parts.stage ≡ Passing p → p.place ≡ Read w u → MayMove p more → k ≡ length more
+    → Stands (record parts { stage = Passing (next_progress p k (Read (record { start = w.start + k; len = w.len - k }) u)); passed = parts.passed ++ more })
+read_stands parts p more w u k x is at may n =
+    let c = parts.cache in
+    let r = parts.registers in
+    let passed = parts.passed in
     let g = c.image.geometry in
-    let goes = goes_of c r m s p before passed x is in
+    let goes = goes_of parts p x is in
     let t = track_of (slot_at c.slots (track_under g r)) in
     let left : p.left ≤ w.len = rw at at goes.left in
     let le : length more ≤ w.len = omega (arith, left, may.room) in
-    let P : Transfer → Type 0 = λ y. IsPlaced c g r (track_under g r) p.opened before passed y in
+    let P : Transfer → Type 0 = λ y. IsPlaced (work_in parts p.opened) y in
     let placed = subst P at goes.placed in
     let h = placed.0 in
     let area = area_bytes t p.opened r in
@@ -120,34 +120,35 @@ read_stands c r m s p before passed more w u k x is at may n =
     (let Q : List ℕ → Type 0 = λ b. Lies (slot_at c.slots (track_under g r)) w' b in subst Q behind (lies_rest (slot_at c.slots (track_under g r)) (drop (length passed) area) w (length more) h.lies le)) in
     let whole : length area ≡ length passed + w.len = omega (arith, size, length-drop (length passed) area, h.room) in
     let wants : length_after g t p.opened r (passed ++ more) ≡ length area = length_by action.Read g t p.opened r (passed ++ more) h.is_read in
-    rw n (goes_on c r m s p before passed more (Read w' u) (length more) x is refl (rw at refl) refl (rw at refl) (
+    rw n (goes_on parts p more (Read w' u) (length more) x is refl (rw at refl) refl (rw at refl) (
       record { is_read = h.is_read; held = h.held; lies = lies; room = omega (arith, whole, far, le); begins = omega (arith, h.begins, far) },
       record { again = placed.1.again; len = omega (arith, wants, whole, far, le) },
-      read_closes g r t p.opened passed more u h.is_read placed.2,
+      read_closes (work_in parts p.opened) t more u h.is_read placed.2,
     ))
 
 -- The sense bytes.
 
-sense_closes : (g : Geometry) (r : Registers) (t : Sighted) (o : Opened) (passed more : List ℕ) (u : CommandEnd) → action_of o.command ≡ action.GiveSense → ClosesUnwritten g r t o passed u → ClosesUnwritten g r t o (passed ++ more) u
-sense_closes g r t o passed more u is k =
-    let same : closing g t o r (passed ++ more) ≡ closing g t o r passed = sense_outcome g t o r (passed ++ more) is ∙ sym (sense_outcome g t o r passed is) in
+sense_closes : (job : AtWork) (t : Sighted) (more : List ℕ) (u : CommandEnd) → action_in job ≡ action.GiveSense → ClosesUnwritten job t u → ClosesUnwritten (record job { passed = job.passed ++ more }) t u
+sense_closes job t more u is k =
+    let same : closing_in (record job { passed = job.passed ++ more }) t ≡ closing_in job t = sense_outcome (geometry_in job) t job.opened job.registers (job.passed ++ more) is ∙ sym (sense_outcome (geometry_in job) t job.opened job.registers job.passed is) in
     record { so = ap command_end same ∙ k.so; unwritten = ap (λ (x : Closing). x.written) same ∙ k.unwritten }
 
-pub sense_stands : (c : CacheState) (r : Registers) (m : Mark) (s : Stage) (p : Progress) (before passed more b : List ℕ) (u : CommandEnd) (k : ℕ)
-    → Stands c r m s before passed → s ≡ Passing p → p.place ≡ Sense b u → MayMove p more → k ≡ length more
-    → Stands c r m (Passing (next_progress p k (Sense b u))) before (passed ++ more)
-sense_stands c r m s p before passed more b u k x is at may n =
-    let g = c.image.geometry in
-    let goes = goes_of c r m s p before passed x is in
-    let t = track_of (slot_at c.slots (track_under g r)) in
+pub sense_stands : (parts : Parts) (p : Progress) (more b : List ℕ) (u : CommandEnd) (k : ℕ)
+    → Stands parts → parts.stage ≡ Passing p → p.place ≡ Sense b u → MayMove p more → k ≡ length more
+    → Stands (record parts { stage = Passing (next_progress p k (Sense b u)); passed = parts.passed ++ more })
+sense_stands parts p more b u k x is at may n =
+    let passed = parts.passed in
+    let g = parts.cache.image.geometry in
+    let goes = goes_of parts p x is in
+    let t = track_of (slot_at parts.cache.slots (track_under g parts.registers)) in
     let left : p.left ≤ 6 - length passed = rw at at goes.left in
-    let P : Transfer → Type 0 = λ y. IsPlaced c g r (track_under g r) p.opened before passed y in
+    let P : Transfer → Type 0 = λ y. IsPlaced (work_in parts p.opened) y in
     let h = subst P at goes.placed in
     let far : length (passed ++ more) ≡ length passed + length more = length-append passed more in
-    let wants : length_after g t p.opened r (passed ++ more) ≡ 6 = sense_length g t p.opened r (passed ++ more) h.0.is_sense in
+    let wants : length_after g t p.opened parts.registers (passed ++ more) ≡ 6 = sense_length g t p.opened parts.registers (passed ++ more) h.0.is_sense in
     let room : length (passed ++ more) ≤ 6 = omega (arith, far, left, may.room, h.0.room) in
-    goes_on c r m s p before passed more (Sense b u) k x is n (rw at refl) refl (rw at (omega (arith, far)))
-    (record { is_sense = h.0.is_sense; bytes_are = h.0.bytes_are; room = room }, record { again = h.1.again; len = omega (arith, wants, room) }, sense_closes g r t p.opened passed more u h.0.is_sense h.2)
+    goes_on parts p more (Sense b u) k x is n (rw at refl) refl (rw at (omega (arith, far)))
+    (record { is_sense = h.0.is_sense; bytes_are = h.0.bytes_are; room = room }, record { again = h.1.again; len = omega (arith, wants, room) }, sense_closes (work_in parts p.opened) t more u h.0.is_sense h.2)
 
 -- Only those and the bytes of an area are given.
 
@@ -175,54 +176,54 @@ giving_two action.WriteHomeAddress e n = cc
 giving_two action.Format e n = cc
 giving_two action.Update e n = cc
 
-pub gives_not_field : (c : CacheState) (g : Geometry) (r : Registers) (n : ℕ) (o : Opened) (before passed f : List ℕ) → IsPlaced c g r n o before passed (Field f) → is_giving (action_of o.command) ≡ true → ⊥
-gives_not_field c g r n o before passed f x e = field_takes (action_of o.command) x.0.is_field e
+pub gives_not_field : (job : AtWork) (f : List ℕ) → IsPlaced job (Field f) → is_giving (action_of job.opened.command) ≡ true → ⊥
+gives_not_field job f x e = field_takes (action_of job.opened.command) x.0.is_field e
 
-pub gives_not_search : (c : CacheState) (g : Geometry) (r : Registers) (n : ℕ) (o : Opened) (before passed : List ℕ) (w : Window) (so_far : Ordering) → IsPlaced c g r n o before passed (Search w so_far) → is_giving (action_of o.command) ≡ true → ⊥
-gives_not_search c g r n o before passed w so_far x e = (let f : is_giving (action_of o.command) ≡ false = rw x.0.is_search refl in cc)
+pub gives_not_search : (job : AtWork) (w : Window) (so_far : Ordering) → IsPlaced job (Search w so_far) → is_giving (action_of job.opened.command) ≡ true → ⊥
+gives_not_search job w so_far x e = (let f : is_giving (action_of job.opened.command) ≡ false = rw x.0.is_search refl in cc)
 
-pub gives_not_fill : (c : CacheState) (g : Geometry) (r : Registers) (n : ℕ) (o : Opened) (before passed : List ℕ) (w : Window) (u : CommandEnd) → IsPlaced c g r n o before passed (Fill w u) → is_giving (action_of o.command) ≡ true → ⊥
-gives_not_fill c g r n o before passed w u x e = (let f : is_giving (action_of o.command) ≡ false = rw x.0.is_update refl in cc)
+pub gives_not_fill : (job : AtWork) (w : Window) (u : CommandEnd) → IsPlaced job (Fill w u) → is_giving (action_of job.opened.command) ≡ true → ⊥
+gives_not_fill job w u x e = (let f : is_giving (action_of job.opened.command) ≡ false = rw x.0.is_update refl in cc)
 
-pub gives_not_filled : (c : CacheState) (g : Geometry) (r : Registers) (n : ℕ) (o : Opened) (before passed : List ℕ) (w : Window) (u : CommandEnd) → IsPlaced c g r n o before passed (Filled w u) → is_giving (action_of o.command) ≡ true → ⊥
-gives_not_filled c g r n o before passed w u x e = giving_two (action_of o.command) e x.takes
+pub gives_not_filled : (job : AtWork) (w : Window) (u : CommandEnd) → IsPlaced job (Filled w u) → is_giving (action_of job.opened.command) ≡ true → ⊥
+gives_not_filled job w u x e = giving_two (action_of job.opened.command) e x.takes
 
 -- The drive once bytes are given.
 
-pub given_stands : (c : CacheState) (r : Registers) (m : Mark) (s : Stage) (p : Progress) (before passed more : List ℕ) (k : ℕ)
-    → Stands c r m s before passed → s ≡ Passing p → MayMove p more → k ≡ length more
-    → Stands c r m (Passing (next_progress p k (given_on p.place k))) before (passed ++ more)
-given_stands c r m s p before passed more k x is may n = by_place p.place refl
+pub given_stands : (parts : Parts) (p : Progress) (more : List ℕ) (k : ℕ)
+    → Stands parts → parts.stage ≡ Passing p → MayMove p more → k ≡ length more
+    → Stands (record parts { stage = Passing (next_progress p k (given_on p.place k)); passed = parts.passed ++ more })
+given_stands parts p more k x is may n = by_place p.place refl
   where
-    placed : IsPlaced c c.image.geometry r (track_under c.image.geometry r) p.opened before passed p.place
-    placed = (goes_of c r m s p before passed x is).placed
+    placed : IsPlaced (work_in parts p.opened) p.place
+    placed = (goes_of parts p x is).placed
 
-    by_place : (place : Transfer) → p.place ≡ place → Stands c r m (Passing (next_progress p k (given_on place k))) before (passed ++ more)
-    by_place (Sense b u) at = sense_stands c r m s p before passed more b u k x is at may n
-    by_place (Read w u) at = read_stands c r m s p before passed more w u k x is at may n
-    by_place (Field f) at = absurd (gives_not_field c c.image.geometry r (track_under c.image.geometry r) p.opened before passed f (rw at at placed) may.giving)
-    by_place (Search w so_far) at = absurd (gives_not_search c c.image.geometry r (track_under c.image.geometry r) p.opened before passed w so_far (rw at at placed) may.giving)
-    by_place (Fill w u) at = absurd (gives_not_fill c c.image.geometry r (track_under c.image.geometry r) p.opened before passed w u (rw at at placed) may.giving)
-    by_place (Filled w u) at = absurd (gives_not_filled c c.image.geometry r (track_under c.image.geometry r) p.opened before passed w u (rw at at placed) may.giving)
+    by_place : (place : Transfer) → p.place ≡ place → Stands (record parts { stage = Passing (next_progress p k (given_on place k)); passed = parts.passed ++ more })
+    by_place (Sense b u) at = sense_stands parts p more b u k x is at may n
+    by_place (Read w u) at = read_stands parts p more w u k x is at may n
+    by_place (Field f) at = absurd (gives_not_field (work_in parts p.opened) f (rw at at placed) may.giving)
+    by_place (Search w so_far) at = absurd (gives_not_search (work_in parts p.opened) w so_far (rw at at placed) may.giving)
+    by_place (Fill w u) at = absurd (gives_not_fill (work_in parts p.opened) w u (rw at at placed) may.giving)
+    by_place (Filled w u) at = absurd (gives_not_filled (work_in parts p.opened) w u (rw at at placed) may.giving)
 
 -- what may be given: so many bytes, and they are what the definitions give
 pub record Lends (p : Progress) (now : DriveState) (bytes : List ℕ) : Type 0 where
   pub size : length bytes ≡ left_of now.work
   pub bytes_are : bytes ≡ slice_range (given_now now now.work) (length (passed_of now.work)) (length (passed_of now.work) + left_of now.work)
 
-pub sense_lends : (c : CacheState) (r : Registers) (m : Mark) (s : Stage) (p : Progress) (before passed b : List ℕ) (u : CommandEnd) (now : DriveState)
-    → Stands c r m s before passed → s ≡ Passing p → p.place ≡ Sense b u → state_of c r m s before passed ≡ now → Lends p now (slice_range b p.moved (p.moved + p.left))
-sense_lends c r m s p before passed b u now x is at now_is =
-    let g = c.image.geometry in
-    let goes = goes_of c r m s p before passed x is in
-    let P : Transfer → Type 0 = λ y. IsPlaced c g r (track_under g r) p.opened before passed y in
+pub sense_lends : (parts : Parts) (p : Progress) (b : List ℕ) (u : CommandEnd) (now : DriveState)
+    → Stands parts → parts.stage ≡ Passing p → p.place ≡ Sense b u → state_of parts ≡ now → Lends p now (slice_range b p.moved (p.moved + p.left))
+sense_lends parts p b u now x is at now_is =
+    let g = parts.cache.image.geometry in
+    let goes = goes_of parts p x is in
+    let P : Transfer → Type 0 = λ y. IsPlaced (work_in parts p.opened) y in
     let h = (subst P at goes.placed).0 in
-    let left : p.left ≤ 6 - length passed = rw at at goes.left in
+    let left : p.left ≤ 6 - length parts.passed = rw at at goes.left in
     let long : length b ≡ 6 = ap length h.bytes_are in
     let size : length (slice_range b p.moved (p.moved + p.left)) ≡ p.left = omega (arith, length-take (p.moved + p.left - p.moved) (drop p.moved b), length-drop p.moved b, long, left, goes.moved, h.room) in
     record {
       size = rw (← now_is, is) size;
-      bytes_are = rw (← now_is, is, ← goes.moved, area_by action.GiveSense _ p.opened r h.is_sense, h.bytes_are) refl;
+      bytes_are = rw (← now_is, is, ← goes.moved, area_by action.GiveSense _ p.opened parts.registers h.is_sense, h.bytes_are) refl;
     }
 
 -- where the bytes of an area stand that may be given
@@ -232,30 +233,31 @@ pub record StandsInWindow (c : CacheState) (r : Registers) (p : Progress) (w : W
   pub inside : w.start + w.len ≤ length (slot_at c.slots (track_under c.image.geometry r))
   pub small : w.start + w.len < 2 ^ 32
 
-pub read_window : (c : CacheState) (r : Registers) (m : Mark) (s : Stage) (p : Progress) (before passed : List ℕ) (w : Window) (u : CommandEnd)
-    → Stands c r m s before passed → s ≡ Passing p → p.place ≡ Read w u → StandsInWindow c r p w
-read_window c r m s p before passed w u x is at =
-    let g = c.image.geometry in
-    let goes = goes_of c r m s p before passed x is in
-    let P : Transfer → Type 0 = λ y. IsPlaced c g r (track_under g r) p.opened before passed y in
+pub read_window : (parts : Parts) (p : Progress) (w : Window) (u : CommandEnd)
+    → Stands parts → parts.stage ≡ Passing p → p.place ≡ Read w u → StandsInWindow parts.cache parts.registers p w
+read_window parts p w u x is at =
+    let g = parts.cache.image.geometry in
+    let goes = goes_of parts p x is in
+    let P : Transfer → Type 0 = λ y. IsPlaced (work_in parts p.opened) y in
     let h = (subst P at goes.placed).0 in
     record {
       held = h.held;
       within = rw at at goes.left;
       inside = h.lies.within;
-      small = omega (arith, h.lies.within, slot_small c (track_under g r) x.volume);
+      small = omega (arith, h.lies.within, slot_small parts.cache (track_under g parts.registers) x.volume);
     }
 
-pub read_lends : (c : CacheState) (r : Registers) (m : Mark) (s : Stage) (p : Progress) (before passed slot : List ℕ) (w : Window) (u : CommandEnd) (now : DriveState)
-    → Stands c r m s before passed → s ≡ Passing p → p.place ≡ Read w u → slot ≡ slot_at c.slots (track_under c.image.geometry r) → state_of c r m s before passed ≡ now → Lends p now (slice_range slot w.start (w.start + p.left))
-read_lends c r m s p before passed slot w u now x is at slot_is now_is =
-    let g = c.image.geometry in
-    let old = slot_at c.slots (track_under g r) in
-    let goes = goes_of c r m s p before passed x is in
+pub read_lends : (parts : Parts) (p : Progress) (slot : List ℕ) (w : Window) (u : CommandEnd) (now : DriveState)
+    → Stands parts → parts.stage ≡ Passing p → p.place ≡ Read w u → slot ≡ slot_at parts.cache.slots (track_in_reach parts) → state_of parts ≡ now → Lends p now (slice_range slot w.start (w.start + p.left))
+read_lends parts p slot w u now x is at slot_is now_is =
+    let passed = parts.passed in
+    let g = parts.cache.image.geometry in
+    let old = slot_at parts.cache.slots (track_under g parts.registers) in
+    let goes = goes_of parts p x is in
     let left : p.left ≤ w.len = rw at at goes.left in
-    let P : Transfer → Type 0 = λ y. IsPlaced c g r (track_under g r) p.opened before passed y in
+    let P : Transfer → Type 0 = λ y. IsPlaced (work_in parts p.opened) y in
     let h = (subst P at goes.placed).0 in
-    let area = area_bytes (track_of old) p.opened r in
+    let area = area_bytes (track_of old) p.opened parts.registers in
     let here : slice_range old w.start (w.start + p.left) ≡ slice_range area (length passed) (length passed + p.left) =
     lies_first old (drop (length passed) area) w p.left h.lies left ∙ rw (behind_less (length passed) p.left) refl in
     let size : length (slice_range old w.start (w.start + p.left)) ≡ p.left = omega (arith, length-take (w.start + p.left - w.start) (drop w.start old), length-drop w.start old, left, h.lies.within) in
@@ -267,10 +269,10 @@ read_lends c r m s p before passed slot w u now x is at slot_is now_is =
 pub take_range : (k l at : ℕ) (s : List ℕ) → k ≤ l → take k (slice_range s at (at + l)) ≡ slice_range s at (at + k)
 take_range k l at s le = rw (behind_less at l, behind_less at k) (take-take k l (drop at s) le)
 
-pub moved_work : (c : CacheState) (r : Registers) (m : Mark) (s : Stage) (p : Progress) (before passed more : List ℕ) (now : DriveState) (k : ℕ) (place : Transfer)
-    → s ≡ Passing p → state_of c r m s before passed ≡ now → k ≡ length more → seen_by c.slots (track_under c.image.geometry r) before place ≡ seen_by c.slots (track_under c.image.geometry r) before p.place
-    → state_of c r m (Passing (next_progress p k place)) before (passed ++ more) ≡ record now { work = moved_on more now.work }
-moved_work c r m s p before passed more now k place is now_is n seen = rw (← now_is, is, n, seen) refl
+pub moved_work : (parts : Parts) (p : Progress) (more : List ℕ) (now : DriveState) (k : ℕ) (place : Transfer)
+    → parts.stage ≡ Passing p → state_of parts ≡ now → k ≡ length more → seen_by parts.cache.slots (track_in_reach parts) parts.before place ≡ seen_by parts.cache.slots (track_in_reach parts) parts.before p.place
+    → state_of (record parts { stage = Passing (next_progress p k place); passed = parts.passed ++ more }) ≡ record now { work = moved_on more now.work }
+moved_work parts p more now k place is now_is n seen = rw (← now_is, is, n, seen) refl
 
 pub given_seen : (slots : List (List ℕ)) (n : ℕ) (before : List ℕ) (p : Transfer) (k : ℕ) → seen_by slots n before (given_on p k) ≡ seen_by slots n before p
 given_seen slots n before (Sense b u) k = refl
@@ -281,21 +283,21 @@ given_seen slots n before (Fill w u) k = refl
 given_seen slots n before (Filled w u) k = refl
 
 -- what passing so many bytes makes of the drive
-pub record HasPassed (c : CacheState) (r : Registers) (m : Mark) (p : Progress) (before passed more : List ℕ) (now : DriveState) (k : ℕ) : Type 0 where
-  pub stands : Stands c r m (Passing (next_progress p k (given_on p.place k))) before (passed ++ more)
-  pub state : state_of c r m (Passing (next_progress p k (given_on p.place k))) before (passed ++ more)
+pub record HasPassed (parts : Parts) (p : Progress) (more : List ℕ) (now : DriveState) (k : ℕ) : Type 0 where
+  pub stands : Stands (record parts { stage = Passing (next_progress p k (given_on p.place k)); passed = parts.passed ++ more })
+  pub state : state_of (record parts { stage = Passing (next_progress p k (given_on p.place k)); passed = parts.passed ++ more })
       ≡ record now { work = moved_on (slice_range (given_now now now.work) (length (passed_of now.work)) (length (passed_of now.work) + k)) now.work }
 
-pub has_passed : (c : CacheState) (r : Registers) (m : Mark) (s : Stage) (p : Progress) (before passed bytes : List ℕ) (now : DriveState) (k : ℕ)
-    → Stands c r m s before passed → s ≡ Passing p → state_of c r m s before passed ≡ now → gives_now now.work ≡ true → k ≤ left_of now.work
+pub has_passed : (parts : Parts) (p : Progress) (bytes : List ℕ) (now : DriveState) (k : ℕ)
+    → Stands parts → parts.stage ≡ Passing p → state_of parts ≡ now → gives_now now.work ≡ true → k ≤ left_of now.work
     → length bytes ≡ left_of now.work → bytes ≡ slice_range (given_now now now.work) (length (passed_of now.work)) (length (passed_of now.work) + left_of now.work)
-    → HasPassed c r m p before passed (take k bytes) now k
-has_passed c r m s p before passed bytes now k x is now_is gives le long are =
+    → HasPassed parts p (take k bytes) now k
+has_passed parts p bytes now k x is now_is gives le long are =
     let more : List ℕ = take k bytes in
     let n : k ≡ length more = omega (arith, length-take k bytes, long, le) in
-    let may = may_give c r m s p before passed more now is now_is gives (omega (arith, n, le)) in
+    let may = may_give parts p more now is now_is gives (omega (arith, n, le)) in
     let range : more ≡ slice_range (given_now now now.work) (length (passed_of now.work)) (length (passed_of now.work) + k) = rw are (take_range k (left_of now.work) (length (passed_of now.work)) (given_now now now.work) le) in
     record {
-      stands = given_stands c r m s p before passed more k x is may n;
-      state = moved_work c r m s p before passed more now k (given_on p.place k) is now_is n (given_seen c.slots (track_under c.image.geometry r) before p.place k) ∙ ap (λ (b : List ℕ). record now { work = moved_on b now.work }) range;
+      stands = given_stands parts p more k x is may n;
+      state = moved_work parts p more now k (given_on p.place k) is now_is n (given_seen parts.cache.slots (track_under parts.cache.image.geometry parts.registers) parts.before p.place k) ∙ ap (λ (b : List ℕ). record now { work = moved_on b now.work }) range;
     }

@@ -14,13 +14,13 @@ use Rattle.ckd_command.specs.Answers.{CommandEnd, Found}
 use Rattle.ckd_drive.specs.declared.transfer.Whole.{Whole}
 use Rattle.ckd_drive.specs.declared.transfer.Whole.TheVariants as whole
 use Rattle.ckd_slot.specs.declared.windows.Window.{Window}
-use Rattle.ckd_drive.specs.Transfers.{Transfer, Sense, Field, Read, Search, Fill, Filled, Progress}
+use Rattle.ckd_drive.specs.Transfers.{Transfer, Sense, Field, Read, Search, Fill, Filled}
 use Rattle.ckd_command.specs.Tables.{action_of}
 use Rattle.ckd_position.specs.Contents.{Sighted, padded}
 use Rattle.ckd_command.specs.Commands.{Closing, sight, length_after, closing, command_end, own_home_address, home_address_ends, writes}
 use Rattle.ckd_slot.specs.Buffer.{lengths_on}
 use Rattle.ckd_cache.specs.Cache.{CacheState, IsVolume, with_held}
-use Rattle.ckd_drive.specs.Invariant.{Works, MayTake, Absorbs, HasFilled, IsFilled, FieldAtHand, slot_at, track_under, seen_by, is_filled_by, whole_of}
+use Rattle.ckd_drive.specs.Invariant.{HalfDone, Works, MayTake, Absorbs, own_track, own_slot, action_now, HasFilled, IsFilled, FieldAtHand, slot_at, track_under, seen_by, is_filled_by, whole_of, AtWork, geometry_in, slot_in, action_in, at_work, with_taken}
 use Rattle.ckd_slot.proofs.Writes.{bare_fits}
 use Rattle.ckd_drive.proofs.Fills.{written_works, there, new_slot_at, written_absorbs, reads_new}
 use Rattle.ckd_drive.proofs.First.{length_by, closing_by}
@@ -40,19 +40,25 @@ pub record StaysOn (r : Registers) (u : CommandEnd) : Type 0 where
   pub cylinder : u.registers.cylinder ≡ r.cylinder
   pub head : u.registers.head ≡ r.head
 
--- a command's first bytes that change the track
-pub newly_absorbs : (c : CacheState) (r : Registers) (before passed : List ℕ) (p : Progress) (more new : List ℕ) (w : Window) (u : CommandEnd) (le0 : length {A = ℕ} [] ≤ w.len)
-    → Works c r before passed p → c.held ≡ Some (track_under c.image.geometry r) → is_filled_by p.place ≡ false
-    → sight c.image.geometry (track_of (slot_at c.slots (track_under c.image.geometry r))) p.opened r ≡ Found p.opened
-    → (action_of p.opened.command ≡ action.GiveSense → ⊥) × (action_of p.opened.command ≡ action.Read → ⊥) → StaysOn r u
-    → 0 < length passed + length more → p.left - length more ≤ w.len → length passed + length more < 2 ^ 32
-    → (f : IsFilled c.image.geometry r (slot_at c.slots (track_under c.image.geometry r)) (slot_at (with_held c new).slots (track_under c.image.geometry r)) p.opened (passed ++ more) w u)
-    → new ≡ slot_of c.image.geometry.track_size (f.closes [] le0).track
-    → Absorbs c (with_held c new) r before (slot_at c.slots (track_under c.image.geometry r)) passed p more (Filled w u)
-newly_absorbs c r before passed p more new w u le0 x held plain again takes on some left small f is =
+-- a command whose first bytes change the track, once they came: the slot is this
+abbrev pub new_work : HalfDone → (more new : List ℕ) → Window → CommandEnd → AtWork
+new_work half more new w u = at_work (with_taken half more (with_held half.cache new) (own_slot half) (Filled w u))
+
+-- it goes on
+pub newly_absorbs : (half : HalfDone) (more new : List ℕ) (w : Window) (u : CommandEnd) (le0 : length {A = ℕ} [] ≤ w.len)
+    → Works half → half.cache.held ≡ Some (own_track half) → is_filled_by half.progress.place ≡ false
+    → sight half.cache.image.geometry (track_of (own_slot half)) half.progress.opened half.registers ≡ Found half.progress.opened
+    → (action_now half ≡ action.GiveSense → ⊥) × (action_now half ≡ action.Read → ⊥) → StaysOn half.registers u
+    → 0 < length half.passed + length more → half.progress.left - length more ≤ w.len → length half.passed + length more < 2 ^ 32
+    → (f : IsFilled (new_work half more new w u) (slot_in (new_work half more new w u)) w u)
+    → new ≡ slot_of half.cache.image.geometry.track_size (f.closes [] le0).track
+    → Absorbs half more (with_held half.cache new) (own_slot half) (Filled w u)
+newly_absorbs half more new w u le0 x held plain again takes on some left small f is =
+    let c = half.cache in
+    let passed = half.passed in
     let g = c.image.geometry in
-    let n : ℕ = track_under g r in
-    let lt = there c r before passed p x in
+    let n : ℕ = track_under g half.registers in
+    let lt = there half x in
     let old = slot_at c.slots n in
     let k = f.closes [] le0 in
     let read = reads_new g.track_size k.track new k.fits is in
@@ -60,9 +66,9 @@ newly_absorbs c r before passed p more new w u le0 x held plain again takes on s
     let same : (passed ++ more) ++ [] ≡ passed ++ more = append-nil (passed ++ more) in
     let made : new ≡ f.head ++ (padded (drop f.lead ((passed ++ more) ++ [])) f.room ++ f.tail) = is ∙ sym (sym k.slot_is) in
     let made' : new ≡ f.head ++ (padded (drop f.lead (passed ++ more)) f.room ++ f.tail) = made ∙ ap (λ (b : List ℕ). f.head ++ (padded (drop f.lead b) f.room ++ f.tail)) same in
-    let wants : length_after g (track_of old) p.opened r (passed ++ more) ≡ f.lead + f.room = ap (λ (b : List ℕ). length_after g (track_of old) p.opened r b) (sym same) ∙ f.wants [] le0 in
+    let wants : length_after g (track_of old) half.progress.opened half.registers (passed ++ more) ≡ f.lead + f.room = ap (λ (b : List ℕ). length_after g (track_of old) half.progress.opened half.registers b) (sym same) ∙ f.wants [] le0 in
     let far = length-append passed more in
-    let has : HasFilled (with_held c new) g r n p.opened old (passed ++ more) w u = record {
+    let has : HasFilled (new_work half more new w u) w u = record {
       at_hand = record { held = held; readable = rw at_new read.0 };
       size = x.volume.sizes n [] lt;
       filled = f;
@@ -74,8 +80,8 @@ newly_absorbs c r before passed p more new w u le0 x held plain again takes on s
       cylinder = on.cylinder;
       head = on.head;
     } in
-    let works = written_works c r before old passed p more new w u x held read.2 left has in
-    written_absorbs c r before old passed p more new w u works held (set-get_or c.slots n [] ∙ sym (unfilled_sees c.slots n before p.place plain)) small
+    let works = written_works half old more new w u x held read.2 left has in
+    written_absorbs half old more new w u works held (set-get_or c.slots n [] ∙ sym (unfilled_sees c.slots n half.before half.progress.place plain)) small
 
 -- What a field is that came whole.
 
@@ -165,15 +171,16 @@ no_change action.Search g t o r moved f b e long is = tt
 no_change action.Read g t o r moved f b e long is = tt
 no_change action.Update g t o r moved f b e long is = tt
 
-pub field_stays : (c : CacheState) (r : Registers) (before passed : List ℕ) (p : Progress) (more f field : List ℕ) → Works c r before passed p → MayTake p more → p.place ≡ Field f → field ≡ overwritten f p.moved more
-    → whole_of (action_of p.opened.command) (own_home_address r) (p.moved + length more) field ≡ whole.No → Absorbs c c r before before passed p more (Field field)
-field_stays c r before passed p more f field x may at is none =
-    let k = field_goes c r before passed p more f x may at in
-    let goes = x.goes in
-    let moved : p.moved + length more ≡ length (passed ++ more) = omega (arith, goes.moved, k.long) in
+pub field_stays : (half : HalfDone) (more f field : List ℕ) → MayTake half more → half.progress.place ≡ Field f → field ≡ overwritten f half.progress.moved more
+    → whole_of (action_now half) (own_home_address half.registers) (half.progress.moved + length more) field ≡ whole.No → Absorbs half more half.cache half.before (Field field)
+field_stays half more f field may at is none =
+    let passed = half.passed in
+    let k = field_goes half more f may at in
+    let goes = may.works.goes in
+    let moved : half.progress.moved + length more ≡ length (passed ++ more) = omega (arith, goes.moved, k.long) in
     let come : take (length (passed ++ more)) field ≡ passed ++ more = rw is k.collected in
-    field_absorbs c r before passed p more f field x may at is
-    (no_change (action_of p.opened.command) c.image.geometry (track_of (slot_at c.slots (track_under c.image.geometry r))) p.opened r (length (passed ++ more)) field (passed ++ more) (rw moved at none) refl come)
+    field_absorbs half more f field may at is
+    (no_change (action_of half.progress.opened.command) half.cache.image.geometry (track_of (slot_at half.cache.slots (track_under half.cache.image.geometry half.registers))) half.progress.opened half.registers (length (passed ++ more)) field (passed ++ more) (rw moved at none) refl come)
 
 -- the home address
 
@@ -188,9 +195,14 @@ pub none_behind : (b : List ℕ) (n : ℕ) → length b ≡ n → padded (drop n
 none_behind b n e = (let z : drop n b ≡ [] = drop_all n b (omega (arith, e)) in rw z refl)
 
 -- the track's own home address has come whole
-abbrev pub home_filled : (g : Geometry) (r : Registers) (before now : List ℕ) (o : Opened) (b : List ℕ) → action_of o.command ≡ action.WriteHomeAddress → length b ≡ 5 → bytes_eq b (own_home_address r) ≡ true → 13 ≤ g.track_size
-    → lengths_on (track_in now) ≡ lengths_on (bare_track b) → IsFilled g r before now o b (record { start = 5; len = 0 }) (command_end (home_address_ends o r))
-home_filled g r before now o b is five own room lens =
+abbrev pub home_filled : (job : AtWork) (now : List ℕ) → action_in job ≡ action.WriteHomeAddress → length job.passed ≡ 5 → bytes_eq job.passed (own_home_address job.registers) ≡ true → 13 ≤ (geometry_in job).track_size
+    → lengths_on (track_in now) ≡ lengths_on (bare_track job.passed) → IsFilled job now (record { start = 5; len = 0 }) (command_end (home_address_ends job.opened job.registers))
+home_filled job now is five own room lens =
+    let g = geometry_in job in
+    let r = job.registers in
+    let o = job.opened in
+    let t = track_of job.before in
+    let b = job.passed in
     let s = slot_of g.track_size (bare_track b) in
     let f = bare_fits g.track_size b five room in
     let long = length-slot_of g.track_size (bare_track b) f.room in
@@ -206,7 +218,7 @@ home_filled g r before now o b is five own room lens =
       rest = omega (arith, five);
       closes = λ more le.
           (let e = nothing_more b more le in
-          let k : closing g (track_of before) o r (b ++ more) ≡ writes (bare_track b) (home_address_ends o r) = ap (λ (x : List ℕ). closing g (track_of before) o r x) e ∙ home_closes g (track_of before) o r b is five own in
+          let k : closing g t o r (b ++ more) ≡ writes (bare_track b) (home_address_ends o r) = ap (λ (x : List ℕ). closing g t o r x) e ∙ home_closes g t o r b is five own in
           record {
             track = bare_track b;
             so = ap command_end k;
@@ -215,35 +227,39 @@ home_filled g r before now o b is five own room lens =
             lengths_stay = sym lens;
             slot_is = sym (ap (λ (x : List ℕ). take 5 s ++ (padded (drop 5 x) 0 ++ drop 5 s)) e ∙ ap (λ (x : List ℕ). take 5 s ++ (x ++ drop 5 s)) (none_behind b 5 five) ∙ take-append-drop 5 s);
           });
-      wants = λ more le. ap (λ (x : List ℕ). length_after g (track_of before) o r x) (nothing_more b more le) ∙ length_by action.WriteHomeAddress g (track_of before) o r b is;
+      wants = λ more le. ap (λ (x : List ℕ). length_after g t o r x) (nothing_more b more le) ∙ length_by action.WriteHomeAddress g t o r b is;
     }
 
 field_at : (a : Action) (c : CacheState) (n : ℕ) → a ≡ action.WriteHomeAddress → FieldAtHand a c n → c.held ≡ Some n
 field_at a c n is h = (let P : Action → Type 0 = λ y. FieldAtHand y c n in subst P is h)
 
-pub home_held : (c : CacheState) (r : Registers) (before passed : List ℕ) (p : Progress) (more f field h : List ℕ) → Works c r before passed p → MayTake p more → p.place ≡ Field f
-    → whole_of (action_of p.opened.command) (own_home_address r) (p.moved + length more) field ≡ whole.HomeAddress h → c.held ≡ Some (track_under c.image.geometry r)
-home_held c r before passed p more f field h x may at e =
-    let k = field_goes c r before passed p more f x may at in
-    let home = is_home (action_of p.opened.command) (own_home_address r) (p.moved + length more) field h e in
-    field_at (action_of p.opened.command) c (track_under c.image.geometry r) home.is k.has.at_hand
+pub home_held : (half : HalfDone) (more f field h : List ℕ) → MayTake half more → half.progress.place ≡ Field f
+    → whole_of (action_now half) (own_home_address half.registers) (half.progress.moved + length more) field ≡ whole.HomeAddress h → half.cache.held ≡ Some (own_track half)
+home_held half more f field h may at e =
+    let p = half.progress in
+    let k = field_goes half more f may at in
+    let home = is_home (action_of p.opened.command) (own_home_address half.registers) (p.moved + length more) field h e in
+    field_at (action_of p.opened.command) half.cache (track_under half.cache.image.geometry half.registers) home.is k.has.at_hand
 
 -- no slot is shorter than that of a track without records
 pub size_least : (c : CacheState) → IsVolume c → 13 ≤ c.image.geometry.track_size
 size_least c v = omega (arith, v.geometry.room)
 
-pub home_absorbs : (c : CacheState) (r : Registers) (before passed : List ℕ) (p : Progress) (more f field h new : List ℕ) → Works c r before passed p → MayTake p more → p.place ≡ Field f → field ≡ overwritten f p.moved more
-    → whole_of (action_of p.opened.command) (own_home_address r) (p.moved + length more) field ≡ whole.HomeAddress h → new ≡ slot_of c.image.geometry.track_size (bare_track h)
-    → Absorbs c (with_held c new) r before (slot_at c.slots (track_under c.image.geometry r)) passed p more (Filled (record { start = 5; len = 0 }) (command_end (home_address_ends p.opened r)))
-home_absorbs c r before passed p more f field h new x may at is e new_is =
-    let room = size_least c x.volume in
+pub home_absorbs : (half : HalfDone) (more f field h new : List ℕ) → MayTake half more → half.progress.place ≡ Field f → field ≡ overwritten f half.progress.moved more
+    → whole_of (action_now half) (own_home_address half.registers) (half.progress.moved + length more) field ≡ whole.HomeAddress h → new ≡ slot_of half.cache.image.geometry.track_size (bare_track h)
+    → Absorbs half more (with_held half.cache new) (own_slot half) (Filled (record { start = 5; len = 0 }) (command_end (home_address_ends half.progress.opened half.registers)))
+home_absorbs half more f field h new may at is e new_is =
+    let c = half.cache in
+    let r = half.registers in
+    let p = half.progress in
+    let room = size_least c may.works.volume in
     let g = c.image.geometry in
     let n : ℕ = track_under g r in
-    let k = field_goes c r before passed p more f x may at in
-    let goes = x.goes in
-    let moved : p.moved + length more ≡ length (passed ++ more) = omega (arith, goes.moved, k.long) in
+    let k = field_goes half more f may at in
+    let goes = may.works.goes in
+    let moved : p.moved + length more ≡ length (half.passed ++ more) = omega (arith, goes.moved, k.long) in
     let home = is_home (action_of p.opened.command) (own_home_address r) (p.moved + length more) field h e in
-    let b = passed ++ more in
+    let b = half.passed ++ more in
     let five : length b ≡ 5 = sym moved ∙ home.five in
     let come : take 5 field ≡ b = rw (five, ← is) at k.collected in
     let h_is : h ≡ b = home.home ∙ come in
@@ -251,12 +267,12 @@ home_absorbs c r before passed p more f field h new x may at is e new_is =
     let held = field_at (action_of p.opened.command) c n home.is k.has.at_hand in
     let made : new ≡ slot_of g.track_size (bare_track b) = new_is ∙ ap (λ (y : List ℕ). slot_of g.track_size (bare_track y)) h_is in
     let read = reads_new g.track_size (bare_track b) new (bare_fits g.track_size b five room) made in
-    let at_new = new_slot_at c n new held (there c r before passed p x) in
+    let at_new = new_slot_at c n new held (there half may.works) in
     let lens : lengths_on (track_in (slot_at (with_held c new).slots n)) ≡ lengths_on (bare_track b) = ap (λ (y : List ℕ). lengths_on (track_in y)) at_new ∙ ap lengths_on read.1 in
-    let left : p.left ≤ 5 - length passed = rw (at, home.is) at goes.left in
-    newly_absorbs c r before passed p more new (record { start = 5; len = 0 }) (command_end (home_address_ends p.opened r)) (omega arith) x held (rw at refl) k.again
+    let left : p.left ≤ 5 - length half.passed = rw (at, home.is) at goes.left in
+    newly_absorbs half more new (record { start = 5; len = 0 }) (command_end (home_address_ends p.opened r)) (omega arith) may.works held (rw at refl) k.again
     (takes_home (action_of p.opened.command) home.is) (record { stays = refl; cylinder = refl; head = refl }) (omega (arith, five, k.long)) (omega (arith, left, five, k.long)) (omega (arith, five, k.long))
-    (home_filled g r (slot_at c.slots n) (slot_at (with_held c new).slots n) p.opened b home.is five own room lens) made
+    (home_filled (new_work half more new (record { start = 5; len = 0 }) (command_end (home_address_ends p.opened r))) (slot_at (with_held c new).slots n) home.is five own room lens) made
   where
     takes_home : (a : Action) → a ≡ action.WriteHomeAddress → (a ≡ action.GiveSense → ⊥) × (a ≡ action.Read → ⊥)
     takes_home a e = (λ z. cc, λ z. cc)

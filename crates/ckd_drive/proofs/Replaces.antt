@@ -20,19 +20,19 @@ use Rattle.ckd_position.specs.declared.extents.Extent.TheVariants as extent
 use Rattle.ckd_command.specs.declared.begin.Opened.{Opened}
 use Rattle.ckd_command.specs.Answers.{CommandEnd, Found}
 use Rattle.ckd_slot.specs.declared.windows.Window.{Window}
-use Rattle.ckd_drive.specs.Transfers.{Transfer, Fill, Filled, Progress}
+use Rattle.ckd_drive.specs.Transfers.{Transfer, Fill, Filled}
 use Rattle.ckd_command.specs.Tables.{action_of, extent_of}
 use Rattle.ckd_position.specs.Contents.{Sighted, bytes_of, padded, replaced, with_record_changed}
 use Rattle.ckd_command.specs.Commands.{Closing, bytes_at, area_bytes, sight, closing, end_of_area, updated, command_end, writes}
 use Rattle.ckd_slot.specs.Buffer.{FitsSlot, IsUpdate, IsRecordOf, SameRecords, IsPlaceOf, lengths_on}
 use Rattle.ckd_cache.specs.Cache.{CacheState, with_held, slot_held}
-use Rattle.ckd_drive.specs.Invariant.{Works, MayTake, Absorbs, IsPlaced, IsFilled, ClosesUnwritten, AtHand, PlaceIn, slot_at, track_under}
+use Rattle.ckd_drive.specs.Invariant.{HalfDone, MayTake, Absorbs, own_track, own_slot, action_now, IsPlaced, IsFilled, ClosesUnwritten, AtHand, PlaceIn, slot_at, track_under, AtWork, geometry_in, action_in, at_work}
 use Rattle.ckd_slot.proofs.Writes.{update_offset, update_length, update_place}
 use Rattle.ckd_slot.proofs.Updates.{form_of, same_records}
-use Rattle.ckd_drive.proofs.Fills.{there, new_slot_at, reads_new, ClosesFilled, form_filled, length-padded, next_made, old_read}
+use Rattle.ckd_drive.proofs.Fills.{there, new_slot_at, reads_new, Filling, ClosesFilled, form_filled, length-padded, next_made, old_read}
 use Rattle.ckd_drive.proofs.First.{length_by, closing_by, area_by}
 use Rattle.ckd_drive.proofs.Looks.{slot_is}
-use Rattle.ckd_drive.proofs.News.{newly_absorbs, StaysOn}
+use Rattle.ckd_drive.proofs.News.{new_work, newly_absorbs, StaysOn}
 
 -- Which bytes are replaced.
 
@@ -197,15 +197,23 @@ update_closes : (g : Geometry) (slot : List ℕ) (o : Opened) (r : Registers) (a
 update_closes g slot o r a b is reads there some =
     closing_by action.Update g (track_of slot) o r b is ∙ rw (positive (length b) some) (updated_is slot a (track_of slot) o.area (replaced (extent_of o.command) b) (end_of_area (track_of slot) o r) reads there)
 
-fill_filled : (g : Geometry) (r : Registers) (slot : List ℕ) (o : Opened) (part : Part) (i : ℕ) (b : List ℕ) (u : CommandEnd) → action_of o.command ≡ action.Update → IsUpdate (extent_of o.command) → track_of slot ≡ Ok (track_in slot) → o.area ≡ Some (Of part i)
-    → i < length (track_in slot).records → 0 < length b → length b ≤ update_length (extent_of o.command) (record_in (track_in slot) i) → command_end (end_of_area (track_of slot) o r) ≡ u → length (area_bytes (track_of slot) o r) ≡ update_length (extent_of o.command) (record_in (track_in slot) i)
-    → ClosesFilled g r slot o b u (cleared (extent_of o.command) part i (track_in slot)) (extent_of o.command) part i 0 (update_length (extent_of o.command) (record_in (cleared (extent_of o.command) part i (track_in slot)) i))
-fill_filled g r slot o part i b u is upd reads there lt some le so size =
-    let t = track_in slot in
+-- the record that an update fills
+abbrev fill_filling : AtWork → Part → ℕ → CommandEnd → Filling
+fill_filling job part i u =
+    let e = extent_of job.opened.command in
+    record { closes = u; track = cleared e part i (track_in job.before); extent = e; part = part; number = i; lead = 0 }
+
+fill_filled : (job : AtWork) (part : Part) (i : ℕ) (b : List ℕ) (u : CommandEnd) → action_in job ≡ action.Update → IsUpdate (extent_of job.opened.command) → track_of job.before ≡ Ok (track_in job.before) → job.opened.area ≡ Some (Of part i)
+    → i < length (track_in job.before).records → 0 < length b → length b ≤ update_length (extent_of job.opened.command) (record_in (track_in job.before) i) → command_end (end_of_area (track_of job.before) job.opened job.registers) ≡ u
+    → length (area_bytes (track_of job.before) job.opened job.registers) ≡ update_length (extent_of job.opened.command) (record_in (track_in job.before) i)
+    → ClosesFilled job b (fill_filling job part i u)
+fill_filled job part i b u is upd reads there lt some le so size =
+    let t = track_in job.before in
+    let o = job.opened in
     let e = extent_of o.command in
-    let k = update_closes g slot o r (Of part i) b is reads there some in
+    let k = update_closes (geometry_in job) job.before o job.registers (Of part i) b is reads there some in
     let room : update_length e (record_in (cleared e part i t) i) ≡ update_length e (record_in t i) = ap (update_length e) (cleared_record e t part i lt) ∙ cleared_length e (record_in t i) upd in
-    let wants = length_by action.Update g (track_of slot) o r b is in
+    let wants = length_by action.Update (geometry_in job) (track_of job.before) o job.registers b is in
     record {
       so = ap command_end k ∙ so;
       written = ap (λ (y : Closing). y.written) k ∙ ap (λ (y : Track). Some y) (sym (cleared_changed e t part i b upd lt le));
@@ -214,43 +222,45 @@ fill_filled g r slot o part i b u is upd reads there lt some le so size =
 
 -- A command's first bytes that replace others.
 
-pub record FillGoes (c : CacheState) (r : Registers) (passed : List ℕ) (p : Progress) (more : List ℕ) (a : Area) (w : Window) (u : CommandEnd) : Type 0 where
-  pub is : action_of p.opened.command ≡ action.Update
-  pub hand : AtHand c (track_under c.image.geometry r)
-  pub upd : IsUpdate (extent_of p.opened.command)
-  pub none : passed ≡ []
+pub record FillGoes (half : HalfDone) (more : List ℕ) (a : Area) (w : Window) (u : CommandEnd) : Type 0 where
+  pub is : action_now half ≡ action.Update
+  pub hand : AtHand half.cache (own_track half)
+  pub upd : IsUpdate (extent_of half.progress.opened.command)
+  pub none : half.passed ≡ []
   pub le : length more ≤ w.len
-  pub left : p.left ≤ w.len
-  pub there : IsRecordOf (track_in (slot_at c.slots (track_under c.image.geometry r))) a
-  pub place : IsPlaceOf (extent_of p.opened.command) (track_in (slot_at c.slots (track_under c.image.geometry r))) a w
-  pub within : w.start + w.len ≤ c.image.geometry.track_size
-  pub again : sight c.image.geometry (track_of (slot_at c.slots (track_under c.image.geometry r))) p.opened r ≡ Found p.opened
-  pub size : length (area_bytes (track_of (slot_at c.slots (track_under c.image.geometry r))) p.opened r) ≡ w.len
-  pub so : command_end (end_of_area (track_of (slot_at c.slots (track_under c.image.geometry r))) p.opened r) ≡ u
+  pub left : half.progress.left ≤ w.len
+  pub there : IsRecordOf (track_in (own_slot half)) a
+  pub place : IsPlaceOf (extent_of half.progress.opened.command) (track_in (own_slot half)) a w
+  pub within : w.start + w.len ≤ half.cache.image.geometry.track_size
+  pub again : sight half.cache.image.geometry (track_of (own_slot half)) half.progress.opened half.registers ≡ Found half.progress.opened
+  pub size : length (area_bytes (track_of (own_slot half)) half.progress.opened half.registers) ≡ w.len
+  pub so : command_end (end_of_area (track_of (own_slot half)) half.progress.opened half.registers) ≡ u
 
 -- bytes that come belong to an area
-pub no_area : (c : CacheState) (r : Registers) (before passed : List ℕ) (p : Progress) (more : List ℕ) (w : Window) (u : CommandEnd) → Works c r before passed p → MayTake p more → p.place ≡ Fill w u → p.opened.area ≡ None → 0 < length more → ⊥
-no_area c r before passed p more w u x may at none some =
-    let g = c.image.geometry in
-    let n : ℕ = track_under g r in
-    let t = track_of (slot_at c.slots n) in
-    let left : p.left ≤ w.len = rw at at x.goes.left in
-    let P : Transfer → Type 0 = λ y. IsPlaced c g r n p.opened before passed y in
-    let h = (subst P at x.goes.placed).0 in
-    let bytes : area_bytes t p.opened r ≡ [] = area_by action.Update t p.opened r h.is_update ∙ rw none refl in
+pub no_area : (half : HalfDone) (more : List ℕ) (w : Window) (u : CommandEnd) → MayTake half more → half.progress.place ≡ Fill w u → half.progress.opened.area ≡ None → 0 < length more → ⊥
+no_area half more w u may at none some =
+    let g = half.cache.image.geometry in
+    let n : ℕ = track_under g half.registers in
+    let t = track_of (slot_at half.cache.slots n) in
+    let left : half.progress.left ≤ w.len = rw at at may.works.goes.left in
+    let P : Transfer → Type 0 = λ y. IsPlaced (at_work half) y in
+    let h = (subst P at may.works.goes.placed).0 in
+    let bytes : area_bytes t half.progress.opened half.registers ≡ [] = area_by action.Update t half.progress.opened half.registers h.is_update ∙ rw none refl in
     let zero : 0 ≡ w.len = sym (ap length bytes) ∙ h.lies.size in
     omega (arith, zero, left, may.room, some)
 
-pub fill_goes : (c : CacheState) (r : Registers) (before passed : List ℕ) (p : Progress) (more : List ℕ) (a : Area) (w : Window) (u : CommandEnd) → Works c r before passed p → MayTake p more → p.place ≡ Fill w u → p.opened.area ≡ Some a → 0 < length more
-    → FillGoes c r passed p more a w u
-fill_goes c r before passed p more a w u x may at area some =
-    let g = c.image.geometry in
+pub fill_goes : (half : HalfDone) (more : List ℕ) (a : Area) (w : Window) (u : CommandEnd) → MayTake half more → half.progress.place ≡ Fill w u → half.progress.opened.area ≡ Some a → 0 < length more
+    → FillGoes half more a w u
+fill_goes half more a w u may at area some =
+    let r = half.registers in
+    let p = half.progress in
+    let g = half.cache.image.geometry in
     let n : ℕ = track_under g r in
-    let old = slot_at c.slots n in
+    let old = slot_at half.cache.slots n in
     let t = track_of old in
-    let left : p.left ≤ w.len = rw at at x.goes.left in
-    let P : Transfer → Type 0 = λ y. IsPlaced c g r n p.opened before passed y in
-    let placed = subst P at x.goes.placed in
+    let left : p.left ≤ w.len = rw at at may.works.goes.left in
+    let P : Transfer → Type 0 = λ y. IsPlaced (at_work half) y in
+    let placed = subst P at may.works.goes.placed in
     let h = placed.0 in
     let e = extent_of p.opened.command in
     let upd = update_extent p.opened.command h.is_update in
@@ -261,7 +271,7 @@ fill_goes c r before passed p more a w u x may at area some =
     let count : length (bytes_of e t a) ≡ w.len = ap length (sym bytes) ∙ h.lies.size in
     let full : 0 < length (bytes_of e t a) = omega (arith, count, left, may.room, some) in
     let closes = closing_by action.Update g t p.opened r [] h.is_update in
-    let K : List ℕ → Type 0 = λ b. ClosesUnwritten g r t p.opened b u in
+    let K : List ℕ → Type 0 = λ b. ClosesUnwritten (at_work (record half { passed = b })) t u in
     let closed = subst K h.none placed.2 in
     record {
       is = h.is_update;
@@ -272,7 +282,7 @@ fill_goes c r before passed p more a w u x may at area some =
       left = left;
       there = bytes_there e (track_in old) a upd (subst B reads full);
       place = subst W area h.place;
-      within = omega (arith, h.lies.within, x.volume.sizes n [] (there c r before passed p x));
+      within = omega (arith, h.lies.within, may.works.volume.sizes n [] (there half may.works));
       again = placed.1.again;
       size = h.lies.size;
       so = ap command_end (sym closes) ∙ closed.so;
@@ -285,22 +295,22 @@ ends_on : (t : Sighted) (o : Opened) (r : Registers) (u : CommandEnd) → comman
 ends_on t o r u so = record { stays = ap (λ (y : CommandEnd). y.moves_off) (sym so); cylinder = ap (λ (y : CommandEnd). y.registers.cylinder) (sym so); head = ap (λ (y : CommandEnd). y.registers.head) (sym so) }
 
 -- the slot that was cleared, and then gets bytes
-abbrev pub cleared_slot : CacheState → Registers → Progress → Area → List ℕ
-cleared_slot c r p a = slot_of c.image.geometry.track_size (with_record_changed (replaced (extent_of p.opened.command) []) a (track_in (slot_at c.slots (track_under c.image.geometry r))))
+abbrev pub cleared_slot : HalfDone → Area → List ℕ
+cleared_slot half a = slot_of half.cache.image.geometry.track_size (with_record_changed (replaced (extent_of half.progress.opened.command) []) a (track_in (own_slot half)))
 
-pub record Replaces (c : CacheState) (r : Registers) (before passed : List ℕ) (p : Progress) (more : List ℕ) (a : Area) (w : Window) (u : CommandEnd) : Type 0 where
-  pub records : SameRecords (cleared_slot c r p a) (overwritten (cleared_slot c r p a) w.start more)
-  pub absorbs : Absorbs c (with_held c (overwritten (cleared_slot c r p a) w.start more)) r before (slot_at c.slots (track_under c.image.geometry r)) passed p more (Filled (record { start = w.start + length more; len = w.len - length more }) u)
+pub record Replaces (half : HalfDone) (more : List ℕ) (a : Area) (w : Window) (u : CommandEnd) : Type 0 where
+  pub records : SameRecords (cleared_slot half a) (overwritten (cleared_slot half a) w.start more)
+  pub absorbs : Absorbs half more (with_held half.cache (overwritten (cleared_slot half a) w.start more)) (own_slot half) (Filled (record { start = w.start + length more; len = w.len - length more }) u)
 
-pub fill_absorbs : (c : CacheState) (r : Registers) (before passed : List ℕ) (p : Progress) (more : List ℕ) (a : Area) (w : Window) (u : CommandEnd) → Works c r before passed p → MayTake p more → p.place ≡ Fill w u → p.opened.area ≡ Some a → 0 < length more
-    → FillGoes c r passed p more a w u → FitsSlot c.image.geometry.track_size (with_record_changed (replaced (extent_of p.opened.command) []) a (track_in (slot_at c.slots (track_under c.image.geometry r)))) → Replaces c r before passed p more a w u
-fill_absorbs c r before passed p more HomeAddress w u x may at area some k f = absurd k.there
-fill_absorbs c r before passed p more (Of part i) w u x may at area some k f =
-    let g = c.image.geometry in
-    let n : ℕ = track_under g r in
-    let old = slot_at c.slots n in
+pub fill_absorbs : (half : HalfDone) (more : List ℕ) (a : Area) (w : Window) (u : CommandEnd) → MayTake half more → half.progress.place ≡ Fill w u → half.progress.opened.area ≡ Some a → 0 < length more
+    → FillGoes half more a w u → FitsSlot half.cache.image.geometry.track_size (with_record_changed (replaced (extent_of half.progress.opened.command) []) a (track_in (own_slot half))) → Replaces half more a w u
+fill_absorbs half more HomeAddress w u may at area some k f = absurd k.there
+fill_absorbs half more (Of part i) w u may at area some k f =
+    let g = half.cache.image.geometry in
+    let n : ℕ = track_under g half.registers in
+    let old = slot_at half.cache.slots n in
     let size = g.track_size in
-    let e = extent_of p.opened.command in
+    let e = extent_of half.progress.opened.command in
     let t = track_in old in
     let t0 = cleared e part i t in
     let s1 = slot_of size t0 in
@@ -329,22 +339,23 @@ fill_absorbs c r before passed p more (Of part i) w u x may at area some k f =
     let new_is : new ≡ slot_of size t1 = made ∙ sym (form.slot ∙ ap (λ (m : ℕ). head ++ (body ++ drop (off + m) s1)) body_long) in
     let read1 = reads_new size t0 s1 f refl in
     let read = reads_new size t1 new form.fits new_is in
-    let at_new = new_slot_at c n new k.hand.held (there c r before passed p x) in
-    let now : List ℕ = slot_at (with_held c new).slots n in
+    let at_new = new_slot_at half.cache n new k.hand.held (there half may.works) in
+    let now : List ℕ = slot_at (with_held half.cache new).slots n in
     let lengths : lengths_on (track_in now) ≡ lengths_on t0 = ap (λ (y : List ℕ). lengths_on (track_in y)) at_new ∙ ap lengths_on read.1 ∙ form.lengths in
-    let b = passed ++ more in
+    let b = half.passed ++ more in
     let b_is : b ≡ more = ap (λ (y : List ℕ). y ++ more) k.none in
     let b_long : length b ≡ length more = ap length b_is in
-    let none_long : length passed ≡ 0 = ap length k.none in
+    let none_long : length half.passed ≡ 0 = ap length k.none in
     let w' : Window = record { start = w.start + length more; len = w.len - length more } in
-    let filled : IsFilled g r old now p.opened b w' u =
-    form_filled g r old now p.opened b w' u t0 e part i 0 k.upd f lt0 lengths (omega arith) (omega arith) (omega (arith, start, b_long)) (omega (arith, len, b_long, k.le))
-    (λ m le. fill_filled g r old p.opened part i (b ++ m) u k.is k.upd reads area k.there (omega (arith, length-append b m, b_long, some)) (omega (arith, length-append b m, b_long, le, k.le, pl.1)) k.so (k.size ∙ pl.1)) in
+    let job = new_work half more new w' u in
+    let filled : IsFilled job now w' u =
+    form_filled job now w' (fill_filling job part i u) k.upd f lt0 lengths (omega arith) (omega arith) (omega (arith, start, b_long)) (omega (arith, len, b_long, k.le))
+    (λ m le. fill_filled job part i (b ++ m) u k.is k.upd reads area k.there (omega (arith, length-append b m, b_long, some)) (omega (arith, length-append b m, b_long, le, k.le, pl.1)) k.so (k.size ∙ pl.1)) in
     let whole : b ++ [] ≡ more = append-nil b ∙ b_is in
     record {
       records = same_records size s1 new t1 (old_read s1 read1.0) form.fits new_is (form.lengths ∙ sym (ap lengths_on read1.1));
-      absorbs = newly_absorbs c r before passed p more new w' u (omega arith) x k.hand.held (rw at refl) k.again (takes_update (action_of p.opened.command) k.is) (ends_on (track_of old) p.opened r u k.so)
-          (omega (arith, some)) (let l = k.left in omega (arith, l)) (omega (arith, none_long, k.le, k.within, x.volume.geometry.limit)) filled
+      absorbs = newly_absorbs half more new w' u (omega arith) may.works k.hand.held (rw at refl) k.again (takes_update (action_of half.progress.opened.command) k.is) (ends_on (track_of old) half.progress.opened half.registers u k.so)
+          (omega (arith, some)) (let l = k.left in omega (arith, l)) (omega (arith, none_long, k.le, k.within, may.works.volume.geometry.limit)) filled
           (new_is ∙ ap (λ (y : List ℕ). slot_of size (with_record_changed (replaced e (padded y room0)) (Of part i) t0)) (sym whole));
     }
 

@@ -7,7 +7,6 @@ use Rattle.ckd_track.specs.declared.model.DriveModel.{DriveModel}
 use Rattle.ckd_track.specs.declared.model.DriveModel.TheVariants.{D2311, D2314}
 use Rattle.ckd_image.specs.declared.store.StoreFault.{StoreFault}
 use Rattle.ckd_command.specs.declared.registers.Registers.{Registers}
-use Rattle.ckd_command.specs.declared.registers.Mark.{Mark}
 use Rattle.ckd_command.specs.declared.registers.Mark.TheVariants.{Saved, Lost}
 use Rattle.ckd_drive.specs.Stage.{Stage, Idle, Over, Looking, Passing}
 use Rattle.ckd_command.specs.Commands.{IsAtTrack}
@@ -21,7 +20,7 @@ use Rattle.ckd_drive.specs.Fields.{stage_seen, progress_seen}
 use Rattle.ckd_drive.specs.Work.{DriveState, is_idle, passes_now}
 use Rattle.ckd_command.specs.Commands.{beginning}
 use Rattle.ckd_drive.proofs.Beginnings.{begins_well}
-use Rattle.ckd_drive.specs.Invariant.{Stands, StageIs, state_of, BeginsWell, CreditIs, track_under, is_filled, work_of}
+use Rattle.ckd_drive.specs.Invariant.{Stands, StageIs, state_of, BeginsWell, CreditIs, track_under, is_filled, work_of, Kept, kept, Parts, parts_of, track_in_reach}
 
 pub on_ok : (r : Result (Unit {0}) StoreFault) (P : Type 0) → is_err r ≡ false → OnOk r P → P
 on_ok (Ok u) P e p = p
@@ -75,13 +74,13 @@ failures_saved c = elim c.changed as (λ b. (saved c.image c.slots b).failures �
 
 -- Where a written track was saved.
 
-pub saved_stands : (c c' : CacheState) (r q : Registers) (m : Mark) (s s' : Stage) (before passed before' passed' : List ℕ)
-    → Stands c r m s before passed → c' ≡ after_save c → is_filled s' ≡ false → IsAtTrack c.image.geometry q → StageIs c' q before' passed' s' → Stands c' q Saved s' before' passed'
-saved_stands c c' r q m s s' before passed before' passed' x is f' at w =
+pub saved_stands : (parts : Parts) (c' : CacheState) (q : Registers) (s' : Stage) (before' passed' : List ℕ)
+    → Stands parts → c' ≡ after_save parts.cache → is_filled s' ≡ false → IsAtTrack parts.cache.image.geometry q → StageIs c' q before' passed' s' → Stands (parts_of (kept c' q Saved) s' before' passed')
+saved_stands parts c' q s' before' passed' x is f' at w =
     let changed : c'.changed ≡ false = ap (λ (d : CacheState). d.changed) is in
-    let g : c'.image.geometry ≡ c.image.geometry = ap (λ (d : CacheState). d.image.geometry) is ∙ geometry_saved c in
+    let g : c'.image.geometry ≡ parts.cache.image.geometry = ap (λ (d : CacheState). d.image.geometry) is ∙ geometry_saved parts.cache in
     record {
-      volume = (let P = λ (d : CacheState). IsVolume d in subst P (sym is) (volume_saved c x.volume));
+      volume = (let P = λ (d : CacheState). IsVolume d in subst P (sym is) (volume_saved parts.cache x.volume));
       arm = rw g at;
       anchored = λ e. absurd (cc);
       marked = rw (changed, f') refl;
@@ -90,14 +89,14 @@ saved_stands c c' r q m s s' before passed before' passed' x is f' at w =
 
 -- Where its saving failed.
 
-pub lost_stands : (c c' : CacheState) (r q : Registers) (m : Mark) (s s' : Stage) (before passed before' passed' left : List ℕ)
-    → Stands c r m s before passed → c' ≡ after_failed_save c left → length left ≡ c.image.geometry.track_size → is_filled s' ≡ false → q.cylinder ≡ r.cylinder → q.head ≡ r.head
-    → StageIs c' q before' passed' s' → Stands c' q Lost s' before' passed'
-lost_stands c c' r q m s s' before passed before' passed' left x is size f' cy he w =
+pub lost_stands : (parts : Parts) (c' : CacheState) (q : Registers) (s' : Stage) (before' passed' left : List ℕ)
+    → Stands parts → c' ≡ after_failed_save parts.cache left → length left ≡ parts.cache.image.geometry.track_size → is_filled s' ≡ false → q.cylinder ≡ parts.registers.cylinder → q.head ≡ parts.registers.head
+    → StageIs c' q before' passed' s' → Stands (parts_of (kept c' q Lost) s' before' passed')
+lost_stands parts c' q s' before' passed' left x is size f' cy he w =
     let changed : c'.changed ≡ false = ap (λ (d : CacheState). d.changed) is in
-    let g : c'.image.geometry ≡ c.image.geometry = ap (λ (d : CacheState). d.image.geometry) is in
+    let g : c'.image.geometry ≡ parts.cache.image.geometry = ap (λ (d : CacheState). d.image.geometry) is in
     record {
-      volume = (let P = λ (d : CacheState). IsVolume d in subst P (sym is) (volume_lost c left size x.volume));
+      volume = (let P = λ (d : CacheState). IsVolume d in subst P (sym is) (volume_lost parts.cache left size x.volume));
       arm = rw g (record { cylinder = rw cy x.arm.cylinder; head = rw he x.arm.head });
       anchored = λ e. absurd (cc);
       marked = rw (changed, f') refl;
@@ -105,12 +104,14 @@ lost_stands c c' r q m s s' before passed before' passed' left x is size f' cy h
     }
 
 -- what a command code leads to, where nothing was begun
-pub well_begun : (c : CacheState) (r : Registers) (m : Mark) (s : Stage) (before passed : List ℕ) (now : DriveState) (code : ℕ) (b : Beginning)
-    → Stands c r m s before passed → state_of c r m s before passed ≡ now → is_idle now.work ≡ true → b ≡ beginning code r
-    → (s ≡ Idle) × BeginsWell c (track_under c.image.geometry r) r b
-well_begun c r m s before passed now code b x is idle e =
-    let at_rest : s ≡ Idle = idle_stage s passed (ap (λ (d : DriveState). is_idle d.work) is ∙ idle) in
-    let P : Stage → Type 0 = λ t. StageIs c r before passed t in
+pub well_begun : (parts : Parts) (now : DriveState) (code : ℕ) (b : Beginning)
+    → Stands parts → state_of parts ≡ now → is_idle now.work ≡ true → b ≡ beginning code parts.registers
+    → (parts.stage ≡ Idle) × BeginsWell parts.cache (track_in_reach parts) parts.registers b
+well_begun parts now code b x is idle e =
+    let c = parts.cache in
+    let r = parts.registers in
+    let at_rest : parts.stage ≡ Idle = idle_stage parts.stage parts.passed (ap (λ (d : DriveState). is_idle d.work) is ∙ idle) in
+    let P : Stage → Type 0 = λ t. StageIs c r parts.before parts.passed t in
     let credit : CreditIs r.credit c (track_under c.image.geometry r) = subst P at_rest x.work in
     (at_rest, rw e (begins_well c (track_under c.image.geometry r) code r credit))
 
@@ -132,6 +133,6 @@ passing_stage r o p held.Failed passed e = absurd cc
 passing_stage r o p held.Looking passed e = absurd cc
 passing_stage r o p held.Passing passed e = refl
 
-pub at_passing : (c : CacheState) (r : Registers) (m : Mark) (o : Opened) (p : ProgressHeld) (s : StageHeld) (before passed : List ℕ) (now : DriveState)
-    → state_of c r m (stage_seen r o p s) before passed ≡ now → passes_now now.work ≡ true → stage_seen r o p s ≡ Passing (progress_seen r o p)
-at_passing c r m o p s before passed now is e = passing_stage r o p s passed (ap (λ (d : DriveState). passes_now d.work) is ∙ e)
+pub at_passing : (k : Kept) (o : Opened) (p : ProgressHeld) (s : StageHeld) (before passed : List ℕ) (now : DriveState)
+    → state_of (parts_of k (stage_seen k.registers o p s) before passed) ≡ now → passes_now now.work ≡ true → stage_seen k.registers o p s ≡ Passing (progress_seen k.registers o p)
+at_passing k o p s before passed now is e = passing_stage k.registers o p s passed (ap (λ (d : DriveState). passes_now d.work) is ∙ e)

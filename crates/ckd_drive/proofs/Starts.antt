@@ -1,7 +1,6 @@
 -- A command that starts.
 use Rattle.std.proofs.Common.{◌≡◌, ◌∙◌, ap, sym, refl, ℕ, List, [], true, false, Option, Some, None, unwrap_or, slice_index_or}
 use Rattle.ckd_command.specs.declared.registers.Registers.{Registers}
-use Rattle.ckd_command.specs.declared.registers.Mark.{Mark}
 use Rattle.ckd_command.specs.declared.registers.Mark.TheVariants.{Saved, Written, Lost}
 use Rattle.ckd_command.specs.Answers.{Beginning, ToCylinderZero, moved_to}
 use Rattle.ckd_command.specs.declared.begin.Opened.{Opened}
@@ -10,8 +9,8 @@ use Rattle.ckd_command.specs.Commands.{beginning}
 use Rattle.ckd_command.specs.Drive.{AfterBegin, Rejected, Immediate, Started, SaveFails, begin, is_written_by}
 use Rattle.ckd_cache.specs.Cache.{CacheState, after_save, after_failed_save}
 use Rattle.ckd_drive.specs.Work.{DriveState, fault_met, after_begun, after_begin, answer_of_begin, begin_saves, immediate_ending, is_idle}
-use Rattle.ckd_drive.specs.Invariant.{Stands, BeginsWell, track_under, state_of, work_of}
-use Rattle.ckd_drive.specs.Calls.{Comes, Begins, Leaves, Loses, begun_at}
+use Rattle.ckd_drive.specs.Invariant.{Stands, BeginsWell, track_under, state_of, work_of, Kept, kept, Parts, parts_of, number_under}
+use Rattle.ckd_drive.specs.Calls.{Comes, Begins, Leaves, Loses, begun_at, idle_drive}
 use Rattle.ckd_drive.proofs.Calls.{changed_is, and_true, no_more, loads_saved, calls_of_save, calls_of_failed_save}
 use Rattle.ckd_drive.proofs.Faults.{fault_none, fault_saving, failed_left, mark_written, lost_registers, to_zero}
 use Rattle.ckd_drive.proofs.Numbers.{number_there}
@@ -19,58 +18,64 @@ use Rattle.ckd_drive.proofs.Standing.{at_zero, failures_saved, geometry_saved, i
 use Rattle.ckd_drive.proofs.Torn.{torn_whole}
 
 -- The arm can't go to cylinder 0, since the track can't be saved.
-pub lost_begins : (c c' : CacheState) (r r' q : Registers) (m m' : Mark) (o : Option Opened) (b : Beginning)
-    → Stands c r m Idle [] [] → BeginsWell c (track_under c.image.geometry r) r b → b ≡ ToCylinderZero q o → Loses c c' q r' m' → Begins c c' r r' m m' b Idle
-lost_begins c c' r r' q m m' o b x well is l = rw (is, l.cache, l.registers, l.mark) (λ before passed. (
-    let n : ℕ = track_under c.image.geometry r in
-    let k = to_zero c n r q o (rw is at well) in
+pub lost_begins : (was came : Kept) (q : Registers) (o : Option Opened) (b : Beginning)
+    → Stands (idle_drive was) → BeginsWell was.cache (number_under was) was.registers b → b ≡ ToCylinderZero q o → Loses was.cache q came → Begins was came b Idle
+lost_begins was came q o b x well is l =
+    let c = was.cache in
+    rw (is, l.cache, l.registers, l.mark) (λ before passed. (
+    let n : ℕ = track_under c.image.geometry was.registers in
+    let k = to_zero c n was.registers q o (rw is at well) in
     let left = l.left in
     let there : left ≡ slice_index_or (after_failed_save c left).image.slots (unwrap_or c.held 0) [] = l.there ∙ ap (λ (d : CacheState). slice_index_or d.image.slots (unwrap_or c.held 0) []) l.cache in
     let held : c.held ≡ Some n = x.anchored l.changed in
-    let changed : c.changed ≡ is_written_by m = changed_is c r m Idle [] [] x refl in
-    let written : m ≡ Written = mark_written m (sym changed ∙ l.changed) in
+    let changed : c.changed ≡ is_written_by was.mark = changed_is (idle_drive was) x refl in
+    let written : was.mark ≡ Written = mark_written was.mark (sym changed ∙ l.changed) in
     let left_is = failed_left c n left held there in
-    let old = state_of c r m Idle [] [] in
-    let new = state_of (after_failed_save c left) (lost_registers q) Lost Idle before passed in
+    let old = state_of (idle_drive was) in
+    let new = state_of (parts_of (kept (after_failed_save c left) (lost_registers q) Lost) Idle before passed) in
     let f : fault_met old new ≡ Some (SaveFails left) = fault_saving old new refl refl ∙ (rw (held, left_is) refl) in
-    let whole = torn_whole c n left x.volume (number_there c r m Idle [] [] x) l.size in
+    let whole = torn_whole c n left x.volume (number_there (idle_drive was) x) l.size in
     record {
-      stands = lost_stands c (after_failed_save c left) r (lost_registers q) m Idle Idle [] [] before passed left x refl l.size refl k.cylinder k.head tt;
+      stands = lost_stands (idle_drive was) (after_failed_save c left) (lost_registers q) Idle before passed left x refl l.size refl k.cylinder k.head tt;
       state = rw (f, written, held, k.cylinder, k.head, whole) refl;
-      calls = calls_of_failed_save _ _ c left old new refl refl (changed ∙ sym (and_true (is_written_by m))) l.changed;
+      calls = calls_of_failed_save _ _ c left old new refl refl (changed ∙ sym (and_true (is_written_by was.mark))) l.changed;
       at_hand = λ e. absurd (no_more c.image.loads e);
     }))
 
 -- The arm goes there, and the command works.
-pub zero_begins : (c c' : CacheState) (r r' q : Registers) (m m' : Mark) (o : Opened) (b : Beginning) (s : Stage)
-    → Stands c r m Idle [] [] → BeginsWell c (track_under c.image.geometry r) r b → b ≡ ToCylinderZero q (Some o) → Leaves c c' r' m' (moved_to q 0 0) → s ≡ Looking o → Begins c c' r r' m m' b s
-zero_begins c c' r r' q m m' o b s x well is l e = rw (is, l.cache, l.registers, l.mark, e) (λ before passed. (
+pub zero_begins : (was came : Kept) (q : Registers) (o : Opened) (b : Beginning) (s : Stage)
+    → Stands (idle_drive was) → BeginsWell was.cache (number_under was) was.registers b → b ≡ ToCylinderZero q (Some o) → Leaves was.cache came (moved_to q 0 0) → s ≡ Looking o → Begins was came b s
+zero_begins was came q o b s x well is l e =
+    let c = was.cache in
+    rw (is, l.cache, l.registers, l.mark, e) (λ before passed. (
     let w = rw is at well in
-    let old = state_of c r m Idle [] [] in
-    let new = state_of (after_save c) (moved_to q 0 0) Saved (Looking o) before passed in
+    let old = state_of (idle_drive was) in
+    let new = state_of (parts_of (kept (after_save c) (moved_to q 0 0) Saved) (Looking o) before passed) in
     let none : fault_met old new ≡ None = fault_none old new (failures_saved c) in
-    let changed : c.changed ≡ is_written_by m = changed_is c r m Idle [] [] x refl in
+    let changed : c.changed ≡ is_written_by was.mark = changed_is (idle_drive was) x refl in
     record {
-      stands = saved_stands c (after_save c) r (moved_to q 0 0) m Idle (Looking o) [] [] before passed x refl refl (at_zero c q x.volume)
+      stands = saved_stands (idle_drive was) (after_save c) (moved_to q 0 0) (Looking o) before passed x refl refl (at_zero c q x.volume)
           (record { transfers = w.1; credit = rw w.2 tt; no_credit = w.0.credit });
       state = rw (none, geometry_saved c) refl;
-      calls = calls_of_save _ _ c old new refl refl (changed ∙ sym (and_true (is_written_by m)));
+      calls = calls_of_save _ _ c old new refl refl (changed ∙ sym (and_true (is_written_by was.mark)));
       at_hand = λ e. absurd (no_more c.image.loads (sym (loads_saved c) ∙ e));
     }))
 
 -- The arm goes there, and the command is over.
-pub zero_ends : (c c' : CacheState) (r r' q : Registers) (m m' : Mark) (b : Beginning)
-    → Stands c r m Idle [] [] → BeginsWell c (track_under c.image.geometry r) r b → b ≡ ToCylinderZero q None → Leaves c c' r' m' (moved_to q 0 0) → Begins c c' r r' m m' b (Over (immediate_ending true))
-zero_ends c c' r r' q m m' b x well is l = rw (is, l.cache, l.registers, l.mark) (λ before passed. (
+pub zero_ends : (was came : Kept) (q : Registers) (b : Beginning)
+    → Stands (idle_drive was) → BeginsWell was.cache (number_under was) was.registers b → b ≡ ToCylinderZero q None → Leaves was.cache came (moved_to q 0 0) → Begins was came b (Over (immediate_ending true))
+zero_ends was came q b x well is l =
+    let c = was.cache in
+    rw (is, l.cache, l.registers, l.mark) (λ before passed. (
     let w = rw is at well in
-    let old = state_of c r m Idle [] [] in
-    let new = state_of (after_save c) (moved_to q 0 0) Saved (Over (immediate_ending true)) before passed in
+    let old = state_of (idle_drive was) in
+    let new = state_of (parts_of (kept (after_save c) (moved_to q 0 0) Saved) (Over (immediate_ending true)) before passed) in
     let none : fault_met old new ≡ None = fault_none old new (failures_saved c) in
-    let changed : c.changed ≡ is_written_by m = changed_is c r m Idle [] [] x refl in
+    let changed : c.changed ≡ is_written_by was.mark = changed_is (idle_drive was) x refl in
     record {
-      stands = saved_stands c (after_save c) r (moved_to q 0 0) m Idle (Over (immediate_ending true)) [] [] before passed x refl refl (at_zero c q x.volume) (no_credit (after_save c) (moved_to q 0 0) (track_under (after_save c).image.geometry (moved_to q 0 0)) w.credit);
+      stands = saved_stands (idle_drive was) (after_save c) (moved_to q 0 0) (Over (immediate_ending true)) before passed x refl refl (at_zero c q x.volume) (no_credit (after_save c) (moved_to q 0 0) (track_under (after_save c).image.geometry (moved_to q 0 0)) w.credit);
       state = rw (none, geometry_saved c) refl;
-      calls = calls_of_save _ _ c old new refl refl (changed ∙ sym (and_true (is_written_by m)));
+      calls = calls_of_save _ _ c old new refl refl (changed ∙ sym (and_true (is_written_by was.mark)));
       at_hand = λ e. absurd (no_more c.image.loads (sym (loads_saved c) ∙ e));
     }))
 
@@ -89,16 +94,17 @@ begun_work (Started o) d (Looking p) passed idle e = refl
 begun_work (Started o) d (Passing p) passed idle e = refl
 
 -- what one call makes of the drive that begins a command
-pub record HasBegun (c : CacheState) (r : Registers) (m : Mark) (s : Stage) (before passed : List ℕ) (now : DriveState) (code : ℕ) : Type 0 where
-  pub comes : Comes false (begin_saves code now) now (λ f. after_begin f code now) c r m s before passed
-  pub answer : begun_at s ≡ answer_of_begin (begin (fault_met now (state_of c r m s before passed)) code now.state)
+pub record HasBegun (parts : Parts) (now : DriveState) (code : ℕ) : Type 0 where
+  pub comes : Comes false (begin_saves code now) now (λ f. after_begin f code now) parts
+  pub answer : begun_at parts.stage ≡ answer_of_begin (begin (fault_met now (state_of parts)) code now.state)
 
-pub has_begun : (c c' : CacheState) (r r' : Registers) (m m' : Mark) (s s' : Stage) (before passed : List ℕ) (now : DriveState) (code : ℕ) (b : Beginning)
-    → state_of c r m s before passed ≡ now → is_idle now.work ≡ true → b ≡ beginning code r → Begins c c' r r' m m' b s' → HasBegun c' r' m' s' before passed now code
-has_begun c c' r r' m m' s s' before passed now code b now_is idle is l =
-    let at_rest : s ≡ Idle = idle_stage s passed (ap (λ (d : DriveState). is_idle d.work) now_is ∙ idle) in
-    let now_at : now ≡ state_of c r m Idle [] [] = sym now_is ∙ rw at_rest refl in
-    let old = state_of c r m Idle [] [] in
-    let x = (rw is at l) before passed in
-    let new = state_of c' r' m' s' before passed in
-    rw now_at (record { comes = x; answer = begun_work (begin (fault_met old new) code old.state) old s' passed refl (ap (λ (d : DriveState). d.work) x.state) })
+pub has_begun : (parts : Parts) (came : Kept) (s' : Stage) (now : DriveState) (code : ℕ) (b : Beginning)
+    → state_of parts ≡ now → is_idle now.work ≡ true → b ≡ beginning code parts.registers → Begins (kept parts.cache parts.registers parts.mark) came b s' → HasBegun (parts_of came s' parts.before parts.passed) now code
+has_begun parts came s' now code b now_is idle is l =
+    let was = kept parts.cache parts.registers parts.mark in
+    let at_rest : parts.stage ≡ Idle = idle_stage parts.stage parts.passed (ap (λ (d : DriveState). is_idle d.work) now_is ∙ idle) in
+    let now_at : now ≡ state_of (idle_drive was) = sym now_is ∙ rw at_rest refl in
+    let old = state_of (idle_drive was) in
+    let x = (rw is at l) parts.before parts.passed in
+    let new = state_of (parts_of came s' parts.before parts.passed) in
+    rw now_at (record { comes = x; answer = begun_work (begin (fault_met old new) code old.state) old s' parts.passed refl (ap (λ (d : DriveState). d.work) x.state) })

@@ -15,13 +15,12 @@ use Rattle.ckd_command.specs.declared.tables.Action.TheVariants as action
 use Rattle.ckd_command.specs.declared.begin.Opened.{Opened}
 use Rattle.ckd_command.specs.Answers.{Found}
 use Rattle.ckd_slot.specs.declared.windows.Window.{Window}
-use Rattle.ckd_drive.specs.Transfers.{Transfer, Field, Search, Progress}
+use Rattle.ckd_drive.specs.Transfers.{Transfer, Field, Search}
 use Rattle.ckd_command.specs.Tables.{action_of}
 use Rattle.ckd_position.specs.Contents.{Sighted}
 use Rattle.ckd_command.specs.Commands.{Closing, sight, area_bytes, length_after, length_for, close_by, own_home_address, new_record_fits, write_home_address, format}
 use Rattle.ckd_slot.specs.Buffer.{Lies}
-use Rattle.ckd_cache.specs.Cache.{CacheState}
-use Rattle.ckd_drive.specs.Invariant.{Works, MayTake, Absorbs, IsPlaced, IsField, HasField, remaining, slot_at, track_under, seen_by, is_filled_by, order_of, field_size}
+use Rattle.ckd_drive.specs.Invariant.{HalfDone, Works, MayTake, Absorbs, own_slot, action_now, seen_with, IsPlaced, IsField, HasField, remaining, slot_at, track_under, is_filled_by, order_of, field_size, at_work}
 use Rattle.ckd_drive.proofs.First.{length_by, closing_by}
 use Rattle.ckd_drive.proofs.Moving.{slot_small, lies_first, lies_rest, next_left}
 
@@ -30,13 +29,13 @@ or_false true = refl
 or_false false = refl
 
 -- the track stays as it is
-pub absorbs_plain : (c : CacheState) (r : Registers) (before passed : List ℕ) (p : Progress) (more : List ℕ) (place' : Transfer)
-    → Works c r before passed p → is_filled_by p.place ≡ false → is_filled_by place' ≡ false
-    → seen_by c.slots (track_under c.image.geometry r) before place' ≡ seen_by c.slots (track_under c.image.geometry r) before p.place
-    → remaining (action_of p.opened.command) place' (length (passed ++ more)) ≡ remaining (action_of p.opened.command) p.place (length passed) - length more
-    → IsPlaced c c.image.geometry r (track_under c.image.geometry r) p.opened before (passed ++ more) place' → length passed + length more < 2 ^ 32
-    → Absorbs c c r before before passed p more place'
-absorbs_plain c r before passed p more place' x f f' seen rest placed small =
+pub absorbs_plain : (half : HalfDone) (more : List ℕ) (place' : Transfer)
+    → Works half → is_filled_by half.progress.place ≡ false → is_filled_by place' ≡ false
+    → seen_with half half.before place' ≡ seen_with half half.before half.progress.place
+    → remaining (action_now half) place' (length (half.passed ++ more)) ≡ remaining (action_now half) half.progress.place (length half.passed) - length more
+    → IsPlaced (at_work (record half { passed = half.passed ++ more })) place' → length half.passed + length more < 2 ^ 32
+    → Absorbs half more half.cache half.before place'
+absorbs_plain half more place' x f f' seen rest placed small =
     let goes = x.goes in
     record {
       works = record {
@@ -44,15 +43,15 @@ absorbs_plain c r before passed p more place' x f f' seen rest placed small =
         arm = x.arm;
         anchored = x.anchored;
         goes = record {
-          moved = rw (← goes.moved) (length-append passed more);
-          left = next_left p.left (length more) _ _ goes.left rest;
+          moved = rw (← goes.moved) (length-append half.passed more);
+          left = next_left half.progress.left (length more) _ _ goes.left rest;
           placed = placed;
           no_credit = goes.no_credit;
         };
       };
       image = refl;
       seen_same = seen;
-      changed = rw f' (or_false c.changed);
+      changed = rw f' (or_false half.cache.changed);
       still = λ e. absurd cc;
       small = small;
     }
@@ -84,18 +83,22 @@ order_more area passed more le =
     compare_more (take m area) passed (take (length more) (drop m area)) more long
     ∙ ap (λ (x : List ℕ). slice_cmp nat_cmp x (passed ++ more)) (take_more m (length more) area ∙ ap (λ (n : ℕ). take n area) (sym (length-append passed more)))
 
-pub search_absorbs : (c : CacheState) (r : Registers) (before passed : List ℕ) (p : Progress) (more slot : List ℕ) (w : Window) (so_far now : Ordering)
-    → Works c r before passed p → MayTake p more → p.place ≡ Search w so_far → slot ≡ slot_at c.slots (track_under c.image.geometry r)
+pub search_absorbs : (half : HalfDone) (more slot : List ℕ) (w : Window) (so_far now : Ordering)
+    → MayTake half more → half.progress.place ≡ Search w so_far → slot ≡ own_slot half
     → now ≡ ordering_then so_far (slice_cmp nat_cmp (slice_range slot w.start (w.start + length more)) more)
-    → Absorbs c c r before before passed p more (Search (record { start = w.start + length more; len = w.len - length more }) now)
-search_absorbs c r before passed p more slot w so_far now x may at slot_is now_is =
+    → Absorbs half more half.cache half.before (Search (record { start = w.start + length more; len = w.len - length more }) now)
+search_absorbs half more slot w so_far now may at slot_is now_is =
+    let c = half.cache in
+    let r = half.registers in
+    let passed = half.passed in
+    let p = half.progress in
     let g = c.image.geometry in
     let n : ℕ = track_under g r in
-    let goes = x.goes in
+    let goes = may.works.goes in
     let t = track_of (slot_at c.slots n) in
     let left : p.left ≤ w.len = rw at at goes.left in
     let le : length more ≤ w.len = omega (arith, left, may.room) in
-    let P : Transfer → Type 0 = λ y. IsPlaced c g r n p.opened before passed y in
+    let P : Transfer → Type 0 = λ y. IsPlaced (at_work half) y in
     let placed = subst P at goes.placed in
     let h = placed.0 in
     let area = area_bytes t p.opened r in
@@ -109,11 +112,11 @@ search_absorbs c r before passed p more slot w so_far now x may at slot_is now_i
     let piece : slice_range slot w.start (w.start + length more) ≡ take (length more) rest = rw slot_is (lies_first (slot_at c.slots n) rest w (length more) h.lies le) in
     let compared : now ≡ order_of area (passed ++ more) = now_is ∙ rw (h.compared, piece) (order_more area passed more (omega (arith, whole, le))) in
     let wants : length_after g t p.opened r (passed ++ more) ≡ length area = length_by action.Search g t p.opened r (passed ++ more) h.is_search in
-    absorbs_plain c r before passed p more (Search w' now) x (rw at refl) refl (rw at refl) (rw at refl) (
+    absorbs_plain half more (Search w' now) may.works (rw at refl) refl (rw at refl) (rw at refl) (
       record { is_search = h.is_search; at_hand = h.at_hand; lies = lies; room = omega (arith, whole, far, le); begins = omega (arith, h.begins, far); compared = compared },
       record { again = placed.1.again; len = omega (arith, wants, whole, far, le) },
     )
-    (omega (arith, h.begins, h.lies.within, le, slot_small c n x.volume))
+    (omega (arith, h.begins, h.lies.within, le, slot_small c n may.works.volume))
 
 -- Fields.
 
@@ -193,20 +196,21 @@ field_small action.Read = omega arith
 field_small action.Update = omega arith
 
 -- what is known of a field, with more bytes
-pub record FieldGoes (c : CacheState) (r : Registers) (before passed : List ℕ) (p : Progress) (more f : List ℕ) : Type 0 where
-  pub has : HasField c (track_under c.image.geometry r) (action_of p.opened.command) f passed
-  pub again : sight c.image.geometry (track_of (slot_at c.slots (track_under c.image.geometry r))) p.opened r ≡ Found p.opened
-  pub long : length (passed ++ more) ≡ length passed + length more
-  pub room : length (passed ++ more) ≤ field_size (action_of p.opened.command)
-  pub collected : take (length (passed ++ more)) (overwritten f p.moved more) ≡ passed ++ more
+pub record FieldGoes (half : HalfDone) (more f : List ℕ) : Type 0 where
+  pub has : HasField (at_work half) f
+  pub again : sight half.cache.image.geometry (track_of (own_slot half)) half.progress.opened half.registers ≡ Found half.progress.opened
+  pub long : length (half.passed ++ more) ≡ length half.passed + length more
+  pub room : length (half.passed ++ more) ≤ field_size (action_now half)
+  pub collected : take (length (half.passed ++ more)) (overwritten f half.progress.moved more) ≡ half.passed ++ more
 
-pub field_goes : (c : CacheState) (r : Registers) (before passed : List ℕ) (p : Progress) (more f : List ℕ) → Works c r before passed p → MayTake p more → p.place ≡ Field f → FieldGoes c r before passed p more f
-field_goes c r before passed p more f x may at =
-    let g = c.image.geometry in
-    let n : ℕ = track_under g r in
-    let goes = x.goes in
-    let left : p.left ≤ field_size (action_of p.opened.command) - length passed = rw at at goes.left in
-    let P : Transfer → Type 0 = λ y. IsPlaced c g r n p.opened before passed y in
+pub field_goes : (half : HalfDone) (more f : List ℕ) → MayTake half more → half.progress.place ≡ Field f → FieldGoes half more f
+field_goes half more f may at =
+    let passed = half.passed in
+    let g = half.cache.image.geometry in
+    let n : ℕ = track_under g half.registers in
+    let goes = may.works.goes in
+    let left : half.progress.left ≤ field_size (action_of half.progress.opened.command) - length passed = rw at at goes.left in
+    let P : Transfer → Type 0 = λ y. IsPlaced (at_work half) y in
     let placed = subst P at goes.placed in
     let h = placed.0 in
     let far : length (passed ++ more) ≡ length passed + length more = length-append passed more in
@@ -218,20 +222,22 @@ field_goes c r before passed p more f x may at =
       collected = rw (← goes.moved) (collected_more f passed more h.collected);
     }
 
-pub field_absorbs : (c : CacheState) (r : Registers) (before passed : List ℕ) (p : Progress) (more f field : List ℕ)
-    → Works c r before passed p → MayTake p more → p.place ≡ Field f → field ≡ overwritten f p.moved more
-    → ChangesNothing (action_of p.opened.command) c.image.geometry (track_of (slot_at c.slots (track_under c.image.geometry r))) p.opened r (passed ++ more)
-    → Absorbs c c r before before passed p more (Field field)
-field_absorbs c r before passed p more f field x may at is nothing =
-    let g = c.image.geometry in
+pub field_absorbs : (half : HalfDone) (more f field : List ℕ)
+    → MayTake half more → half.progress.place ≡ Field f → field ≡ overwritten f half.progress.moved more
+    → ChangesNothing (action_now half) half.cache.image.geometry (track_of (own_slot half)) half.progress.opened half.registers (half.passed ++ more)
+    → Absorbs half more half.cache half.before (Field field)
+field_absorbs half more f field may at is nothing =
+    let r = half.registers in
+    let p = half.progress in
+    let g = half.cache.image.geometry in
     let n : ℕ = track_under g r in
     let a = action_of p.opened.command in
-    let t = track_of (slot_at c.slots n) in
-    let k = field_goes c r before passed p more f x may at in
-    let wants = length_by a g t p.opened r (passed ++ more) refl ∙ field_wants a g t p.opened r (passed ++ more) k.has.is_field k.room nothing in
-    absorbs_plain c r before passed p more (Field field) x (rw at refl) refl (rw at refl) (rw at (let far = k.long in omega (arith, far))) (
+    let t = track_of (slot_at half.cache.slots n) in
+    let k = field_goes half more f may at in
+    let wants = length_by a g t p.opened r (half.passed ++ more) refl ∙ field_wants a g t p.opened r (half.passed ++ more) k.has.is_field k.room nothing in
+    absorbs_plain half more (Field field) may.works (rw at refl) refl (rw at refl) (rw at (let far = k.long in omega (arith, far))) (
       record { is_field = k.has.is_field; room = k.room; collected = rw is k.collected; at_hand = k.has.at_hand },
       record { again = k.again; len = (let room = k.room in omega (arith, wants, room)) },
-      ap (λ (y : Closing). y.written) (closing_by a g t p.opened r (passed ++ more) refl) ∙ field_unwritten a g t p.opened r (passed ++ more) k.has.is_field k.room nothing,
+      ap (λ (y : Closing). y.written) (closing_by a g t p.opened r (half.passed ++ more) refl) ∙ field_unwritten a g t p.opened r (half.passed ++ more) k.has.is_field k.room nothing,
     )
     (omega (arith, k.room, k.long, field_small a))

@@ -2,7 +2,6 @@
 use Rattle.std.specs.Prelude.{◌≡◌, ℕ, ◌+◌, List, [], Bool, true, false, ◌&&◌, Option, None, unwrap_or, length, slice_index_or}
 use Rattle.ckd_sense.specs.declared.sense_bytes.TheConstants.Sense.{STORE_FAULT}
 use Rattle.ckd_command.specs.declared.registers.Registers.{Registers}
-use Rattle.ckd_command.specs.declared.registers.Mark.{Mark}
 use Rattle.ckd_command.specs.declared.registers.Mark.TheVariants.{Saved, Lost}
 use Rattle.ckd_command.specs.declared.begin.Opened.{Opened}
 use Rattle.ckd_command.specs.Answers.{Beginning}
@@ -16,7 +15,7 @@ use Rattle.ckd_command.specs.Drive.{Fault, is_written, is_written_by}
 use Rattle.ckd_command.specs.Drive as drive
 use Rattle.ckd_cache.specs.Cache.{CacheState, after_save, after_failed_save}
 use Rattle.ckd_drive.specs.Work.{DriveState, CallsStore, fault_met, with_image, after_begun, after_look, goes_to_cylinder_zero, look_loads, look_saves}
-use Rattle.ckd_drive.specs.Invariant.{Stands, state_of}
+use Rattle.ckd_drive.specs.Invariant.{Kept, Parts, parts_of, Stands, state_of}
 
 -- what a begin answers, by the stage that it came to
 abbrev pub begun_at : Stage → Begun
@@ -31,35 +30,42 @@ looked_at (Looking o) = looked.Passed
 looked_at s = looked.Failed
 
 -- the track was left: it is saved, if it was written
-pub record Leaves (c c' : CacheState) (r' : Registers) (m' : Mark) (next : Registers) : Type 0 where
-  pub cache : c' ≡ after_save c
-  pub registers : r' ≡ next
-  pub mark : m' ≡ Saved
+pub record Leaves (c : CacheState) (new : Kept) (next : Registers) : Type 0 where
+  pub cache : new.cache ≡ after_save c
+  pub registers : new.registers ≡ next
+  pub mark : new.mark ≡ Saved
 
 -- its saving failed: it is lost, and the arm stays
-pub record Loses (c c' : CacheState) (r r' : Registers) (m' : Mark) : Type 0 where
+pub record Loses (c : CacheState) (r : Registers) (new : Kept) : Type 0 where
   pub changed : c.changed ≡ true
   pub left : List ℕ
   pub size : length left ≡ c.image.geometry.track_size
-  pub there : left ≡ slice_index_or c'.image.slots (unwrap_or c.held 0) []
-  pub cache : c' ≡ after_failed_save c left
-  pub registers : r' ≡ with_cause (record r { credit = None }) STORE_FAULT
-  pub mark : m' ≡ Lost
+  pub there : left ≡ slice_index_or new.cache.image.slots (unwrap_or c.held 0) []
+  pub cache : new.cache ≡ after_failed_save c left
+  pub registers : new.registers ≡ with_cause (record r { credit = None }) STORE_FAULT
+  pub mark : new.mark ≡ Lost
 
 -- A part of a call came to this: it stands, it is as the definitions have it by the fault that was met, the store was
 -- called so, and no track that was written made way for another.
-pub record Comes (loads saves : Bool) (old : DriveState) (after : Option Fault → DriveState) (c : CacheState) (r : Registers) (m : Mark) (s : Stage) (before passed : List ℕ) : Type 0 where
-  pub stands : Stands c r m s before passed
-  pub state : state_of c r m s before passed ≡ with_image (after (fault_met old (state_of c r m s before passed))) c.image
-  pub calls : CallsStore loads saves old (state_of c r m s before passed)
-  pub at_hand : c.image.loads ≡ old.image.loads + 1 → is_written old.state ≡ false
+pub record Comes (loads saves : Bool) (old : DriveState) (after : Option Fault → DriveState) (now : Parts) : Type 0 where
+  pub stands : Stands now
+  pub state : state_of now ≡ with_image (after (fault_met old (state_of now))) now.cache.image
+  pub calls : CallsStore loads saves old (state_of now)
+  pub at_hand : now.cache.image.loads ≡ old.image.loads + 1 → is_written old.state ≡ false
 
--- an idle drive begins a command that its code leads to so
-abbrev pub Begins : (c c' : CacheState) → (r r' : Registers) → (m m' : Mark) → Beginning → Stage → Type 0
-Begins c c' r r' m m' b s = (before passed : List ℕ)
-    → Comes false (is_written_by m && goes_to_cylinder_zero b) (state_of c r m Idle [] []) (λ f. after_begun (drive.begun f (state_of c r m Idle [] []).state b) (state_of c r m Idle [] [])) c' r' m' s before passed
+-- a drive before it begins a command, and one whose command looks for its area
+abbrev pub idle_drive : Kept → Parts
+idle_drive k = parts_of k Idle [] []
 
--- a command that looks for its area looks
-abbrev pub Looks : (c c' : CacheState) → (r r' : Registers) → (m m' : Mark) → Opened → Stage → Type 0
-Looks c c' r r' m m' o s = (before : List ℕ)
-    → Comes (look_loads (state_of c r m (Looking o) [] [])) (look_saves (state_of c r m (Looking o) [] [])) (state_of c r m (Looking o) [] []) (λ f. after_look f (state_of c r m (Looking o) [] [])) c' r' m' s before []
+abbrev pub looking_drive : Kept → Opened → Parts
+looking_drive k o = parts_of k (Looking o) [] []
+
+-- an idle drive begins a command that its code leads to so, and comes to this stage
+abbrev pub Begins : (old new : Kept) → Beginning → Stage → Type 0
+Begins old new b s = (before passed : List ℕ)
+    → Comes false (is_written_by old.mark && goes_to_cylinder_zero b) (state_of (idle_drive old)) (λ f. after_begun (drive.begun f (state_of (idle_drive old)).state b) (state_of (idle_drive old))) (parts_of new s before passed)
+
+-- a command that looks for its area looks, and comes to this stage
+abbrev pub Looks : (old new : Kept) → Opened → Stage → Type 0
+Looks old new o s = (before : List ℕ)
+    → Comes (look_loads (state_of (looking_drive old o))) (look_saves (state_of (looking_drive old o))) (state_of (looking_drive old o)) (λ f. after_look f (state_of (looking_drive old o))) (parts_of new s before [])

@@ -1,6 +1,7 @@
 -- How a drive holds a command, in fields that are changed in place, and what is seen of it.
-use Rattle.std.specs.Prelude.{◌≡◌, ◌≤◌, ◌<◌, ◌+◌, ◌^◌, ℕ, true, false}
+use Rattle.std.specs.Prelude.{◌≡◌, ◌≤◌, ◌<◌, ◌+◌, ◌^◌, ℕ, List, true, false}
 use Rattle.ckd_command.specs.declared.registers.Registers.{Registers}
+use Rattle.ckd_command.specs.declared.registers.Mark.{Mark}
 use Rattle.ckd_command.specs.declared.begin.Opened.{Opened}
 use Rattle.ckd_command.specs.Commands.{area_ends, home_address_ends, format_ends, command_end}
 use Rattle.ckd_command.specs.Tables.{action_of}
@@ -15,7 +16,8 @@ use Rattle.ckd_drive.specs.declared.answers.Stage.TheVariants as now
 use Rattle.ckd_drive.specs.Transfers.{Transfer, Sense, Field, Read, Search, Fill, Filled, Progress}
 use Rattle.ckd_drive.specs.Stage.{Stage, Idle, Over, Looking, Passing}
 use Rattle.ckd_drive.specs.Work.{immediate_ending, failed_ending}
-use Rattle.ckd_drive.specs.Invariant.{remaining}
+use Rattle.ckd_cache.specs.Cache.{CacheState}
+use Rattle.ckd_drive.specs.Invariant.{HalfDone, Parts, kept, parts_of, remaining}
 
 -- how a command closes that has written
 abbrev pub closes_by : Registers → Opened → Written → CommandEnd
@@ -34,6 +36,10 @@ place_seen r o (held.Filled w what) = Filled w (closes_by r o what)
 abbrev pub progress_seen : Registers → Opened → ProgressHeld → Progress
 progress_seen r o p = record { opened = o; moved = p.moved; left = p.left; place = place_seen r o p.place }
 
+-- the command half done that these hold
+abbrev pub half_done : CacheState → Registers → (before passed : List ℕ) → Opened → ProgressHeld → HalfDone
+half_done c r before passed o p = record { cache = c; registers = r; before = before; passed = passed; progress = progress_seen r o p }
+
 abbrev pub stage_seen : Registers → Opened → ProgressHeld → StageHeld → Stage
 stage_seen r o p now.Idle = Idle
 stage_seen r o p now.Ended = Over (immediate_ending false)
@@ -41,6 +47,10 @@ stage_seen r o p now.InMotion = Over (immediate_ending true)
 stage_seen r o p now.Failed = Over failed_ending
 stage_seen r o p now.Looking = Looking o
 stage_seen r o p now.Passing = Passing (progress_seen r o p)
+
+-- what a drive of these fields is made of
+abbrev pub parts_held : CacheState → Registers → Mark → StageHeld → Opened → ProgressHeld → (before passed : List ℕ) → Parts
+parts_held c r m s o p before passed = parts_of (kept c r m) (stage_seen r o p s) before passed
 
 -- a command that has just found the place of its bytes: none passed, and all that are known of may
 abbrev pub IsReady : Registers → Opened → ProgressHeld → StageHeld → Type 0

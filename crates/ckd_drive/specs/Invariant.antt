@@ -81,31 +81,96 @@ work_of (stage.Over e) passed = Over e
 work_of (stage.Looking o) passed = Looking o
 work_of (stage.Passing p) passed = Passing p.opened passed p.left
 
-abbrev pub state_of : CacheState → Registers → Mark → Stage → (before passed : List ℕ) → DriveState
-state_of c r m s before passed = record {
-  image = c.image;
+-- What a drive keeps from command to command: its cache, the registers, and the mark of the track under the arm.
+pub record Kept : Type 0 where
+  pub cache : CacheState
+  pub registers : Registers
+  pub mark : Mark
+
+abbrev pub kept : CacheState → Registers → Mark → Kept
+kept c r m = record { cache = c; registers = r; mark = m }
+
+-- the number of the track under the arm, and the slot of it
+abbrev pub number_under : Kept → ℕ
+number_under k = track_under k.cache.image.geometry k.registers
+
+abbrev pub slot_under : Kept → List ℕ
+slot_under k = slot_at k.cache.slots (number_under k)
+
+-- What a drive is made of: beside these, the stage of the command, the slot under the arm as it was before the command wrote to
+-- it, and the bytes that passed.
+pub record Parts : Type 0 where
+  pub cache : CacheState
+  pub registers : Registers
+  pub mark : Mark
+  pub stage : Stage
+  pub before : List ℕ
+  pub passed : List ℕ
+
+abbrev pub parts_of : Kept → Stage → (before passed : List ℕ) → Parts
+parts_of k s before passed = record { cache = k.cache; registers = k.registers; mark = k.mark; stage = s; before = before; passed = passed }
+
+-- the track under its arm
+abbrev pub track_in_reach : Parts → ℕ
+track_in_reach d = track_under d.cache.image.geometry d.registers
+
+abbrev pub state_of : Parts → DriveState
+state_of d = record {
+  image = d.cache.image;
   state = record {
-    volume = record { geometry = c.image.geometry; slots = seen c.slots (track_under c.image.geometry r) before s };
-    registers = r;
-    mark = m;
+    volume = record { geometry = d.cache.image.geometry; slots = seen d.cache.slots (track_in_reach d) d.before d.stage };
+    registers = d.registers;
+    mark = d.mark;
   };
-  work = work_of s passed;
+  work = work_of d.stage d.passed;
 }
+
+-- A command whose area is found: over what, the slot under the arm as it was before it wrote, and the bytes that passed.
+pub record AtWork : Type 0 where
+  pub cache : CacheState
+  pub registers : Registers
+  pub opened : Opened
+  pub before : List ℕ
+  pub passed : List ℕ
+
+-- the geometry that it works on, the number of the track under the arm, and the slot of it
+abbrev pub geometry_in : AtWork → Geometry
+geometry_in job = job.cache.image.geometry
+
+abbrev pub number_in : AtWork → ℕ
+number_in job = track_under (geometry_in job) job.registers
+
+abbrev pub slot_in : AtWork → List ℕ
+slot_in job = slot_at job.cache.slots (number_in job)
+
+abbrev pub action_in : AtWork → Action
+action_in job = action_of job.opened.command
+
+-- the bytes of its area, and how it closes, by a track
+abbrev pub area_in : AtWork → List ℕ
+area_in job = area_bytes (track_of (slot_in job)) job.opened job.registers
+
+abbrev pub closing_in : AtWork → Sighted → Closing
+closing_in job t = closing (geometry_in job) t job.opened job.registers job.passed
+
+-- that of a drive which has opened this command
+abbrev pub work_in : Parts → Opened → AtWork
+work_in d o = record { cache = d.cache; registers = d.registers; opened = o; before = d.before; passed = d.passed }
 
 -- The track under the arm is at hand, and reads whole.
 pub record AtHand (c : CacheState) (n : ℕ) : Type 0 where
   pub held : c.held ≡ Some n
   pub readable : is_readable (track_of (slot_at c.slots n)) ≡ true
 
--- a command with its area found: a further look finds it again, and this many bytes are wanted in all
-pub record IsFound (g : Geometry) (r : Registers) (t : Sighted) (o : Opened) (passed : List ℕ) (p : Transfer) : Type 0 where
-  pub again : sight_on g t o r ≡ Found o
-  pub len : length_after g t o r passed ≡ length passed + remaining (action_of o.command) p (length passed)
+-- a further look finds its area again, and this many bytes are wanted in all
+pub record IsFound (job : AtWork) (t : Sighted) (p : Transfer) : Type 0 where
+  pub again : sight_on (geometry_in job) t job.opened job.registers ≡ Found job.opened
+  pub len : length_after (geometry_in job) t job.opened job.registers job.passed ≡ length job.passed + remaining (action_in job) p (length job.passed)
 
 -- it closes so, and writes nothing
-pub record ClosesUnwritten (g : Geometry) (r : Registers) (t : Sighted) (o : Opened) (passed : List ℕ) (u : CommandEnd) : Type 0 where
-  pub so : command_end (closing g t o r passed) ≡ u
-  pub unwritten : (closing g t o r passed).written ≡ None
+pub record ClosesUnwritten (job : AtWork) (t : Sighted) (u : CommandEnd) : Type 0 where
+  pub so : command_end (closing_in job t) ≡ u
+  pub unwritten : (closing_in job t).written ≡ None
 
 -- it closes so, and leaves this track, of which the slot is these bytes
 pub record ClosesWritten (size : ℕ) (lengths : List (ℕ × ℕ)) (c : Closing) (u : CommandEnd) (slot : List ℕ) : Type 0 where
@@ -116,20 +181,20 @@ pub record ClosesWritten (size : ℕ) (lengths : List (ℕ × ℕ)) (c : Closing
   pub lengths_stay : lengths_on track ≡ lengths
   pub slot_is : slot_of size track ≡ slot
 
--- a track that is being written: whatever bytes come, they stand in the window, with zeros behind them
-pub record IsFilled (g : Geometry) (r : Registers) (before now : List ℕ) (o : Opened) (passed : List ℕ) (w : Window) (u : CommandEnd) : Type 0 where
+-- a track that is being written, whose slot is now this: whatever bytes come, they stand in the window, with zeros behind them
+pub record IsFilled (job : AtWork) (now : List ℕ) (w : Window) (u : CommandEnd) : Type 0 where
   pub head : List ℕ
   pub tail : List ℕ
   pub lead : ℕ
   pub room : ℕ
-  pub begins : lead ≤ length passed
+  pub begins : lead ≤ length job.passed
   pub lead_small : lead ≤ 8
-  pub within : w.start + w.len ≤ g.track_size
-  pub start : length head + (length passed - lead) ≡ w.start
-  pub rest : w.len + (length passed - lead) ≡ room
+  pub within : w.start + w.len ≤ (geometry_in job).track_size
+  pub start : length head + (length job.passed - lead) ≡ w.start
+  pub rest : w.len + (length job.passed - lead) ≡ room
   pub closes : (more : List ℕ) → length more ≤ w.len
-      → ClosesWritten g.track_size (lengths_on (track_in now)) (closing g (track_of before) o r (passed ++ more)) u (head ++ (padded (drop lead (passed ++ more)) room ++ tail))
-  pub wants : (more : List ℕ) → length more ≤ w.len → length_after g (track_of before) o r (passed ++ more) ≡ lead + room
+      → ClosesWritten (geometry_in job).track_size (lengths_on (track_in now)) (closing (geometry_in job) (track_of job.before) job.opened job.registers (job.passed ++ more)) u (head ++ (padded (drop lead (job.passed ++ more)) room ++ tail))
+  pub wants : (more : List ℕ) → length more ≤ w.len → length_after (geometry_in job) (track_of job.before) job.opened job.registers (job.passed ++ more) ≡ lead + room
 
 abbrev pub IsField : Action → Type 0
 IsField action.SeekCylinderAndHead = Unit {0}
@@ -145,72 +210,68 @@ FieldAtHand action.WriteHomeAddress c n = c.held ≡ Some n
 FieldAtHand action.Format c n = AtHand c n
 FieldAtHand _ c n = Unit {0}
 
-pub record HasField (c : CacheState) (n : ℕ) (a : Action) (f passed : List ℕ) : Type 0 where
-  pub is_field : IsField a
-  pub room : length passed ≤ field_size a
-  pub collected : take (length passed) f ≡ passed
-  pub at_hand : FieldAtHand a c n
+pub record HasField (job : AtWork) (f : List ℕ) : Type 0 where
+  pub is_field : IsField (action_in job)
+  pub room : length job.passed ≤ field_size (action_in job)
+  pub collected : take (length job.passed) f ≡ job.passed
+  pub at_hand : FieldAtHand (action_in job) job.cache (number_in job)
 
-pub record HasSense (a : Action) (r : Registers) (bytes passed : List ℕ) : Type 0 where
-  pub is_sense : a ≡ action.GiveSense
-  pub bytes_are : bytes ≡ sense_bytes r.sense
-  pub room : length passed ≤ 6
+pub record HasSense (job : AtWork) (bytes : List ℕ) : Type 0 where
+  pub is_sense : action_in job ≡ action.GiveSense
+  pub bytes_are : bytes ≡ sense_bytes job.registers.sense
+  pub room : length job.passed ≤ 6
 
-pub record HasRead (c : CacheState) (n : ℕ) (a : Action) (w : Window) (bytes passed : List ℕ) : Type 0 where
-  pub is_read : a ≡ action.Read
-  pub held : c.held ≡ Some n
-  pub lies : Lies (slot_at c.slots n) w (drop (length passed) bytes)
-  pub room : length passed ≤ length bytes
-  pub begins : length passed ≤ w.start
+pub record HasRead (job : AtWork) (w : Window) : Type 0 where
+  pub is_read : action_in job ≡ action.Read
+  pub held : job.cache.held ≡ Some (number_in job)
+  pub lies : Lies (slot_in job) w (drop (length job.passed) (area_in job))
+  pub room : length job.passed ≤ length (area_in job)
+  pub begins : length job.passed ≤ w.start
 
-pub record HasSearched (c : CacheState) (n : ℕ) (a : Action) (w : Window) (so_far : Ordering) (bytes passed : List ℕ) : Type 0 where
-  pub is_search : a ≡ action.Search
-  pub at_hand : AtHand c n
-  pub lies : Lies (slot_at c.slots n) w (drop (length passed) bytes)
-  pub room : length passed ≤ length bytes
-  pub begins : length passed ≤ w.start
-  pub compared : so_far ≡ order_of bytes passed
+pub record HasSearched (job : AtWork) (w : Window) (so_far : Ordering) : Type 0 where
+  pub is_search : action_in job ≡ action.Search
+  pub at_hand : AtHand job.cache (number_in job)
+  pub lies : Lies (slot_in job) w (drop (length job.passed) (area_in job))
+  pub room : length job.passed ≤ length (area_in job)
+  pub begins : length job.passed ≤ w.start
+  pub compared : so_far ≡ order_of (area_in job) job.passed
 
 -- the window is where these bytes of a record of the track stand
 abbrev pub PlaceIn : Extent → Track → Option Area → Window → Type 0
 PlaceIn e t (Some a) w = IsPlaceOf e t a w
 PlaceIn e t None w = Unit {0}
 
-pub record WillFill (c : CacheState) (n : ℕ) (o : Opened) (w : Window) (bytes passed : List ℕ) : Type 0 where
-  pub is_update : action_of o.command ≡ action.Update
-  pub at_hand : AtHand c n
-  pub lies : Lies (slot_at c.slots n) w bytes
-  pub place : PlaceIn (extent_of o.command) (track_in (slot_at c.slots n)) o.area w
-  pub none : passed ≡ []
+pub record WillFill (job : AtWork) (w : Window) : Type 0 where
+  pub is_update : action_in job ≡ action.Update
+  pub at_hand : AtHand job.cache (number_in job)
+  pub lies : Lies (slot_in job) w (area_in job)
+  pub place : PlaceIn (extent_of job.opened.command) (track_in (slot_in job)) job.opened.area w
+  pub none : job.passed ≡ []
 
-pub record HasFilled (c : CacheState) (g : Geometry) (r : Registers) (n : ℕ) (o : Opened) (before passed : List ℕ) (w : Window) (u : CommandEnd) : Type 0 where
-  pub at_hand : AtHand c n
-  pub size : length before ≡ g.track_size
-  pub filled : IsFilled g r before (slot_at c.slots n) o passed w u
-  pub slot_is : slot_at c.slots n ≡ filled.head ++ (padded (drop filled.lead passed) filled.room ++ filled.tail)
-  pub found : IsFound g r (track_of before) o passed (Filled w u)
-  pub takes : (action_of o.command ≡ action.GiveSense → ⊥) × (action_of o.command ≡ action.Read → ⊥)
-  pub some : 0 < length passed
+pub record HasFilled (job : AtWork) (w : Window) (u : CommandEnd) : Type 0 where
+  pub at_hand : AtHand job.cache (number_in job)
+  pub size : length job.before ≡ (geometry_in job).track_size
+  pub filled : IsFilled job (slot_in job) w u
+  pub slot_is : slot_in job ≡ filled.head ++ (padded (drop filled.lead job.passed) filled.room ++ filled.tail)
+  pub found : IsFound job (track_of job.before) (Filled w u)
+  pub takes : (action_in job ≡ action.GiveSense → ⊥) × (action_in job ≡ action.Read → ⊥)
+  pub some : 0 < length job.passed
   pub stays : u.moves_off ≡ false
-  pub cylinder : u.registers.cylinder ≡ r.cylinder
-  pub head : u.registers.head ≡ r.head
+  pub cylinder : u.registers.cylinder ≡ job.registers.cylinder
+  pub head : u.registers.head ≡ job.registers.head
 
 abbrev pub CreditAtHand : Aim → CacheState → ℕ → Type 0
 CreditAtHand Credited c n = AtHand c n
 CreditAtHand _ c n = Unit {0}
 
-abbrev pub IsPlaced : CacheState → Geometry → Registers → (n : ℕ) → Opened → (before passed : List ℕ) → Transfer → Type 0
-IsPlaced c g r n o before passed (Sense b u) =
-    HasSense (action_of o.command) r b passed × IsFound g r (track_of (slot_at c.slots n)) o passed (Sense b u) × ClosesUnwritten g r (track_of (slot_at c.slots n)) o passed u
-IsPlaced c g r n o before passed (Field f) =
-    HasField c n (action_of o.command) f passed × IsFound g r (track_of (slot_at c.slots n)) o passed (Field f) × ((closing g (track_of (slot_at c.slots n)) o r passed).written ≡ None)
-IsPlaced c g r n o before passed (Read w u) =
-    HasRead c n (action_of o.command) w (area_bytes (track_of (slot_at c.slots n)) o r) passed × IsFound g r (track_of (slot_at c.slots n)) o passed (Read w u) × ClosesUnwritten g r (track_of (slot_at c.slots n)) o passed u
-IsPlaced c g r n o before passed (Search w so_far) =
-    HasSearched c n (action_of o.command) w so_far (area_bytes (track_of (slot_at c.slots n)) o r) passed × IsFound g r (track_of (slot_at c.slots n)) o passed (Search w so_far)
-IsPlaced c g r n o before passed (Fill w u) =
-    WillFill c n o w (area_bytes (track_of (slot_at c.slots n)) o r) passed × IsFound g r (track_of (slot_at c.slots n)) o passed (Fill w u) × ClosesUnwritten g r (track_of (slot_at c.slots n)) o passed u
-IsPlaced c g r n o before passed (Filled w u) = HasFilled c g r n o before passed w u
+-- where the bytes of a command stand that are still to pass, and how it closes
+abbrev pub IsPlaced : AtWork → Transfer → Type 0
+IsPlaced job (Sense b u) = HasSense job b × IsFound job (track_of (slot_in job)) (Sense b u) × ClosesUnwritten job (track_of (slot_in job)) u
+IsPlaced job (Field f) = HasField job f × IsFound job (track_of (slot_in job)) (Field f) × ((closing_in job (track_of (slot_in job))).written ≡ None)
+IsPlaced job (Read w u) = HasRead job w × IsFound job (track_of (slot_in job)) (Read w u) × ClosesUnwritten job (track_of (slot_in job)) u
+IsPlaced job (Search w so_far) = HasSearched job w so_far × IsFound job (track_of (slot_in job)) (Search w so_far)
+IsPlaced job (Fill w u) = WillFill job w × IsFound job (track_of (slot_in job)) (Fill w u) × ClosesUnwritten job (track_of (slot_in job)) u
+IsPlaced job (Filled w u) = HasFilled job w u
 
 -- What a look has found.
 
@@ -258,7 +319,7 @@ ReadsWhole a t = is_readable t ≡ true
 pub record Goes (c : CacheState) (r : Registers) (before passed : List ℕ) (p : Progress) : Type 0 where
   pub moved : length passed ≡ p.moved
   pub left : p.left ≤ remaining (action_of p.opened.command) p.place (length passed)
-  pub placed : IsPlaced c c.image.geometry r (track_under c.image.geometry r) p.opened before passed p.place
+  pub placed : IsPlaced (record { cache = c; registers = r; opened = p.opened; before = before; passed = passed }) p.place
   pub no_credit : r.credit ≡ None
 
 -- between commands a credit is for a track that is at hand
@@ -285,12 +346,12 @@ abbrev pub is_filled : Stage → Bool
 is_filled (stage.Passing p) = is_filled_by p.place
 is_filled _ = false
 
-pub record Stands (c : CacheState) (r : Registers) (m : Mark) (s : Stage) (before passed : List ℕ) : Type 0 where
-  pub volume : IsVolume c
-  pub arm : IsAtTrack c.image.geometry r
-  pub anchored : c.changed ≡ true → c.held ≡ Some (track_under c.image.geometry r)
-  pub marked : c.changed ≡ (is_written_by m || is_filled s)
-  pub work : StageIs c r before passed s
+pub record Stands (d : Parts) : Type 0 where
+  pub volume : IsVolume d.cache
+  pub arm : IsAtTrack d.cache.image.geometry d.registers
+  pub anchored : d.cache.changed ≡ true → d.cache.held ≡ Some (track_in_reach d)
+  pub marked : d.cache.changed ≡ (is_written_by d.mark || is_filled d.stage)
+  pub work : StageIs d.cache d.registers d.before d.passed d.stage
 
 -- What a command leaves as it begins.
 
@@ -357,23 +418,53 @@ whole_of _ own moved f = whole.No
 
 -- Bytes that are taken.
 
--- a command half done, whatever the mark is
-pub record Works (c : CacheState) (r : Registers) (before passed : List ℕ) (p : Progress) : Type 0 where
-  pub volume : IsVolume c
-  pub arm : IsAtTrack c.image.geometry r
-  pub anchored : c.changed ≡ true → c.held ≡ Some (track_under c.image.geometry r)
-  pub goes : Goes c r before passed p
+-- A command half done, whatever the mark is: the slot under the arm as it was before the command wrote to it, the bytes that
+-- passed, and how far it is.
+pub record HalfDone : Type 0 where
+  pub cache : CacheState
+  pub registers : Registers
+  pub before : List ℕ
+  pub passed : List ℕ
+  pub progress : Progress
+
+abbrev pub at_work : HalfDone → AtWork
+at_work h = record { cache = h.cache; registers = h.registers; opened = h.progress.opened; before = h.before; passed = h.passed }
+
+abbrev pub own_track : HalfDone → ℕ
+own_track h = number_in (at_work h)
+
+abbrev pub own_slot : HalfDone → List ℕ
+own_slot h = slot_in (at_work h)
+
+abbrev pub action_now : HalfDone → Action
+action_now h = action_in (at_work h)
+
+-- the slots as the definitions see them, with this place of the rest, and this slot before the command wrote
+abbrev pub seen_with : HalfDone → (before : List ℕ) → Transfer → List (List ℕ)
+seen_with h before place = seen_by h.cache.slots (own_track h) before place
+
+-- it holds what a drive holds
+pub record Works (h : HalfDone) : Type 0 where
+  pub volume : IsVolume h.cache
+  pub arm : IsAtTrack h.cache.image.geometry h.registers
+  pub anchored : h.cache.changed ≡ true → h.cache.held ≡ Some (own_track h)
+  pub goes : Goes h.cache h.registers h.before h.passed h.progress
 
 -- these bytes are taken by the drive, and may be
-pub record MayTake (p : Progress) (more : List ℕ) : Type 0 where
-  pub room : length more ≤ p.left
-  pub taking : is_giving (action_of p.opened.command) ≡ false
+pub record MayTake (h : HalfDone) (more : List ℕ) : Type 0 where
+  pub works : Works h
+  pub room : length more ≤ h.progress.left
+  pub taking : is_giving (action_now h) ≡ false
 
--- the command half done takes these bytes, and the rest have this place
-pub record Absorbs (c c' : CacheState) (r : Registers) (before before' passed : List ℕ) (p : Progress) (more : List ℕ) (place : Transfer) : Type 0 where
-  pub works : Works c' r before' (passed ++ more) (next_progress p (length more) place)
-  pub image : c'.image ≡ c.image
-  pub seen_same : seen_by c'.slots (track_under c.image.geometry r) before' place ≡ seen_by c.slots (track_under c.image.geometry r) before p.place
-  pub changed : c'.changed ≡ (c.changed || is_filled_by place)
-  pub still : is_filled_by p.place ≡ true → is_filled_by place ≡ true
-  pub small : length passed + length more < 2 ^ 32
+-- the command once these bytes were taken: the rest have this place
+abbrev pub with_taken : HalfDone → (more : List ℕ) → CacheState → (before : List ℕ) → Transfer → HalfDone
+with_taken h more c before place = record h { cache = c; before = before; passed = h.passed ++ more; progress = next_progress h.progress (length more) place }
+
+-- the command half done takes these bytes, and is then over this cache, with this slot before it wrote and this place of the rest
+pub record Absorbs (h : HalfDone) (more : List ℕ) (c : CacheState) (before : List ℕ) (place : Transfer) : Type 0 where
+  pub works : Works (with_taken h more c before place)
+  pub image : c.image ≡ h.cache.image
+  pub seen_same : seen_by c.slots (own_track h) before place ≡ seen_with h h.before h.progress.place
+  pub changed : c.changed ≡ (h.cache.changed || is_filled_by place)
+  pub still : is_filled_by h.progress.place ≡ true → is_filled_by place ≡ true
+  pub small : length h.passed + length more < 2 ^ 32

@@ -1,12 +1,11 @@
 //! A drive begins a command, and its arm leaves a track for another.
 
-ghost use Rattle.std.specs.Prelude.{◌≡◌, [], None, OnOk, OnErr};
+ghost use Rattle.std.specs.Prelude.{◌≡◌, None, OnOk, OnErr};
 ghost use Rattle.ckd_command.specs.Commands.{beginning, with_cause};
 ghost use Rattle.ckd_drive.specs.declared.transfer.Progress.{Progress};
-ghost use Rattle.ckd_drive.specs.Stage.{Idle};
-ghost use Rattle.ckd_drive.specs.Invariant.{Stands, BeginsWell, track_under};
+ghost use Rattle.ckd_drive.specs.Invariant.{Stands, kept, BeginsWell, track_under};
 ghost use Rattle.ckd_drive.specs.Fields.{stage_seen, IsBegunHeld};
-ghost use Rattle.ckd_drive.specs.Calls.{Begins, Leaves, Loses, begun_at};
+ghost use Rattle.ckd_drive.specs.Calls.{Begins, Leaves, Loses, begun_at, idle_drive};
 ghost use Rattle.ckd_sense.specs.declared.sense_bytes.TheConstants.Sense.{STORE_FAULT};
 ghost use Rattle.ckd_command.specs.Answers.{moved_to};
 ghost use Rattle.ckd_command.specs.declared.registers.Registers.{Registers};
@@ -37,8 +36,8 @@ pub(crate) fn leave<S: ImageStore>(
     cylinder: u16,
     head: u16,
 ) -> Result<(), StoreFault>
-    ensures leaves { OnOk result (Leaves cache.old cache.new registers.new mark.new (moved_to registers.old cylinder head)) }
-    ensures loses { OnErr result (Loses cache.old cache.new registers.old registers.new mark.new) }
+    ensures leaves { OnOk result (Leaves cache.old (kept cache.new registers.new mark.new) (moved_to registers.old cylinder head)) }
+    ensures loses { OnErr result (Loses cache.old registers.old (kept cache.new registers.new mark.new)) }
 {
     if let Err(fault) = cache.save() {
         lose(registers);
@@ -72,9 +71,9 @@ fn start_here<S: ImageStore>(
     opened: &mut Opened,
     code: u8,
 ) -> Stage
-    requires idle { Stands cache.old registers.old mark.old Idle [] [] }
+    requires idle { Stands (idle_drive (kept cache.old registers.old mark.old)) }
     requires well { BeginsWell cache.old (track_under cache.old.image.geometry registers.old) registers.old (beginning code registers.old) }
-    ensures state { (p : Progress) → Begins cache.old cache.new registers.old registers.new mark.old mark.new (beginning code registers.old) (stage_seen registers.new opened.new p result) }
+    ensures state { (p : Progress) → Begins (kept cache.old registers.old mark.old) (kept cache.new registers.new mark.new) (beginning code registers.old) (stage_seen registers.new opened.new p result) }
     ensures begun { IsBegunHeld result }
 {
     match begin_command(code, registers) {
@@ -108,9 +107,9 @@ fn start_elsewhere<S: ImageStore>(
     opened: &mut Opened,
     code: u8,
 ) -> Stage
-    requires idle { Stands cache.old registers.old mark.old Idle [] [] }
+    requires idle { Stands (idle_drive (kept cache.old registers.old mark.old)) }
     requires well { BeginsWell cache.old (track_under cache.old.image.geometry registers.old) registers.old (beginning code registers.old) }
-    ensures state { (p : Progress) → Begins cache.old cache.new registers.old registers.new mark.old mark.new (beginning code registers.old) (stage_seen registers.new opened.new p result) }
+    ensures state { (p : Progress) → Begins (kept cache.old registers.old mark.old) (kept cache.new registers.new mark.new) (beginning code registers.old) (stage_seen registers.new opened.new p result) }
     ensures begun { IsBegunHeld result }
 {
     start_here(cache, registers, mark, opened, code)
@@ -126,9 +125,9 @@ pub(crate) fn start<S: ImageStore>(
     opened: &mut Opened,
     code: u8,
 ) -> Stage
-    requires idle { Stands cache.old registers.old mark.old Idle [] [] }
+    requires idle { Stands (idle_drive (kept cache.old registers.old mark.old)) }
     requires well { BeginsWell cache.old (track_under cache.old.image.geometry registers.old) registers.old (beginning code registers.old) }
-    ensures state { (p : Progress) → Begins cache.old cache.new registers.old registers.new mark.old mark.new (beginning code registers.old) (stage_seen registers.new opened.new p result) }
+    ensures state { (p : Progress) → Begins (kept cache.old registers.old mark.old) (kept cache.new registers.new mark.new) (beginning code registers.old) (stage_seen registers.new opened.new p result) }
     ensures begun { IsBegunHeld result }
 {
     match code {

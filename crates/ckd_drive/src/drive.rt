@@ -41,13 +41,13 @@ pub struct Drive<S: ImageStore> {
 impl<S: ImageStore> Model for Drive<S> {
     ghost use Rattle.ckd_drive.specs.Work.{DriveState};
     ghost use Rattle.ckd_drive.specs.Invariant.{state_of, Stands};
-    ghost use Rattle.ckd_drive.specs.Fields.{stage_seen};
+    ghost use Rattle.ckd_drive.specs.Fields.{parts_held};
 
     ghost Value = { DriveState };
 
-    ghost view = { λ d. state_of d.cache d.registers d.mark (stage_seen d.registers d.opened d.progress d.stage) d.before.bytes d.passed.bytes };
+    ghost view = { λ d. state_of (parts_held d.cache d.registers d.mark d.stage d.opened d.progress d.before.bytes d.passed.bytes) };
 
-    ghost invariant = { λ d. Stands d.cache d.registers d.mark (stage_seen d.registers d.opened d.progress d.stage) d.before.bytes d.passed.bytes };
+    ghost invariant = { λ d. Stands (parts_held d.cache d.registers d.mark d.stage d.opened d.progress d.before.bytes d.passed.bytes) };
 }
 
 impl<S: ImageStore> Drive<S> {

@@ -1,12 +1,11 @@
 //! A command looks for its area, and its bytes are then ready to pass.
 
-ghost use Rattle.std.specs.Prelude.{◌≡◌, [], Some, ◌<◌, List, ℕ};
+ghost use Rattle.std.specs.Prelude.{◌≡◌, Some, ◌<◌, List, ℕ};
 ghost use Rattle.ckd_command.specs.declared.tables.Aim.TheVariants.{Next, NoArea};
 ghost use Rattle.ckd_command.specs.Tables.{aim as aim_of, action_of};
-ghost use Rattle.ckd_drive.specs.Invariant.{Stands, track_under, remaining as remaining_by, AreaIsThere, AreaOf, IsFirstPlace, ReadsWhole};
+ghost use Rattle.ckd_drive.specs.Invariant.{Stands, kept, track_under, remaining as remaining_by, AreaIsThere, AreaOf, IsFirstPlace, ReadsWhole};
 ghost use Rattle.ckd_drive.specs.Fields.{stage_seen, IsLookedHeld, place_seen, IsReady};
-ghost use Rattle.ckd_drive.specs.Stage.{Looking};
-ghost use Rattle.ckd_drive.specs.Calls.{Looks, looked_at};
+ghost use Rattle.ckd_drive.specs.Calls.{Looks, looked_at, looking_drive};
 ghost use Rattle.ckd_command.specs.declared.registers.Registers.{Registers};
 ghost use Rattle.ckd_command.specs.declared.begin.Opened.{Opened};
 ghost use Rattle.ckd_track.specs.Model.{heads_of};
@@ -157,11 +156,11 @@ fn look_at_hand<S: ImageStore>(
     command: Command,
     kind: Kind,
 ) -> Stage
-    requires stands { Stands cache.old registers.old mark.old (Looking opened.old) [] [] }
+    requires stands { Stands (looking_drive (kept cache.old registers.old mark.old) opened.old) }
     requires command { command ≡ opened.old.command }
     requires aim { aim_of opened.old.command ≡ Next kind }
     requires held { cache.old.held ≡ Some (track_under cache.old.image.geometry registers.old) }
-    ensures stage { Looks cache.old cache.new registers.old registers.new mark.old mark.new opened.old (stage_seen registers.new opened.new progress.new result) }
+    ensures stage { Looks (kept cache.old registers.old mark.old) (kept cache.new registers.new mark.new) opened.old (stage_seen registers.new opened.new progress.new result) }
     ensures looked { IsLookedHeld result }
     ensures loads { cache.new.image.loads ≡ cache.old.image.loads }
 {
@@ -194,10 +193,10 @@ fn look_for_next<S: ImageStore>(
     command: Command,
     kind: Kind,
 ) -> Stage
-    requires stands { Stands cache.old registers.old mark.old (Looking opened.old) [] [] }
+    requires stands { Stands (looking_drive (kept cache.old registers.old mark.old) opened.old) }
     requires command { command ≡ opened.old.command }
     requires aim { aim_of opened.old.command ≡ Next kind }
-    ensures stage { Looks cache.old cache.new registers.old registers.new mark.old mark.new opened.old (stage_seen registers.new opened.new progress.new result) }
+    ensures stage { Looks (kept cache.old registers.old mark.old) (kept cache.new registers.new mark.new) opened.old (stage_seen registers.new opened.new progress.new result) }
     ensures looked { IsLookedHeld result }
 {
     let track = cache
@@ -220,9 +219,9 @@ fn look_here<S: ImageStore>(
     progress: &mut Progress,
     command: Command,
 ) -> Stage
-    requires stands { Stands cache.old registers.old mark.old (Looking opened.old) [] [] }
+    requires stands { Stands (looking_drive (kept cache.old registers.old mark.old) opened.old) }
     requires command { command ≡ opened.old.command }
-    ensures stage { Looks cache.old cache.new registers.old registers.new mark.old mark.new opened.old (stage_seen registers.new opened.new progress.new result) }
+    ensures stage { Looks (kept cache.old registers.old mark.old) (kept cache.new registers.new mark.new) opened.old (stage_seen registers.new opened.new progress.new result) }
     ensures looked { IsLookedHeld result }
 {
     match tables::aim_of(command) {
@@ -241,8 +240,8 @@ fn look_elsewhere<S: ImageStore>(
     opened: &mut Opened,
     progress: &mut Progress,
 ) -> Stage
-    requires { Stands cache.old registers.old mark.old (Looking opened.old) [] [] }
-    ensures stage { Looks cache.old cache.new registers.old registers.new mark.old mark.new opened.old (stage_seen registers.new opened.new progress.new result) }
+    requires { Stands (looking_drive (kept cache.old registers.old mark.old) opened.old) }
+    ensures stage { Looks (kept cache.old registers.old mark.old) (kept cache.new registers.new mark.new) opened.old (stage_seen registers.new opened.new progress.new result) }
     ensures looked { IsLookedHeld result }
 {
     let command = opened.command;
@@ -259,8 +258,8 @@ pub(crate) fn look<S: ImageStore>(
     opened: &mut Opened,
     progress: &mut Progress,
 ) -> Stage
-    requires { Stands cache.old registers.old mark.old (Looking opened.old) [] [] }
-    ensures stage { Looks cache.old cache.new registers.old registers.new mark.old mark.new opened.old (stage_seen registers.new opened.new progress.new result) }
+    requires { Stands (looking_drive (kept cache.old registers.old mark.old) opened.old) }
+    ensures stage { Looks (kept cache.old registers.old mark.old) (kept cache.new registers.new mark.new) opened.old (stage_seen registers.new opened.new progress.new result) }
     ensures looked { IsLookedHeld result }
 {
     match opened.command {

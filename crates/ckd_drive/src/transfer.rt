@@ -2,8 +2,8 @@
 
 ghost use Rattle.std.specs.Prelude.{◌≡◌, ◌≤◌, ◌<◌, ◌+◌, length, ◌-◌, ◌^◌, slice_range};
 ghost use Rattle.ckd_drive.specs.Transfers as place;
-ghost use Rattle.ckd_drive.specs.Invariant.{Works, MayTake, Absorbs, whole_of, remaining as remaining_by, field_size as size_of_field, given_on as place_given};
-ghost use Rattle.ckd_drive.specs.Fields.{closes_by, place_seen, progress_seen, IsNoSearch, MayGiveHeld};
+ghost use Rattle.ckd_drive.specs.Invariant.{MayTake, Absorbs, whole_of, remaining as remaining_by, field_size as size_of_field, given_on as place_given};
+ghost use Rattle.ckd_drive.specs.Fields.{closes_by, place_seen, half_done, IsNoSearch, MayGiveHeld};
 ghost use Rattle.ckd_command.specs.Commands.{command_end, area_ends, own_home_address};
 ghost use Rattle.std.specs.Ordering.{nat_cmp, ordering_then};
 ghost use Rattle.std.specs.Cmp.Lexicographic.{slice_cmp};
@@ -158,12 +158,10 @@ fn search<S: ImageStore>(
     window: Window,
     so_far: Ordering,
 )
-    requires works { Works cache.now registers.now before.now.bytes passed.now.bytes (progress_seen registers.now opened.now p.old) }
-    requires may { MayTake (progress_seen registers.now opened.now p.old) bytes.now }
+    requires may { MayTake (half_done cache.now registers.now before.now.bytes passed.now.bytes opened.now p.old) bytes.now }
     requires at { place_seen registers.now opened.now p.old.place ≡ place.Search window so_far }
-    ensures absorbs { Absorbs cache.now cache.now registers.now before.now.bytes before.now.bytes passed.now.bytes (progress_seen registers.now opened.now p.old) bytes.now (place_seen registers.now opened.now p.new.place) }
-    ensures moved { p.new.moved ≡ p.old.moved }
-    ensures left { p.new.left ≡ p.old.left }
+    ensures absorbs { Absorbs (half_done cache.now registers.now before.now.bytes passed.now.bytes opened.now p.old) bytes.now cache.now before.now.bytes (place_seen registers.now opened.now p.new.place) }
+    ensures stays { p.new ≡ record p.old { place = p.new.place } }
 {
     let so_far = compared(so_far, cache.buffer().bytes(), window, bytes);
     search_on(&mut p.place, behind(window, bytes.len()), so_far);
@@ -216,12 +214,10 @@ fn collect<S: ImageStore>(
     bytes: &[u8],
     field: [u8; 8],
 )
-    requires works { Works cache.old registers.now before.old.bytes passed.now.bytes (progress_seen registers.now opened.now p.old) }
-    requires may { MayTake (progress_seen registers.now opened.now p.old) bytes.now }
+    requires may { MayTake (half_done cache.old registers.now before.old.bytes passed.now.bytes opened.now p.old) bytes.now }
     requires at { place_seen registers.now opened.now p.old.place ≡ place.Field field }
-    ensures absorbs { Absorbs cache.old cache.new registers.now before.old.bytes before.new.bytes passed.now.bytes (progress_seen registers.now opened.now p.old) bytes.now (place_seen registers.now opened.now p.new.place) }
-    ensures moved { p.new.moved ≡ p.old.moved }
-    ensures left { p.new.left ≡ p.old.left }
+    ensures absorbs { Absorbs (half_done cache.old registers.now before.old.bytes passed.now.bytes opened.now p.old) bytes.now cache.new before.new.bytes (place_seen registers.now opened.now p.new.place) }
+    ensures stays { p.new ≡ record p.old { place = p.new.place } }
 {
     let field = collected(field, p.moved, bytes);
     match whole_field(opened, registers, p.moved + bytes.len(), field) {
@@ -255,12 +251,10 @@ fn fill<S: ImageStore>(
     window: Window,
     no_data: bool,
 )
-    requires works { Works cache.old registers.now before.old.bytes passed.now.bytes (progress_seen registers.now opened.now p.old) }
-    requires may { MayTake (progress_seen registers.now opened.now p.old) bytes.now }
+    requires may { MayTake (half_done cache.old registers.now before.old.bytes passed.now.bytes opened.now p.old) bytes.now }
     requires at { place_seen registers.now opened.now p.old.place ≡ place.Fill window (command_end (area_ends opened.now registers.now no_data)) }
-    ensures absorbs { Absorbs cache.old cache.new registers.now before.old.bytes before.new.bytes passed.now.bytes (progress_seen registers.now opened.now p.old) bytes.now (place_seen registers.now opened.now p.new.place) }
-    ensures moved { p.new.moved ≡ p.old.moved }
-    ensures left { p.new.left ≡ p.old.left }
+    ensures absorbs { Absorbs (half_done cache.old registers.now before.old.bytes passed.now.bytes opened.now p.old) bytes.now cache.new before.new.bytes (place_seen registers.now opened.now p.new.place) }
+    ensures stays { p.new ≡ record p.old { place = p.new.place } }
 {
     if bytes.is_empty() {
         p.place = Transfer::Fill(window, no_data);
@@ -288,12 +282,10 @@ fn fill_on<S: ImageStore>(
     window: Window,
     written: Written,
 )
-    requires works { Works cache.old registers.now before.now.bytes passed.now.bytes (progress_seen registers.now opened.now p.old) }
-    requires may { MayTake (progress_seen registers.now opened.now p.old) bytes.now }
+    requires may { MayTake (half_done cache.old registers.now before.now.bytes passed.now.bytes opened.now p.old) bytes.now }
     requires at { place_seen registers.now opened.now p.old.place ≡ place.Filled window (closes_by registers.now opened.now written) }
-    ensures absorbs { Absorbs cache.old cache.new registers.now before.now.bytes before.now.bytes passed.now.bytes (progress_seen registers.now opened.now p.old) bytes.now (place_seen registers.now opened.now p.new.place) }
-    ensures moved { p.new.moved ≡ p.old.moved }
-    ensures left { p.new.left ≡ p.old.left }
+    ensures absorbs { Absorbs (half_done cache.old registers.now before.now.bytes passed.now.bytes opened.now p.old) bytes.now cache.new before.now.bytes (place_seen registers.now opened.now p.new.place) }
+    ensures stays { p.new ≡ record p.old { place = p.new.place } }
 {
     // noted first, so that the copy is the last that is done
     p.place = Transfer::Filled(behind(window, bytes.len()), written);
@@ -311,12 +303,10 @@ fn absorb_elsewhere<S: ImageStore>(
     p: &mut Progress,
     bytes: &[u8],
 )
-    requires works { Works cache.old registers.now before.old.bytes passed.now.bytes (progress_seen registers.now opened.now p.old) }
-    requires may { MayTake (progress_seen registers.now opened.now p.old) bytes.now }
+    requires may { MayTake (half_done cache.old registers.now before.old.bytes passed.now.bytes opened.now p.old) bytes.now }
     requires elsewhere { IsNoSearch p.old.place }
-    ensures absorbs { Absorbs cache.old cache.new registers.now before.old.bytes before.new.bytes passed.now.bytes (progress_seen registers.now opened.now p.old) bytes.now (place_seen registers.now opened.now p.new.place) }
-    ensures moved { p.new.moved ≡ p.old.moved }
-    ensures left { p.new.left ≡ p.old.left }
+    ensures absorbs { Absorbs (half_done cache.old registers.now before.old.bytes passed.now.bytes opened.now p.old) bytes.now cache.new before.new.bytes (place_seen registers.now opened.now p.new.place) }
+    ensures stays { p.new ≡ record p.old { place = p.new.place } }
 {
     match p.place {
         Transfer::Field(field) => collect(
@@ -344,11 +334,9 @@ pub(crate) fn absorb<S: ImageStore>(
     p: &mut Progress,
     bytes: &[u8],
 )
-    requires works { Works cache.old registers.now before.old.bytes passed.now.bytes (progress_seen registers.now opened.now p.old) }
-    requires may { MayTake (progress_seen registers.now opened.now p.old) bytes.now }
-    ensures absorbs { Absorbs cache.old cache.new registers.now before.old.bytes before.new.bytes passed.now.bytes (progress_seen registers.now opened.now p.old) bytes.now (place_seen registers.now opened.now p.new.place) }
-    ensures moved { p.new.moved ≡ p.old.moved }
-    ensures left { p.new.left ≡ p.old.left }
+    requires may { MayTake (half_done cache.old registers.now before.old.bytes passed.now.bytes opened.now p.old) bytes.now }
+    ensures absorbs { Absorbs (half_done cache.old registers.now before.old.bytes passed.now.bytes opened.now p.old) bytes.now cache.new before.new.bytes (place_seen registers.now opened.now p.new.place) }
+    ensures stays { p.new ≡ record p.old { place = p.new.place } }
 {
     match p.place {
         Transfer::Search(window, so_far) => search(

@@ -1,32 +1,32 @@
 use Rattle.std.proofs.Common.{◌∙◌, ap, sym, refl, [], ℕ, List, slice_index_or, unwrap_or}
 use Rattle.ckd_cache.specs.Cache.{CacheState}
 use Rattle.ckd_command.specs.Drive.{is_written}
-use Rattle.ckd_drive.specs.Fields.{stage_seen}
 use Rattle.ckd_drive.specs.Work.{DriveState}
 use Rattle.ckd_drive.proofs.Calls.{changed_is, calls_of_save, calls_of_failed_save}
 use Rattle.ckd_drive.proofs.Reported.{settle_reports}
 use Rattle.ckd_drive.proofs.Settling.{settled_state, unsettled_state, unfilled}
+use Rattle.ckd_drive.proofs.Inside.{parts_in}
 use Rattle.ckd_drive.proofs.drive.Drive.settle.Goals as goal
 
 pub returns-in-Ok-clause-state : goal.returns-in-Ok-clause-state
 returns-in-Ok-clause-state g c =
     let i = c.self.inside in
     rw c.settled_mark-self-inside.ensures
-    (settled_state i.cache c.save.new.self i.registers i.mark (stage_seen i.registers i.opened i.progress i.stage) i.before.bytes i.passed.bytes c.args.self.now c.self.invariant c.self.view_is c.requires c.in-Ok.ensures.ok)
+    (settled_state (parts_in i) c.save.new.self c.args.self.now c.self.invariant c.self.view_is c.requires c.in-Ok.ensures.ok)
 
 pub returns-in-Err-clause-state : goal.returns-in-Err-clause-state
 returns-in-Err-clause-state g c =
     let i = c.self.inside in
     let left : List ℕ = slice_index_or c.save.new.self.image.slots (unwrap_or i.cache.held 0) [] in
     rw c.lose.ensures
-    (unsettled_state i.cache c.save.new.self i.registers i.mark (stage_seen i.registers i.opened i.progress i.stage) i.before.bytes i.passed.bytes left c.args.self.now c.self.invariant c.self.view_is c.requires c.in-Err.ensures.fails c.in-Err.ensures.err refl c.in-Err.ensures.size)
+    (unsettled_state (parts_in i) c.save.new.self left c.args.self.now c.self.invariant c.self.view_is c.requires c.in-Err.ensures.fails c.in-Err.ensures.err refl c.in-Err.ensures.size)
 
 pub returns-in-Ok-clause-calls : goal.returns-in-Ok-clause-calls
 returns-in-Ok-clause-calls g c =
     let i = c.self.inside in
-    let f = unfilled i.cache i.registers i.mark (stage_seen i.registers i.opened i.progress i.stage) i.before.bytes i.passed.bytes c.args.self.now c.self.invariant c.self.view_is c.requires in
+    let f = unfilled (parts_in i) c.args.self.now c.self.invariant c.self.view_is c.requires in
     calls_of_save _ _ i.cache c.args.self.now _ (ap (λ (d : DriveState). d.image) (sym c.self.view_is)) (ap (λ (d : CacheState). d.image) c.in-Ok.ensures.ok)
-    (changed_is i.cache i.registers i.mark (stage_seen i.registers i.opened i.progress i.stage) i.before.bytes i.passed.bytes c.self.invariant f ∙ ap (λ (d : DriveState). is_written d.state) c.self.view_is)
+    (changed_is (parts_in i) c.self.invariant f ∙ ap (λ (d : DriveState). is_written d.state) c.self.view_is)
 
 pub returns-in-Ok-clause-reported : goal.returns-in-Ok-clause-reported
 returns-in-Ok-clause-reported g c = settle_reports c.args.self.now _ (returns-in-Ok-clause-state g c) (returns-in-Ok-clause-calls g c)
@@ -35,9 +35,9 @@ pub returns-in-Err-clause-calls : goal.returns-in-Err-clause-calls
 returns-in-Err-clause-calls g c =
     let i = c.self.inside in
     let left : List ℕ = slice_index_or c.save.new.self.image.slots (unwrap_or i.cache.held 0) [] in
-    let f = unfilled i.cache i.registers i.mark (stage_seen i.registers i.opened i.progress i.stage) i.before.bytes i.passed.bytes c.args.self.now c.self.invariant c.self.view_is c.requires in
+    let f = unfilled (parts_in i) c.args.self.now c.self.invariant c.self.view_is c.requires in
     calls_of_failed_save _ _ i.cache left c.args.self.now _ (ap (λ (d : DriveState). d.image) (sym c.self.view_is)) (ap (λ (d : CacheState). d.image) c.in-Err.ensures.err)
-    (changed_is i.cache i.registers i.mark (stage_seen i.registers i.opened i.progress i.stage) i.before.bytes i.passed.bytes c.self.invariant f ∙ ap (λ (d : DriveState). is_written d.state) c.self.view_is) c.in-Err.ensures.fails
+    (changed_is (parts_in i) c.self.invariant f ∙ ap (λ (d : DriveState). is_written d.state) c.self.view_is) c.in-Err.ensures.fails
 
 pub returns-in-Err-clause-reported : goal.returns-in-Err-clause-reported
 returns-in-Err-clause-reported g c = settle_reports c.args.self.now _ (returns-in-Err-clause-state g c) (returns-in-Err-clause-calls g c)
