@@ -1,7 +1,7 @@
 #!/usr/bin/env python3
 """Refuses the built programs each taking of memory in turn, alone, and looks at what comes back.
 
-`refused_memory` makes each call of the libraries that takes memory: a call of which a taking is refused says that there is no
+`test_refused_memory` makes each call of the libraries that takes memory: a call of which a taking is refused says that there is no
 memory, has left all as it was, and comes out right when it is made again. `dasd` prints `dasd: out of memory` and ends with
 status 1, with a front of what it prints otherwise, and no file is changed or left.
 
@@ -99,10 +99,10 @@ def places(text, noted):
 
 
 def check_calls(program):
-    """Refuses each taking of the calls of `refused_memory`, and around them; how many were tried, and how many came out wrong."""
+    """Refuses each taking of the calls of `test_refused_memory`, and around them; how many were tried, and how many came out wrong."""
     status, right, faults, _, noted = program.run([], None, 0)
     if status or faults or set(it[2] for it in CALL.finditer(right)) != {"right"}:
-        sys.exit(f"refuse_memory.py: refused_memory without a refusal: status {status}\n{right}{faults}")
+        sys.exit(f"refuse_memory.py: test_refused_memory without a refusal: status {status}\n{right}{faults}")
     total, wrong = noted[-1][0], 0
     calls = places(right, noted)
     tallies = {name: 0 for name in calls}
@@ -118,7 +118,7 @@ def check_calls(program):
             is_right = status == 0 and not faults and text == said
         if not is_right:
             wrong += 1
-            print(f"refused_memory, taking {number}, in {name}: status {status}\n{text}{faults}")
+            print(f"test_refused_memory, taking {number}, in {name}: status {status}\n{text}{faults}")
     for name, tried in tallies.items():
         print(f"{name}: {tried} takings")
     around = total - sum(tallies.values())
@@ -148,7 +148,7 @@ def main():
     parser = argparse.ArgumentParser(description=__doc__, formatter_class=argparse.RawDescriptionHelpFormatter)
     parser.add_argument("--built", metavar="FOLDER", help="the folder of the built programs")
     built = parser.parse_args().built
-    paths = [str(Path(built or f"{TOP}/crates/{it}/out", it).resolve()) for it in ("refused_memory", "dasd_cmd")]
+    paths = [str(Path(built or f"{TOP}/crates/{it}/out", it).resolve()) for it in ("test_refused_memory", "dasd_cmd")]
     for path in paths:
         if not os.path.isfile(path):
             sys.exit(f"refuse_memory.py: there is no {path}: rt run in its crate builds it")
