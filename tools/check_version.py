@@ -1,0 +1,43 @@
+#!/usr/bin/env python3
+"""Compares every copy of the version with the file VERSION, which is the one place where it stands.
+
+A copy is a line of a file that a pattern finds: the program's word for --version, the C header, packages, README.md and the newest heading of
+CHANGELOG.md. A file that has no such line is as wrong as one with another version. Prints each copy that is wrong; the last line is
+'N copies of the version, M wrong', and the status 1 where M is not 0.
+"""
+
+import re
+import sys
+from pathlib import Path
+
+TOP = Path(__file__).resolve().parent.parent
+
+# Where the version is shown, and the pattern of the line there; the first line that fits is the copy.
+COPIES = {
+    "README.md": r"^Version (\S+)\.$",
+    "CHANGELOG.md": r"^## (\S+)$",
+    "crates/dasd_words/src/commands.rt": r'\.version\("([^"]*)"\)',
+    "crates/test_dasd_rows/stdin": r"^< dasd (\S+)$",
+}
+
+
+def copy_in(path, pattern):
+    """The version that a file shows, or None."""
+    found = re.search(pattern, path.read_text(encoding="utf-8"), re.MULTILINE)
+    return found and found.group(1)
+
+
+def main():
+    version = (TOP / "VERSION").read_text(encoding="utf-8").strip()
+    wrong = 0
+    for name, pattern in COPIES.items():
+        shown = copy_in(TOP / name, pattern)
+        if shown != version:
+            print(f"{name}: {shown or 'no version'}, and VERSION has {version}")
+            wrong += 1
+    print(f"{len(COPIES)} copies of the version, {wrong} wrong")
+    return 1 if wrong else 0
+
+
+if __name__ == "__main__":
+    sys.exit(main())
