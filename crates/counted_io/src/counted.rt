@@ -1,0 +1,89 @@
+//! A reader or a writer whose failures are counted.
+
+ghost use Rattle.std.specs.Prelude.{◌≡◌};
+ghost use Rattle.std.specs.Io.{ReadsAtMost, WritesAtMost};
+ghost use Rattle.std.specs.Io.KnownBytes.{Keeps, ReadConsumes, WriteAppends};
+ghost use Rattle.counted_io.specs.Failures.{CountsCall, CountsWrite};
+
+use ghost_data::Count;
+use std::io::{Read, Result, Write};
+
+/// A reader or a writer, and how many of its calls failed since the count began. The count takes no memory and no code: only
+/// contracts read it, so that they can say that a fault comes exactly where a call failed.
+///
+/// A read or a flush fails where it answers an error; a write fails where it answers an error, or takes no byte of some.
+#[derive(Drop)]
+pub struct Counted<T> {
+    /// The reader or writer itself.
+    pub inner: T,
+    /// How many of its calls failed.
+    pub failures: Count,
+}
+
+impl<T> Counted<T> {
+    /// This reader or writer, of which no call has failed yet.
+    pub fn new(inner: T) -> Counted<T>
+        ensures inner { result.inner ≡ inner }
+        ensures none { result.failures ≡ 0 }
+    {
+        Counted {
+            inner,
+            failures: Count::new(),
+        }
+    }
+
+    /// The reader or writer itself.
+    pub fn into_inner(self) -> T
+        ensures { result ≡ self.inner }
+    {
+        let Counted { inner, failures: _ } = self;
+        inner
+    }
+}
+
+impl<R: Read> Read for Counted<R> {
+    ghost remaining = { λ c. R.remaining c.inner };
+
+    fn read(&mut self, into: &mut [u8]) -> Result<usize>
+        ensures bound { ReadsAtMost result into.new }
+        ensures bytes { ReadConsumes (R.remaining self.old.inner) (R.remaining self.new.inner) result into.new }
+        ensures counted { CountsCall self.old.failures self.new.failures result }
+    {
+        let read = self.inner.read(into);
+        if read.is_err() {
+            self.failures = self.failures.next();
+        }
+        read
+    }
+}
+
+impl<W: Write> Write for Counted<W> {
+    ghost contents = { λ c. W.contents c.inner };
+
+    fn write(&mut self, bytes: &[u8]) -> Result<usize>
+        ensures bound { WritesAtMost result bytes.now }
+        ensures bytes { WriteAppends (W.contents self.old.inner) (W.contents self.new.inner) result bytes.now }
+        ensures counted { CountsWrite self.old.failures self.new.failures result bytes.now }
+    {
+        let written = self.inner.write(bytes);
+        let failed = match &written {
+            Ok(count) => *count == 0 && !bytes.is_empty(),
+            Err(_) => true,
+        };
+        if failed {
+            self.failures = self.failures.next();
+        }
+        written
+    }
+
+    fn flush(&mut self) -> Result<()>
+        ensures bytes { Keeps (W.contents self.old.inner) (W.contents self.new.inner) }
+        ensures counted { CountsCall self.old.failures self.new.failures result }
+    {
+        let flushed = self.inner.flush();
+        if flushed.is_err() {
+            self.failures = self.failures.next();
+        }
+        flushed
+    }
+}

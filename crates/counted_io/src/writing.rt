@@ -1,0 +1,33 @@
+//! Bytes are written whole.
+
+ghost use Rattle.counted_io.specs.Failures.{WritesWhole};
+
+use crate::counted::Counted;
+use std::io::Write;
+use thiserror::Error;
+
+/// A write failed, or took no byte.
+#[derive(Clone, Copy, Debug, PartialEq, Eq, Error)]
+#[error("write fault")]
+pub struct WriteFault;
+
+/// Writes all these bytes. It goes on where a write takes some of them.
+///
+/// # Errors
+///
+/// A write failed, or took no byte: it is the last, and the first bytes may be written.
+pub fn write_whole<W: Write>(writer: &mut Counted<W>, bytes: &[u8]) -> Result<(), WriteFault>
+    ensures { WritesWhole result (W.contents writer.old.inner) (W.contents writer.new.inner) writer.old.failures writer.new.failures bytes.now }
+{
+    let mut rest = bytes;
+    while !rest.is_empty() {
+        let Ok(count) = writer.write(rest) else {
+            return Err(WriteFault);
+        };
+        if count == 0 {
+            return Err(WriteFault);
+        }
+        rest = &rest[count..];
+    }
+    Ok(())
+}
