@@ -1,5 +1,5 @@
 -- What is printed of a volume. Hexadecimal digits are capitals.
-use Rattle.std.specs.Prelude.{ℕ, zero, suc, ◌-◌, ◌^◌, min, List, [], ◌∷◌, ◌++◌, true, length, replicate, codes, Result, Ok, Err}
+use Rattle.std.specs.Prelude.{ℕ, ◌-◌, ◌^◌, min, List, [], ◌∷◌, ◌++◌, true, length, replicate, codes, Result, Ok, Err}
 use Rattle.std.specs.List.{flat_map, concat}
 use Rattle.std.specs.Fmt.{digits, decimal}
 use Rattle.ckd_track.specs.declared.model.DriveModel.{DriveModel}

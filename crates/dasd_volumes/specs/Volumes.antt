@@ -1,5 +1,5 @@
--- What is printed of whole volumes, and what is left of an image that was read for it.
-use Rattle.std.specs.Prelude.{◌≡◌, ℕ, zero, suc, ◌+◌, List, [], ◌∷◌, ◌++◌, length, slice_index_or, codes, Result, Ok, Err}
+-- What is printed of whole volumes.
+use Rattle.std.specs.Prelude.{◌≡◌, ℕ, zero, suc, List, [], ◌∷◌, ◌++◌, length, slice_index_or, codes, Some, Result, Ok, Err}
 use Rattle.std.specs.List.{flat_map, concat}
 use Rattle.std.specs.Fmt.{decimal}
 use Rattle.ckd_track.specs.declared.geometries.Geometry.{Geometry}
@@ -7,9 +7,7 @@ use Rattle.ckd_track.specs.declared.fault.SlotFault.{SlotFault}
 use Rattle.ckd_track.specs.Model.{heads_of}
 use Rattle.ckd_track.specs.Geometry.{track_at}
 use Rattle.ckd_track.specs.Track.{Track, track_of}
-use Rattle.ckd_image.specs.Image.{ImageState}
-use Rattle.dasd_volumes.specs.declared.fault.VolumeFault.{VolumeFault}
-use Rattle.dasd_volumes.specs.declared.fault.VolumeFault.TheVariants.{Store}
+use Rattle.dasd_volumes.specs.Reading.{KnownVolume}
 use Rattle.dasd_volumes.specs.Lines.{address_text, fault_text, line_feed, volume_line, track_lines}
 
 -- what there is of 0, of 1 and so on, of so many numbers
@@ -23,12 +21,12 @@ track_seen g slots cylinder head = track_of (slice_index_or slots (track_at g cy
 
 -- Lists.
 
-abbrev pub cylinder_text : Geometry → (slots : List (List ℕ)) → (cylinder : ℕ) → List ℕ
-cylinder_text g slots cylinder = of_each (λ head. track_lines g.model cylinder head (track_seen g slots cylinder head)) (heads_of g.model)
+abbrev pub cylinder_text : (cylinder : ℕ) → Geometry → (slots : List (List ℕ)) → List ℕ
+cylinder_text cylinder g slots = of_each (λ head. track_lines g.model cylinder head (track_seen g slots cylinder head)) (heads_of g.model)
 
 -- what a list prints of a volume: its first line, and the lines of each track, cylinder by cylinder and head by head
 abbrev pub volume_text : Geometry → (slots : List (List ℕ)) → List ℕ
-volume_text g slots = volume_line g ++ of_each (cylinder_text g slots) g.cylinders
+volume_text g slots = volume_line g ++ of_each (λ cylinder. cylinder_text cylinder g slots) g.cylinders
 
 -- Checks.
 
@@ -55,14 +53,22 @@ finding_line f = concat (address_text f.cylinder f.head ∷ codes " " ∷ fault_
 abbrev pub finding_lines : List Finding → List ℕ
 finding_lines findings = flat_map finding_line findings
 
+abbrev pub lines_on : (cylinder : ℕ) → Geometry → (slots : List (List ℕ)) → List ℕ
+lines_on cylinder g slots = finding_lines (findings_on g slots cylinder)
+
+abbrev pub lines_in : Geometry → (slots : List (List ℕ)) → List ℕ
+lines_in g slots = finding_lines (findings_in g slots)
+
 -- what a check prints: a line for each finding, and how many there are
 abbrev pub findings_text : List Finding → List ℕ
 findings_text findings = finding_lines findings ++ concat (decimal (length findings) ∷ codes " findings" ∷ line_feed ∷ [])
 
--- Images.
+abbrev pub check_text : Geometry → (slots : List (List ℕ)) → List ℕ
+check_text g slots = findings_text (findings_in g slots)
 
--- An image was only read: all but the numbers of its loads and failures stays, and a failure is counted exactly where a fault of
--- the store is reported.
-abbrev pub IsRead : {A : Type 0} → Result A VolumeFault → (before now : ImageState) → Type 0
-IsRead (Err Store) before now = now ≡ record before { loads = now.loads; failures = before.failures + 1 }
-IsRead result before now = now ≡ record before { loads = now.loads }
+-- so many tracks of a cylinder, or of the whole volume, can't be read, if its slots are known
+abbrev pub NumberOn : (cylinder : ℕ) → KnownVolume → ℕ → Type 0
+NumberOn cylinder v n = (slots : List (List ℕ)) → v.slots ≡ Some slots → n ≡ length (findings_on v.geometry slots cylinder)
+
+abbrev pub NumberIn : KnownVolume → ℕ → Type 0
+NumberIn v n = (slots : List (List ℕ)) → v.slots ≡ Some slots → n ≡ length (findings_in v.geometry slots)

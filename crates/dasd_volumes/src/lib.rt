@@ -6,9 +6,11 @@ mod checks;
 mod fault;
 mod lists;
 mod progress;
+mod reading;
 mod text;
 
 pub use crate::checks::check;
 pub use crate::fault::VolumeFault;
 pub use crate::lists::list;
 pub use crate::progress::{Progress, Stage, is_large};
+pub use crate::reading::SlotReader;

@@ -1,44 +1,46 @@
 //! A volume's tracks and records.
 
-ghost use Rattle.std.specs.Prelude.{◌≡◌, ◌++◌, ◌<◌, length, OnOk};
+ghost use Rattle.std.specs.Prelude.{◌≡◌, ◌≢◌, ◌++◌, ◌<◌, length, OnOk, IfErr};
 ghost use Rattle.std.specs.List.{flat_map};
-ghost use Rattle.std.specs.Io.KnownBytes.{Appends};
+ghost use Rattle.std.specs.Io.KnownBytes.{Appends, Keeps};
 ghost use Rattle.ckd_track.specs.Track.{track_of, record_in};
 ghost use Rattle.dasd_volumes.specs.Lines.{volume_line, track_line, record_line, track_lines};
-ghost use Rattle.dasd_volumes.specs.Volumes.{cylinder_text, volume_text, IsRead};
+ghost use Rattle.dasd_volumes.specs.Reading.{Prints, IsRead};
+ghost use Rattle.dasd_volumes.specs.Volumes.{cylinder_text, volume_text};
 
 use crate::fault::VolumeFault;
+use crate::reading::SlotReader;
 use crate::text::{Hexadecimal, Reason, TrackAddress, model_number};
-use ckd_image::{Image, ImageStore};
 use ckd_track::{Geometry, TrackView, read_slot, used};
 use std::alloc::Global;
 use std::io::Write;
 
-/// Prints the volume of an image: its model, cylinders, heads and slot size; then each track with its home address, its
+/// Prints a volume: its model, cylinders, heads and slot size; then each track with its home address, its
 /// records and the bytes of the track that they take; and each record with its identifier, key length and data length. A
 /// track that can't be read is one line, with why.
 ///
 /// # Errors
 ///
-/// Where a read or a write fails, or there is no memory for a slot, what was printed before stays.
-pub fn list<S: ImageStore, W: Write>(
+/// There is no memory for a slot, before anything is printed; or a read or a write fails: what was printed before stays.
+pub fn list<V: SlotReader, W: Write>(
     alloc: Global,
-    image: &mut Image<S>,
+    volume: &mut V,
     writer: &mut W,
 ) -> Result<(), VolumeFault>
-    ensures lines { OnOk result (Appends (W.contents writer.old) (W.contents writer.new)
-        (volume_text image.old.geometry image.old.slots)) }
-    ensures image { IsRead result image.old image.new }
+    ensures lines { OnOk result
+        (Prints volume_text (V.volume volume.old) (W.contents writer.old) (W.contents writer.new)) }
+    ensures none { IfErr result (λ e. e ≡ VolumeFault.OutOfMemory → Keeps (W.contents writer.old) (W.contents writer.new)) }
+    ensures volume { IsRead result (V.volume volume.old) (V.volume volume.new) (V.failures volume.old) (V.failures volume.new) }
 {
-    let geometry = image.geometry();
-    if list_geometry(writer, geometry).is_err() {
-        return Err(VolumeFault::Write);
-    }
+    let geometry = volume.geometry();
     let Ok(mut slot) = vec![in alloc; 0u8; geometry.track_size as usize] else {
         return Err(VolumeFault::OutOfMemory);
     };
+    if list_geometry(writer, geometry).is_err() {
+        return Err(VolumeFault::Write);
+    }
     for cylinder in 0..geometry.cylinders {
-        if let Err(fault) = list_cylinder(image, writer, slot.as_mut_slice(), cylinder) {
+        if let Err(fault) = list_cylinder(volume, writer, slot.as_mut_slice(), cylinder) {
             return Err(fault);
         }
     }
@@ -63,22 +65,26 @@ fn list_geometry<W: Write>(writer: &mut W, geometry: Geometry) -> std::io::Resul
 }
 
 // The lines of one cylinder's tracks, each of which is loaded into the slot.
-fn list_cylinder<S: ImageStore, W: Write>(
-    image: &mut Image<S>,
+fn list_cylinder<V: SlotReader, W: Write>(
+    volume: &mut V,
     writer: &mut W,
     slot: &mut [u8],
     cylinder: u16,
 ) -> Result<(), VolumeFault>
-    requires exists { cylinder < image.old.geometry.cylinders }
-    requires size { length slot.old ≡ image.old.geometry.track_size }
-    ensures lines { OnOk result (Appends (W.contents writer.old) (W.contents writer.new)
-        (cylinder_text image.old.geometry image.old.slots cylinder)) }
-    ensures image { IsRead result image.old image.new }
+    requires exists { cylinder < (V.volume volume.old).geometry.cylinders }
+    requires size { length slot.old ≡ (V.volume volume.old).geometry.track_size }
+    ensures lines { OnOk result
+        (Prints (cylinder_text cylinder) (V.volume volume.old) (W.contents writer.old) (W.contents writer.new)) }
+    ensures memory { IfErr result (λ e. e ≢ VolumeFault.OutOfMemory) }
+    ensures volume { IsRead result (V.volume volume.old) (V.volume volume.new) (V.failures volume.old) (V.failures volume.new) }
     ensures size { length slot.new ≡ length slot.old }
 {
-    let geometry = image.geometry();
+    let geometry = volume.geometry();
     for head in 0..geometry.model.heads() {
-        if image.load(geometry.track_at(cylinder, head), slot).is_err() {
+        if volume
+            .load(geometry.track_at(cylinder, head), slot)
+            .is_err()
+        {
             return Err(VolumeFault::Store);
         }
         let address = TrackAddress { cylinder, head };

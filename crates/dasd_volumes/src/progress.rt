@@ -1,6 +1,6 @@
 //! How far a long job has come.
 
-ghost use Rattle.std.specs.Prelude.{◌≡◌};
+ghost use Rattle.std.specs.Prelude.{◌≡◌, Bool, false};
 ghost use Rattle.dasd_volumes.specs.Sizes.{takes_long};
 
 use ckd_track::Geometry;
@@ -34,11 +34,15 @@ impl fmt::Display for Stage {
 
 /// A line that shows what a job is about while it goes on, beside what it prints.
 pub trait Progress {
+    // whether the line shows something
+    ghost is_shown: { Self → Bool } = { λ _. false };
+
     /// The line shows this from now on.
     fn show(&mut self, stage: Stage);
 
     /// The line shows nothing from now on.
-    fn clear(&mut self);
+    fn clear(&mut self)
+        ensures { is_shown self.new ≡ false };
 }
 
 /// Whether a job over the tracks of a volume takes long enough to be shown: their slots are more than 4 MiB.

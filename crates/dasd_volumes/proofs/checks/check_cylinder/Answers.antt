@@ -5,18 +5,27 @@ use Rattle.dasd_volumes.proofs.checks.check_cylinder.Goals as goal
 
 pub loop-head-init : goal.loop-head-init
 loop-head-init g c = record {
-  number = no_number _;
+  number = λ slots known. no_number _;
   few = search (rules, tests);
-  lines = no_lines _ _ _;
-  image = refl;
+  lines = λ slots known. no_lines _ _ _;
+  volume = refl;
+  failures = refl;
   size = search (rules, tests);
 }
 
 pub loop-head-preserved : goal.loop-head-preserved
 loop-head-preserved g c = record {
-  number = more_number _ c.loop-head.head _ _ c.loop-head.invariant.number (search (rules, tests));
+  number = λ slots known. more_number _ c.loop-head.head _ _ (c.loop-head.invariant.number slots known) (search (rules, tests));
   few = search (rules, tests);
-  lines = more_lines finding_line _ _ _ _ c.loop-head.head c.loop-head.invariant.lines (search (rules, tests));
-  image = search (rules, tests);
+  lines = λ slots known. more_lines finding_line _ _ _ _ c.loop-head.head (c.loop-head.invariant.lines slots known) (search (rules, tests));
+  volume = search (rules, tests);
+  failures = search (rules, tests);
   size = search (rules, tests);
 }
+
+-- each head is passed
+pub returns-clause-number : goal.returns-clause-number
+returns-clause-number g c = λ slots known. let is = c.loop-head.invariant.number slots known in search (rules, tests, is)
+
+pub returns-clause-lines : goal.returns-clause-lines
+returns-clause-lines g c = λ slots known. let are = c.loop-head.invariant.lines slots known in search (rules, tests, are)

@@ -1,14 +1,18 @@
-use Rattle.std.proofs.Common.{◌≡◌, length}
+use Rattle.std.proofs.Common.{◌≡◌, List, ℕ, Some, length}
 use Rattle.std.specs.Io.KnownBytes.{Appends}
 use Rattle.dasd_volumes.specs.Lines.{track_lines}
 use Rattle.dasd_volumes.specs.Volumes.{of_each, track_seen}
 use Rattle.dasd_volumes.proofs.lists.list_cylinder.Given as goal
 
--- the heads so far are written; the image stays, and the slot keeps its length
+-- the heads so far are written; the volume stays, and the slot keeps its length
 abbrev pub invariant-loop-head : goal.invariant-loop-head
-invariant-loop-head g l = let i = l.fn.image in record {
-  lines : Appends (g.W.Write.contents l.fn.writer) (g.W.Write.contents l.writer)
-      (of_each (λ head. track_lines i.geometry.model l.cylinder head (track_seen i.geometry i.slots l.cylinder head)) l.head);
-  image : l.image ≡ record i { loads = l.image.loads };
-  size : length l.slot ≡ i.geometry.track_size;
-}
+invariant-loop-head g l =
+    let before = g.V.SlotReader.volume l.fn.volume in
+    let i = before.geometry in record {
+      lines : (slots : List (List ℕ)) → before.slots ≡ Some slots
+          → Appends (g.W.Write.contents l.fn.writer) (g.W.Write.contents l.writer)
+          (of_each (λ head. track_lines i.model l.cylinder head (track_seen i slots l.cylinder head)) l.head);
+      volume : g.V.SlotReader.volume l.volume ≡ before;
+      failures : g.V.SlotReader.failures l.volume ≡ g.V.SlotReader.failures l.fn.volume;
+      size : length l.slot ≡ i.track_size;
+    }
