@@ -50,15 +50,20 @@ pub(crate) fn store_program<S: ImageStore>(
     channel.poke(CAW_ADDRESS, &at.to_be_bytes())
 }
 
-/// A program that writes records 1 and 2 of a new track, from 600 and 608. Each count area stands by itself, and its data is chained.
-pub(crate) fn store_two_writes<S: ImageStore>(
-    channel: &mut Channel<S>,
-) -> Result<(), OutsideStorage> {
+/// Where the identifier of R0 stands, and the count areas and the data of two records.
+fn poke_records<S: ImageStore>(channel: &mut Channel<S>) -> Result<(), OutsideStorage> {
     channel.poke(0x500, &[0, 0, 0, 0, 0])?;
     channel.poke(0x508, &[0, 0, 0, 0, 1, 0, 0, 8])?;
     channel.poke(0x510, &[0, 0, 0, 0, 2, 0, 0, 8])?;
     channel.poke(0x600, &[0xF0, 0xF1, 0xF2, 0xF3, 0xF4, 0xF5, 0xF6, 0xF7])?;
-    channel.poke(0x608, &[0xC1, 0xC2, 0xC3, 0xC4, 0xC5, 0xC6, 0xC7, 0xC8])?;
+    channel.poke(0x608, &[0xC1, 0xC2, 0xC3, 0xC4, 0xC5, 0xC6, 0xC7, 0xC8])
+}
+
+/// A program that writes records 1 and 2 of a new track behind R0. Each count area stands by itself, and its data is chained.
+pub(crate) fn store_two_writes<S: ImageStore>(
+    channel: &mut Channel<S>,
+) -> Result<(), OutsideStorage> {
+    poke_records(channel)?;
     store_program(
         channel,
         0x400,
