@@ -1,0 +1,5 @@
+use Rattle.text_lines.proofs.digits.+put_digits.Given as goal
+
+-- how many digits are left
+abbrev pub decreases-put_digits : goal.decreases-put_digits
+decreases-put_digits l = l.most
