@@ -1,0 +1,89 @@
+#!/usr/bin/env python3
+"""Tests of check_documents.py and check_version.py, over a small repository that is made for each: `tools/test_checks.py`."""
+
+import contextlib
+import io
+import sys
+import tempfile
+import unittest
+from pathlib import Path
+
+sys.dont_write_bytecode = True
+sys.path.insert(0, str(Path(__file__).resolve().parent))
+
+import check_documents
+import check_version
+
+PAGES = {
+    "crates.txt": "# crates\nlow:\n",
+    "VERSION": "2.3.4\n",
+    "README.md": "Version 2.3.4.\n\n[the map](docs/MAP.md)\n",
+    "CHANGELOG.md": "# Changes\n\n## 2.3.4\n\n## 2.3.3\n",
+    "docs/MAP.md": "| Crate |\n|---|\n| `low` |\n\n## Which definitions live where\n\n| a word | `low/specs/Word.antt`, `Other.antt` |\n",
+    "crates/low/README.md": "# `low`\n\n| Proved | By |\n|---|---|\n| a word | `read`, `Word::read` in `src/lib.rt` |\n",
+    "crates/low/src/lib.rt": "pub fn read() {}\n",
+    "crates/low/specs/Word.antt": "",
+    "crates/low/specs/Other.antt": "",
+}
+COPIES = {"README.md": check_version.COPIES["README.md"], "CHANGELOG.md": check_version.COPIES["CHANGELOG.md"]}
+
+
+class Checks(unittest.TestCase):
+    """What each script prints of a repository in which one file is another."""
+
+    def run_check(self, script, changed):
+        with tempfile.TemporaryDirectory() as folder:
+            for name, text in {**PAGES, **changed}.items():
+                page = Path(folder, name)
+                page.parent.mkdir(parents=True, exist_ok=True)
+                if text is not None:
+                    page.write_text(text, encoding="utf-8")
+            printed = io.StringIO()
+            script.TOP = Path(folder)
+            with contextlib.redirect_stdout(printed):
+                status = script.main()
+            return status, printed.getvalue().splitlines()
+
+    def finds(self, script, changed, *lines):
+        status, printed = self.run_check(script, changed)
+        self.assertEqual(printed[:-1], list(lines))
+        self.assertTrue(printed[-1].endswith(f", {len(lines)} wrong"), printed[-1])
+        self.assertEqual(status, 1 if lines else 0)
+
+    def test_sound_documents(self):
+        self.finds(check_documents, {})
+
+    def test_crate_without_page_and_row(self):
+        self.finds(check_documents, {"crates.txt": "low:\nhigh: low\n"}, "crates/high: no README.md", "docs/MAP.md: no row of high")
+
+    def test_long_first_page(self):
+        self.finds(check_documents, {"README.md": "x" * 7169}, "README.md has 7169 bytes, more than 7168")
+
+    def test_link_to_nothing(self):
+        self.finds(check_documents, {"README.md": "[times](docs/TIMES.md)\n"}, "README.md: nothing at docs/TIMES.md")
+
+    def test_files_that_are_not_there(self):
+        self.finds(
+            check_documents,
+            {"crates/low/specs/Word.antt": None, "crates/low/specs/Other.antt": None},
+            "docs/MAP.md: no file crates/low/specs/Word.antt",
+            "docs/MAP.md: no file crates/low/specs/Other.antt",
+        )
+
+    def test_name_that_is_not_the_crates(self):
+        self.finds(
+            check_documents,
+            {"crates/low/src/lib.rt": "pub fn write() {}\n"},
+            "crates/low/README.md: read is no name of the crate",
+            "crates/low/README.md: Word::read is no name of the crate",
+        )
+
+    def test_versions(self):
+        check_version.COPIES = COPIES
+        self.finds(check_version, {})
+        self.finds(check_version, {"README.md": "Version 2.3.3.\n"}, "README.md: 2.3.3, and VERSION has 2.3.4")
+        self.finds(check_version, {"README.md": "\n"}, "README.md: no version, and VERSION has 2.3.4")
+
+
+if __name__ == "__main__":
+    unittest.main()
