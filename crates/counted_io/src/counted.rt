@@ -1,33 +1,38 @@
-//! A reader or a writer whose failures are counted.
+//! A reader or a writer of which contracts know what passed, and how often a call failed.
 
-ghost use Rattle.std.specs.Prelude.{◌≡◌};
+ghost use Rattle.std.specs.Prelude.{◌≡◌, []};
 ghost use Rattle.std.specs.Io.{ReadsAtMost, WritesAtMost};
 ghost use Rattle.std.specs.Io.KnownBytes.{Keeps, ReadConsumes, WriteAppends};
-ghost use Rattle.counted_io.specs.Failures.{CountsCall, CountsWrite};
+ghost use Rattle.counted_io.specs.Calls.{CountsCall, CountsWrite, PassesTaken};
 
-use ghost_data::Count;
+use ghost_data::{Count, Trace};
 use std::io::{Read, Result, Write};
 
-/// A reader or a writer, and how many of its calls failed since the count began. The count takes no memory and no code: only
-/// contracts read it, so that they can say that a fault comes exactly where a call failed.
+/// A reader or a writer, the bytes that passed since it was made, and how many of its calls failed. Only contracts read these two;
+/// they take no memory and no code. With them a contract can say that a fault comes exactly where a call failed, and what was read
+/// of a reader of whose bytes nothing is known.
 ///
 /// A read or a flush fails where it answers an error; a write fails where it answers an error, or takes no byte of some.
 #[derive(Drop)]
 pub struct Counted<T> {
     /// The reader or writer itself.
     pub inner: T,
+    /// The bytes that it gave, or that it took.
+    pub passed: Trace,
     /// How many of its calls failed.
     pub failures: Count,
 }
 
 impl<T> Counted<T> {
-    /// This reader or writer, of which no call has failed yet.
+    /// This reader or writer: nothing has passed, and no call has failed.
     pub fn new(inner: T) -> Counted<T>
         ensures inner { result.inner ≡ inner }
-        ensures none { result.failures ≡ 0 }
+        ensures passed { result.passed.bytes ≡ [] }
+        ensures failures { result.failures ≡ 0 }
     {
         Counted {
             inner,
+            passed: Trace::new(),
             failures: Count::new(),
         }
     }
@@ -36,7 +41,11 @@ impl<T> Counted<T> {
     pub fn into_inner(self) -> T
         ensures { result ≡ self.inner }
     {
-        let Counted { inner, failures: _ } = self;
+        let Counted {
+            inner,
+            passed: _,
+            failures: _,
+        } = self;
         inner
     }
 }
@@ -47,11 +56,13 @@ impl<R: Read> Read for Counted<R> {
     fn read(&mut self, into: &mut [u8]) -> Result<usize>
         ensures bound { ReadsAtMost result into.new }
         ensures bytes { ReadConsumes (R.remaining self.old.inner) (R.remaining self.new.inner) result into.new }
+        ensures passed { PassesTaken self.old.passed.bytes self.new.passed.bytes result into.new }
         ensures counted { CountsCall self.old.failures self.new.failures result }
     {
         let read = self.inner.read(into);
-        if read.is_err() {
-            self.failures = self.failures.next();
+        match &read {
+            Ok(count) => self.passed = self.passed.and(&into[..*count]),
+            Err(_) => self.failures = self.failures.next(),
         }
         read
     }
@@ -63,11 +74,15 @@ impl<W: Write> Write for Counted<W> {
     fn write(&mut self, bytes: &[u8]) -> Result<usize>
         ensures bound { WritesAtMost result bytes.now }
         ensures bytes { WriteAppends (W.contents self.old.inner) (W.contents self.new.inner) result bytes.now }
+        ensures passed { PassesTaken self.old.passed.bytes self.new.passed.bytes result bytes.now }
         ensures counted { CountsWrite self.old.failures self.new.failures result bytes.now }
     {
         let written = self.inner.write(bytes);
         let failed = match &written {
-            Ok(count) => *count == 0 && !bytes.is_empty(),
+            Ok(count) => {
+                self.passed = self.passed.and(&bytes[..*count]);
+                *count == 0 && !bytes.is_empty()
+            }
             Err(_) => true,
         };
         if failed {
@@ -78,6 +93,7 @@ impl<W: Write> Write for Counted<W> {
 
     fn flush(&mut self) -> Result<()>
         ensures bytes { Keeps (W.contents self.old.inner) (W.contents self.new.inner) }
+        ensures passed { self.new.passed.bytes ≡ self.old.passed.bytes }
         ensures counted { CountsCall self.old.failures self.new.failures result }
     {
         let flushed = self.inner.flush();

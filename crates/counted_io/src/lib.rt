@@ -1,4 +1,4 @@
-//! A reader or a writer whose failures are counted, for contracts alone; and writes of whole texts.
+//! A reader or a writer of which contracts know what passed, and how often a call failed; and writes of whole texts.
 #![tactic(auto)]
 
 mod counted;

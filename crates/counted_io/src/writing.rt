@@ -1,6 +1,6 @@
 //! Bytes are written whole.
 
-ghost use Rattle.counted_io.specs.Failures.{WritesWhole};
+ghost use Rattle.counted_io.specs.Streams.{seen_by, WritesWhole};
 
 use crate::counted::Counted;
 use std::io::Write;
@@ -17,7 +17,7 @@ pub struct WriteFault;
 ///
 /// A write failed, or took no byte: it is the last, and the first bytes may be written.
 pub fn write_whole<W: Write>(writer: &mut Counted<W>, bytes: &[u8]) -> Result<(), WriteFault>
-    ensures { WritesWhole result (W.contents writer.old.inner) (W.contents writer.new.inner) writer.old.failures writer.new.failures bytes.now }
+    ensures { WritesWhole result (seen_by W.contents writer.old) (seen_by W.contents writer.new) bytes.now }
 {
     let mut rest = bytes;
     while !rest.is_empty() {
