@@ -14,3 +14,4 @@ pub use crate::fault::VolumeFault;
 pub use crate::lists::list;
 pub use crate::progress::{Progress, Stage, is_large};
 pub use crate::reading::SlotReader;
+pub use crate::text::{Hexadecimal, Reason, TrackAddress};

@@ -8,7 +8,7 @@ use std::fmt;
 
 /// Bytes in hexadecimal digits, in capitals.
 #[derive(Clone, Copy)]
-pub(crate) struct Hexadecimal<'a>(pub(crate) &'a [u8]);
+pub struct Hexadecimal<'a>(pub &'a [u8]);
 
 impl fmt::Display for Hexadecimal<'_> {
     ghost output = { λ h. Some (bytes_text h.0.now) };
@@ -24,9 +24,11 @@ impl fmt::Display for Hexadecimal<'_> {
 
 /// Cylinder and head of a track, four hexadecimal digits each.
 #[derive(Clone, Copy)]
-pub(crate) struct TrackAddress {
-    pub(crate) cylinder: u16,
-    pub(crate) head: u16,
+pub struct TrackAddress {
+    /// The cylinder.
+    pub cylinder: u16,
+    /// The head.
+    pub head: u16,
 }
 
 impl fmt::Display for TrackAddress {
@@ -41,7 +43,7 @@ impl fmt::Display for TrackAddress {
 
 /// Why a slot spells no track.
 #[derive(Clone, Copy)]
-pub(crate) struct Reason(pub(crate) SlotFault);
+pub struct Reason(pub SlotFault);
 
 impl fmt::Display for Reason {
     ghost output = { λ r. Some (fault_text r.0) };

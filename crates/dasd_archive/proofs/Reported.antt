@@ -1,0 +1,40 @@
+-- What was reported in several steps.
+use Rattle.std.proofs.Common.{ℕ, ◌+◌, ◌≡◌, ◌∙◌, List, [], ◌∷◌, ◌++◌, Bool, true, Option, Result, Ok, Err, OnOk, ap, sym, subst, append_assoc, append-nil}
+use Rattle.std.proofs.lemmas.List.Concat.{flat_map-append}
+use Rattle.std.proofs.KnownBytes.{Appends-trans, Appends-nil}
+use Rattle.std.specs.Io.KnownBytes.{Appends}
+use Rattle.dasd_volumes.specs.Volumes.{of_each}
+use Rattle.dasd_volumes.proofs.Appended.{of_none, of_one_more}
+use Rattle.dasd_archive.specs.declared.findings.Finding.{Finding}
+use Rattle.dasd_archive.specs.declared.reports.Style.{Style}
+use Rattle.dasd_archive.specs.declared.reports.Tally.{Tally}
+use Rattle.dasd_archive.specs.Findings.{finding_line}
+use Rattle.dasd_archive.specs.Reports.{Reports, tally_of}
+
+module _ (style : Style) (path : List ℕ) where
+  pub nothing : (a : Option (List ℕ)) (t : Tally) → Reports style path a a t t []
+  nothing a t = record {
+    lines = Appends-nil a;
+    counts = λ earlier is. is ∙ ap tally_of (sym (append-nil earlier));
+  }
+
+  pub more : (a b c : Option (List ℕ)) (t u v : Tally) (xs ys : List Finding)
+      → Reports style path a b t u xs → Reports style path b c u v ys → Reports style path a c t v (xs ++ ys)
+  more a b c t u v xs ys first next = record {
+    lines = subst (Appends a c) (sym (flat_map-append (finding_line style path) xs ys)) (Appends-trans a b c _ _ first.lines next.lines);
+    counts = λ earlier is. next.counts (earlier ++ xs) (first.counts earlier is) ∙ ap tally_of (append_assoc earlier xs ys);
+  }
+
+  -- the same where the last step may have failed
+  pub then : {A E : Type 0} (r : Result A E) (a b c : Option (List ℕ)) (t u v : Tally) (xs ys : List Finding)
+      → Reports style path a b t u xs → OnOk r (Reports style path b c u v ys) → OnOk r (Reports style path a c t v (xs ++ ys))
+  then (Ok x) a b c t u v xs ys first next = more a b c t u v xs ys first next
+  then (Err e) a b c t u v xs ys first next = next
+
+  pub none_of : (of : ℕ → List Finding) (a : Option (List ℕ)) (t : Tally) → Reports style path a a t t (of_each of 0)
+  none_of of a t = subst (Reports style path a a t t) (sym (of_none of)) (nothing a t)
+
+  pub one_more_of : (of : ℕ → List Finding) (n : ℕ) (a b c : Option (List ℕ)) (t u v : Tally)
+      → Reports style path a b t u (of_each of n) → Reports style path b c u v (of n) → Reports style path a c t v (of_each of (n + 1))
+  one_more_of of n a b c t u v first next =
+      subst (Reports style path a c t v) (sym (of_one_more of n)) (more a b c t u v (of_each of n) (of n) first next)

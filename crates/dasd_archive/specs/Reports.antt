@@ -1,0 +1,60 @@
+-- What findings print together, and how many there are of each severity.
+use Rattle.std.specs.Prelude.{◌≡◌, ℕ, ◌+◌, ◌-◌, ◌^◌, min, Bool, true, false, List, [], ◌∷◌, ◌++◌, flat_map, count_by, codes, Option}
+use Rattle.std.specs.List.{concat}
+use Rattle.std.specs.Fmt.{decimal}
+use Rattle.std.specs.Io.KnownBytes.{Appends}
+use Rattle.dasd_archive.specs.declared.findings.Severity.{Severity}
+use Rattle.dasd_archive.specs.declared.findings.Severity.TheVariants.{Error, Warning, Note}
+use Rattle.dasd_archive.specs.declared.findings.Finding.{Finding}
+use Rattle.dasd_archive.specs.declared.reports.Style.{Style}
+use Rattle.dasd_archive.specs.declared.reports.Style.TheVariants.{Text, Json}
+use Rattle.dasd_archive.specs.declared.reports.Tally.{Tally}
+use Rattle.dasd_volumes.specs.Lines.{line_feed}
+use Rattle.dasd_archive.specs.Findings.{severity_of, finding_line}
+
+abbrev pub is_error : Severity → Bool
+is_error Error = true
+is_error Warning = false
+is_error Note = false
+
+abbrev pub is_warning : Severity → Bool
+is_warning Error = false
+is_warning Warning = true
+is_warning Note = false
+
+abbrev pub is_note : Severity → Bool
+is_note Error = false
+is_note Warning = false
+is_note Note = true
+
+-- a count goes up to 2 ^ 64 - 1
+abbrev pub counted : ℕ → ℕ
+counted n = min n (2 ^ 64 - 1)
+
+-- how many findings there are of each severity
+abbrev pub tally_of : List Finding → Tally
+tally_of findings = record {
+  errors = counted (count_by (λ f. is_error (severity_of f.problem)) findings);
+  warnings = counted (count_by (λ f. is_warning (severity_of f.problem)) findings);
+  notes = counted (count_by (λ f. is_note (severity_of f.problem)) findings);
+}
+
+abbrev pub one_more : Severity → Tally → Tally
+one_more Error t = record t { errors = counted (t.errors + 1) }
+one_more Warning t = record t { warnings = counted (t.warnings + 1) }
+one_more Note t = record t { notes = counted (t.notes + 1) }
+
+abbrev pub finding_lines : Style → (path : List ℕ) → List Finding → List ℕ
+finding_lines style path findings = flat_map (finding_line style path) findings
+
+abbrev pub tally_line : Style → (path : List ℕ) → Tally → List ℕ
+tally_line Text path t =
+    concat (decimal t.errors ∷ codes " errors, " ∷ decimal t.warnings ∷ codes " warnings, " ∷ decimal t.notes ∷ codes " notes" ∷ line_feed ∷ [])
+tally_line Json path t = concat (
+    codes "{\"path\":" ∷ path ∷ codes ",\"errors\":" ∷ decimal t.errors ∷ codes ",\"warnings\":" ∷ decimal t.warnings
+    ∷ codes ",\"notes\":" ∷ decimal t.notes ∷ codes "}" ∷ line_feed ∷ [])
+
+-- from before to now the lines of these findings were appended, and they were counted
+pub record Reports (style : Style) (path : List ℕ) (before now : Option (List ℕ)) (tally tally_now : Tally) (findings : List Finding) : Type 0 where
+  pub lines : Appends before now (finding_lines style path findings)
+  pub counts : (earlier : List Finding) → tally ≡ tally_of earlier → tally_now ≡ tally_of (earlier ++ findings)

@@ -1,0 +1,116 @@
+-- What a strict check finds on a volume.
+use Rattle.std.specs.Prelude.{◌≡◌, ℕ, ◌+◌, ◌-◌, ◌^◌, min, Bool, true, false, not, List, [], ◌∷◌, ◌++◌, length, take, drop, slice_range, slice_index, slice_index_or, position, codes, Option, None, Some, Result, Ok, Err, bytes_eq, nat_lt, ◌==◌, if◌then◌else◌}
+use Rattle.std.specs.List.{list_any}
+use Rattle.ckd_track.specs.declared.model.DriveModel.{DriveModel}
+use Rattle.ckd_track.specs.declared.geometries.Geometry.{Geometry}
+use Rattle.ckd_track.specs.declared.fault.SlotFault.{SlotFault}
+use Rattle.ckd_track.specs.Model.{heads_of, capacity_of}
+use Rattle.ckd_track.specs.Geometry.{track_at}
+use Rattle.ckd_track.specs.Track.{Record, Track, track_of, record_in}
+use Rattle.ckd_track.specs.Charges.{used_of}
+use Rattle.ckd_track.specs.Changes.{end_offset}
+use Rattle.ckd_image.specs.Slots.{address}
+use Rattle.dasd_archive.specs.declared.findings.Problem.{Problem}
+use Rattle.dasd_archive.specs.declared.findings.Problem.TheVariants.{ReservedBytes, Unreadable, OtherHomeAddress, Flagged, NoRecord0, OverCapacity, SameIdentifier, OtherIdentifier, EndOfFile, BytesBehindEnd}
+use Rattle.dasd_archive.specs.declared.findings.Place.{Place}
+use Rattle.dasd_archive.specs.declared.findings.Place.TheVariants as place
+use Rattle.dasd_archive.specs.declared.findings.Finding.{Finding}
+use Rattle.std.specs.Io.KnownBytes.{Appends}
+use Rattle.dasd_archive.specs.declared.reports.Style.{Style}
+use Rattle.dasd_archive.specs.declared.reports.Tally.{Tally}
+use Rattle.dasd_archive.specs.Reports.{Reports, finding_lines, tally_line, tally_of}
+use Rattle.dasd_volumes.specs.Reading.{KnownVolume}
+use Rattle.dasd_volumes.specs.Volumes.{of_each}
+
+-- a finding where something is so, and else none
+abbrev pub where_so : Bool → Place → Problem → List Finding
+where_so so at problem = if so then record { place = at; problem = problem } ∷ [] else []
+
+-- one of the track's own cylinder and head
+abbrev pub is_own : (cylinder head : ℕ) → List ℕ → Bool
+is_own cylinder head bytes = bytes_eq bytes (address cylinder head)
+
+-- the home address: a flag byte, and the track's cylinder and head
+abbrev pub home_address_findings : (cylinder head : ℕ) → List ℕ → List Finding
+home_address_findings cylinder head ha =
+    where_so (not (is_own cylinder head (drop 1 ha))) (place.Track cylinder head) (OtherHomeAddress ha)
+    ++ where_so (not (slice_index ha 0 == 0)) (place.Track cylinder head) (Flagged ha)
+
+-- the first record's number is 0
+abbrev pub begins_with_record_0 : List Record → Bool
+begins_with_record_0 [] = false
+begins_with_record_0 (r ∷ rs) = slice_index r.id 4 == 0
+
+-- what the records take of the drive's capacity, up to 2 ^ 32 - 1
+abbrev pub used_up_to : DriveModel → List Record → ℕ
+used_up_to model records = min (used_of model records) (2 ^ 32 - 1)
+
+-- the track as a whole
+abbrev pub track_findings : Geometry → (cylinder head : ℕ) → Track → List Finding
+track_findings g cylinder head t =
+    home_address_findings cylinder head t.home_address
+    ++ (where_so (not (begins_with_record_0 t.records)) (place.Track cylinder head) NoRecord0
+    ++ where_so (nat_lt (capacity_of g.model) (used_up_to g.model t.records)) (place.Track cylinder head) (OverCapacity (used_up_to g.model t.records)))
+
+-- record i: its identifier stands before it, or is another track's; it has no data
+abbrev pub record_findings : (cylinder head : ℕ) → Track → (i : ℕ) → List Finding
+record_findings cylinder head t i =
+    let r = record_in t i in
+    where_so (list_any (λ earlier. bytes_eq earlier.id r.id) (take i t.records)) (place.Track cylinder head) (SameIdentifier i r.id)
+    ++ (where_so (not (is_own cylinder head (take 4 r.id))) (place.Track cylinder head) (OtherIdentifier i r.id)
+    ++ where_so (length r.data_area == 0) (place.Track cylinder head) (EndOfFile i))
+
+-- the first byte that is not zero
+abbrev pub first_set : List ℕ → Option ℕ
+first_set bytes = position (λ b. not (b == 0)) bytes
+
+abbrev pub rest_findings : (cylinder head : ℕ) → (from : ℕ) → Option ℕ → List Finding
+rest_findings cylinder head from None = []
+rest_findings cylinder head from (Some i) = record { place = place.Track cylinder head; problem = BytesBehindEnd (from + i) } ∷ []
+
+-- a track that can be read: as a whole, record by record, and behind its end mark
+abbrev pub findings_of : Geometry → (cylinder head : ℕ) → (slot : List ℕ) → Track → List Finding
+findings_of g cylinder head slot t =
+    track_findings g cylinder head t
+    ++ (of_each (record_findings cylinder head t) (length t.records)
+    ++ rest_findings cylinder head (end_offset t + 8) (first_set (drop (end_offset t + 8) slot)))
+
+abbrev pub findings_at : Geometry → (cylinder head : ℕ) → (slot : List ℕ) → Result Track SlotFault → List Finding
+findings_at g cylinder head slot (Ok t) = findings_of g cylinder head slot t
+findings_at g cylinder head slot (Err fault) = record { place = place.Track cylinder head; problem = Unreadable fault } ∷ []
+
+-- the findings of the track in a slot
+abbrev pub findings_in_slot : Geometry → (cylinder head : ℕ) → (slot : List ℕ) → List Finding
+findings_in_slot g cylinder head slot = findings_at g cylinder head slot (track_of slot)
+
+abbrev pub findings_on : (cylinder : ℕ) → Geometry → (slots : List (List ℕ)) → List Finding
+findings_on cylinder g slots =
+    of_each (λ head. findings_in_slot g cylinder head (slice_index_or slots (track_at g cylinder head) [])) (heads_of g.model)
+
+-- the findings of a volume, cylinder by cylinder and head by head
+abbrev pub strict_findings : Geometry → (slots : List (List ℕ)) → List Finding
+strict_findings g slots = of_each (λ cylinder. findings_on cylinder g slots) g.cylinders
+
+-- the lines of these findings of a volume were appended, and they were counted, if its slots are known
+abbrev pub ReportsOf : (Geometry → List (List ℕ) → List Finding) → KnownVolume → Style → (path : List ℕ) → (before now : Option (List ℕ)) → (tally tally_now : Tally) → Type 0
+ReportsOf found v style path before now tally tally_now =
+    (slots : List (List ℕ)) → v.slots ≡ Some slots → Reports style path before now tally tally_now (found v.geometry slots)
+
+-- a strict check printed the lines of a volume's findings, and then this tally, if its slots are known
+abbrev pub Concludes : Style → (path : List ℕ) → KnownVolume → (before now : Option (List ℕ)) → Tally → Type 0
+Concludes style path v before now tally =
+    (slots : List (List ℕ)) → v.slots ≡ Some slots
+    → Appends before now (finding_lines style path (strict_findings v.geometry slots) ++ tally_line style path tally)
+
+-- this is the tally of earlier findings and of a volume's, if its slots are known
+abbrev pub Adds : (earlier : List Finding) → KnownVolume → Tally → Type 0
+Adds earlier v tally = (slots : List (List ℕ)) → v.slots ≡ Some slots → tally ≡ tally_of (earlier ++ strict_findings v.geometry slots)
+
+-- Headers: the bytes from 20 on are reserved.
+
+abbrev pub header_findings : (file : ℕ) → Option ℕ → List Finding
+header_findings file None = []
+header_findings file (Some i) = record { place = place.Header file; problem = ReservedBytes (20 + i) } ∷ []
+
+abbrev pub findings_in_header : (file : ℕ) → (header : List ℕ) → List Finding
+findings_in_header file header = header_findings file (first_set (drop 20 header))

@@ -1,0 +1,180 @@
+//! What a strict check finds, how grave it is, and where.
+
+ghost use Rattle.std.specs.Prelude.{◌≡◌, Some};
+ghost use Rattle.dasd_archive.specs.Findings.{severity_of, severity_text, kind_text, problem_text, place_text, place_members};
+
+use ckd_track::SlotFault;
+use dasd_volumes::{Hexadecimal, Reason, TrackAddress};
+use std::fmt;
+
+/// How grave a finding is.
+#[derive(Clone, Copy, Debug, PartialEq, Eq)]
+pub enum Severity {
+    /// A reader of the drive would trip over it, or the drive could not have written it.
+    Error,
+    /// It is unusual, and likely wrong.
+    Warning,
+    /// It is legal, and worth to know.
+    Note,
+}
+
+/// What is found of a header or of a track. A record is named by its place on the track, R0 being 0; bytes are those that stand
+/// there.
+#[derive(Clone, Copy, Debug, PartialEq, Eq)]
+pub enum Problem {
+    /// A reserved byte of a header is not zero; the first such offset, in bytes.
+    ReservedBytes(usize),
+    /// The slot spells no track.
+    Unreadable(SlotFault),
+    /// The home address has another cylinder or head than the track.
+    OtherHomeAddress([u8; 5]),
+    /// The home address has flag bits, as those of a defective or of an alternate track.
+    Flagged([u8; 5]),
+    /// The track has no record, or its first record's number is not 0.
+    NoRecord0,
+    /// The records take more than the drive's capacity: so many bytes.
+    OverCapacity(u32),
+    /// A record has the identifier of an earlier one.
+    SameIdentifier(usize, [u8; 5]),
+    /// A record's identifier has another cylinder or head than the track.
+    OtherIdentifier(usize, [u8; 5]),
+    /// A record has no data: it is an end of file.
+    EndOfFile(usize),
+    /// Bytes behind the end mark are not zero; the first such offset in the slot.
+    BytesBehindEnd(usize),
+}
+
+/// Where something is found.
+#[derive(Clone, Copy, Debug, PartialEq, Eq)]
+pub enum Place {
+    /// In the header of a file of the image; the first is number 1.
+    Header(u8),
+    /// On the track of this cylinder and head.
+    Track(u16, u16),
+}
+
+/// A problem and where it is.
+#[derive(Clone, Copy, Debug, PartialEq, Eq)]
+pub struct Finding {
+    /// Where it is.
+    pub place: Place,
+    /// What it is.
+    pub problem: Problem,
+}
+
+impl Problem {
+    /// How grave it is.
+    pub fn severity(&self) -> Severity
+        ensures { result ≡ severity_of self.now }
+    {
+        match self {
+            Problem::Unreadable(_)
+            | Problem::OtherHomeAddress(_)
+            | Problem::NoRecord0
+            | Problem::OverCapacity(_) => Severity::Error,
+            Problem::ReservedBytes(_) | Problem::Flagged(_) | Problem::SameIdentifier(_, _) => {
+                Severity::Warning
+            }
+            Problem::OtherIdentifier(_, _) | Problem::EndOfFile(_) | Problem::BytesBehindEnd(_) =>
+                Severity::Note,
+        }
+    }
+}
+
+impl fmt::Display for Severity {
+    ghost output = { λ s. Some (severity_text s) };
+
+    fn fmt<W: fmt::Write>(&self, f: &mut fmt::Formatter<W>) -> fmt::Result {
+        match self {
+            Severity::Error => f.write_str("error"),
+            Severity::Warning => f.write_str("warning"),
+            Severity::Note => f.write_str("note"),
+        }
+    }
+}
+
+/// The kind of a problem, without the numbers of one.
+#[derive(Clone, Copy)]
+pub(crate) struct Kind(pub(crate) Problem);
+
+impl fmt::Display for Kind {
+    ghost output = { λ k. Some (kind_text k.0) };
+
+    fn fmt<W: fmt::Write>(&self, f: &mut fmt::Formatter<W>) -> fmt::Result {
+        match self.0 {
+            Problem::ReservedBytes(_) => f.write_str("reserved bytes"),
+            Problem::Unreadable(_) => f.write_str("unreadable"),
+            Problem::OtherHomeAddress(_) => f.write_str("other home address"),
+            Problem::Flagged(_) => f.write_str("flagged home address"),
+            Problem::NoRecord0 => f.write_str("no record 0"),
+            Problem::OverCapacity(_) => f.write_str("over capacity"),
+            Problem::SameIdentifier(_, _) => f.write_str("same identifier"),
+            Problem::OtherIdentifier(_, _) => f.write_str("other identifier"),
+            Problem::EndOfFile(_) => f.write_str("end of file"),
+            Problem::BytesBehindEnd(_) => f.write_str("bytes behind end"),
+        }
+    }
+}
+
+impl fmt::Display for Problem {
+    ghost output = { λ p. Some (problem_text p) };
+
+    fn fmt<W: fmt::Write>(&self, f: &mut fmt::Formatter<W>) -> fmt::Result {
+        match self {
+            Problem::ReservedBytes(at) => write!(f, "reserved byte at {at} is not zero"),
+            Problem::Unreadable(fault) => write!(f, "{}", Reason(*fault)),
+            Problem::OtherHomeAddress(ha) => {
+                write!(f, "home address {} of another track", Hexadecimal(ha))
+            }
+            Problem::Flagged(ha) => write!(f, "home address {} with flags", Hexadecimal(ha)),
+            Problem::NoRecord0 => write!(f, "no record 0"),
+            Problem::OverCapacity(used) => write!(f, "records take {used}, over the capacity"),
+            Problem::SameIdentifier(i, id) => {
+                write!(
+                    f,
+                    "record {i} has the identifier {} of an earlier one",
+                    Hexadecimal(id)
+                )
+            }
+            Problem::OtherIdentifier(i, id) => {
+                write!(
+                    f,
+                    "record {i} has the identifier {} of another track",
+                    Hexadecimal(id)
+                )
+            }
+            Problem::EndOfFile(i) => write!(f, "record {i} is an end of file"),
+            Problem::BytesBehindEnd(at) => write!(f, "bytes behind the end mark from {at} on"),
+        }
+    }
+}
+
+impl fmt::Display for Place {
+    ghost output = { λ p. Some (place_text p) };
+
+    fn fmt<W: fmt::Write>(&self, f: &mut fmt::Formatter<W>) -> fmt::Result {
+        match self {
+            Place::Header(file) => write!(f, "header of file {file}"),
+            Place::Track(cylinder, head) => {
+                let cylinder = *cylinder;
+                let head = *head;
+                write!(f, "{}", TrackAddress { cylinder, head })
+            }
+        }
+    }
+}
+
+/// A place as members of an object.
+#[derive(Clone, Copy)]
+pub(crate) struct Members(pub(crate) Place);
+
+impl fmt::Display for Members {
+    ghost output = { λ m. Some (place_members m.0) };
+
+    fn fmt<W: fmt::Write>(&self, f: &mut fmt::Formatter<W>) -> fmt::Result {
+        match self.0 {
+            Place::Header(file) => write!(f, "\"file\":{file}"),
+            Place::Track(cylinder, head) => write!(f, "\"cylinder\":{cylinder},\"head\":{head}"),
+        }
+    }
+}

@@ -1,0 +1,11 @@
+//! What an archive asks of a volume, above one image: what a reader of the drive would trip over.
+#![tactic(auto)]
+
+mod findings;
+mod reports;
+mod strict;
+mod tracks;
+
+pub use crate::findings::{Finding, Place, Problem, Severity};
+pub use crate::reports::{Form, Style, Tally};
+pub use crate::strict::{check_headers, check_strict};

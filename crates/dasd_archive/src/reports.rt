@@ -1,0 +1,120 @@
+//! The lines of findings, and how many there are of each severity.
+
+ghost use Rattle.std.specs.Prelude.{◌≡◌, [], ◌∷◌, OnOk};
+ghost use Rattle.std.specs.Io.KnownBytes.{Appends};
+ghost use Rattle.dasd_archive.specs.Findings.{finding_line, severity_of};
+ghost use Rattle.dasd_archive.specs.Reports.{one_more, tally_line, tally_of, Reports};
+
+use crate::findings::{Finding, Kind, Members, Severity};
+use std::io;
+use std::io::Write;
+
+/// For whom lines are written.
+#[derive(Clone, Copy, Debug, PartialEq, Eq)]
+pub enum Style {
+    /// For people: words and hexadecimal addresses.
+    Text,
+    /// For programs: one object of JSON a line.
+    Json,
+}
+
+/// How lines are written: their style, and the volume's path as a string of JSON with its quotes, which objects have.
+#[derive(Clone, Copy, Debug)]
+pub struct Form<'a> {
+    /// The style.
+    pub style: Style,
+    /// The path, in quotes.
+    pub path: &'a str,
+}
+
+/// How many findings there are of each severity, each counted up to `u64::MAX`.
+#[derive(Clone, Copy, Debug, PartialEq, Eq)]
+pub struct Tally {
+    /// The errors.
+    pub errors: u64,
+    /// The warnings.
+    pub warnings: u64,
+    /// The notes.
+    pub notes: u64,
+}
+
+impl Tally {
+    /// No finding.
+    pub fn new() -> Tally
+        ensures { result ≡ tally_of [] }
+    {
+        Tally {
+            errors: 0,
+            warnings: 0,
+            notes: 0,
+        }
+    }
+
+    // One finding more.
+    fn count(&mut self, severity: Severity)
+        ensures { self.new ≡ one_more severity self.old }
+    {
+        match severity {
+            Severity::Error => self.errors = self.errors.saturating_add(1),
+            Severity::Warning => self.warnings = self.warnings.saturating_add(1),
+            Severity::Note => self.notes = self.notes.saturating_add(1),
+        }
+    }
+}
+
+/// Writes the line of a finding, and counts it.
+pub(crate) fn report<W: Write>(
+    writer: &mut W,
+    tally: &mut Tally,
+    form: Form,
+    finding: Finding,
+) -> io::Result<()>
+    ensures { OnOk result (Reports form.entry.style form.entry.path.now (W.contents writer.old) (W.contents writer.new)
+        tally.old tally.new (finding ∷ [])) }
+{
+    tally.count(finding.problem.severity());
+    write_finding(writer, form, finding)
+}
+
+// The line of a finding.
+fn write_finding<W: Write>(writer: &mut W, form: Form, finding: Finding) -> io::Result<()>
+    ensures { OnOk result (Appends (W.contents writer.old) (W.contents writer.new)
+        (finding_line form.entry.style form.entry.path.now finding)) }
+{
+    let path = form.path;
+    let severity = finding.problem.severity();
+    let place = finding.place;
+    let problem = finding.problem;
+    match form.style {
+        Style::Text => writeln!(writer, "{severity} {place} {problem}"),
+        Style::Json => writeln!(
+            writer,
+            "{{\"path\":{path},\"severity\":\"{severity}\",{},\"kind\":\"{}\",\"text\":\"{problem}\"}}",
+            Members(place),
+            Kind(problem)
+        ),
+    }
+}
+
+/// Writes how many findings there are of each severity.
+pub(crate) fn write_tally<W: Write>(writer: &mut W, form: Form, tally: Tally) -> io::Result<()>
+    ensures { OnOk result (Appends (W.contents writer.old) (W.contents writer.new)
+        (tally_line form.entry.style form.entry.path.now tally)) }
+{
+    let path = form.path;
+    let Tally {
+        errors,
+        warnings,
+        notes,
+    } = tally;
+    match form.style {
+        Style::Text => writeln!(
+            writer,
+            "{errors} errors, {warnings} warnings, {notes} notes"
+        ),
+        Style::Json => writeln!(
+            writer,
+            "{{\"path\":{path},\"errors\":{errors},\"warnings\":{warnings},\"notes\":{notes}}}"
+        ),
+    }
+}
