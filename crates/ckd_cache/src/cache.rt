@@ -14,6 +14,7 @@ use ckd_slot::{TrackBuffer, Window};
 use ckd_track::Geometry;
 use std::alloc::{AllocError, Global};
 use std::marker::Model;
+use std::mem;
 
 /// An image, and the slot of one track at hand. It is seen as the image, the image's slots with what was written into
 /// the one at hand, the number of its track, and whether it was written since it was last saved.
@@ -69,6 +70,27 @@ impl<S: ImageStore> TrackCache<S> {
         ensures volume { IsVolume self.now }
     {
         self.image.geometry()
+    }
+
+    /// The image, without what was written and not saved.
+    pub fn image(&self) -> &Image<S>
+        ensures { result.now ≡ self.now.image }
+    {
+        &self.image
+    }
+
+    /// Takes another image in the place of this one, whose slots are as large, with no slot at hand. Gives back the one that was
+    /// here, without what was written and not saved.
+    pub fn exchange(&mut self, image: Image<S>) -> Image<S>
+        requires size { image.geometry.track_size ≡ self.old.image.geometry.track_size }
+        ensures now { self.new ≡ record { image = image; slots = image.slots; held = None; changed = false } }
+        ensures before { result ≡ self.old.image }
+    {
+        // the geometry is that of an image, so that there is a first track
+        let _geometry = image.geometry();
+        self.held = None;
+        self.changed = false;
+        mem::replace(&mut self.image, image)
     }
 
     /// Has the slot of a track at hand, which is loaded where that of another is. A slot that was written is saved first.

@@ -17,6 +17,7 @@ use ckd_command::{
 };
 use ckd_image::{Image, ImageStore, StoreFault};
 use ckd_sense::{Command, Sense};
+use ckd_track::Geometry;
 use ghost_data::Trace;
 use std::alloc::{AllocError, Global};
 use std::marker::Model;
@@ -409,6 +410,58 @@ impl<S: ImageStore> Drive<S> {
         self.registers.sense.to_bytes()
     }
 
+    /// The model, the cylinders and the track size of the volume.
+    pub fn geometry(&self) -> Geometry
+        ensures image { result ≡ self.now.image.geometry }
+        ensures volume { result ≡ self.now.state.volume.geometry }
+    {
+        self.cache.geometry()
+    }
+
+    /// The cylinder of the arm.
+    pub fn cylinder(&self) -> u16
+        ensures { result ≡ self.now.state.registers.cylinder }
+    {
+        self.registers.cylinder
+    }
+
+    /// The head.
+    pub fn head(&self) -> u16
+        ensures { result ≡ self.now.state.registers.head }
+    {
+        self.registers.head
+    }
+
+    /// The image, lent. Where no command is open, and the track under the arm is not written or was saved since, it holds the
+    /// drive's volume; what was written and is not saved is not in it.
+    pub fn image(&self) -> &Image<S>
+        ensures image { result.now ≡ self.now.image }
+        ensures geometry { self.now.image.geometry ≡ self.now.state.volume.geometry }
+        ensures volume { is_idle self.now.work ≡ true → is_track_written self.now.state ≡ false → self.now.image.slots ≡ self.now.state.volume.slots }
+    {
+        self.cache.image()
+    }
+
+    /// Takes another image, whose slots are as large, and becomes a new drive over it. Gives back the one that was here, which
+    /// holds the drive's volume. It takes no memory.
+    pub fn exchange(&mut self, image: Image<S>) -> Image<S>
+        requires idle { is_idle self.old.work ≡ true }
+        requires saved { is_track_written self.old.state ≡ false }
+        requires size { image.geometry.track_size ≡ self.old.image.geometry.track_size }
+        ensures now { self.new ≡ new_drive image }
+        ensures before { result ≡ self.old.image }
+        ensures geometry { result.geometry ≡ self.old.state.volume.geometry }
+        ensures volume { result.slots ≡ self.old.state.volume.slots }
+    {
+        self.registers = first_registers();
+        self.mark = Mark::Saved;
+        self.stage = Stage::Idle;
+        let before = self.cache.exchange(image);
+        // the geometry is that of an image, so that there is a first track
+        let _geometry = self.cache.geometry();
+        before
+    }
+
     /// Makes the sense bytes zero.
     pub fn clear_sense(&mut self)
         requires { is_idle self.old.work ≡ true }
@@ -433,6 +486,7 @@ impl<S: ImageStore> Drive<S> {
         requires idle { is_idle self.work ≡ true }
         requires saved { is_track_written self.state ≡ false }
         ensures image { result ≡ self.image }
+        ensures geometry { result.geometry ≡ self.state.volume.geometry }
         ensures volume { result.slots ≡ self.state.volume.slots }
     {
         let Drive {

@@ -1,5 +1,5 @@
 -- An image as the layers above see it, and the files that hold it.
-use Rattle.std.specs.Prelude.{◌≡◌, ℕ, ◌+◌, ◌≤◌, List, [], ◌∷◌, ◌++◌, length, take, map, All, ◌==◌, ◌||◌, nat_lt, if◌then◌else◌, Result, Ok, Err, IsOk}
+use Rattle.std.specs.Prelude.{◌≡◌, ℕ, ◌+◌, ◌≤◌, List, [], ◌∷◌, ◌++◌, length, take, map, All, ◌==◌, ◌||◌, nat_lt, if◌then◌else◌, Option, slice_get, Result, Ok, Err, IsOk}
 use Rattle.std.specs.List.{concat}
 use Rattle.ckd_track.specs.declared.model.DriveModel.{DriveModel}
 use Rattle.ckd_track.specs.declared.geometries.Geometry.{Geometry}
@@ -43,6 +43,12 @@ pub record IsImage (i : ImageState) : Type 0 where
   pub geometry : IsGeometry i.geometry
   pub count : length i.slots ≡ tracks_of i.geometry
   pub sizes : All (λ slot. length slot ≡ i.geometry.track_size) i.slots
+
+-- the file at a place among those that hold the image, or none behind the last one
+pub record IsFileAt (i : ImageState) (place : ℕ) (file : Option (List ℕ)) : Type 0 where
+  pub files : List (List ℕ)
+  pub holds : HoldsImage files i
+  pub is_there : file ≡ slice_get files place
 
 -- the image of this geometry that files hold, as it is first held
 abbrev pub image_in : Geometry → List (List ℕ) → ℕ → ImageState

@@ -1,12 +1,12 @@
 //! An image: a volume in one to eight stores, read and written slot by slot.
 
-ghost use Rattle.std.specs.Prelude.{◌≡◌, ◌+◌, ◌≤◌, ◌<◌, max, [], ◌∷◌, length, map, take, Ok, slice_index_or, slice_set, IfOk, IfErr, OnOk, OnErr, All, IsSome};
+ghost use Rattle.std.specs.Prelude.{◌≡◌, ◌+◌, ◌≤◌, ◌<◌, max, [], ◌∷◌, length, map, take, Ok, option_map, slice_index_or, slice_set, IfOk, IfErr, OnOk, OnErr, All, IsSome};
 ghost use Rattle.std.specs.List.{sum};
 ghost use Rattle.ckd_track.specs.Geometry.{tracks_of, new_geometry};
 ghost use Rattle.ckd_image.specs.Layout.{image_length};
 ghost use Rattle.ckd_image.specs.Header.{mount_of};
 ghost use Rattle.ckd_image.specs.Files.{each, listed};
-ghost use Rattle.ckd_image.specs.Image.{IsImage, Holds, HoldsImage, image_in, MountRefused, FilesRefused, new_image, format_of, FormatRefused};
+ghost use Rattle.ckd_image.specs.Image.{IsImage, IsFileAt, Holds, HoldsImage, image_in, MountRefused, FilesRefused, new_image, format_of, FormatRefused};
 
 use crate::fault::MountFault;
 use crate::files::{in_array, in_list, read_header, read_headers, read_slot, write_slot};
@@ -14,7 +14,7 @@ use crate::header::volume_of_files;
 use crate::layout::file_length;
 use crate::new_volume::write_new_volume;
 use crate::store::{ImageStore, StoreFault};
-use crate::stores::{MOST_FILES, Stores, array_of, count_tracks, only_store, stores_of};
+use crate::stores::{MOST_FILES, Stores, array_of, count_tracks, only_store, store_at, stores_of};
 use arrayvec::ArrayVec;
 use ckd_track::{DriveModel, Geometry};
 use ghost_data::Count;
@@ -175,6 +175,13 @@ impl<S: ImageStore> Image<S> {
         ensures image { IsImage self.now }
     {
         self.geometry
+    }
+
+    /// The store of a file, by its place among the image's files, lent; none behind the last one.
+    pub fn store(&self, place: usize) -> Option<&S>
+        ensures file { IsFileAt self.now place (option_map (λ s. S.content s.now) result) }
+    {
+        store_at(&self.stores, place)
     }
 
     /// Reads the slot of a track from the file that holds it. After an error `slot` holds any bytes.

@@ -1,6 +1,6 @@
 //! The stores that hold the files of an image.
 
-ghost use Rattle.std.specs.Prelude.{◌≡◌, ◌+◌, ◌<◌, ◌≤◌, [], length, None, IsSome, slice_range, slice_set, ◌∷◌, OnOk, OnErr};
+ghost use Rattle.std.specs.Prelude.{◌≡◌, ◌+◌, ◌<◌, ◌≤◌, [], length, None, IsSome, slice_get, slice_range, slice_set, ◌∷◌, option_map, OnOk, OnErr};
 ghost use Rattle.std.specs.List.{AllByRecursion};
 ghost use Rattle.ckd_image.specs.Store.{overwritten, Torn, Counts};
 ghost use Rattle.ckd_image.specs.Files.{held, file_at, each, listed, alone, HoldTracks, HoldsWhole};
@@ -156,6 +156,39 @@ pub(crate) fn take_file<S: ImageStore>(files: &mut [Option<S>], place: usize) ->
     ensures files { files.new ≡ slice_set files.old place None }
 {
     files[place].take()
+}
+
+/// The store of the file at this place, lent, if there is one.
+pub(crate) fn store_at<S: ImageStore>(stores: &Stores<S>, place: usize) -> Option<&S>
+    ensures { option_map (λ s. S.content s.now) result ≡ slice_get (each S.content (listed stores.now)) place }
+{
+    nth_store(
+        &[
+            stores.first.as_ref(),
+            stores.second.as_ref(),
+            stores.third.as_ref(),
+            stores.fourth.as_ref(),
+            stores.fifth.as_ref(),
+            stores.sixth.as_ref(),
+            stores.seventh.as_ref(),
+            stores.eighth.as_ref(),
+        ],
+        place,
+    )
+}
+
+/// The store at this place among those that are there.
+fn nth_store<'a, S: ImageStore>(stores: &[Option<&'a S>], place: usize) -> Option<&'a S>
+    ensures { option_map (λ s. S.content s.now) result ≡ slice_get (each (λ s. S.content s.now) stores.now) place }
+{
+    let [store, others @ ..] = stores else {
+        return None;
+    };
+    match store {
+        None => nth_store(others, place),
+        Some(store) if place == 0 => Some(store),
+        Some(_) => nth_store(others, place - 1),
+    }
 }
 
 /// This store alone.

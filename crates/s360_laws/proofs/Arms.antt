@@ -1,28 +1,26 @@
 -- What events do to arms that owe a device end.
-use Rattle.std.proofs.Common.{◌≡◌, ◌≤◌, ◌<◌, ℕ, ◌+◌, ◌*◌, ◌/◌, ◌%◌, refl, sym, ap, subst, ◌∙◌, arith, true, false, Bool, cond, ◌&&◌, ◌||◌, ◌==◌, List, [], ◌∷◌, ◌++◌, map, Option, Some, None}
+use Rattle.std.proofs.Common.{◌≡◌, ◌≤◌, ◌<◌, ℕ, ◌+◌, ◌*◌, ◌/◌, ◌%◌, refl, sym, ap, subst, ◌∙◌, arith, true, false, Bool, cond, ◌&&◌, ◌==◌, List, [], ◌∷◌, ◌++◌, map, Option, Some, None}
 use Rattle.std.proofs.lemmas.Bool.{eq-eqb, eqb-true, ltb-false, ltb-true}
 use Rattle.std.specs.Prelude.{find, option_map, is_some, filter, nat_lt}
-use Rattle.s360_words.specs.Storage.{Storage, Change, Bytes, KeyOf, is_within}
+use Rattle.s360_words.specs.Storage.{Storage, Bytes, KeyOf, is_within}
 use Rattle.s360_words.specs.declared.flags.TheConstants.UnitStatus.{DEVICE_END}
 use Rattle.s360_words.specs.declared.words.Csw.{Csw}
-use Rattle.ckd_command.specs.Drive.{IdleDrive}
 use Rattle.s360_runs.specs.Endings.{Outcome, Ended, NotEnded, Ending}
 use Rattle.s360_runs.specs.Runs.{run}
 use Rattle.s360_runs.specs.Scripts.{Script, Outside}
 use Rattle.s360_runs.specs.Starts.{First, BadStart, RejectedStart, ImmediateStart, AcceptedStart, first}
 use Rattle.s360_runs.specs.Status.{tells, no_unit_status, no_channel_status}
-use Rattle.s360_runs.proofs.EndStatus.{AsksGood, RunGood, good_run}
+use Rattle.s360_runs.proofs.EndStatus.{AsksGood, good_run}
 use Rattle.s360_laws.specs.Arms.{arm_for, arrives, ends_owing, arm_next, ArmFollows, arm_along, ArmStays, ArrivedInterrupts, HaltOfPendingStays}
-use Rattle.s360_laws.specs.Events.{Answer, Event, Exchange, FaultAfter, Input, Sio, Tio, Hio, Tch, StepBy, Arrive, Interrupt, Reset, Store, SetKey, Show, StatusStored, CswStored, Condition, HasArrived, Interrupted, WasReset, WasKept}
-use Rattle.s360_laws.specs.Ledger.{is_reset, stores_end}
-use Rattle.s360_laws.specs.Machine.{Device, Machine, Subchannel, Idle, Working, Pending, address_of, device_at, with_device, with_arm, at_rest, all_at_rest, arm_after, ended, cut, stepped, started, start_of, start_device, start_io, test_device, test_io, halt_io, arrive, is_in_motion, has_arrived, lowest, lower, csw_of_unit, interrupt_device, interrupt_program, asked_by, run_of, goes_on, react, units_with, fault_in, unsaved_at, with_change, with_status, with_csw, after_all, exchanges}
-use Rattle.s360_laws.specs.Soundness.{IsSound, IsSoundIn, IsRunning, AreDistinct, arm_owes, device_for, device_owes}
+use Rattle.s360_laws.specs.Events.{Answer, Event, Exchange, FaultAfter, Sio, Tio, Hio, Tch, StepBy, Arrive, Interrupt, Reset, Store, SetKey, Show, StatusStored, CswStored, Condition, HasArrived, Interrupted, WasReset, WasKept}
+use Rattle.s360_laws.specs.Machine.{Device, Machine, Subchannel, Idle, Working, Pending, address_of, device_at, with_arm, at_rest, all_at_rest, arm_after, ended, cut, stepped, started, start_of, start_device, start_io, test_device, test_io, halt_io, arrive, is_in_motion, has_arrived, lowest, lower, csw_of_unit, interrupt_device, interrupt_program, asked_by, run_of, goes_on, react, units_with, fault_in, unsaved_at, with_change, with_status, with_csw, after_all, exchanges}
+use Rattle.s360_laws.specs.Soundness.{IsSoundIn, IsRunning, AreDistinct, arm_owes, device_for, device_owes}
 use Rattle.s360_laws.specs.declared.arm.Arm.{Arm}
 use Rattle.s360_laws.specs.declared.arm.Arm.TheVariants.{AtRest, InMotion, Arrived}
 use Rattle.s360_laws.specs.declared.condition.ConditionCode.TheVariants.{Two, Three, Zero}
 use Rattle.s360_laws.proofs.FindDevices.{no, found_map, unit_after, Keeps, at_device, device_of, set_arm, set_both, set_drive}
 use Rattle.s360_laws.proofs.LedgerIdle.{Lowest, lowest_found, whole}
-use Rattle.s360_laws.proofs.LedgerLists.{stays, sound_parts}
+use Rattle.s360_laws.proofs.LedgerLists.{stays}
 use Rattle.s360_laws.proofs.LedgerWorking.{in_run, by_unit, asks_good}
 use Rattle.s360_laws.proofs.Owing.{Rest}
 use Rattle.s360_laws.proofs.Shapes.{idle, pending, working}

@@ -8,7 +8,7 @@ use Rattle.s360_laws.specs.Soundness.{IsSound}
 use Rattle.s360_laws.specs.Steps.{FaultDoes}
 use Rattle.s360_laws.proofs.Arms.{arm_stays}
 use Rattle.s360_laws.proofs.Held.{held_until_stored}
-use Rattle.s360_laws.proofs.LedgerLists.{at_most_once, ends_pend, sound_parts, stays_sound}
+use Rattle.s360_laws.proofs.LedgerLists.{at_most_once, channel_end_first, ends_pend, exactly_once, sound_parts, stays_sound}
 use Rattle.s360_laws.proofs.MachineFaults.{fault_ends_halt, fault_ends_step, fault_told_by_reset}
 use Rattle.s360_laws.proofs.NoFaultTold.{no_fault_none_told}
 use Rattle.s360_laws.proofs.Serial.{serial}
@@ -35,6 +35,8 @@ pub headline : HeadlineHolds
 headline m es sound = record {
   no_start_while_running = λ so_far rest is working. no_start_while_working (after_all so_far m) working;
   ends_at_most_once = λ so_far rest is u. at_most_once m so_far u sound;
+  ends_exactly_once = λ so_far rest is e u. exactly_once m so_far e u sound;
+  channel_end_first = λ so_far rest is u. channel_end_first m so_far u sound;
   ends_pend = λ so_far rest is u. ends_pend m so_far u sound;
   endings_are_held = λ so_far rest is device csw pends. held_until_stored (after_all so_far m) device csw rest (now so_far) pends;
   arms_owe = λ so_far rest is u arm later has owes along. arm_stays (after_all so_far m) rest u arm later (now so_far) has owes along;

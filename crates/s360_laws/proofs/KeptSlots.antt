@@ -1,5 +1,5 @@
 -- A slot that no program of a list may write keeps its bytes.
-use Rattle.std.proofs.Common.{◌≡◌, ℕ, refl, ap, subst, sym, ◌∙◌, true, false, Bool, cond, ◌&&◌, ◌||◌, ◌==◌, List, [], ◌∷◌, map, Option, Some, None}
+use Rattle.std.proofs.Common.{◌≡◌, ℕ, refl, ap, sym, ◌∙◌, true, false, Bool, cond, ◌&&◌, ◌||◌, ◌==◌, List, [], ◌∷◌, map, Option, Some, None}
 use Rattle.std.proofs.lemmas.Bool.{eqb-true}
 use Rattle.std.specs.Prelude.{find, option_map}
 use Rattle.s360_words.specs.Words.{caw_of, chains_command}
@@ -17,8 +17,7 @@ use Rattle.s360_runs.specs.Writes.{OutcomeKeeps, slot_in}
 use Rattle.s360_runs.proofs.DriveFacts.{begin_keeps}
 use Rattle.s360_runs.proofs.DriveTerms.{BegunKeeps}
 use Rattle.s360_runs.proofs.KeptTracks.{run_keeps}
-use Rattle.s360_laws.specs.Events.{Input}
-use Rattle.s360_laws.specs.History.{Act, Program, RejectedCommand, Changes, ClearsSense, Fate, ByItself, IsCut, World, after_end, after_first, after_program, after_rejection, after_run, does, drive_in, history, start_in, with_drive, world_of, all_acts}
+use Rattle.s360_laws.specs.History.{Act, Program, RejectedCommand, Changes, ClearsSense, Fate, ByItself, IsCut, World, after_first, after_program, after_rejection, after_run, does, drive_in, history, start_in, with_drive, world_of, all_acts}
 use Rattle.s360_laws.specs.Machine.{exchanges}
 use Rattle.s360_laws.specs.Writes.{KeepsUnwritten, act_writes, acts_write, program_writes, slot_at}
 use Rattle.s360_laws.proofs.FindDevices.{no}

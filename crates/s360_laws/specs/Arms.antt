@@ -1,11 +1,11 @@
 -- Device ends that arms owe: an arm that moves does so until it arrives; one that has arrived owes its device end until that is
 -- stored; a reset takes both away.
-use Rattle.std.specs.Prelude.{◌≡◌, ◌≤◌, ℕ, ◌%◌, ◌/◌, List, [], ◌∷◌, Bool, true, false, ◌||◌, ◌==◌, Option, Some, None, option_map, if◌then◌else◌}
+use Rattle.std.specs.Prelude.{◌≡◌, ◌≤◌, ℕ, ◌/◌, List, [], ◌∷◌, Bool, true, false, ◌||◌, ◌==◌, Option, Some, None, option_map, if◌then◌else◌}
 use Rattle.s360_words.specs.declared.flags.TheConstants.UnitStatus.{DEVICE_END}
 use Rattle.s360_words.specs.declared.words.Csw.{Csw}
 use Rattle.s360_laws.specs.Events.{Exchange, Arrive, HasArrived, Input, Interrupt, Interrupted, Hio, Condition, FaultAfter}
 use Rattle.s360_laws.specs.Ledger.{is_reset, stores_end}
-use Rattle.s360_laws.specs.Machine.{Device, Machine, Idle, Pending, address_of, after_all, csw_of_unit, device_at, exchanges, react}
+use Rattle.s360_laws.specs.Machine.{Machine, Idle, Pending, address_of, after_all, csw_of_unit, device_at, exchanges, react}
 use Rattle.s360_laws.specs.Soundness.{IsSound, arm_owes, device_for}
 use Rattle.s360_laws.specs.declared.arm.Arm.{Arm}
 use Rattle.s360_laws.specs.declared.arm.Arm.TheVariants.{AtRest, Arrived}

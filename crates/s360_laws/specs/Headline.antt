@@ -6,7 +6,7 @@ use Rattle.s360_words.specs.declared.words.Csw.{Csw}
 use Rattle.s360_laws.specs.Arms.{arm_along, arm_for}
 use Rattle.s360_laws.specs.Events.{Event, Exchange, FaultAfter, Input}
 use Rattle.s360_laws.specs.History.{all_acts, history, world_of}
-use Rattle.s360_laws.specs.Ledger.{HeldAnswers, Pends, RefusesStarts, times_stored}
+use Rattle.s360_laws.specs.Ledger.{HeldAnswers, Pends, RefusesStarts, SinceAcceptance, is_accepted, since, times_stored}
 use Rattle.s360_laws.specs.Machine.{Machine, Pending, after_all, exchanges, is_working, react}
 use Rattle.s360_laws.specs.NothingTold.{NoneGainsCheck, TellsNoTrack}
 use Rattle.s360_laws.specs.Soundness.{IsSound, arm_owes}
@@ -24,6 +24,13 @@ pub record Headline (m : Machine) (es : List Input) : Type 0 where
   -- each accepted program's channel end and device end are each stored at most once,
   pub ends_at_most_once : AtEveryMoment m es (λ so_far now rest.
       (u : ℕ) → (times_stored CHANNEL_END u so_far ≤ 1) × (times_stored DEVICE_END u so_far ≤ 1))
+  -- exactly once between two acceptances for one device with no reset between,
+  pub ends_exactly_once : AtEveryMoment m es (λ so_far now rest. (e : Input) (u : ℕ) → since u so_far ≡ SinceAcceptance
+      → is_accepted u (e.0, e.1, (react e.0 e.1 now).0) ≡ true
+      → (times_stored CHANNEL_END u so_far ≡ 1) × (times_stored DEVICE_END u so_far ≡ 1))
+  -- the channel end not after the device end,
+  pub channel_end_first : AtEveryMoment m es (λ so_far now rest. (u : ℕ) → since u so_far ≡ SinceAcceptance
+      → times_stored DEVICE_END u so_far ≤ times_stored CHANNEL_END u so_far)
   -- and pend until then or a reset;
   pub ends_pend : AtEveryMoment m es (λ so_far now rest. (u : ℕ) → Pends m so_far now u)
   -- the CSW of a program that ended is held until then: no program starts, and the next interruption gives it;

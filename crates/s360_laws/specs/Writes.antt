@@ -4,7 +4,7 @@ use Rattle.ckd_command.specs.Drive.{IdleDrive}
 use Rattle.s360_runs.specs.Scripts.{Script}
 use Rattle.s360_runs.specs.Writes.{run_writes, slot_in}
 use Rattle.s360_laws.specs.Events.{Input}
-use Rattle.s360_laws.specs.History.{Act, Program, Runs, World, all_acts, does, drive_in, history, start_in, world_of}
+use Rattle.s360_laws.specs.History.{Act, Program, Runs, World, all_acts, does, drive_in, start_in, world_of}
 use Rattle.s360_laws.specs.Machine.{Machine, after_all, exchanges, is_working}
 
 -- the slot of a track of a device's volume, if the device and the track are there

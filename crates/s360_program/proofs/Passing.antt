@@ -1,6 +1,6 @@
 -- Bytes that may pass one after another.
 use Rattle.std.proofs.Common.{◌≡◌, ◌⊎◌, inl, inr, ℕ, zero, suc, ◌+◌, ◌-◌, ◌<◌, ◌≤◌, ◌/◌, refl, sym, ap, subst, ◌∙◌, arith, true, false, Bool, not, ◌&&◌, List, [], ◌∷◌, ◌++◌, nat_lt, length, take, drop, length-append, length-drop, length-take-le}
-use Rattle.std.specs.Prelude.{if◌then◌else◌, ◌==◌, is_some, slice_get, slice_index, slice_range, Ok, Err, IsTrue, Some, None}
+use Rattle.std.specs.Prelude.{if◌then◌else◌, ◌==◌, is_some, slice_get, slice_index, slice_range, Ok, Err, IsTrue}
 use Rattle.std.proofs.lemmas.Bool.Decides.{nat_tests}
 use Rattle.std.proofs.lemmas.Option.{slice_get_past}
 use Rattle.std.proofs.lemmas.List.{take-take}

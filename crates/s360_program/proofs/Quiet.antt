@@ -1,9 +1,8 @@
 -- Units that need no call of the store.
 use Rattle.std.proofs.Common.{◌≡◌, ◌⊎◌, inl, inr, ℕ, ◌<◌, arith, refl, sym, ap, ◌∙◌, subst, true, false, Bool, ◌&&◌, ◌||◌, ◌+◌, [], List, Option, None}
-use Rattle.ckd_image.specs.Image.{ImageState}
 use Rattle.s360_words.specs.Storage.{Storage}
 use Rattle.ckd_command.specs.Commands.{beginning, sight}
-use Rattle.ckd_command.specs.Drive.{Fault, State, Open, state_of, AfterBegin, Rejected, Immediate, Started, begin, AfterLook, Ready, Passed, Failed, look, close, is_written, is_write_command, track_under, unsaved}
+use Rattle.ckd_command.specs.Drive.{Fault, Open, state_of, AfterBegin, Rejected, Immediate, Started, begin, AfterLook, Ready, Passed, Failed, look, close, is_written, is_write_command, track_under, unsaved}
 use Rattle.ckd_command.specs.Tables.{aim}
 use Rattle.ckd_command.specs.declared.tables.Aim.{Aim}
 use Rattle.ckd_command.specs.declared.tables.Aim.TheVariants as aim_is
@@ -11,7 +10,6 @@ use Rattle.ckd_command.specs.declared.begin.Opened.{Opened}
 use Rattle.ckd_command.proofs.Marks.{BegunTraces, begin_traces, LookTraces, look_traces, close_writes}
 use Rattle.ckd_drive.specs.Work.{DriveState, Work, Idle, Over, Looking, Passing, is_idle, with_image, after_begun, after_begin, after_sight, after_look, after_look_of, closed_of, is_next, CallsStore, fault_met, begin_saves, goes_to_cylinder_zero, look_loads, look_loads_of, look_saves, look_saves_of, goes_to_next_head, answer_of_look}
 use Rattle.ckd_drive.specs.declared.answers.Look.TheVariants as seen
-use Rattle.s360_runs.specs.Places.{Place}
 use Rattle.s360_runs.specs.Scripts.{units}
 use Rattle.s360_runs.specs.StoreCalls.{is_next as looks_next}
 use Rattle.s360_runs.specs.Units.{ProgramPhase, walk, StandsIn}

@@ -27,7 +27,7 @@ use Rattle.s360_program.specs.Stands.{RunningState, LeftFits, Stands, Within, ph
 use Rattle.s360_program.specs.declared.conditions.Condition.{Condition}
 use Rattle.s360_program.specs.declared.conditions.Condition.TheVariants as condition
 use Rattle.s360_program.specs.declared.moving.Flow.{Flow}
-use Rattle.s360_program.specs.declared.program.Advance.{Advance}
+use Rattle.s360_program.specs.declared.program.Ran.{Ran}
 use Rattle.s360_program.specs.declared.run.Run.{Run}
 use Rattle.s360_program.specs.Stage.{Stage, stage_of}
 use Rattle.s360_program.specs.Stage as stage
@@ -204,7 +204,7 @@ differs residual left = (not (residual == 0) && left == 0) || (residual == 0 && 
 
 -- Many units, and a cut.
 
-abbrev pub goes_on : Advance → Bool
+abbrev pub goes_on : Ran → Bool
 goes_on a = is_none a.ending
 
 abbrev pub has_passed : Work → Bool

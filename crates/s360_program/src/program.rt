@@ -1,13 +1,13 @@
 //! A running channel program, as its callers see it.
 
-ghost use Rattle.std.specs.Prelude.{◌≡◌, ◌*◌, true, false, Some, None, is_some};
+ghost use Rattle.std.specs.Prelude.{◌≡◌, ◌*◌, ◌≤◌, true, false, Some, None, is_some};
 ghost use Rattle.s360_words.specs.Storage.{Storage as StorageState};
 ghost use Rattle.ckd_command.specs.Drive.{drive_of, is_written};
 ghost use Rattle.ckd_drive.specs.Work.{DriveState, CallsStore};
 ghost use Rattle.s360_runs.specs.Scripts.{TakesInterruption};
 ghost use Rattle.s360_runs.specs.Units.{standing_in, phase_past};
 ghost use Rattle.s360_runs.specs.Unsaved.{has_written};
-ghost use Rattle.s360_program.specs.Advances.{Rests, Advances, KeepsStorage, Cuts, CallsAtMost, NeedNoStore, TellsOf, CutTellsOf};
+ghost use Rattle.s360_program.specs.Advances.{Rests, Advances, RunsOn, KeepsStorage, Cuts, CallsAtMost, NeedNoStore, TellsOf, CutTellsOf};
 ghost use Rattle.s360_program.specs.Stands.{Stands, phase_in};
 ghost use Rattle.s360_program.specs.Starting.{IsFirst, StartsQuietly};
 
@@ -62,6 +62,15 @@ pub struct Advance {
     pub ending: Option<(Csw, bool)>,
 }
 
+/// The same of more units than 16 bits count.
+#[derive(Clone, Copy, Debug, PartialEq, Eq)]
+pub struct Ran {
+    /// How many were done: all that were asked for, unless the program ended.
+    pub done: u32,
+    /// The channel status word of a program that ended, and whether the arm still moves.
+    pub ending: Option<(Csw, bool)>,
+}
+
 impl Running {
     /// Does the first unit of the program that a channel address word leads to: the fetch of its first command.
     ///
@@ -108,12 +117,36 @@ impl Running {
         ensures tells { TellsOf result.ending drive.old drive.new }
         ensures quiet { NeedNoStore self.old.key (phase_in self.old storage.old drive.old) result.done → drive.new.image ≡ drive.old.image }
     {
+        let ran = self.run_on(u32::from(units), storage, drive);
+        Advance {
+            done: ran.done as u16,
+            ending: ran.ending,
+        }
+    }
+
+    /// The same of more units than 16 bits count.
+    // In line, so that a caller has no copy of what it comes to.
+    #[inline(always)]
+    pub fn run_on<S: ImageStore>(
+        &mut self,
+        units: u32,
+        storage: &mut Storage,
+        drive: &mut Drive<S>,
+    ) -> Ran
+        requires { Stands self.old drive.old }
+        ensures runs { RunsOn self.old.key (phase_in self.old storage.old drive.old) units result self.new storage.new drive.old drive.new }
+        ensures most { result.done ≤ units }
+        ensures storage { KeepsStorage storage.old storage.new }
+        ensures calls { CallsAtMost (2 * result.done) drive.old drive.new }
+        ensures tells { TellsOf result.ending drive.old drive.new }
+        ensures quiet { NeedNoStore self.old.key (phase_in self.old storage.old drive.old) result.done → drive.new.image ≡ drive.old.image }
+    {
         let mut run = self.run;
-        let advance = run.advance(units, storage, drive);
-        if advance.ending.is_none() {
+        let ran = run.advance(units, storage, drive);
+        if ran.ending.is_none() {
             self.run = run;
         }
-        advance
+        ran
     }
 
     /// Cuts the program, as Halt I/O and a reset do: the open command is closed by the bytes that have passed, where any

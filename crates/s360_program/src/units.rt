@@ -9,7 +9,7 @@ ghost use Rattle.s360_runs.specs.Units.{unit, next_chosen, Between, EndsIn, stan
 ghost use Rattle.s360_runs.specs.Unsaved.{has_written};
 ghost use Rattle.s360_words.specs.Storage.{Storage as StorageState};
 ghost use Rattle.ckd_drive.specs.Work.{is_idle, may_end, closed_of, CallsStore};
-ghost use Rattle.s360_program.specs.Advances.{Advances, CallsAtMost, KeepsStorage, NeedNoStore, TellsOf};
+ghost use Rattle.s360_program.specs.Advances.{RunsOn, CallsAtMost, KeepsStorage, NeedNoStore, TellsOf};
 ghost use Rattle.s360_program.specs.Stands.{phase_in, Within};
 ghost use Rattle.s360_program.specs.Steps.{run_of, Fits, IsQuiet, ComesBy, EndsBy, Steps, has_passed, goes_on, point_at, request_at, status_of, condition_for, differs, needs_area as wants_area};
 
@@ -17,7 +17,7 @@ use crate::conditions::{Condition, chains};
 use crate::endings::{FAILED, UNTOUCHED, end_program, told};
 use crate::moving::{flow_of, pass};
 use crate::place::Fetched;
-use crate::program::Advance;
+use crate::program::Ran;
 use crate::run::{Comes, Run, Step};
 use ckd_drive::{Begun, Drive, Look, Phase};
 use ckd_image::ImageStore;
@@ -27,12 +27,13 @@ impl Run {
     /// Does so many units, unless the program ends before.
     pub fn advance<S: ImageStore>(
         &mut self,
-        units: u16,
+        units: u32,
         storage: &mut Storage,
         drive: &mut Drive<S>,
-    ) -> Advance
+    ) -> Ran
         requires { Fits self.old drive.old }
-        ensures advances { Advances self.old.key (phase_in (run_of self.old) storage.old drive.old) units result (run_of self.new) storage.new drive.old drive.new }
+        ensures advances { RunsOn self.old.key (phase_in (run_of self.old) storage.old drive.old) units result (run_of self.new) storage.new drive.old drive.new }
+        ensures most { result.done ≤ units }
         ensures within { goes_on result ≡ true → Within (run_of self.new) }
         ensures storage { KeepsStorage storage.old storage.new }
         ensures calls { CallsAtMost (2 * result.done) drive.old drive.new }
@@ -42,16 +43,16 @@ impl Run {
         let mut left = units;
         while left > 0 {
             match self.step(left, storage, drive) {
-                Step::Units(n) => left -= n,
+                Step::Units(n) => left -= n as u32,
                 Step::Over => {
-                    return Advance {
+                    return Ran {
                         done: units - left + 1,
                         ending: Some(told(self)),
                     };
                 }
             }
         }
-        Advance {
+        Ran {
             done: units - left,
             ending: None,
         }
@@ -76,7 +77,7 @@ impl Run {
     /// Does one unit, or more where bytes pass together, and at most as many as are asked for.
     pub fn step<S: ImageStore>(
         &mut self,
-        most: u16,
+        most: u32,
         storage: &mut Storage,
         drive: &mut Drive<S>,
     ) -> Step
@@ -183,7 +184,7 @@ impl Run {
     // A look for the area of a command; where it is found the unit goes on.
     fn look<S: ImageStore>(
         &mut self,
-        most: u16,
+        most: u32,
         storage: &mut Storage,
         drive: &mut Drive<S>,
     ) -> Step
@@ -213,7 +214,7 @@ impl Run {
     #[inline(always)]
     fn transfer<S: ImageStore>(
         &mut self,
-        most: u16,
+        most: u32,
         storage: &mut Storage,
         drive: &mut Drive<S>,
     ) -> Step
@@ -314,14 +315,18 @@ fn is_incorrect(ccw: Ccw, residual: u16, left: usize) -> bool
 }
 
 // The least of three numbers.
-fn least(most: u16, residual: u16, left: usize) -> u16
+fn least(most: u32, residual: u16, left: usize) -> u16
     requires some { (0 < most) × (0 < residual) × (0 < left) }
     ensures some { 0 < result }
     ensures most { result ≤ most }
     ensures residual { result ≤ residual }
     ensures left { result ≤ left }
 {
-    let few = most.min(residual);
+    let few = if most < u32::from(residual) {
+        most as u16
+    } else {
+        residual
+    };
     if usize::from(few) > left {
         left as u16
     } else {

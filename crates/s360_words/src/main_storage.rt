@@ -86,6 +86,18 @@ impl Storage {
         self.bytes.get(at as usize).copied()
     }
 
+    /// The allocator of its bytes.
+    pub fn allocator(&self) -> Global {
+        *self.bytes.allocator()
+    }
+
+    /// Where the bytes of storage lie, for a processor that shares them. They stay there as long as the storage does.
+    pub fn as_mut_ptr(&mut self) -> *mut u8
+        ensures { self.new ≡ self.old }
+    {
+        self.bytes.as_mut_ptr()
+    }
+
     /// These bytes of storage, or none where one of them is outside.
     pub fn slice(&self, at: u32, len: u32) -> Option<&[u8]>
         ensures bytes { option_map (λ bytes. bytes.now) result

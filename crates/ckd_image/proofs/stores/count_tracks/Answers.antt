@@ -1,4 +1,4 @@
-use Rattle.std.proofs.Common.{◌∷◌, [], arith}
+use Rattle.std.proofs.Common.{arith}
 use Rattle.ckd_image.specs.Files.{listed}
 use Rattle.ckd_image.proofs.ReadLemmas.{whole_at}
 use Rattle.ckd_image.proofs.StoreLemmas.{holds_more}

@@ -1,4 +1,4 @@
-use Rattle.std.proofs.Common.{arith, ◌≡◌, ℕ, ◌+◌, ◌≤◌, ◌<◌, length, refl, sym, ◌∙◌, ap, inl, inr, not, true, false, take, List, subst, Err}
+use Rattle.std.proofs.Common.{arith, ◌≡◌, ℕ, ◌+◌, ◌≤◌, length, refl, sym, ◌∙◌, ap, inl, inr, not, false, take, subst, Err}
 use Rattle.std.specs.Prelude.{if◌then◌else◌, slice_range}
 use Rattle.s360_words.specs.Storage.{Storage, stored, may_store}
 use Rattle.s360_words.specs.Words.{skips}
