@@ -14,7 +14,7 @@ use anyhow::Result;
 use std::fs;
 
 /// The groups, each a file.
-const GROUPS: [&str; 13] = [
+const GROUPS: [&str; 17] = [
     "worked",
     "seeks",
     "reads",
@@ -28,6 +28,10 @@ const GROUPS: [&str; 13] = [
     "hostile",
     "decks",
     "random",
+    "files",
+    "drives",
+    "storages",
+    "channels",
 ];
 
 fn main(rt: HostRuntime) -> Result<()> {

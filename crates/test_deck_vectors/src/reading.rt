@@ -65,7 +65,7 @@ fn read_line<'a>(alloc: Global, line: &'a str, vector: &mut Vector<'a>) -> Resul
         "volume" => vector.volumes.push(read_volume(rest)?)?,
         "image" => vector.images.push(read_image(alloc, rest)?)?,
         "slot" => vector.slots.push(read_slot(alloc, rest)?)?,
-        "about" | "needs" => {}
+        "about" | "rule" | "manual" | "profile" | "needs" => {}
         _ => bail!("what is this? {word}"),
     }
     Ok(())
@@ -75,12 +75,12 @@ fn read_device(digits: &str) -> Result<u8> {
     u8::from_str_radix(digits, 16).context("no address")
 }
 
-// `90 x.img` or `91 new 2314 1`.
+// `90 x.img`, `90 first.img second.img` or `91 new 2314 1`.
 fn read_volume(words: &str) -> Result<(u8, Source<'_>)> {
     let (device, source) = words.split_once(' ').context("no volume")?;
     let device = read_device(device)?;
     let Some(volume) = source.strip_prefix("new ") else {
-        return Ok((device, Source::File(source)));
+        return Ok((device, Source::Files(source)));
     };
     let (model, cylinders) = volume.split_once(' ').context("no new volume")?;
     let cylinders = cylinders.parse::<u16>()?;

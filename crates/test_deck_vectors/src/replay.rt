@@ -1,9 +1,13 @@
 //! A vector is replayed.
 
+ghost use Rattle.std.specs.Prelude.{◌≡◌, ◌+◌, ◌<◌, All, IsSome, IfOk};
+ghost use Rattle.arrayvec.specs.ArrayVec.{array_vec_len};
+
 use crate::vector::{Slot, Source, Vector};
 use anyhow::{Result, bail};
+use arrayvec::ArrayVec;
 use ckd_image::{Image, ImageStore, MemoryStore, image_len};
-use ckd_track::Geometry;
+use ckd_track::{DriveModel, Geometry};
 use s360_channel::Channel;
 use s360_deck::{RunFault, run};
 use s360_words::Storage;
@@ -37,6 +41,9 @@ impl fmt::Display for Difference {
     }
 }
 
+// The length of a file's header, behind which the slots stand.
+const HEADER: usize = 512;
+
 type Disks = Channel<MemoryStore>;
 
 /// Runs the deck of a vector, and says how what comes of it differs from what must.
@@ -45,7 +52,7 @@ pub(crate) fn replay(rt: &HostRuntime, vector: &Vector) -> Result<Option<Differe
     let mut channel = channel_of(alloc, vector)?;
     attach_all(rt, &mut channel, vector)?;
     match answers_differ(alloc, &mut channel, vector)? {
-        None => Ok(images_differ(vector, channel)),
+        None => images_differ(alloc, vector, channel),
         difference => Ok(difference),
     }
 }
@@ -86,17 +93,17 @@ fn fault_of(alloc: Global, ran: std::result::Result<(), RunFault>) -> Result<Str
 }
 
 // How the first image differs that a channel leaves otherwise than the vector says.
-fn images_differ(vector: &Vector, channel: Disks) -> Option<Difference> {
+fn images_differ(alloc: Global, vector: &Vector, channel: Disks) -> Result<Option<Difference>> {
     let mut difference = None;
     for entry in channel.finish().images {
         if let Some((device, image)) = entry {
-            let of_image = image_differs(vector, device, image);
+            let of_image = image_differs(alloc, vector, device, image)?;
             if difference.is_none() {
                 difference = of_image;
             }
         }
     }
-    difference
+    Ok(difference)
 }
 
 fn channel_of(alloc: Global, vector: &Vector) -> Result<Disks> {
@@ -116,18 +123,52 @@ fn attach(alloc: Global, channel: &mut Disks, device: u8, image: Image<MemorySto
 
 // The image of a volume, as it is before the deck runs.
 fn image_of(rt: &HostRuntime, source: &Source) -> Result<Image<MemoryStore>> {
-    let alloc = rt.alloc();
-    let made = match source {
-        Source::File(path) => {
-            let bytes = fs::read(rt, *path)?;
-            Image::mount(MemoryStore::new(alloc, bytes.as_slice())?)
+    match source {
+        Source::Files(names) => image_in(rt, *names),
+        Source::New(model, cylinders) => new_image(rt.alloc(), *model, *cylinders),
+    }
+}
+
+// The image that these files hold, in order.
+fn image_in(rt: &HostRuntime, names: &str) -> Result<Image<MemoryStore>> {
+    match Image::mount_files(read_files(rt, names)?) {
+        Ok(image) => Ok(image),
+        Err((fault, _)) => bail!("{fault}"),
+    }
+}
+
+// The files of these names, in order.
+fn read_files(rt: &HostRuntime, names: &str) -> Result<ArrayVec<Option<MemoryStore>, 8>>
+    ensures there { IfOk result (λ files. All IsSome files.items) }
+{
+    let mut files = ArrayVec::new();
+    for name in names.split(' ') {
+        if files.len() >= 8 {
+            bail!("more than eight files");
         }
-        Source::New(model, cylinders) => {
-            let store = MemoryStore::zeros(alloc, image_len(*model, *cylinders))?;
-            Image::format(store, *model, *cylinders)
-        }
-    };
-    match made {
+        append(&mut files, read_file(rt, name)?);
+    }
+    Ok(files)
+}
+
+fn read_file(rt: &HostRuntime, name: &str) -> Result<MemoryStore> {
+    let bytes = fs::read(rt, name)?;
+    Ok(MemoryStore::new(rt.alloc(), bytes.as_slice())?)
+}
+
+// Appends a file.
+fn append(files: &mut ArrayVec<Option<MemoryStore>, 8>, file: MemoryStore)
+    requires room { array_vec_len files.old < 8 }
+    requires there { All IsSome files.old.items }
+    ensures there { All IsSome files.new.items }
+{
+    files.push(Some(file));
+}
+
+// A new volume.
+fn new_image(alloc: Global, model: DriveModel, cylinders: u16) -> Result<Image<MemoryStore>> {
+    let store = MemoryStore::zeros(alloc, image_len(model, cylinders))?;
+    match Image::format(store, model, cylinders) {
         Ok(image) => Ok(image),
         Err((fault, _)) => bail!("{fault}"),
     }
@@ -148,35 +189,35 @@ fn first_difference(output: &[u8], answers: &[u8]) -> Option<usize> {
 }
 
 // How the image that a run leaves differs from what the vector says of it.
-fn image_differs(vector: &Vector, device: u8, image: Image<MemoryStore>) -> Option<Difference> {
-    let geometry = image.geometry();
-    match image.into_stores().as_slice() {
-        [Some(store)] => file_differs(vector, device, geometry, store.bytes()),
-        _ => Some(Difference::Image(device)),
-    }
-}
-
-// The same of its file.
-fn file_differs(
+fn image_differs(
+    alloc: Global,
     vector: &Vector,
     device: u8,
-    geometry: Geometry,
-    file: &[u8],
-) -> Option<Difference> {
-    for slot in &vector.slots {
-        if slot.device == device && !holds_slot(file, geometry, slot) {
-            return Some(Difference::Slot(device, slot.cylinder, slot.head));
+    image: Image<MemoryStore>,
+) -> Result<Option<Difference>> {
+    let geometry = image.geometry();
+    let mut slots = Vec::new(alloc);
+    let mut hasher = Sha256::new();
+    for file in image.into_stores().as_slice() {
+        if let Some(file) = file {
+            hasher.update(file.bytes());
+            slots.extend_from_slice(file.bytes().get(HEADER..).unwrap_or(&[]))?;
         }
     }
-    let digest = Sha256::digest(file);
+    for slot in &vector.slots {
+        if slot.device == device && !holds_slot(slots.as_slice(), geometry, slot) {
+            return Ok(Some(Difference::Slot(device, slot.cylinder, slot.head)));
+        }
+    }
+    let digest = hasher.finalize();
     let differs = vector.images.iter().any(|(named, wanted)| *named == device
         && wanted.as_slice() != &digest[..]);
-    differs.then_some(Difference::Image(device))
+    Ok(differs.then_some(Difference::Image(device)))
 }
 
-// Whether an image holds this slot, and zeros behind its end mark.
-fn holds_slot(bytes: &[u8], geometry: Geometry, slot: &Slot) -> bool {
-    let Some(held) = slot_of(bytes, geometry, slot.cylinder, slot.head) else {
+// Whether a volume's slots have this one, with zeros behind its end mark.
+fn holds_slot(slots: &[u8], geometry: Geometry, slot: &Slot) -> bool {
+    let Some(held) = slot_of(slots, geometry, slot.cylinder, slot.head) else {
         return false;
     };
     let (Some(spelled), Some(behind)) = (held.get(..slot.bytes.len()), held.get(slot.bytes.len()..))
@@ -186,13 +227,13 @@ fn holds_slot(bytes: &[u8], geometry: Geometry, slot: &Slot) -> bool {
     spelled == slot.bytes.as_slice() && behind.iter().all(|byte| *byte == 0)
 }
 
-// The slot of a track, if the image has it.
-fn slot_of(bytes: &[u8], geometry: Geometry, cylinder: u16, head: u16) -> Option<&[u8]> {
+// The slot of a track, if there is one.
+fn slot_of(slots: &[u8], geometry: Geometry, cylinder: u16, head: u16) -> Option<&[u8]> {
     let size = geometry.track_size as usize;
     let heads = usize::from(geometry.model.heads());
     let track = usize::from(cylinder)
         .checked_mul(heads)?
         .checked_add(usize::from(head))?;
-    let from = track.checked_mul(size)?.checked_add(512)?;
-    bytes.get(from..from.checked_add(size)?)
+    let from = track.checked_mul(size)?;
+    slots.get(from..from.checked_add(size)?)
 }

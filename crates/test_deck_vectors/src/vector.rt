@@ -5,8 +5,8 @@ use ckd_track::DriveModel;
 /// The volume of a drive.
 #[derive(Clone, Copy, Debug, PartialEq, Eq)]
 pub(crate) enum Source<'a> {
-    /// An image file.
-    File(&'a str),
+    /// The image of one to eight files, whose names stand in order between blanks.
+    Files(&'a str),
     /// A new volume of so many cylinders.
     New(DriveModel, u16),
 }

@@ -1,0 +1,43 @@
+"""Adapters: each plays a vector at an emulator and says what came of it.
+
+An adapter has a `name`, a set `lacks` of what its emulator can't do (the names of `needs` lines), and a call `play(vector)` that
+gives an Outcome. It never raises for what an emulator does wrong; that is an Outcome with `broke`.
+"""
+
+
+class Emulator:
+    name = "?"
+    lacks = frozenset()
+
+    def play(self, vector):
+        raise NotImplementedError
+
+    def close(self):
+        """Ends what the adapter started."""
+
+    def __enter__(self):
+        return self
+
+    def __exit__(self, *_):
+        self.close()
+
+
+def make(spec):
+    """The emulator that a word names: `model`, `dasd=COMMAND`, `protocol=COMMAND`, `library=FILE`, `hercules` or `hercules=PROGRAM`."""
+    kind, _, rest = spec.partition("=")
+    if kind == "model":
+        from .model import ModelEmulator
+        return ModelEmulator()
+    if kind == "dasd" and rest:
+        from .dasd import DasdProgram
+        return DasdProgram(rest)
+    if kind == "protocol" and rest:
+        from .protocol import ProtocolEmulator
+        return ProtocolEmulator(rest)
+    if kind == "library":
+        from .library import LibraryEmulator
+        return LibraryEmulator(rest or None)
+    if kind in ("hercules", "hercules-seek-first"):
+        from .hercules import HerculesEmulator
+        return HerculesEmulator(rest or "hercules", seek_first=kind != "hercules")
+    raise ValueError("no such emulator: %s" % spec)

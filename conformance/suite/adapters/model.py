@@ -1,0 +1,25 @@
+"""The model of the suite as an emulator, whole or told to go otherwise."""
+from ..decks import DeckFault, parse
+from ..machine import Machine
+from ..vectors import Outcome
+from . import Emulator
+
+
+class ModelEmulator(Emulator):
+    name = "the suite's model"
+
+    def __init__(self, profile=None, lacks=(), storage=None, clock="step"):
+        self.profile, self.lacks, self.storage = profile, frozenset(lacks), storage
+        self.clock = clock if "steps" in self.lacks else None
+
+    def play(self, vector):
+        volumes = vector.before()
+        try:
+            events = parse(vector.deck)
+        except DeckFault as fault:
+            return Outcome(fault=str(fault), after=volumes)
+        machine = Machine(vector.channel, self.storage or vector.storage, list(volumes.items()), self.profile,
+                          own_clock=self.clock, own_arms="arrivals" in self.lacks)
+        answers = [machine.play(event) for event in events]
+        machine.do_reset()
+        return Outcome(answers, None, volumes)
