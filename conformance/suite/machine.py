@@ -26,7 +26,7 @@ class Machine:
         self.number, self.storage = channel, Storage(storage)
         self.units = {unit: Unit(volume, profile or Profile()) for unit, volume in volumes}
         self.program = self.working = self.pending = None
-        self.own_clock, self.own_arms = own_clock, own_arms
+        self.own_clock, self.own_arms, self.runs_for_ever = own_clock, own_arms, False
 
     def unit_of(self, address):
         """The unit at an address; None where it is not attached."""
@@ -148,6 +148,7 @@ class Machine:
             done += 1
             if self.program.ending:
                 self.over()
+        self.runs_for_ever = self.runs_for_ever or bool(self.own_clock) and self.working is not None
         return done
 
     def do_arrive(self, event):

@@ -35,10 +35,12 @@ class Vector:
     fault: Optional[str] = None
     images: List[Tuple[int, str]] = field(default_factory=list)
     slots: List[Tuple[int, int, int, bytes]] = field(default_factory=list)
+    # volumes that stand in no file, by unit
+    made: Dict[int, Volume] = field(default_factory=dict)
 
     def before(self) -> Dict[int, Volume]:
         """The volumes as they are before the deck runs, by unit, in the order of attachment."""
-        return {unit: self.volume(what) for unit, what in self.volumes}
+        return {unit: self.made[unit].copy() if unit in self.made else self.volume(what) for unit, what in self.volumes}
 
     def volume(self, what):
         words = what.split()

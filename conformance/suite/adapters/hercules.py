@@ -1,8 +1,8 @@
 """Hercules 3.13, System/370, bare metal: the instructions of a deck are issued by a small supervisor in its storage.
 
 A step waits until the program has ended: Hercules has no units, and its arms take no time. Storage has 16 MB. With seek_first
-a program that looks at a track first, and begins with no Seek, gets a Seek to where the arm stands and a transfer to its own
-first word before it; it ends at its own words, so its status words are the same.
+a program that begins with no Seek gets a Seek to where the arm stands, and a transfer to its own first word, before it; it ends
+at its own words, so its status words are the same. Programs that end at Start I/O, and those that begin with Sense, get none.
 """
 import os
 import subprocess
@@ -11,6 +11,7 @@ import time
 
 from .. import program
 from ..decks import DeckFault, parse
+from ..drive import SEEKS
 from ..machine import Machine
 from ..vectors import Outcome
 from ..volumes import BadImage, Volume
@@ -30,7 +31,7 @@ STORAGE = 1 << 24
 
 
 class HerculesEmulator(Emulator):
-    lacks = frozenset(["steps", "arrivals", "reset", "files", "storage", "decks", "zeros", "sense"])
+    lacks = frozenset(["steps", "arrivals", "reset", "files", "storage", "decks", "zeros", "sense", "run"])
 
     def __init__(self, command="hercules", seek_first=False, seconds=20):
         self.command, self.seek_first, self.seconds = command, seek_first, seconds
@@ -101,10 +102,11 @@ class HerculesEmulator(Emulator):
         if unit is None or caw[0] & 15 or first & 7 or not machine.storage.holds(first, 8):
             return None
         drive = unit.drive
-        drive.name = None
         code = machine.storage.bytes[first]
         trial = type(drive)(drive.volume, drive.profile)
-        if trial.begin(code) != "started" or trial.kind() is None or trial.name == "read-ipl":
+        begun = trial.begin(code)
+        chained = machine.storage.bytes[first + 4] & (program.CC | program.CD) == program.CC
+        if begun == "rejected" or begun == "immediate" and not chained or trial.name in ("recalibrate", "read-ipl", "sense", *SEEKS):
             return None
         place = metal.WORDS + at
         address = bytes(2) + drive.cylinder.to_bytes(2, "big") + drive.head.to_bytes(2, "big")

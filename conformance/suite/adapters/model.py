@@ -22,4 +22,4 @@ class ModelEmulator(Emulator):
                           own_clock=self.clock, own_arms="arrivals" in self.lacks)
         answers = [machine.play(event) for event in events]
         machine.do_reset()
-        return Outcome(answers, None, volumes)
+        return Outcome(answers, None, volumes, "a program runs for ever" if machine.runs_for_ever else None)

@@ -1,0 +1,126 @@
+"""The C library by ctypes, through the repository's Python module `dasd`, in this very process.
+
+The module is looked for in `python/` of the repository, then where Python looks. A file that is named is the library that it loads.
+"""
+import importlib
+import os
+import sys
+
+from ..decks import DeckFault, parse
+from ..vectors import HERE, Outcome
+from ..volumes import BadImage, Volume
+from . import Emulator
+
+MODULE = os.path.join(os.path.dirname(HERE), "python")
+
+
+def load(file):
+    """The module over a library."""
+    if file:
+        os.environ["DASD_LIBRARY"] = os.path.abspath(file)
+    folder = os.environ.get("DASD_PYTHON", MODULE)
+    if os.path.isdir(folder) and folder not in sys.path:
+        sys.path.insert(0, folder)
+    try:
+        return importlib.import_module("dasd")
+    except ImportError as why:
+        raise ValueError("the Python module dasd: %s" % why) from None
+
+
+class LibraryEmulator(Emulator):
+    lacks = frozenset(["decks"])
+
+    def __init__(self, file=None):
+        self.dasd = load(file)
+        self.name = "libdasd %s" % ".".join(map(str, self.dasd.library_version()))
+
+    def play(self, vector):
+        try:
+            events = parse(vector.deck)
+        except DeckFault as fault:
+            return Outcome(fault=str(fault), after=vector.before())
+        try:
+            with self.dasd.Channels(vector.storage, [vector.channel]) as channels:
+                return self.play_at(channels, vector, events)
+        except self.dasd.Fault as fault:
+            return Outcome(broke="the library refuses a call: %s" % fault)
+
+    def play_at(self, channels, vector, events):
+        counts = {}
+        for unit, volume in vector.before().items():
+            channels.attach(vector.channel << 8 | unit, *volume.files())
+            counts[unit] = len(volume.tracks_in)
+        player = Player(self.dasd, channels, vector.channel)
+        answers = [getattr(player, event.name.lower())(event) for event in events]
+        channels.reset(vector.channel)
+        try:
+            after = {unit: Volume.read([channels.file(vector.channel << 8 | unit, at)[0] for at in range(number)]) for unit, number in counts.items()}
+        except BadImage as why:
+            return Outcome(broke="an image is spoilt: %s" % why)
+        return Outcome(answers, None, after)
+
+
+class Player:
+    """An event's call, and its answer's line."""
+
+    def __init__(self, dasd, channels, number):
+        self.dasd, self.channels, self.number = dasd, channels, number
+
+    def csw(self):
+        text = self.channels.peek(0x40, 8).hex().upper()
+        return text[:8] + " " + text[8:]
+
+    def code(self, name, unit, code, status):
+        return "%s %03X CC %d%s" % (name, unit, code, " " + status if code == 1 else "")
+
+    def sio(self, event):
+        code = self.channels.sio(event.unit)
+        return self.code("SIO", event.unit, code, self.csw()[9:13])
+
+    def hio(self, event):
+        code = self.channels.hio(event.unit)
+        return self.code("HIO", event.unit, code, self.csw()[9:13])
+
+    def tio(self, event):
+        code = self.channels.tio(event.unit)
+        return self.code("TIO", event.unit, code, self.csw())
+
+    def tch(self, event):
+        return "TCH CC %d" % self.channels.tch(self.number << 8)
+
+    def step(self, event):
+        return "%s %d" % (event.name, self.channels.step(self.number, event.number))
+
+    run = step
+
+    def arrive(self, event):
+        return "ARRIVE %03X %s" % (event.unit, "YES" if self.channels.arrive(event.unit) else "NO")
+
+    def int(self, event):
+        address = self.channels.interrupt(0x80 >> self.number)
+        return "INT NONE" if address is None else "INT %03X %s" % (address, self.csw())
+
+    def reset(self, event):
+        unsaved = self.channels.reset(self.number)
+        return "RESET CLEAN" if unsaved is None else "RESET UNSAVED %03X %04X %04X" % unsaved
+
+    def store(self, event):
+        return "STORE " + self.inside(lambda: self.channels.poke(event.address, event.data))
+
+    def key(self, event):
+        return "KEY " + self.inside(lambda: self.channels.set_key(event.address, event.number))
+
+    def inside(self, call):
+        try:
+            call()
+        except self.dasd.Fault as fault:
+            if fault.name != "OUTSIDE_STORAGE":
+                raise
+            return "OUTSIDE"
+        return "OK"
+
+    def show(self, event):
+        try:
+            return "SHOW %06X %s" % (event.address, self.channels.peek(event.address, event.number).hex().upper())
+        except self.dasd.Fault:
+            return "SHOW OUTSIDE"
