@@ -1,0 +1,105 @@
+#!/usr/bin/env python3
+"""Writes docs/HERCULES.md from a run: each deck of hercules/ is played, and what Hercules answers stands beside what it must.
+
+  hercules_page.py [--table TITLE=FILE ..] > ../docs/HERCULES.md
+
+A FILE is what run.py printed of a whole run."""
+import argparse
+import os
+import sys
+
+from ask import compared, read_deck
+from suite.adapters.hercules import HerculesEmulator
+from suite.vectors import HERE
+
+HEAD = """# What Hercules 3.13 does
+
+What Hercules 3.13 (Debian's package `hercules`, 3.13-7) does otherwise than this suite's vectors say. Facts from a run, each with the
+command that shows it; `conformance/hercules_page.py` wrote this page, and writes it anew.
+
+How it is asked: a small supervisor in System/370 mode, bare metal, on one processor with 16 MB issues the instructions of a deck
+one after another, and keeps what came of each; storage and images are compared afterwards
+(`conformance/suite/adapters/hercules.py`). A step waits until the program's interruption pends. What that can't ask is left out:
+units, arrivals, a reset in the middle, storage of another size, images in several files.
+
+In each deck below the volume is the suite's `x.img` at 190 where no other is named, and only what comes out otherwise has two
+answers. `must` is what this suite's vectors say; where that is a choice of the suite and no rule of a manual, the text says so. The
+manuals are named as in [FORMAT.md](../conformance/FORMAT.md). Sense bytes 2 to 5 are not compared.
+"""
+
+ALIKE = """
+## What is alike
+
+The vectors that come out right are the rows `right` of the tables below. Among them: data chaining, skipping, transfers, searches by
+identifier and key with the multi-track bit, reads of every kind and their positions, unit exception, updates of data and of keys, formatting writes that
+fit, what a file mask refuses, seeks inside and outside a volume, Read IPL, images with another track size. Images that Hercules wrote
+are the same track by track; it leaves what stood behind a track's end mark where it was.
+"""
+
+
+def section(number, path, emulator):
+    """A fact: its deck, and both answers."""
+    vector, must, said = read_deck(path)
+    outcome = emulator.play(vector)
+    name = os.path.basename(path)
+    volume = vector.volumes[0][1]
+    lines = ["## %d. %s" % (number, said["title"]), ""]
+    if volume != "x.img":
+        lines += ["Volume: `%s`." % volume, ""]
+    lines.append("```")
+    for line, answer, wanted in compared(vector, must, outcome, emulator.lacks):
+        quiet = line.startswith(("STORE", "KEY", "STEP")) or outcome.broke
+        note = "must be %s" % must_of(vector, must, line, outcome) if outcome.broke and line in broken_lines(vector, must) else ""
+        if wanted and not outcome.broke:
+            note = "Hercules %s   must be %s" % (answer, wanted)
+        elif not quiet:
+            note = answer
+        lines.append(("%-26s %s" % (line, note)).rstrip())
+    lines += ["```", ""]
+    if outcome.broke:
+        lines += ["%s." % outcome.broke, ""]
+    lines += ["- The manuals: %s." % said["manual"], "- For an operating system: %s." % said["matters"],
+              "- Shown by `conformance/ask.py hercules conformance/hercules/%s`, and by the vectors %s." % (name, ", ".join("`%s`" % it for it in said["vectors"].split())), ""]
+    return "\n".join(lines)
+
+
+def broken_lines(vector, must):
+    """The lines of a deck that must answer something that is said."""
+    lines = vector.deck.decode("ascii").splitlines()
+    return {lines[at] for at in must}
+
+
+def must_of(vector, must, line, _):
+    lines = vector.deck.decode("ascii").splitlines()
+    return next(must[at] for at in sorted(must) if lines[at] == line)
+
+
+def tables(files):
+    """The tables of whole runs."""
+    out = ["## By rule", "", "Vectors by rule: right, wrong, left out (they need what this way of asking lacks), declined (they name storage where the supervisor stands).",
+           "A vector is wrong with its first difference, and many of these show the same fact again.", ""]
+    for it in files:
+        title, _, path = it.partition("=")
+        with open(path, encoding="utf-8") as text:
+            lines = text.read().split("\n")
+        start = next(at for at, line in enumerate(lines) if line.startswith("Rule "))
+        out += ["### %s" % title, "", "```", *[line for line in lines[start:] if line], "```", ""]
+    return "\n".join(out)
+
+
+def main():
+    words = argparse.ArgumentParser(description=__doc__, formatter_class=argparse.RawDescriptionHelpFormatter)
+    words.add_argument("--table", action="append", default=[], metavar="TITLE=FILE")
+    said = words.parse_args()
+    folder = os.path.join(HERE, "hercules")
+    with HerculesEmulator() as emulator:
+        facts = [section(number, os.path.join(folder, it), emulator) for number, it in enumerate(sorted(os.listdir(folder)), 1)]
+    print(HEAD)
+    print("\n".join(facts), end="")
+    print(ALIKE)
+    print(tables(said.table), end="")
+    return 0
+
+
+if __name__ == "__main__":
+    sys.exit(main())
