@@ -157,7 +157,8 @@ class Runner(unittest.TestCase):
         self.assertEqual(run("no-such-thing")[1], 2)
 
     def test_a_declined_vector_is_neither_right_nor_wrong(self):
-        text, status = run("protocol=%s -c \"import sys\nfor it in sys.stdin: print('HELLO 1 x' if it.startswith('HELLO') else 'NO thanks', flush=True)\"" % sys.executable)
+        code = "import sys\nfor it in sys.stdin: print('HELLO 1 x' if it.startswith('HELLO') else 'NO thanks', flush=True)"
+        text, status = run("protocol=%s -c \"%s\"" % (sys.executable, code))
         vectors, right, wrong, left_out, declined = last_row(text)
         self.assertEqual((right, wrong, status), (0, 0, 0))
         self.assertEqual(vectors, left_out + declined)

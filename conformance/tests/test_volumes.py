@@ -8,11 +8,7 @@ from volume import describe
 
 
 def image(*names):
-    files = []
-    for name in names:
-        with open(os.path.join(folder(), name), "rb") as it:
-            files.append(it.read())
-    return Volume.read(files)
+    return Volume.load([os.path.join(folder(), it) for it in names])
 
 
 def described(name):

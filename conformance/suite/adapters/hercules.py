@@ -63,7 +63,7 @@ class HerculesEmulator(Emulator):
             kept = it.read()
         answers = [self.answer(vector, event, kept[at * metal.ENTRY:(at + 1) * metal.ENTRY]) for at, event in enumerate(events)]
         try:
-            return Outcome(answers, None, {unit: Volume.read([open(path, "rb").read()]) for unit, path in paths.items()})
+            return Outcome(answers, None, {unit: Volume.load([path]) for unit, path in paths.items()})
         except BadImage as why:
             return Outcome(broke="an image is spoilt: %s" % why)
 
