@@ -52,7 +52,7 @@ class Vectors(unittest.TestCase):
             self.assertLessEqual(set(vector.profile), {"units", "decks", *PROFILE}, vector.name)
 
     def test_marks_are_what_the_model_says(self):
-        for vector in VECTORS[::17]:
+        for vector in VECTORS[::23]:
             with self.subTest(vector.name):
                 self.assertEqual(vector.needs, needs_of(vector))
                 self.assertEqual(vector.profile, profile_of(vector))
@@ -86,7 +86,7 @@ class Model(unittest.TestCase):
     def test_each_choice_of_the_profile_leaves_the_other_vectors_right(self):
         for name in PROFILE:
             model = ModelEmulator(Profile().without(name.replace("-", "_")))
-            for vector in VECTORS[::7]:
+            for vector in VECTORS[::13]:
                 if name not in vector.profile:
                     with self.subTest(vector.name, profile=name):
                         self.assertIsNone(difference(vector, model.play(vector), ["steps"]))
