@@ -12,11 +12,11 @@ abbrev pub volume_label_name : List ℕ
 volume_label_name = 0xE5 ∷ 0xD6 ∷ 0xD3 ∷ 0xF1 ∷ []
 
 -- The volume label takes 80 bytes and begins with VOL1: the serial number at 4, the address of the volume table of contents at 11,
--- the owner's name at 41.
+-- the owner's name at 37, of which OS/360 uses the last ten bytes.
 abbrev pub volume_label_of : List ℕ → Option VolumeLabel
 volume_label_of bytes =
     if nat_le 80 (length bytes) && bytes_eq (slice_range bytes 0 4) volume_label_name
-    then Some (record { serial = slice_range bytes 4 10; contents = record_address_at bytes 11; owner = slice_range bytes 41 51 })
+    then Some (record { serial = slice_range bytes 4 10; contents = record_address_at bytes 11; owner = slice_range bytes 37 51 })
     else None
 
 -- A control block has a key of 44 bytes and 96 bytes of data, the first of which is its format in EBCDIC, or zero where it is free.

@@ -18,8 +18,8 @@ pub struct VolumeLabel {
     pub serial: [u8; 6],
     /// Where the volume table of contents says what it is: its format 4 block.
     pub contents: RecordAddress,
-    /// The owner's name, in EBCDIC.
-    pub owner: [u8; 10],
+    /// The owner's name, in EBCDIC; OS/360 has it in the last ten bytes.
+    pub owner: [u8; 14],
 }
 
 /// The volume label in a record's data: at least 80 bytes that begin with VOL1 (IBM System/360 Operating System, System Control
@@ -33,16 +33,16 @@ pub fn volume_label(bytes: &[u8]) -> Option<VolumeLabel>
     Some(VolumeLabel {
         serial: six(bytes, 4),
         contents: record_address_at(bytes, 11),
-        owner: ten(bytes, 41),
+        owner: fourteen(bytes, 37),
     })
 }
 
-// The ten bytes from an offset on.
-fn ten(bytes: &[u8], at: usize) -> [u8; 10]
-    requires { at + 10 ≤ length bytes.now }
-    ensures { result ≡ slice_range bytes.now at (at + 10) }
+// The fourteen bytes from an offset on.
+fn fourteen(bytes: &[u8], at: usize) -> [u8; 14]
+    requires { at + 14 ≤ length bytes.now }
+    ensures { result ≡ slice_range bytes.now at (at + 14) }
 {
-    let mut ten = [0u8; 10];
-    ten.copy_from_slice(&bytes[at..at + 10]);
-    ten
+    let mut fourteen = [0u8; 14];
+    fourteen.copy_from_slice(&bytes[at..at + 14]);
+    fourteen
 }
