@@ -11,7 +11,7 @@ pub(crate) const NO_PATH: &str = "error: no path\n";
 fn dasd_command<'a>(alloc: Global) -> Result<Command<'a>, AllocError> {
     Command::new(alloc, "dasd")
         .about("Formats, lists and checks CKD_P370 disk images, and runs decks over them")
-        .version("1.0")
+        .version("1.1.0")
         .after_help("Example: dasd run 90=new:2311:1 < deck.txt")
         .subcommand_required(true)
         .subcommand(verbose(alloc, format::command(alloc)?)?)?
