@@ -30,9 +30,10 @@ manuals are named as in [FORMAT.md](../conformance/FORMAT.md). Sense bytes 2 to 
 ALIKE = """
 ## What is alike
 
-The vectors that come out right are the rows `right` of the tables below. Among them: data chaining, skipping, transfers, searches by
-identifier and key with the multi-track bit, reads of every kind and their positions, unit exception, updates of data and of keys, formatting writes that
-fit, what a file mask refuses, seeks inside and outside a volume, Read IPL, images with another track size. Images that Hercules wrote
+The vectors that come out right are the rows `right` of the tables below. With a Seek before each program they have among them data
+chaining of reads and updates, skipping, transfers, searches by identifier and key and with the multi-track bit, reads of every kind and
+where they leave the track, unit exception, updates of data and of keys, formatting writes that fit, a whole track made anew, seeks of
+each kind (but for sense bytes), Read IPL, and images with other track sizes. Images that Hercules wrote
 are the same track by track; it leaves what stood behind a track's end mark where it was.
 
 ## By chance
