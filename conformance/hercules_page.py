@@ -38,7 +38,7 @@ are the same track by track; it leaves what stood behind a track's end mark wher
 
 ## By chance
 
-`conformance/differ.py model hercules --plain --seek-first --readable --without-profile` plays lists by chance whose programs each begin with a
+`conformance/differ.py model hercules --plain --seek-first --readable --without-profile --lists 700` plays lists by chance whose programs each begin with a
 Seek, and which rest on no choice of this suite. Of 700 seeds 81 made such a list, and 44 came out otherwise, in 14 ways. Each is one of those above: 8, 11, 12,
 16, 17, 25, 28, 32, 33 and 34; of these 28, 32, 33 and 34 were found by it.
 """
