@@ -176,6 +176,13 @@ class Reports(unittest.TestCase):
         self.assertEqual((again.get("tests"), again.get("failures")), ("3", "1"))
         self.assertEqual([len(again.findall(".//" + it)) for it in ("testcase", "failure", "skipped")], [3, 1, 1])
 
+    def test_a_run_writes_junit(self):
+        with tempfile.TemporaryDirectory() as room:
+            file = os.path.join(room, "out.xml")
+            _, status = run("model", "--rule", "seek", "--junit", file)
+            top = xml.parse(file).getroot()
+            self.assertEqual((status, top.tag, int(top.get("tests"))), (0, "testsuites", sum("seek" in it.rules for it in VECTORS)))
+
     def test_the_bundle_runs_by_itself(self):
         with tempfile.TemporaryDirectory() as room:
             file = os.path.join(room, "suite.tar.gz")

@@ -144,6 +144,7 @@ impl ImageStore for HostDraft<'_> {
     }
 
     // Bytes are written at its end alone.
+    #[tactic(auto, using(crate::proofs::Behind::written_behind))]
     fn write_at(&mut self, at: u64, bytes: &[u8]) -> Result<(), StoreFault> {
         let end = self.len.checked_add(bytes.len() as u64);
         match end {

@@ -159,6 +159,7 @@ impl ImageStore for MemoryDraft {
         Err(StoreFault)
     }
 
+    #[tactic(auto, using(crate::proofs::Behind::written_behind))]
     fn write_at(&mut self, at: u64, bytes: &[u8]) -> std::result::Result<(), StoreFault> {
         if at == self.bytes.len() as u64 && self.bytes.extend_from_slice(bytes).is_ok() {
             return Ok(());
