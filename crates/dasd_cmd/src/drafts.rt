@@ -1,6 +1,6 @@
 //! New files, which are written beside the old ones.
 
-ghost use Rattle.std.specs.Prelude.{◌≡◌, ◌++◌, [], length, OnOk};
+ghost use Rattle.std.specs.Prelude.{◌≡◌, [], length, IfOk};
 
 use crate::host::wrong;
 use ckd_image::{ImageStore, StoreFault};
@@ -107,24 +107,27 @@ impl<'a> HostDraft<'a> {
     /// Takes the place of the old file, if that is still there, or of none.
     pub(crate) fn put(self, path: &str) -> io::Result<()> {
         let mut draft = self;
-        if draft.given.as_str() != path {
+        draft.move_to(path)?;
+        draft.is_put = true;
+        Ok(())
+    }
+
+    // Has the file on the disk, and gives it its name.
+    fn move_to(&self, path: &str) -> io::Result<()> {
+        if self.given.as_str() != path {
             return Err(wrong("it was begun for another path"));
         }
-        draft.file.sync_all()?;
-        let target = match &draft.old {
+        self.file.sync_all()?;
+        match &self.old {
             Some(old) => {
-                let there = fs::metadata(draft.host, old.path.as_str())?;
+                let there = fs::metadata(self.host, old.path.as_str())?;
                 if there.dev() != old.known.dev() || there.ino() != old.known.ino() {
                     return Err(wrong("another program has replaced it"));
                 }
-                old.path.as_path()
+                rename(self.host, self.beside.as_str(), old.path.as_str())
             }
-            None => Path::new(path),
-        };
-        fs::rename(draft.host, draft.beside.as_str(), target.as_str())?;
-        draft.is_put = true;
-        sync_folder(draft.host, target);
-        Ok(())
+            None => rename(self.host, self.beside.as_str(), path),
+        }
     }
 }
 
@@ -197,6 +200,13 @@ fn keep_owner(file: &File, old: &Metadata) -> io::Result<()> {
         fchown(file, Some(old.uid()), Some(old.gid()))?;
     }
     file.set_permissions(Permissions::from_mode(old.mode() & MODE))
+}
+
+// Gives a file another name, and has that on the disk.
+fn rename(host: &HostRuntime, from: &str, to: &str) -> io::Result<()> {
+    fs::rename(host, from, to)?;
+    sync_folder(host, Path::new(to));
+    Ok(())
 }
 
 // Has a folder's names written to the disk, as far as the host does that.
