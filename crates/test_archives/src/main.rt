@@ -9,9 +9,7 @@
 use anyhow::{Context, Result, bail};
 use ckd_image::{Image, ImageStore, MemoryStore};
 use ckd_track::{DriveModel, Geometry};
-use dasd_archive::{
-    Comparison, Form, Part, Range, Style, Tally, check_strict, compare, dump,
-};
+use dasd_archive::{Comparison, Form, Part, Range, Style, Tally, check_strict, compare, dump};
 use std::alloc::Global;
 use std::io;
 use std::io::Write;
