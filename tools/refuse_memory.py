@@ -33,7 +33,7 @@ SIO 190
 STEP 100
 INT
 """
-COMMANDS = ["format", "list", "check", "run", "help"]
+COMMANDS = ["format", "list", "check", "dump", "compare", "run", "help"]
 WRONG = "fomrat"
 
 
