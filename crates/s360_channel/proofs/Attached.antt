@@ -5,7 +5,6 @@ use Rattle.std.proofs.lemmas.List.{map-append, length_push}
 use Rattle.std.proofs.lemmas.List.Folds.{find-append}
 use Rattle.std.specs.Prelude.{find, option_map, is_some, position, slice_get}
 use Rattle.std.specs.Option.{option_or}
-use Rattle.ckd_drive.specs.Work.{DriveState, new_drive}
 use Rattle.ckd_image.specs.Image.{ImageState}
 use Rattle.s360_runs.specs.Endings.{Outcome}
 use Rattle.s360_runs.specs.Status.{tells}
@@ -130,10 +129,10 @@ stands_push device image c m n s =
         go false e = omega (arith, l, h)
 
 -- The channel's parts, after a drive was added.
-pub stands_attached : (device : ℕ) (image : ImageState) (c : ChannelState) (m : Machine) (units : List UnitState) (drive : DriveState) → drive ≡ new_drive image → NotRefused device c
-    → units ≡ c.units ++ record { device = device; arm = AtRest; drive = drive } ∷ [] → StandsFor c m → StandsFor (record c { units = units }) (attached device image m)
-stands_attached device image c m units drive d n e s =
-    subst (λ us. StandsFor (record c { units = us }) (attached device image m)) (sym (e ∙ ap (λ d. c.units ++ record { device = device; arm = AtRest; drive = d } ∷ []) d)) (stands_push device image c m n s)
+pub stands_attached : (device : ℕ) (image : ImageState) (c : ChannelState) (m : Machine) (units : List UnitState) → NotRefused device c
+    → units ≡ c.units ++ new_unit device image ∷ [] → StandsFor c m → StandsFor (record c { units = units }) (attached device image m)
+stands_attached device image c m units n e s =
+    subst (λ us. StandsFor (record c { units = us }) (attached device image m)) (sym e) (stands_push device image c m n s)
 
 -- what the code asks of the place and the number
 pub may_attach : (device : ℕ) (c : ChannelState) (place : Option ℕ) (n : ℕ) → place ≡ position (is_at device) c.units → is_some place ≡ false → n ≡ length c.units → (n ≡ 8 → ⊥) → NotRefused device c

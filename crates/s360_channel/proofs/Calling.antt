@@ -9,7 +9,7 @@ use Rattle.ckd_drive.specs.Work.{DriveState}
 use Rattle.s360_runs.specs.Status.{no_unit_status, no_channel_status}
 use Rattle.s360_program.specs.Advances.{AdvancesTo, TellsOf}
 use Rattle.s360_program.specs.Stands.{RunningState, Stands, phase_in}
-use Rattle.s360_program.specs.declared.program.Advance.{Advance}
+use Rattle.s360_program.specs.declared.program.Ran.{Ran}
 use Rattle.s360_laws.specs.Events.{Answer, Event, StepBy, Stepped, Hio, Condition, StatusStored, Reset, WasReset}
 use Rattle.s360_laws.specs.Machine as machine
 use Rattle.s360_laws.specs.Machine.{Machine, react, step, halt_io, device_at, with_status, on_channel}
@@ -70,7 +70,7 @@ none_steps c m k never (Working place r) is h = absurd (never place r is)
 pub no_step_does : (c : ChannelState) (m : Machine) (k : ℕ) → ((place : ℕ) (r : RunningState) → c.subchannel ≡ Working place r → ⊥) → StandsFor c m → Does (StepBy k) m (Stepped 0) c c
 no_step_does c m k never s = nothing_does (StepBy k) m c (Stepped 0) s (none_steps c m k never c.subchannel refl s.shows)
 
-module _ (c : ChannelState) (m : Machine) (place : ℕ) (r : RunningState) (is : c.subchannel ≡ Working place r) (s : StandsFor c m) (k : ℕ) (a : Advance) (r' : RunningState) (st : Storage) (units : List UnitState)
+module _ (c : ChannelState) (m : Machine) (place : ℕ) (r : RunningState) (is : c.subchannel ≡ Working place r) (s : StandsFor c m) (k : ℕ) (a : Ran) (r' : RunningState) (st : Storage) (units : List UnitState)
     (d : DriveChanges place (AdvancesAt r c.storage k a r' st) c.units units) where
   pub step_goes_on : a.ending ≡ None → Does (StepBy k) m (Stepped a.done) c (record { number = c.number; storage = st; subchannel = Working place r'; units = units })
   step_goes_on e =

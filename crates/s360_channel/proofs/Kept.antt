@@ -90,7 +90,7 @@ sets_key at key = keeps (SetKey at key) (KeyOf at key) (λ m. refl)
 
 -- A look at storage.
 
-storage_in : (c : ChannelState) (m : Machine) → StandsFor c m → storage_of m m.subchannel ≡ c.storage
+pub storage_in : (c : ChannelState) (m : Machine) → StandsFor c m → storage_of m m.subchannel ≡ c.storage
 storage_in c m h = go c.subchannel h.shows
   where
     go : (s : Subchannel) → Shows c m s → storage_of m m.subchannel ≡ c.storage

@@ -7,15 +7,16 @@ use Rattle.std.proofs.lemmas.List.{map_more}
 use Rattle.s360_events.specs.Seen.{event_seen, answer_seen}
 use Rattle.s360_events.specs.declared.answers.Answer as deck_answer
 use Rattle.s360_events.specs.declared.events.Event as deck_event
-use Rattle.s360_channel.specs.Calls.{Does, IsMet, Reports}
+use Rattle.s360_channel.specs.Calls.{CallsAtMost, Does, IsMet, Reports, most_calls}
 use Rattle.s360_channel.specs.Channel.{ChannelState, StandsFor, failures_of}
-use Rattle.s360_channel.specs.Lists.{Follows, AllReported, faults_in}
+use Rattle.s360_channel.specs.Lists.{AllMet, Follows, AllReported, faults_in}
 
 -- What these events did at a channel, without what follows from it.
 pub record Drove (m : Machine) (events : List Event) (given : List Answer) (old new : ChannelState) : Type 0 where
   pub inputs : List Input
   pub are_these : map (λ i. i.0) inputs ≡ events
   pub faults : failures_of new ≡ failures_of old + faults_in inputs
+  pub met : AllMet inputs given old new
   pub same_answers : given ≡ answers inputs m
   pub stands : StandsFor new (after_all inputs m)
   pub reported : AllReported inputs m
@@ -29,6 +30,7 @@ drove_none m c stands = record {
   inputs = [];
   are_these = refl;
   faults = plus_none (failures_of c);
+  met = refl;
   same_answers = refl;
   stands = stands;
   reported = tt;
@@ -79,15 +81,35 @@ map_one_more f (y ∷ xs) x = ap (λ l. f y ∷ l) (map_one_more f xs x)
 counts_join : (old mid new a b : ℕ) → mid ≡ old + a → new ≡ mid + b → new ≡ old + (a + b)
 counts_join old mid new a b p q = omega (arith, p, q)
 
+met_one_more : (es : List Input) (given : List Answer) (old mid new : ChannelState) (i : Input) (a : Answer)
+    → AllMet es given old mid → IsMet i.1 a mid new → CallsAtMost (most_calls i.0 a) mid new → AllMet (es ++ i ∷ []) (given ++ a ∷ []) old new
+met_one_more [] [] old mid new i a h k l = (new, subst (λ old. IsMet i.1 a old new) h k, subst (λ old. CallsAtMost (most_calls i.0 a) old new) h l, refl)
+met_one_more [] (b ∷ given) old mid new i a h k l = absurd h
+met_one_more (e ∷ es) [] old mid new i a h k l = absurd h
+met_one_more (e ∷ es) (b ∷ given) old mid new i a h k l = (h.0, h.1, h.2, met_one_more es given h.0 mid new i a h.3 k l)
+
+headers_along : (es : List Input) (given : List Answer) (old new : ChannelState) → AllMet es given old new → map (λ u. u.drive.image.header) new.units ≡ map (λ u. u.drive.image.header) old.units
+headers_along [] [] old new h = ap (λ (c : ChannelState). map (λ u. u.drive.image.header) c.units) h
+headers_along [] (b ∷ given) old new h = absurd h
+headers_along (e ∷ es) [] old new h = absurd h
+headers_along (e ∷ es) (b ∷ given) old new h = headers_along es given h.0 new h.3 ∙ h.2.headers
+
+geometries_along : (es : List Input) (given : List Answer) (old new : ChannelState) → AllMet es given old new → map (λ u. u.drive.image.geometry) new.units ≡ map (λ u. u.drive.image.geometry) old.units
+geometries_along [] [] old new h = ap (λ (c : ChannelState). map (λ u. u.drive.image.geometry) c.units) h
+geometries_along [] (b ∷ given) old new h = absurd h
+geometries_along (e ∷ es) [] old new h = absurd h
+geometries_along (e ∷ es) (b ∷ given) old new h = geometries_along es given h.0 new h.3 ∙ h.2.geometries
+
 does_one_more : (m : Machine) (events : List Event) (given : List Answer) (old mid new : ChannelState) (d : Drove m events given old mid) (e : Event) (a : Answer)
-    → Does e (after_all d.inputs m) a mid new → Drove m (events ++ e ∷ []) (given ++ a ∷ []) old new
-does_one_more m events given old mid new d e a does =
+    → Does e (after_all d.inputs m) a mid new → CallsAtMost (most_calls e a) mid new → Drove m (events ++ e ∷ []) (given ++ a ∷ []) old new
+does_one_more m events given old mid new d e a does calls =
     let i : Input = (e, does.fault) in
     record {
       inputs = d.inputs ++ i ∷ [];
       are_these = map_one_more (λ (i : Input). i.0) d.inputs i ∙ ap (λ l. l ++ e ∷ []) d.are_these;
       faults = counts_join (failures_of old) (failures_of mid) (failures_of new) (faults_in d.inputs) (met does.fault) d.faults (met_counts does.fault a mid new does.met)
           ∙ ap (λ n. failures_of old + n) (sym (faults_one_more d.inputs e does.fault));
+      met = met_one_more d.inputs given old mid new i a d.met does.met calls;
       same_answers = ap (λ l. l ++ a ∷ []) d.same_answers ∙ ap (λ b. answers d.inputs m ++ b ∷ []) does.answers ∙ sym (answers_one_more d.inputs i m);
       stands = subst (StandsFor new) (sym (after_one_more d.inputs i m)) does.stands;
       reported = reported_one_more d.inputs i m d.reported does.reports;
@@ -95,9 +117,9 @@ does_one_more m events given old mid new d e a does =
 
 -- one event more
 pub drove_one_more : (m : Machine) (events : List Event) (given : List Answer) (old mid new : ChannelState) (e : Event) (a : Answer)
-    → ((now : Machine) → StandsFor mid now → Does e now a mid new) → Drove m events given old mid → Drove m (events ++ e ∷ []) (given ++ a ∷ []) old new
-drove_one_more m events given old mid new e a does d =
-    does_one_more m events given old mid new d e a (does (after_all d.inputs m) d.stands)
+    → ((now : Machine) → StandsFor mid now → Does e now a mid new) → CallsAtMost (most_calls e a) mid new → Drove m events given old mid → Drove m (events ++ e ∷ []) (given ++ a ∷ []) old new
+drove_one_more m events given old mid new e a does calls d =
+    does_one_more m events given old mid new d e a (does (after_all d.inputs m) d.stands) calls
 
 one_is_some : (n : ℕ) → 1 + n ≡ 0 → ⊥
 one_is_some n h = omega (arith, h)
@@ -105,12 +127,13 @@ one_is_some n h = omega (arith, h)
 -- one event more of a list of a deck's events
 pub goes_on : (m : Machine) (events : List deck_event.Event) (i : ℕ) (d : deck_event.Event) (given : List deck_answer.Answer) (old mid new : ChannelState) (a : deck_answer.Answer)
     → i < length events → ((now : Machine) → StandsFor mid now → Does (event_seen (get_or events i d)) now (answer_seen a) mid new)
+    → CallsAtMost (most_calls (event_seen (get_or events i d)) (answer_seen a)) mid new
     → Drove m (map event_seen (take i events)) (map answer_seen given) old mid
     → Drove m (map event_seen (take (i + 1) events)) (map answer_seen (given ++ a ∷ [])) old new
-goes_on m events i d given old mid new a within does drove =
+goes_on m events i d given old mid new a within does calls drove =
     subst (λ es. Drove m es (map answer_seen (given ++ a ∷ [])) old new) (sym (map_more event_seen events i d within))
     (subst (λ all. Drove m (map event_seen (take i events) ++ event_seen (get_or events i d) ∷ []) all old new) (sym (map_one_more answer_seen given a))
-    (drove_one_more m _ _ old mid new _ _ does drove))
+    (drove_one_more m _ _ old mid new _ _ does calls drove))
 
 -- where no fault is met, the events come without faults
 none_met : (es : List Input) → faults_in es ≡ 0 → es ≡ plain (map (λ i. i.0) es)
@@ -135,6 +158,9 @@ drove_follows m events given old new stands d = record {
   inputs = d.inputs;
   are_these = d.are_these;
   faults = d.faults;
+  met = d.met;
+  headers = headers_along d.inputs given old new d.met;
+  geometries = geometries_along d.inputs given old new d.met;
   same_answers = d.same_answers;
   stands = d.stands;
   reported = d.reported;

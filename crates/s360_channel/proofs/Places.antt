@@ -45,6 +45,11 @@ is_within [] place u h = none_is_some h
 is_within (w ∷ us) zero u h = omega arith
 is_within (w ∷ us) (suc place) u h = let i = is_within us place u h in omega (arith, i)
 
+pub none_past : {A : Type 0} (us : List A) (place : ℕ) → length us ≤ place → slice_get us place ≡ None
+none_past [] place l = refl
+none_past (w ∷ us) zero l = absurd (omega (arith, l))
+none_past (w ∷ us) (suc place) l = none_past us place (omega (arith, l))
+
 -- what the units at all places are like stays, where the new unit at a place is like the old one
 pub map_same : {A B : Type 0} (g : A → B) (us : List A) (place : ℕ) (u v : A) → slice_get us place ≡ Some u → g v ≡ g u → map g (slice_set us place v) ≡ map g us
 map_same g [] place u v h e = none_is_some h

@@ -1,6 +1,6 @@
 -- What a channel shows of itself is what the machine shows that it stands for.
-use Rattle.std.proofs.Common.{◌≡◌, ◌<◌, ◌≤◌, arith, ℕ, zero, suc, ◌+◌, ◌-◌, refl, sym, ap, subst, ◌∙◌, true, false, Bool, cond, ◌==◌, List, [], ◌∷◌, ◌++◌, map, length, Option, Some, None}
-use Rattle.std.specs.Prelude.{is_some, option_map, replicate, slice_get, slice_index_or}
+use Rattle.std.proofs.Common.{◌≡◌, ◌<◌, ◌≤◌, arith, ℕ, suc, ◌-◌, refl, sym, ap, subst, ◌∙◌, true, false, Bool, cond, ◌==◌, List, [], ◌∷◌, ◌++◌, map, length, Option, Some, None}
+use Rattle.std.specs.Prelude.{is_some, option_map, replicate, slice_get}
 use Rattle.s360_words.specs.declared.words.Csw.{Csw}
 use Rattle.ckd_command.specs.Drive.{IdleDrive}
 use Rattle.s360_runs.specs.Units.{standing_in}
@@ -8,7 +8,7 @@ use Rattle.s360_program.specs.Stands.{RunningState, phase_in}
 use Rattle.s360_laws.specs.Machine.{Machine, Device, asked_by}
 use Rattle.s360_laws.specs.declared.arm.Arm.{Arm}
 use Rattle.s360_laws.proofs.FindDevices.{set_drive}
-use Rattle.s360_channel.specs.Channel.{AreTaken, ChannelState, Shows, StandsFor, WorksFor, UnitState, device_of, somes}
+use Rattle.s360_channel.specs.Channel.{ChannelState, Shows, StandsFor, WorksFor, UnitState, device_of}
 use Rattle.s360_channel.specs.Views.{subchannel_seen, drives_seen, view_of}
 use Rattle.s360_channel.specs.declared.subchannel.Subchannel.{Subchannel}
 use Rattle.s360_channel.specs.declared.subchannel.Subchannel.TheVariants as code
@@ -77,83 +77,21 @@ place_there c m place r h e = let w = subst (Shows c m) e h.shows in is_within c
 
 -- The places of the units.
 
-abbrev pub in_slot : Option UnitState → Option (ℕ × Arm)
-in_slot slot = option_map (λ u. (u.device, u.arm)) slot
+abbrev pub at : List UnitState → ℕ → Option (ℕ × Arm)
+at us place = option_map (λ (u : UnitState). (u.device, u.arm)) (slice_get us place)
 
-map_places : (us : List UnitState) (n : ℕ) → map in_slot (map Some us ++ replicate n None) ≡ map one (map device_of us) ++ replicate n None
-map_places [] zero = refl
-map_places [] (suc n) = ap (λ r. None ∷ r) (map_places [] n)
-map_places (u ∷ us) n = ap (λ r. Some (u.device, u.arm) ∷ r) (map_places us n)
+pub all_places : (us : List UnitState) → length us ≤ 8 → at us 0 ∷ at us 1 ∷ at us 2 ∷ at us 3 ∷ at us 4 ∷ at us 5 ∷ at us 6 ∷ at us 7 ∷ [] ≡ drives_seen (map device_of us)
+all_places [] l = refl
+all_places (a ∷ []) l = refl
+all_places (a ∷ b ∷ []) l = refl
+all_places (a ∷ b ∷ c ∷ []) l = refl
+all_places (a ∷ b ∷ c ∷ d ∷ []) l = refl
+all_places (a ∷ b ∷ c ∷ d ∷ e ∷ []) l = refl
+all_places (a ∷ b ∷ c ∷ d ∷ e ∷ f ∷ []) l = refl
+all_places (a ∷ b ∷ c ∷ d ∷ e ∷ f ∷ g ∷ []) l = refl
+all_places (a ∷ b ∷ c ∷ d ∷ e ∷ f ∷ g ∷ h ∷ []) l = refl
+all_places (a ∷ b ∷ c ∷ d ∷ e ∷ f ∷ g ∷ h ∷ i ∷ us) l = absurd (omega (arith, l))
 
-seen_length : (us : List UnitState) → length (map device_of us) ≡ length us
-seen_length [] = refl
-seen_length (u ∷ us) = ap suc (seen_length us)
-
-pub places_shown : (l : List (Option UnitState)) (count : ℕ) → AreTaken l count → map in_slot l ≡ drives_seen (map device_of (somes l))
-places_shown l count h =
-    ap (map in_slot) h.taken ∙ map_places (somes l) (8 - count)
-    ∙ ap (λ n. map one (map device_of (somes l)) ++ replicate (8 - n) None) (sym (seen_length (somes l) ∙ h.are))
-
--- A list of eight, by its places.
-
-record First {A : Type 0} (l : List A) (n : ℕ) (a : A) : Type 0 where
-  rest : List A
-  is : l ≡ a ∷ rest
-  size : length rest ≡ n
-
-first_of : {A : Type 0} (l : List A) (n : ℕ) (a : A) → length l ≡ suc n → a ≡ slice_index_or l 0 a → First l n a
-first_of [] n a e h = absurd (differ e)
-  where
-    differ : 0 ≡ suc n → ⊥
-    differ e = omega arith
-first_of (x ∷ xs) n a e h = record { rest = xs; is = ap (λ y. y ∷ xs) (sym h); size = less (length xs) n e }
-  where
-    less : (a b : ℕ) → suc a ≡ suc b → a ≡ b
-    less a b e = omega arith
-
-in_rest : {A : Type 0} (l rest : List A) (a b : A) (k : ℕ) → l ≡ a ∷ rest → b ≡ slice_index_or l (suc k) b → b ≡ slice_index_or rest k b
-in_rest l rest a b k e h = h ∙ ap (λ l. slice_index_or l (suc k) b) e
-
-none_left : {A : Type 0} (l : List A) → length l ≡ 0 → l ≡ []
-none_left [] e = refl
-none_left (x ∷ xs) e = absurd (differ e)
-  where
-    differ : suc (length xs) ≡ 0 → ⊥
-    differ e = omega arith
-
-pub eight : {A : Type 0} (l : List A) (a b c d e f g h : A) → length l ≡ 8
-    → a ≡ slice_index_or l 0 a → b ≡ slice_index_or l 1 b → c ≡ slice_index_or l 2 c → d ≡ slice_index_or l 3 d
-    → e ≡ slice_index_or l 4 e → f ≡ slice_index_or l 5 f → g ≡ slice_index_or l 6 g → h ≡ slice_index_or l 7 h
-    → l ≡ a ∷ b ∷ c ∷ d ∷ e ∷ f ∷ g ∷ h ∷ []
-eight l a b c d e f g h n ea eb ec ed ee ef eg eh =
-    let x0 = first_of l 7 a n ea in
-    let x1 = first_of x0.rest 6 b x0.size (in_rest l x0.rest a b 0 x0.is eb) in
-    let x2 = first_of x1.rest 5 c x1.size (in_rest x0.rest x1.rest b c 0 x1.is (in_rest l x0.rest a c 1 x0.is ec)) in
-    let x3 = first_of x2.rest 4 d x2.size (in_rest x1.rest x2.rest c d 0 x2.is (in_rest x0.rest x1.rest b d 1 x1.is (in_rest l x0.rest a d 2 x0.is ed))) in
-    let x4 = first_of x3.rest 3 e x3.size (in_rest x2.rest x3.rest d e 0 x3.is (in_rest x1.rest x2.rest c e 1 x2.is (in_rest x0.rest x1.rest b e 2 x1.is (in_rest l x0.rest a e 3 x0.is ee)))) in
-    let x5 = first_of x4.rest 2 f x4.size (in_rest x3.rest x4.rest e f 0 x4.is (in_rest x2.rest x3.rest d f 1 x3.is (in_rest x1.rest x2.rest c f 2 x2.is (in_rest x0.rest x1.rest b f 3 x1.is (in_rest l x0.rest a f 4 x0.is ef))))) in
-    let x6 = first_of x5.rest 1 g x5.size (in_rest x4.rest x5.rest f g 0 x5.is (in_rest x3.rest x4.rest e g 1 x4.is (in_rest x2.rest x3.rest d g 2 x3.is (in_rest x1.rest x2.rest c g 3 x2.is (in_rest x0.rest x1.rest b g 4 x1.is (in_rest l x0.rest a g 5 x0.is eg)))))) in
-    let x7 = first_of x6.rest 0 h x6.size (in_rest x5.rest x6.rest g h 0 x6.is (in_rest x4.rest x5.rest f h 1 x5.is (in_rest x3.rest x4.rest e h 2 x4.is (in_rest x2.rest x3.rest d h 3 x3.is (in_rest x1.rest x2.rest c h 4 x2.is (in_rest x0.rest x1.rest b h 5 x1.is (in_rest l x0.rest a h 6 x0.is eh))))))) in
-    x0.is ∙ ap (λ r. a ∷ r) (x1.is ∙ ap (λ r. b ∷ r) (x2.is ∙ ap (λ r. c ∷ r) (x3.is ∙ ap (λ r. d ∷ r) (x4.is ∙ ap (λ r. e ∷ r) (x5.is ∙ ap (λ r. f ∷ r) (x6.is ∙ ap (λ r. g ∷ r) (x7.is ∙ ap (λ r. h ∷ r) (none_left x7.rest x7.size))))))))
-
--- eight places, the first so many of which are taken
-made_length : {A : Type 0} (us : List A) (n : ℕ) → length (map Some us ++ replicate n None) ≡ length us + n
-made_length [] zero = refl
-made_length [] (suc n) = ap suc (made_length [] n) ∙ step n
-  where
-    step : (n : ℕ) → suc (0 + n) ≡ 0 + suc n
-    step n = omega arith
-made_length (u ∷ us) n = ap suc (made_length us n) ∙ step (length us) n
-  where
-    step : (a n : ℕ) → suc (a + n) ≡ suc a + n
-    step a n = omega arith
-
-pub eight_places : {A : Type 0} (l : List (Option A)) (count : ℕ) → AreTaken l count → length l ≡ 8
-eight_places l count h = ap length h.taken ∙ made_length (somes l) (8 - count) ∙ sum (length (somes l)) h.are h.few
-  where
-    sum : (n : ℕ) → n ≡ count → count ≤ 8 → n + (8 - count) ≡ 8
-    sum n e few = omega arith
-
-pub list_of_eight : {A : Type 0} {a b c d e f g h a' b' c' d' e' f' g' h' : A} → a ≡ a' → b ≡ b' → c ≡ c' → d ≡ d' → e ≡ e' → f ≡ f' → g ≡ g' → h ≡ h'
+pub eight_places : {A : Type 0} {a b c d e f g h a' b' c' d' e' f' g' h' : A} → a ≡ a' → b ≡ b' → c ≡ c' → d ≡ d' → e ≡ e' → f ≡ f' → g ≡ g' → h ≡ h'
     → a ∷ b ∷ c ∷ d ∷ e ∷ f ∷ g ∷ h ∷ [] ≡ a' ∷ b' ∷ c' ∷ d' ∷ e' ∷ f' ∷ g' ∷ h' ∷ []
-list_of_eight p q r s t u v w = cc
+eight_places p q r s t u v w = cc

@@ -1,5 +1,5 @@
 -- What the calls of a channel do: each is an event of every machine that the channel stands for.
-use Rattle.std.specs.Prelude.{◌≡◌, ◌⊎◌, ℕ, suc, ◌+◌, ◌≤◌, map, Option, Some, None}
+use Rattle.std.specs.Prelude.{◌≡◌, ◌⊎◌, ℕ, suc, ◌+◌, ◌*◌, ◌≤◌, map, Option, Some, None}
 use Rattle.s360_laws.specs.Events.{Event, StepBy, Hio, Reset, Answer, Stepped, Condition, FaultAfter}
 use Rattle.s360_laws.specs.Machine.{Machine, react}
 use Rattle.s360_laws.specs.NothingTold.{NoneGainsCheck, TellsNoTrack}
@@ -44,6 +44,13 @@ pub record Does (e : Event) (m : Machine) (answer : Answer) (old new : ChannelSt
 -- none: all images stay as they are
 abbrev pub CallsNoStore : (old new : ChannelState) → Type 0
 CallsNoStore old new = map (λ u. u.drive.image) new.units ≡ map (λ u. u.drive.image) old.units
+
+-- how often an event may call a store, by its answer
+abbrev pub most_calls : Event → Answer → ℕ
+most_calls (StepBy k) (Stepped done) = 2 * done
+most_calls (Hio a) answer = 1
+most_calls Reset answer = 1
+most_calls e answer = 0
 
 -- at most so many loads and saves, one of which may fail; the images keep their headers and geometries
 pub record CallsAtMost (most : ℕ) (old new : ChannelState) : Type 0 where

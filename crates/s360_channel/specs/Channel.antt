@@ -1,5 +1,5 @@
 -- A channel between two calls, and the machines that it stands for.
-use Rattle.std.specs.Prelude.{◌≡◌, ℕ, zero, suc, ◌+◌, ◌-◌, ◌==◌, ◌<◌, ◌≤◌, length, List, [], ◌∷◌, ◌++◌, map, replicate, Option, Some, None, Bool, slice_get, sum_by}
+use Rattle.std.specs.Prelude.{◌≡◌, ℕ, zero, suc, ◌+◌, ◌==◌, ◌<◌, ◌≤◌, length, List, [], ◌∷◌, ◌++◌, map, Some, Bool, slice_get, sum_by}
 use Rattle.s360_words.specs.Storage.{Storage}
 use Rattle.ckd_command.specs.Drive.{IdleDrive, drive_of, first_drive}
 use Rattle.ckd_drive.specs.Work.{DriveState, new_drive}
@@ -21,18 +21,6 @@ pub record UnitState : Type 0 where
   pub device : ℕ
   pub arm : Arm
   pub drive : DriveState
-
--- what stands in a list of places that are all taken
-abbrev pub somes : {A : Type 0} → List (Option A) → List A
-somes [] = []
-somes (None ∷ rest) = somes rest
-somes (Some a ∷ rest) = a ∷ somes rest
-
--- the first so many places are taken, and the others are free
-pub record AreTaken {A : Type 0} (places : List (Option A)) (count : ℕ) : Type 0 where
-  pub taken : places ≡ map Some (somes places) ++ replicate (8 - count) None
-  pub are : length (somes places) ≡ count
-  pub few : count ≤ 8
 
 -- The units are in the order in which they were attached. Where a program works the subchannel names its unit by the place
 -- in this order.

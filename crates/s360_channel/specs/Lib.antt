@@ -3,8 +3,9 @@ pub mod Calls
 pub mod Lists
 pub mod Views
 pub mod UnitCalls
+pub mod Packs
+pub mod Shares
 pub mod Finishes
 pub mod Attaches
-pub mod Slots
 pub mod Ends
 pub mod Nexts

@@ -5,7 +5,7 @@ use Rattle.s360_laws.specs.Headline.{Headline}
 use Rattle.s360_laws.specs.History.{world_of, history, all_acts}
 use Rattle.s360_laws.specs.Machine as machine
 use Rattle.s360_laws.specs.Machine.{Machine, react, after_all, exchanges, plain, is_working}
-use Rattle.s360_channel.specs.Calls.{Reports}
+use Rattle.s360_channel.specs.Calls.{CallsAtMost, IsMet, Reports, most_calls}
 use Rattle.s360_channel.specs.Channel.{ChannelState, StandsFor, failures_of}
 
 -- how many events of a list meet a fault
@@ -19,6 +19,15 @@ abbrev pub AllReported : List Input → Machine → Type 0
 AllReported [] m = Unit {0}
 AllReported (e ∷ es) m = Reports e.0 m e.1 × AllReported es (react e.0 e.1 m).1
 
+-- Event by event: the channel goes through states between which its stores met the fault that the event comes with, and no
+-- other; were called no more often than the event may; and kept each image's headers and geometry.
+abbrev pub AllMet : List Input → List Answer → (old new : ChannelState) → Type 0
+AllMet [] [] old new = new ≡ old
+AllMet [] (a ∷ rest) old new = ⊥
+AllMet (e ∷ es) [] old new = ⊥
+AllMet (e ∷ es) (a ∷ rest) old new =
+    (between : ChannelState) × IsMet e.1 a old between × CallsAtMost (most_calls e.0 a) old between × AllMet es rest between new
+
 -- What is so where no store fails: the answers are those of the events without faults; and whenever no program runs, storage
 -- and drives are those of the accepted programs run one after another, each cut at its counted unit.
 pub record WithoutFaults (m : Machine) (events : List Event) (answers : List Answer) (new : ChannelState) : Type 0 where
@@ -28,11 +37,14 @@ pub record WithoutFaults (m : Machine) (events : List Event) (answers : List Ans
       world_of (after_all (plain events) m) ≡ history (world_of m) (all_acts m (exchanges (plain events) m))
 
 -- What a list of events does at a channel that stands for a machine. Each event comes with the fault that it met, if it met
--- one; the headline holds of the list.
+-- one; the images keep their headers and geometries; the headline holds of the list.
 pub record Follows (m : Machine) (events : List Event) (answers : List Answer) (old new : ChannelState) : Type 0 where
   pub inputs : List Input
   pub are_these : map (λ i. i.0) inputs ≡ events
   pub faults : failures_of new ≡ failures_of old + faults_in inputs
+  pub met : AllMet inputs answers old new
+  pub headers : map (λ u. u.drive.image.header) new.units ≡ map (λ u. u.drive.image.header) old.units
+  pub geometries : map (λ u. u.drive.image.geometry) new.units ≡ map (λ u. u.drive.image.geometry) old.units
   pub same_answers : answers ≡ machine.answers inputs m
   pub stands : StandsFor new (after_all inputs m)
   pub reported : AllReported inputs m

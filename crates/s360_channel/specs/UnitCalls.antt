@@ -1,14 +1,16 @@
 -- What a call does to the unit at a place in the order of attachment: the others stay.
-use Rattle.std.specs.Prelude.{◌≡◌, ◌*◌, ℕ, List, Bool, false, Option, Some, slice_get, slice_set}
+use Rattle.std.specs.Prelude.{◌≡◌, ◌*◌, ℕ, List, [], ◌∷◌, Bool, false, Option, Some, None, slice_get, slice_set}
+use Rattle.std.specs.List.{remove}
 use Rattle.s360_words.specs.Storage.{Storage}
 use Rattle.s360_words.specs.declared.words.Csw.{Csw}
 use Rattle.ckd_command.specs.Drive.{drive_of}
 use Rattle.ckd_drive.specs.Work.{DriveState, CallsStore, without_sense}
+use Rattle.ckd_image.specs.Image.{ImageState}
 use Rattle.s360_runs.specs.Unsaved.{has_written}
-use Rattle.s360_program.specs.Advances.{Advances, KeepsStorage, Cuts, CallsAtMost, TellsOf, CutTellsOf}
+use Rattle.s360_program.specs.Advances.{RunsOn, KeepsStorage, Cuts, CallsAtMost, TellsOf, CutTellsOf}
 use Rattle.s360_program.specs.Stands.{RunningState, phase_in}
 use Rattle.s360_program.specs.Starting.{IsFirst, StartsQuietly}
-use Rattle.s360_program.specs.declared.program.Advance.{Advance}
+use Rattle.s360_program.specs.declared.program.Ran.{Ran}
 use Rattle.s360_program.specs.declared.program.Start.{Start}
 use Rattle.s360_laws.specs.declared.arm.Arm.{Arm}
 use Rattle.s360_laws.specs.declared.arm.Arm.TheVariants.{AtRest}
@@ -22,6 +24,12 @@ pub record DriveChanges (place : ℕ) (How : DriveState → DriveState → Type 
   pub becomes : new ≡ slice_set old place (record unit { drive = drive })
   pub how : How unit.drive drive
 
+-- the drive of a unit changed so, and nothing else of it
+pub record OnlyDrive (How : DriveState → DriveState → Type 0) (old new : UnitState) : Type 0 where
+  pub same_device : new.device ≡ old.device
+  pub same_arm : new.arm ≡ old.arm
+  pub how : How old.drive new.drive
+
 -- the drive at a place is one of which this is so
 pub record DriveIs (place : ℕ) (Is : DriveState → Type 0) (units : List UnitState) : Type 0 where
   pub unit : UnitState
@@ -32,8 +40,8 @@ abbrev pub Starts : (caw : ℕ) → Storage → Start → DriveState → DriveSt
 Starts caw s answer old new =
     IsFirst (record { caw = caw; storage = s; drive = drive_of old.state }) answer old new × StartsQuietly old new
 
-pub record AdvancesAt (r : RunningState) (s : Storage) (asked : ℕ) (a : Advance) (r' : RunningState) (s' : Storage) (old new : DriveState) : Type 0 where
-  pub advances : Advances r.key (phase_in r s old) asked a r' s' old new
+pub record AdvancesAt (r : RunningState) (s : Storage) (asked : ℕ) (a : Ran) (r' : RunningState) (s' : Storage) (old new : DriveState) : Type 0 where
+  pub advances : RunsOn r.key (phase_in r s old) asked a r' s' old new
   pub storage : KeepsStorage s s'
   pub calls : CallsAtMost (2 * a.done) old new
   pub tells : TellsOf a.ending old new
@@ -49,6 +57,25 @@ pub record ArmChanges (place : ℕ) (arm : Arm) (old new : List UnitState) : Typ
   pub was : slice_get old place ≡ Some unit
   pub becomes : new ≡ slice_set old place (record unit { arm = arm })
 
+-- The first unit is taken out, if there is one: its address and its image, which holds its drive's volume.
+abbrev pub TakesFirst : (old new : List UnitState) → Option (ℕ × ImageState) → Type 0
+TakesFirst [] new taken = (new ≡ []) × (taken ≡ None)
+TakesFirst (u ∷ us) new taken = (new ≡ us) × (taken ≡ Some (u.device, u.drive.image)) × (u.drive.image.slots ≡ u.drive.state.volume.slots)
+
+-- The unit at a place is taken out; its image holds its drive's volume.
+pub record Removes (place : ℕ) (image : ImageState) (old new : List UnitState) : Type 0 where
+  pub unit : UnitState
+  pub was : slice_get old place ≡ Some unit
+  pub becomes : new ≡ remove old place
+  pub gives : image ≡ unit.drive.image
+  pub geometry : unit.drive.image.geometry ≡ unit.drive.state.volume.geometry
+  pub volume : unit.drive.image.slots ≡ unit.drive.state.volume.slots
+
 -- as a reset leaves a unit
 abbrev pub at_rest_unit : UnitState → UnitState
 at_rest_unit u = record u { arm = AtRest; drive = record u.drive { state = without_sense u.drive.state } }
+
+pub record RestsAt (place : ℕ) (old new : List UnitState) : Type 0 where
+  pub unit : UnitState
+  pub was : slice_get old place ≡ Some unit
+  pub becomes : new ≡ slice_set old place (at_rest_unit unit)

@@ -1,24 +1,20 @@
 //! Drives are attached.
 
-ghost use Rattle.std.specs.Prelude.{◌≡◌, ◌++◌, ◌∷◌, [], IfOk, IfErr, OnOk, OnErr, IsErr};
+ghost use Rattle.std.specs.Prelude.{◌≡◌, ◌++◌, ◌∷◌, [], IfErr, OnOk, OnErr};
 ghost use Rattle.s360_laws.specs.Machine.{Machine};
 ghost use Rattle.s360_channel.specs.Channel.{StandsFor, new_unit, attached};
-ghost use Rattle.ckd_drive.specs.Work.{new_drive};
 ghost use Rattle.s360_channel.specs.Attaches.{RefusedAs, NotRefused};
 
 use crate::channel::Channel;
 use crate::faults::AttachFault;
-use crate::unit::Unit;
-use ckd_drive::Drive;
 use ckd_image::{Image, ImageStore};
-use s360_laws::arm::Arm;
-use std::alloc::{AllocError, Global};
+use std::alloc::Global;
 
 impl<S: ImageStore> Channel<S> {
     /// Attaches a drive that holds this image, under this low byte of an address: its arm is at rest, at cylinder 0 and head
     /// 0, with zero sense bytes. It may be called at any time, also while a program runs; nothing else changes.
     ///
-    /// It takes all the memory that the drive ever needs.
+    /// It takes room in the list of drives, and then all the memory that the drive ever needs.
     ///
     /// # Errors
     ///
@@ -43,31 +39,9 @@ impl<S: ImageStore> Channel<S> {
         if self.units.len() == 8 {
             return Err((AttachFault::Full, image));
         }
-        match drive_of(alloc, image) {
-            Ok(drive) => {
-                self.units.push(Unit {
-                    device,
-                    arm: Arm::AtRest,
-                    drive,
-                });
-                Ok(())
-            }
-            Err((fault, image)) => Err((AttachFault::OutOfMemory(fault), image)),
-        }
-    }
-}
-
-/// A drive over an image, on the heap; the image comes back where there is no memory.
-fn drive_of<S: ImageStore>(
-    alloc: Global,
-    image: Image<S>,
-) -> Result<Box<Drive<S>>, (AllocError, Image<S>)>
-    ensures ok { IfOk result (λ d. d.value ≡ new_drive image) }
-    ensures err { IfErr result (λ e. e.1 ≡ image) }
-{
-    let drive = Drive::new(alloc, image)?;
-    match Box::new(alloc, drive) {
-        Ok(drive) => Ok(drive),
-        Err(refused) => Err((AllocError, refused.value.into_image())),
+        let Err((fault, image)) = self.units.attach(alloc, device, image) else {
+            return Ok(());
+        };
+        Err((AttachFault::OutOfMemory(fault), image))
     }
 }

@@ -67,11 +67,12 @@ impl<S: ImageStore> Channel<S> {
         if number > 6 {
             return Err((NewFault::BadNumber, storage));
         }
+        let units = Units::new(storage.allocator());
         Ok(Channel {
             number,
             storage,
             subchannel: Subchannel::Idle,
-            units: Units::new(),
+            units,
         })
     }
 

@@ -6,7 +6,7 @@ ghost use Rattle.s360_laws.specs.Machine.{Machine};
 ghost use Rattle.s360_events.specs.Seen.{event_seen, answer_seen};
 ghost use Rattle.s360_events.specs.Answered.{IsAnswered};
 ghost use Rattle.s360_channel.specs.Channel.{StandsFor};
-ghost use Rattle.s360_channel.specs.Calls.{Does, DoesQuietly};
+ghost use Rattle.s360_channel.specs.Calls.{CallsAtMost, Does, DoesQuietly, most_calls};
 
 use crate::channel::Channel;
 use arrayvec::ArrayVec;
@@ -14,9 +14,11 @@ use ckd_image::ImageStore;
 use s360_events::{Answer, Event, ShowCount};
 
 impl<S: ImageStore> Channel<S> {
-    /// Does what an event asks, and answers it. It takes no memory.
+    /// Does what an event asks, and answers it. It takes no memory, and calls a store at most twice for each unit of a step, and
+    /// once at Halt I/O and at a reset.
     pub fn react(&mut self, event: &Event) -> Answer
         ensures does { (m : Machine) → StandsFor self.old m → Does (event_seen event.now) m (answer_seen result) self.old self.new }
+        ensures calls { CallsAtMost (most_calls (event_seen event.now) (answer_seen result)) self.old self.new }
         ensures answered { IsAnswered event.now result }
     {
         match event {

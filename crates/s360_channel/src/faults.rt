@@ -29,3 +29,25 @@ pub enum AttachFault {
 #[derive(Clone, Copy, Debug, PartialEq, Eq, Error)]
 #[error("outside storage")]
 pub struct OutsideStorage;
+
+/// Why a drive is not taken off its channel. The faults are looked for in this order.
+#[derive(Clone, Copy, Debug, PartialEq, Eq, Error)]
+pub enum DetachFault {
+    /// There is no drive with this address.
+    #[error("no drive with this address is attached")]
+    NoDrive,
+    /// The program that runs is this drive's.
+    #[error("a program runs at this drive")]
+    ProgramRuns,
+    /// The channel status word that pends is this drive's.
+    #[error("an ending of this drive is pending")]
+    EndingPends,
+    /// The arm moves, or has arrived and its device end is not yet stored.
+    #[error("this drive owes a device end")]
+    DeviceEndOwed,
+}
+
+/// The storage is not as large as the channel's.
+#[derive(Clone, Copy, Debug, PartialEq, Eq, Error)]
+#[error("a storage of another size")]
+pub struct OtherSize;

@@ -2,6 +2,7 @@
 //! instructions and lets the program that was accepted run, unit by unit.
 #![tactic(auto)]
 
+mod asking;
 mod attaching;
 mod channel;
 mod driving;
@@ -10,8 +11,8 @@ mod events_at;
 mod faults;
 mod instructions;
 mod interrupting;
+mod packs;
 mod processor;
-mod slots;
 mod starting;
 mod subchannel;
 mod testing;
@@ -20,7 +21,8 @@ mod unit;
 mod units;
 mod view;
 
+pub use crate::asking::finds_another;
 pub use crate::channel::{Channel, Finished, Reset};
 pub use crate::driving::drive;
-pub use crate::faults::{AttachFault, NewFault, OutsideStorage};
-pub use crate::view::{SubchannelView, View};
+pub use crate::faults::{AttachFault, DetachFault, NewFault, OtherSize, OutsideStorage};
+pub use crate::view::{DriveView, RunOn, SubchannelView, View};

@@ -65,7 +65,7 @@ impl<S: ImageStore> Channel<S> {
         }
     }
 
-    fn subchannel_shown(&self) -> SubchannelView
+    pub(crate) fn subchannel_shown(&self) -> SubchannelView
         ensures { (m : Machine) → StandsFor self.now m → result ≡ subchannel_seen m m.subchannel }
     {
         match &self.subchannel {

@@ -4,12 +4,14 @@ ghost use Rattle.std.specs.Prelude.{◌≡◌, ◌*◌, ◌≤◌};
 ghost use Rattle.s360_laws.specs.Events as machine;
 ghost use Rattle.s360_laws.specs.Machine.{Machine};
 ghost use Rattle.s360_channel.specs.Channel.{StandsFor};
+ghost use Rattle.s360_channel.specs.Views.{subchannel_seen};
 ghost use Rattle.s360_channel.specs.Calls.{DoesQuietly, Does, CallsNoStore, CallsAtMost};
 
 use crate::channel::{Channel, Reset};
 use crate::ending::{end_program, lose_program};
 use crate::interrupting::{arrive, interrupt};
 use crate::subchannel::Subchannel;
+use crate::view::RunOn;
 use ckd_image::ImageStore;
 use s360_words::Csw;
 
@@ -18,6 +20,30 @@ impl<S: ImageStore> Channel<S> {
     /// runs. A unit makes at most two calls of a store. Where one fails the program is over in that unit, its channel status
     /// word has unit check, and the drive's sense equipment check.
     pub fn step(&mut self, units: u16) -> u16
+        ensures does { (m : Machine) → StandsFor self.old m → Does (machine.StepBy units) m (machine.Stepped result) self.old self.new }
+        ensures most { result ≤ units }
+        ensures calls { CallsAtMost (2 * result) self.old self.new }
+    {
+        self.advance(u32::from(units)) as u16
+    }
+
+    /// Lets the program that runs do units until it ends, so many at most, as one step of this number does; and says what the
+    /// subchannel does behind them.
+    pub fn run_on(&mut self, units: u32) -> RunOn
+        ensures does { (m : Machine) → StandsFor self.old m → Does (machine.StepBy units) m (machine.Stepped result.units) self.old self.new }
+        ensures behind { (m : Machine) → StandsFor self.new m → result.subchannel ≡ subchannel_seen m m.subchannel }
+        ensures most { result.units ≤ units }
+        ensures calls { CallsAtMost (2 * result.units) self.old self.new }
+    {
+        let units = self.advance(units);
+        RunOn {
+            units,
+            subchannel: self.subchannel_shown(),
+        }
+    }
+
+    // A step of so many units.
+    fn advance(&mut self, units: u32) -> u32
         ensures does { (m : Machine) → StandsFor self.old m → Does (machine.StepBy units) m (machine.Stepped result) self.old self.new }
         ensures most { result ≤ units }
         ensures calls { CallsAtMost (2 * result) self.old self.new }

@@ -9,7 +9,7 @@ use std::marker::Model;
 
 /// A drive, the low byte of its address, and what its arm does between programs.
 ///
-/// The drive stands on the heap, so that a channel is small, and as large with one type of store as with another.
+/// The drive stands on the heap, so that what is proved of a list of them speaks of its parts alone.
 #[derive(Drop)]
 pub(crate) struct Unit<S: ImageStore> {
     pub(crate) device: u8,

@@ -1,48 +1,49 @@
 //! The drives of a channel, in the order in which they were attached.
 
-ghost use Rattle.std.specs.Prelude.{◌≡◌, ◌<◌, ◌≤◌, ◌++◌, ◌∷◌, ◌==◌, [], map, length, slice_get, slice_set, position, option_map, Some, filter};
+ghost use Rattle.std.specs.Prelude.{◌≡◌, ◌<◌, ◌≤◌, ◌+◌, ◌++◌, ◌∷◌, [], map, length, slice_get, position, option_map, Some, filter, vec_len, vec_capacity, IfOk, OnOk, OnErr, IfErr};
+ghost use Rattle.ckd_drive.specs.Work.{new_drive};
 ghost use Rattle.s360_program.specs.Advances.{Rests};
 ghost use Rattle.s360_program.specs.Stands.{Stands};
-ghost use Rattle.s360_laws.specs.Machine.{lowest, has_arrived};
-ghost use Rattle.s360_channel.specs.Channel.{is_at, device_of, AllRest};
+ghost use Rattle.s360_laws.specs.Machine.{lowest, lower, has_arrived};
+ghost use Rattle.s360_channel.specs.Channel.{is_at, device_of, new_unit, AllRest};
 ghost use Rattle.s360_channel.specs.Finishes.{images_of};
-ghost use Rattle.s360_channel.specs.UnitCalls.{DriveChanges, DriveIs, Starts, AdvancesAt, CutsAt, ArmChanges, at_rest_unit};
-ghost use Rattle.s360_channel.specs.Views.{drives_seen};
+ghost use Rattle.s360_channel.specs.UnitCalls.{DriveChanges, DriveIs, Starts, AdvancesAt, CutsAt, ArmChanges, OnlyDrive, TakesFirst, Removes, RestsAt, at_rest_unit};
+ghost use Rattle.s360_channel.specs.Views.{drives_seen, drive_seen};
 
-use crate::slots;
 use crate::unit::Unit;
+use crate::view::DriveView;
+use ckd_drive::Drive;
 use ckd_image::{Image, ImageStore};
 use s360_laws::arm::Arm;
-use s360_program::program::{Advance, Running, Start};
+use s360_program::program::{Ran, Running, Start};
 use s360_words::{Csw, Storage};
+use std::alloc::{AllocError, Global};
 use std::marker::Model;
 
 /// Up to eight drives, named by their places in the order of attachment.
 #[derive(Drop)]
 pub(crate) struct Units<S: ImageStore> {
-    list: [Option<Unit<S>>; 8],
-    count: usize,
+    list: Vec<Unit<S>>,
 }
 
 impl<S: ImageStore> Model for Units<S> {
-    ghost use Rattle.std.specs.Prelude.{List};
-    ghost use Rattle.s360_channel.specs.Channel.{UnitState, somes, AreTaken};
+    ghost use Rattle.std.specs.Prelude.{List, length, ◌≤◌};
+    ghost use Rattle.s360_channel.specs.Channel.{UnitState};
 
     ghost Value = { List UnitState };
 
-    ghost view = { λ u. somes u.list };
+    ghost view = { λ u. u.list.items };
 
-    ghost invariant = { λ u. AreTaken u.list u.count };
+    ghost invariant = { λ u. length u.list.items ≤ 8 };
 }
 
 impl<S: ImageStore> Units<S> {
-    /// No drives.
-    pub(crate) fn new() -> Units<S>
+    /// No drives. It takes no memory.
+    pub(crate) fn new(alloc: Global) -> Units<S>
         ensures { result ≡ [] }
     {
         Units {
-            list: [None, None, None, None, None, None, None, None],
-            count: 0,
+            list: Vec::new(alloc),
         }
     }
 
@@ -51,58 +52,105 @@ impl<S: ImageStore> Units<S> {
         ensures count { result ≡ length self.now }
         ensures few { result ≤ 8 }
     {
-        self.count
+        self.list.len()
     }
 
-    /// Adds one, behind the others.
-    pub(crate) fn push(&mut self, unit: Unit<S>)
+    /// Adds one over an image, behind the others. Its room in the list is taken before the drive is made.
+    pub(crate) fn attach(
+        &mut self,
+        alloc: Global,
+        device: u8,
+        image: Image<S>,
+    ) -> Result<(), (AllocError, Image<S>)>
         requires { length self.old < 8 }
-        ensures { self.new ≡ self.old ++ unit ∷ [] }
+        ensures attached { OnOk result (self.new ≡ self.old ++ new_unit device image ∷ []) }
+        ensures stays { OnErr result (self.new ≡ self.old) }
+        ensures handed_back { IfErr result (λ e. e.1 ≡ image) }
     {
-        let place = self.count;
-        slots::fill(&mut self.list, place, unit);
-        self.count = place + 1;
+        if let Err(fault) = self.list.reserve(1) {
+            return Err((fault, image));
+        }
+        let drive = drive_of(alloc, image)?;
+        push(
+            &mut self.list,
+            Unit {
+                device,
+                arm: Arm::AtRest,
+                drive,
+            },
+        );
+        Ok(())
+    }
+
+    /// Takes the drive at a place out, and gives its image back.
+    pub(crate) fn remove(&mut self, place: usize) -> Image<S>
+        requires { DriveIs place Rests self.old }
+        ensures { Removes place result self.old self.new }
+    {
+        Box::into_inner(self.list.remove(place).drive).into_image()
     }
 
     /// The place of the drive with this address, if it is attached.
     pub(crate) fn place_of(&self, device: u8) -> Option<usize>
         ensures { result ≡ position (is_at device) self.now }
     {
-        slots::place_of(&self.list, device)
+        self.list.iter().position(|unit| unit.device == device)
     }
 
     /// The low byte of the address of the drive at a place.
-    #[tactic(auto, using(crate::proofs::Taken::is_taken))]
     pub(crate) fn device(&self, place: usize) -> u8
         requires { place < length self.now }
         ensures { Some result ≡ option_map (λ u. u.device) (slice_get self.now place) }
     {
-        slots::device(&self.list, place)
+        self.list[place].device
     }
 
     /// What the arm of the drive at a place does.
-    #[tactic(auto, using(crate::proofs::Taken::is_taken))]
     pub(crate) fn arm(&self, place: usize) -> Arm
         requires { place < length self.now }
         ensures { Some result ≡ option_map (λ u. u.arm) (slice_get self.now place) }
     {
-        slots::arm(&self.list, place)
+        self.list[place].arm
+    }
+
+    /// The drive at a place.
+    pub(crate) fn drive(&self, place: usize) -> &Drive<S>
+        requires { place < length self.now }
+        ensures { Some result.now ≡ option_map (λ u. u.drive) (slice_get self.now place) }
+    {
+        &self.list[place].drive
+    }
+
+    /// What is known of the drive at a place.
+    pub(crate) fn seen(&self, place: usize) -> DriveView
+        requires { place < length self.now }
+        ensures { Some result ≡ option_map (λ u. drive_seen (device_of u)) (slice_get self.now place) }
+    {
+        let unit = &self.list[place];
+        let geometry = unit.drive.geometry();
+        DriveView {
+            model: geometry.model,
+            cylinders: geometry.cylinders,
+            arm: unit.arm,
+            cylinder: unit.drive.cylinder(),
+            head: unit.drive.head(),
+            sense: unit.drive.sense(),
+        }
     }
 
     /// Lets the arm of the drive at a place do this from now on.
-    #[tactic(auto, using(crate::proofs::Taken::arm_changes))]
     pub(crate) fn set_arm(&mut self, place: usize, arm: Arm)
         requires { place < length self.old }
         ensures { ArmChanges place arm self.old self.new }
     {
-        slots::set_arm(&mut self.list, place, arm);
+        self.list[place].arm = arm;
     }
 
     /// The lowest address of a drive whose arm has arrived.
     pub(crate) fn lowest_arrived(&self) -> Option<u8>
         ensures { result ≡ lowest (filter has_arrived (map device_of self.now)) }
     {
-        slots::lowest_arrived(&self.list)
+        lowest_arrived(self.list.as_slice())
     }
 
     /// The drive at a place does the first unit of a program.
@@ -110,7 +158,7 @@ impl<S: ImageStore> Units<S> {
         requires { DriveIs place Rests self.old }
         ensures { DriveChanges place (Starts caw storage.now result) self.old self.new }
     {
-        slots::start(&mut self.list, place, caw, storage)
+        start(&mut self.list[place], caw, storage)
     }
 
     /// The program that runs at a place does so many units, unless it ends before.
@@ -118,13 +166,13 @@ impl<S: ImageStore> Units<S> {
         &mut self,
         place: usize,
         running: &mut Running,
-        units: u16,
+        units: u32,
         storage: &mut Storage,
-    ) -> Advance
+    ) -> Ran
         requires { DriveIs place (Stands running.old) self.old }
         ensures { DriveChanges place (AdvancesAt running.old storage.old units result running.new storage.new) self.old self.new }
     {
-        slots::advance(&mut self.list, place, running, units, storage)
+        advance(&mut self.list[place], running, units, storage)
     }
 
     /// The program that runs at a place is cut.
@@ -132,7 +180,7 @@ impl<S: ImageStore> Units<S> {
         requires { DriveIs place (Stands running) self.old }
         ensures { DriveChanges place (CutsAt running result) self.old self.new }
     {
-        slots::cut(&mut self.list, place, running)
+        cut(&mut self.list[place], running)
     }
 
     /// All arms are at rest, and all sense bytes zero.
@@ -140,24 +188,37 @@ impl<S: ImageStore> Units<S> {
         requires { AllRest self.old }
         ensures { self.new ≡ map at_rest_unit self.old }
     {
-        slots::reset_all(&mut self.list);
+        reset_all(self.list.as_mut_slice());
     }
 
     /// The low byte of each one's address, and its arm.
     pub(crate) fn shown(&self) -> [Option<(u8, Arm)>; 8]
         ensures { result ≡ drives_seen (map device_of self.now) }
     {
-        let [a, b, c, d, e, f, g, h] = &self.list;
+        // what is known of their number
+        let _count = self.len();
         [
-            slots::shown(a),
-            slots::shown(b),
-            slots::shown(c),
-            slots::shown(d),
-            slots::shown(e),
-            slots::shown(f),
-            slots::shown(g),
-            slots::shown(h),
+            self.shown_at(0),
+            self.shown_at(1),
+            self.shown_at(2),
+            self.shown_at(3),
+            self.shown_at(4),
+            self.shown_at(5),
+            self.shown_at(6),
+            self.shown_at(7),
         ]
+    }
+
+    // The same of the one at a place, if there is one.
+    #[tactic(auto, using(crate::proofs::Places::none_past))]
+    fn shown_at(&self, place: usize) -> Option<(u8, Arm)>
+        ensures { result ≡ option_map (λ u. (u.device, u.arm)) (slice_get self.now place) }
+    {
+        if place >= self.list.len() {
+            return None;
+        }
+        let unit = &self.list[place];
+        Some((unit.device, unit.arm))
     }
 
     /// The image of each, with the low byte of its address.
@@ -166,7 +227,128 @@ impl<S: ImageStore> Units<S> {
         ensures images { result ≡ images_of self }
         ensures volumes { map (λ u. u.drive.image.slots) self ≡ map (λ u. u.drive.state.volume.slots) self }
     {
-        let Units { list, count: _ } = self;
-        slots::images(list)
+        let Units { mut list } = self;
+        [
+            take_first(&mut list),
+            take_first(&mut list),
+            take_first(&mut list),
+            take_first(&mut list),
+            take_first(&mut list),
+            take_first(&mut list),
+            take_first(&mut list),
+            take_first(&mut list),
+        ]
+    }
+}
+
+// A drive over an image, on the heap; the image comes back where there is no memory.
+fn drive_of<S: ImageStore>(
+    alloc: Global,
+    image: Image<S>,
+) -> Result<Box<Drive<S>>, (AllocError, Image<S>)>
+    ensures ok { IfOk result (λ d. d.value ≡ new_drive image) }
+    ensures err { IfErr result (λ e. e.1 ≡ image) }
+{
+    let drive = Drive::new(alloc, image)?;
+    match Box::new(alloc, drive) {
+        Ok(drive) => Ok(drive),
+        Err(refused) => Err((AllocError, refused.value.into_image())),
+    }
+}
+
+// One drive more, for which there is room.
+fn push<S: ImageStore>(list: &mut Vec<Unit<S>>, unit: Unit<S>)
+    requires { vec_len list.old < vec_capacity list.old }
+    ensures { list.new.items ≡ list.old.items ++ unit ∷ [] }
+{
+    list.push(unit).unwrap();
+}
+
+// Takes the first drive out, if there is one: its address and its image.
+fn take_first<S: ImageStore>(list: &mut Vec<Unit<S>>) -> Option<(u8, Image<S>)>
+    requires { AllRest list.old.items }
+    ensures { TakesFirst list.old.items list.new.items result }
+{
+    if list.is_empty() {
+        return None;
+    }
+    let Unit {
+        device,
+        arm: _,
+        drive,
+    } = list.remove(0);
+    Some((device, Box::into_inner(drive).into_image()))
+}
+
+// A drive does the first unit of a program.
+fn start<S: ImageStore>(unit: &mut Unit<S>, caw: u32, storage: &Storage) -> Start
+    requires { Rests unit.old.drive }
+    ensures { OnlyDrive (Starts caw storage.now result) unit.old unit.new }
+{
+    Running::start(caw, storage, &mut *unit.drive)
+}
+
+// The program that runs at a drive does so many units, unless it ends before.
+fn advance<S: ImageStore>(
+    unit: &mut Unit<S>,
+    running: &mut Running,
+    units: u32,
+    storage: &mut Storage,
+) -> Ran
+    requires { Stands running.old unit.old.drive }
+    ensures { OnlyDrive (AdvancesAt running.old storage.old units result running.new storage.new) unit.old unit.new }
+{
+    running.run_on(units, storage, &mut *unit.drive)
+}
+
+// The program that runs at a drive is cut.
+fn cut<S: ImageStore>(unit: &mut Unit<S>, running: Running) -> (Csw, bool, Option<(u16, u16)>)
+    requires { Stands running unit.old.drive }
+    ensures { OnlyDrive (CutsAt running result) unit.old unit.new }
+{
+    running.cut(&mut *unit.drive)
+}
+
+// The arms are at rest, and all sense bytes zero.
+#[tactic(auto, using(crate::proofs::Fronts::front_length, crate::proofs::Fronts::front_all))]
+fn reset_all<S: ImageStore>(units: &mut [Unit<S>])
+    requires { AllRest units.old }
+    ensures { units.new ≡ map at_rest_unit units.old }
+{
+    for place in 0..units.len() {
+        reset_at(units, place);
+    }
+}
+
+// The same of the one at a place.
+fn reset_at<S: ImageStore>(units: &mut [Unit<S>], place: usize)
+    requires { DriveIs place Rests units.old }
+    ensures { RestsAt place units.old units.new }
+{
+    let unit = &mut units[place];
+    unit.arm = Arm::AtRest;
+    unit.drive.clear_sense();
+}
+
+// The lowest address of a drive whose arm has arrived.
+fn lowest_arrived<S: ImageStore>(units: &[Unit<S>]) -> Option<u8>
+    ensures { result ≡ lowest (filter has_arrived (map device_of units.now)) }
+{
+    let [unit, others @ ..] = units else {
+        return None;
+    };
+    let behind = lowest_arrived(others);
+    match unit.arm {
+        Arm::Arrived => Some(lower(unit.device, behind)),
+        Arm::AtRest | Arm::InMotion => behind,
+    }
+}
+
+fn lower(device: u8, behind: Option<u8>) -> u8
+    ensures { Some result ≡ lower device behind }
+{
+    match behind {
+        Some(other) if device >= other => other,
+        _ => device,
     }
 }

@@ -1,4 +1,4 @@
-use Rattle.std.proofs.Common.{◌≡◌, ℕ, ◌+◌, ◌*◌, List, Option, Some, rules, sym, subst, ap, Bool, ◌∙◌}
+use Rattle.std.proofs.Common.{◌≡◌, ℕ, ◌+◌, ◌*◌, List, Option, Some, sym, subst, ap, Bool, ◌∙◌}
 use Rattle.std.specs.Prelude.{option_map, slice_get}
 use Rattle.s360_words.specs.declared.words.Csw.{Csw}
 use Rattle.s360_program.specs.Stands.{RunningState, Stands}
@@ -27,7 +27,7 @@ lost place r number device old new told unsaved d is cut tells = record {
 pub device-device-requires : goal.device-device-requires
 device-device-requires g c =
     let d = there c.args.subchannel.now c.in-Working.place c.in-Working.running c.args.units.now (sym c.replace.ensures.value ∙ c.in-Working.is) c.requires in
-    (search rules, is_within c.args.units.now c.in-Working.place d.unit d.is_there)
+    is_within c.args.units.now c.in-Working.place d.unit d.is_there
 
 pub returns-in-Working-clause-lost : goal.returns-in-Working-clause-lost
 returns-in-Working-clause-lost g c =

@@ -1,13 +1,9 @@
-use Rattle.std.proofs.Common.{rules}
 use Rattle.s360_channel.proofs.Asked.{stands_as, does_as, is_as}
 use Rattle.s360_channel.proofs.Interrupts.{interrupt_idle, interrupt_pending, interrupt_working, place_within}
 use Rattle.s360_channel.proofs.interrupting.interrupt.Goals as goal
 
 pub device-device-requires : goal.device-device-requires
-device-device-requires g c = (
-  search rules,
-  place_within c.args.number c.args.storage.now c.in-Working.place c.in-Working.running c.args.units.now (is_as c.args.number c.args.storage.now c.args.units.now c.args.subchannel.now _ c.in-Working.is c.requires),
-)
+device-device-requires g c = place_within c.args.number c.args.storage.now c.in-Working.place c.in-Working.running c.args.units.now (is_as c.args.number c.args.storage.now c.args.units.now c.args.subchannel.now _ c.in-Working.is c.requires)
 
 pub returns-in-Idle-clause-does : goal.returns-in-Idle-clause-does
 returns-in-Idle-clause-does g c = λ m st.

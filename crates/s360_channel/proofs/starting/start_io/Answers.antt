@@ -1,4 +1,4 @@
-use Rattle.std.proofs.Common.{rules, ◌∙◌, refl, sym}
+use Rattle.std.proofs.Common.{◌∙◌, refl, sym}
 use Rattle.s360_channel.proofs.Asked.{start_other, start_busy, start_none, start_at, rests_there, stands_as, does_as, is_as}
 use Rattle.s360_channel.proofs.starting.start_io.Goals as goal
 
@@ -17,10 +17,7 @@ returns-in_default-place_of-clause-does g c = λ m st.
     (start_none c.args.address c.args.number c.args.storage.now c.args.units.now m (stands_as c.args.number c.args.storage.now c.args.units.now m c.args.subchannel.now _ c.in-Idle.is st) c.if-address-number.false (sym c.place_of.ensures ∙ c.in_default-place_of.is))
 
 pub start_device-requires : goal.start_device-requires
-start_device-requires g c = (
-  search rules,
-  (c.in-Idle.is, rests_there _ c.args.number c.args.storage.now c.args.units.now c.in-Some.place (is_as c.args.number c.args.storage.now c.args.units.now c.args.subchannel.now _ c.in-Idle.is c.requires) (sym c.in-Some.ensures)),
-)
+start_device-requires g c = record { idle = c.in-Idle.is; rests = rests_there _ c.args.number c.args.storage.now c.args.units.now c.in-Some.place (is_as c.args.number c.args.storage.now c.args.units.now c.args.subchannel.now _ c.in-Idle.is c.requires) (sym c.in-Some.ensures) }
 
 pub returns-clause-does : goal.returns-clause-does
 returns-clause-does g c = λ m st.

@@ -1,4 +1,4 @@
-use Rattle.std.proofs.Common.{rules, ◌<◌, ◌∙◌, ap, length}
+use Rattle.std.proofs.Common.{◌<◌, ◌∙◌, ap, length}
 use Rattle.std.specs.Prelude.{slice_get}
 use Rattle.s360_channel.proofs.Places.{is_within, get_set}
 use Rattle.s360_channel.proofs.Started.{starts_bad, starts_rejected, starts_immediate, starts_accepted, images_kept, armed_images}
@@ -8,7 +8,7 @@ pub set_arm-requires : goal.set_arm-requires
 set_arm-requires g c =
     let e = c.start.ensures in
     let h : c.args.place < length c.start.new.self = is_within c.start.new.self c.args.place _ (ap (λ us. slice_get us c.args.place) e.becomes ∙ get_set c.args.units.now c.args.place e.unit _ e.was) in
-    (search rules, h)
+    h
 
 pub returns-in-Bad-clause-does : goal.returns-in-Bad-clause-does
 returns-in-Bad-clause-does g c = λ unit there number rest distinct.

@@ -40,7 +40,7 @@ invariant_of-self g c = is_channel (Hio c.args.address) c.self.invariant.machine
     (idle_does (record { number = c.self.inside.number; storage = c.self.inside.storage; subchannel = c.self.inside.subchannel; units = c.self.inside.units }) c.self.invariant.machine c.args.address c.halt_device.result c.halt_device.new.storage c.self.invariant.stands c.if-address-self.false c.in-Idle.is c.halt_device.ensures.answer c.halt_device.ensures.storage)
 
 pub cut_program-requires : goal.cut_program-requires
-cut_program-requires g c = (search (last_fits), cut_allowed (record { number = c.self.inside.number; storage = c.self.inside.storage; subchannel = c.self.inside.subchannel; units = c.self.inside.units }) c.self.invariant.machine c.self.invariant.stands)
+cut_program-requires g c = cut_allowed (record { number = c.self.inside.number; storage = c.self.inside.storage; subchannel = c.self.inside.subchannel; units = c.self.inside.units }) c.self.invariant.machine c.self.invariant.stands
 
 pub invariant_of-self-in-Working : goal.invariant_of-self-in-Working
 invariant_of-self-in-Working g c = is_channel (Hio c.args.address) c.self.invariant.machine (Condition Two) (record { number = c.self.inside.number; storage = c.self.inside.storage; subchannel = c.self.inside.subchannel; units = c.self.inside.units }) _

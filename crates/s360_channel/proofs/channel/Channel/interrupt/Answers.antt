@@ -3,11 +3,10 @@ use Rattle.s360_laws.specs.Events.{Interrupt, Interrupted}
 use Rattle.s360_channel.specs.Channel.{ChannelState, UnitState}
 use Rattle.s360_channel.specs.Nexts.{of_parts}
 use Rattle.s360_channel.proofs.Asked.{stays, does_whole}
-use Rattle.s360_channel.proofs.Parts.{last_fits}
 use Rattle.s360_channel.proofs.channel.Channel.interrupt.Goals as goal
 
 pub interrupt-requires : goal.interrupt-requires
-interrupt-requires g c = (search (last_fits), record { machine = c.self.invariant.machine; stands = c.self.invariant.stands })
+interrupt-requires g c = record { machine = c.self.invariant.machine; stands = c.self.invariant.stands }
 
 pub invariant_of-self : goal.invariant_of-self
 invariant_of-self g c = stays Interrupt c.self.invariant.machine (Interrupted c.interrupt.result) (of_parts c.self.inside.number c.interrupt.new.storage c.interrupt.new.subchannel c.interrupt.new.units) (c.interrupt.ensures.does c.self.invariant.machine c.self.invariant.stands)

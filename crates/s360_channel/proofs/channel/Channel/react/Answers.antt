@@ -1,7 +1,7 @@
 use Rattle.std.proofs.Common.{◌∙◌, sym, ap, refl}
 use Rattle.s360_laws.specs.Events as machine
 use Rattle.s360_events.specs.Seen.{event_seen}
-use Rattle.s360_channel.proofs.Quiet.{does_as, quiet_does_as}
+use Rattle.s360_channel.proofs.Quiet.{calls_as, does_as, none_calls, quiet_does_as}
 use Rattle.s360_channel.proofs.channel.Channel.react.Goals as goal
 
 pub returns-in-Sio-clause-does : goal.returns-in-Sio-clause-does
@@ -36,3 +36,30 @@ returns-in-Show-clause-does g c m stands =
 
 pub returns-in-Reset-clause-does : goal.returns-in-Reset-clause-does
 returns-in-Reset-clause-does g c m stands = does_as _ _ m _ _ _ (ap event_seen c.in-Reset.is) (c.reset.ensures.does m stands)
+
+pub returns-in-Sio-clause-calls : goal.returns-in-Sio-clause-calls
+returns-in-Sio-clause-calls g c = none_calls _ _ _ c.sio.ensures.calls
+
+pub returns-in-Tio-clause-calls : goal.returns-in-Tio-clause-calls
+returns-in-Tio-clause-calls g c = none_calls _ _ _ c.tio.ensures.calls
+
+pub returns-in-Arrive-clause-calls : goal.returns-in-Arrive-clause-calls
+returns-in-Arrive-clause-calls g c = none_calls _ _ _ c.arrive.ensures.calls
+
+pub returns-in-Interrupt-clause-calls : goal.returns-in-Interrupt-clause-calls
+returns-in-Interrupt-clause-calls g c = none_calls _ _ _ c.interrupt.ensures.calls
+
+pub returns-in-Store-clause-calls : goal.returns-in-Store-clause-calls
+returns-in-Store-clause-calls g c = none_calls _ _ _ c.poke.ensures.calls
+
+pub returns-in-Key-clause-calls : goal.returns-in-Key-clause-calls
+returns-in-Key-clause-calls g c = none_calls _ _ _ c.set_key.ensures.calls
+
+pub returns-in-Show-clause-calls : goal.returns-in-Show-clause-calls
+returns-in-Show-clause-calls g c = none_calls _ _ _ refl
+
+pub returns-in-Tch-clause-calls : goal.returns-in-Tch-clause-calls
+returns-in-Tch-clause-calls g c = none_calls _ _ _ refl
+
+pub returns-in-Reset-clause-calls : goal.returns-in-Reset-clause-calls
+returns-in-Reset-clause-calls g c = calls_as _ _ _ _ _ _ (ap event_seen c.in-Reset.is) refl c.reset.ensures.calls

@@ -8,7 +8,6 @@ use Rattle.s360_channel.specs.UnitCalls.{at_rest_unit}
 use Rattle.s360_channel.specs.declared.subchannel.Subchannel.{Subchannel}
 use Rattle.s360_channel.specs.declared.subchannel.Subchannel.TheVariants.{Idle}
 use Rattle.s360_channel.proofs.Calling.{cut_allowed, is_channel, lost_rests, resets, resets_calls}
-use Rattle.s360_channel.proofs.Parts.{last_fits}
 use Rattle.s360_channel.proofs.channel.Channel.reset.Goals as goal
 
 -- a reset, as the code leaves the subchannel and the units
@@ -25,10 +24,10 @@ calls_reset c m units now subchannel unsaved s lost idle rest =
     (subst (λ sub. CallsAtMost 1 c (record { number = c.number; storage = c.storage; subchannel = sub; units = map at_rest_unit units })) (sym idle) (resets_calls c m s units unsaved lost))
 
 pub lose_program-unsaved-requires : goal.lose_program-unsaved-requires
-lose_program-unsaved-requires g c = (search (last_fits), cut_allowed (record { number = c.self.inside.number; storage = c.self.inside.storage; subchannel = c.self.inside.subchannel; units = c.self.inside.units }) c.self.invariant.machine c.self.invariant.stands)
+lose_program-unsaved-requires g c = cut_allowed (record { number = c.self.inside.number; storage = c.self.inside.storage; subchannel = c.self.inside.subchannel; units = c.self.inside.units }) c.self.invariant.machine c.self.invariant.stands
 
 pub reset-requires : goal.reset-requires
-reset-requires g c = (search (last_fits), lost_rests (record { number = c.self.inside.number; storage = c.self.inside.storage; subchannel = c.self.inside.subchannel; units = c.self.inside.units }) c.self.invariant.machine c.self.invariant.stands c.lose_program-unsaved.new.units c.lose_program-unsaved.result c.lose_program-unsaved.ensures.lost)
+reset-requires g c = lost_rests (record { number = c.self.inside.number; storage = c.self.inside.storage; subchannel = c.self.inside.subchannel; units = c.self.inside.units }) c.self.invariant.machine c.self.invariant.stands c.lose_program-unsaved.new.units c.lose_program-unsaved.result c.lose_program-unsaved.ensures.lost
 
 pub invariant_of-self : goal.invariant_of-self
 invariant_of-self g c = is_channel Reset c.self.invariant.machine (WasReset c.lose_program-unsaved.result) (record { number = c.self.inside.number; storage = c.self.inside.storage; subchannel = c.self.inside.subchannel; units = c.self.inside.units }) _

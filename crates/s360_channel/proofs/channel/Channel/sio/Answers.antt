@@ -4,11 +4,10 @@ use Rattle.s360_events.specs.Seen.{condition_seen, status_seen}
 use Rattle.s360_channel.specs.Channel.{ChannelState, UnitState}
 use Rattle.s360_channel.specs.Nexts.{of_parts}
 use Rattle.s360_channel.proofs.Asked.{stays, does_whole}
-use Rattle.s360_channel.proofs.Parts.{last_fits}
 use Rattle.s360_channel.proofs.channel.Channel.sio.Goals as goal
 
 pub start_io-requires : goal.start_io-requires
-start_io-requires g c = (search (last_fits), record { machine = c.self.invariant.machine; stands = c.self.invariant.stands })
+start_io-requires g c = record { machine = c.self.invariant.machine; stands = c.self.invariant.stands }
 
 pub invariant_of-self : goal.invariant_of-self
 invariant_of-self g c = stays (Sio c.args.address) c.self.invariant.machine (condition_seen status_seen c.start_io.result) (of_parts c.self.inside.number c.start_io.new.storage c.start_io.new.subchannel c.start_io.new.units) (c.start_io.ensures.does c.self.invariant.machine c.self.invariant.stands)

@@ -1,13 +1,12 @@
 use Rattle.std.proofs.Common.{sym, subst}
 use Rattle.s360_channel.specs.Channel.{StandsFor}
-use Rattle.s360_channel.proofs.Parts.{last_fits}
 use Rattle.s360_channel.proofs.Shown.{working_shown, place_there}
 use Rattle.s360_channel.proofs.channel.Channel.subchannel_shown.Goals as goal
 
 -- src/processor.rt
 pub device-requires : goal.device-requires
 device-requires g c =
-    (search (last_fits), place_there (record { number = c.self.inside.number; storage = c.self.inside.storage; subchannel = c.self.inside.subchannel; units = c.self.inside.units }) c.self.invariant.machine c.in-Working.place c.in-Working.running c.self.invariant.stands c.in-Working.is)
+    place_there (record { number = c.self.inside.number; storage = c.self.inside.storage; subchannel = c.self.inside.subchannel; units = c.self.inside.units }) c.self.invariant.machine c.in-Working.place c.in-Working.running c.self.invariant.stands c.in-Working.is
 
 -- src/processor.rt
 pub returns-in-Working : goal.returns-in-Working

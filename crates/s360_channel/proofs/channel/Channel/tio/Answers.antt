@@ -4,11 +4,10 @@ use Rattle.s360_events.specs.Seen.{condition_seen, csw_seen}
 use Rattle.s360_channel.specs.Channel.{ChannelState, UnitState}
 use Rattle.s360_channel.specs.Nexts.{of_parts}
 use Rattle.s360_channel.proofs.Asked.{stays, does_whole}
-use Rattle.s360_channel.proofs.Parts.{last_fits}
 use Rattle.s360_channel.proofs.channel.Channel.tio.Goals as goal
 
 pub test_io-requires : goal.test_io-requires
-test_io-requires g c = (search (last_fits), record { machine = c.self.invariant.machine; stands = c.self.invariant.stands })
+test_io-requires g c = record { machine = c.self.invariant.machine; stands = c.self.invariant.stands }
 
 pub invariant_of-self : goal.invariant_of-self
 invariant_of-self g c = stays (Tio c.args.address) c.self.invariant.machine (condition_seen csw_seen c.test_io.result) (of_parts c.self.inside.number c.test_io.new.storage c.test_io.new.subchannel c.test_io.new.units) (c.test_io.ensures.does c.self.invariant.machine c.self.invariant.stands)

@@ -1,0 +1,92 @@
+-- Drives that are taken off a channel.
+use Rattle.std.specs.Prelude.{◌≡◌, ◌-◌, ℕ, Bool, true, false, not, ◌==◌, Option, Some, None, filter, slice_get, nat_lt, if◌then◌else◌}
+use Rattle.std.specs.List.{remove}
+use Rattle.ckd_command.specs.Drive.{Volume}
+use Rattle.ckd_image.specs.Image.{ImageState}
+use Rattle.s360_laws.specs.Machine as machine
+use Rattle.s360_laws.specs.Machine.{Machine, Device, device_at}
+use Rattle.s360_laws.specs.declared.arm.Arm.{Arm}
+use Rattle.s360_laws.specs.declared.arm.Arm.TheVariants.{AtRest}
+use Rattle.s360_channel.specs.Channel.{ChannelState, StandsFor, UnitState}
+use Rattle.s360_channel.specs.declared.faults.DetachFault.{DetachFault}
+use Rattle.s360_channel.specs.declared.faults.DetachFault.TheVariants.{NoDrive, ProgramRuns, EndingPends, DeviceEndOwed}
+use Rattle.s360_channel.specs.declared.subchannel.Subchannel.{Subchannel}
+use Rattle.s360_channel.specs.declared.subchannel.Subchannel.TheVariants.{Working, Pending}
+
+-- whether the program that runs is a device's, and whether the channel status word that pends is
+abbrev pub runs_at : (device : ℕ) → machine.Subchannel → Bool
+runs_at device (machine.Working d script) = d == device
+runs_at device s = false
+
+abbrev pub pends_for : (device : ℕ) → machine.Subchannel → Bool
+pends_for device (machine.Pending d csw) = d == device
+pends_for device s = false
+
+abbrev pub is_at_rest : Arm → Bool
+is_at_rest AtRest = true
+is_at_rest arm = false
+
+-- Why a device of a machine can't leave it, in this order: there is none with this address; its program
+-- runs; its channel status word pends; its arm moves, or owes its device end.
+abbrev pub why_of : (device : ℕ) → machine.Subchannel → Option Device → Option DetachFault
+why_of device s None = Some NoDrive
+why_of device s (Some d) =
+    if runs_at device s then Some ProgramRuns
+    else (if pends_for device s then Some EndingPends
+    else (if is_at_rest d.arm then None else Some DeviceEndOwed))
+
+abbrev pub why_stays : (device : ℕ) → Machine → Option DetachFault
+why_stays device m = why_of device m.subchannel (device_at m device)
+
+-- the machine without a device
+abbrev pub without_device : (device : ℕ) → Machine → Machine
+without_device device m = record m { devices = filter (λ d. not (d.device == device)) m.devices }
+
+-- what an image holds
+abbrev pub volume_in : ImageState → Volume
+volume_in i = record { geometry = i.geometry; slots = i.slots }
+
+-- The image that is given back holds the volume of the machine's device.
+pub record GivesBack (device : ℕ) (image : ImageState) (m : Machine) : Type 0 where
+  pub unit : Device
+  pub is_there : device_at m device ≡ Some unit
+  pub volume : unit.drive.volume ≡ volume_in image
+
+-- The channel's side.
+
+-- the place of the drive whose program runs, behind one that is taken out
+abbrev pub moved_up : (place : ℕ) → Subchannel → Subchannel
+moved_up place (Working p r) = Working (if nat_lt place p then p - 1 else p) r
+moved_up place s = s
+
+abbrev pub without_place : (place : ℕ) → ChannelState → ChannelState
+without_place place c = record c { subchannel = moved_up place c.subchannel; units = remove c.units place }
+
+-- whether the program that runs is that of the drive at a place, and whether the word that pends is that of an address
+abbrev pub works_at : (place : ℕ) → Subchannel → Bool
+works_at place (Working p r) = p == place
+works_at place s = false
+
+abbrev pub waits_for : (device : ℕ) → Subchannel → Bool
+waits_for device (Pending d csw) = d == device
+waits_for device s = false
+
+-- the drive at a place has this address, and owes nothing
+pub record IsFree (device place : ℕ) (c : ChannelState) : Type 0 where
+  pub unit : UnitState
+  pub is_there : slice_get c.units place ≡ Some unit
+  pub same_device : unit.device ≡ device
+  pub runs : works_at place c.subchannel ≡ false
+  pub pends : waits_for device c.subchannel ≡ false
+  pub arm : unit.arm ≡ AtRest
+
+-- A drive is taken off: it was free, the machine has all that it had but the device, and the image is the drive's and holds its
+-- volume.
+pub record Detaches (device : ℕ) (m : Machine) (image : ImageState) (old new : ChannelState) : Type 0 where
+  pub free : why_stays device m ≡ None
+  pub place : ℕ
+  pub is_free : IsFree device place old
+  pub becomes : new ≡ without_place place old
+  pub stands : StandsFor new (without_device device m)
+  pub same_image : image ≡ is_free.unit.drive.image
+  pub gives_back : GivesBack device image m
