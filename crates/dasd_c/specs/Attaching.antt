@@ -1,5 +1,5 @@
 -- What C is told of drives that are attached and detached.
-use Rattle.std.specs.Prelude.{◌≡◌, ℤ, pos, ℕ, Bool, Option, Some, None, ◌==◌, if◌then◌else◌}
+use Rattle.std.specs.Prelude.{◌≡◌, ℤ, pos, ℕ, Option, Some, None, ◌==◌, if◌then◌else◌}
 use Rattle.ckd_track.specs.declared.model.DriveModel.{DriveModel}
 use Rattle.ckd_track.specs.declared.model.DriveModel.TheVariants.{D2311, D2314}
 use Rattle.ckd_image.specs.Image.{ImageState}
@@ -7,6 +7,7 @@ use Rattle.s360_laws.specs.Machine.{Machine}
 use Rattle.s360_channel.specs.Channel.{ChannelState}
 use Rattle.s360_channel.specs.Packs.{Detaches}
 use Rattle.dasd_subsystem.specs.Attaching.{AttachesNew}
+use Rattle.dasd_c.specs.Calls.{EachMachine}
 use Rattle.dasd_subsystem.specs.declared.subsystem.Subsystem.{Subsystem}
 
 -- It was done, and C is told 0; or it was refused, C is told another number, and nothing has changed.
@@ -29,3 +30,6 @@ AttachesModel device number cylinders old new = AttachesOf (model_of number) dev
 pub record DetachesAt (device : ℕ) (m : Machine) (old new : ChannelState) : Type 0 where
   pub image : ImageState
   pub detaches : Detaches device m image old new
+
+pub record Detached (device : ℕ) (old new : ChannelState) : Type 0 where
+  pub each : EachMachine old (λ m. DetachesAt device m old new)

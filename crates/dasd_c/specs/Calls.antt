@@ -2,10 +2,12 @@
 use Rattle.std.specs.Prelude.{◌≡◌, ℤ, pos, ℕ, [], ◌-◌, ◌/◌, ◌%◌, ◌^◌, ◌==◌, ◌&&◌, nat_lt, Bool, true, false, List, length, Option, Some, None, if◌then◌else◌}
 use Rattle.s360_words.specs.Storage.{cleared}
 use Rattle.s360_laws.specs.Events as machine
-use Rattle.s360_laws.specs.Machine.{Machine, part_of, react}
+use Rattle.s360_laws.specs.Machine.{Machine, part_of}
 use Rattle.s360_channel.specs.Channel.{ChannelState, StandsFor}
 use Rattle.s360_channel.specs.declared.subchannel.Subchannel.TheVariants.{Idle}
-use Rattle.s360_channel.specs.Calls.{Does}
+use Rattle.s360_channel.specs.Calls.{Does, DoesQuietly}
+use Rattle.s360_channel.specs.declared.view.SubchannelView.{SubchannelView}
+use Rattle.s360_channel.specs.declared.view.SubchannelView.TheVariants.{Working}
 use Rattle.s360_channel.specs.Views.{interrupts, key_in}
 use Rattle.dasd_subsystem.specs.declared.subsystem.Subsystem.{Subsystem}
 use Rattle.dasd_c.specs.Codes.{code_of, nothing_held, outside_storage, bad_key, no_channel, address_from}
@@ -18,10 +20,14 @@ Calls None (Some new) code does = ⊥
 Calls (Some old) None code does = ⊥
 Calls (Some old) (Some new) code does = (new.number ≡ old.number) × does old new
 
--- An event that calls no store: C is told the number of the machine's answer, and the channel stands for the next machine.
-pub record Tells (event : machine.Event) (code : ℤ) (m : Machine) (new : ChannelState) : Type 0 where
-  pub told : code ≡ code_of (react event None m).0
-  pub stands : StandsFor new (react event None m).1
+-- An event that calls no store: C is told the number of the answer, which is the machine's, and the channel stands for the next machine.
+pub record ToldQuietly (event : machine.Event) (code : ℤ) (m : Machine) (new : ChannelState) : Type 0 where
+  pub answer : machine.Answer
+  pub told : code ≡ code_of answer
+  pub does : DoesQuietly event m answer new
+
+unfoldable pub Tells : machine.Event → (code : ℤ) → Machine → ChannelState → Type 0
+Tells event code m new = ToldQuietly event code m new
 
 -- An event that may call a store: C is told the number of the answer, which is the machine's, with the fault that was met.
 pub record TellsOf (event : machine.Event) (code : ℤ) (m : Machine) (old new : ChannelState) : Type 0 where
@@ -30,10 +36,14 @@ pub record TellsOf (event : machine.Event) (code : ℤ) (m : Machine) (old new :
   pub does : Does event m answer old new
 
 -- An interruption: C is told its address too.
-pub record TellsInterruption (code : ℤ) (before address : ℕ) (m : Machine) (new : ChannelState) : Type 0 where
-  pub told : code ≡ code_of (react machine.Interrupt None m).0
-  pub from : address ≡ address_from (react machine.Interrupt None m).0 before
-  pub stands : StandsFor new (react machine.Interrupt None m).1
+pub record ToldOf (code : ℤ) (before address : ℕ) (m : Machine) (new : ChannelState) : Type 0 where
+  pub answer : machine.Answer
+  pub told : code ≡ code_of answer
+  pub from : address ≡ address_from answer before
+  pub does : DoesQuietly machine.Interrupt m answer new
+
+unfoldable pub TellsInterruption : (code : ℤ) → (before address : ℕ) → Machine → ChannelState → Type 0
+TellsInterruption code before address m new = ToldOf code before address m new
 
 -- the only channel of a set, whose highest bit is channel 0
 abbrev pub only_channel : ℕ → Option ℕ
@@ -105,3 +115,8 @@ number_or_outside None = outside_storage
 
 abbrev pub key_code : Subsystem → (at : ℕ) → ℤ
 key_code s at = number_or_outside (key_in s.channel.storage at)
+
+-- whether a subchannel that is shown works
+abbrev pub works : SubchannelView → Bool
+works (Working device asked) = true
+works view = false

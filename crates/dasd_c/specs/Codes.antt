@@ -1,6 +1,5 @@
 -- What C is told by numbers. They are those of dasd.h.
-use Rattle.std.specs.Prelude.{◌≡◌, ◌==◌, ℤ, pos, neg_ℤ, ℕ, Bool, true, false, Option, Some, None, if◌then◌else◌}
-use Rattle.s360_words.specs.declared.words.Csw.{Csw}
+use Rattle.std.specs.Prelude.{ℤ, pos, neg_ℤ, ℕ, true, false, Some}
 use Rattle.s360_laws.specs.Events as machine
 use Rattle.s360_laws.specs.declared.condition.ConditionCode.{ConditionCode}
 use Rattle.s360_laws.specs.declared.condition.ConditionCode.TheVariants.{Zero, One, Two, Three}

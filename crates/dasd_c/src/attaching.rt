@@ -2,8 +2,8 @@
 
 ghost use Rattle.std.specs.Prelude.{◌≡◌, ◌%◌, map};
 ghost use Rattle.dasd_subsystem.specs.Attaching.{Attaches};
-ghost use Rattle.dasd_c.specs.Calls.{Calls, EachMachine};
-ghost use Rattle.dasd_c.specs.Attaching.{AttachesModel, DetachesAt, DoneOrRefused};
+ghost use Rattle.dasd_c.specs.Calls.{Calls};
+ghost use Rattle.dasd_c.specs.Attaching.{AttachesModel, Detached, DoneOrRefused};
 
 use crate::handle::{Handle, put, take};
 use crate::tell::{BAD_MODEL, DONE, NO_CHANNEL, NOTHING_HELD, of_detach, of_done};
@@ -81,7 +81,7 @@ fn attach_new(
 /// Takes a drive off its channel, and frees its volume.
 #[unsafe(no_mangle)]
 pub extern "C" fn dasd_detach(handle: &mut Handle, alloc: Global, address: u16) -> i32
-    ensures { Calls handle.old.slot.held handle.new.slot.held result (λ old new. DoneOrRefused result old new (EachMachine old.channel (λ m. DetachesAt (address % 256) m old.channel new.channel))) }
+    ensures { Calls handle.old.slot.held handle.new.slot.held result (λ old new. DoneOrRefused result old new (Detached (address % 256) old.channel new.channel)) }
 {
     let Some(mut subsystem) = take(handle, alloc) else {
         return NOTHING_HELD;
@@ -93,13 +93,16 @@ pub extern "C" fn dasd_detach(handle: &mut Handle, alloc: Global, address: u16) 
 
 fn detach(subsystem: &mut Subsystem, address: u16) -> i32
     ensures number { subsystem.new.number ≡ subsystem.old.number }
-    ensures detached { DoneOrRefused result subsystem.old subsystem.new (EachMachine subsystem.old.channel (λ m. DetachesAt (address % 256) m subsystem.old.channel subsystem.new.channel)) }
+    ensures detached { DoneOrRefused result subsystem.old subsystem.new (Detached (address % 256) subsystem.old.channel subsystem.new.channel) }
 {
     if address / 256 != subsystem.number as u16 {
         return NO_CHANNEL;
     }
     match subsystem.channel.detach((address % 256) as u8) {
-        Ok(_) => DONE,
+        Ok(image) => {
+            drop(image);
+            DONE
+        }
         Err(fault) => return of_detach(fault),
     }
 }

@@ -85,8 +85,14 @@ fn tch(subsystem: &Subsystem, address: u16) -> i32
     ensures { TestsChannel address subsystem.now result }
 {
     if address / 256 == subsystem.number as u16 {
-        of_test(subsystem.channel.tch())
+        test(&subsystem.channel)
     } else {
         3
     }
+}
+
+fn test(channel: &Channel<VolumeFile>) -> i32
+    ensures { EachMachine channel.now (λ m. Tells machine.Tch result m channel.now) }
+{
+    of_test(channel.tch())
 }

@@ -3,7 +3,7 @@
 ghost use Rattle.std.specs.Prelude.{◌≡◌, pos, false, None, IfSome, OnOk, IfErr};
 ghost use Rattle.s360_laws.specs.Machine.{is_working};
 ghost use Rattle.dasd_c.specs.Codes.{nothing_held};
-ghost use Rattle.dasd_c.specs.Calls.{EachMachine};
+ghost use Rattle.dasd_c.specs.Calls.{EachMachine, works};
 
 use crate::handle::{Handle, put, take};
 use crate::tell::{DONE, NO_CHANNEL, NO_DRIVE, NO_FILE, NOTHING_HELD, PROGRAM_RUNS};
@@ -58,7 +58,7 @@ fn file_of(subsystem: &Subsystem, address: u16, file: u8) -> Result<File, i32>
     if address / 256 != subsystem.number as u16 {
         return Err(NO_CHANNEL);
     }
-    if let SubchannelView::Working(_, _) = subsystem.channel.state().subchannel {
+    if runs(&subsystem.channel) {
         return Err(PROGRAM_RUNS);
     }
     let Some(image) = subsystem.channel.image((address % 256) as u8) else {
@@ -67,6 +67,23 @@ fn file_of(subsystem: &Subsystem, address: u16, file: u8) -> Result<File, i32>
     match image.store(file as usize) {
         Some(store) => Ok(as_file(store)),
         None => Err(NO_FILE),
+    }
+}
+
+// Whether a program runs on the channel.
+fn runs(channel: &Channel<VolumeFile>) -> bool
+    ensures { EachMachine channel.now (λ m. result ≡ is_working m.subchannel) }
+{
+    works(channel.state().subchannel)
+}
+
+fn works(subchannel: SubchannelView) -> bool
+    ensures { result ≡ works subchannel }
+{
+    match subchannel {
+        SubchannelView::Idle => false,
+        SubchannelView::Working(_, _) => true,
+        SubchannelView::Pending(_, _) => false,
     }
 }
 

@@ -66,13 +66,20 @@ pub extern "C" fn dasd_set_key(handle: &mut Handle, alloc: Global, at: u32, key:
     let Some(mut subsystem) = take(handle, alloc) else {
         return NOTHING_HELD;
     };
-    let code = if key > 15 {
+    let code = set_key_of(&mut subsystem, at, key);
+    put(handle, subsystem);
+    code
+}
+
+fn set_key_of(subsystem: &mut Subsystem, at: u32, key: u8) -> i32
+    ensures number { subsystem.new.number ≡ subsystem.old.number }
+    ensures sets { SetsKey at key subsystem.old subsystem.new result }
+{
+    if key > 15 {
         BAD_KEY
     } else {
         set_key(&mut subsystem.channel, at, key)
-    };
-    put(handle, subsystem);
-    code
+    }
 }
 
 fn set_key(channel: &mut Channel<VolumeFile>, at: u32, key: u8) -> i32

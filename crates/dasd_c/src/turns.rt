@@ -170,13 +170,20 @@ pub extern "C" fn dasd_interrupt(
     let Some(mut subsystem) = take(handle, alloc) else {
         return NOTHING_HELD;
     };
-    let code = if is_in(channels, subsystem.number) {
+    let code = interrupt_from(&mut subsystem, channels, address);
+    put(handle, subsystem);
+    code
+}
+
+fn interrupt_from(subsystem: &mut Subsystem, channels: u8, address: &mut u16) -> i32
+    ensures number { subsystem.new.number ≡ subsystem.old.number }
+    ensures takes { Takes channels subsystem.old subsystem.new result address.old address.new }
+{
+    if is_in(channels, subsystem.number) {
         interrupt(&mut subsystem.channel, address)
     } else {
         0
-    };
-    put(handle, subsystem);
-    code
+    }
 }
 
 fn interrupt(channel: &mut Channel<VolumeFile>, address: &mut u16) -> i32

@@ -1,7 +1,14 @@
-use Rattle.std.proofs.Common.{◌≡◌, ◌∙◌, ap}
-use Rattle.dasd_c.specs.Codes.{code_of}
+use Rattle.std.proofs.Common.{rules, ◌∙◌, w32}
+use Rattle.std.proofs.lemmas.Int.{to_z-of_z}
+use Rattle.s360_events.specs.Seen.{condition_seen, csw_seen}
+use Rattle.dasd_c.specs.Calls.{Tells}
 use Rattle.dasd_c.proofs.instructions.tio.Goals as goal
 
--- the channel's answer is the machine's, and C is told its number
+-- C is told the number of the channel's answer
 pub returns : goal.returns
-returns c = λ m stands. let d = c.tio.ensures.does m stands in record { told = c.of_csw.ensures ∙ ap code_of d.answers; stands = d.stands }
+unfolding Tells
+returns c = λ m stands. record {
+  answer = condition_seen csw_seen c.tio.result;
+  told = to_z-of_z w32 c.of_csw.result (search rules) ∙ c.of_csw.ensures;
+  does = c.tio.ensures.does m stands;
+}

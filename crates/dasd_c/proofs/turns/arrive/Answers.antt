@@ -1,7 +1,14 @@
-use Rattle.std.proofs.Common.{◌≡◌, ◌∙◌, ap}
-use Rattle.dasd_c.specs.Codes.{code_of}
+use Rattle.std.proofs.Common.{rules, ◌∙◌, w32}
+use Rattle.std.proofs.lemmas.Int.{to_z-of_z}
+use Rattle.s360_laws.specs.Events.{HasArrived}
+use Rattle.dasd_c.specs.Calls.{Tells}
 use Rattle.dasd_c.proofs.turns.arrive.Goals as goal
 
--- the channel's answer is the machine's, and C is told its number
+-- C is told the number of the channel's answer
 pub returns : goal.returns
-returns c = λ m stands. let d = c.arrive.ensures.does m stands in record { told = c.of_arrival.ensures ∙ ap code_of d.answers; stands = d.stands }
+unfolding Tells
+returns c = λ m stands. record {
+  answer = HasArrived c.arrive.result;
+  told = to_z-of_z w32 c.of_arrival.result (search rules) ∙ c.of_arrival.ensures;
+  does = c.arrive.ensures.does m stands;
+}

@@ -1,11 +1,15 @@
-use Rattle.std.proofs.Common.{◌≡◌, ◌∙◌, ap}
-use Rattle.dasd_c.specs.Codes.{code_of, address_from}
+use Rattle.std.proofs.Common.{rules, ◌∙◌, w32}
+use Rattle.std.proofs.lemmas.Int.{to_z-of_z}
+use Rattle.s360_laws.specs.Events.{Interrupted}
+use Rattle.dasd_c.specs.Calls.{TellsInterruption}
 use Rattle.dasd_c.proofs.turns.interrupt.Goals as goal
 
--- the channel's answer is the machine's, and C is told its number and its address
+-- C is told the number of the channel's answer, and its address
 pub returns : goal.returns
-returns c = λ m stands. let d = c.interrupt.ensures.does m stands in record {
-  told = c.of_interruption.ensures.told ∙ ap code_of d.answers;
-  from = c.of_interruption.ensures.from ∙ ap (λ a. address_from a c.args.address.now) d.answers;
-  stands = d.stands;
+unfolding TellsInterruption
+returns c = λ m stands. record {
+  answer = Interrupted c.interrupt.result;
+  told = to_z-of_z w32 c.of_interruption.result (search rules) ∙ c.of_interruption.ensures.told;
+  from = c.of_interruption.ensures.from;
+  does = c.interrupt.ensures.does m stands;
 }

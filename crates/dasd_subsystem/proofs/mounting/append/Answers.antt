@@ -1,4 +1,4 @@
-use Rattle.std.proofs.Common.{◌≡◌, ◌∙◌, ap, [], ◌∷◌, Some}
+use Rattle.std.proofs.Common.{◌∙◌, ap, [], ◌∷◌, Some}
 use Rattle.ckd_image.specs.Files.{each}
 use Rattle.dasd_subsystem.proofs.Copies.{each_append}
 use Rattle.dasd_subsystem.proofs.mounting.append.Goals as goal

@@ -1,4 +1,4 @@
-use Rattle.std.proofs.Common.{rules, ◌≡◌, ◌∙◌, ◌+◌, ◌++◌, ◌∷◌, [], ap, sym, map, take, List, ℕ, Bor}
+use Rattle.std.proofs.Common.{◌∙◌, ◌+◌, ◌++◌, ◌∷◌, [], ap, sym, map, take, List, ℕ, Bor}
 use Rattle.std.proofs.lemmas.List.{map_more}
 use Rattle.dasd_subsystem.proofs.mounting.copied.Goals as goal
 

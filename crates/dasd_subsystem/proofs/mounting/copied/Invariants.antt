@@ -1,4 +1,4 @@
-use Rattle.std.proofs.Common.{◌≡◌, ◌≤◌, length, take, map, All, IsSome}
+use Rattle.std.proofs.Common.{◌≡◌, length, take, map, All, IsSome}
 use Rattle.ckd_image.specs.Files.{each}
 use Rattle.dasd_subsystem.proofs.mounting.copied.Given as goal
 

@@ -1,4 +1,4 @@
-use Rattle.std.proofs.Common.{◌≡◌, subst, List, ℕ}
+use Rattle.std.proofs.Common.{subst, List, ℕ}
 use Rattle.ckd_image.specs.Image.{Holds}
 use Rattle.dasd_subsystem.proofs.mounting.mounted.Goals as goal
 
