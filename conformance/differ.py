@@ -6,7 +6,9 @@
 Emulators are named as for run.py. What one of them lacks is left out of the lists. Status 1 where they differ."""
 import argparse
 import os
+import re
 import sys
+from collections import Counter
 
 from suite.adapters import make
 from suite.adapters.model import ModelEmulator
@@ -36,6 +38,18 @@ def unlike(vector, one, other, lacks):
         if left.bytes() != right.bytes():
             return "image %02X%s | %s" % (unit, changed_tracks(before, left), changed_tracks(before, right))
     return None
+
+
+def kind(why):
+    """What two differences have in common: the answers' words and status bytes, without places, addresses and counts."""
+    if why is None:
+        return None
+    why = re.sub(r"answer \d+: ", "", why)
+    why = re.sub(r"\b[0-9A-F]{8} ([0-9A-F]{4})[0-9A-F]{4}\b", r"\1", why)
+    why = re.sub(r"\b(SIO|TIO|HIO|INT|ARRIVE|image) [0-9A-F]{2,3}\b", r"\1", why)
+    if why.startswith("SHOW") and "SHOW 000710" not in why:
+        return "storage"
+    return "an image" if why.startswith("image") else why
 
 
 class Pair:
@@ -94,28 +108,28 @@ def parse_words():
     words.add_argument("--seek-first", action="store_true", help="each program begins with a Seek")
     words.add_argument("--readable", action="store_true", help="no track is unreadable")
     words.add_argument("--without-profile", action="store_true", help="leaves out lists that rest on a choice of the profile")
-    words.add_argument("--most", type=int, default=3, help="how many failing lists are shown")
+    words.add_argument("--most", type=int, default=3, help="how many ways to differ are shown")
     words.add_argument("--keep", metavar="FOLDER", help="writes failing lists there")
     words.add_argument("--spoil", choices=sorted(SPOILS), help="spoils the second one's answers, to see that it is seen")
     return words.parse_args()
 
 
 def play_all(pair, said):
-    """Plays the lists; how many were played, and how many differed."""
-    played = different = 0
+    """Plays the lists; how many were played, and how many differed in which way. The first of each way is shown, made short."""
+    played, different = 0, Counter()
     for seed in range(said.seed, said.seed + said.lists):
         vector = pair.made(seed)
         if vector is None:
             continue
         played += 1
-        why = pair.difference(vector)
-        if why is None:
+        way = kind(pair.difference(vector))
+        if way is None:
             continue
-        different += 1
-        if different <= said.most:
-            short = shrink(vector, lambda it: pair.difference(it) is not None)
+        different[way] += 1
+        if different[way] == 1 and len(different) <= said.most:
+            short = shrink(vector, lambda it: kind(pair.difference(it)) == way)
             show(short, pair, pair.difference(short))
-            print()
+            print(flush=True)
             if said.keep:
                 keep(short, said.keep)
     return played, different
@@ -128,7 +142,10 @@ def main():
             other = Spoiled(second, said.spoil) if said.spoil else second
             pair = Pair(one, other, said)
             played, different = play_all(pair, said)
-            print("%s | %s: %d lists of %d seeds from %d, %d differ" % (one.name, other.name, played, said.lists, said.seed, different))
+            for way, number in different.most_common():
+                print("%d: %s" % (number, way))
+            number = sum(different.values())
+            print("%s | %s: %d lists of %d seeds from %d, %d differ" % (one.name, other.name, played, said.lists, said.seed, number))
     except (ValueError, OSError, Broke) as fault:
         print("differ.py: %s" % fault, file=sys.stderr)
         return 2

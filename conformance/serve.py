@@ -34,7 +34,7 @@ class Server:
     def volume(self, words):
         unit, files = int(words[0], 16), words[2:]
         self.paths[unit] = files
-        self.volumes.append((unit, Volume.read([open(it, "rb").read() for it in files])))
+        self.volumes.append((unit, Volume.load(files)))
         return "OK"
 
     def play(self, line):

@@ -79,7 +79,7 @@ def main():
     said = words.parse_args()
     try:
         if said.what == "describe":
-            print(describe(Volume.read([open(it, "rb").read() for it in said.names])))
+            print(describe(Volume.load(said.names)))
         elif said.what == "make":
             make(read(said.names[0]), said.names[1:])
         else:

@@ -2,8 +2,8 @@
 """Compares every copy of the version with the file VERSION, which is the one place where it stands.
 
 A copy is a line of a file that a pattern finds: the program's word for --version, the C header, packages, README.md and the newest heading of
-CHANGELOG.md. A file that has no such line is as wrong as one with another version. Prints each copy that is wrong; the last line is
-'N copies of the version, M wrong', and the status 1 where M is not 0.
+CHANGELOG.md. A file that has no such line is as wrong as one with another version; the folder of a language that is not there is left out.
+Prints each copy that is wrong; the last line is 'N copies of the version, M wrong', and the status 1 where M is not 0.
 """
 
 import re
@@ -18,11 +18,16 @@ COPIES = {
     "CHANGELOG.md": r"^## (\S+)$",
     "crates/dasd_words/src/commands.rt": r'\.version\("([^"]*)"\)',
     "crates/test_dasd_rows/stdin": r"^< dasd (\S+)$",
+    "c/dasd.h": r'^#define DASD_VERSION "([^"]*)"$',
+    "rust/Cargo.toml": r'^version = "([^"]*)"$',
+    "python/dasd.py": r'^__version__ = "([^"]*)"$',
 }
 
 
 def copy_in(path, pattern):
     """The version that a file shows, or None."""
+    if not path.is_file():
+        return None
     found = re.search(pattern, path.read_text(encoding="utf-8"), re.MULTILINE)
     return found and found.group(1)
 
@@ -30,12 +35,13 @@ def copy_in(path, pattern):
 def main():
     version = (TOP / "VERSION").read_text(encoding="utf-8").strip()
     wrong = 0
-    for name, pattern in COPIES.items():
+    copies = {name: pattern for name, pattern in COPIES.items() if (TOP / name.split("/")[0]).exists()}
+    for name, pattern in copies.items():
         shown = copy_in(TOP / name, pattern)
         if shown != version:
             print(f"{name}: {shown or 'no version'}, and VERSION has {version}")
             wrong += 1
-    print(f"{len(COPIES)} copies of the version, {wrong} wrong")
+    print(f"{len(copies)} copies of the version, {wrong} wrong")
     return 1 if wrong else 0
 
 

@@ -30,7 +30,7 @@ def needs_of(vector):
     """What an emulator must have to play a vector."""
     found = {"pci"} if "pci" in vector.needs else set()
     if vector.fault:
-        return ["decks"]
+        return ["run", "decks"] if "run" in vector.rules else ["decks"]
     try:
         events = {it.name for it in parse(vector.deck)}
     except DeckFault:

@@ -5,7 +5,7 @@ System/360 Principles of Operation (GA22-6821), input/output operations.
 """
 from dataclasses import dataclass
 
-from .drive import CHANNEL_END, DEVICE_END, MODIFIER, UNIT_CHECK, UNIT_EXCEPTION, Ending
+from .drive import CHANNEL_END, DEVICE_END, IMMEDIATE, MODIFIER, UNIT_CHECK, UNIT_EXCEPTION, Ending
 
 CD, CC, SLI, SKIP, PCI = 0x80, 0x40, 0x20, 0x10, 0x08
 PROGRAM_CHECK, PROTECTION_CHECK, INCORRECT_LENGTH, PCI_STATUS = 0x20, 0x10, 0x40, 0x80
@@ -96,7 +96,9 @@ class Program:
 
     def chains(self):
         """Whether the word asks for command chaining."""
-        return self.flags & (CC | CD) == CC or bool(self.flags & CC) and not self.profile.immediate_data_chain and self.drive.name in ("no-operation", "recalibrate")
+        if self.flags & CD and self.drive.name in IMMEDIATE and not self.profile.immediate_data_chain:
+            return bool(self.flags & CC)
+        return self.flags & (CC | CD) == CC
 
     def fetch(self):
         if self.fetch_fault(chained_data=self.open):

@@ -46,11 +46,7 @@ class Vector:
         words = what.split()
         if words[0] == "new":
             return Volume.new(words[1], int(words[2]))
-        files = []
-        for name in words:
-            with open(os.path.join(self.folder, name), "rb") as it:
-                files.append(it.read())
-        return Volume.read(files)
+        return Volume.load([os.path.join(self.folder, it) for it in words])
 
 
 @dataclass

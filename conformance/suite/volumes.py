@@ -141,6 +141,15 @@ class Volume:
             tracks_in.append(len(own))
         return cls(model, headers, slots, tracks_in)
 
+    @classmethod
+    def load(cls, paths):
+        """The volume of the files at these paths, in order."""
+        files = []
+        for path in paths:
+            with open(path, "rb") as it:
+                files.append(it.read())
+        return cls.read(files)
+
     @property
     def cylinders(self):
         return len(self.slots) // self.model.heads

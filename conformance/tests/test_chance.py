@@ -77,7 +77,7 @@ class Differing(unittest.TestCase):
         text, status = differ("model", "model", "--lists", "2", "--most", "1", "--spoil", "residual-count")
         self.assertEqual(status, 1)
         self.assertIn("# deck", text)
-        self.assertLess(text.count("STORE"), 4)
+        self.assertLess(text.count("STORE"), 8)
 
 
 if __name__ == "__main__":

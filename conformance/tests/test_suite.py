@@ -52,7 +52,7 @@ class Vectors(unittest.TestCase):
             self.assertLessEqual(set(vector.profile), {"units", "decks", *PROFILE}, vector.name)
 
     def test_marks_are_what_the_model_says(self):
-        for vector in VECTORS[::17]:
+        for vector in VECTORS[::23]:
             with self.subTest(vector.name):
                 self.assertEqual(vector.needs, needs_of(vector))
                 self.assertEqual(vector.profile, profile_of(vector))
@@ -86,7 +86,7 @@ class Model(unittest.TestCase):
     def test_each_choice_of_the_profile_leaves_the_other_vectors_right(self):
         for name in PROFILE:
             model = ModelEmulator(Profile().without(name.replace("-", "_")))
-            for vector in VECTORS[::7]:
+            for vector in VECTORS[::13]:
                 if name not in vector.profile:
                     with self.subTest(vector.name, profile=name):
                         self.assertIsNone(difference(vector, model.play(vector), ["steps"]))
@@ -157,7 +157,8 @@ class Runner(unittest.TestCase):
         self.assertEqual(run("no-such-thing")[1], 2)
 
     def test_a_declined_vector_is_neither_right_nor_wrong(self):
-        text, status = run("protocol=%s -c \"import sys\nfor it in sys.stdin: print('HELLO 1 x' if it.startswith('HELLO') else 'NO thanks', flush=True)\"" % sys.executable)
+        code = "import sys\nfor it in sys.stdin: print('HELLO 1 x' if it.startswith('HELLO') else 'NO thanks', flush=True)"
+        text, status = run("protocol=%s -c \"%s\"" % (sys.executable, code))
         vectors, right, wrong, left_out, declined = last_row(text)
         self.assertEqual((right, wrong, status), (0, 0, 0))
         self.assertEqual(vectors, left_out + declined)
@@ -174,6 +175,13 @@ class Reports(unittest.TestCase):
         again = xml.fromstring(xml.tostring(junit(results, "an emulator")))
         self.assertEqual((again.get("tests"), again.get("failures")), ("3", "1"))
         self.assertEqual([len(again.findall(".//" + it)) for it in ("testcase", "failure", "skipped")], [3, 1, 1])
+
+    def test_a_run_writes_junit(self):
+        with tempfile.TemporaryDirectory() as room:
+            file = os.path.join(room, "out.xml")
+            _, status = run("model", "--rule", "seek", "--junit", file)
+            top = xml.parse(file).getroot()
+            self.assertEqual((status, top.tag, int(top.get("tests"))), (0, "testsuites", sum("seek" in it.rules for it in VECTORS)))
 
     def test_the_bundle_runs_by_itself(self):
         with tempfile.TemporaryDirectory() as room:

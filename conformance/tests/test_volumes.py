@@ -8,11 +8,7 @@ from volume import describe
 
 
 def image(*names):
-    files = []
-    for name in names:
-        with open(os.path.join(folder(), name), "rb") as it:
-            files.append(it.read())
-    return Volume.read(files)
+    return Volume.load([os.path.join(folder(), it) for it in names])
 
 
 def described(name):
@@ -65,7 +61,7 @@ class Descriptions(unittest.TestCase):
         self.assertEqual(parse_bytes("C1*3+00+'AB'"), bytes.fromhex("C1C1C100C1C2"))
 
     def test_each_image_is_described_and_made_again(self):
-        names = sorted(it for it in os.listdir(folder()) if it.endswith(".img") and not it.startswith("split") and it != "odd.img")
+        names = sorted(it for it in os.listdir(folder()) if it.endswith(".img") and not it.startswith(("split", "many")) and it != "odd.img")
         for name in names:
             with self.subTest(name):
                 volume = image(name)

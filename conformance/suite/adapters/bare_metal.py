@@ -42,66 +42,117 @@ class Assembler:
 def supervisor():
     """Register 12 is the base, 11 the entry, 10 whether a program was started, 3 the unit, 4 the address, 5 length less one."""
     a = Assembler(SUPERVISOR)
+    put_loop(a)
+    put_instructions(a)
+    put_storage(a)
+    put_wait(a)
+    put_interruption(a)
+    put_constants(a)
+    return a.done()
+
+
+def put_loop(a):
+    """The entries one after another: each one's number chooses a branch."""
     a.raw("05C0")                                   # BALR 12,0
-    a.raw("06C0"); a.raw("06C0")                    # BCTR 12,0 twice: the base is the first instruction
+    a.raw("06C006C0")                               # BCTR 12,0 twice: the base is the first instruction
     a.raw("D70F00000000")                           # XC 0(16),0: what the restart left
-    a.to("58B0", "entries"); a.raw("1BAA")          # L 11,entries; SR 10,10
+    a.to("58B0", "entries")                         # L 11,entries
+    a.raw("1BAA")                                   # SR 10,10
     a.label("next")
-    a.raw("4810B000"); a.raw("1211"); a.branch(8, "stop")        # LH 1,0(11); LTR 1,1; BZ
-    a.raw("4830B002"); a.raw("5840B004"); a.raw("5850B008")      # LH 3; L 4; L 5
-    a.raw("89100002"); a.to("47F1", "jumps")                     # SLL 1,2; BC 15,jumps(1)
+    a.raw("4810B0001211")                           # LH 1,0(11); LTR 1,1
+    a.branch(8, "stop")
+    a.raw("4830B0025840B0045850B008")               # LH 3,2(11); L 4,4(11); L 5,8(11)
+    a.raw("89100002")                               # SLL 1,2
+    a.to("47F1", "jumps")                           # BC 15,jumps(1)
     a.label("jumps")
     for name in ("stop", "sio", "tio", "hio", "tch", "store", "show", "key", "int", "wait"):
         a.branch(15, name)
+
+
+def put_instructions(a):
+    """Start I/O, perhaps with another channel address word, Test I/O, Halt I/O, Test Channel; and what came of them is kept."""
     a.label("sio")
-    a.raw("58600048")                               # L 6,72: the deck's own channel address word
-    a.raw("1244"); a.branch(8, "start")             # LTR 4,4; BZ
+    a.raw("586000481244")                           # L 6,72: the deck's own channel address word; LTR 4,4
+    a.branch(8, "start")
     a.raw("50400048")                               # ST 4,72: that of a program with a Seek before it
     a.label("start")
-    a.raw("9C003000"); a.raw("0520"); a.raw("50600048")          # SIO 0(3); BALR 2,0; ST 6,72
-    a.raw("1872"); a.to("5470", "code"); a.branch(7, "keep")     # LR 7,2; N 7,code; BNZ
-    a.raw("41A00001"); a.branch(15, "keep")         # LA 10,1: it was started
-    a.label("tio"); a.raw("9D003000"); a.raw("0520"); a.branch(15, "keep")
-    a.label("hio"); a.raw("9E003000"); a.raw("0520"); a.branch(15, "keep")
-    a.label("tch"); a.raw("9F003000"); a.raw("0520")
+    a.raw("9C003000052050600048")                   # SIO 0(3); BALR 2,0; ST 6,72
+    a.raw("1872")                                   # LR 7,2
+    a.to("5470", "code")                            # N 7,code
+    a.branch(7, "keep")
+    a.raw("41A00001")                               # LA 10,1: it was started
+    a.branch(15, "keep")
+    a.label("tio")
+    a.raw("9D0030000520")                           # TIO 0(3); BALR 2,0
+    a.branch(15, "keep")
+    a.label("hio")
+    a.raw("9E0030000520")                           # HIO 0(3); BALR 2,0
+    a.branch(15, "keep")
+    a.label("tch")
+    a.raw("9F0030000520")                           # TCH 0(3); BALR 2,0
     a.label("keep")
-    a.raw("5020B00C"); a.raw("D207B0100040")        # ST 2,12(11); MVC 16(8,11),64
-    a.label("more"); a.raw("41B0B0A0"); a.branch(15, "next")     # LA 11,160(11)
-    a.label("store"); a.to("4450", "mvc in"); a.branch(15, "more")
-    a.label("show"); a.to("4450", "mvc out"); a.branch(15, "more")
-    a.label("key"); a.raw("0854"); a.branch(15, "more")          # SSK 5,4
+    a.raw("5020B00CD207B0100040")                   # ST 2,12(11); MVC 16(8,11),64
+    a.label("more")
+    a.raw("41B0B0A0")                               # LA 11,160(11)
+    a.branch(15, "next")
+
+
+def put_storage(a):
+    """Bytes into storage, bytes out of it, a key."""
+    for name, move in (("store", "mvc in"), ("show", "mvc out")):
+        a.label(name)
+        a.to("4450", move)                          # EX 5,..
+        a.branch(15, "more")
+    a.label("key")
+    a.raw("0854")                                   # SSK 5,4
+    a.branch(15, "more")
+
+
+def put_wait(a):
+    """Where a program was started: until an interruption pends in its channel, or patience ends."""
     a.label("wait")
-    a.raw("12AA"); a.branch(8, "more"); a.to("5880", "patience")  # LTR 10,10; BZ; L 8,patience
+    a.raw("12AA")                                   # LTR 10,10
+    a.branch(8, "more")
+    a.to("5880", "patience")                        # L 8,patience
     a.label("again")
-    a.raw("9F003000"); a.branch(4, "ended")         # TCH 0(3); BC 4: an interruption pends
-    a.to("4680", "again")                           # BCT 8
-    a.raw("5080B00C")
-    a.label("ended"); a.raw("1BAA"); a.branch(15, "more")
+    a.raw("9F003000")                               # TCH 0(3)
+    a.branch(4, "ended")
+    a.to("4680", "again")                           # BCT 8,again
+    a.raw("5080B00C")                               # ST 8,12(11)
+    a.label("ended")
+    a.raw("1BAA")                                   # SR 10,10
+    a.branch(15, "more")
+
+
+def put_interruption(a):
+    """An interruption is let come, by a new PSW that stands at 120 for that moment."""
     a.label("int")
     a.to("D207", "saved", "0078")                   # MVC saved(8),120
     a.to("D2070078", "taken psw")                   # MVC 120(8),taken psw
-    a.to("8000", "open"); a.raw("0700"); a.raw("0700"); a.to("8000", "shut")       # SSM open; NOPR; SSM shut
+    a.to("8000", "open")                            # SSM open
+    a.raw("07000700")                               # NOPR; NOPR
+    a.to("8000", "shut")                            # SSM shut
     a.branch(15, "none")
     a.label("taken")
-    a.raw("41200001"); a.raw("5020B00C"); a.raw("D207B0100040"); a.raw("D207B0180038")  # flag, CSW, old PSW
-    a.raw("1BAA")
+    a.raw("412000015020B00C")                       # LA 2,1; ST 2,12(11)
+    a.raw("D207B0100040D207B0180038")               # MVC 16(8,11),64; MVC 24(8,11),56: the old PSW has the unit
+    a.raw("1BAA")                                   # SR 10,10
     a.label("none")
     a.to("D2070078", "saved")                       # MVC 120(8),saved
     a.branch(15, "more")
-    a.label("stop"); a.to("8200", "wait psw")       # LPSW
+
+
+def put_constants(a):
+    """The end, and what the instructions name."""
+    a.label("stop")
+    a.to("8200", "wait psw")                        # LPSW
     while len(a.code) % 8:
         a.raw("00")
-    a.label("taken psw"); a.raw("00000000%08X" % (SUPERVISOR + a.labels["taken"]))
-    a.label("wait psw"); a.raw("0002000000000ACE")
-    a.label("saved"); a.raw("00" * 8)
-    a.label("entries"); a.raw("%08X" % ENTRIES)
-    a.label("patience"); a.raw("%08X" % PATIENCE)
-    a.label("code"); a.raw("30000000")
-    a.label("mvc in"); a.raw("D2004000B020")        # MVC 0(1,4),32(11)
-    a.label("mvc out"); a.raw("D200B0204000")       # MVC 32(1,11),0(4)
-    a.label("open"); a.raw("FE")
-    a.label("shut"); a.raw("00")
-    return a.done()
+    for name, digits in (("taken psw", "00000000%08X" % (SUPERVISOR + a.labels["taken"])), ("wait psw", "0002000000000ACE"), ("saved", "00" * 8),
+                         ("entries", "%08X" % ENTRIES), ("patience", "%08X" % PATIENCE), ("code", "30000000"),
+                         ("mvc in", "D2004000B020"), ("mvc out", "D200B0204000"), ("open", "FE"), ("shut", "00")):
+        a.label(name)
+        a.raw(digits)
 
 
 def entry(operation, unit=0, address=0, length=0, data=b""):

@@ -43,7 +43,7 @@ class DasdProgram(Emulator):
         after = {}
         for unit, files in paths.items():
             try:
-                after[unit] = Volume.read([open(it, "rb").read() for it in files])
+                after[unit] = Volume.load(files)
             except (OSError, BadImage) as why:
                 return Outcome(broke="the image of %02X is spoilt: %s" % (unit, why))
         return Outcome(ran.stdout.decode("latin1").split("\n")[:-1], fault, after)

@@ -28,6 +28,8 @@ TZOFFSET +0000
 OSTAILOR QUIET
 """
 STORAGE = 1 << 24
+# On a busy machine Hercules may be asked for storage before its processor has stopped, and leaves none.
+TRIES = 5
 
 
 class HerculesEmulator(Emulator):
@@ -48,22 +50,24 @@ class HerculesEmulator(Emulator):
             return self.play_in(room, vector, events)
 
     def play_in(self, room, vector, events):
-        paths = {}
-        for unit, volume in vector.before().items():
-            paths[unit] = os.path.join(room, "%02X.ckd" % unit)
-            with open(paths[unit], "wb") as it:
-                it.write(volume.bytes())
+        paths = {unit: os.path.join(room, "%02X.ckd" % unit) for unit, _ in vector.volumes}
         entries, words = self.plan(vector, events)
-        self.write_files(room, vector, entries, words)
-        broke = self.run(room)
         out = os.path.join(room, "out")
+        for attempt in range(TRIES):
+            for unit, volume in vector.before().items():
+                with open(paths[unit], "wb") as it:
+                    it.write(volume.bytes())
+            self.write_files(room, vector, entries, words)
+            broke = self.run(room)
+            if os.path.exists(out) or broke and attempt:
+                break
         if broke or not os.path.exists(out):
             return Outcome(broke=broke or "Hercules left no storage")
         with open(out, "rb") as it:
             kept = it.read()
         answers = [self.answer(vector, event, kept[at * metal.ENTRY:(at + 1) * metal.ENTRY]) for at, event in enumerate(events)]
         try:
-            return Outcome(answers, None, {unit: Volume.read([open(path, "rb").read()]) for unit, path in paths.items()})
+            return Outcome(answers, None, {unit: Volume.load([path]) for unit, path in paths.items()})
         except BadImage as why:
             return Outcome(broke="an image is spoilt: %s" % why)
 

@@ -40,7 +40,7 @@ class LibraryEmulator(Emulator):
         except DeckFault as fault:
             return Outcome(fault=str(fault), after=vector.before())
         try:
-            with self.dasd.Channels(vector.storage, [vector.channel]) as channels:
+            with self.dasd.Subsystem(vector.storage, vector.channel) as channels:
                 return self.play_at(channels, vector, events)
         except self.dasd.Fault as fault:
             return Outcome(broke="the library refuses a call: %s" % fault)

@@ -122,7 +122,7 @@ class ProtocolEmulator(Emulator):
             answers.append(said)
         self.do("END")
         try:
-            after = {unit: Volume.read([open(it, "rb").read() for it in files]) for unit, files in paths.items()}
+            after = {unit: Volume.load(files) for unit, files in paths.items()}
         except (OSError, BadImage) as why:
             raise Broke("an image is spoilt: %s" % why) from None
         return Outcome(answers, None, after)

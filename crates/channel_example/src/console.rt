@@ -9,7 +9,7 @@ use s360_words::Csw;
 use std::fmt;
 
 /// More units than any program of this example has.
-const MOST_UNITS: u16 = 10_000;
+const MOST_UNITS: u32 = 100_000;
 
 /// The condition code that an instruction sets.
 pub(crate) fn code_of<T>(condition: &Condition<T>) -> u8 {
@@ -55,6 +55,11 @@ impl<'a> fmt::Display for Hex<'a> {
     }
 }
 
+/// Lets the program that runs come to its end, and answers how many units it did.
+pub(crate) fn run_on<S: ImageStore>(channel: &mut Channel<S>) -> u32 {
+    channel.run_on(MOST_UNITS).units
+}
+
 /// Starts the program that the channel address word leads to, lets it run to its end, and takes its interruption.
 pub(crate) fn run<S: ImageStore>(
     rt: &HostRuntime,
@@ -63,16 +68,30 @@ pub(crate) fn run<S: ImageStore>(
     address: u16,
 ) -> Result<()> {
     let code = code_of(&channel.sio(address));
-    let units = channel.step(MOST_UNITS);
+    let units = run_on(channel);
     println!(rt; "{name}: condition code {code}, {units} units")?;
     take(rt, channel)
 }
 
-/// Takes an interruption, if there is one.
+/// Takes an interruption, if one pends.
 pub(crate) fn take<S: ImageStore>(rt: &HostRuntime, channel: &mut Channel<S>) -> Result<()> {
-    match channel.interrupt() {
-        Some((address, csw)) => println!(rt; "  interruption {address:03X}: {}", Shown(csw))?,
-        None => println!(rt; "  no interruption")?,
+    let pends = channel.is_pending();
+    show_interruption(rt, pends, channel.interrupt())
+}
+
+/// Shows an interruption that was taken, and whether it pended.
+pub(crate) fn show_interruption(
+    rt: &HostRuntime,
+    pends: bool,
+    taken: Option<(u16, Csw)>,
+) -> Result<()> {
+    match taken {
+        Some((address, csw)) if pends => println!(rt;
+            "  interruption {address:03X}: {}",
+            Shown(csw)
+        )?,
+        None if !pends => println!(rt; "  no interruption")?,
+        _ => println!(rt; "  an interruption that did not pend, or pends still")?,
     }
     Ok(())
 }

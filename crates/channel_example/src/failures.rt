@@ -1,8 +1,8 @@
 //! Stores that fail, and how that is reported.
 
-use crate::console::{code_of, run, show};
+use crate::console::{Hex, code_of, run, show};
 use crate::programs::{READ_DATA, store_search, store_sense, store_two_writes};
-use crate::volumes::{new_channel, new_volume};
+use crate::volumes::{attach, new_channel, new_volume};
 use anyhow::{Context, Result, bail};
 use ckd_image::{FailingStore, Image};
 use s360_channel::Channel;
@@ -11,17 +11,14 @@ use std::alloc::Global;
 /// A channel with one drive, the third call of whose store fails: the first is the read of its header, the second the load of a track,
 /// and the third its save.
 fn failing_channel(alloc: Global) -> Result<Channel<FailingStore>> {
-    let mut channel = new_channel(alloc)?;
-    let mut stores = new_volume(alloc)?.into_stores();
+    let mut channel = new_channel(alloc, 1)?;
+    let mut stores = new_volume(alloc, 2)?.into_stores();
     let store = stores.pop().flatten().context("no file")?;
-    let image = match Image::mount(FailingStore::new(store, 3, false)) {
-        Ok(image) => image,
+    match Image::mount(FailingStore::new(store, 3, false)) {
+        Ok(image) => attach(alloc, &mut channel, 0x90, image)?,
         Err((fault, _store)) => bail!("{fault}"),
-    };
-    match channel.attach(alloc, 0x90, image) {
-        Ok(()) => Ok(channel),
-        Err((fault, _image)) => bail!("{fault}"),
     }
+    Ok(channel)
 }
 
 /// The save at a program's end fails: unit check, and equipment check in the sense bytes. The track holds the front of what was written,
@@ -35,6 +32,9 @@ pub(crate) fn fail_at_the_end(rt: &HostRuntime) -> Result<()> {
         "two records whose track is not saved",
         0x190,
     )?;
+    if let Some(drive) = channel.drive(0x90) {
+        println!(rt; "  sense at the console: {}", Hex(&drive.sense))?;
+    }
     store_sense(&mut channel, 0x620)?;
     run(rt, &mut channel, "sense", 0x190)?;
     show(rt, &channel, 0x620, 6)?;

@@ -1,6 +1,6 @@
 //! A program asks for an interruption, and the processor changes what it does next.
 
-use crate::console::{code_of, show, take};
+use crate::console::{code_of, run_on, show, take};
 use crate::programs::{CHAIN_COMMAND, INTERRUPT, NO_OPERATION, SEEK, SENSE, ccw, store_program};
 use anyhow::Result;
 use ckd_image::MemoryStore;
@@ -26,7 +26,7 @@ pub(crate) fn change_while_it_runs(
     take(rt, channel)?;
     let first = channel.step(3);
     channel.poke(0x408, &ccw(SENSE, 0x620, 0, 6))?;
-    let rest = channel.step(100);
+    let rest = run_on(channel);
     println!(rt; "  its next word is replaced: {first} units before, {rest} behind")?;
     take(rt, channel)?;
     show(rt, channel, 0x620, 6)

@@ -1,2 +1,5 @@
+pub mod Lined
+pub mod Prefixes
 pub mod Reported
+pub mod Rows
 pub mod Sought

@@ -1,3 +1,5 @@
+pub mod Compare
+pub mod Dump
 pub mod Findings
 pub mod Reports
 pub mod Strict

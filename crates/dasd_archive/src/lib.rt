@@ -1,11 +1,17 @@
 //! What an archive asks of a volume, above one image: what a reader of the drive would trip over.
 #![tactic(auto)]
 
+mod compares;
+mod differences;
+mod dumps;
 mod findings;
 mod reports;
 mod strict;
 mod tracks;
 
+pub use crate::compares::{Comparison, compare};
+pub use crate::differences::Difference;
+pub use crate::dumps::{Part, Range, dump};
 pub use crate::findings::{Finding, Place, Problem, Severity};
 pub use crate::reports::{Form, Style, Tally};
 pub use crate::strict::{check_headers, check_strict};

@@ -134,8 +134,8 @@ fn has_record_0(view: &TrackView) -> bool
     view.count_of(0)[4] == 0
 }
 
-// Five bytes by value.
-fn five(bytes: &[u8]) -> [u8; 5]
+/// Five bytes by value.
+pub(crate) fn five(bytes: &[u8]) -> [u8; 5]
     requires { length bytes.now ≡ 5 }
     ensures { result ≡ bytes.now }
 {
@@ -144,8 +144,8 @@ fn five(bytes: &[u8]) -> [u8; 5]
     five
 }
 
-// A record's identifier: its cylinder, head and record number.
-fn identifier(view: &TrackView, i: usize) -> [u8; 5]
+/// A record's identifier: its cylinder, head and record number.
+pub(crate) fn identifier(view: &TrackView, i: usize) -> [u8; 5]
     requires { i < length view.now.records }
     ensures value { result ≡ (record_in view.now i).id }
     ensures five { length (record_in view.now i).id ≡ 5 }
@@ -153,8 +153,8 @@ fn identifier(view: &TrackView, i: usize) -> [u8; 5]
     five(&view.count_of(i)[..5])
 }
 
-// Whether two identifiers are the same.
-fn is_same(one: [u8; 5], other: [u8; 5]) -> bool
+/// Whether two identifiers are the same.
+pub(crate) fn is_same(one: [u8; 5], other: [u8; 5]) -> bool
     ensures { result ≡ bytes_eq one other }
 {
     one[..] == other[..]
@@ -279,8 +279,8 @@ fn check_rest<W: Write>(
     }
 }
 
-// The bytes from an offset on.
-fn bytes_from(bytes: &[u8], from: usize) -> &[u8]
+/// The bytes from an offset on.
+pub(crate) fn bytes_from(bytes: &[u8], from: usize) -> &[u8]
     requires { from ≤ length bytes.now }
     ensures { result.now ≡ drop from bytes.now }
 {

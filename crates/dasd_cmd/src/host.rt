@@ -1,104 +1,320 @@
-//! Files of the host, and its terminal.
+//! Files of the host.
 
-ghost use Rattle.std.specs.Prelude.{◌≡◌, ◌+◌, false};
+ghost use Rattle.std.specs.Prelude.{◌≡◌, ◌+◌, [], length};
 
-use dasd_jobs::{FileFault, ImageFiles, Progress, Stage};
-use ghost_data::Count;
+use crate::drafts::{HostDraft, Old};
+use crate::reading::{HostFile, read_some};
+use dasd_jobs::{FileFault, ImageFiles, Written};
 use std::alloc::Global;
-use std::io::{ErrorKind, IsTerminal};
-use std::{fs, io};
+use std::fs::{File, Metadata, OpenOptions, TryLockError};
+use std::io::{Error, ErrorKind};
+use std::os::unix::fs::MetadataExt;
+use std::{fmt, fs, io};
 
-/// What erases the rest of a terminal's line.
-const ERASE_BEHIND: &str = "\u{1B}[K";
+/// How often a file is opened again that was replaced before it was locked.
+const TRIES: usize = 16;
 
-/// The files of the host. A file is replaced by one beside it, which is written whole and then takes its name, so that a
-/// fault in the middle leaves the file as it was.
+/// The files of the host, and what is remarked of them.
 #[derive(Drop)]
 pub(crate) struct HostFiles<'a> {
     host: &'a HostRuntime,
-    replaced: Count,
+    written: Written,
+    /// The files that are locked until the end.
+    locked: Vec<Locked>,
+    remarks: String,
+    is_verbose: bool,
+}
+
+/// A file that is locked.
+#[derive(Drop)]
+struct Locked {
+    _file: File,
+    device: u64,
+    node: u64,
+    path: String,
+    /// Whether a new file has taken its place.
+    is_done: bool,
 }
 
 impl<'a> HostFiles<'a> {
-    /// The files of this host, none of which was replaced yet.
+    /// The files of this host, none of which was written yet.
     pub(crate) fn new(host: &'a HostRuntime) -> HostFiles<'a>
-        ensures { result.replaced ≡ 0 }
+        ensures { result.written.files ≡ [] }
     {
         HostFiles {
             host,
-            replaced: Count::new(),
+            written: Written::new(),
+            locked: Vec::new(host.alloc()),
+            remarks: String::new(host.alloc()),
+            is_verbose: false,
         }
     }
-}
 
-impl ImageFiles for HostFiles<'_> {
-    ghost replacements = { λ f. f.replaced };
-
-    fn read(&mut self, _alloc: Global, path: &str) -> Result<Vec<u8>, FileFault> {
-        fs::read(self.host, path).map_err(|fault| told(&fault))
+    /// What was remarked, a line each.
+    pub(crate) fn remarks(&self) -> &str {
+        self.remarks.as_str()
     }
 
-    fn replace(&mut self, alloc: Global, path: &str, bytes: &[u8]) -> Result<(), FileFault> {
-        self.replaced = self.replaced.next();
-        let beside = format!(in alloc; "{path}.new").map_err(|_| FileFault::OutOfMemory)?;
-        write_and_rename(self.host, beside.as_str(), path, bytes).map_err(|fault| told(&fault))
+    /// Whether the words ask for remarks.
+    pub(crate) fn is_verbose(&self) -> bool {
+        self.is_verbose
     }
-}
 
-// Writes a file whole, and gives it the name of another; where that fails, it is removed.
-fn write_and_rename(host: &HostRuntime, beside: &str, path: &str, bytes: &[u8]) -> io::Result<()> {
-    let done = match fs::write(host, beside, bytes) {
-        Ok(()) => fs::rename(host, beside, path),
-        Err(fault) => Err(fault),
-    };
-    if done.is_err() {
-        let _ = fs::remove_file(host, beside);
-    }
-    done
-}
-
-// What a fault of the host is to the program.
-fn told(fault: &io::Error) -> FileFault {
-    if fault.kind() == ErrorKind::OutOfMemory {
-        FileFault::OutOfMemory
-    } else {
-        FileFault::Refused
-    }
-}
-
-/// A line of standard error, where that is a terminal; it is written over by the next, and is nothing elsewhere.
-#[derive(Drop)]
-pub(crate) struct TerminalLine<'a> {
-    host: &'a HostRuntime,
-    is_terminal: bool,
-    is_shown: bool,
-}
-
-impl<'a> TerminalLine<'a> {
-    /// The line of this host's standard error, which shows nothing yet.
-    pub(crate) fn new(host: &'a HostRuntime) -> TerminalLine<'a>
-        ensures { result.is_shown ≡ false }
+    // Notes why a file was not written, and which were.
+    fn not_written(&mut self, path: &str, fault: &Error) -> FileFault
+        ensures { self.new.written ≡ self.old.written }
     {
-        TerminalLine {
-            host,
-            is_terminal: host.stderr().is_terminal(),
-            is_shown: false,
+        let alloc = self.host.alloc();
+        let told = refused(&mut self.remarks, alloc, path, fault);
+        if let Some(done) = list_done(self.locked.as_slice(), alloc) {
+            if let Ok(text) = format!(in alloc; "{path} was not written{done}") {
+                note(&mut self.remarks, alloc, text.as_str());
+            }
+        }
+        told
+    }
+}
+
+// The files that were replaced, if there is one and there is memory to say so.
+fn list_done(held: &[Locked], alloc: Global) -> Option<String> {
+    let mut done = String::new(alloc);
+    for locked in held {
+        if locked.is_done {
+            let path = locked.path.as_str();
+            let text = format!(in alloc; "; {path} was").ok()?;
+            done.push_str(text.as_str()).ok()?;
+        }
+    }
+    (!done.is_empty()).then_some(done)
+}
+
+// Notes that a new file has taken the place of one that is locked.
+fn mark_done(held: &mut [Locked], node: Option<(u64, u64)>) {
+    for locked in held.iter_mut() {
+        if node == Some((locked.device, locked.node)) {
+            locked.is_done = true;
         }
     }
 }
 
-impl Progress for TerminalLine<'_> {
-    fn show(&mut self, stage: Stage) {
-        if self.is_terminal {
-            let _ = eprint!(self.host; "\r{stage}{ERASE_BEHIND}");
-            self.is_shown = true;
+// One line more of remarks; where there is no memory for it, it is left out.
+fn note(remarks: &mut String, alloc: Global, text: &str) {
+    if let Ok(line) = format!(in alloc; "  {text}\n") {
+        let _ = remarks.push_str(line.as_str());
+    }
+}
+
+// Notes why a path was refused, in the host's words, and what that is to the program.
+fn refused(remarks: &mut String, alloc: Global, path: &str, fault: &Error) -> FileFault {
+    if fault.kind() == ErrorKind::OutOfMemory {
+        return FileFault::OutOfMemory;
+    }
+    if let Ok(text) = format!(in alloc; "{path}: {fault}") {
+        let words = text
+            .as_str()
+            .split_once(" (os error")
+            .map_or(text.as_str(), |(words, _)| words);
+        note(remarks, alloc, words);
+    }
+    match fault.kind() {
+        ErrorKind::AlreadyExists => FileFault::Exists,
+        ErrorKind::ResourceBusy => FileFault::InUse,
+        _ => FileFault::Refused,
+    }
+}
+
+// A file that is not as it must be.
+pub(crate) fn wrong(why: &str) -> Error {
+    Error::new(ErrorKind::InvalidInput, why)
+}
+
+// Whether a file was locked already.
+fn is_locked(locked: &[Locked], known: &Metadata) -> bool {
+    locked.iter().any(|held| held.device == known.dev() && held.node == known.ino())
+}
+
+// Opens a regular file, for writing too where that is allowed.
+fn open_regular(host: &HostRuntime, path: &str) -> io::Result<File> {
+    let known = fs::metadata(host, path)?;
+    if !known.is_file() {
+        return Err(wrong("not a regular file"));
+    }
+    if !known.permissions().readonly() {
+        if let Ok(file) = OpenOptions::new().read(true).write(true).open(host, path) {
+            return Ok(file);
+        }
+    }
+    File::open(host, path)
+}
+
+// Locks a file that was opened; a file that may not be written may be read by several users.
+fn lock_file(file: &File, may_write: bool) -> io::Result<()> {
+    let locked = if may_write {
+        file.try_lock()
+    } else {
+        file.try_lock_shared()
+    };
+    match locked {
+        Ok(()) => Ok(()),
+        Err(TryLockError::WouldBlock) => {
+            Err(Error::new(ErrorKind::ResourceBusy, "another program has locked it"))
+        }
+        Err(TryLockError::Error(fault)) => Err(fault),
+    }
+}
+
+// Opens a regular file and locks it. One that was replaced before it was locked is opened again.
+fn open_locked(host: &HostRuntime, held: &[Locked], path: &str) -> io::Result<(File, Metadata)> {
+    for _ in 0..TRIES {
+        let file = open_regular(host, path)?;
+        let known = file.metadata()?;
+        if is_locked(held, &known) {
+            return Ok((file, known));
+        }
+        lock_file(&file, !known.permissions().readonly())?;
+        let there = fs::metadata(host, path)?;
+        if there.dev() == known.dev() && there.ino() == known.ino() {
+            return Ok((file, known));
+        }
+    }
+    Err(Error::new(ErrorKind::ResourceBusy, "another program replaces it"))
+}
+
+// Keeps a file locked until the end.
+fn keep(
+    held: &mut Vec<Locked>,
+    alloc: Global,
+    path: &str,
+    file: &File,
+    known: &Metadata,
+) -> io::Result<()> {
+    let locked = Locked {
+        _file: file.try_clone()?,
+        device: known.dev(),
+        node: known.ino(),
+        path: path.to_string(alloc)?,
+        is_done: false,
+    };
+    match held.push(locked) {
+        Ok(()) => Ok(()),
+        Err(_) => Err(Error::from(ErrorKind::OutOfMemory)),
+    }
+}
+
+// What is at a path that is to be written: a file that may be replaced, which is locked from now on, or none.
+fn find_old(
+    host: &HostRuntime,
+    held: &mut Vec<Locked>,
+    path: &str,
+    replaces: bool,
+) -> io::Result<Option<Old>> {
+    if let Err(fault) = fs::symlink_metadata(host, path) {
+        return match fault.kind() {
+            ErrorKind::NotFound => Ok(None),
+            _ => Err(fault),
+        };
+    }
+    if !replaces {
+        return Err(Error::new(
+            ErrorKind::AlreadyExists,
+            "it is there, and is not to be replaced",
+        ));
+    }
+    let target = fs::canonicalize(host, path)?;
+    let (file, known) = open_locked(host, held, target.as_str())?;
+    if known.permissions().readonly() {
+        return Err(wrong("it may not be written"));
+    }
+    let _may_write = OpenOptions::new().write(true).open(host, target.as_str())?;
+    if !is_locked(held.as_slice(), &known) {
+        keep(held, host.alloc(), path, &file, &known)?;
+    }
+    Ok(Some(Old {
+        path: target,
+        known,
+    }))
+}
+
+impl<'a> ImageFiles for HostFiles<'a> {
+    type Opened = HostFile;
+
+    type Draft = HostDraft<'a>;
+
+    ghost written = { λ f. f.written.files };
+
+    fn open(&mut self, alloc: Global, path: &str) -> Result<HostFile, FileFault> {
+        match HostFile::open(self.host, path) {
+            Ok(file) => Ok(file),
+            Err(fault) => Err(refused(&mut self.remarks, alloc, path, &fault)),
         }
     }
 
-    fn clear(&mut self) {
-        if self.is_shown {
-            let _ = eprint!(self.host; "\r{ERASE_BEHIND}");
-            self.is_shown = false;
+    fn lock(&mut self, alloc: Global, path: &str) -> Result<HostFile, FileFault> {
+        let (file, known) = match open_locked(self.host, self.locked.as_slice(), path) {
+            Ok(found) => found,
+            Err(fault) => return Err(refused(&mut self.remarks, alloc, path, &fault)),
+        };
+        if is_locked(self.locked.as_slice(), &known) {
+            note_twice(&mut self.remarks, alloc, path);
+            return Err(FileFault::Twice);
         }
+        match keep(&mut self.locked, alloc, path, &file, &known) {
+            Ok(()) => Ok(HostFile::of(file, known.len())),
+            Err(fault) => Err(refused(&mut self.remarks, alloc, path, &fault)),
+        }
+    }
+
+    fn read(&mut self, alloc: Global, path: &str, most: usize) -> Result<Vec<u8>, FileFault> {
+        match read_some(self.host, path, most) {
+            Ok(bytes) => Ok(bytes),
+            Err(fault) => Err(refused(&mut self.remarks, alloc, path, &fault)),
+        }
+    }
+
+    fn begin(
+        &mut self,
+        alloc: Global,
+        path: &str,
+        replaces: bool,
+    ) -> Result<HostDraft<'a>, FileFault> {
+        let begun = match find_old(self.host, &mut self.locked, path, replaces) {
+            Ok(old) => HostDraft::begin(self.host, path, old),
+            Err(fault) => Err(fault),
+        };
+        match begun {
+            Ok(draft) => Ok(draft),
+            Err(fault) => Err(self.not_written(path, &fault)),
+        }
+    }
+
+    fn put(&mut self, path: &str, draft: HostDraft<'a>) -> Result<(), FileFault> {
+        let written = self.written.with(path.as_bytes(), draft.trace());
+        let node = draft.old_node();
+        match draft.put(path) {
+            Ok(()) => {
+                self.written = written;
+                mark_done(self.locked.as_mut_slice(), node);
+                Ok(())
+            }
+            Err(fault) => Err(self.not_written(path, &fault)),
+        }
+    }
+
+    fn remark<T: fmt::Display>(&mut self, text: &T) {
+        let alloc = self.host.alloc();
+        if let Ok(text) = format!(in alloc; "{text}") {
+            note(&mut self.remarks, alloc, text.as_str());
+        }
+    }
+
+    fn ask_remarks(&mut self) {
+        self.is_verbose = true;
+    }
+}
+
+// Notes that a file was named before.
+fn note_twice(remarks: &mut String, alloc: Global, path: &str) {
+    if let Ok(text) = format!(in alloc; "{path}: this run uses it already") {
+        note(remarks, alloc, text.as_str());
     }
 }

@@ -1,14 +1,18 @@
 //! `dasd` formats, lists and checks CKD_P370 disk images, and runs decks of channel instructions over them.
 #![tactic(auto)]
 
+mod drafts;
 mod host;
+mod reading;
+mod terminal;
 
-use crate::host::{HostFiles, TerminalLine};
+use crate::host::HostFiles;
+use crate::terminal::{HostOutput, TerminalLine};
+use dasd_jobs::JobFault;
 use dasd_run::{Ending, ProgramFault, obey};
-use std::alloc::Global;
-use std::io::{BufReader, BufWriter, ErrorKind};
+use std::env;
+use std::io::{BufReader, BufWriter, ErrorKind, IsTerminal};
 use std::process::ExitCode;
-use std::{env, io};
 
 /// A No-Operation, which is accepted and over at once, so that no interruption is left.
 const STORED_DECK: &[u8] = b"STORE 48 00000400
@@ -25,22 +29,50 @@ const NO_TEXT: &str = "error: a word is not UTF-8\n";
 const STORED_RUN: [&str; 3] = ["dasd", "run", "90=new:2311:1"];
 
 fn main(rt: HostRuntime) -> ExitCode {
-    match answer(&rt) {
-        Ok(Ending::Done) => ExitCode::SUCCESS,
-        Ok(Ending::Findings) => ExitCode::FAILURE,
-        Err(ProgramFault::Words(text)) => {
-            let _ = eprint!(rt; "{text}");
-            ExitCode::from(2)
+    let mut files = HostFiles::new(&rt);
+    let Ok(mut writer) = BufWriter::new(rt.alloc(), HostOutput::new(&rt)) else {
+        return conclude(&rt, &files, Err(ProgramFault::OutOfMemory));
+    };
+    match answer(&rt, &mut files, &mut writer) {
+        Err(ProgramFault::Job(JobFault::Write)) if writer.get_ref().is_broken() => {
+            ExitCode::FAILURE
         }
-        Err(fault) => {
-            let _ = eprintln!(rt; "dasd: {fault}");
-            ExitCode::from(fault.status())
-        }
+        ended => conclude(&rt, &files, ended),
     }
 }
 
+// The status of what was done, behind what is said of it on standard error; help goes to standard output.
+fn conclude(rt: &HostRuntime, files: &HostFiles, ended: Result<Ending, ProgramFault>) -> ExitCode {
+    let status = match &ended {
+        Ok(Ending::Done) => 0,
+        Ok(Ending::Findings) => 1,
+        Err(fault) => fault.status(),
+    };
+    match ended {
+        Ok(_) => {}
+        Err(ProgramFault::Help(text)) => {
+            let _ = print!(rt; "{text}");
+        }
+        Err(ProgramFault::Words(text)) => {
+            let _ = eprint!(rt; "{text}");
+        }
+        Err(fault) => {
+            let _ = eprintln!(rt; "dasd: {fault}");
+        }
+    }
+    if files.is_verbose() || rt.stderr().is_terminal() {
+        let remarks = files.remarks();
+        let _ = eprint!(rt; "{remarks}");
+    }
+    ExitCode::from(status)
+}
+
 // Does what the words of the host ask, or else the stored run.
-fn answer(rt: &HostRuntime) -> Result<Ending, ProgramFault> {
+fn answer(
+    rt: &HostRuntime,
+    files: &mut HostFiles,
+    writer: &mut BufWriter<HostOutput>,
+) -> Result<Ending, ProgramFault> {
     let alloc = rt.alloc();
     let words = host_words(rt)?;
     let mut list = Vec::new(alloc);
@@ -48,27 +80,23 @@ fn answer(rt: &HostRuntime) -> Result<Ending, ProgramFault> {
         list.push(word.as_str())
             .map_err(|_| ProgramFault::OutOfMemory)?;
     }
-    let mut files = HostFiles::new(rt);
     let mut progress = TerminalLine::new(rt);
-    let Ok(mut writer) = BufWriter::new(alloc, io::writer(rt)) else {
-        return Err(ProgramFault::OutOfMemory);
-    };
     if list.len() > 1 {
         obey(
             alloc,
             list.as_slice(),
-            &mut files,
+            files,
             &mut rt.reader(),
-            &mut writer,
+            writer,
             &mut progress,
         )
     } else {
         obey(
             alloc,
             &STORED_RUN,
-            &mut files,
+            files,
             &mut &STORED_DECK[..],
-            &mut writer,
+            writer,
             &mut progress,
         )
     }

@@ -1,1 +1,4 @@
 pub mod Held
+pub mod Causes
+pub mod Lines
+pub mod Written

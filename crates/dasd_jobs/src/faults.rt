@@ -1,5 +1,8 @@
 //! Why a job was not done.
 
+ghost use Rattle.std.specs.Prelude.{◌≡◌};
+ghost use Rattle.dasd_jobs.specs.Causes.{reading_fault, writing_fault};
+
 use crate::files::FileFault;
 use ckd_image::MountFault;
 use dasd_volumes::VolumeFault;
@@ -23,21 +26,35 @@ pub enum JobFault {
     /// A slot could not be read.
     #[error("store fault")]
     Store,
+    /// A file that may be written is locked by another program, or was named before.
+    #[error("image in use")]
+    InUse,
+    /// A file is there that was not to be replaced.
+    #[error("file exists")]
+    Exists,
 }
 
 /// What a fault of a file that is read is to a job.
-pub(crate) fn of_read(fault: FileFault) -> JobFault {
+pub(crate) fn of_read(fault: FileFault) -> JobFault
+    ensures { result ≡ reading_fault fault }
+{
     match fault {
         FileFault::OutOfMemory => JobFault::OutOfMemory,
         FileFault::Refused => JobFault::Read,
+        FileFault::InUse | FileFault::Twice => JobFault::InUse,
+        FileFault::Exists => JobFault::Exists,
     }
 }
 
 /// What a fault of a file that is replaced is to a job.
-pub(crate) fn of_write(fault: FileFault) -> JobFault {
+pub(crate) fn of_write(fault: FileFault) -> JobFault
+    ensures { result ≡ writing_fault fault }
+{
     match fault {
         FileFault::OutOfMemory => JobFault::OutOfMemory,
         FileFault::Refused => JobFault::Write,
+        FileFault::InUse | FileFault::Twice => JobFault::InUse,
+        FileFault::Exists => JobFault::Exists,
     }
 }
 

@@ -1,36 +1,98 @@
-//! Image files by their paths.
+//! Files by their paths.
 
-ghost use Rattle.std.specs.Prelude.{◌≡◌, ℕ, ◌+◌};
+ghost use Rattle.std.specs.Prelude.{◌≡◌, ◌≤◌, List, [], length, IfOk, OnOk, OnErr};
+ghost use Rattle.dasd_jobs.specs.Written.{Replaced, with_file};
 
+use ckd_image::{ImageStore, StoreFault};
 use std::alloc::Global;
+use std::fmt;
 
-/// Why a file was not read or not replaced.
+/// Why a file was not opened, not read or not replaced.
 #[derive(Clone, Copy, Debug, PartialEq, Eq)]
 pub enum FileFault {
     /// There is no memory for its bytes or for its path.
     OutOfMemory,
     /// The host refused.
     Refused,
+    /// Another program has locked it.
+    InUse,
+    /// It was locked already, by this or by another name.
+    Twice,
+    /// It is there, and was not to be replaced.
+    Exists,
 }
 
-/// Files that are read whole and replaced whole.
+/// A file that was opened, and is read in parts.
+pub trait OpenedFile: Drop {
+    /// The number of its bytes.
+    fn len(&self) -> u64;
+
+    /// Reads the bytes from `at` on that fill `into`. After an error `into` holds any bytes.
+    fn read_at(&mut self, at: u64, into: &mut [u8]) -> Result<(), StoreFault>;
+}
+
+/// Files that are read in place, and are made or replaced whole: what is new is written beside the old file and takes its place
+/// at the end, so that whatever fails leaves the old file as it was.
 pub trait ImageFiles {
-    // how often a file was replaced, or tried to be; a whole number that contracts alone speak of
-    ghost replacements: { Self → ℕ };
+    /// A file that was opened to be read.
+    type Opened: OpenedFile;
 
-    /// All bytes of a file.
+    /// A new file that is written before it takes its place. One that is dropped leaves nothing.
+    type Draft: ImageStore;
+
+    // the files that were made or replaced so far, in order
+    ghost written: { Self → List Replaced };
+
+    /// Opens a file to be read. It waits for no other user of the file, and is refused for none.
     ///
     /// # Errors
     ///
-    /// The host can't read it, or there is no memory for it.
-    fn read(&mut self, alloc: Global, path: &str) -> Result<Vec<u8>, FileFault>
-        ensures { replacements self.new ≡ replacements self.old };
+    /// The host can't open it, or there is no memory.
+    fn open(&mut self, alloc: Global, path: &str) -> Result<Self::Opened, FileFault>
+        ensures { written self.new ≡ written self.old };
 
-    /// Puts these bytes in the place of all that the file held.
+    /// Opens a file that may be replaced later, and keeps it locked as long as these files are there.
     ///
     /// # Errors
     ///
-    /// The host can't write it, or there is no memory for a path beside it; the file then holds what it held.
-    fn replace(&mut self, alloc: Global, path: &str, bytes: &[u8]) -> Result<(), FileFault>
-        ensures { replacements self.new ≡ replacements self.old + 1 };
+    /// The host can't open it, or it is no regular file; another program has locked it; it was locked here before; or there is
+    /// no memory.
+    fn lock(&mut self, alloc: Global, path: &str) -> Result<Self::Opened, FileFault>
+        ensures { written self.new ≡ written self.old };
+
+    /// The bytes of a file, at most so many of them.
+    ///
+    /// # Errors
+    ///
+    /// The host can't read it, or there is no memory for them.
+    fn read(&mut self, alloc: Global, path: &str, most: usize) -> Result<Vec<u8>, FileFault>
+        ensures kept { written self.new ≡ written self.old }
+        ensures few { IfOk result (λ bytes. length bytes.items ≤ most) };
+
+    /// Begins a new file without bytes, which is to be at this path, in the place of a file that is there, if that is allowed.
+    ///
+    /// # Errors
+    ///
+    /// What is at the path is no regular file, may not be written or may not be replaced; another program has locked it; no file
+    /// can be made beside it; or there is no memory.
+    fn begin(&mut self, alloc: Global, path: &str, replaces: bool) -> Result<Self::Draft, FileFault>
+        ensures kept { written self.new ≡ written self.old }
+        ensures empty { IfOk result (λ draft. Self.Draft.content draft ≡ []) };
+
+    /// Puts the new file that was begun for this path there.
+    ///
+    /// # Errors
+    ///
+    /// The host can't do it, or another file has come to the path since: what is there stays.
+    fn put(&mut self, path: &str, draft: Self::Draft) -> Result<(), FileFault>
+        ensures ok { OnOk result (written self.new ≡ with_file (written self.old) path.now (Self.Draft.content draft)) }
+        ensures err { OnErr result (written self.new ≡ written self.old) };
+
+    /// Something that the one line of a fault, or a run that is done, leaves out: one line, told where it is asked for.
+    fn remark<T: fmt::Display>(&mut self, text: &T)
+        ensures { written self.new ≡ written self.old };
+
+    /// Remarks are asked for.
+    fn ask_remarks(&mut self)
+        ensures { written self.new ≡ written self.old };
 }

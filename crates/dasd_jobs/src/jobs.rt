@@ -1,39 +1,81 @@
 //! Formatting, listing and checking.
 
-ghost use Rattle.std.specs.Prelude.{◌≡◌};
+ghost use Rattle.std.specs.Prelude.{◌≡◌, [], false, IfOk, OnOk};
+ghost use Rattle.std.specs.Io.KnownBytes.{Appends};
+ghost use Rattle.ckd_track.specs.Model.{slot_size_of};
+ghost use Rattle.ckd_image.specs.Image.{new_file};
+ghost use Rattle.dasd_jobs.specs.Lines.{formatted_line};
+ghost use Rattle.dasd_jobs.specs.Written.{WritesNew, Formats};
 
-use crate::faults::JobFault;
+use crate::faults::{JobFault, of_write};
 use crate::files::ImageFiles;
-use crate::mounting::{new_image, read_image, write_new};
+use crate::opened::open_volume;
+use ckd_image::{ImageStore, StoreFault, write_new_volume};
 use ckd_track::{DriveModel, Geometry};
-use dasd_volumes::{Progress, Stage, is_large};
+use dasd_volumes::{Progress, Stage, VolumeFault, is_large};
 use std::alloc::Global;
+use std::io;
 use std::io::Write;
 
-/// Writes a new image to a path, in the place of what the file held, and prints what was formatted. Of a large volume it shows
-/// what it is about, and clears that before it prints.
+/// What is formatted: a new volume, and whether it may take the place of a file.
+#[derive(Clone, Copy, Debug, PartialEq, Eq)]
+pub struct NewVolume<'a> {
+    /// The path of its image.
+    pub path: &'a str,
+    /// Its drive.
+    pub model: DriveModel,
+    /// Its cylinders: at least one.
+    pub cylinders: u16,
+    /// Whether a file at the path is replaced.
+    pub replaces: bool,
+}
+
+/// Writes a new image to a path, slot by slot, in the place of what the file held, and prints what was formatted. Of a large volume
+/// it shows what it is about, and clears that before it prints.
 ///
 /// # Errors
 ///
-/// No memory for the image; the file can't be written, which then holds what it held; or the line can't be written.
+/// No memory for the path; the file can't be written, which then holds what it held; or the line can't be written.
 pub fn format_file<F: ImageFiles, W: Write, P: Progress>(
     alloc: Global,
     files: &mut F,
     writer: &mut W,
     progress: &mut P,
-    path: &str,
-    model: DriveModel,
-    cylinders: u16,
-) -> Result<(), JobFault> {
-    let written = write_shown(alloc, files, progress, path, model, cylinders);
+    volume: NewVolume,
+) -> Result<(), JobFault>
+    ensures written { Formats result volume.entry.path.now volume.entry.model volume.entry.cylinders (F.written files.old) (F.written files.new) }
+    ensures line { OnOk result (Appends (W.contents writer.old) (W.contents writer.new)
+        (formatted_line volume.entry.model volume.entry.cylinders)) }
+    ensures cleared { P.is_shown progress.new ≡ false }
+{
+    let written = write_shown(alloc, files, progress, volume);
     progress.clear();
-    written?;
-    let number = match model {
-        DriveModel::D2311 => 2311,
-        DriveModel::D2314 => 2314,
+    if let Err(fault) = written {
+        return Err(fault);
+    }
+    match write_formatted(writer, progress, volume) {
+        Ok(()) => Ok(()),
+        Err(_) => Err(JobFault::Write),
+    }
+}
+
+// The line that says what was formatted. Nothing is shown meanwhile.
+fn write_formatted<W: Write, P: Progress>(
+    writer: &mut W,
+    _progress: &P,
+    volume: NewVolume,
+) -> io::Result<()>
+    requires { P.is_shown _progress.now ≡ false }
+    ensures { OnOk result (Appends (W.contents writer.old) (W.contents writer.new)
+        (formatted_line volume.entry.model volume.entry.cylinders)) }
+{
+    let model = match volume.model {
+        DriveModel::D2311 => "2311",
+        DriveModel::D2314 => "2314",
     };
-    writeln!(writer, "formatted {number} {cylinders} cylinders").map_err(|_| JobFault::Write)?;
-    writer.flush().map_err(|_| JobFault::Write)
+    let cylinders = volume.cylinders;
+    writeln!(writer, "formatted {model} {cylinders} cylinders")?;
+    writer.flush()
 }
 
 // Writes a new image to a path, and shows so of a large volume.
@@ -41,22 +83,65 @@ fn write_shown<F: ImageFiles, P: Progress>(
     alloc: Global,
     files: &mut F,
     progress: &mut P,
-    path: &str,
-    model: DriveModel,
-    cylinders: u16,
-) -> Result<(), JobFault> {
-    let shows = is_large(Geometry::new(model, cylinders));
+    volume: NewVolume,
+) -> Result<(), JobFault>
+    ensures { WritesNew result volume.entry.path.now volume.entry.model volume.entry.cylinders (F.written files.old) (F.written files.new) }
+{
+    let shows = is_large(Geometry::new(volume.model, volume.cylinders));
     if shows {
-        progress.show(Stage::Formatting(cylinders));
+        progress.show(Stage::Formatting(volume.cylinders));
     }
-    let image = new_image(alloc, model, cylinders)?;
+    let draft = begin_new(alloc, files, volume)?;
     if shows {
-        progress.show(Stage::Writing(cylinders));
+        progress.show(Stage::Writing(volume.cylinders));
     }
-    write_new(alloc, files, path, image)
+    write_new(files, draft, volume)
 }
 
-/// Prints the volume of the image that these files hold, in their order. No file is written.
+// Begins the file of a new image.
+fn begin_new<F: ImageFiles>(
+    alloc: Global,
+    files: &mut F,
+    volume: NewVolume,
+) -> Result<F::Draft, JobFault>
+    ensures kept { F.written files.new ≡ F.written files.old }
+    ensures empty { IfOk result (λ draft. F.Draft.content draft ≡ []) }
+{
+    match files.begin(alloc, volume.path, volume.replaces) {
+        Ok(draft) => Ok(draft),
+        Err(fault) => Err(of_write(fault)),
+    }
+}
+
+// Writes a new image into a file that was begun, and puts that into its place.
+fn write_new<F: ImageFiles>(
+    files: &mut F,
+    draft: F::Draft,
+    volume: NewVolume,
+) -> Result<(), JobFault>
+    requires { F.Draft.content draft ≡ [] }
+    ensures { WritesNew result volume.entry.path.now volume.entry.model volume.entry.cylinders (F.written files.old) (F.written files.new) }
+{
+    let mut draft = draft;
+    match write_volume(&mut draft, Geometry::new(volume.model, volume.cylinders)) {
+        Ok(()) => match files.put(volume.path, draft) {
+            Ok(()) => Ok(()),
+            Err(fault) => Err(of_write(fault)),
+        },
+        Err(_) => Err(JobFault::Write),
+    }
+}
+
+// Writes a new volume into a file without bytes.
+fn write_volume<D: ImageStore>(draft: &mut D, geometry: Geometry) -> Result<(), StoreFault>
+    requires empty { D.content draft.old ≡ [] }
+    requires size { geometry.track_size ≡ slot_size_of geometry.model }
+    ensures { OnOk result (D.content draft.new ≡ new_file geometry) }
+{
+    write_new_volume(draft, geometry)
+}
+
+/// Prints the volume of the image that these files hold, in their order, which is read slot by slot. No file is written.
 ///
 /// # Errors
 ///
@@ -68,14 +153,14 @@ pub fn list_files<F: ImageFiles, W: Write>(
     writer: &mut W,
     paths: &[&str],
 ) -> Result<(), JobFault>
-    ensures { F.replacements files.new ≡ F.replacements files.old }
+    ensures { F.written files.new ≡ F.written files.old }
 {
-    let mut image = read_image(alloc, files, paths)?;
-    dasd_volumes::list(alloc, &mut image, writer).map_err(JobFault::from)
+    let mut volume = open_volume(alloc, files, paths)?;
+    dasd_volumes::list(alloc, &mut volume, writer).map_err(|fault| of_file(fault))
 }
 
-/// Prints the tracks of the image that these files hold which can't be read, and answers how many there are. Of a large volume
-/// it shows each cylinder, and clears that before it ends. No file is written.
+/// Prints the tracks of the image that these files hold which can't be read, and answers how many there are. The image is read
+/// slot by slot. Of a large volume it shows each cylinder, and clears that before it ends. No file is written.
 ///
 /// # Errors
 ///
@@ -87,10 +172,16 @@ pub fn check_files<F: ImageFiles, W: Write, P: Progress>(
     progress: &mut P,
     paths: &[&str],
 ) -> Result<u32, JobFault>
-    ensures { F.replacements files.new ≡ F.replacements files.old }
+    ensures { F.written files.new ≡ F.written files.old }
 {
-    let mut image = read_image(alloc, files, paths)?;
-    let checked = dasd_volumes::check(alloc, &mut image, writer, progress);
-    progress.clear();
-    checked.map_err(JobFault::from)
+    let mut volume = open_volume(alloc, files, paths)?;
+    dasd_volumes::check(alloc, &mut volume, writer, progress).map_err(|fault| of_file(fault))
+}
+
+// What a fault over the files of a volume is to a job: a slot that can't be read is a file that can't be.
+fn of_file(fault: VolumeFault) -> JobFault {
+    match fault {
+        VolumeFault::Store => JobFault::Read,
+        fault => JobFault::from(fault),
+    }
 }

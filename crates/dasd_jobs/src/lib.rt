@@ -1,16 +1,23 @@
-//! What `dasd` does with image files: it formats one, and lists and checks those of one image. The files are behind a trait, so
-//! that nothing here touches a host.
+//! What `dasd` does with image files: it formats one, and lists and checks those of one image, slot by slot; and it reads and
+//! writes back those of a run. The files are behind a trait, so that nothing here touches a host.
 #![tactic(auto)]
 
 mod faults;
 mod files;
+mod headers;
 mod jobs;
 mod mounting;
+mod opened;
+mod reasons;
 mod store;
+mod written;
 
 pub use crate::faults::JobFault;
-pub use crate::files::{FileFault, ImageFiles};
-pub use crate::jobs::{check_files, format_file, list_files};
-pub use crate::mounting::{new_image, read_image, write_back};
+pub use crate::files::{FileFault, ImageFiles, OpenedFile};
+pub use crate::headers::is_header;
+pub use crate::jobs::{NewVolume, check_files, format_file, list_files};
+pub use crate::mounting::{new_image, read_image, write_back, write_file};
+pub use crate::opened::{OpenedVolume, open_volume};
 pub use crate::store::FileStore;
-pub use dasd_volumes::{Progress, Stage};
+pub use crate::written::Written;
+pub use dasd_volumes::{Progress, SlotReader, Stage};

@@ -1,47 +1,47 @@
-//! Images and the files that hold them.
+//! Images in memory, and the files that hold them.
 
-ghost use Rattle.std.specs.Prelude.{◌≡◌, ◌+◌, ◌<◌, ◌≤◌, length, All, IsSome, IfOk};
+ghost use Rattle.std.specs.Prelude.{◌≡◌, ◌+◌, ◌<◌, ◌≤◌, [], length, All, IsSome, IfOk, OnOk};
 ghost use Rattle.arrayvec.specs.ArrayVec.{array_vec_len};
+ghost use Rattle.dasd_jobs.specs.Written.{WritesFile};
 
 use crate::faults::{JobFault, of_read, of_write};
-use crate::files::ImageFiles;
+use crate::files::{FileFault, ImageFiles, OpenedFile};
+use crate::headers::{HEADER, is_header};
+use crate::opened::{MOST_FILES, read_head};
+use crate::reasons::{Head, remark_on};
 use crate::store::FileStore;
 use arrayvec::ArrayVec;
-use ckd_image::{Image, MountFault, image_len};
+use ckd_image::{Image, ImageStore, MountFault, StoreFault, image_len};
 use ckd_track::DriveModel;
 use std::alloc::Global;
 
-/// The most files of one image.
-const MOST_FILES: usize = 8;
+/// How many bytes of a file are read at once.
+const PIECE: usize = 65_536;
 
-/// The image that these files hold, in their order.
+/// The image that these files hold, in their order, read into memory. Each of them is locked, from before it is read.
 ///
 /// # Errors
 ///
-/// The first file that can't be read, or why the files hold no image.
+/// The first file that can't be locked or read, or why the files hold no image.
 pub fn read_image<F: ImageFiles>(
     alloc: Global,
     files: &mut F,
     paths: &[&str],
 ) -> Result<Image<FileStore>, JobFault>
-    ensures { F.replacements files.new ≡ F.replacements files.old }
+    ensures { F.written files.new ≡ F.written files.old }
 {
     if paths.len() > MOST_FILES {
         return Err(JobFault::Mount(MountFault::Split));
     }
-    let stores = read_files(alloc, files, paths)?;
+    let mut heads = Vec::new(alloc);
+    let stores = read_files(alloc, files, paths, &mut heads)?;
     match Image::mount_files(stores) {
         Ok(image) => Ok(image),
-        Err((fault, _)) => Err(JobFault::Mount(fault)),
+        Err((fault, _)) => {
+            remark_on(files, paths, heads.as_slice(), fault);
+            Err(JobFault::Mount(fault))
+        }
     }
-}
-
-// The bytes of a file.
-fn read_file<F: ImageFiles>(alloc: Global, files: &mut F, path: &str) -> Result<FileStore, JobFault>
-    ensures { F.replacements files.new ≡ F.replacements files.old }
-{
-    let bytes = files.read(alloc, path).map_err(|fault| of_read(fault))?;
-    Ok(FileStore::new(bytes))
 }
 
 // Appends the store of a file.
@@ -54,24 +54,72 @@ fn append(stores: &mut ArrayVec<Option<FileStore>, MOST_FILES>, store: FileStore
     stores.push(Some(store));
 }
 
-// The bytes of these files, in their order, or the first that can't be read.
+// The bytes of these files and their headers, in their order, or the first that can't be read.
 fn read_files<F: ImageFiles>(
     alloc: Global,
     files: &mut F,
     paths: &[&str],
+    heads: &mut Vec<Head>,
 ) -> Result<ArrayVec<Option<FileStore>, MOST_FILES>, JobFault>
     requires { length paths.now ≤ 8 }
-    ensures kept { F.replacements files.new ≡ F.replacements files.old }
+    ensures kept { F.written files.new ≡ F.written files.old }
     ensures there { IfOk result (λ stores. All IsSome stores.items) }
 {
     let mut stores = ArrayVec::new();
     for path in paths {
-        match read_file(alloc, files, path) {
+        match read_file(alloc, files, path, stores.len() == 0, heads) {
             Ok(store) => append(&mut stores, store),
             Err(fault) => return Err(fault),
         }
     }
     Ok(stores)
+}
+
+// The bytes of a file, which is locked, and its header. A file of an image that was locked before is none of its other files. Of a
+// file whose header is none of an image, only that is read.
+fn read_file<F: ImageFiles>(
+    alloc: Global,
+    files: &mut F,
+    path: &str,
+    is_first: bool,
+    heads: &mut Vec<Head>,
+) -> Result<FileStore, JobFault>
+    ensures { F.written files.new ≡ F.written files.old }
+{
+    let mut file = match files.lock(alloc, path) {
+        Ok(file) => file,
+        Err(FileFault::Twice) if !is_first => return Err(JobFault::Mount(MountFault::Split)),
+        Err(fault) => return Err(of_read(fault)),
+    };
+    let head = read_head(&mut file)?;
+    if heads.push(head).is_err() {
+        return Err(JobFault::OutOfMemory);
+    }
+    let len = if is_header(&head.header) {
+        head.len
+    } else {
+        head.len.min(HEADER as u64)
+    };
+    Ok(FileStore::new(read_bytes(alloc, &mut file, len)?))
+}
+
+// So many bytes of a file, from its beginning on.
+fn read_bytes<O: OpenedFile>(alloc: Global, file: &mut O, len: u64) -> Result<Vec<u8>, JobFault> {
+    let Ok(mut bytes) = Vec::with_capacity(alloc, len as usize) else {
+        return Err(JobFault::OutOfMemory);
+    };
+    let mut piece = [0; PIECE];
+    for _ in 0..len / PIECE as u64 + 1 {
+        let at = bytes.len() as u64;
+        let count = (PIECE as u64).min(len.saturating_sub(at)) as usize;
+        if file.read_at(at, &mut piece[..count]).is_err() {
+            return Err(JobFault::Read);
+        }
+        if bytes.extend_from_slice(&piece[..count]).is_err() {
+            return Err(JobFault::OutOfMemory);
+        }
+    }
+    Ok(bytes)
 }
 
 /// A new volume in memory.
@@ -92,23 +140,39 @@ pub fn new_image(
     }
 }
 
-/// Writes a new image, which is one file, to a path.
+/// Makes a file of these bytes, or replaces one by them.
 ///
 /// # Errors
 ///
-/// The file can't be written: it holds what it held.
-pub(crate) fn write_new<F: ImageFiles>(
+/// The file can't be written: what is at the path stays.
+pub fn write_file<F: ImageFiles>(
     alloc: Global,
     files: &mut F,
     path: &str,
-    image: Image<FileStore>,
-) -> Result<(), JobFault> {
-    match image.into_stores().as_slice() {
-        [Some(store)] => files
-            .replace(alloc, path, store.bytes())
-            .map_err(|fault| of_write(fault)),
-        _ => Err(JobFault::Mount(MountFault::Split)),
+    replaces: bool,
+    bytes: &[u8],
+) -> Result<(), JobFault>
+    ensures { WritesFile result path.now bytes.now (F.written files.old) (F.written files.new) }
+{
+    let mut draft = match files.begin(alloc, path, replaces) {
+        Ok(draft) => draft,
+        Err(fault) => return Err(of_write(fault)),
+    };
+    match write_bytes(&mut draft, bytes) {
+        Ok(()) => match files.put(path, draft) {
+            Ok(()) => Ok(()),
+            Err(fault) => Err(of_write(fault)),
+        },
+        Err(_) => Err(JobFault::Write),
     }
+}
+
+// Writes bytes into a file without any.
+fn write_bytes<D: ImageStore>(draft: &mut D, bytes: &[u8]) -> Result<(), StoreFault>
+    requires empty { D.content draft.old ≡ [] }
+    ensures { OnOk result (D.content draft.new ≡ bytes.now) }
+{
+    draft.write_at(0, bytes)
 }
 
 /// Writes the files of an image that were changed, each whole and in their order, up to the first that can't be written.
@@ -125,22 +189,20 @@ pub fn write_back<F: ImageFiles>(
 ) -> Result<(), JobFault> {
     let stores = image.into_stores();
     for (path, store) in paths.iter().zip(stores.as_slice()) {
-        write_file(alloc, files, path, store)?;
+        write_changed(alloc, files, path, store)?;
     }
     Ok(())
 }
 
 // Writes a file whole if it was changed.
-fn write_file<F: ImageFiles>(
+fn write_changed<F: ImageFiles>(
     alloc: Global,
     files: &mut F,
     path: &str,
     store: &Option<FileStore>,
 ) -> Result<(), JobFault> {
     match store {
-        Some(store) if store.is_changed() => files
-            .replace(alloc, path, store.bytes())
-            .map_err(|fault| of_write(fault)),
+        Some(store) if store.is_changed() => write_file(alloc, files, path, true, store.bytes()),
         _ => Ok(()),
     }
 }

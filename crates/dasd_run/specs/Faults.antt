@@ -1,5 +1,5 @@
--- Which faults of the program come before any file is replaced.
-use Rattle.std.specs.Prelude.{Bool, true, false}
+-- The faults of the program: which come before any file is replaced, and the status that each ends with.
+use Rattle.std.specs.Prelude.{ℕ, Bool, true, false}
 use Rattle.s360_deck.specs.declared.runs.RunFault.{RunFault}
 use Rattle.s360_deck.specs.declared.runs.RunFault.TheVariants as run
 use Rattle.dasd_run.specs.declared.fault.ProgramFault.{ProgramFault}
@@ -14,6 +14,7 @@ is_not_run run.Write = false
 -- words are wrong, a channel is not made, or its deck is not run
 abbrev pub keeps_files : ProgramFault → Bool
 keeps_files (fault.Words _) = true
+keeps_files (fault.Help _) = true
 keeps_files fault.BadVolume = true
 keeps_files fault.StorageSize = true
 keeps_files fault.ChannelNumber = true
@@ -22,3 +23,16 @@ keeps_files fault.TooManyUnits = true
 keeps_files (fault.Run f) = is_not_run f
 keeps_files fault.OutOfMemory = false
 keeps_files (fault.Job _) = false
+
+-- 2 for words that are wrong or ask for help, 1 for every other fault
+abbrev pub status_of : ProgramFault → ℕ
+status_of (fault.Words _) = 2
+status_of (fault.Help _) = 2
+status_of fault.BadVolume = 2
+status_of fault.OutOfMemory = 1
+status_of fault.StorageSize = 1
+status_of fault.ChannelNumber = 1
+status_of fault.UnitTaken = 1
+status_of fault.TooManyUnits = 1
+status_of (fault.Job _) = 1
+status_of (fault.Run _) = 1

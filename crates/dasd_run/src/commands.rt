@@ -3,11 +3,12 @@
 ghost use Rattle.std.specs.Prelude.{◌≡◌, true, IfErr};
 ghost use Rattle.dasd_run.specs.Faults.{keeps_files};
 
+use crate::decks::run_deck;
 use crate::fault::ProgramFault;
 use crate::runs::{Disks, build, finish};
-use dasd_jobs::{FileFault, ImageFiles, JobFault, Progress, check_files, format_file, list_files};
+use dasd_jobs::{ImageFiles, JobFault, NewVolume, Progress, check_files, format_file, list_files};
 use dasd_words::{Request, Volume, WordFault, read_words};
-use s360_deck::{DeckFault, RunFault, run};
+use s360_deck::RunFault;
 use std::alloc::Global;
 use std::io::{Read, Write};
 
@@ -34,14 +35,17 @@ pub fn obey<F: ImageFiles, R: Read, W: Write, P: Progress>(
     writer: &mut W,
     progress: &mut P,
 ) -> Result<Ending, ProgramFault>
-    ensures { IfErr result (λ e. keeps_files e ≡ true → F.replacements files.new ≡ F.replacements files.old) }
+    ensures { IfErr result (λ e. keeps_files e ≡ true → F.written files.new ≡ F.written files.old) }
 {
-    let request = match read_words(alloc, words) {
-        Ok(request) => request,
+    let asked = match read_words(alloc, words) {
+        Ok(asked) => asked,
         Err(WordFault::Version(text)) => return tell(writer, text.as_str()),
         Err(fault) => return Err(fault.into()),
     };
-    answer(alloc, request, files, reader, writer, progress)
+    if asked.is_verbose {
+        files.ask_remarks();
+    }
+    answer(alloc, asked.request, files, reader, writer, progress)
 }
 
 // Does what is asked.
@@ -53,17 +57,22 @@ fn answer<F: ImageFiles, R: Read, W: Write, P: Progress>(
     writer: &mut W,
     progress: &mut P,
 ) -> Result<Ending, ProgramFault>
-    ensures { IfErr result (λ e. keeps_files e ≡ true → F.replacements files.new ≡ F.replacements files.old) }
+    ensures { IfErr result (λ e. keeps_files e ≡ true → F.written files.new ≡ F.written files.old) }
 {
     match request {
         Request::Format {
             path,
             model,
             cylinders,
+            replaces,
         } => {
-            format_file(alloc, files, writer, progress, path, model, cylinders).map_err(
-                ProgramFault::Job,
-            )?;
+            let volume = NewVolume {
+                path,
+                model,
+                cylinders,
+                replaces,
+            };
+            format_file(alloc, files, writer, progress, volume).map_err(ProgramFault::Job)?;
             Ok(Ending::Done)
         }
         Request::List(paths) => {
@@ -93,7 +102,7 @@ fn check_volume<F: ImageFiles, W: Write, P: Progress>(
     progress: &mut P,
     paths: &[&str],
 ) -> Result<Ending, ProgramFault>
-    ensures { F.replacements files.new ≡ F.replacements files.old }
+    ensures { F.written files.new ≡ F.written files.old }
 {
     match check_files(alloc, files, writer, progress, paths) {
         Ok(0) => Ok(Ending::Done),
@@ -113,27 +122,6 @@ fn tell<W: Write>(writer: &mut W, text: &str) -> Result<Ending, ProgramFault> {
     }
 }
 
-// Runs the deck of a file, or else that of the reader.
-fn run_deck<F: ImageFiles, R: Read, W: Write>(
-    alloc: Global,
-    files: &mut F,
-    reader: &mut R,
-    writer: &mut W,
-    deck: Option<&str>,
-    channel: &mut Disks,
-) -> Result<(), RunFault>
-    ensures { F.replacements files.new ≡ F.replacements files.old }
-{
-    let Some(path) = deck else {
-        return run(alloc, reader, writer, channel);
-    };
-    match files.read(alloc, path) {
-        Ok(text) => run(alloc, &mut text.as_slice(), writer, channel),
-        Err(FileFault::OutOfMemory) => Err(RunFault::Deck(DeckFault::OutOfMemory)),
-        Err(FileFault::Refused) => Err(RunFault::Read),
-    }
-}
-
 // Writes the changed files of a run whose deck was run, and reports its fault, if it had one.
 fn conclude<F: ImageFiles>(
     alloc: Global,
@@ -142,7 +130,7 @@ fn conclude<F: ImageFiles>(
     channel: Disks,
     run: Result<(), RunFault>,
 ) -> Result<Ending, ProgramFault>
-    ensures { IfErr result (λ e. keeps_files e ≡ true → F.replacements files.new ≡ F.replacements files.old) }
+    ensures { IfErr result (λ e. keeps_files e ≡ true → F.written files.new ≡ F.written files.old) }
 {
     match run {
         Ok(()) => {

@@ -13,9 +13,12 @@ pub enum ProgramFault {
     /// There is no memory for it.
     #[error("out of memory")]
     OutOfMemory,
-    /// The words are wrong, or ask for help: this text of several lines says which.
+    /// The words are wrong: this text of several lines says how.
     #[error("{0}")]
     Words(String),
+    /// The words ask for help, which is this text of several lines.
+    #[error("{0}")]
+    Help(String),
     /// A word of a volume is of another form, or is the ninth file of an image.
     #[error("bad volume")]
     BadVolume,
@@ -40,10 +43,15 @@ pub enum ProgramFault {
 }
 
 impl ProgramFault {
-    /// The status that the program ends with: 2 for words that are wrong, and else 1.
-    pub fn status(&self) -> u8 {
+    ghost use Rattle.std.specs.Prelude.{◌≡◌};
+    ghost use Rattle.dasd_run.specs.Faults.{status_of};
+
+    /// The status that the program ends with: 2 for words that are wrong or ask for help, and else 1.
+    pub fn status(&self) -> u8
+        ensures { result ≡ status_of self.now }
+    {
         match self {
-            ProgramFault::Words(_) | ProgramFault::BadVolume => 2,
+            ProgramFault::Words(_) | ProgramFault::Help(_) | ProgramFault::BadVolume => 2,
             _ => 1,
         }
     }
@@ -54,6 +62,7 @@ impl From<WordFault> for ProgramFault {
         match fault {
             WordFault::OutOfMemory => ProgramFault::OutOfMemory,
             WordFault::BadVolume => ProgramFault::BadVolume,
+            WordFault::Help(text) => ProgramFault::Help(text),
             WordFault::Usage(text) | WordFault::Version(text) => ProgramFault::Words(text),
         }
     }

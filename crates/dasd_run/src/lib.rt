@@ -3,7 +3,9 @@
 #![tactic(auto)]
 
 mod commands;
+mod decks;
 mod fault;
+mod remarks;
 mod runs;
 
 pub use crate::commands::{Ending, obey};

@@ -4,10 +4,11 @@ ghost use Rattle.std.specs.Prelude.{◌≡◌, false, IfErr};
 ghost use Rattle.dasd_run.specs.Faults.{keeps_files};
 
 use crate::fault::{ProgramFault, of_attach, of_channel, of_storage};
+use crate::remarks::Remark;
 use ckd_image::Image;
 use dasd_jobs::{FileStore, ImageFiles, JobFault, new_image, read_image, write_back};
 use dasd_words::{Volume, VolumeSource};
-use s360_channel::{Channel, Finished};
+use s360_channel::{Channel, Finished, SubchannelView};
 use s360_words::Storage;
 use std::alloc::Global;
 
@@ -28,7 +29,7 @@ pub fn build<F: ImageFiles>(
     number: u8,
     volumes: &[Volume],
 ) -> Result<Disks, ProgramFault>
-    ensures { F.replacements files.new ≡ F.replacements files.old }
+    ensures { F.written files.new ≡ F.written files.old }
 {
     let storage = Storage::new(alloc, storage).map_err(|fault| of_storage(fault))?;
     let mut channel = match Channel::new(number, storage) {
@@ -48,13 +49,25 @@ fn attach<F: ImageFiles>(
     channel: &mut Disks,
     volume: &Volume,
 ) -> Result<(), ProgramFault>
-    ensures { F.replacements files.new ≡ F.replacements files.old }
+    ensures { F.written files.new ≡ F.written files.old }
 {
-    let image = open(alloc, files, &volume.source)?;
+    let image = match open(alloc, files, &volume.source) {
+        Err(ProgramFault::Job(JobFault::InUse)) if is_attached(channel, volume.device) => {
+            return Err(ProgramFault::UnitTaken);
+        }
+        opened => opened?,
+    };
     match channel.attach(alloc, volume.device, image) {
         Ok(()) => Ok(()),
         Err((fault, _)) => Err(of_attach(fault)),
     }
+}
+
+// Whether a drive has this address already, so that a file which is named for it again is not told to be in use.
+fn is_attached(channel: &Disks, device: u8) -> bool {
+    channel.state().drives.iter().any(
+        |drive| matches!(drive, Some((attached, _)) if *attached == device),
+    )
 }
 
 // The image of a volume.
@@ -63,7 +76,7 @@ fn open<F: ImageFiles>(
     files: &mut F,
     source: &VolumeSource,
 ) -> Result<Image<FileStore>, ProgramFault>
-    ensures { F.replacements files.new ≡ F.replacements files.old }
+    ensures { F.written files.new ≡ F.written files.old }
 {
     match source {
         VolumeSource::Files(paths) => read_image(alloc, files, paths.as_slice()).map_err(
@@ -89,11 +102,17 @@ pub fn finish<F: ImageFiles>(
 ) -> Result<(), ProgramFault>
     ensures { IfErr result (λ e. keeps_files e ≡ false) }
 {
+    if let SubchannelView::Working(device, _) = channel.state().subchannel {
+        files.remark(&Remark::StillRan(device));
+    }
     let Finished {
         storage: _,
         images,
-        reset: _,
+        reset,
     } = channel.finish();
+    if let Some((unit, cylinder, head)) = reset.unsaved {
+        files.remark(&Remark::Unsaved(unit, cylinder, head));
+    }
     for (volume, image) in volumes.iter().zip(images) {
         if let Err(fault) = save(alloc, files, volume, image) {
             return Err(ProgramFault::Job(fault));

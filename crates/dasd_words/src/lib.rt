@@ -2,9 +2,14 @@
 #![tactic(auto)]
 
 mod commands;
+mod decks;
+mod format;
+mod listings;
 mod requests;
+mod run;
 mod volumes;
 
 pub use crate::commands::read_words;
-pub use crate::requests::{Request, WordFault};
+pub use crate::decks::{DECK_TABLE, operand_rule};
+pub use crate::requests::{Asked, Request, WordFault};
 pub use crate::volumes::{MOST_FILES, Volume, VolumeSource};

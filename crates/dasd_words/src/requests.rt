@@ -3,6 +3,15 @@
 use crate::volumes::Volume;
 use ckd_track::DriveModel;
 
+/// What `dasd` is asked to do, and how.
+#[derive(Debug, Drop)]
+pub struct Asked<'a> {
+    /// What it is to do.
+    pub request: Request<'a>,
+    /// Whether it is to tell what the one line of a fault leaves out.
+    pub is_verbose: bool,
+}
+
 /// What `dasd` is asked to do.
 #[derive(Debug, Drop)]
 pub enum Request<'a> {
@@ -14,6 +23,8 @@ pub enum Request<'a> {
         model: DriveModel,
         /// Its cylinders: at least one.
         cylinders: u16,
+        /// Whether a file that is there is replaced.
+        replaces: bool,
     },
     /// Print the tracks and records of the image that these files hold.
     List(Vec<&'a str>),
@@ -39,8 +50,10 @@ pub enum WordFault {
     OutOfMemory,
     /// A word of a volume is of another form, or is the ninth file of an image.
     BadVolume,
-    /// They are wrong, or ask for help: this text says which.
+    /// They are wrong: this text says how.
     Usage(String),
+    /// They ask for help, which is this text.
+    Help(String),
     /// They ask for the version, which is this text.
     Version(String),
 }

@@ -1,7 +1,10 @@
-pub mod Numbers
-pub mod Text
-pub mod TextLines
-pub mod SerialParts
-pub mod Ran
-pub mod Written
 pub mod Answered
+pub mod CountedRan
+pub mod CountedWritten
+pub mod Numbers
+pub mod Promised
+pub mod Ran
+pub mod ReadWhole
+pub mod SerialParts
+pub mod TextLines
+pub mod Written

@@ -3,3 +3,5 @@ pub mod Deck
 pub mod Lines
 pub mod Serial
 pub mod Runs
+pub mod CountedRuns
+pub mod Laws

@@ -1,7 +1,8 @@
 -- The line of each answer. Hexadecimal digits are capitals.
-use Rattle.std.specs.Prelude.{ℕ, ◌-◌, List, [], ◌∷◌, ◌++◌, true, false, Some, None, length, replicate, take, drop, codes}
+use Rattle.std.specs.Prelude.{ℕ, List, [], ◌∷◌, ◌++◌, true, false, Some, None, take, drop, codes}
 use Rattle.std.specs.List.{flat_map}
-use Rattle.std.specs.Fmt.{digits, decimal}
+use Rattle.std.specs.Fmt.{decimal}
+use Rattle.text_lines.specs.Text.{hexadecimal, bytes_text}
 use Rattle.s360_words.specs.Words.{csw_bytes}
 use Rattle.s360_words.specs.declared.words.Csw.{Csw}
 use Rattle.s360_events.specs.declared.conditions.Status.{Status}
@@ -9,13 +10,6 @@ use Rattle.s360_events.specs.declared.conditions.Condition.{Condition}
 use Rattle.s360_events.specs.declared.conditions.Condition.TheVariants as condition
 use Rattle.s360_events.specs.declared.answers.Answer.{Answer}
 use Rattle.s360_events.specs.declared.answers.Answer.TheVariants.{Sio, Tio, Hio, Tch, Step, Arrive, Interrupt, Reset, Store, Key, Show}
-
--- a number in hexadecimal digits, with zeros in front of it up to a width
-abbrev pub hexadecimal : (width n : ℕ) → List ℕ
-hexadecimal width n = replicate (width - length (digits 16 true n)) 48 ++ digits 16 true n
-
-abbrev pub bytes_text : List ℕ → List ℕ
-bytes_text bytes = flat_map (hexadecimal 2) bytes
 
 abbrev pub status_text : Status → List ℕ
 status_text status = bytes_text (status.unit.0 ∷ status.channel.0 ∷ [])

@@ -1,8 +1,12 @@
 //! Decks: texts whose lines are the events of a channel, and the lines of its answers.
 #![tactic(auto)]
 
+mod counted_reading;
+mod counted_runs;
+mod counted_writing;
 mod digits;
 mod fault;
+pub mod laws;
 mod lines;
 mod parsing;
 mod reading;
@@ -11,6 +15,7 @@ mod serial_lists;
 mod spelling;
 mod writing;
 
+pub use crate::counted_runs::run_counted;
 pub use crate::fault::DeckFault;
 pub use crate::lines::AnswerLine;
 pub use crate::parsing::parse;

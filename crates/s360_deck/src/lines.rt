@@ -1,199 +1,165 @@
 //! The line of each answer.
 
-ghost use Rattle.std.specs.Prelude.{◌≡◌, [], Some};
-ghost use Rattle.std.specs.Fmt.{WritesOnOk};
-ghost use Rattle.s360_deck.specs.Lines.{hexadecimal, bytes_text, status_text, csw_text, condition_text, after_space, answer_text};
+ghost use Rattle.std.specs.Prelude.{◌≡◌, ◌≤◌, ◌+◌, ◌++◌, ◌∷◌, [], Some, codes, length};
+ghost use Rattle.text_lines.specs.Text.{hexadecimal};
+ghost use Rattle.s360_deck.specs.Lines.{status_text, csw_text, condition_text, after_space, answer_text};
 
+use arrayvec::ArrayString;
 use s360_events::{Answer, Condition, Status};
 use s360_words::Csw;
 use std::fmt;
+use text_lines::{put_bytes, put_decimal, put_hexadecimal};
+
+/// The most bytes of an answer's line with its LF. A look at 32 bytes has 77, and 79 where its address has eight digits.
+pub(crate) const LINE_LENGTH: usize = 80;
+
+// A line, with room for every answer.
+type Line = ArrayString<LINE_LENGTH>;
 
 /// An answer as a deck's line prints it, without LF. Hexadecimal digits are capitals.
 #[derive(Clone, Copy)]
 pub struct AnswerLine<'a>(pub &'a Answer);
 
-// Bytes in hexadecimal digits.
-#[derive(Clone, Copy)]
-struct Hexadecimal<'a>(&'a [u8]);
-
-impl fmt::Display for Hexadecimal<'_> {
-    ghost output = { λ h. Some (bytes_text h.0.now) };
-
-    fn fmt<W: fmt::Write>(&self, f: &mut fmt::Formatter<W>) -> fmt::Result {
-        for byte in self.0 {
-            let byte = *byte;
-            write!(f, "{byte:02X}")?;
-        }
-        Ok(())
-    }
-}
-
-// An input/output address.
-#[derive(Clone, Copy)]
-struct UnitAddress(u16);
-
-impl fmt::Display for UnitAddress {
-    ghost output = { λ u. Some (hexadecimal 3 u.0) };
-
-    fn fmt<W: fmt::Write>(&self, f: &mut fmt::Formatter<W>) -> fmt::Result {
-        let address = self.0;
-        write!(f, "{address:03X}")
-    }
-}
-
-// A cylinder or a head.
-#[derive(Clone, Copy)]
-struct TrackAddress(u16);
-
-impl fmt::Display for TrackAddress {
-    ghost output = { λ a. Some (hexadecimal 4 a.0) };
-
-    fn fmt<W: fmt::Write>(&self, f: &mut fmt::Formatter<W>) -> fmt::Result {
-        let address = self.0;
-        write!(f, "{address:04X}")
-    }
-}
-
-// A storage address.
-#[derive(Clone, Copy)]
-struct StorageAddress(u32);
-
-impl fmt::Display for StorageAddress {
-    ghost output = { λ p. Some (hexadecimal 6 p.0) };
-
-    fn fmt<W: fmt::Write>(&self, f: &mut fmt::Formatter<W>) -> fmt::Result {
-        let address = self.0;
-        write!(f, "{address:06X}")
-    }
-}
-
-// The two halves of a channel status word.
-#[derive(Clone, Copy)]
-struct Halves(Csw);
-
-impl fmt::Display for Halves {
-    ghost output = { λ h. Some (csw_text h.0) };
-
-    fn fmt<W: fmt::Write>(&self, f: &mut fmt::Formatter<W>) -> fmt::Result {
-        let bytes = self.0.to_bytes();
-        write!(
-            f,
-            "{} {}",
-            Hexadecimal(&bytes[..4]),
-            Hexadecimal(&bytes[4..])
-        )
-    }
-}
-
-// Unit status and channel status.
-#[derive(Clone, Copy)]
-struct StatusBytes(Status);
-
-impl fmt::Display for StatusBytes {
-    ghost output = { λ s. Some (status_text s.0) };
-
-    fn fmt<W: fmt::Write>(&self, f: &mut fmt::Formatter<W>) -> fmt::Result {
-        write!(f, "{}", Hexadecimal(&[self.0.unit.0, self.0.channel.0]))
-    }
-}
-
-// The condition code of Start I/O and Halt I/O, and the status bytes that were stored.
-#[derive(Clone, Copy)]
-struct StatusCondition(Condition<Status>);
-
-impl fmt::Display for StatusCondition {
-    ghost output = { λ c. Some (condition_text (λ s. after_space (status_text s)) c.0) };
-
-    fn fmt<W: fmt::Write>(&self, f: &mut fmt::Formatter<W>) -> fmt::Result {
-        match self.0 {
-            Condition::Zero => write!(f, " CC 0"),
-            Condition::Stored(status) => {
-                let status = StatusBytes(status);
-                write!(f, " CC 1 {status}")
-            }
-            Condition::Two => write!(f, " CC 2"),
-            Condition::Three => write!(f, " CC 3"),
-        }
-    }
-}
-
-// The condition code of Test I/O, and the channel status word that was stored.
-#[derive(Clone, Copy)]
-struct CswCondition(Condition<Csw>);
-
-impl fmt::Display for CswCondition {
-    ghost output = { λ c. Some (condition_text (λ s. after_space (csw_text s)) c.0) };
-
-    fn fmt<W: fmt::Write>(&self, f: &mut fmt::Formatter<W>) -> fmt::Result {
-        match self.0 {
-            Condition::Zero => write!(f, " CC 0"),
-            Condition::Stored(csw) => {
-                let csw = Halves(csw);
-                write!(f, " CC 1 {csw}")
-            }
-            Condition::Two => write!(f, " CC 2"),
-            Condition::Three => write!(f, " CC 3"),
-        }
-    }
-}
-
-// The condition code of Test Channel.
-#[derive(Clone, Copy)]
-struct PlainCondition(Condition<()>);
-
-impl fmt::Display for PlainCondition {
-    ghost output = { λ c. Some (condition_text (λ nothing. []) c.0) };
-
-    fn fmt<W: fmt::Write>(&self, f: &mut fmt::Formatter<W>) -> fmt::Result {
-        match self.0 {
-            Condition::Zero => write!(f, " CC 0"),
-            Condition::Stored(()) => write!(f, " CC 1"),
-            Condition::Two => write!(f, " CC 2"),
-            Condition::Three => write!(f, " CC 3"),
-        }
-    }
-}
-
 impl fmt::Display for AnswerLine<'_> {
     ghost output = { λ a. Some (answer_text a.0.now) };
 
     fn fmt<W: fmt::Write>(&self, f: &mut fmt::Formatter<W>) -> fmt::Result {
-        match self.0 {
-            Answer::Sio(address, condition) => {
-                let (unit, condition) = (UnitAddress(*address), StatusCondition(*condition));
-                write!(f, "SIO {unit}{condition}")
-            }
-            Answer::Tio(at, code) => write!(f, "TIO {}{}", UnitAddress(*at), CswCondition(*code)),
-            Answer::Hio(address, condition) => {
-                let (unit, condition) = (UnitAddress(*address), StatusCondition(*condition));
-                write!(f, "HIO {unit}{condition}")
-            }
-            Answer::Tch(condition) => write!(f, "TCH{}", PlainCondition(*condition)),
-            Answer::Step(done) => write!(f, "STEP {done}"),
-            Answer::Arrive(address, true) => write!(f, "ARRIVE {} YES", UnitAddress(*address)),
-            Answer::Arrive(address, false) => write!(f, "ARRIVE {} NO", UnitAddress(*address)),
-            Answer::Interrupt(None) => write!(f, "INT NONE"),
-            Answer::Interrupt(Some((address, csw))) => {
-                write!(f, "INT {} {}", UnitAddress(*address), Halves(*csw))
-            }
-            Answer::Reset(None) => write!(f, "RESET CLEAN"),
-            Answer::Reset(Some((address, cylinder, head))) => {
-                let (cylinder, head) = (TrackAddress(*cylinder), TrackAddress(*head));
-                write!(
-                    f,
-                    "RESET UNSAVED {} {cylinder} {head}",
-                    UnitAddress(*address)
-                )
-            }
-            Answer::Store(true) => write!(f, "STORE OK"),
-            Answer::Store(false) => write!(f, "STORE OUTSIDE"),
-            Answer::Key(true) => write!(f, "KEY OK"),
-            Answer::Key(false) => write!(f, "KEY OUTSIDE"),
-            Answer::Show(at, Some(bytes)) => {
-                let (at, bytes) = (StorageAddress(*at), Hexadecimal(bytes.as_slice()));
-                write!(f, "SHOW {at} {bytes}")
-            }
-            Answer::Show(_, None) => write!(f, "SHOW OUTSIDE"),
-        }
+        let mut line = ArrayString::new();
+        put_answer(&mut line, self.0);
+        f.write_str(line.as_str())
     }
+}
+
+/// The answer goes onto an empty line. It leaves room for LF.
+pub(crate) fn put_answer(line: &mut Line, answer: &Answer)
+    requires { line.old.bytes ≡ [] }
+    ensures text { line.new.bytes ≡ answer_text answer.now }
+    ensures fits { length line.new.bytes + 1 ≤ 80 }
+{
+    match answer {
+        Answer::Sio(address, condition) => {
+            put_named(line, "SIO ", *address);
+            put_status_condition(line, *condition);
+        }
+        Answer::Tio(address, condition) => {
+            put_named(line, "TIO ", *address);
+            put_csw_condition(line, *condition);
+        }
+        Answer::Hio(address, condition) => {
+            put_named(line, "HIO ", *address);
+            put_status_condition(line, *condition);
+        }
+        Answer::Tch(condition) => put_plain_condition(line, *condition),
+        Answer::Step(done) => {
+            line.push_str("STEP ");
+            put_decimal(line, u32::from(*done));
+        }
+        Answer::Arrive(address, arrived) => {
+            put_named(line, "ARRIVE ", *address);
+            line.push_str(if *arrived { " YES" } else { " NO" });
+        }
+        Answer::Interrupt(None) => line.push_str("INT NONE"),
+        Answer::Interrupt(Some((address, csw))) => {
+            put_named(line, "INT ", *address);
+            line.push_str(" ");
+            put_csw(line, *csw);
+        }
+        Answer::Reset(None) => line.push_str("RESET CLEAN"),
+        Answer::Reset(Some((address, cylinder, head))) => {
+            put_named(line, "RESET UNSAVED ", *address);
+            put_track(line, *cylinder, *head);
+        }
+        Answer::Store(stored) => line.push_str(if *stored { "STORE OK" } else { "STORE OUTSIDE" }),
+        Answer::Key(set) => line.push_str(if *set { "KEY OK" } else { "KEY OUTSIDE" }),
+        Answer::Show(at, Some(bytes)) => {
+            line.push_str("SHOW ");
+            put_hexadecimal(line, 6, *at);
+            line.push_str(" ");
+            put_bytes(line, bytes.as_slice());
+        }
+        Answer::Show(_, None) => line.push_str("SHOW OUTSIDE"),
+    }
+}
+
+// The name of an event, and an input/output address.
+fn put_named(line: &mut Line, name: &str, address: u16)
+    requires empty { line.old.bytes ≡ [] }
+    requires short { length name.now ≤ 14 }
+    ensures text { line.new.bytes ≡ name.now ++ hexadecimal 3 address }
+    ensures size { length line.new.bytes ≤ 22 }
+{
+    line.push_str(name);
+    put_hexadecimal(line, 3, u32::from(address));
+}
+
+// A cylinder and a head, each behind a space.
+fn put_track(line: &mut Line, cylinder: u16, head: u16)
+    requires { length line.old.bytes ≤ 22 }
+    ensures text { line.new.bytes ≡ line.old.bytes ++ (codes " " ++ (hexadecimal 4 cylinder ++ (codes " " ++ hexadecimal 4 head))) }
+    ensures size { length line.new.bytes ≤ 40 }
+{
+    line.push_str(" ");
+    put_hexadecimal(line, 4, u32::from(cylinder));
+    line.push_str(" ");
+    put_hexadecimal(line, 4, u32::from(head));
+}
+
+// The two halves of a channel status word.
+fn put_csw(line: &mut Line, csw: Csw)
+    requires { length line.old.bytes ≤ 40 }
+    ensures text { line.new.bytes ≡ line.old.bytes ++ csw_text csw }
+    ensures size { length line.new.bytes ≤ length line.old.bytes + 17 }
+{
+    let bytes = csw.to_bytes();
+    put_bytes(line, &bytes[..4]);
+    line.push_str(" ");
+    put_bytes(line, &bytes[4..]);
+}
+
+// The condition code of Start I/O and Halt I/O, and the status bytes that were stored.
+fn put_status_condition(line: &mut Line, condition: Condition<Status>)
+    requires { length line.old.bytes ≤ 22 }
+    ensures text { line.new.bytes ≡ line.old.bytes ++ condition_text (λ s. after_space (status_text s)) condition }
+    ensures size { length line.new.bytes ≤ 40 }
+{
+    match condition {
+        Condition::Zero => line.push_str(" CC 0"),
+        Condition::Stored(status) => {
+            line.push_str(" CC 1 ");
+            put_bytes(line, &[status.unit.0, status.channel.0]);
+        }
+        Condition::Two => line.push_str(" CC 2"),
+        Condition::Three => line.push_str(" CC 3"),
+    }
+}
+
+// The condition code of Test I/O, and the channel status word that was stored.
+fn put_csw_condition(line: &mut Line, condition: Condition<Csw>)
+    requires { length line.old.bytes ≤ 22 }
+    ensures text { line.new.bytes ≡ line.old.bytes ++ condition_text (λ s. after_space (csw_text s)) condition }
+    ensures size { length line.new.bytes ≤ 57 }
+{
+    match condition {
+        Condition::Zero => line.push_str(" CC 0"),
+        Condition::Stored(csw) => {
+            line.push_str(" CC 1 ");
+            put_csw(line, csw);
+        }
+        Condition::Two => line.push_str(" CC 2"),
+        Condition::Three => line.push_str(" CC 3"),
+    }
+}
+
+// The name of Test Channel, and its condition code.
+fn put_plain_condition(line: &mut Line, condition: Condition<()>)
+    requires { line.old.bytes ≡ [] }
+    ensures text { line.new.bytes ≡ codes "TCH" ++ condition_text (λ nothing. []) condition }
+    ensures size { length line.new.bytes ≤ 40 }
+{
+    line.push_str(match condition {
+        Condition::Zero => "TCH CC 0",
+        Condition::Stored(()) => "TCH CC 1",
+        Condition::Two => "TCH CC 2",
+        Condition::Three => "TCH CC 3",
+    });
 }

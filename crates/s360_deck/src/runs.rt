@@ -53,8 +53,8 @@ pub fn run<R: Read, W: Write, S: ImageStore>(
     write_answers(writer, answers.as_slice())
 }
 
-// The events that a text spells.
-fn read_events(alloc: Global, text: &[u8]) -> Result<Vec<Event>, RunFault>
+/// The events that a text spells.
+pub(crate) fn read_events(alloc: Global, text: &[u8]) -> Result<Vec<Event>, RunFault>
     ensures { Spells result text.now }
 {
     match parse(alloc, text) {

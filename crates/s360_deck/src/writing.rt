@@ -4,14 +4,11 @@ ghost use Rattle.std.specs.Prelude.{◌++◌, ◌∷◌, []};
 ghost use Rattle.s360_deck.specs.Lines.{answer_text, lines_text};
 ghost use Rattle.s360_deck.specs.Runs.{WritesFront};
 
-use crate::lines::AnswerLine;
+use crate::lines::put_answer;
 use crate::runs::RunFault;
-use arrayvec::ArrayVec;
+use arrayvec::ArrayString;
 use s360_events::Answer;
 use std::io::Write;
-
-/// The most bytes of an answer's line with its LF: a look at 32 bytes.
-const ANSWER_LENGTH: usize = 80;
 
 // Writes the line of each answer.
 pub(crate) fn write_answers<W: Write>(writer: &mut W, answers: &[Answer]) -> Result<(), RunFault>
@@ -30,12 +27,10 @@ pub(crate) fn write_answers<W: Write>(writer: &mut W, answers: &[Answer]) -> Res
 fn write_answer<W: Write>(writer: &mut W, answer: &Answer) -> Result<(), RunFault>
     ensures { WritesFront result (W.contents writer.old) (W.contents writer.new) (answer_text answer.now ++ 10 ∷ []) }
 {
-    let mut line: ArrayVec<u8, ANSWER_LENGTH> = ArrayVec::new();
-    let answer = AnswerLine(answer);
-    if writeln!(line, "{answer}").is_err() {
-        return Err(RunFault::Write);
-    }
-    write_bytes(writer, line.as_slice())
+    let mut line = ArrayString::new();
+    put_answer(&mut line, answer);
+    line.push('\n');
+    write_bytes(writer, line.as_str().as_bytes())
 }
 
 // Writes all bytes. It goes on where a write takes some of them.

@@ -3,11 +3,12 @@
 use std::alloc::Global;
 use std::io::{Error, ErrorKind, Write};
 
-/// What was written; how many bytes may be, where a write behind them fails; and whether memory ran out.
+/// What was written; how many bytes may be, where a write behind them fails; whether a flush fails; and whether memory ran out.
 #[derive(Debug, Drop)]
 pub(crate) struct LineWriter {
     pub written: Vec<u8>,
     pub room: Option<usize>,
+    pub flush_fails: bool,
     pub out_of_memory: bool,
 }
 
@@ -16,6 +17,7 @@ impl LineWriter {
         LineWriter {
             written: Vec::new(alloc),
             room,
+            flush_fails: false,
             out_of_memory: false,
         }
     }
@@ -37,6 +39,9 @@ impl Write for LineWriter {
     }
 
     fn flush(&mut self) -> std::io::Result<()> {
+        if self.flush_fails {
+            return Err(Error::from(ErrorKind::Other));
+        }
         Ok(())
     }
 }

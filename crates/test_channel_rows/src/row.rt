@@ -19,6 +19,7 @@ pub(crate) struct Player {
     is_deck: bool,
     reader_fails: bool,
     room: Option<usize>,
+    flush_fails: bool,
     /// What was printed and is not yet looked at.
     pub printed: String,
 }
@@ -31,6 +32,7 @@ impl Player {
             is_deck: false,
             reader_fails: false,
             room: None,
+            flush_fails: false,
             printed: String::new(alloc),
         })
     }
@@ -84,6 +86,7 @@ impl Player {
             ">bytes" => self.deck.extend_from_slice(bytes(alloc, rest)?.as_slice())?,
             "reader" => self.reader_fails = true,
             "writer" => self.room = Some(number(rest)?),
+            "flush" => self.flush_fails = true,
             _ => return Ok(false),
         }
         self.is_deck = true;
@@ -128,6 +131,7 @@ impl Player {
             fails: self.reader_fails,
         };
         let mut writer = LineWriter::new(alloc, self.room);
+        writer.flush_fails = self.flush_fails;
         let ran = run(alloc, &mut reader, &mut writer, &mut self.stage.channel);
         if writer.out_of_memory {
             bail!("out of memory");
@@ -142,6 +146,7 @@ impl Player {
         self.is_deck = false;
         self.reader_fails = false;
         self.room = None;
+        self.flush_fails = false;
         Ok(())
     }
 

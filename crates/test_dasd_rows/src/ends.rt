@@ -5,11 +5,12 @@ use dasd_jobs::{Progress, Stage};
 use std::alloc::Global;
 use std::io::{Error, ErrorKind, Write};
 
-/// What was printed; and how many bytes may be, where a write behind them fails.
+/// What was printed; how many bytes may be, where a write behind them fails; and whether a flush fails.
 #[derive(Debug, Drop)]
 pub(crate) struct LineWriter {
     pub printed: Vec<u8>,
     pub room: Option<usize>,
+    pub flush_fails: bool,
 }
 
 impl LineWriter {
@@ -17,6 +18,7 @@ impl LineWriter {
         LineWriter {
             printed: Vec::new(alloc),
             room,
+            flush_fails: false,
         }
     }
 }
@@ -34,6 +36,9 @@ impl Write for LineWriter {
     }
 
     fn flush(&mut self) -> std::io::Result<()> {
+        if self.flush_fails {
+            return Err(Error::from(ErrorKind::Other));
+        }
         Ok(())
     }
 }
@@ -76,6 +81,8 @@ impl ShownLines {
 }
 
 impl Progress for ShownLines {
+    ghost is_shown = { λ lines. lines.is_shown };
+
     fn show(&mut self, stage: Stage) {
         let _ = self.keep(stage);
         self.is_shown = true;

@@ -24,6 +24,7 @@ struct Stage {
     deck: Vec<u8>,
     deck_fails: bool,
     room: Option<usize>,
+    flush_fails: bool,
     /// What the last command printed and is not yet looked at.
     printed: String,
     /// What it showed while it went on, and is not yet looked at.
@@ -50,6 +51,7 @@ pub(crate) fn play<'a>(alloc: Global, lines: &'a str) -> Result<RowResult<'a>> {
         deck: Vec::new(alloc),
         deck_fails: false,
         room: None,
+        flush_fails: false,
         printed: String::new(alloc),
         shown: String::new(alloc),
         kept: String::new(alloc),
@@ -86,6 +88,7 @@ fn play_line(alloc: Global, stage: &mut Stage, line: &str) -> Result<bool> {
             .extend_from_slice(bytes(alloc, rest)?.as_slice())?,
         "reader" => stage.deck_fails = true,
         "writer" => stage.room = Some(number(rest)?),
+        "flush" => stage.flush_fails = true,
         "dasd" => return command(alloc, stage, line),
         "failing" => return failing(alloc, stage, rest),
         "<" => return Ok(prints(alloc, stage, rest)?),
@@ -100,6 +103,7 @@ fn play_line(alloc: Global, stage: &mut Stage, line: &str) -> Result<bool> {
         "usage" => return Ok(is_usage(alloc, stage)?),
         "status" => return Ok(stage.status as usize == number(rest)?),
         "replaced" => return Ok(stage.files.replaced.as_str().trim_end() == rest),
+        "remark" => return remarks(alloc, stage, rest),
         _ => return file_line(alloc, stage, word, rest),
     }
     Ok(true)
@@ -112,6 +116,7 @@ fn command(alloc: Global, stage: &mut Stage, line: &str) -> Result<bool> {
     }
     let words: Vec<&str> = line.split(' ').collect(alloc)?;
     let mut writer = LineWriter::new(alloc, stage.room);
+    writer.flush_fails = stage.flush_fails;
     let mut progress = ShownLines::new(alloc);
     (stage.status, stage.told) = ending_of(
         alloc,
@@ -125,6 +130,7 @@ fn command(alloc: Global, stage: &mut Stage, line: &str) -> Result<bool> {
     stage.deck.clear();
     stage.deck_fails = false;
     stage.room = None;
+    stage.flush_fails = false;
     Ok(true)
 }
 
@@ -140,7 +146,7 @@ fn ending_of(
         rest: stage.deck.as_slice(),
         fails: stage.deck_fails,
     };
-    stage.files.replaced.clear();
+    stage.files.begin_command();
     match obey(
         alloc,
         words,
@@ -176,7 +182,7 @@ fn failing(alloc: Global, stage: &mut Stage, words: &str) -> Result<bool> {
 // The status and the text of a fault.
 fn status_of(alloc: Global, fault: ProgramFault) -> Result<(u8, String)> {
     match fault {
-        ProgramFault::Words(text) => Ok((2, text)),
+        ProgramFault::Words(text) | ProgramFault::Help(text) => Ok((2, text)),
         fault => Ok((fault.status(), format!(in alloc; "dasd: {fault}")?)),
     }
 }
@@ -227,6 +233,13 @@ fn prints_again(alloc: Global, stage: &mut Stage) -> bool {
 fn tells(alloc: Global, stage: &mut Stage, wanted: &str) -> Result<bool> {
     let is_wanted = stage.told.as_str() == wanted;
     stage.told = String::new(alloc);
+    Ok(is_wanted)
+}
+
+// Whether this is remarked next.
+fn remarks(alloc: Global, stage: &mut Stage, wanted: &str) -> Result<bool> {
+    let (is_wanted, left) = next_line(alloc, stage.files.remarks.as_str(), wanted)?;
+    stage.files.remarks = left;
     Ok(is_wanted)
 }
 

@@ -2,10 +2,10 @@
 
 use crate::ends::{Pieces, Room};
 use crate::stage::{ALL, play};
-use crate::tally::Tally;
 use anyhow::Result;
 use s360_deck::{DeckFault, RunFault};
 use std::alloc::Global;
+use test_rows::Tally;
 
 /// How many lines were cut, and how many decks with such a line came out as they must.
 #[derive(Clone, Copy)]

@@ -64,6 +64,8 @@ pub(crate) struct Room {
     pub left: usize,
     /// Whether a write without room takes no byte, in the place of failing.
     pub takes_none: bool,
+    /// Whether a flush fails.
+    pub flush_fails: bool,
 }
 
 impl Room {
@@ -74,6 +76,7 @@ impl Room {
             most,
             left,
             takes_none: false,
+            flush_fails: false,
         }
     }
 }
@@ -94,6 +97,9 @@ impl Write for Room {
     }
 
     fn flush(&mut self) -> std::io::Result<()> {
+        if self.flush_fails {
+            return Err(Error::from(ErrorKind::Other));
+        }
         Ok(())
     }
 }

@@ -2,10 +2,10 @@
 
 use crate::ends::{Pieces, Room};
 use crate::stage::{ALL, play};
-use crate::tally::Tally;
 use anyhow::Result;
 use s360_deck::{DeckFault, RunFault};
 use std::alloc::Global;
+use test_rows::Tally;
 
 /// The most bytes of a deck.
 const DECK_LENGTH: usize = 1_048_576;

@@ -1,22 +1,25 @@
 //! Hostile decks: a good deck, which is the input, with lines cut at every byte; readers that give little, fail or never end; writers
-//! that fail behind every byte; and texts at the limits. For each suite it is printed how many cases were tried, and how many came
+//! that fail behind every byte, and whose flush fails; texts at the limits; and lists of thousands of events. For each suite it is printed how many cases were tried, and how many came
 //! out as they must.
 #![tactic(auto)]
 
 mod cuts;
 mod ends;
 mod limits;
+mod long_lists;
 mod stage;
 mod streams;
-mod tally;
 
 use crate::cuts::cut_lines;
 use crate::limits::try_limits;
+use crate::long_lists::try_long_lists;
 use crate::stage::new_file;
-use crate::streams::{fail_reads, fail_writes, read_endlessly, read_in_pieces, write_in_pieces};
-use crate::tally::Tally;
+use crate::streams::{
+    fail_flushes, fail_reads, fail_writes, read_endlessly, read_in_pieces, write_in_pieces,
+};
 use anyhow::Result;
 use std::io;
+use test_rows::Tally;
 
 fn main(rt: HostRuntime) -> Result<()> {
     let alloc = rt.alloc();
@@ -46,7 +49,9 @@ fn tell_ends(rt: &HostRuntime, file: &[u8], deck: &[u8]) -> Result<()> {
         "writes failing in turn",
         fail_writes(alloc, file, deck)?,
     )?;
-    tell(rt, "texts at the limits", try_limits(alloc, file)?)
+    tell(rt, "flushes failing", fail_flushes(alloc, file, deck)?)?;
+    tell(rt, "texts at the limits", try_limits(alloc, file)?)?;
+    tell(rt, "lists of thousands", try_long_lists(alloc, file)?)
 }
 
 fn tell(rt: &HostRuntime, name: &str, tally: Tally) -> Result<()> {

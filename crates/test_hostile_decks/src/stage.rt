@@ -62,8 +62,8 @@ impl Came {
     }
 }
 
-// A channel with a drive over a copy of this file.
-fn new_channel(alloc: Global, file: &[u8]) -> Result<Channel<MemoryStore>> {
+/// A channel with a drive over a copy of this file.
+pub(crate) fn new_channel(alloc: Global, file: &[u8]) -> Result<Channel<MemoryStore>> {
     let image = mounted(alloc, file)?;
     let mut channel = channel_without_drives(alloc)?;
     match channel.attach(alloc, 0x90, image) {

@@ -2,10 +2,10 @@
 
 use crate::ends::{Endless, Pieces, Room};
 use crate::stage::{ALL, Came, play};
-use crate::tally::Tally;
 use anyhow::Result;
 use s360_deck::RunFault;
 use std::alloc::Global;
+use test_rows::Tally;
 
 /// The most reads of a deck.
 const READS: usize = 1_048_577;
@@ -64,6 +64,22 @@ pub(crate) fn write_in_pieces(alloc: Global, file: &[u8], deck: &[u8]) -> Result
         let mut reader = Pieces::new(deck, ALL);
         let came = play(alloc, file, &mut reader, Room::new(alloc, ALL, most))?;
         tally.add(came.is_same(&whole));
+    }
+    Ok(tally)
+}
+
+/// Writes answers whose flush fails, with room for all of them and for none.
+pub(crate) fn fail_flushes(alloc: Global, file: &[u8], deck: &[u8]) -> Result<Tally> {
+    let mut tally = Tally::NONE;
+    for deck in [deck, &[]] {
+        let whole = play_whole(alloc, file, deck)?;
+        let mut reader = Pieces::new(deck, ALL);
+        let mut writer = Room::new(alloc, ALL, ALL);
+        writer.flush_fails = true;
+        let came = play(alloc, file, &mut reader, writer)?;
+        let written = came.written.as_slice() == whole.written.as_slice();
+        let failed = came.fault == Some(RunFault::Write);
+        tally.add(failed && written && came.has_run_as(&whole));
     }
     Ok(tally)
 }

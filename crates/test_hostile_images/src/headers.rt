@@ -1,11 +1,11 @@
 //! Prefixes of a volume's file, and headers.
 
 use crate::machine::mount;
-use crate::tally::Tally;
 use crate::volumes::with_byte;
 use anyhow::Result;
 use ckd_image::MountFault;
 use std::alloc::Global;
+use test_rows::Tally;
 
 /// What a byte is replaced by.
 pub(crate) const OTHERS: [u8; 3] = [0x00, 0x7F, 0xFF];

@@ -9,7 +9,6 @@ mod machine;
 mod odd_slots;
 mod slot_cases;
 mod slots;
-mod tally;
 mod volumes;
 
 use crate::headers::{OTHERS, mount_headers, mount_prefixes};

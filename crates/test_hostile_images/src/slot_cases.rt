@@ -3,13 +3,13 @@
 use crate::chains::{is_read, is_written};
 use crate::machine::{Machine, mount};
 use crate::slots::{Spelled, read};
-use crate::tally::Tally;
 use crate::volumes::{HEADER_LENGTH, file_with};
 use anyhow::{Result, bail};
 use ckd_image::{Image, MemoryStore};
 use ckd_track::read_slot;
 use dasd_volumes::{Progress, Stage, check};
 use std::alloc::Global;
+use test_rows::Tally;
 
 /// What was tried over slots.
 #[derive(Clone, Copy)]

@@ -8,11 +8,13 @@
 mod files;
 mod readers;
 mod stores;
+mod tally;
 mod volumes;
 mod words;
 
 pub use crate::files::{Files, RowFiles, file_of, one_file, only_store, two_files};
 pub use crate::readers::DeckReader;
 pub use crate::stores::{Calls, Failure, Recorder, RowStore, failure_of};
+pub use crate::tally::Tally;
 pub use crate::volumes::{files_of, new_volume, write_behind_header};
 pub use crate::words::{address, byte, bytes, model_of, name_of, number, words_of};

@@ -1,1 +1,3 @@
 pub mod Ebcdic
+pub mod Fields
+pub mod Labels

@@ -1,7 +1,7 @@
 //! Characters of EBCDIC.
 
-ghost use Rattle.std.specs.Prelude.{◌≡◌, ◌<◌};
-ghost use Rattle.volume_labels.specs.Ebcdic.{character_of, shown};
+ghost use Rattle.std.specs.Prelude.{◌≡◌, ◌<◌, slice_index};
+ghost use Rattle.volume_labels.specs.Ebcdic.{code_page_037, character_of, shown};
 
 /// The character of each byte in code page 037, the EBCDIC of the United States and Canada, as its number in Unicode (IBM's
 /// Character Data Representation Architecture, CCSID 37). Each is below 256.
@@ -24,11 +24,24 @@ const CODE_PAGE_037: [u8; 256] = [
     0x30, 0x31, 0x32, 0x33, 0x34, 0x35, 0x36, 0x37, 0x38, 0x39, 0xB3, 0xDB, 0xDC, 0xD9, 0xDA, 0x9F,
 ];
 
+// The table is the one of the definitions.
+fn table_is_known()
+    ensures { CODE_PAGE_037 ≡ code_page_037 }
+{}
+
+// What the table has for a byte.
+fn look_up(byte: u8) -> u8
+    ensures { result ≡ slice_index CODE_PAGE_037 byte }
+{
+    CODE_PAGE_037[byte as usize]
+}
+
 /// The character of a byte of EBCDIC, as its number in Unicode.
 pub fn character(byte: u8) -> u8
     ensures { result ≡ character_of byte }
 {
-    CODE_PAGE_037[byte as usize]
+    table_is_known();
+    look_up(byte)
 }
 
 /// The character of a byte of EBCDIC where it is a printing one of ASCII, and else a dot.

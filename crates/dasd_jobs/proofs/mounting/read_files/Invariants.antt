@@ -3,7 +3,7 @@ use Rattle.dasd_jobs.proofs.mounting.read_files.Given as goal
 
 abbrev pub invariant-loop-path : goal.invariant-loop-path
 invariant-loop-path g l = record {
-  kept : g.F.ImageFiles.replacements l.files ≡ g.F.ImageFiles.replacements l.fn.files;
+  kept : g.F.ImageFiles.written l.files ≡ g.F.ImageFiles.written l.fn.files;
   there : All IsSome l.stores.items;
   room : length l.stores.items ≤ l.path-index;
 }

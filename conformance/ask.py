@@ -1,0 +1,77 @@
+#!/usr/bin/env python3
+"""Plays a deck at an emulator, and prints each event with its answer.
+
+  ask.py EMULATOR DECK [UU=IMAGE ..]
+
+Emulators are named as for run.py. A deck's remarks `* volume 90 x.img`, `* storage 65536` and `* channel 1` say what a vector's lines do;
+images of the suite go by their names. A remark `* must ANSWER` says what the event above it must answer. Status 1 where it did not."""
+import argparse
+import os
+import sys
+
+from suite.adapters import make
+from suite.adapters.protocol import Broke
+from suite.decks import DeckFault, parse_line
+from suite.vectors import Vector, folder, softened
+
+
+def read_deck(path, volumes=()):
+    """The vector of a deck's file, with what its remarks say: by place what an event must answer, and the others by their words."""
+    with open(path, "rb") as it:
+        lines = it.read().split(b"\n")
+    vector, must, said, events = Vector(os.path.basename(path), "ask", folder()), {}, {}, 0
+    for line in lines:
+        words = line.decode("latin1").split(None, 2)
+        if words[:1] == ["*"]:
+            rest = words[2].strip() if len(words) > 2 else ""
+            if words[1:2] == ["volume"]:
+                unit, what = rest.split(None, 1)
+                vector.volumes.append((int(unit, 16), what))
+            elif words[1:2] in (["storage"], ["channel"]):
+                setattr(vector, words[1], int(rest))
+            elif words[1:2] == ["must"]:
+                must[events - 1] = rest
+            elif len(words) > 1:
+                said[words[1]] = rest
+        elif words and parse_line(line):
+            events += 1
+            vector.deck += line + b"\n"
+    for it in volumes:
+        unit, _, image = it.partition("=")
+        vector.volumes.append((int(unit, 16), os.path.abspath(image)))
+    return vector, must, said
+
+
+def compared(vector, must, outcome, lacks):
+    """For each event its line, its answer, and what it must answer where that is something else."""
+    for at, line in enumerate(vector.deck.decode("latin1").splitlines()):
+        answer = outcome.answers[at] if at < len(outcome.answers) else "-"
+        wanted = must.get(at)
+        yield line, answer, wanted if wanted and softened(wanted, lacks) != softened(answer, lacks) else None
+
+
+def main():
+    words = argparse.ArgumentParser(description=__doc__, formatter_class=argparse.RawDescriptionHelpFormatter)
+    words.add_argument("emulator")
+    words.add_argument("deck")
+    words.add_argument("volumes", nargs="*")
+    said = words.parse_args()
+    status = 0
+    try:
+        vector, must, _ = read_deck(said.deck, said.volumes)
+        with make(said.emulator) as emulator:
+            outcome = emulator.play(vector)
+            for line, answer, wanted in compared(vector, must, outcome, emulator.lacks):
+                print("%-40s %s%s" % (line, answer, "   must be %s" % wanted if wanted else ""))
+                status = 1 if wanted else status
+    except (ValueError, OSError, DeckFault, Broke) as fault:
+        print("ask.py: %s" % fault, file=sys.stderr)
+        return 2
+    if outcome.broke or outcome.declined or outcome.fault:
+        print(outcome.broke or outcome.declined or outcome.fault)
+        status = 1
+    return status
+
+
+if __name__ == "__main__":
+    sys.exit(main())

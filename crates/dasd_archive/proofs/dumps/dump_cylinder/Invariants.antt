@@ -1,0 +1,20 @@
+use Rattle.std.proofs.Common.{◌≡◌, ◌+◌, List, ℕ, Some, [], length, slice_index_or}
+use Rattle.std.specs.Io.KnownBytes.{Appends}
+use Rattle.dasd_volumes.specs.Volumes.{of_each}
+use Rattle.ckd_track.specs.Track.{track_of}
+use Rattle.ckd_track.specs.Geometry.{track_at}
+use Rattle.dasd_archive.specs.Dump.{track_dump}
+use Rattle.dasd_archive.proofs.dumps.dump_cylinder.Given as goal
+
+-- the heads so far are written; the volume stays, and the slot keeps its length
+abbrev pub invariant-loop-i : goal.invariant-loop-i
+invariant-loop-i g l =
+    let before = g.V.SlotReader.volume l.fn.volume in
+    let i = before.geometry in record {
+      lines : (slots : List (List ℕ)) → before.slots ≡ Some slots
+          → Appends (g.W.Write.contents l.fn.writer) (g.W.Write.contents l.writer)
+          (of_each (λ k. track_dump l.form.style l.form.path.now l.cylinder (l.part.heads.first + k) l.part.numbers (track_of (slice_index_or slots (track_at i l.cylinder (l.part.heads.first + k)) []))) l.i);
+      volume : g.V.SlotReader.volume l.volume ≡ before;
+      failures : g.V.SlotReader.failures l.volume ≡ g.V.SlotReader.failures l.fn.volume;
+      size : length l.slot ≡ i.track_size;
+    }

@@ -1,0 +1,134 @@
+-- What a comparison of two volumes of one geometry prints.
+use Rattle.std.specs.Prelude.{◌≡◌, ℕ, ◌+◌, min, Bool, true, false, ◌==◌, nat_le, nat_eq, if◌then◌else◌, List, [], ◌∷◌, ◌++◌, length, drop, slice_index_or, codes, Option, Some, Result, Ok, Err, bytes_eq}
+use Rattle.std.specs.List.{concat, common_prefix_len, flat_map}
+use Rattle.std.specs.Io.KnownBytes.{Appends}
+use Rattle.std.specs.Fmt.{decimal}
+use Rattle.ckd_track.specs.declared.geometries.Geometry.{Geometry}
+use Rattle.ckd_track.specs.declared.fault.SlotFault.{SlotFault}
+use Rattle.ckd_track.specs.Model.{heads_of}
+use Rattle.ckd_track.specs.Geometry.{track_at}
+use Rattle.ckd_track.specs.Track.{Record, Track, track_of, record_in}
+use Rattle.ckd_track.specs.Changes.{end_offset}
+use Rattle.dasd_volumes.specs.Lines.{bytes_text, address_text, fault_text, line_feed}
+use Rattle.dasd_volumes.specs.Reading.{KnownVolume}
+use Rattle.dasd_volumes.specs.Volumes.{of_each}
+use Rattle.dasd_archive.specs.declared.reports.Style.{Style}
+use Rattle.dasd_archive.specs.declared.reports.Style.TheVariants.{Text, Json}
+use Rattle.dasd_archive.specs.declared.differences.Difference.{Difference}
+use Rattle.dasd_archive.specs.declared.differences.Difference.TheVariants.{HomeAddress, Records, Identifier, Key, Contents, BehindEnd, FirstUnreadable, SecondUnreadable, Unreadable}
+
+-- One difference.
+
+abbrev pub difference_text : Difference → List ℕ
+difference_text (HomeAddress one other) = concat (codes "home address " ∷ bytes_text one ∷ codes " and " ∷ bytes_text other ∷ [])
+difference_text (Records one other) = concat (codes "records " ∷ decimal one ∷ codes " and " ∷ decimal other ∷ [])
+difference_text (Identifier i one other) =
+    concat (codes "record " ∷ decimal i ∷ codes " identifier " ∷ bytes_text one ∷ codes " and " ∷ bytes_text other ∷ [])
+difference_text (Key i at) = concat (codes "record " ∷ decimal i ∷ codes " key from " ∷ decimal at ∷ codes " on" ∷ [])
+difference_text (Contents i at) = concat (codes "record " ∷ decimal i ∷ codes " data from " ∷ decimal at ∷ codes " on" ∷ [])
+difference_text (BehindEnd at) = concat (codes "behind the end mark from " ∷ decimal at ∷ codes " on" ∷ [])
+difference_text (FirstUnreadable fault) = concat (codes "unreadable in the first: " ∷ fault_text fault ∷ [])
+difference_text (SecondUnreadable fault) = concat (codes "unreadable in the second: " ∷ fault_text fault ∷ [])
+difference_text (Unreadable at) = concat (codes "unreadable in both, bytes from " ∷ decimal at ∷ codes " on" ∷ [])
+
+-- the line of a difference of a track of the volumes at two paths
+abbrev pub difference_line : Style → (path other : List ℕ) → (cylinder head : ℕ) → Difference → List ℕ
+difference_line Text path other cylinder head d = concat (address_text cylinder head ∷ codes " " ∷ difference_text d ∷ line_feed ∷ [])
+difference_line Json path other cylinder head d = concat (
+    codes "{\"path\":" ∷ path ∷ codes ",\"other\":" ∷ other ∷ codes ",\"cylinder\":" ∷ decimal cylinder ∷ codes ",\"head\":" ∷ decimal head
+    ∷ codes ",\"text\":\"" ∷ difference_text d ∷ codes "\"}" ∷ line_feed ∷ [])
+
+-- What differs of two tracks.
+
+abbrev pub where_not : Bool → Difference → List Difference
+where_not same d = if same then [] else d ∷ []
+
+-- how many bytes from the first on are the same
+abbrev pub same_length : List ℕ → List ℕ → ℕ
+same_length one other = common_prefix_len nat_eq one other
+
+-- two records: their identifiers, and where their keys and their data begin to differ
+abbrev pub record_differences : (i : ℕ) → Record → Record → List Difference
+record_differences i one other =
+    where_not (bytes_eq one.id other.id) (Identifier i one.id other.id)
+    ++ (where_not (bytes_eq one.key_area other.key_area) (Key i (same_length one.key_area other.key_area))
+    ++ where_not (bytes_eq one.data_area other.data_area) (Contents i (same_length one.data_area other.data_area)))
+
+-- what stands behind two end marks, as far as both go
+abbrev pub rest_differences : (one other : List ℕ) → List Difference
+rest_differences one other =
+    where_not (nat_le (min (length one) (length other)) (same_length one other)) (BehindEnd (same_length one other))
+
+-- two tracks that can be read, and their slots
+abbrev pub readable_differences : (slot other_slot : List ℕ) → Track → Track → List Difference
+readable_differences slot other_slot one other =
+    where_not (bytes_eq one.home_address other.home_address) (HomeAddress one.home_address other.home_address)
+    ++ (where_not (length one.records == length other.records) (Records (length one.records) (length other.records))
+    ++ (of_each (λ i. record_differences i (record_in one i) (record_in other i)) (min (length one.records) (length other.records))
+    ++ rest_differences (drop (end_offset one + 8) slot) (drop (end_offset other + 8) other_slot)))
+
+abbrev pub differences_of : (slot other_slot : List ℕ) → Result Track SlotFault → Result Track SlotFault → List Difference
+differences_of slot other_slot (Ok one) (Ok other) = readable_differences slot other_slot one other
+differences_of slot other_slot (Err fault) (Ok other) = FirstUnreadable fault ∷ []
+differences_of slot other_slot (Ok one) (Err fault) = SecondUnreadable fault ∷ []
+differences_of slot other_slot (Err fault) (Err other) = Unreadable (same_length slot other_slot) ∷ []
+
+-- what differs of the tracks in two slots: nothing where the slots are the same
+abbrev pub differences_in : (slot other_slot : List ℕ) → List Difference
+differences_in slot other_slot =
+    if bytes_eq slot other_slot then [] else differences_of slot other_slot (track_of slot) (track_of other_slot)
+
+-- Volumes.
+
+-- the lines of a track's differences, or none where only tracks are counted
+abbrev pub track_lines : Style → (path other : List ℕ) → (lists : Bool) → (cylinder head : ℕ) → (slot other_slot : List ℕ) → List ℕ
+track_lines style path other lists cylinder head slot other_slot =
+    if lists then flat_map (difference_line style path other cylinder head) (differences_in slot other_slot) else []
+
+-- one where the slots differ
+abbrev pub changed : (slot other_slot : List ℕ) → List Bool
+changed slot other_slot = if bytes_eq slot other_slot then [] else true ∷ []
+
+abbrev pub slot_at : Geometry → (slots : List (List ℕ)) → (cylinder head : ℕ) → List ℕ
+slot_at g slots cylinder head = slice_index_or slots (track_at g cylinder head) []
+
+abbrev pub cylinder_differences : Style → (path other : List ℕ) → (lists : Bool) → (cylinder : ℕ) → Geometry → (slots other_slots : List (List ℕ)) → List ℕ
+cylinder_differences style path other lists cylinder g slots other_slots =
+    of_each (λ head. track_lines style path other lists cylinder head (slot_at g slots cylinder head) (slot_at g other_slots cylinder head)) (heads_of g.model)
+
+abbrev pub changed_on : (cylinder : ℕ) → Geometry → (slots other_slots : List (List ℕ)) → List Bool
+changed_on cylinder g slots other_slots =
+    of_each (λ head. changed (slot_at g slots cylinder head) (slot_at g other_slots cylinder head)) (heads_of g.model)
+
+-- what differs of two volumes, cylinder by cylinder and head by head
+abbrev pub volume_differences : Style → (path other : List ℕ) → (lists : Bool) → Geometry → (slots other_slots : List (List ℕ)) → List ℕ
+volume_differences style path other lists g slots other_slots =
+    of_each (λ cylinder. cylinder_differences style path other lists cylinder g slots other_slots) g.cylinders
+
+-- one for each track that differs
+abbrev pub changed_in : Geometry → (slots other_slots : List (List ℕ)) → List Bool
+changed_in g slots other_slots = of_each (λ cylinder. changed_on cylinder g slots other_slots) g.cylinders
+
+-- how many tracks differ
+abbrev pub number_line : Style → (path other : List ℕ) → ℕ → List ℕ
+number_line Text path other n = concat (decimal n ∷ codes " tracks differ" ∷ line_feed ∷ [])
+number_line Json path other n = concat (
+    codes "{\"path\":" ∷ path ∷ codes ",\"other\":" ∷ other ∷ codes ",\"tracks_differ\":" ∷ decimal n ∷ codes "}" ∷ line_feed ∷ [])
+
+-- what a comparison prints: what differs, and how many tracks do
+abbrev pub compare_text : Style → (path other : List ℕ) → (lists : Bool) → Geometry → (slots other_slots : List (List ℕ)) → List ℕ
+compare_text style path other lists g slots other_slots =
+    volume_differences style path other lists g slots other_slots
+    ++ number_line style path other (length (changed_in g slots other_slots))
+
+-- what was printed is this text of two volumes, if the slots of both are known
+abbrev pub PrintsBoth : (Geometry → List (List ℕ) → List (List ℕ) → List ℕ) → (one other : KnownVolume) → (before now : Option (List ℕ)) → Type 0
+PrintsBoth text one other before now =
+    (slots other_slots : List (List ℕ)) → one.slots ≡ Some slots → other.slots ≡ Some other_slots
+    → Appends before now (text one.geometry slots other_slots)
+
+-- this is how many there are of these of two volumes, if the slots of both are known
+abbrev pub NumberOfBoth : (Geometry → List (List ℕ) → List (List ℕ) → List Bool) → (one other : KnownVolume) → ℕ → Type 0
+NumberOfBoth of one other n =
+    (slots other_slots : List (List ℕ)) → one.slots ≡ Some slots → other.slots ≡ Some other_slots
+    → n ≡ length (of one.geometry slots other_slots)

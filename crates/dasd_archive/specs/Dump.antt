@@ -1,0 +1,105 @@
+-- What a dump prints: home addresses and records, their bytes in hexadecimal and in EBCDIC, sixteen to a line.
+use Rattle.std.specs.Prelude.{◌≡◌, ◌≤◌, ◌<◌, ℕ, ◌+◌, ◌-◌, ◌*◌, ◌/◌, min, Bool, ◌&&◌, nat_le, if◌then◌else◌, List, [], ◌∷◌, ◌++◌, length, slice_range, slice_index, slice_index_or, codes, encode_utf8, Result, Ok, Err}
+use Rattle.std.specs.List.{concat, flat_map}
+use Rattle.std.specs.Fmt.{decimal}
+use Rattle.ckd_track.specs.declared.geometries.Geometry.{Geometry}
+use Rattle.ckd_track.specs.declared.fault.SlotFault.{SlotFault}
+use Rattle.ckd_track.specs.Model.{heads_of}
+use Rattle.ckd_track.specs.Geometry.{track_at}
+use Rattle.ckd_track.specs.Track.{Record, Track, track_of}
+use Rattle.dasd_volumes.specs.Lines.{hexadecimal, bytes_text, address_text, fault_text, record_line, line_feed}
+use Rattle.dasd_volumes.specs.Volumes.{of_each}
+use Rattle.volume_labels.specs.Ebcdic.{shown}
+use Rattle.dasd_archive.specs.declared.reports.Style.{Style}
+use Rattle.dasd_archive.specs.declared.reports.Style.TheVariants.{Text, Json}
+use Rattle.dasd_archive.specs.declared.dumps.Range.{Range}
+use Rattle.dasd_archive.specs.declared.dumps.Part.{Part}
+
+-- Lines of bytes.
+
+abbrev pub spaced_text : List ℕ → List ℕ
+spaced_text bytes = flat_map (λ b. hexadecimal 2 b ++ codes " ") bytes
+
+abbrev pub blanks_text : ℕ → List ℕ
+blanks_text n = of_each (λ k. codes "   ") n
+
+abbrev pub shown_text : List ℕ → List ℕ
+shown_text bytes = flat_map (λ b. encode_utf8 (shown b)) bytes
+
+-- line i: the offset of its first byte, and sixteen bytes, or as many as are left
+abbrev pub row_of : List ℕ → (i : ℕ) → List ℕ
+row_of bytes i = slice_range bytes (16 * i) (min (16 * i + 16) (length bytes))
+
+abbrev pub row_line : (letter : List ℕ) → List ℕ → (i : ℕ) → List ℕ
+row_line letter bytes i = let row = row_of bytes i in concat (
+    codes "    " ∷ letter ∷ codes " " ∷ hexadecimal 6 (16 * i) ∷ codes "  " ∷ spaced_text row ∷ blanks_text (16 - length row) ∷ codes " " ∷ shown_text row
+    ∷ line_feed ∷ [])
+
+abbrev pub rows_text : (letter : List ℕ) → List ℕ → List ℕ
+rows_text letter bytes = of_each (row_line letter bytes) ((length bytes + 15) / 16)
+
+-- Records and tracks.
+
+abbrev pub holds : Range → ℕ → Bool
+holds r n = nat_le r.first n && nat_le n r.last
+
+-- how an object of a track begins
+abbrev pub place_text : (path : List ℕ) → (cylinder head : ℕ) → List ℕ
+place_text path cylinder head = concat (codes "{\"path\":" ∷ path ∷ codes ",\"cylinder\":" ∷ decimal cylinder ∷ codes ",\"head\":" ∷ decimal head ∷ [])
+
+-- how one of a record ends
+abbrev pub areas_text : (id key body : List ℕ) → List ℕ
+areas_text id key body = concat (
+    codes ",\"identifier\":\"" ∷ bytes_text id ∷ codes "\",\"key\":\"" ∷ bytes_text key ∷ codes "\",\"data\":\"" ∷ bytes_text body ∷ codes "\"}" ∷ line_feed ∷ [])
+
+-- a record as an object
+abbrev pub object_text : (path : List ℕ) → (cylinder head : ℕ) → (id key body : List ℕ) → List ℕ
+object_text path cylinder head id key body = place_text path cylinder head ++ areas_text id key body
+
+-- a record: its identifier and lengths, its key and its data
+abbrev pub record_dump : Style → (path : List ℕ) → (cylinder head : ℕ) → Record → List ℕ
+record_dump Text path cylinder head r = record_line r ++ (rows_text (codes "K") r.key_area ++ rows_text (codes "D") r.data_area)
+record_dump Json path cylinder head r = object_text path cylinder head r.id r.key_area r.data_area
+
+-- a record whose number is asked for
+abbrev pub record_text : Style → (path : List ℕ) → (cylinder head : ℕ) → Range → Record → List ℕ
+record_text style path cylinder head numbers r =
+    if holds numbers (slice_index r.id 4) then record_dump style path cylinder head r else []
+
+-- a track: its home address
+abbrev pub home_address_line : Style → (path : List ℕ) → (cylinder head : ℕ) → List ℕ → List ℕ
+home_address_line Text path cylinder head ha = concat (address_text cylinder head ∷ codes " HA " ∷ bytes_text ha ∷ line_feed ∷ [])
+home_address_line Json path cylinder head ha = concat (
+    codes "{\"path\":" ∷ path ∷ codes ",\"cylinder\":" ∷ decimal cylinder ∷ codes ",\"head\":" ∷ decimal head ∷ codes ",\"home_address\":\"" ∷ bytes_text ha
+    ∷ codes "\"}" ∷ line_feed ∷ [])
+
+-- one that can't be read
+abbrev pub unreadable_line : Style → (path : List ℕ) → (cylinder head : ℕ) → SlotFault → List ℕ
+unreadable_line Text path cylinder head fault = concat (address_text cylinder head ∷ codes " unreadable " ∷ fault_text fault ∷ line_feed ∷ [])
+unreadable_line Json path cylinder head fault = concat (
+    codes "{\"path\":" ∷ path ∷ codes ",\"cylinder\":" ∷ decimal cylinder ∷ codes ",\"head\":" ∷ decimal head ∷ codes ",\"unreadable\":\"" ∷ fault_text fault
+    ∷ codes "\"}" ∷ line_feed ∷ [])
+
+abbrev pub track_dump : Style → (path : List ℕ) → (cylinder head : ℕ) → Range → Result Track SlotFault → List ℕ
+track_dump style path cylinder head numbers (Ok t) =
+    home_address_line style path cylinder head t.home_address ++ flat_map (record_text style path cylinder head numbers) t.records
+track_dump style path cylinder head numbers (Err fault) = unreadable_line style path cylinder head fault
+
+-- what there is of each number of a range
+abbrev pub of_range : Range → (ℕ → List ℕ) → List ℕ
+of_range r of = of_each (λ k. of (r.first + k)) (r.last + 1 - r.first)
+
+abbrev pub cylinder_dump : Style → (path : List ℕ) → Part → (cylinder : ℕ) → Geometry → (slots : List (List ℕ)) → List ℕ
+cylinder_dump style path part cylinder g slots =
+    of_range part.heads (λ head. track_dump style path cylinder head part.numbers (track_of (slice_index_or slots (track_at g cylinder head) [])))
+
+-- what a dump of a part of a volume prints: the tracks of its heads on each of its cylinders
+abbrev pub dump_text : Style → (path : List ℕ) → Part → Geometry → (slots : List (List ℕ)) → List ℕ
+dump_text style path part g slots = of_range part.cylinders (λ cylinder. cylinder_dump style path part cylinder g slots)
+
+-- a part is of a volume: its first numbers are not behind its last ones, and the tracks exist
+pub record IsPartOf (part : Part) (g : Geometry) : Type 0 where
+  pub cylinders : part.cylinders.first ≤ part.cylinders.last
+  pub on_volume : part.cylinders.last < g.cylinders
+  pub heads : part.heads.first ≤ part.heads.last
+  pub on_cylinder : part.heads.last < heads_of g.model

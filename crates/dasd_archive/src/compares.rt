@@ -1,0 +1,484 @@
+//! A comparison of two volumes.
+
+ghost use Rattle.std.specs.Prelude.{◌≡◌, ◌<◌, ◌≤◌, ◌+◌, [], ◌∷◌, ◌++◌, ◌==◌, IsOk, Ok, true, length, drop, min, nat_eq, bytes_eq, IfOk, OnOk, if◌then◌else◌};
+ghost use Rattle.std.specs.List.{flat_map, common_prefix_len};
+ghost use Rattle.std.specs.Io.KnownBytes.{Appends};
+ghost use Rattle.ckd_track.specs.Track.{track_of, track_in, record_in};
+ghost use Rattle.ckd_track.specs.Changes.{end_offset};
+ghost use Rattle.dasd_volumes.specs.Reading.{IsRead};
+ghost use Rattle.dasd_volumes.specs.Volumes.{of_each};
+ghost use Rattle.dasd_archive.specs.Compare.{difference_line, where_not, same_length, record_differences, rest_differences, readable_differences, differences_of, differences_in, track_lines, changed, cylinder_differences, changed_on, volume_differences, changed_in, number_line, compare_text, PrintsBoth, NumberOfBoth};
+
+use crate::differences::Difference;
+use crate::reports::Style;
+use crate::tracks::{bytes_from, five, identifier, is_same};
+use ckd_track::{TrackView, end_offset_of, read_slot};
+use dasd_volumes::{SlotReader, TrackAddress, VolumeFault};
+use std::alloc::Global;
+use std::io;
+use std::io::Write;
+
+/// How the lines of a comparison are written: their style, the paths of the two volumes as strings of JSON with their quotes,
+/// and whether each difference has a line.
+#[derive(Clone, Copy, Debug)]
+pub struct Comparison<'a> {
+    /// The style.
+    pub style: Style,
+    /// The first volume's path, in quotes.
+    pub path: &'a str,
+    /// The second volume's path, in quotes.
+    pub other: &'a str,
+    /// Whether each difference has a line; if not, only tracks are counted.
+    pub lists: bool,
+}
+
+/// Prints what differs of two volumes of one geometry, track by track, and how many tracks differ, which it answers.
+///
+/// # Errors
+///
+/// Where a read or a write fails, or there is no memory for two slots, what was printed before stays.
+pub fn compare<V: SlotReader, U: SlotReader, W: Write>(
+    alloc: Global,
+    one: &mut V,
+    other: &mut U,
+    writer: &mut W,
+    form: Comparison,
+) -> Result<u32, VolumeFault>
+    requires { (U.volume other.old).geometry ≡ (V.volume one.old).geometry }
+    ensures number { IfOk result (NumberOfBoth changed_in (V.volume one.old) (U.volume other.old)) }
+    ensures lines { OnOk result (PrintsBoth (compare_text form.entry.style form.entry.path.now form.entry.other.now form.entry.lists)
+        (V.volume one.old) (U.volume other.old) (W.contents writer.old) (W.contents writer.new)) }
+    ensures kept { V.volume one.new ≡ V.volume one.old }
+    ensures other_kept { U.volume other.new ≡ U.volume other.old }
+{
+    let size = one.geometry().track_size as usize;
+    let (Ok(mut slot), Ok(mut other_slot)) = (vec![in alloc; 0u8; size], vec![in alloc; 0u8; size])
+    else {
+        return Err(VolumeFault::OutOfMemory);
+    };
+    let slot = slot.as_mut_slice();
+    let other_slot = other_slot.as_mut_slice();
+    match compare_cylinders(one, other, writer, form, slot, other_slot) {
+        Ok(differing) => match write_number(writer, form, differing) {
+            Ok(()) => Ok(differing),
+            Err(_) => Err(VolumeFault::Write),
+        },
+        Err(fault) => Err(fault),
+    }
+}
+
+// The last line.
+fn write_number<W: Write>(writer: &mut W, form: Comparison, differing: u32) -> io::Result<()>
+    ensures { OnOk result (Appends (W.contents writer.old) (W.contents writer.new)
+        (number_line form.entry.style form.entry.path.now form.entry.other.now differing)) }
+{
+    let path = form.path;
+    let other = form.other;
+    match form.style {
+        Style::Text => writeln!(writer, "{differing} tracks differ")?,
+        Style::Json => writeln!(
+            writer,
+            "{{\"path\":{path},\"other\":{other},\"tracks_differ\":{differing}}}"
+        )?,
+    }
+    writer.flush()
+}
+
+// The lines of all cylinders; and how many tracks differ.
+fn compare_cylinders<V: SlotReader, U: SlotReader, W: Write>(
+    one: &mut V,
+    other: &mut U,
+    writer: &mut W,
+    form: Comparison,
+    slot: &mut [u8],
+    other_slot: &mut [u8],
+) -> Result<u32, VolumeFault>
+    requires same { (U.volume other.old).geometry ≡ (V.volume one.old).geometry }
+    requires size { length slot.old ≡ (V.volume one.old).geometry.track_size }
+    requires other_size { length other_slot.old ≡ (V.volume one.old).geometry.track_size }
+    ensures number { IfOk result (NumberOfBoth changed_in (V.volume one.old) (U.volume other.old)) }
+    ensures lines { OnOk result (PrintsBoth (volume_differences form.entry.style form.entry.path.now form.entry.other.now form.entry.lists)
+        (V.volume one.old) (U.volume other.old) (W.contents writer.old) (W.contents writer.new)) }
+    ensures kept { V.volume one.new ≡ V.volume one.old }
+    ensures other_kept { U.volume other.new ≡ U.volume other.old }
+{
+    let mut differing: u32 = 0;
+    for cylinder in 0..one.geometry().cylinders {
+        match compare_cylinder(one, other, writer, form, cylinder, slot, other_slot) {
+            Ok(found) => differing += found,
+            Err(fault) => return Err(fault),
+        }
+    }
+    Ok(differing)
+}
+
+// The lines of a cylinder's tracks, each of which is loaded into the slots; and how many differ.
+fn compare_cylinder<V: SlotReader, U: SlotReader, W: Write>(
+    one: &mut V,
+    other: &mut U,
+    writer: &mut W,
+    form: Comparison,
+    cylinder: u16,
+    slot: &mut [u8],
+    other_slot: &mut [u8],
+) -> Result<u32, VolumeFault>
+    requires same { (U.volume other.old).geometry ≡ (V.volume one.old).geometry }
+    requires exists { cylinder < (V.volume one.old).geometry.cylinders }
+    requires size { length slot.old ≡ (V.volume one.old).geometry.track_size }
+    requires other_size { length other_slot.old ≡ (V.volume one.old).geometry.track_size }
+    ensures number { IfOk result (NumberOfBoth (changed_on cylinder) (V.volume one.old) (U.volume other.old)) }
+    ensures few { IfOk result (λ n. n ≤ 20) }
+    ensures lines { OnOk result
+        (PrintsBoth (cylinder_differences form.entry.style form.entry.path.now form.entry.other.now form.entry.lists cylinder)
+        (V.volume one.old) (U.volume other.old) (W.contents writer.old) (W.contents writer.new)) }
+    ensures kept { V.volume one.new ≡ V.volume one.old }
+    ensures other_kept { U.volume other.new ≡ U.volume other.old }
+    ensures size { length slot.new ≡ length slot.old }
+    ensures other_size { length other_slot.new ≡ length other_slot.old }
+{
+    let geometry = one.geometry();
+    let mut differing: u32 = 0;
+    for head in 0..geometry.model.heads() {
+        let track = geometry.track_at(cylinder, head);
+        if one.load(track, slot).is_err() {
+            return Err(VolumeFault::Store);
+        }
+        if other.load(track, other_slot).is_err() {
+            return Err(VolumeFault::Store);
+        }
+        let address = TrackAddress { cylinder, head };
+        match compare_track(writer, form, address, slot, other_slot) {
+            Ok(found) => differing += found,
+            Err(_) => return Err(VolumeFault::Write),
+        }
+    }
+    Ok(differing)
+}
+
+// The lines of a track; and whether it differs.
+fn compare_track<W: Write>(
+    writer: &mut W,
+    form: Comparison,
+    address: TrackAddress,
+    slot: &[u8],
+    other_slot: &[u8],
+) -> io::Result<u32>
+    ensures number { IfOk result (λ n. n ≡ length (changed slot.now other_slot.now)) }
+    ensures few { IfOk result (λ n. n ≤ 1) }
+    ensures lines { OnOk result (Appends (W.contents writer.old) (W.contents writer.new)
+        (track_lines form.entry.style form.entry.path.now form.entry.other.now form.entry.lists address.cylinder address.head slot.now other_slot.now)) }
+{
+    if slot == other_slot {
+        return Ok(0);
+    }
+    write_listed(writer, form, address, slot, other_slot)?;
+    Ok(1)
+}
+
+// The lines of a track that differs, where each difference has one.
+fn write_listed<W: Write>(
+    writer: &mut W,
+    form: Comparison,
+    address: TrackAddress,
+    slot: &[u8],
+    other_slot: &[u8],
+) -> io::Result<()>
+    ensures { OnOk result (Appends (W.contents writer.old) (W.contents writer.new)
+        (if form.entry.lists then flat_map (difference_line form.entry.style form.entry.path.now form.entry.other.now address.cylinder address.head)
+        (differences_of slot.now other_slot.now (track_of slot.now) (track_of other_slot.now)) else [])) }
+{
+    if form.lists {
+        write_differences(writer, form, address, slot, other_slot)
+    } else {
+        Ok(())
+    }
+}
+
+// The lines of a track that differs.
+fn write_differences<W: Write>(
+    writer: &mut W,
+    form: Comparison,
+    address: TrackAddress,
+    slot: &[u8],
+    other_slot: &[u8],
+) -> io::Result<()>
+    ensures { OnOk result (Appends (W.contents writer.old) (W.contents writer.new)
+        (flat_map (difference_line form.entry.style form.entry.path.now form.entry.other.now address.cylinder address.head)
+        (differences_of slot.now other_slot.now (track_of slot.now) (track_of other_slot.now)))) }
+{
+    match read_slot(slot) {
+        Ok(one) => match read_slot(other_slot) {
+            Ok(other) => compare_readable(writer, form, address, slot, other_slot, &one, &other),
+            Err(fault) => write_difference(
+                writer,
+                form,
+                address,
+                Difference::SecondUnreadable(fault),
+            ),
+        },
+        Err(fault) => match read_slot(other_slot) {
+            Ok(_) => write_difference(writer, form, address, Difference::FirstUnreadable(fault)),
+            Err(_) => {
+                let same = same_length(slot, other_slot);
+                write_difference(writer, form, address, Difference::Unreadable(same))
+            }
+        },
+    }
+}
+
+// A difference as the only one.
+fn write_difference<W: Write>(
+    writer: &mut W,
+    form: Comparison,
+    address: TrackAddress,
+    difference: Difference,
+) -> io::Result<()>
+    ensures { OnOk result (Appends (W.contents writer.old) (W.contents writer.new)
+        (flat_map (difference_line form.entry.style form.entry.path.now form.entry.other.now address.cylinder address.head) (difference ∷ []))) }
+{
+    write_line(writer, form, address, difference)
+}
+
+// The line of a difference.
+fn write_line<W: Write>(
+    writer: &mut W,
+    form: Comparison,
+    address: TrackAddress,
+    difference: Difference,
+) -> io::Result<()>
+    ensures { OnOk result (Appends (W.contents writer.old) (W.contents writer.new)
+        (difference_line form.entry.style form.entry.path.now form.entry.other.now address.cylinder address.head difference)) }
+{
+    let path = form.path;
+    let other = form.other;
+    let TrackAddress { cylinder, head } = address;
+    match form.style {
+        Style::Text => writeln!(writer, "{address} {difference}"),
+        Style::Json => writeln!(
+            writer,
+            "{{\"path\":{path},\"other\":{other},\"cylinder\":{cylinder},\"head\":{head},\"text\":\"{difference}\"}}"
+        ),
+    }
+}
+
+// The line of a difference, unless the two are the same.
+fn write_unless<W: Write>(
+    writer: &mut W,
+    form: Comparison,
+    address: TrackAddress,
+    is_same: bool,
+    difference: Difference,
+) -> io::Result<()>
+    ensures { OnOk result (Appends (W.contents writer.old) (W.contents writer.new)
+        (flat_map (difference_line form.entry.style form.entry.path.now form.entry.other.now address.cylinder address.head) (where_not is_same difference))) }
+{
+    if is_same {
+        Ok(())
+    } else {
+        write_difference(writer, form, address, difference)
+    }
+}
+
+// How many bytes from the first on are the same.
+fn same_length(one: &[u8], other: &[u8]) -> usize
+    ensures { result ≡ same_length one.now other.now }
+{
+    let shorter = one.len().min(other.len());
+    for i in 0..shorter {
+        if one[i] != other[i] {
+            return i;
+        }
+    }
+    shorter
+}
+
+// The lines of two tracks that can be read.
+fn compare_readable<W: Write>(
+    writer: &mut W,
+    form: Comparison,
+    address: TrackAddress,
+    slot: &[u8],
+    other_slot: &[u8],
+    one: &TrackView,
+    other: &TrackView,
+) -> io::Result<()>
+    requires first { track_of slot.now ≡ Ok one.now }
+    requires second { track_of other_slot.now ≡ Ok other.now }
+    ensures { OnOk result (Appends (W.contents writer.old) (W.contents writer.new)
+        (flat_map (difference_line form.entry.style form.entry.path.now form.entry.other.now address.cylinder address.head)
+        (readable_differences slot.now other_slot.now one.now other.now))) }
+{
+    compare_home_addresses(writer, form, address, one, other)?;
+    compare_numbers(writer, form, address, one, other)?;
+    compare_records(writer, form, address, one, other)?;
+    compare_rests(writer, form, address, rest_of(slot), rest_of(other_slot))
+}
+
+// The line of two home addresses that differ.
+fn compare_home_addresses<W: Write>(
+    writer: &mut W,
+    form: Comparison,
+    address: TrackAddress,
+    one: &TrackView,
+    other: &TrackView,
+) -> io::Result<()>
+    ensures { OnOk result (Appends (W.contents writer.old) (W.contents writer.new)
+        (flat_map (difference_line form.entry.style form.entry.path.now form.entry.other.now address.cylinder address.head)
+        (where_not (bytes_eq one.now.home_address other.now.home_address) (Difference.HomeAddress one.now.home_address other.now.home_address)))) }
+{
+    let first = one.ha();
+    let second = other.ha();
+    let difference = Difference::HomeAddress(five(first), five(second));
+    write_unless(writer, form, address, is_equal(first, second), difference)
+}
+
+// The line of two numbers of records that differ.
+fn compare_numbers<W: Write>(
+    writer: &mut W,
+    form: Comparison,
+    address: TrackAddress,
+    one: &TrackView,
+    other: &TrackView,
+) -> io::Result<()>
+    ensures { OnOk result (Appends (W.contents writer.old) (W.contents writer.new)
+        (flat_map (difference_line form.entry.style form.entry.path.now form.entry.other.now address.cylinder address.head)
+        (where_not (length one.now.records == length other.now.records) (Difference.Records (length one.now.records) (length other.now.records))))) }
+{
+    let first = one.len();
+    let second = other.len();
+    let difference = Difference::Records(first, second);
+    write_unless(writer, form, address, first == second, difference)
+}
+
+// Whether bytes are the same.
+fn is_equal(one: &[u8], other: &[u8]) -> bool
+    ensures { result ≡ bytes_eq one.now other.now }
+{
+    one == other
+}
+
+// The lines of the records that both tracks have.
+fn compare_records<W: Write>(
+    writer: &mut W,
+    form: Comparison,
+    address: TrackAddress,
+    one: &TrackView,
+    other: &TrackView,
+) -> io::Result<()>
+    ensures { OnOk result (Appends (W.contents writer.old) (W.contents writer.new)
+        (flat_map (difference_line form.entry.style form.entry.path.now form.entry.other.now address.cylinder address.head)
+        (of_each (λ i. record_differences i (record_in one.now i) (record_in other.now i)) (min (length one.now.records) (length other.now.records))))) }
+{
+    for i in 0..one.len().min(other.len()) {
+        compare_record(writer, form, address, one, other, i)?;
+    }
+    Ok(())
+}
+
+// The lines of two records.
+fn compare_record<W: Write>(
+    writer: &mut W,
+    form: Comparison,
+    address: TrackAddress,
+    one: &TrackView,
+    other: &TrackView,
+    i: usize,
+) -> io::Result<()>
+    requires first { i < length one.now.records }
+    requires second { i < length other.now.records }
+    ensures { OnOk result (Appends (W.contents writer.old) (W.contents writer.new)
+        (flat_map (difference_line form.entry.style form.entry.path.now form.entry.other.now address.cylinder address.head)
+        (record_differences i (record_in one.now i) (record_in other.now i)))) }
+{
+    compare_identifiers(writer, form, address, one, other, i)?;
+    compare_keys(writer, form, address, one, other, i)?;
+    compare_contents(writer, form, address, one, other, i)
+}
+
+// The line of two identifiers that differ.
+fn compare_identifiers<W: Write>(
+    writer: &mut W,
+    form: Comparison,
+    address: TrackAddress,
+    one: &TrackView,
+    other: &TrackView,
+    i: usize,
+) -> io::Result<()>
+    requires first { i < length one.now.records }
+    requires second { i < length other.now.records }
+    ensures { OnOk result (Appends (W.contents writer.old) (W.contents writer.new)
+        (flat_map (difference_line form.entry.style form.entry.path.now form.entry.other.now address.cylinder address.head)
+        (where_not (bytes_eq (record_in one.now i).id (record_in other.now i).id) (Difference.Identifier i (record_in one.now i).id (record_in other.now i).id)))) }
+{
+    let first = identifier(one, i);
+    let second = identifier(other, i);
+    let difference = Difference::Identifier(i, first, second);
+    write_unless(writer, form, address, is_same(first, second), difference)
+}
+
+// The line of two keys that differ.
+fn compare_keys<W: Write>(
+    writer: &mut W,
+    form: Comparison,
+    address: TrackAddress,
+    one: &TrackView,
+    other: &TrackView,
+    i: usize,
+) -> io::Result<()>
+    requires first { i < length one.now.records }
+    requires second { i < length other.now.records }
+    ensures { OnOk result (Appends (W.contents writer.old) (W.contents writer.new)
+        (flat_map (difference_line form.entry.style form.entry.path.now form.entry.other.now address.cylinder address.head)
+        (where_not (bytes_eq (record_in one.now i).key_area (record_in other.now i).key_area) (Difference.Key i (same_length (record_in one.now i).key_area (record_in other.now i).key_area))))) }
+{
+    let first = one.key_of(i);
+    let second = other.key_of(i);
+    let difference = Difference::Key(i, same_length(first, second));
+    write_unless(writer, form, address, is_equal(first, second), difference)
+}
+
+// The line of the data of two records that differ.
+fn compare_contents<W: Write>(
+    writer: &mut W,
+    form: Comparison,
+    address: TrackAddress,
+    one: &TrackView,
+    other: &TrackView,
+    i: usize,
+) -> io::Result<()>
+    requires first { i < length one.now.records }
+    requires second { i < length other.now.records }
+    ensures { OnOk result (Appends (W.contents writer.old) (W.contents writer.new)
+        (flat_map (difference_line form.entry.style form.entry.path.now form.entry.other.now address.cylinder address.head)
+        (where_not (bytes_eq (record_in one.now i).data_area (record_in other.now i).data_area) (Difference.Contents i (same_length (record_in one.now i).data_area (record_in other.now i).data_area))))) }
+{
+    let first = one.data_of(i);
+    let second = other.data_of(i);
+    let difference = Difference::Contents(i, same_length(first, second));
+    write_unless(writer, form, address, is_equal(first, second), difference)
+}
+
+// What stands behind the end mark of a slot.
+fn rest_of(slot: &[u8]) -> &[u8]
+    requires { IsOk (track_of slot.now) }
+    ensures { result.now ≡ drop (end_offset (track_in slot.now) + 8) slot.now }
+{
+    bytes_from(slot, end_offset_of(slot) + 8)
+}
+
+// The line of what stands behind two end marks.
+fn compare_rests<W: Write>(
+    writer: &mut W,
+    form: Comparison,
+    address: TrackAddress,
+    one: &[u8],
+    other: &[u8],
+) -> io::Result<()>
+    ensures { OnOk result (Appends (W.contents writer.old) (W.contents writer.new)
+        (flat_map (difference_line form.entry.style form.entry.path.now form.entry.other.now address.cylinder address.head) (rest_differences one.now other.now))) }
+{
+    let same = same_length(one, other);
+    let shorter = one.len().min(other.len());
+    let difference = Difference::BehindEnd(same);
+    write_unless(writer, form, address, shorter <= same, difference)
+}

@@ -1,0 +1,438 @@
+//! The bytes of tracks, in hexadecimal and in EBCDIC.
+
+ghost use Rattle.std.specs.Prelude.{◌≡◌, ◌+◌, ◌-◌, ◌*◌, ◌<◌, ◌≤◌, ◌++◌, Some, length, OnOk, slice_index};
+ghost use Rattle.std.specs.List.{flat_map};
+ghost use Rattle.std.specs.Io.KnownBytes.{Appends};
+ghost use Rattle.ckd_track.specs.Track.{track_of, record_in};
+ghost use Rattle.dasd_volumes.specs.Reading.{Prints, IsRead};
+ghost use Rattle.dasd_volumes.specs.Lines.{hexadecimal, record_line};
+ghost use Rattle.dasd_archive.specs.Dump.{spaced_text, blanks_text, shown_text, row_line, rows_text, holds, place_text, areas_text, object_text, record_dump, record_text, home_address_line, unreadable_line, track_dump, cylinder_dump, dump_text, IsPartOf};
+
+use crate::reports::{Form, Style};
+use crate::tracks::identifier;
+use ckd_track::{Geometry, SlotFault, TrackView, read_slot};
+use dasd_volumes::{Hexadecimal, Reason, SlotReader, TrackAddress, VolumeFault};
+use std::alloc::Global;
+use std::io::Write;
+use std::{fmt, io};
+use volume_labels::shown_character;
+
+/// The bytes of one line.
+const ROW: usize = 16;
+
+/// The numbers from a first to a last one, which is none where the last is less.
+#[derive(Clone, Copy, Debug, PartialEq, Eq)]
+pub struct Range {
+    /// The first.
+    pub first: u16,
+    /// The last.
+    pub last: u16,
+}
+
+impl Range {
+    /// Whether a number is one of them.
+    pub fn contains(&self, number: u16) -> bool
+        ensures { result ≡ holds self.now number }
+    {
+        self.first <= number && number <= self.last
+    }
+}
+
+/// A part of a volume.
+#[derive(Clone, Copy, Debug, PartialEq, Eq)]
+pub struct Part {
+    /// Its cylinders.
+    pub cylinders: Range,
+    /// The heads on each of them.
+    pub heads: Range,
+    /// The numbers of the records that are shown.
+    pub numbers: Range,
+}
+
+/// Prints the home addresses and the records of a part of a volume, sixteen bytes of a key or of data to a line: the offset of
+/// the first, the bytes in hexadecimal, and their characters in EBCDIC. A track that can't be read is one line, with why.
+///
+/// # Errors
+///
+/// There is no memory for a slot, before anything is printed; or a read or a write fails: what was printed before stays.
+pub fn dump<V: SlotReader, W: Write>(
+    alloc: Global,
+    volume: &mut V,
+    writer: &mut W,
+    form: Form,
+    part: Part,
+) -> Result<(), VolumeFault>
+    requires { IsPartOf part (V.volume volume.old).geometry }
+    ensures lines { OnOk result
+        (Prints (dump_text form.entry.style form.entry.path.now part) (V.volume volume.old) (W.contents writer.old) (W.contents writer.new)) }
+    ensures volume { IsRead result (V.volume volume.old) (V.volume volume.new) (V.failures volume.old) (V.failures volume.new) }
+{
+    let Ok(mut slot) = vec![in alloc; 0u8; volume.geometry().track_size as usize] else {
+        return Err(VolumeFault::OutOfMemory);
+    };
+    if let Err(fault) = dump_cylinders(volume, writer, form, part, slot.as_mut_slice()) {
+        return Err(fault);
+    }
+    match writer.flush() {
+        Ok(()) => Ok(()),
+        Err(_) => Err(VolumeFault::Write),
+    }
+}
+
+// The cylinders of a part, each of whose tracks is loaded into the slot.
+fn dump_cylinders<V: SlotReader, W: Write>(
+    volume: &mut V,
+    writer: &mut W,
+    form: Form,
+    part: Part,
+    slot: &mut [u8],
+) -> Result<(), VolumeFault>
+    requires part { IsPartOf part (V.volume volume.old).geometry }
+    requires size { length slot.old ≡ (V.volume volume.old).geometry.track_size }
+    ensures lines { OnOk result
+        (Prints (dump_text form.entry.style form.entry.path.now part) (V.volume volume.old) (W.contents writer.old) (W.contents writer.new)) }
+    ensures volume { IsRead result (V.volume volume.old) (V.volume volume.new) (V.failures volume.old) (V.failures volume.new) }
+{
+    let cylinders = volume.geometry().cylinders;
+    prove!(part.cylinders.last < cylinders);
+    for i in 0..part.cylinders.last + 1 - part.cylinders.first {
+        let cylinder = part.cylinders.first + i;
+        if let Err(fault) = dump_cylinder(volume, writer, form, part, cylinder, slot) {
+            return Err(fault);
+        }
+    }
+    Ok(())
+}
+
+// The tracks of a part on one cylinder, each of which is loaded into the slot.
+fn dump_cylinder<V: SlotReader, W: Write>(
+    volume: &mut V,
+    writer: &mut W,
+    form: Form,
+    part: Part,
+    cylinder: u16,
+    slot: &mut [u8],
+) -> Result<(), VolumeFault>
+    requires part { IsPartOf part (V.volume volume.old).geometry }
+    requires exists { cylinder < (V.volume volume.old).geometry.cylinders }
+    requires size { length slot.old ≡ (V.volume volume.old).geometry.track_size }
+    ensures lines { OnOk result
+        (Prints (cylinder_dump form.entry.style form.entry.path.now part cylinder) (V.volume volume.old) (W.contents writer.old) (W.contents writer.new)) }
+    ensures volume { IsRead result (V.volume volume.old) (V.volume volume.new) (V.failures volume.old) (V.failures volume.new) }
+    ensures size { length slot.new ≡ length slot.old }
+{
+    let geometry = volume.geometry();
+    for i in 0..part.heads.last + 1 - part.heads.first {
+        let head = part.heads.first + i;
+        if volume
+            .load(geometry.track_at(cylinder, head), slot)
+            .is_err()
+        {
+            return Err(VolumeFault::Store);
+        }
+        let address = TrackAddress { cylinder, head };
+        if dump_track(writer, form, address, part.numbers, slot).is_err() {
+            return Err(VolumeFault::Write);
+        }
+    }
+    Ok(())
+}
+
+// The lines of one track.
+fn dump_track<W: Write>(
+    writer: &mut W,
+    form: Form,
+    address: TrackAddress,
+    numbers: Range,
+    slot: &[u8],
+) -> io::Result<()>
+    ensures { OnOk result (Appends (W.contents writer.old) (W.contents writer.new)
+        (track_dump form.entry.style form.entry.path.now address.cylinder address.head numbers (track_of slot.now))) }
+{
+    match read_slot(slot) {
+        Ok(track) => dump_readable(writer, form, address, numbers, &track),
+        Err(fault) => dump_unreadable(writer, form, address, fault),
+    }
+}
+
+// The line of a track that can't be read.
+fn dump_unreadable<W: Write>(
+    writer: &mut W,
+    form: Form,
+    address: TrackAddress,
+    fault: SlotFault,
+) -> io::Result<()>
+    ensures { OnOk result (Appends (W.contents writer.old) (W.contents writer.new)
+        (unreadable_line form.entry.style form.entry.path.now address.cylinder address.head fault)) }
+{
+    let path = form.path;
+    let TrackAddress { cylinder, head } = address;
+    match form.style {
+        Style::Text => writeln!(writer, "{address} unreadable {}", Reason(fault)),
+        Style::Json => writeln!(
+            writer,
+            "{{\"path\":{path},\"cylinder\":{cylinder},\"head\":{head},\"unreadable\":\"{}\"}}",
+            Reason(fault)
+        ),
+    }
+}
+
+// The lines of a track that can be read.
+fn dump_readable<W: Write>(
+    writer: &mut W,
+    form: Form,
+    address: TrackAddress,
+    numbers: Range,
+    track: &TrackView,
+) -> io::Result<()>
+    ensures { OnOk result (Appends (W.contents writer.old) (W.contents writer.new)
+        (home_address_line form.entry.style form.entry.path.now address.cylinder address.head track.now.home_address
+        ++ flat_map (record_text form.entry.style form.entry.path.now address.cylinder address.head numbers) track.now.records)) }
+{
+    dump_home_address(writer, form, address, track)?;
+    for i in 0..track.len() {
+        dump_asked(writer, form, address, numbers, track, i)?;
+    }
+    Ok(())
+}
+
+// The line of a home address.
+fn dump_home_address<W: Write>(
+    writer: &mut W,
+    form: Form,
+    address: TrackAddress,
+    track: &TrackView,
+) -> io::Result<()>
+    ensures { OnOk result (Appends (W.contents writer.old) (W.contents writer.new)
+        (home_address_line form.entry.style form.entry.path.now address.cylinder address.head track.now.home_address)) }
+{
+    let path = form.path;
+    let TrackAddress { cylinder, head } = address;
+    let home_address = Hexadecimal(track.ha());
+    match form.style {
+        Style::Text => writeln!(writer, "{address} HA {home_address}"),
+        Style::Json => writeln!(
+            writer,
+            "{{\"path\":{path},\"cylinder\":{cylinder},\"head\":{head},\"home_address\":\"{home_address}\"}}"
+        ),
+    }
+}
+
+// The number of a record.
+fn number_of(track: &TrackView, i: usize) -> u8
+    requires { i < length track.now.records }
+    ensures { result ≡ slice_index (record_in track.now i).id 4 }
+{
+    track.count_of(i)[4]
+}
+
+// The lines of a record whose number is asked for.
+fn dump_asked<W: Write>(
+    writer: &mut W,
+    form: Form,
+    address: TrackAddress,
+    numbers: Range,
+    track: &TrackView,
+    i: usize,
+) -> io::Result<()>
+    requires { i < length track.now.records }
+    ensures { OnOk result (Appends (W.contents writer.old) (W.contents writer.new)
+        (record_text form.entry.style form.entry.path.now address.cylinder address.head numbers (record_in track.now i))) }
+{
+    if numbers.contains(u16::from(number_of(track, i))) {
+        dump_record(writer, form, address, track, i)
+    } else {
+        Ok(())
+    }
+}
+
+// The lines of a record.
+fn dump_record<W: Write>(
+    writer: &mut W,
+    form: Form,
+    address: TrackAddress,
+    track: &TrackView,
+    i: usize,
+) -> io::Result<()>
+    requires { i < length track.now.records }
+    ensures { OnOk result (Appends (W.contents writer.old) (W.contents writer.new)
+        (record_dump form.entry.style form.entry.path.now address.cylinder address.head (record_in track.now i))) }
+{
+    match form.style {
+        Style::Text => {
+            dump_count(writer, track, i)?;
+            dump_rows(writer, "K", track.key_of(i))?;
+            dump_rows(writer, "D", track.data_of(i))
+        }
+        Style::Json => dump_object(writer, form.path, address, track, i),
+    }
+}
+
+// A record as an object.
+fn dump_object<W: Write>(
+    writer: &mut W,
+    path: &str,
+    address: TrackAddress,
+    track: &TrackView,
+    i: usize,
+) -> io::Result<()>
+    requires { i < length track.now.records }
+    ensures { OnOk result (Appends (W.contents writer.old) (W.contents writer.new)
+        (record_dump Style.Json path.now address.cylinder address.head (record_in track.now i))) }
+{
+    let identifier = identifier(track, i);
+    write_object(
+        writer,
+        path,
+        address,
+        identifier,
+        track.key_of(i),
+        track.data_of(i),
+    )
+}
+
+// An identifier, a key and data as an object.
+fn write_object<W: Write>(
+    writer: &mut W,
+    path: &str,
+    address: TrackAddress,
+    identifier: [u8; 5],
+    key: &[u8],
+    body: &[u8],
+) -> io::Result<()>
+    ensures { OnOk result (Appends (W.contents writer.old) (W.contents writer.new)
+        (object_text path.now address.cylinder address.head identifier key.now body.now)) }
+{
+    write_place(writer, path, address)?;
+    write_areas(writer, &identifier, key, body)
+}
+
+// How an object of a track begins.
+fn write_place<W: Write>(writer: &mut W, path: &str, address: TrackAddress) -> io::Result<()>
+    ensures { OnOk result (Appends (W.contents writer.old) (W.contents writer.new)
+        (place_text path.now address.cylinder address.head)) }
+{
+    let TrackAddress { cylinder, head } = address;
+    write!(
+        writer,
+        "{{\"path\":{path},\"cylinder\":{cylinder},\"head\":{head}"
+    )
+}
+
+// How an object of a record ends.
+fn write_areas<W: Write>(
+    writer: &mut W,
+    identifier: &[u8],
+    key: &[u8],
+    body: &[u8],
+) -> io::Result<()>
+    ensures { OnOk result (Appends (W.contents writer.old) (W.contents writer.new)
+        (areas_text identifier.now key.now body.now)) }
+{
+    let identifier = Hexadecimal(identifier);
+    let key = Hexadecimal(key);
+    let body = Hexadecimal(body);
+    writeln!(
+        writer,
+        ",\"identifier\":\"{identifier}\",\"key\":\"{key}\",\"data\":\"{body}\"}}"
+    )
+}
+
+// The line of a record's identifier and lengths.
+fn dump_count<W: Write>(writer: &mut W, track: &TrackView, i: usize) -> io::Result<()>
+    requires { i < length track.now.records }
+    ensures { OnOk result (Appends (W.contents writer.old) (W.contents writer.new) (record_line (record_in track.now i))) }
+{
+    let identifier = Hexadecimal(&track.count_of(i)[..5]);
+    let key_length = track.key_of(i).len();
+    let data_length = track.data_of(i).len();
+    writeln!(writer, "  {identifier} KL {key_length} DL {data_length}")
+}
+
+// Bytes, sixteen to a line.
+fn dump_rows<W: Write>(writer: &mut W, letter: &str, bytes: &[u8]) -> io::Result<()>
+    requires { length bytes.now < 65536 }
+    ensures { OnOk result (Appends (W.contents writer.old) (W.contents writer.new) (rows_text letter.now bytes.now)) }
+{
+    for i in 0..(bytes.len() + 15) / ROW {
+        dump_row(writer, letter, bytes, i)?;
+    }
+    Ok(())
+}
+
+// A line of at most sixteen bytes.
+fn dump_row<W: Write>(writer: &mut W, letter: &str, bytes: &[u8], i: usize) -> io::Result<()>
+    requires { 16 * i < length bytes.now }
+    ensures { OnOk result (Appends (W.contents writer.old) (W.contents writer.new) (row_line letter.now bytes.now i)) }
+{
+    let from = ROW * i;
+    let to = (from + ROW).min(bytes.len());
+    let row = &bytes[from..to];
+    let spaced = Spaced(row);
+    let blanks = Blanks(ROW - row.len());
+    let shown = Shown(row);
+    writeln!(
+        writer,
+        "    {letter} {}  {spaced}{blanks} {shown}",
+        Offset(from)
+    )
+}
+
+// An offset in six hexadecimal digits.
+#[derive(Clone, Copy)]
+struct Offset(usize);
+
+impl fmt::Display for Offset {
+    ghost output = { λ o. Some (hexadecimal 6 o.0) };
+
+    fn fmt<W: fmt::Write>(&self, f: &mut fmt::Formatter<W>) -> fmt::Result {
+        let offset = self.0;
+        write!(f, "{offset:06X}")
+    }
+}
+
+// Bytes in hexadecimal digits, each with a blank behind it.
+#[derive(Clone, Copy)]
+struct Spaced<'a>(&'a [u8]);
+
+impl fmt::Display for Spaced<'_> {
+    ghost output = { λ s. Some (spaced_text s.0.now) };
+
+    fn fmt<W: fmt::Write>(&self, f: &mut fmt::Formatter<W>) -> fmt::Result {
+        for byte in self.0 {
+            let byte = *byte;
+            write!(f, "{byte:02X} ")?;
+        }
+        Ok(())
+    }
+}
+
+// The place of so many bytes that are not there.
+#[derive(Clone, Copy)]
+struct Blanks(usize);
+
+impl fmt::Display for Blanks {
+    ghost output = { λ b. Some (blanks_text b.0) };
+
+    fn fmt<W: fmt::Write>(&self, f: &mut fmt::Formatter<W>) -> fmt::Result {
+        for i in 0..self.0 {
+            f.write_str("   ")?;
+        }
+        Ok(())
+    }
+}
+
+// Bytes as characters of EBCDIC.
+#[derive(Clone, Copy)]
+struct Shown<'a>(&'a [u8]);
+
+impl fmt::Display for Shown<'_> {
+    ghost output = { λ s. Some (shown_text s.0.now) };
+
+    fn fmt<W: fmt::Write>(&self, f: &mut fmt::Formatter<W>) -> fmt::Result {
+        for byte in self.0 {
+            f.write_char(char::from(shown_character(*byte)))?;
+        }
+        Ok(())
+    }
+}

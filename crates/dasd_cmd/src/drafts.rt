@@ -1,0 +1,217 @@
+//! New files, which are written beside the old ones.
+
+ghost use Rattle.std.specs.Prelude.{◌≡◌, [], length, IfOk};
+
+use crate::host::wrong;
+use ckd_image::{ImageStore, StoreFault};
+use ghost_data::{Count, Trace};
+use std::fs::{self, File, Metadata, OpenOptions, Permissions};
+use std::io::{Error, ErrorKind, Write};
+use std::os::unix::fs::{MetadataExt, OpenOptionsExt, PermissionsExt, fchown};
+use std::path::{Path, PathBuf};
+use std::{io, process};
+
+/// How many names are tried for a new file.
+const NAMES: u32 = 1_000;
+
+/// The bits of a mode that are kept.
+const MODE: u32 = 0o7777;
+
+/// The file that is replaced: its path without symbolic links, and what was known of it as it was locked.
+#[derive(Drop)]
+pub(crate) struct Old {
+    pub(crate) path: PathBuf,
+    pub(crate) known: Metadata,
+}
+
+/// A new file that is written beside the one that it replaces, under a name of its own, and then takes its place. Where that does
+/// not come about it is removed.
+pub(crate) struct HostDraft<'a> {
+    host: &'a HostRuntime,
+    file: File,
+    /// Where it is written.
+    beside: PathBuf,
+    /// The path as it was given.
+    given: String,
+    old: Option<Old>,
+    written: Trace,
+    refused: Count,
+    len: u64,
+    is_put: bool,
+    ghost is_len: { length written.bytes ≡ len },
+}
+
+impl Drop for HostDraft<'_> {
+    fn drop(self) {
+        if !self.is_put {
+            let _ = fs::remove_file(self.host, self.beside.as_str());
+        }
+        let HostDraft {
+            host: _,
+            file: _,
+            beside: _,
+            given: _,
+            old: _,
+            written: _,
+            refused: _,
+            len: _,
+            is_put: _,
+        } = self;
+    }
+}
+
+impl<'a> HostDraft<'a> {
+    /// Begins a file without bytes, with mode and owner of the old one.
+    pub(crate) fn begin(
+        host: &'a HostRuntime,
+        path: &str,
+        old: Option<Old>,
+    ) -> io::Result<HostDraft<'a>>
+        ensures { IfOk result (λ draft. draft.written.bytes ≡ []) }
+    {
+        let given = path.to_string(host.alloc())?;
+        let (file, beside) = match &old {
+            Some(old) => create_beside(host, old.path.as_path(), 0o600)?,
+            None => create_beside(host, Path::new(path), 0o666)?,
+        };
+        let draft = HostDraft {
+            host,
+            file,
+            beside,
+            given,
+            old,
+            written: Trace::new(),
+            refused: Count::new(),
+            len: 0,
+            is_put: false,
+        };
+        if let Some(old) = &draft.old {
+            keep_owner(&draft.file, &old.known)?;
+        }
+        Ok(draft)
+    }
+
+    /// What was written, which contracts alone read.
+    pub(crate) fn trace(&self) -> &Trace
+        ensures { result.now ≡ self.now.written }
+    {
+        &self.written
+    }
+
+    /// Which file it replaces: its device and its number there.
+    pub(crate) fn old_node(&self) -> Option<(u64, u64)> {
+        let old = self.old.as_ref()?;
+        Some((old.known.dev(), old.known.ino()))
+    }
+
+    /// Takes the place of the old file, if that is still there, or of none.
+    pub(crate) fn put(self, path: &str) -> io::Result<()> {
+        let mut draft = self;
+        draft.move_to(path)?;
+        draft.is_put = true;
+        Ok(())
+    }
+
+    // Has the file on the disk, and gives it its name.
+    fn move_to(&self, path: &str) -> io::Result<()> {
+        if self.given.as_str() != path {
+            return Err(wrong("it was begun for another path"));
+        }
+        self.file.sync_all()?;
+        match &self.old {
+            Some(old) => {
+                let there = fs::metadata(self.host, old.path.as_str())?;
+                if there.dev() != old.known.dev() || there.ino() != old.known.ino() {
+                    return Err(wrong("another program has replaced it"));
+                }
+                rename(self.host, self.beside.as_str(), old.path.as_str())
+            }
+            None => rename(self.host, self.beside.as_str(), path),
+        }
+    }
+}
+
+impl ImageStore for HostDraft<'_> {
+    ghost content = { λ d. d.written.bytes };
+
+    ghost failures = { λ d. d.refused };
+
+    fn len(&self) -> u64 {
+        self.len
+    }
+
+    // A file that is written is not read.
+    fn read_at(&mut self, _at: u64, _into: &mut [u8]) -> Result<(), StoreFault> {
+        self.refused = self.refused.next();
+        Err(StoreFault)
+    }
+
+    // Bytes are written at its end alone.
+    #[tactic(auto, using(crate::proofs::Behind::written_behind))]
+    fn write_at(&mut self, at: u64, bytes: &[u8]) -> Result<(), StoreFault> {
+        let end = self.len.checked_add(bytes.len() as u64);
+        match end {
+            Some(end) if at == self.len && self.file.write_all(bytes).is_ok() => {
+                self.written = self.written.and(bytes);
+                self.len = end;
+                Ok(())
+            }
+            _ => {
+                self.refused = self.refused.next();
+                Err(StoreFault)
+            }
+        }
+    }
+}
+
+// Makes a file in the folder of a path, where nothing stands.
+fn create_beside(host: &HostRuntime, path: Path<'_>, mode: u32) -> io::Result<(File, PathBuf)> {
+    let folder = folder_of(path);
+    let number = process::id(host.process());
+    for turn in 0..NAMES {
+        let name = format!(in host.alloc(); ".dasd-{number}-{turn}")?;
+        let beside = folder.join(host.alloc(), name.as_str())?;
+        let made = OpenOptions::new()
+            .write(true)
+            .create_new(true)
+            .mode(mode)
+            .open(host, beside.as_str());
+        match made {
+            Ok(file) => return Ok((file, beside)),
+            Err(fault) if fault.kind() == ErrorKind::AlreadyExists => {}
+            Err(fault) => return Err(fault),
+        }
+    }
+    Err(Error::from(ErrorKind::AlreadyExists))
+}
+
+// The folder of a path.
+fn folder_of(path: Path<'_>) -> Path<'_> {
+    match path.parent() {
+        Some(folder) if !folder.as_str().is_empty() => folder,
+        _ => Path::new("."),
+    }
+}
+
+// Gives a file the owner and the mode of another; the owner first, since that takes bits of the mode away.
+fn keep_owner(file: &File, old: &Metadata) -> io::Result<()> {
+    let new = file.metadata()?;
+    if new.uid() != old.uid() || new.gid() != old.gid() {
+        fchown(file, Some(old.uid()), Some(old.gid()))?;
+    }
+    file.set_permissions(Permissions::from_mode(old.mode() & MODE))
+}
+
+// Gives a file another name, and has that on the disk.
+fn rename(host: &HostRuntime, from: &str, to: &str) -> io::Result<()> {
+    fs::rename(host, from, to)?;
+    sync_folder(host, Path::new(to));
+    Ok(())
+}
+
+// Has a folder's names written to the disk, as far as the host does that.
+fn sync_folder(host: &HostRuntime, path: Path<'_>) {
+    if let Ok(folder) = File::open(host, folder_of(path).as_str()) {
+        let _ = folder.sync_all();
+    }
+}

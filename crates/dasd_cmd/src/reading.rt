@@ -1,0 +1,121 @@
+//! Files of the host that are read.
+
+ghost use Rattle.std.specs.Prelude.{◌≡◌, ◌≤◌, length, IfOk, OnOk, OnErr};
+
+use crate::host::wrong;
+use ckd_image::StoreFault;
+use dasd_jobs::{OpenedFile, is_header};
+use std::fs::{self, File};
+use std::io;
+use std::io::{ErrorKind, Read};
+use std::os::unix::fs::FileExt;
+
+/// The bytes of a header, by which a pipe is judged before it is read on.
+const HEADER: usize = 512;
+
+/// How many bytes are read at once.
+const PIECE: usize = 4_096;
+
+/// A file that is read in place, or what was read of a pipe or of a device.
+#[derive(Drop)]
+pub(crate) enum HostFile {
+    /// A regular file of this length.
+    Regular(File, u64),
+    /// All that a pipe gave; of one that begins no image only the beginning.
+    Read(Vec<u8>),
+}
+
+impl HostFile {
+    /// Opens a file to be read.
+    pub(crate) fn open(host: &HostRuntime, path: &str) -> io::Result<HostFile> {
+        let mut file = File::open(host, path)?;
+        let known = file.metadata()?;
+        if known.is_file() {
+            return Ok(HostFile::of(file, known.len()));
+        }
+        let mut bytes = Vec::new(host.alloc());
+        read_up_to(&mut file, &mut bytes, HEADER)?;
+        if is_header(bytes.as_slice()) {
+            read_up_to(&mut file, &mut bytes, usize::MAX)?;
+        }
+        Ok(HostFile::Read(bytes))
+    }
+
+    /// A regular file of this length.
+    pub(crate) fn of(file: File, len: u64) -> HostFile {
+        HostFile::Regular(file, len)
+    }
+}
+
+impl OpenedFile for HostFile {
+    fn len(&self) -> u64 {
+        match self {
+            HostFile::Regular(_, len) => *len,
+            HostFile::Read(bytes) => bytes.len() as u64,
+        }
+    }
+
+    fn read_at(&mut self, at: u64, into: &mut [u8]) -> Result<(), StoreFault> {
+        match self {
+            HostFile::Regular(file, _) => file.read_exact_at(into, at).map_err(|_| StoreFault),
+            HostFile::Read(bytes) => copy_at(bytes.as_slice(), at, into),
+        }
+    }
+}
+
+// Copies the bytes from `at` on that fill `into`.
+fn copy_at(bytes: &[u8], at: u64, into: &mut [u8]) -> Result<(), StoreFault> {
+    let Ok(at) = usize::try_from(at) else {
+        return Err(StoreFault);
+    };
+    let behind = bytes.get(at..).unwrap_or(&[]);
+    match behind.get(..into.len()) {
+        Some(found) => {
+            into.copy_from_slice(found);
+            Ok(())
+        }
+        None => Err(StoreFault),
+    }
+}
+
+/// The bytes of a file, at most so many.
+pub(crate) fn read_some(host: &HostRuntime, path: &str, most: usize) -> io::Result<Vec<u8>>
+    ensures { IfOk result (λ bytes. length bytes.items ≤ most) }
+{
+    let mut file = fs::open(host, path)?;
+    let mut bytes = Vec::new(host.alloc());
+    read_up_to(&mut file, &mut bytes, most)?;
+    Ok(bytes)
+}
+
+// Reads on until there are so many bytes, or no more.
+fn read_up_to(file: &mut File, bytes: &mut Vec<u8>, most: usize) -> io::Result<()>
+    requires { length bytes.old.items ≤ most }
+    ensures { length bytes.new.items ≤ most }
+{
+    let mut piece = [0; PIECE];
+    for _ in 0..u64::MAX {
+        let room = (most - bytes.len()).min(PIECE);
+        let count = read_piece(file, &mut piece[..room])?;
+        if count == 0 {
+            break;
+        }
+        bytes.extend_from_slice(&piece[..count])?;
+    }
+    Ok(())
+}
+
+// One read, which a signal does not end.
+fn read_piece(file: &mut File, piece: &mut [u8]) -> io::Result<usize>
+    ensures count { IfOk result (λ count. count ≤ length piece.old) }
+    ensures size { length piece.new ≡ length piece.old }
+{
+    for _ in 0..u64::MAX {
+        match file.read(piece) {
+            Ok(count) => return Ok(count),
+            Err(fault) if fault.kind() == ErrorKind::Interrupted => {}
+            Err(fault) => return Err(fault),
+        }
+    }
+    Ok(0)
+}

@@ -1,0 +1,21 @@
+-- Which fault of a job comes of which fault of a file.
+use Rattle.dasd_jobs.specs.declared.files.FileFault.{FileFault}
+use Rattle.dasd_jobs.specs.declared.files.FileFault.TheVariants as file
+use Rattle.dasd_jobs.specs.declared.faults.JobFault.{JobFault}
+use Rattle.dasd_jobs.specs.declared.faults.JobFault.TheVariants as job
+
+-- of a file that is opened or read
+abbrev pub reading_fault : FileFault → JobFault
+reading_fault file.OutOfMemory = job.OutOfMemory
+reading_fault file.Refused = job.Read
+reading_fault file.InUse = job.InUse
+reading_fault file.Twice = job.InUse
+reading_fault file.Exists = job.Exists
+
+-- of a file that is made or replaced
+abbrev pub writing_fault : FileFault → JobFault
+writing_fault file.OutOfMemory = job.OutOfMemory
+writing_fault file.Refused = job.Write
+writing_fault file.InUse = job.InUse
+writing_fault file.Twice = job.InUse
+writing_fault file.Exists = job.Exists

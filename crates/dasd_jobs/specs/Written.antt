@@ -1,0 +1,36 @@
+-- Files that were written.
+use Rattle.std.specs.Prelude.{◌≡◌, ◌⊎◌, ℕ, List, [], ◌∷◌, ◌++◌, Result, Ok, Err}
+use Rattle.ckd_track.specs.declared.model.DriveModel.{DriveModel}
+use Rattle.ckd_track.specs.Geometry.{new_geometry}
+use Rattle.ckd_image.specs.Image.{new_file}
+use Rattle.dasd_jobs.specs.declared.faults.JobFault.{JobFault}
+use Rattle.dasd_jobs.specs.declared.faults.JobFault.TheVariants.{Write}
+
+-- a file that was made, or replaced whole: its path and all its bytes
+pub record Replaced : Type 0 where
+  pub path : List ℕ
+  pub bytes : List ℕ
+
+-- these files, and one more behind them
+abbrev pub with_file : List Replaced → (path bytes : List ℕ) → List Replaced
+with_file written path bytes = written ++ record { path = path; bytes = bytes } ∷ []
+
+-- the files with that of a new volume behind them
+abbrev pub with_new : List Replaced → (path : List ℕ) → DriveModel → (cylinders : ℕ) → List Replaced
+with_new before path model cylinders = with_file before path (new_file (new_geometry model cylinders))
+
+-- the new image of a volume was put at its path, or nothing was
+abbrev pub WritesNew : {A : Type 0} → Result A JobFault → (path : List ℕ) → DriveModel → (cylinders : ℕ) → (before now : List Replaced) → Type 0
+WritesNew (Ok _) path model cylinders before now = now ≡ with_new before path model cylinders
+WritesNew (Err _) path model cylinders before now = now ≡ before
+
+-- a format is done where the new image is at its path; with a write fault it may be, where only the line was not written; with
+-- every other fault nothing is
+abbrev pub Formats : {A : Type 0} → Result A JobFault → (path : List ℕ) → DriveModel → (cylinders : ℕ) → (before now : List Replaced) → Type 0
+Formats (Ok _) path model cylinders before now = now ≡ with_new before path model cylinders
+Formats (Err fault) path model cylinders before now = (now ≡ before) ⊎ ((fault ≡ Write) × (now ≡ with_new before path model cylinders))
+
+-- a file of these bytes was put at a path, or nothing was
+abbrev pub WritesFile : {A : Type 0} → Result A JobFault → (path bytes : List ℕ) → (before now : List Replaced) → Type 0
+WritesFile (Ok _) path bytes before now = now ≡ with_file before path bytes
+WritesFile (Err _) path bytes before now = now ≡ before

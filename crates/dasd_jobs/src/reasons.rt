@@ -1,0 +1,189 @@
+//! Why files hold no image, in more words than the fault's one line.
+
+ghost use Rattle.std.specs.Prelude.{◌≡◌};
+
+use crate::files::ImageFiles;
+use crate::headers::{HEADER, is_header};
+use ckd_image::MountFault;
+use std::fmt;
+
+/// The header of a file, and the file's length. Of a file that is shorter than a header it has zeros.
+#[derive(Clone, Copy)]
+pub(crate) struct Head {
+    pub(crate) header: [u8; HEADER],
+    pub(crate) len: u64,
+}
+
+impl Head {
+    /// The file's number among those of its image; 0 and 1 are an only file's too.
+    fn sequence(&self) -> u8 {
+        self.header[17]
+    }
+
+    /// The last cylinder in a file that is not the last; else 0.
+    fn highest(&self) -> u16 {
+        u16::from_le_bytes([self.header[18], self.header[19]])
+    }
+
+    /// The bytes of a cylinder, and the device type.
+    fn layout(&self) -> (u64, u8) {
+        let heads = u32::from_le_bytes([
+            self.header[8],
+            self.header[9],
+            self.header[10],
+            self.header[11],
+        ]);
+        let size = u32::from_le_bytes([
+            self.header[12],
+            self.header[13],
+            self.header[14],
+            self.header[15],
+        ]);
+        (u64::from(heads) * u64::from(size), self.header[16])
+    }
+}
+
+/// Why a file is not one of those that it was named with.
+#[derive(Clone, Copy, Debug, PartialEq, Eq)]
+enum Reason {
+    /// What a fault that lies in this file alone says.
+    Fault(MountFault),
+    /// It is named alone, and others follow it.
+    OthersFollow(u16),
+    /// It is named alone, and has a number behind the first.
+    Number(u8),
+    /// Its number is not that of its place.
+    Place(u8, usize),
+    /// Its drive or its track size is not that of the first file.
+    OtherDrive,
+    /// Others follow it, and this is its highest cylinder.
+    Highest(u16, usize),
+    /// None follows it, and this is its highest cylinder.
+    NoneFollows(u16),
+    /// A file of this length does not end behind a cylinder.
+    Length(u64),
+}
+
+impl fmt::Display for Reason {
+    fn fmt<W: fmt::Write>(&self, f: &mut fmt::Formatter<W>) -> fmt::Result {
+        match self {
+            Reason::Fault(fault) => write!(f, "{fault}"),
+            Reason::OthersFollow(highest) => {
+                write!(
+                    f,
+                    "it ends with cylinder {highest}, and the files behind it are not named"
+                )
+            }
+            Reason::Number(number) => write!(
+                f,
+                "it is file {number} of an image, and is named alone"
+            ),
+            Reason::Place(number, place) => {
+                write!(
+                    f,
+                    "it is named as file {place} and bears the number {number}"
+                )
+            }
+            Reason::OtherDrive => write!(
+                f,
+                "its drive or track size is not that of the first file"
+            ),
+            Reason::Highest(highest, behind) => {
+                write!(
+                    f,
+                    "its highest cylinder is {highest}, and {behind} more follow"
+                )
+            }
+            Reason::NoneFollows(highest) => {
+                write!(f, "its highest cylinder is {highest}, and no file follows")
+            }
+            Reason::Length(len) => write!(f, "its length is {len} bytes"),
+        }
+    }
+}
+
+/// A file, and why it is not as it must be.
+#[derive(Clone, Copy, Debug)]
+struct Remark<'a> {
+    path: &'a str,
+    reason: Reason,
+}
+
+impl fmt::Display for Remark<'_> {
+    fn fmt<W: fmt::Write>(&self, f: &mut fmt::Formatter<W>) -> fmt::Result {
+        let path = self.path;
+        let reason = self.reason;
+        write!(f, "{path}: {reason}")
+    }
+}
+
+/// Says which of these files is not as it must be, and why, where that can be told of one.
+pub(crate) fn remark_on<F: ImageFiles>(
+    files: &mut F,
+    paths: &[&str],
+    heads: &[Head],
+    fault: MountFault,
+)
+    ensures { F.written files.new ≡ F.written files.old }
+{
+    if let Some(remark) = remark_of(paths, heads, fault) {
+        files.remark(&remark);
+    }
+}
+
+// The first of these files that is not as it must be.
+fn remark_of<'a>(paths: &[&'a str], heads: &[Head], fault: MountFault) -> Option<Remark<'a>> {
+    let mut before = None;
+    for (place, (path, head)) in paths.iter().zip(heads).enumerate() {
+        let reason = match fault {
+            MountFault::Split => reason_of_split(heads, place, head, before),
+            MountFault::Length => reason_of_length(head),
+            fault => (!is_header(&head.header)).then_some(Reason::Fault(fault)),
+        };
+        if let Some(reason) = reason {
+            return Some(Remark { path, reason });
+        }
+        before = Some(*head);
+    }
+    None
+}
+
+// Why the file at this place is not one of these.
+fn reason_of_split(
+    heads: &[Head],
+    place: usize,
+    head: &Head,
+    before: Option<Head>,
+) -> Option<Reason> {
+    let (number, highest) = (head.sequence(), head.highest());
+    let behind = heads.len().saturating_sub(place).saturating_sub(1);
+    if heads.len() == 1 {
+        return match (number, highest) {
+            (0 | 1, 0) => None,
+            (0 | 1, highest) => Some(Reason::OthersFollow(highest)),
+            (number, _) => Some(Reason::Number(number)),
+        };
+    }
+    if usize::from(number) != place.saturating_add(1) {
+        return Some(Reason::Place(number, place.saturating_add(1)));
+    }
+    if heads
+        .first()
+        .is_some_and(|first| first.layout() != head.layout())
+    {
+        return Some(Reason::OtherDrive);
+    }
+    if behind == 0 {
+        return (highest != 0).then_some(Reason::NoneFollows(highest));
+    }
+    let least = before.map_or(0, |before| before.highest());
+    (highest <= least).then_some(Reason::Highest(highest, behind))
+}
+
+// Why a file of this length is none of an image, where it does not end behind a cylinder.
+fn reason_of_length(head: &Head) -> Option<Reason> {
+    let (cylinder, _) = head.layout();
+    let slots = head.len.saturating_sub(HEADER as u64);
+    let is_whole = slots > 0 && slots.checked_rem(cylinder) == Some(0);
+    (!is_whole).then_some(Reason::Length(head.len))
+}

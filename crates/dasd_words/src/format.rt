@@ -1,0 +1,59 @@
+//! The words of `dasd format`.
+
+use crate::commands::{NO_PATH, wrong};
+use crate::requests::{Request, WordFault};
+use crate::volumes::read_model;
+use ckd_track::DriveModel;
+use clap::{Arg, ArgAction, ArgMatches, Command};
+use std::alloc::{AllocError, Global};
+
+/// The number of cylinders without the word for it.
+const CYLINDERS: u16 = 203;
+
+/// The command, with its options.
+pub(crate) fn command<'a>(alloc: Global) -> Result<Command<'a>, AllocError> {
+    let path = Arg::new(alloc, "PATH").required(true).help(
+        "the image file, which is made, or replaced if it is there",
+    );
+    let model = Arg::new(alloc, "model")
+        .long("model")
+        .value_name("M")
+        .default_value("2311")
+        .value_parser(["2311", "2314"].as_slice())
+        .help("the drive");
+    let cylinders = Arg::new(alloc, "cylinders")
+        .long("cylinders")
+        .value_name("N")
+        .default_value("203")
+        .value_parser(clap::value_parser!(u16).range(1..))
+        .help("the number of cylinders");
+    let keeps = Arg::new(alloc, "no-replace")
+        .long("no-replace")
+        .action(ArgAction::SetTrue)
+        .help("refuses to replace a file");
+    Command::new(alloc, "format")
+        .about("Writes a new image")
+        .after_help("Example: dasd format work.ckd --model 2314 --cylinders 10")
+        .arg(path)?
+        .arg(model)?
+        .arg(cylinders)?
+        .arg(keeps)
+}
+
+/// What it is asked to do.
+pub(crate) fn read<'a>(alloc: Global, options: &ArgMatches<'a>) -> Result<Request<'a>, WordFault> {
+    let Some(path) = options.get_str("PATH") else {
+        return Err(wrong(alloc, NO_PATH));
+    };
+    let model = options
+        .get_str("model")
+        .and_then(|model| read_model(model))
+        .unwrap_or(DriveModel::D2311);
+    let cylinders = options.get_one::<u16>("cylinders").unwrap_or(CYLINDERS);
+    Ok(Request::Format {
+        path,
+        model,
+        cylinders,
+        replaces: !options.get_flag("no-replace"),
+    })
+}

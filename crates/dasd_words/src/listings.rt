@@ -1,0 +1,38 @@
+//! The words of `dasd list` and `dasd check`.
+
+use crate::commands::{NO_PATH, wrong};
+use crate::requests::WordFault;
+use crate::volumes::MOST_FILES;
+use clap::{Arg, ArgAction, ArgMatches, Command};
+use std::alloc::{AllocError, Global};
+
+const TOO_MANY_PATHS: &str = "error: an image has at most eight files\n";
+
+/// A command over the files of one image.
+pub(crate) fn command<'a>(
+    alloc: Global,
+    name: &'a str,
+    about: &'a str,
+    example: &'a str,
+) -> Result<Command<'a>, AllocError> {
+    let paths = Arg::new(alloc, "PATH")
+        .required(true)
+        .action(ArgAction::Append)
+        .num_args(1..=8)
+        .help("the image file, or the files of one image in their order");
+    Command::new(alloc, name)
+        .about(about)
+        .after_help(example)
+        .arg(paths)
+}
+
+/// The files that it is asked of.
+pub(crate) fn read<'a>(alloc: Global, options: &ArgMatches<'a>) -> Result<Vec<&'a str>, WordFault> {
+    match options.get_strs("PATH") {
+        Some(words) if words.len() <= MOST_FILES => {
+            Vec::from_slice(alloc, words).map_err(|_| WordFault::OutOfMemory)
+        }
+        Some(_) => Err(wrong(alloc, TOO_MANY_PATHS)),
+        None => Err(wrong(alloc, NO_PATH)),
+    }
+}

@@ -1,0 +1,66 @@
+//! The words of `dasd run`.
+
+use crate::decks::DECK_TABLE;
+use crate::requests::{Request, WordFault};
+use crate::volumes::{Volume, add_volume, read_volume};
+use clap::{Arg, ArgAction, ArgMatches, Command};
+use std::alloc::{AllocError, Global};
+
+/// What an option is without its word.
+const STORAGE: u32 = 65_536;
+
+const CHANNEL: u8 = 1;
+
+/// The command, with its options.
+pub(crate) fn command<'a>(alloc: Global) -> Result<Command<'a>, AllocError> {
+    let storage = Arg::new(alloc, "storage")
+        .long("storage")
+        .value_name("N")
+        .default_value("65536")
+        .value_parser(clap::value_parser!(u32))
+        .help("the size of main storage in bytes");
+    let channel = Arg::new(alloc, "channel")
+        .long("channel")
+        .value_name("N")
+        .default_value("1")
+        .value_parser(clap::value_parser!(u8))
+        .help("the number of the channel");
+    let deck = Arg::new(alloc, "deck")
+        .long("deck")
+        .value_name("FILE")
+        .help("the deck; standard input where there is none");
+    let volumes = Arg::new(alloc, "VOLUME")
+        .required(true)
+        .action(ArgAction::Append)
+        .num_args(1..)
+        .help("a drive: UU=PATH, or UU=new:M:N for a new volume in memory");
+    Command::new(alloc, "run")
+        .about("Runs a deck of channel instructions, and replaces the images that it changed")
+        .after_help(DECK_TABLE)
+        .arg(storage)?
+        .arg(channel)?
+        .arg(deck)?
+        .arg(volumes)
+}
+
+/// What it is asked to do.
+pub(crate) fn read<'a>(alloc: Global, options: &ArgMatches<'a>) -> Result<Request<'a>, WordFault> {
+    let Some(words) = options.get_strs("VOLUME") else {
+        return Err(WordFault::BadVolume);
+    };
+    Ok(Request::Run {
+        storage: options.get_one::<u32>("storage").unwrap_or(STORAGE),
+        channel: options.get_one::<u8>("channel").unwrap_or(CHANNEL),
+        deck: options.get_str("deck"),
+        volumes: read_volumes(alloc, words)?,
+    })
+}
+
+fn read_volumes<'a>(alloc: Global, words: &[&'a str]) -> Result<Vec<Volume<'a>>, WordFault> {
+    let mut volumes = Vec::new(alloc);
+    for word in words {
+        let (device, named) = read_volume(word).ok_or(WordFault::BadVolume)?;
+        add_volume(&mut volumes, device, named)?;
+    }
+    Ok(volumes)
+}

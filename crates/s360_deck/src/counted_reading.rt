@@ -1,0 +1,56 @@
+//! A deck is read whole, by a reader whose failures are counted.
+
+ghost use Rattle.std.specs.Prelude.{◌≡◌, ◌≤◌, ◌<◌, ◌++◌, length, IfOk, OnOk, IfErr};
+ghost use Rattle.counted_io.specs.Streams.{seen_by};
+ghost use Rattle.s360_deck.specs.CountedRuns.{ReadsWhole, ReadsFaultily, AddsOrPasses};
+
+use crate::fault::DeckFault;
+use crate::runs::RunFault;
+use counted_io::Counted;
+use std::alloc::Global;
+use std::io::Read;
+
+/// The most bytes of a deck.
+const DECK_LENGTH: usize = 1_048_576;
+
+/// The most reads: each but the last gives a byte or more.
+const READS: usize = 1_048_577;
+
+/// How many bytes a read may give.
+const PIECE_LENGTH: usize = 4_096;
+
+// All that a reader has, if it is no more than a deck may have.
+pub(crate) fn read_counted<R: Read>(
+    alloc: Global,
+    reader: &mut Counted<R>,
+) -> Result<Vec<u8>, RunFault>
+    ensures ok { IfOk result (λ text. ReadsWhole (seen_by R.remaining reader.old) (seen_by R.remaining reader.new) text.items) }
+    ensures err { IfErr result (λ fault. ReadsFaultily fault (seen_by R.remaining reader.old) (seen_by R.remaining reader.new)) }
+{
+    let mut text = Vec::new(alloc);
+    let mut piece = [0; PIECE_LENGTH];
+    for _ in 0..READS {
+        let Ok(count) = reader.read(&mut piece) else {
+            return Err(RunFault::Read);
+        };
+        if count == 0 {
+            return Ok(text);
+        }
+        add(&mut text, &piece[..count])?;
+    }
+    unreachable!()
+}
+
+// More bytes of a deck.
+fn add(text: &mut Vec<u8>, bytes: &[u8]) -> Result<(), RunFault>
+    requires { length text.old.items ≤ 1048576 }
+    ensures ok { OnOk result (text.new.items ≡ text.old.items ++ bytes.now) }
+    ensures size { OnOk result (length text.new.items ≤ 1048576) }
+    ensures err { IfErr result (λ fault. AddsOrPasses fault (text.old.items ++ bytes.now)) }
+{
+    if bytes.len() > DECK_LENGTH - text.len() {
+        return Err(RunFault::Read);
+    }
+    text.extend_from_slice(bytes)
+        .map_err(|_| RunFault::Deck(DeckFault::OutOfMemory))
+}

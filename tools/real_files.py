@@ -1,0 +1,680 @@
+#!/usr/bin/env python3
+"""Runs the built program `dasd` over real files in a scratch folder, and compares what stands there afterwards byte for byte.
+
+Each row makes files, runs commands and says what they print, end with and leave: links, pipes, devices, modes, owners, full
+disks, kills, runs at once, broken pipes, odd names and files that are no images. What a volume must hold is made here, from the
+layout of an image (docs/DECISIONS.md), and not by the program. A row that needs root, a small file system of its own or a
+device, where these can't be had, is skipped, with a word.
+
+It runs crates/dasd_cmd/out/dasd_cmd, as `rt ci` or `rt run` leaves it; with --built FILE that program; with words behind, the
+rows whose names have one of them. The last line is 'N rows over real files, M came out wrong, K skipped', and the status 1 where M
+is not 0.
+"""
+
+import argparse
+import os
+import pty
+import resource
+import shutil
+import signal
+import socket
+import stat
+import subprocess
+import sys
+import tempfile
+import time
+from contextlib import contextmanager
+from pathlib import Path
+
+TOP = Path(__file__).resolve().parent.parent
+NOBODY = 65534
+HEADS = {"2311": 10, "2314": 20}
+SLOT = {"2311": 4096, "2314": 7680}
+# Searches record 0 of cylinder 0, head 0, and formats record 1 of four bytes behind it.
+WRITE = """STORE 48 00000400
+STORE 400 3100050040000005 0800040000000000 1D0006000000000C
+STORE 500 0000000000
+STORE 600 0000000001000004 {data}
+SIO {unit}
+STEP 100
+INT
+"""
+ANSWERS = "STORE OK\n" * 4 + "SIO {unit} CC 0\nSTEP 20\nINT {unit} 00000418 0C000000\n"
+ROWS = []
+
+
+class Skipped(Exception):
+    """A row that can't be played here."""
+
+
+def row(play):
+    """A row: its name is that of the function, in words."""
+    ROWS.append((play.__name__.replace("_", " "), play))
+    return play
+
+
+# What volumes hold.
+
+
+def header(model, sequence=0, highest=0):
+    fields = HEADS[model].to_bytes(4, "little") + SLOT[model].to_bytes(4, "little")
+    kind = bytes([{"2311": 0x11, "2314": 0x14}[model], sequence]) + highest.to_bytes(2, "little")
+    return (b"CKD_P370" + fields + kind).ljust(512, b"\0")
+
+
+def track(model, cylinder, head, records=b""):
+    at = cylinder.to_bytes(2, "big") + head.to_bytes(2, "big")
+    spelled = b"\0" + at + at + bytes([0, 0, 0, 8]) + bytes(8) + records + b"\xff" * 8
+    return spelled.ljust(SLOT[model], b"\0")
+
+
+def volume(model="2311", cylinders=1, data=None, first=0, sequence=0, highest=0):
+    """A new volume; with data, what WRITE makes of it."""
+    record = b"" if data is None else bytes([0, 0, 0, 0, 1, 0, 0, 4]) + bytes.fromhex(data)
+    slots = [track(model, c, h, b"" if c or h else record) for c in range(first, cylinders) for h in range(HEADS[model])]
+    return header(model, sequence, highest) + b"".join(slots)
+
+
+# Commands.
+
+
+class Scratch:
+    """A folder of a row's own, and the program."""
+
+    def __init__(self, program, folder, **how):
+        self.program, self.folder, self.how = program, Path(folder), how
+
+    def path(self, name):
+        return self.folder / name
+
+    def put(self, name, held):
+        self.path(name).write_bytes(held)
+        return self.path(name)
+
+    def start(self, *words, **how):
+        given = {"stdin": subprocess.PIPE, "stdout": subprocess.PIPE, "stderr": subprocess.PIPE, "cwd": self.folder, **self.how, **how}
+        return subprocess.Popen([self.program, *map(str, words)], **given)
+
+    def begin(self, *words, deck):
+        """A run that has its deck."""
+        run = self.start(*words)
+        try:
+            run.stdin.write(deck.encode())
+            run.stdin.close()
+        except BrokenPipeError:  # it was refused before it read
+            pass
+        run.stdin = None
+        return run
+
+    def dasd(self, *words, deck="", **how):
+        """Runs a command; its status, what it printed, and what it said on standard error."""
+        ran = self.start(*words, **how)
+        out, told = ran.communicate(deck.encode() if isinstance(deck, str) else deck, timeout=120)
+        return ran.returncode, (out or b"").decode(), (told or b"").decode()
+
+    def write(self, *words, data="D5D6D7D8", unit="190", **how):
+        return self.dasd("run", *words, deck=WRITE.format(data=data, unit=unit), **how)
+
+    def names(self):
+        return sorted(it.name for it in self.folder.iterdir())
+
+
+def same(found, wanted, what="it"):
+    if found != wanted:
+        shown = [repr(it if not isinstance(it, bytes) else f"{len(it)} bytes") for it in (found, wanted)]
+        raise AssertionError(f"{what} is {shown[0]}, not {shown[1]}")
+
+
+def is_held(path, held):
+    same(path.read_bytes(), held, path.name)
+
+
+def wrote(unit="190"):
+    return 0, ANSWERS.format(unit=unit), ""
+
+
+def fault(text, printed=""):
+    return 1, printed, f"dasd: {text}\n"
+
+
+@contextmanager
+def waiting_run(scratch, *volumes, name="deck"):
+    """A run that has locked its images and waits for its deck; the deck's pipe."""
+    os.mkfifo(scratch.path(name))
+    run = scratch.start("run", "--deck", name, *volumes)
+    with open(scratch.path(name), "wb", buffering=0) as deck:
+        yield run, deck
+    scratch.path(name).unlink()
+
+
+# Links.
+
+
+@row
+def symbolic_link_stays_a_link(s):
+    s.put("target.ckd", volume())
+    s.path("link.ckd").symlink_to("target.ckd")
+    same(s.write("90=link.ckd"), wrote())
+    same(os.readlink(s.path("link.ckd")), "target.ckd")
+    is_held(s.path("target.ckd"), volume(data="D5D6D7D8"))
+    same(s.dasd("format", "link.ckd", "--cylinders", "2"), (0, "formatted 2311 2 cylinders\n", ""))
+    same(os.readlink(s.path("link.ckd")), "target.ckd")
+    is_held(s.path("target.ckd"), volume(cylinders=2))
+    same(s.names(), ["link.ckd", "target.ckd"])
+
+
+@row
+def link_to_another_folder(s):
+    s.path("there").mkdir()
+    s.put("there/target.ckd", volume())
+    s.path("link.ckd").symlink_to("there/target.ckd")
+    same(s.write("90=link.ckd"), wrote())
+    is_held(s.path("there/target.ckd"), volume(data="D5D6D7D8"))
+    same((s.names(), os.listdir(s.path("there"))), (["link.ckd", "there"], ["target.ckd"]))
+
+
+@row
+def link_to_nothing_and_loop_of_links(s):
+    s.path("nothing.ckd").symlink_to("nowhere.ckd")
+    s.path("loop.ckd").symlink_to("loop.ckd")
+    for name in ("nothing.ckd", "loop.ckd"):
+        same(s.dasd("format", name, "--cylinders", "1"), fault("write fault"))
+        same(s.dasd("run", f"90={name}"), fault("read fault"))
+        same(s.dasd("list", name), fault("read fault"))
+    same(s.names(), ["loop.ckd", "nothing.ckd"])
+
+
+@row
+def hard_link_keeps_the_old_bytes_at_its_other_name(s):
+    os.link(s.put("one.ckd", volume()), s.path("other.ckd"))
+    same(s.write("90=one.ckd"), wrote())
+    is_held(s.path("one.ckd"), volume(data="D5D6D7D8"))
+    is_held(s.path("other.ckd"), volume())
+
+
+# What is no regular file.
+
+
+def is_refused(s, name, kind):
+    same(s.dasd("format", name, "--cylinders", "1"), fault("write fault"))
+    same(s.write(f"90={name}"), fault("read fault"))
+    if not kind(os.lstat(s.path(name)).st_mode):
+        raise AssertionError(f"{name} was replaced")
+    same(s.names(), [name])
+
+
+@row
+def pipe_is_not_replaced(s):
+    os.mkfifo(s.path("pipe"))
+    is_refused(s, "pipe", stat.S_ISFIFO)
+
+
+@row
+def folder_is_not_replaced(s):
+    s.path("folder").mkdir()
+    is_refused(s, "folder", stat.S_ISDIR)
+    same(s.dasd("list", "folder"), fault("read fault"))
+
+
+@row
+def socket_is_not_replaced(s):
+    with socket.socket(socket.AF_UNIX) as it:
+        it.bind(str(s.path("socket")))
+        is_refused(s, "socket", stat.S_ISSOCK)
+
+
+@row
+def device_is_not_replaced(s):
+    try:
+        os.mknod(s.path("null"), stat.S_IFCHR | 0o666, os.makedev(1, 3))
+    except OSError as why:
+        raise Skipped(f"no device can be made: {why.strerror}") from why
+    is_refused(s, "null", stat.S_ISCHR)
+
+
+@row
+def standard_input_is_not_replaced(s):
+    same(s.dasd("run", "90=/dev/stdin", deck=volume()), fault("read fault"))
+
+
+# Modes, owners, folders, disks.
+
+
+@row
+def mode_is_kept(s):
+    for mode in (0o600, 0o640, 0o666, 0o755):
+        s.put("vol.ckd", volume()).chmod(mode)
+        same(s.write("90=vol.ckd"), wrote())
+        same(oct(s.path("vol.ckd").stat().st_mode & 0o7777), oct(mode))
+        same(s.dasd("format", "vol.ckd", "--cylinders", "1")[0], 0)
+        same(oct(s.path("vol.ckd").stat().st_mode & 0o7777), oct(mode))
+
+
+@row
+def new_file_has_the_mode_of_new_files(s):
+    same(s.dasd("format", "vol.ckd", "--cylinders", "1", umask=0o027)[0], 0)
+    same(oct(s.path("vol.ckd").stat().st_mode & 0o7777), oct(0o640))
+
+
+@row
+def owner_is_kept(s):
+    if os.geteuid() != 0:
+        raise Skipped("no other owner without root")
+    os.chown(s.put("vol.ckd", volume()), 1000, 1001)
+    s.path("vol.ckd").chmod(0o600)
+    same(s.write("90=vol.ckd"), wrote())
+    found = s.path("vol.ckd").stat()
+    same((found.st_uid, found.st_gid, found.st_mode & 0o7777), (1000, 1001, 0o600))
+
+
+@row
+def file_that_may_not_be_written_is_not_replaced(s):
+    s.put("vol.ckd", volume()).chmod(0o444)
+    same(s.write("90=vol.ckd"), fault("write fault", ANSWERS.format(unit="190")))
+    same(s.dasd("format", "vol.ckd", "--cylinders", "2"), fault("write fault"))
+    is_held(s.path("vol.ckd"), volume())
+    same(s.dasd("run", "90=vol.ckd", deck="SIO 190\n")[0], 0)
+    same(s.names(), ["vol.ckd"])
+
+
+@row
+def folder_that_may_not_be_written(s):
+    s.put("vol.ckd", volume()).chmod(0o666)
+    how = {}
+    if os.geteuid() == 0:
+        how = {"user": NOBODY, "group": NOBODY, "extra_groups": []}
+        s.folder.chmod(0o755)
+    else:
+        s.folder.chmod(0o555)
+    try:
+        same(s.write("90=vol.ckd", **how), fault("write fault", ANSWERS.format(unit="190")))
+        same(s.dasd("format", "vol.ckd", "--cylinders", "2", **how), fault("write fault"))
+        same(s.dasd("format", "new.ckd", "--cylinders", "2", **how), fault("write fault"))
+    finally:
+        s.folder.chmod(0o700)
+    is_held(s.path("vol.ckd"), volume())
+    same(s.names(), ["vol.ckd"])
+
+
+@row
+def disk_that_is_full(s):
+    s.path("small").mkdir()
+    if shutil.which("mount") is None:
+        raise Skipped("there is no mount")
+    mounted = subprocess.run(["mount", "-t", "tmpfs", "-o", "size=80k", "none", s.path("small")], capture_output=True)
+    if mounted.returncode:
+        raise Skipped("no file system can be mounted")
+    try:
+        s.put("small/vol.ckd", volume())
+        same(s.write("90=small/vol.ckd"), fault("write fault", ANSWERS.format(unit="190")))
+        same(s.dasd("format", "small/vol.ckd", "--cylinders", "2"), fault("write fault"))
+        is_held(s.path("small/vol.ckd"), volume())
+        same(os.listdir(s.path("small")), ["vol.ckd"])
+    finally:
+        subprocess.run(["umount", s.path("small")], check=True)
+
+
+@row
+def output_that_is_full(s):
+    if not os.path.exists("/dev/full"):
+        raise Skipped("there is no /dev/full")
+    s.put("vol.ckd", volume())
+    for words in (["list", "vol.ckd"], ["check", "vol.ckd"], ["format", "new.ckd", "--cylinders", "1"], ["--version"]):
+        with open("/dev/full", "wb") as full:
+            status, _, told = s.dasd(*words, stdout=full)
+        same((status, told), (1, "dasd: write fault\n"), " ".join(words))
+    with open("/dev/full", "wb") as full:
+        same(s.write("90=vol.ckd", stdout=full)[::2], (1, "dasd: write fault\n"))
+    is_held(s.path("vol.ckd"), volume(data="D5D6D7D8"))
+    is_held(s.path("new.ckd"), volume())
+
+
+# Names.
+
+
+@row
+def file_of_the_old_name_beside_it_stays(s):
+    s.put("vol.ckd", volume())
+    s.put("vol.ckd.new", b"mine")
+    same(s.write("90=vol.ckd"), wrote())
+    is_held(s.path("vol.ckd.new"), b"mine")
+    same(s.dasd("format", "vol.ckd", "--cylinders", "1")[0], 0)
+    is_held(s.path("vol.ckd.new"), b"mine")
+    s.path("vol.ckd.new").unlink()
+    s.put("precious", b"precious")
+    s.path("vol.ckd.new").symlink_to("precious")
+    same(s.write("90=vol.ckd"), wrote())
+    is_held(s.path("precious"), b"precious")
+    same(s.names(), ["precious", "vol.ckd", "vol.ckd.new"])
+
+
+@row
+def names_of_new_files_are_never_taken(s):
+    s.put("vol.ckd", volume())
+    os.mkfifo(s.path("deck"))
+    run = s.start("run", "--deck", "deck", "90=vol.ckd")
+    s.put(f".dasd-{run.pid}-0", b"mine")
+    s.put("precious", b"precious")
+    s.path(f".dasd-{run.pid}-1").symlink_to("precious")
+    s.path("deck").write_text(WRITE.format(data="D5D6D7D8", unit="190"))
+    out, told = run.communicate(timeout=60)
+    same((run.returncode, out.decode(), told), (0, ANSWERS.format(unit="190"), b""))
+    is_held(s.path(f".dasd-{run.pid}-0"), b"mine")
+    is_held(s.path("precious"), b"precious")
+    is_held(s.path("vol.ckd"), volume(data="D5D6D7D8"))
+
+
+@row
+def names_with_blanks_equals_signs_and_letters_of_all_kinds(s):
+    for name in ("my pack.ckd", "a=b.ckd", "=", "größe-磁気.ckd", "'quoted'", "n" * 255):
+        same(s.dasd("format", "--cylinders", "1", "--", name), (0, "formatted 2311 1 cylinders\n", ""), name)
+        same(s.write(f"90={name}"), wrote(), name)
+        is_held(s.path(name), volume(data="D5D6D7D8"))
+        same(s.dasd("check", "--", name), (0, "0 findings\n", ""), name)
+        s.path(name).unlink()
+    same(s.names(), [])
+
+
+@row
+def no_replace_refuses(s):
+    s.put("vol.ckd", b"mine")
+    same(s.dasd("format", "vol.ckd", "--no-replace"), fault("file exists"))
+    is_held(s.path("vol.ckd"), b"mine")
+    same(s.dasd("format", "new.ckd", "--cylinders", "1", "--no-replace")[0], 0)
+    is_held(s.path("new.ckd"), volume())
+
+
+# Kills.
+
+
+def kill_at_moments(s, name, words, deck, old, new):
+    whole = []
+    for turn in range(20):
+        s.put(name, old)
+        run = s.begin(*words, deck=deck)
+        time.sleep(turn * turn * 0.0004)
+        run.send_signal(signal.SIGKILL)
+        run.communicate()
+        held = s.path(name).read_bytes()
+        if held not in (old, new):
+            raise AssertionError(f"{name} is neither the old file nor the new one")
+        whole.append(held == new)
+        for it in s.names():
+            if it.startswith(".dasd-"):
+                s.path(it).unlink()
+        same(s.names(), [name])
+    return whole
+
+
+@row
+def killed_formats_leave_the_old_file_or_the_new_one(s):
+    old, new = volume(data="01020304"), volume(cylinders=200)
+    kill_at_moments(s, "vol.ckd", ["format", "vol.ckd", "--cylinders", "200"], "", old, new)
+
+
+@row
+def killed_runs_leave_the_old_file_or_the_new_one(s):
+    old, new = volume(cylinders=100), volume(cylinders=100, data="D5D6D7D8")
+    kill_at_moments(s, "vol.ckd", ["run", "90=vol.ckd"], WRITE.format(data="D5D6D7D8", unit="190"), old, new)
+
+
+# One user at a time.
+
+
+@row
+def second_run_is_refused(s):
+    s.put("vol.ckd", volume())
+    s.path("link.ckd").symlink_to("vol.ckd")
+    with waiting_run(s, "90=vol.ckd") as (run, deck):
+        for name in ("vol.ckd", "link.ckd", "./vol.ckd"):
+            same(s.write(f"90={name}"), fault("image in use"), name)
+            same(s.dasd("format", name, "--cylinders", "2"), fault("image in use"), name)
+        same(s.dasd("check", "vol.ckd"), (0, "0 findings\n", ""))
+        same(s.dasd("list", "vol.ckd")[0], 0)
+        is_held(s.path("vol.ckd"), volume())
+        deck.write(WRITE.format(data="D5D6D7D8", unit="190").encode())
+        deck.close()
+        same((run.communicate(timeout=60)[0].decode(), run.returncode), (ANSWERS.format(unit="190"), 0))
+    is_held(s.path("vol.ckd"), volume(data="D5D6D7D8"))
+    same(s.write("90=vol.ckd", data="01020304"), wrote())
+    is_held(s.path("vol.ckd"), volume(data="01020304"))
+
+
+@row
+def second_run_with_another_image_first_is_refused(s):
+    s.put("one.ckd", volume())
+    s.put("two.ckd", volume())
+    with waiting_run(s, "90=one.ckd", "91=two.ckd") as (run, deck):
+        same(s.write("90=two.ckd"), fault("image in use"))
+        same(s.write("90=new:2311:1", "91=one.ckd"), fault("image in use"))
+        deck.close()
+        run.communicate(timeout=60)
+    same(run.returncode, 0)
+    is_held(s.path("one.ckd"), volume())
+    is_held(s.path("two.ckd"), volume())
+
+
+@row
+def six_runs_at_once_lose_no_update(s):
+    held, done = volume(), 0
+    s.put("vol.ckd", held)
+    for turn in range(4):
+        runs = []
+        for number in range(6):
+            data = f"{turn:02X}{number:02X}D7D8"
+            runs.append((s.begin("run", "90=vol.ckd", deck=WRITE.format(data=data, unit="190")), data))
+        ended = [(run.communicate(timeout=60), run.returncode, data) for run, data in runs]
+        for (out, told), status, data in ended:
+            if (status, out.decode(), told) != (0, ANSWERS.format(unit="190"), b""):
+                same((status, out, told), (1, b"", b"dasd: image in use\n"))
+        right = [volume(data=data) for _, status, data in ended if status == 0]
+        done += len(right)
+        if s.path("vol.ckd").read_bytes() not in right:
+            raise AssertionError("the image is that of no run that ended with status 0")
+    same(done >= 4, True, "that a run of each six was done")
+    same(s.names(), ["vol.ckd"])
+
+
+@row
+def file_at_two_addresses_is_refused(s):
+    s.put("vol.ckd", volume())
+    s.path("link.ckd").symlink_to("vol.ckd")
+    os.link(s.path("vol.ckd"), s.path("hard.ckd"))
+    for name in ("vol.ckd", "link.ckd", "hard.ckd", "./vol.ckd"):
+        same(s.write("90=vol.ckd", f"91={name}"), fault("image in use"), name)
+        same(s.write("90=vol.ckd", "91=new:2311:1", f"90={name}"), fault("unit taken"), name)
+        same(s.write("90=vol.ckd", f"90={name}"), fault("image in several files"), name)
+    is_held(s.path("vol.ckd"), volume())
+
+
+# What is no image, and what is read as a stream.
+
+
+@row
+def files_that_are_no_images(s):
+    s.put("empty", b"")
+    s.put("short", volume()[:-1])
+    with open(s.path("huge"), "wb") as huge:
+        huge.truncate(1 << 40)
+    for words in (["list"], ["check"], ["run"]):
+        at = "90=" if words == ["run"] else ""
+        begun = time.monotonic()
+        same(s.dasd(*words, f"{at}empty"), fault("wrong length"))
+        same(s.dasd(*words, f"{at}short"), fault("wrong length"))
+        same(s.dasd(*words, f"{at}huge"), fault("not a CKD_P370 image"))
+        same(time.monotonic() - begun < 5, True, "that it is refused in a moment")
+
+
+@row
+def device_without_an_end(s):
+    for words in (["list", "/dev/zero"], ["check", "/dev/zero"]):
+        same(s.dasd(*words), fault("not a CKD_P370 image"))
+    same(s.dasd("run", "--deck", "/dev/zero", "90=new:2311:1"), fault("read fault"))
+
+
+@row
+def pipe_is_listed_and_checked(s):
+    held = volume("2314", 3)
+    s.put("vol.ckd", held)
+    same(s.dasd("check", "/dev/stdin", deck=held), (0, "0 findings\n", ""))
+    same(s.dasd("list", "/dev/stdin", deck=held), s.dasd("list", "vol.ckd"))
+    same(s.dasd("check", "/dev/stdin", deck=held[:-1]), fault("wrong length"))
+    same(s.dasd("check", "/dev/stdin", deck=held[:100]), fault("wrong length"))
+    same(s.dasd("check", "/dev/stdin", deck=b"x" * 600), fault("not a CKD_P370 image"))
+
+
+@row
+def image_in_two_files(s):
+    whole = volume("2311", 3)
+    first = header("2311", 1, 1) + whole[512 : 512 + 20 * 4096]
+    s.put("a.ckd", first)
+    s.put("b.ckd", header("2311", 2, 0) + whole[512 + 20 * 4096 :])
+    s.put("whole.ckd", whole)
+    same(s.dasd("list", "a.ckd", "b.ckd"), s.dasd("list", "whole.ckd"))
+    same(s.dasd("check", "a.ckd", "b.ckd"), (0, "0 findings\n", ""))
+    same(s.write("90=a.ckd", "90=b.ckd"), wrote())
+    is_held(s.path("a.ckd"), header("2311", 1, 1) + volume(cylinders=2, data="D5D6D7D8")[512:])
+    is_held(s.path("b.ckd"), header("2311", 2, 0) + whole[512 + 20 * 4096 :])
+    same(s.dasd("list", "b.ckd", "a.ckd"), fault("image in several files"))
+
+
+@row
+def large_volumes_take_little_memory(s):
+    most = (8 << 20, 8 << 20)
+    how = {"preexec_fn": lambda: resource.setrlimit(resource.RLIMIT_AS, most)}
+    same(s.dasd("format", "vol.ckd", "--cylinders", "2000", **how), (0, "formatted 2311 2000 cylinders\n", ""))
+    is_held(s.path("vol.ckd"), volume(cylinders=2000))
+    same(s.dasd("check", "vol.ckd", **how), (0, "0 findings\n", ""))
+    same(s.dasd("list", "vol.ckd", **how)[::2], (0, ""))
+
+
+# Statuses and words.
+
+
+@row
+def findings_end_with_status_1(s):
+    held = bytearray(volume())
+    held[512 + 2 * 4096 + 21 : 512 + 2 * 4096 + 29] = bytes([0, 0, 0, 2, 1, 0, 255, 255])
+    s.put("vol.ckd", bytes(held))
+    same(s.dasd("check", "vol.ckd"), (1, "0000 0002 record past end at 21\n1 findings\n", ""))
+    same(s.dasd("list", "vol.ckd")[0::2], (0, ""))
+
+
+@row
+def wrong_words_end_with_status_2(s):
+    for words in (["format"], ["fomrat"], ["check", "--what", "a"], ["run", "90"]):
+        status, out, told = s.dasd(*words)
+        same((status, out, bool(told)), (2, "", True), " ".join(words))
+    same(s.dasd("run", "90")[2], "dasd: bad volume\n")
+    same(s.names(), [])
+
+
+@row
+def help_goes_to_standard_output(s):
+    for words in (["--help"], ["run", "--help"], ["format", "--help"], ["list", "--help"], ["check", "--help"]):
+        status, out, told = s.dasd(*words)
+        same((status, "Example: dasd" in out, told), (2, True, ""), " ".join(words))
+    for word in ("SIO", "TIO", "HIO", "TCH", "STEP", "ARRIVE", "INT", "RESET", "STORE", "KEY", "SHOW"):
+        same(f"\n  {word} " in s.dasd("run", "--help")[1], True, f"that help has {word}")
+
+
+@row
+def broken_pipe_ends_quietly(s):
+    s.put("vol.ckd", volume(cylinders=200))
+    for words in (["list", "vol.ckd"], ["check", "vol.ckd"]):
+        ours, theirs = os.pipe()
+        os.close(ours)
+        same(s.dasd(*words, stdout=theirs)[::2], (1, ""), words[0])
+        os.close(theirs)
+
+
+@row
+def more_is_told_where_it_is_asked(s):
+    s.put("vol.ckd", volume())
+    s.put("a.ckd", header("2311", 1, 1) + volume(cylinders=2)[512:])
+    s.put("b.ckd", header("2311", 1, 0) + volume()[512:])
+    s.put("late.ckd", volume()).chmod(0o444)
+    told = {
+        ("list", "work.ckd"): "read fault\n  work.ckd: No such file or directory\n",
+        ("list", "."): "read fault\n  .: Is a directory\n",
+        ("list", "a.ckd"): "image in several files\n  a.ckd: it ends with cylinder 1, and the files behind it are not named\n",
+        ("list", "a.ckd", "b.ckd"): "image in several files\n  b.ckd: it is named as file 2 and bears the number 1\n",
+        ("list", "vol.ckd", "a.ckd"): "image in several files\n  vol.ckd: it is named as file 1 and bears the number 0\n",
+        ("run", "90=vol.ckd", "91=vol.ckd"): "image in use\n  vol.ckd: this run uses it already\n",
+    }
+    for words, text in told.items():
+        same(s.dasd(*words), fault(text.splitlines()[0]), " ".join(words))
+        same(s.dasd(*words, "--verbose"), fault(text[:-1]), " ".join(words))
+    decks = {
+        "\n\nSTEP 65536\n": "line 3: bad operand\n  line 3: STEP takes a number up to 65535",
+        "FOO 1\n": "line 1: unknown event\n  line 1: FOO is no event",
+        "A" * 513: "line 1: line too long\n  line 1: a line has at most 512 bytes",
+        "\n" * 1048577: "read fault\n  a deck has at most 1,048,576 bytes",
+    }
+    for deck, text in decks.items():
+        same(s.dasd("run", "--verbose", "90=vol.ckd", deck=deck), fault(text), deck[:20])
+    both = WRITE.format(data="D5D6D7D8", unit="190") + WRITE.format(data="D5D6D7D8", unit="191")
+    ran = s.dasd("run", "--verbose", "90=vol.ckd", "91=late.ckd", deck=both)
+    same((ran[0], ran[2].splitlines()[0]), (1, "dasd: write fault"))
+    same(ran[2].splitlines()[1:], ["  late.ckd: it may not be written", "  late.ckd was not written; vol.ckd was"])
+
+
+@row
+def program_that_was_cut_is_told(s):
+    s.put("vol.ckd", volume())
+    deck = WRITE.format(data="D5D6D7D8", unit="190").replace("STEP 100\nINT\n", "STEP 17\n")
+    ended = s.dasd("run", "--verbose", "90=vol.ckd", deck=deck)
+    same((ended[0], ended[2]), (0, "  90: its program still ran at the end of the deck, and was cut\n"))
+    same(s.dasd("run", "90=vol.ckd", deck=deck)[2], "")
+
+
+@row
+def line_of_progress_is_erased(s):
+    s.put("vol.ckd", volume(cylinders=150))
+    ours, theirs = pty.openpty()
+    run = s.start("check", "vol.ckd", stderr=theirs)
+    os.close(theirs)
+    shown = b""
+    while True:
+        try:
+            piece = os.read(ours, 65536)
+        except OSError:
+            break
+        if not piece:
+            break
+        shown += piece
+    out = run.communicate(timeout=60)[0]
+    os.close(ours)
+    same((run.returncode, out), (0, b"0 findings\n"))
+    same(b"\rchecking cylinder 150 of 150\x1b[K" in shown, True, "that the last cylinder is shown")
+    same(shown.endswith(b"\r\x1b[K"), True, "that the line is erased")
+
+
+def main():
+    parser = argparse.ArgumentParser(description=__doc__, formatter_class=argparse.RawDescriptionHelpFormatter)
+    parser.add_argument("--built", metavar="FILE", help="the built program")
+    parser.add_argument("words", nargs="*", help="only rows whose names have one of these words")
+    given = parser.parse_args()
+    program = Path(given.built or f"{TOP}/crates/dasd_cmd/out/dasd_cmd").resolve()
+    if not program.is_file():
+        sys.exit(f"real_files.py: there is no {program}: rt run in its crate builds it")
+    played, wrong, skipped = 0, 0, 0
+    for name, play in ROWS:
+        if given.words and not any(word in name for word in given.words):
+            continue
+        with tempfile.TemporaryDirectory() as folder:
+            try:
+                play(Scratch(program, folder))
+                played += 1
+            except Skipped as why:
+                skipped += 1
+                print(f"{name}: skipped: {why}")
+            except (AssertionError, subprocess.TimeoutExpired) as why:
+                played, wrong = played + 1, wrong + 1
+                print(f"{name}: {why}")
+    print(f"{played} rows over real files, {wrong} came out wrong, {skipped} skipped")
+    return 1 if wrong else 0
+
+
+if __name__ == "__main__":
+    sys.exit(main())
