@@ -3,6 +3,7 @@
 ghost use Rattle.std.specs.Prelude.{◌≡◌, true, IfErr};
 ghost use Rattle.dasd_run.specs.Faults.{keeps_files};
 
+use crate::archive::{Lines, check_strictly, compare_both, dump_part};
 use crate::decks::run_deck;
 use crate::fault::ProgramFault;
 use crate::runs::{Disks, build, finish};
@@ -80,6 +81,25 @@ fn answer<F: ImageFiles, R: Read, W: Write, P: Progress>(
             Ok(Ending::Done)
         }
         Request::Check(paths) => check_volume(alloc, files, writer, progress, paths.as_slice()),
+        Request::CheckStrictly { paths, json } => {
+            check_strictly(alloc, files, writer, paths.as_slice(), json)
+        }
+        Request::Dump { paths, part, json } => {
+            dump_part(alloc, files, writer, paths.as_slice(), part, json)
+        }
+        Request::Compare {
+            one,
+            other,
+            lists,
+            json,
+        } => compare_both(
+            alloc,
+            files,
+            writer,
+            one.as_slice(),
+            other.as_slice(),
+            Lines { lists, json },
+        ),
         Request::Run {
             storage,
             channel,

@@ -34,6 +34,9 @@ pub enum ProgramFault {
     /// There are more than eight volumes.
     #[error("too many units")]
     TooManyUnits,
+    /// The volume has no such track.
+    #[error("no such track")]
+    NoTrack,
     /// An image file or its image is faulty.
     #[error(transparent)]
     Job(JobFault),

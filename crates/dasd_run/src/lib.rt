@@ -2,6 +2,7 @@
 //! over a reader, a writer and files behind a trait, so that nothing here touches a host.
 #![tactic(auto)]
 
+mod archive;
 mod commands;
 mod decks;
 mod fault;

@@ -1,7 +1,7 @@
 //! The commands of `dasd`: each has a module of its own, for its options and for what they ask.
 
 use crate::requests::{Asked, Request, WordFault};
-use crate::{format, listings, run};
+use crate::{archive, format, listings, run};
 use clap::error::ErrorKind;
 use clap::{Arg, ArgAction, ArgMatches, Command, Error};
 use std::alloc::{AllocError, Global};
@@ -24,15 +24,9 @@ fn dasd_command<'a>(alloc: Global) -> Result<Command<'a>, AllocError> {
                 "Example: dasd list work.ckd",
             )?,
         )?)?
-        .subcommand(verbose(
-            alloc,
-            listings::command(
-                alloc,
-                "check",
-                "Prints the tracks of a volume that can't be read",
-                "Example: dasd check work.ckd",
-            )?,
-        )?)?
+        .subcommand(verbose(alloc, archive::check_command(alloc)?)?)?
+        .subcommand(verbose(alloc, archive::dump_command(alloc)?)?)?
+        .subcommand(verbose(alloc, archive::compare_command(alloc)?)?)?
         .subcommand(verbose(alloc, run::command(alloc)?)?)
 }
 
@@ -79,7 +73,9 @@ fn read_request<'a>(
     match name {
         "format" => format::read(alloc, options),
         "list" => Ok(Request::List(listings::read(alloc, options)?)),
-        "check" => Ok(Request::Check(listings::read(alloc, options)?)),
+        "check" => archive::read_check(alloc, options),
+        "dump" => archive::read_dump(alloc, options),
+        "compare" => archive::read_compare(alloc, options),
         "run" => run::read(alloc, options),
         _ => Err(wrong(alloc, NO_COMMAND)),
     }

@@ -1,6 +1,7 @@
 //! The words of the program `dasd`: its commands, their options, and the volumes of a run.
 #![tactic(auto)]
 
+mod archive;
 mod commands;
 mod decks;
 mod format;
@@ -11,5 +12,5 @@ mod volumes;
 
 pub use crate::commands::read_words;
 pub use crate::decks::{DECK_TABLE, operand_rule};
-pub use crate::requests::{Asked, Request, WordFault};
+pub use crate::requests::{Asked, DumpedPart, Numbers, Request, WordFault};
 pub use crate::volumes::{MOST_FILES, Volume, VolumeSource};

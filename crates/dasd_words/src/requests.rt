@@ -12,6 +12,26 @@ pub struct Asked<'a> {
     pub is_verbose: bool,
 }
 
+/// The numbers from a first to a last one, which is not less.
+#[derive(Clone, Copy, Debug, PartialEq, Eq)]
+pub struct Numbers {
+    /// The first.
+    pub first: u16,
+    /// The last.
+    pub last: u16,
+}
+
+/// The part of a volume whose bytes are printed.
+#[derive(Clone, Copy, Debug, PartialEq, Eq)]
+pub struct DumpedPart {
+    /// Its cylinders.
+    pub cylinders: Numbers,
+    /// The heads on each of them.
+    pub heads: Numbers,
+    /// The numbers of its records.
+    pub records: Numbers,
+}
+
 /// What `dasd` is asked to do.
 #[derive(Debug, Drop)]
 pub enum Request<'a> {
@@ -30,6 +50,33 @@ pub enum Request<'a> {
     List(Vec<&'a str>),
     /// Print the tracks that can't be read of the image that these files hold.
     Check(Vec<&'a str>),
+    /// Print all that is found on the volume of the image that these files hold.
+    CheckStrictly {
+        /// The files.
+        paths: Vec<&'a str>,
+        /// Whether each line is an object of JSON.
+        json: bool,
+    },
+    /// Print the bytes of a part of the volume of the image that these files hold.
+    Dump {
+        /// The files.
+        paths: Vec<&'a str>,
+        /// The part.
+        part: DumpedPart,
+        /// Whether each line is an object of JSON.
+        json: bool,
+    },
+    /// Print what differs of the volumes of two images.
+    Compare {
+        /// The files of the first.
+        one: Vec<&'a str>,
+        /// The files of the second.
+        other: Vec<&'a str>,
+        /// Whether each difference has a line; if not, tracks are counted alone.
+        lists: bool,
+        /// Whether each line is an object of JSON.
+        json: bool,
+    },
     /// Run a deck.
     Run {
         /// The size of main storage, in bytes.

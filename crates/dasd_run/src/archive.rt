@@ -1,0 +1,238 @@
+//! What an archive asks of volumes: a strict check, a dump, and a comparison.
+
+ghost use Rattle.std.specs.Prelude.{◌≡◌, IfSome};
+ghost use Rattle.dasd_archive.specs.Dump.{IsPartOf};
+
+use crate::commands::Ending;
+use crate::fault::ProgramFault;
+use ckd_track::{DriveModel, Geometry};
+use dasd_archive::{
+    Comparison, Form, Part, Range, Style, Tally, check_headers, check_strict, compare, dump,
+};
+use dasd_jobs::{ImageFiles, JobFault, OpenedFile, SlotReader, open_volume};
+use dasd_volumes::VolumeFault;
+use dasd_words::{DumpedPart, Numbers};
+use serde_json::Value;
+use std::alloc::Global;
+use std::fmt;
+use std::io::Write;
+
+/// The length of a file's header, in bytes.
+const HEADER: usize = 512;
+
+/// Which lines a comparison prints.
+#[derive(Clone, Copy, Debug, PartialEq, Eq)]
+pub(crate) struct Lines {
+    /// Whether each difference has one.
+    pub(crate) lists: bool,
+    /// Whether each is an object of JSON.
+    pub(crate) json: bool,
+}
+
+// For whom lines are printed.
+fn style(json: bool) -> Style {
+    if json { Style::Json } else { Style::Text }
+}
+
+// The paths of an image as one string of JSON: joined by plus signs, with quotes.
+fn quoted(alloc: Global, paths: &[&str]) -> Result<String, ProgramFault> {
+    let mut joined = String::new(alloc);
+    for (i, path) in paths.iter().enumerate() {
+        if i > 0 {
+            joined.push('+').map_err(|_| ProgramFault::OutOfMemory)?;
+        }
+        joined
+            .push_str(path)
+            .map_err(|_| ProgramFault::OutOfMemory)?;
+    }
+    Value::String(joined)
+        .to_string(alloc)
+        .map_err(|_| ProgramFault::OutOfMemory)
+}
+
+// What a fault over the files of a volume is: a slot that can't be read is a file that can't be.
+fn of_volume(fault: VolumeFault) -> ProgramFault {
+    ProgramFault::Job(match fault {
+        VolumeFault::Store => JobFault::Read,
+        fault => JobFault::from(fault),
+    })
+}
+
+/// Prints all that is found on the volume of these files, and says whether there is an error.
+pub(crate) fn check_strictly<F: ImageFiles, W: Write>(
+    alloc: Global,
+    files: &mut F,
+    writer: &mut W,
+    paths: &[&str],
+    json: bool,
+) -> Result<Ending, ProgramFault>
+    ensures { F.written files.new ≡ F.written files.old }
+{
+    let mut volume = open_volume(alloc, files, paths).map_err(ProgramFault::Job)?;
+    let path = quoted(alloc, paths)?;
+    let form = Form {
+        style: style(json),
+        path: path.as_str(),
+    };
+    let mut tally = Tally::new();
+    for (i, path) in paths.iter().enumerate() {
+        check_header(alloc, files, writer, &mut tally, form, i, path)?;
+    }
+    match check_strict(alloc, &mut volume, writer, form, tally) {
+        Ok(tally) if tally.errors == 0 => Ok(Ending::Done),
+        Ok(_) => Ok(Ending::Findings),
+        Err(fault) => Err(of_volume(fault)),
+    }
+}
+
+// Prints what is found of the header of a file, the first of which is number 1.
+fn check_header<F: ImageFiles, W: Write>(
+    alloc: Global,
+    files: &mut F,
+    writer: &mut W,
+    tally: &mut Tally,
+    form: Form,
+    i: usize,
+    path: &str,
+) -> Result<(), ProgramFault>
+    ensures { F.written files.new ≡ F.written files.old }
+{
+    let mut header = [0u8; HEADER];
+    let Ok(mut file) = files.open(alloc, path) else {
+        return Err(ProgramFault::Job(JobFault::Read));
+    };
+    if file.read_at(0, &mut header).is_err() {
+        return Err(ProgramFault::Job(JobFault::Read));
+    }
+    let number = u8::try_from(i).unwrap_or(u8::MAX).saturating_add(1);
+    check_headers(writer, tally, form, number, &header).map_err(|fault| of_volume(fault))
+}
+
+/// Prints the bytes of a part of the volume of these files.
+pub(crate) fn dump_part<F: ImageFiles, W: Write>(
+    alloc: Global,
+    files: &mut F,
+    writer: &mut W,
+    paths: &[&str],
+    part: DumpedPart,
+    json: bool,
+) -> Result<Ending, ProgramFault>
+    ensures { F.written files.new ≡ F.written files.old }
+{
+    let mut volume = open_volume(alloc, files, paths).map_err(ProgramFault::Job)?;
+    let Some(part) = part_of(volume.geometry(), part) else {
+        return Err(ProgramFault::NoTrack);
+    };
+    let path = quoted(alloc, paths)?;
+    let form = Form {
+        style: style(json),
+        path: path.as_str(),
+    };
+    match dump(alloc, &mut volume, writer, form, part) {
+        Ok(()) => Ok(Ending::Done),
+        Err(fault) => Err(of_volume(fault)),
+    }
+}
+
+// Numbers as a range.
+fn range(numbers: Numbers) -> Range {
+    Range {
+        first: numbers.first,
+        last: numbers.last,
+    }
+}
+
+// The part of a volume of this geometry that words ask for, if it has these tracks.
+fn part_of(geometry: Geometry, part: DumpedPart) -> Option<Part>
+    ensures { IfSome result (λ part. IsPartOf part geometry) }
+{
+    let cylinders = range(part.cylinders);
+    let heads = range(part.heads);
+    let numbers = range(part.records);
+    if cylinders.first > cylinders.last
+        || cylinders.last >= geometry.cylinders
+        || heads.first > heads.last
+        || heads.last >= geometry.model.heads()
+    {
+        return None;
+    }
+    Some(Part {
+        cylinders,
+        heads,
+        numbers,
+    })
+}
+
+/// Prints what differs of the volumes of two lists of files, and says whether something does.
+pub(crate) fn compare_both<F: ImageFiles, W: Write>(
+    alloc: Global,
+    files: &mut F,
+    writer: &mut W,
+    one: &[&str],
+    other: &[&str],
+    lines: Lines,
+) -> Result<Ending, ProgramFault>
+    ensures { F.written files.new ≡ F.written files.old }
+{
+    let Lines { lists, json } = lines;
+    let mut volume = open_volume(alloc, files, one).map_err(ProgramFault::Job)?;
+    let mut beside = open_volume(alloc, files, other).map_err(ProgramFault::Job)?;
+    let path = quoted(alloc, one)?;
+    let other = quoted(alloc, other)?;
+    let form = Comparison {
+        style: style(json),
+        path: path.as_str(),
+        other: other.as_str(),
+        lists,
+    };
+    if volume.geometry() != beside.geometry() {
+        return write_geometries(writer, form, volume.geometry(), beside.geometry());
+    }
+    match compare(alloc, &mut volume, &mut beside, writer, form) {
+        Ok(0) => Ok(Ending::Done),
+        Ok(_) => Ok(Ending::Findings),
+        Err(fault) => Err(of_volume(fault)),
+    }
+}
+
+// The geometry of a volume in words.
+#[derive(Clone, Copy)]
+struct Shape(Geometry);
+
+impl fmt::Display for Shape {
+    fn fmt<W: fmt::Write>(&self, f: &mut fmt::Formatter<W>) -> fmt::Result {
+        let model = match self.0.model {
+            DriveModel::D2311 => 2311,
+            DriveModel::D2314 => 2314,
+        };
+        let cylinders = self.0.cylinders;
+        let size = self.0.track_size;
+        write!(f, "{model} {cylinders} cylinders slot {size}")
+    }
+}
+
+// The line of two geometries that differ: no track is then compared.
+fn write_geometries<W: Write>(
+    writer: &mut W,
+    form: Comparison,
+    one: Geometry,
+    other: Geometry,
+) -> Result<Ending, ProgramFault> {
+    let one = Shape(one);
+    let other = Shape(other);
+    let written = match form.style {
+        Style::Text => writeln!(writer, "geometry {one} and {other}"),
+        Style::Json => writeln!(
+            writer,
+            "{{\"path\":{},\"other\":{},\"text\":\"geometry {one} and {other}\"}}",
+            form.path, form.other
+        ),
+    };
+    match written {
+        Ok(()) => match writer.flush() {
+            Ok(()) => Ok(Ending::Findings),
+            Err(_) => Err(ProgramFault::Job(JobFault::Write)),
+        },
+        Err(_) => Err(ProgramFault::Job(JobFault::Write)),
+    }
+}
