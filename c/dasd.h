@@ -1,0 +1,264 @@
+/* dasd.h - a selector channel with IBM 2311 and 2314 drives, for emulators of the System/360.
+ *
+ * A `dasd` is a handle of 16 bytes that the caller owns. It holds main storage, with its keys, and a selector channel with up to eight
+ * drives, whose volumes are uncompressed CKD_P370 images in memory:
+ *
+ *     dasd d = DASD_NOTHING;
+ *     if (dasd_new(&d, 65536, DASD_CHANNEL(1)) < 0) ...
+ *     if (dasd_attach_new(&d, 0x190, 2314, 203) < 0) ...
+ *     ...
+ *     dasd_free(&d);
+ *
+ * WHAT A CALL ANSWERS. Zero or above: it was done. Below zero, one of `enum dasd_fault`: it was refused, and nothing has changed,
+ * what a pointer leads to either. An instruction answers its condition code, 0 to 3. A call that is not documented to answer a
+ * fault answers DASD_NOTHING_HELD alone, where the handle holds nothing; so do all others, before anything else.
+ *
+ * WHAT NO CALL DOES. None blocks, starts a thread, opens a file, prints, or calls back. Only dasd_new, dasd_attach,
+ * dasd_attach_new and dasd_check take memory, by malloc, and want of it is an ordinary fault.
+ *
+ * WHAT THE CALLER OWES, and nothing checks:
+ *   1. A pointer leads to a value of its type, and a pointer and a length to so many bytes. No two arguments of a call overlap, and
+ *      none lies in the main storage or in a volume's file that a call has shown. A pointer to bytes is not null, even where there
+ *      are none.
+ *   2. A handle is DASD_NOTHING before its first use. While it holds something it is not copied and its fields are left alone.
+ *   3. A handle is in one call at a time. Between two calls it may go to another thread, by whatever orders the two: a lock, the
+ *      start of a thread, a join. Two handles have nothing in common.
+ *   4. malloc, realloc and free are one allocator. No call is made in a signal handler.
+ *   5. What a call shows is used no longer than that call's text says.
+ *
+ * AN ADDRESS is that of the System/360: the channel's number is the high byte, and the low byte is the drive's (190 is drive 90 of
+ * channel 1). A SET OF CHANNELS is the first byte of a program status word, the system mask: bit 0, the highest, is channel 0, and
+ * bit 6 channel 6; DASD_CHANNEL makes a bit of a number. A handle holds one channel in this version. A UNIT is a step of a channel program: a channel command word that is
+ * fetched, an index that passes, a byte that moves, an end.
+ *
+ * Rules that come from a manual name it: 'PoO' is IBM System/360 Principles of Operation, A22-6821. */
+#ifndef DASD_H
+#define DASD_H
+
+#include <stddef.h>
+#include <stdint.h>
+
+#ifdef __cplusplus
+extern "C" {
+#endif
+
+/* The version of this header: major, minor, patch; and in a number, 16 bits, 8 and 8. dasd_version answers the library's. */
+#define DASD_VERSION "1.1.0"
+#define DASD_VERSION_NUMBER 0x010100u
+
+/* The number of the binary interface. dasd_interface answers the library's; a program and a library of one number fit together. */
+#define DASD_INTERFACE 1u
+
+/* The handle. Its fields are the library's. */
+typedef struct dasd {
+    uint64_t stamp;
+    void *place;
+} dasd;
+
+/* A handle that holds nothing. */
+#define DASD_NOTHING \
+    { 0, NULL }
+
+/* The bit of a channel in a set of channels. */
+#define DASD_CHANNEL(number) (0x80 >> (number))
+
+enum dasd_fault {
+    DASD_DONE = 0,
+    DASD_NOTHING_HELD = -1,      /* the handle holds nothing: it was not made, or was freed */
+    DASD_IN_USE = -2,            /* the handle holds something already */
+    DASD_NO_MEMORY = -3,         /* memory was refused */
+    DASD_OUTSIDE_STORAGE = -4,   /* a byte lies outside main storage */
+    DASD_BAD_SIZE = -5,          /* storage has a multiple of 2,048 bytes, from 4,096 to 16,777,216 */
+    DASD_BAD_CHANNELS = -6,      /* the set is not one of the channels 0 to 6 */
+    DASD_BAD_KEY = -7,           /* a storage key is 0 to 15 */
+    DASD_BAD_MODEL = -8,         /* a drive's model is 2311 or 2314 */
+    DASD_NO_CYLINDERS = -9,      /* a volume has 1 to 65,535 cylinders */
+    DASD_NO_CHANNEL = -10,       /* there is no channel of this number */
+    DASD_NO_DRIVE = -11,         /* no drive with this address is attached */
+    DASD_ADDRESS_TAKEN = -12,    /* a drive with this address is attached */
+    DASD_FULL = -13,             /* eight drives are attached to this channel */
+    DASD_NO_FILES = -14,         /* an image has at least one file */
+    DASD_TOO_MANY_FILES = -15,   /* an image has at most eight files */
+    DASD_NO_FILE = -16,          /* the drive's image has no such file */
+    DASD_PROGRAM_RUNS = -17,     /* a channel program runs */
+    DASD_ENDING_PENDS = -18,     /* the channel status word of this drive's program is not yet stored */
+    DASD_DEVICE_END_OWED = -19,  /* this drive's arm moves, or has arrived and has not interrupted */
+    /* Why files are no image, in the order in which they are looked at: */
+    DASD_NOT_CKD_P370 = -32,     /* not a CKD_P370 image */
+    DASD_COMPRESSED = -33,       /* a compressed image, or a shadow file */
+    DASD_DEVICE_TYPE = -34,      /* neither a 2311 nor a 2314 */
+    DASD_HEADS = -35,            /* the number of heads is not the drive's */
+    DASD_TRACK_SIZE = -36,       /* a track of the drive may not fit the track size */
+    DASD_SPLIT = -37,            /* the files are not those of one image, in order */
+    DASD_LENGTH = -38,           /* a file's length is not that of an image */
+    DASD_STORE = -39             /* a file could not be read or written; no file in memory does so */
+};
+
+/* The version of the library, as DASD_VERSION_NUMBER; and the number of its binary interface. */
+uint32_t dasd_version(void);
+uint32_t dasd_interface(void);
+
+/* --- Making and freeing --- */
+
+/* Makes main storage of so many bytes, all zero and with keys 0, and the channel of this set, without drives. The set has one channel:
+ * storage that several channels share is not in this version of the library.
+ * DASD_IN_USE, DASD_BAD_CHANNELS, DASD_BAD_SIZE, DASD_NO_MEMORY. It does not answer DASD_NOTHING_HELD. */
+int32_t dasd_new(dasd *d, uint32_t storage_bytes, uint8_t channels);
+
+/* Frees all that the handle holds, its volumes too, whether they were saved or not. The handle holds nothing then. */
+int32_t dasd_free(dasd *d);
+
+/* --- Volumes and drives --- */
+
+/* The bytes of a file, to be read. */
+typedef struct dasd_bytes {
+    const uint8_t *at;
+    size_t len;
+} dasd_bytes;
+
+/* Whether these files, one to eight in their order, are an image: what dasd_attach would find. It needs no handle, and memory for a
+ * copy while it looks. DASD_NO_FILES, DASD_TOO_MANY_FILES, DASD_NO_MEMORY, and why they are none, DASD_NOT_CKD_P370 to DASD_LENGTH. */
+int32_t dasd_check(const dasd_bytes *files, size_t count);
+
+/* Attaches a drive under an address, with the volume that these files, one to eight in their order, hold. They are copied: the
+ * caller's bytes are free afterwards. The arm is at rest at cylinder 0 and head 0, and the sense bytes are zero. Also while a program
+ * runs. DASD_NO_CHANNEL, DASD_NO_FILES, DASD_TOO_MANY_FILES, DASD_NO_MEMORY, DASD_NOT_CKD_P370 to DASD_LENGTH, DASD_ADDRESS_TAKEN,
+ * DASD_FULL. */
+int32_t dasd_attach(dasd *d, uint16_t address, const dasd_bytes *files, size_t count);
+
+/* The same with a new volume in one file: so many cylinders of this model, 2311 or 2314, whose tracks have a home address and record 0.
+ * DASD_BAD_MODEL, DASD_NO_CHANNEL, DASD_NO_CYLINDERS, DASD_NO_MEMORY, DASD_ADDRESS_TAKEN, DASD_FULL. */
+int32_t dasd_attach_new(dasd *d, uint16_t address, uint16_t model, uint16_t cylinders);
+
+/* Takes a drive off its channel. Its volume is freed, so save it first. The other drives and the channel stay.
+ * DASD_NO_CHANNEL, DASD_NO_DRIVE, DASD_PROGRAM_RUNS, DASD_ENDING_PENDS, DASD_DEVICE_END_OWED. */
+int32_t dasd_detach(dasd *d, uint16_t address);
+
+/* A file of a volume, to be saved: `len` bytes at `at`. `changes` is another number after each write that changed a byte of it. */
+typedef struct dasd_file {
+    const uint8_t *at;
+    size_t len;
+    uint64_t changes;
+} dasd_file;
+
+/* Shows a file of a drive's volume, 0 for its first, where no program runs on the drive's channel. The bytes stand there, and are the
+ * volume's, until the next dasd_step, dasd_run_on, dasd_hio, dasd_reset, dasd_detach or dasd_free.
+ * DASD_NO_CHANNEL, DASD_PROGRAM_RUNS, DASD_NO_DRIVE, DASD_NO_FILE. */
+int32_t dasd_show_file(dasd *d, uint16_t address, uint8_t file, dasd_file *shown);
+
+enum dasd_arm { DASD_AT_REST = 0, DASD_IN_MOTION = 1, DASD_ARRIVED = 2 };
+
+/* What is known of a drive without a channel program. */
+typedef struct dasd_drive {
+    uint16_t model;     /* 2311 or 2314 */
+    uint16_t cylinders; /* how many its volume has */
+    uint16_t cylinder;  /* where its arm is or, in motion, goes */
+    uint16_t head;
+    uint8_t arm;        /* enum dasd_arm */
+    uint8_t sense[6];   /* the sense bytes; they stay */
+    uint8_t reserved;   /* 0 */
+} dasd_drive;
+
+/* DASD_NO_CHANNEL, DASD_NO_DRIVE. */
+int32_t dasd_show_drive(dasd *d, uint16_t address, dasd_drive *shown);
+
+/* --- The processor's instructions (PoO, 'Input/Output Instructions') ---
+ *
+ * Each answers the condition code. What an instruction stores, it stores in main storage: the channel status word at 64, or its status
+ * bytes at 68. Where there is no channel of that number the code is 3. */
+
+/* Start I/O: 0, the program that the channel address word at 72 leads to was accepted, and runs by dasd_step; 1, status was stored;
+ * 2, the channel is busy; 3, no drive has this address. */
+int32_t dasd_sio(dasd *d, uint16_t address);
+
+/* Test I/O: 0, the drive is available; 1, a channel status word was stored; 2, the channel is busy; 3, no drive. */
+int32_t dasd_tio(dasd *d, uint16_t address);
+
+/* Halt I/O: 0, a channel status word pends, and stays; 1, nothing ran, and a status of zeros was stored; 2, the program that ran is
+ * cut, and its channel status word pends; 3, no drive. */
+int32_t dasd_hio(dasd *d, uint16_t address);
+
+/* Test Channel, of the channel of an address: 0, it is available; 1, a channel status word pends; 2, a program runs; 3, no channel. */
+int32_t dasd_tch(dasd *d, uint16_t address);
+
+/* --- What happens beside the processor --- */
+
+enum dasd_subchannel { DASD_AVAILABLE = 0, DASD_WORKING = 1, DASD_ENDED = 2 };
+
+/* Lets the program that runs on a channel do units until it ends, but so many at most, and says how many it did: fewer where it ended,
+ * and none where none runs. DASD_NO_CHANNEL. */
+int32_t dasd_step(dasd *d, uint8_t channel, uint32_t units, uint32_t *done);
+
+/* What came of dasd_run_on. */
+typedef struct dasd_run {
+    uint32_t units;     /* how many were done */
+    uint8_t subchannel; /* enum dasd_subchannel behind them: DASD_WORKING, the program goes on; DASD_ENDED, it has ended */
+    uint8_t device;     /* the low byte of the address whose program that is; 0 for DASD_AVAILABLE */
+    uint8_t asked;      /* 1: a word of the program asked for an interruption that is not yet taken */
+    uint8_t reserved;   /* 0 */
+} dasd_run;
+
+/* The same, with what the channel does behind it. DASD_NO_CHANNEL. */
+int32_t dasd_run_on(dasd *d, uint8_t channel, uint32_t units, dasd_run *ran);
+
+/* The arm of the drive at an address has arrived: 1, if it moved, and its device end is to be stored; 0, if it did not, or there is no
+ * such drive. The caller's clock says when. */
+int32_t dasd_arrive(dasd *d, uint16_t address);
+
+/* Whether dasd_interrupt would take an interruption from one of these channels now: 1 or 0. */
+int32_t dasd_is_pending(dasd *d, uint8_t channels);
+
+/* The processor takes an interruption from a channel of this set: 1, its address is answered, and its channel status word is stored; 0,
+ * there is none, and `address` stays. For the set, give the system mask of the program status word
+ * (PoO, 'Input/Output Interruption'). */
+int32_t dasd_interrupt(dasd *d, uint8_t channels, uint16_t *address);
+
+/* A track that was written and could not be saved. */
+typedef struct dasd_track {
+    uint16_t address, cylinder, head;
+} dasd_track;
+
+/* Resets a channel and its drives: a program that runs is cut, what pends is lost, arms are at rest, sense bytes are zero. 1, where a
+ * track that the program had written could not be saved, which `unsaved` names; else 0, and `unsaved` stays. No file in memory refuses
+ * to be written. DASD_NO_CHANNEL. */
+int32_t dasd_reset(dasd *d, uint8_t channel, dasd_track *unsaved);
+
+/* A channel, as it is shown. */
+typedef struct dasd_state {
+    uint8_t subchannel; /* enum dasd_subchannel: available; a program runs; it ended, and its channel status word pends */
+    uint8_t device;     /* the low byte of the address whose program runs or ended; else 0 */
+    uint8_t asked;      /* 1: a word of the program asked for an interruption that is not yet taken */
+    uint8_t drives;     /* how many drives are attached */
+    uint8_t units[8];   /* the low bytes of their addresses, in the order of attachment; behind them 0 */
+    uint8_t arms[8];    /* enum dasd_arm of each */
+} dasd_state;
+
+/* DASD_NO_CHANNEL. */
+int32_t dasd_show_channel(dasd *d, uint8_t channel, dasd_state *shown);
+
+/* --- Main storage --- */
+
+/* Main storage: `len` bytes at `at`. */
+typedef struct dasd_storage {
+    uint8_t *at;
+    size_t len;
+} dasd_storage;
+
+/* Shows where main storage lies. Between two calls its bytes are the caller's to read and to write, also while programs run: each
+ * change is one that the processor makes. They stay where they are until dasd_free. */
+int32_t dasd_show_storage(dasd *d, dasd_storage *shown);
+
+/* Copies `len` bytes of storage from an address on, or stores them, with the bounds looked at. DASD_OUTSIDE_STORAGE. */
+int32_t dasd_peek(dasd *d, uint32_t at, uint8_t *into, size_t len);
+int32_t dasd_poke(dasd *d, uint32_t at, const uint8_t *bytes, size_t len);
+
+/* The storage key, 0 to 15, of the block of 2,048 bytes that has this address (PoO, 'Storage Protection'). DASD_OUTSIDE_STORAGE. */
+int32_t dasd_key(dasd *d, uint32_t at);
+
+/* Sets it. DASD_BAD_KEY, DASD_OUTSIDE_STORAGE. */
+int32_t dasd_set_key(dasd *d, uint32_t at, uint8_t key);
+
+#ifdef __cplusplus
+}
+#endif
+#endif

@@ -1,0 +1,26 @@
+#!/bin/sh
+# check.sh S360 MKVOLUMES FOLDER: the listing is that of the source; the emulator types what it must, on new volumes and once more on what
+# it saved; and a volume that can't be saved stays as it was.
+set -eu
+s360=$1 mkvolumes=$2 folder=$3
+here=$(dirname "$0")
+
+diff "$here/utility.lst" "$folder/utility.lst"
+"$mkvolumes" "$folder/utility.bin" "$folder/resident.ckd" "$folder/work.ckd"
+"$s360" "$folder/resident.ckd" "$folder/work.ckd" 2>"$folder/saved" | diff "$here/expected.txt" -
+grep -q 'work.ckd is saved' "$folder/saved"
+if grep -q 'resident.ckd' "$folder/saved"; then
+    echo "check.sh: a volume that was not changed was saved" >&2
+    exit 1
+fi
+sed -e 's/VISIT 0042/VISIT 0043/' -e 's/VISIT 0041/VISIT 0042/' "$here/expected.txt" > "$folder/again"
+"$s360" "$folder/resident.ckd" "$folder/work.ckd" 2>/dev/null | diff "$folder/again" -
+
+# no file but the two volumes is left beside them
+test -z "$(find "$folder" -name '*.ckd.*')"
+# a volume that is none, and one that is not there
+status=0
+"$s360" "$folder/utility.bin" "$folder/work.ckd" 2>/dev/null || status=$?
+test "$status" -eq 2
+"$s360" "$folder/none.ckd" "$folder/work.ckd" 2>/dev/null || status=$?
+test "$status" -eq 2

@@ -1,0 +1,76 @@
+/* files.c - a volume's file is read whole, and saved so that whoever looks finds the old file or the new one, and no half of either. */
+#define _XOPEN_SOURCE 700
+#include <errno.h>
+#include <fcntl.h>
+#include <stdio.h>
+#include <stdlib.h>
+#include <string.h>
+#include <sys/stat.h>
+#include <unistd.h>
+
+#include "s360.h"
+
+uint8_t *read_file(const char *path, size_t *len) {
+    struct stat s;
+    int fd = open(path, O_RDONLY | O_CLOEXEC);
+    if (fd < 0) return NULL;
+    uint8_t *bytes = fstat(fd, &s) == 0 && S_ISREG(s.st_mode) ? malloc((size_t)s.st_size + 1) : NULL;
+    ssize_t got = 0;
+    *len = 0;
+    while (bytes && (got = read(fd, bytes + *len, (size_t)s.st_size - *len)) > 0) *len += (size_t)got;
+    if (got < 0) {
+        free(bytes);
+        bytes = NULL;
+    }
+    close(fd);
+    return bytes;
+}
+
+static int write_all(int fd, const uint8_t *bytes, size_t len) {
+    while (len) {
+        ssize_t put = write(fd, bytes, len);
+        if (put < 0 && errno != EINTR) return -1;
+        if (put > 0) {
+            bytes += put;
+            len -= (size_t)put;
+        }
+    }
+    return 0;
+}
+
+/* A name is safe in its folder once the folder itself is. */
+static int sync_folder_of(const char *path) {
+    char folder[4096];
+    const char *end = strrchr(path, '/');
+    snprintf(folder, sizeof folder, "%.*s", end ? (int)(end - path + 1) : 1, end ? path : ".");
+    int fd = open(folder, O_RDONLY | O_CLOEXEC);
+    if (fd < 0) return -1;
+    int bad = fsync(fd);
+    close(fd);
+    return bad;
+}
+
+/* The new bytes go into a file of their own in the same folder, with the old one's permissions; once they are on the disk, the name is
+ * turned to it. A symbolic link is followed first, so that it stays one. */
+int save_file(const char *path, const uint8_t *bytes, size_t len) {
+    struct stat old;
+    char beside[4096];
+    char *real = realpath(path, NULL);
+    if (!real) return -1;
+    if (snprintf(beside, sizeof beside, "%s.XXXXXX", real) >= (int)sizeof beside || stat(real, &old) < 0) {
+        free(real);
+        return -1;
+    }
+    int fd = mkstemp(beside), bad = fd < 0;
+    if (!bad) {
+        bad = write_all(fd, bytes, len) || fchmod(fd, old.st_mode & 07777) || fsync(fd);
+        bad = close(fd) || bad;
+        bad = bad || rename(beside, real);
+        int why = errno;
+        if (bad) unlink(beside);
+        errno = why;
+    }
+    bad = bad || sync_folder_of(real);
+    free(real);
+    return bad ? -1 : 0;
+}

@@ -1,0 +1,38 @@
+#!/bin/sh
+# install.sh MAKE CC ARCHIVE HEAP: installs into an empty folder, by PREFIX and by DESTDIR; builds the emulator outside the repository with
+# what pkg-config says of it, with the shared library and with the static one; and takes all of it away again.
+set -eu
+make=$1 cc=$2 archive=$3 heap=$4
+here=$(cd "$(dirname "$0")/.." && pwd)
+work=$(mktemp -d)
+trap 'rm -rf "$work"' EXIT
+
+install_with() {
+    "$make" -s --no-print-directory -C "$here" "$@" ARCHIVE="$archive" HEAP="$heap" PROVED=none
+}
+
+install_with install PREFIX="$work/usr"
+cp "$here"/examples/*.c "$here"/examples/*.h "$work/"
+cd "$work"
+if command -v pkg-config >/dev/null; then
+    PKG_CONFIG_PATH=$work/usr/lib/pkgconfig
+    export PKG_CONFIG_PATH
+    flags=$(pkg-config --cflags --libs dasd)
+    pkg-config --modversion dasd
+else
+    echo "install.sh: no pkg-config here: its flags are written out" >&2
+    flags="-I$work/usr/include -L$work/usr/lib -ldasd"
+fi
+# shellcheck disable=SC2086 # the flags are words
+$cc -std=c11 -O1 -o emulator cpu.c channels.c console.c files.c main.c $flags
+status=0
+LD_LIBRARY_PATH=$work/usr/lib ./emulator 2>/dev/null || status=$?
+test "$status" -eq 2
+$cc -std=c11 -O1 -I"$work/usr/include" -o emulator cpu.c channels.c console.c files.c main.c "$work/usr/lib/libdasd.a"
+
+install_with uninstall PREFIX="$work/usr"
+test -z "$(find "$work/usr" -type f -o -type l)"
+
+install_with install PREFIX=/usr DESTDIR="$work/package"
+test -f "$work/package/usr/include/dasd.h"
+grep -q '^prefix=/usr$' "$work/package/usr/lib/pkgconfig/dasd.pc"

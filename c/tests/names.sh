@@ -1,0 +1,22 @@
+#!/bin/sh
+# names.sh ARCHIVE SHARED: both show exactly the calls of dasd.h, and want nothing but the C library's few functions.
+set -eu
+archive=$1 shared=$2
+here=$(dirname "$0")
+work=$(mktemp -d)
+trap 'rm -rf "$work"' EXIT
+
+sed -n 's/^u\{0,1\}int32_t \(dasd_[a-z_]*\)(.*/\1/p' "$here/../dasd.h" | sort > "$work/declared"
+nm -g --defined-only "$archive" | awk '$2 ~ /^[A-Z]$/ { print $3 }' | sort > "$work/archive"
+nm -D --defined-only "$shared" | awk '{ print $3 }' | sort > "$work/shared"
+diff "$work/declared" "$work/archive"
+diff "$work/declared" "$work/shared"
+
+printf '%s\n' free malloc memcpy memmove memset realloc > "$work/known"
+nm -g --undefined-only "$archive" | awk '$1 == "U" { print $2 }' | sort -u > "$work/wanted"
+comm -13 "$work/known" "$work/wanted" > "$work/unknown"
+if [ -s "$work/unknown" ]; then
+    echo "names.sh: $archive wants what it should not:" >&2
+    cat "$work/unknown" >&2
+    exit 1
+fi

@@ -1,0 +1,16 @@
+use Rattle.std.proofs.Common.{rules, ◌∙◌, w32}
+use Rattle.std.proofs.lemmas.Int.{to_z-of_z}
+use Rattle.s360_events.specs.Seen.{condition_seen}
+use Rattle.s360_laws.specs.Events.{Condition}
+use Rattle.s360_laws.specs.declared.condition.ConditionCode.TheVariants.{One}
+use Rattle.dasd_c.specs.Calls.{Tells}
+use Rattle.dasd_c.proofs.instructions.test.Goals as goal
+
+-- C is told the number of the channel's answer
+pub returns : goal.returns
+unfolding Tells
+returns c = λ m stands. record {
+  answer = condition_seen (λ u. Condition One) c.tch.result;
+  told = to_z-of_z w32 c.of_test.result (search rules) ∙ c.of_test.ensures;
+  does = c.tch.ensures m stands;
+}

@@ -1,0 +1,4 @@
+pub mod Slot
+pub mod Codes
+pub mod Calls
+pub mod Attaching

@@ -1,0 +1,154 @@
+//! The handle, and how a subsystem is taken out of it and put back.
+
+ghost use Rattle.std.specs.Prelude.{◌≡◌, ◌==◌, ◌↔◌, Option, Some, None, IsSome, IfSome, IfOk, IfErr, is_some, option_map, pos, true, false, if◌then◌else◌};
+ghost use Rattle.dasd_c.specs.Codes.{nothing_held, in_use};
+ghost use Rattle.dasd_c.specs.Calls.{IsMade, only_channel};
+ghost use Rattle.dasd_c.specs.declared.handle.TheConstants.{HELD};
+
+use crate::parts::Parts;
+use crate::slot::Slot;
+use crate::tell::{BAD_CHANNELS, DONE, IN_USE, NO_MEMORY, NOTHING_HELD, of_refusal};
+use dasd_subsystem::Subsystem;
+use std::alloc::Global;
+use std::marker::Send;
+use std::mem;
+
+/// The stamp of a handle that holds a subsystem.
+pub const HELD: u64 = 0x4441_5344_4348_414E;
+
+/// What C holds of a subsystem. All zero bytes is a handle that holds none.
+#[repr(C)]
+#[derive(Drop)]
+pub struct Handle {
+    pub(crate) stamp: u64,
+    pub(crate) slot: Slot,
+    ghost agrees: { is_some slot.held ≡ (stamp == HELD) },
+}
+
+/// Takes the subsystem out of the handle, which then holds none.
+pub(crate) fn take(handle: &mut Handle, alloc: Global) -> Option<Box<Subsystem>>
+    ensures taken { option_map (λ b. b.value) result ≡ handle.old.slot.held }
+    ensures left { handle.new.slot.held ≡ None }
+{
+    if handle.stamp != HELD {
+        return None;
+    }
+    let empty = Handle {
+        stamp: 0,
+        slot: Slot::empty(alloc),
+    };
+    let Handle { stamp: _, slot } = mem::replace(handle, empty);
+    Some(slot.into_parts().into_box())
+}
+
+/// Puts a subsystem into the handle.
+pub(crate) fn put(handle: &mut Handle, subsystem: Box<Subsystem>)
+    ensures { handle.new.slot.held ≡ Some subsystem.value }
+{
+    *handle = Handle {
+        stamp: HELD,
+        slot: Slot::of_parts(Parts::of(subsystem)),
+    };
+}
+
+/// The version of the library: major, minor and patch, in 16 bits, 8 and 8.
+#[unsafe(no_mangle)]
+pub extern "C" fn dasd_version() -> u32
+    ensures { result ≡ 0x010100 }
+{
+    0x01_01_00
+}
+
+/// The number of the binary interface.
+#[unsafe(no_mangle)]
+pub extern "C" fn dasd_interface() -> u32
+    ensures { result ≡ 1 }
+{
+    1
+}
+
+/// Makes a storage of so many zero bytes and the channel of this set, where the handle holds nothing.
+#[unsafe(no_mangle)]
+pub extern "C" fn dasd_new(
+    handle: &mut Handle,
+    alloc: Global,
+    storage_bytes: u32,
+    channels: u8,
+) -> i32
+    ensures made { result ≡ pos 0 → IfSome handle.new.slot.held (λ s. IsMade s storage_bytes channels) }
+    ensures held { result ≡ pos 0 → IsSome handle.new.slot.held }
+    ensures refused { (result ≡ pos 0 → ⊥) → handle.new.slot.held ≡ handle.old.slot.held }
+    ensures in_use { IsSome handle.old.slot.held → result ≡ in_use }
+{
+    if handle.stamp == HELD {
+        return IN_USE;
+    }
+    match made(alloc, storage_bytes, channels) {
+        Ok(made) => {
+            put(handle, made);
+            DONE
+        }
+        Err(code) => code,
+    }
+}
+
+// A subsystem on the heap, or why there is none.
+fn made(alloc: Global, storage_bytes: u32, channels: u8) -> Result<Box<Subsystem>, i32>
+    ensures made { IfOk result (λ s. IsMade s.value storage_bytes channels) }
+    ensures not_done { IfErr result (λ code. code ≡ pos 0 → ⊥) }
+{
+    let Some(number) = number_of(channels) else {
+        return Err(BAD_CHANNELS);
+    };
+    match Subsystem::new(alloc, number, storage_bytes) {
+        Ok(subsystem) => match Box::new(alloc, subsystem) {
+            Ok(boxed) => Ok(boxed),
+            Err(_) => Err(NO_MEMORY),
+        },
+        Err(refusal) => Err(of_refusal(refusal)),
+    }
+}
+
+// The number of the one channel in a set.
+fn number_of(channels: u8) -> Option<u8>
+    ensures { result ≡ only_channel channels }
+{
+    match channels {
+        128 => Some(0),
+        64 => Some(1),
+        32 => Some(2),
+        16 => Some(3),
+        8 => Some(4),
+        4 => Some(5),
+        2 => Some(6),
+        _ => None,
+    }
+}
+
+/// Frees what the handle holds. It holds nothing from then on.
+#[unsafe(no_mangle)]
+pub extern "C" fn dasd_free(handle: &mut Handle, alloc: Global) -> i32
+    ensures freed { handle.new.slot.held ≡ None }
+    ensures told { result ≡ (if is_some handle.old.slot.held then pos 0 else nothing_held) }
+{
+    match take(handle, alloc) {
+        Some(subsystem) => {
+            drop(subsystem);
+            DONE
+        }
+        None => NOTHING_HELD,
+    }
+}
+
+fn moved<T: Send>(value: T) -> T
+    ensures { result ≡ value }
+{
+    value
+}
+
+/// The same handle, which may so go to another thread.
+pub fn crossed(handle: Handle) -> Handle
+    ensures { result ≡ handle }
+{
+    moved(handle)
+}

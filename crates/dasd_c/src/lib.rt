@@ -1,0 +1,14 @@
+//! What a C program links: channels with their drives behind a handle that the program owns. `c/dasd.h` is its header.
+//!
+//! No call asks anything of its caller but what C's types say: each pointer leads to a value that no other argument lies in.
+#![tactic(auto)]
+
+mod attaching;
+mod handle;
+mod instructions;
+mod parts;
+mod showing;
+mod slot;
+mod storing;
+mod tell;
+mod turns;

@@ -1,0 +1,193 @@
+//! The numbers by which a call says what came of it. 0 and above: it was done. They are those of `enum dasd_fault`.
+
+ghost use Rattle.std.specs.Prelude.{◌≡◌, pos, OnOk, OnErr};
+ghost use Rattle.s360_laws.specs.Events as machine;
+ghost use Rattle.s360_laws.specs.declared.condition.ConditionCode.TheVariants as code;
+ghost use Rattle.s360_events.specs.Seen.{condition_seen, status_seen, csw_seen};
+ghost use Rattle.dasd_c.specs.Codes.{code_of, address_from};
+
+use ckd_image::MountFault;
+use dasd_subsystem::Refusal;
+use s360_channel::DetachFault;
+use s360_events::{Condition, Status};
+use s360_words::Csw;
+
+/// It was done.
+pub(crate) const DONE: i32 = 0;
+
+/// The handle holds nothing.
+pub(crate) const NOTHING_HELD: i32 = -1;
+
+/// The handle holds something already.
+pub(crate) const IN_USE: i32 = -2;
+
+/// Memory was refused.
+pub(crate) const NO_MEMORY: i32 = -3;
+
+/// A byte lies outside main storage.
+pub(crate) const OUTSIDE_STORAGE: i32 = -4;
+
+/// There is no storage of this size.
+pub(crate) const BAD_SIZE: i32 = -5;
+
+/// The set is not one channel.
+pub(crate) const BAD_CHANNELS: i32 = -6;
+
+/// A storage key is 0 to 15.
+pub(crate) const BAD_KEY: i32 = -7;
+
+/// A drive's model is 2311 or 2314.
+pub(crate) const BAD_MODEL: i32 = -8;
+
+/// A volume has at least one cylinder.
+pub(crate) const NO_CYLINDERS: i32 = -9;
+
+/// There is no channel of this number.
+pub(crate) const NO_CHANNEL: i32 = -10;
+
+/// No drive with this address is attached.
+pub(crate) const NO_DRIVE: i32 = -11;
+
+/// A drive with this address is attached.
+pub(crate) const ADDRESS_TAKEN: i32 = -12;
+
+/// Eight drives are attached to this channel.
+pub(crate) const FULL: i32 = -13;
+
+/// An image has at least one file.
+pub(crate) const NO_FILES: i32 = -14;
+
+/// An image has at most eight files.
+pub(crate) const TOO_MANY_FILES: i32 = -15;
+
+/// The drive's image has no such file.
+pub(crate) const NO_FILE: i32 = -16;
+
+/// A channel program runs.
+pub(crate) const PROGRAM_RUNS: i32 = -17;
+
+/// The channel status word of this drive's program is not yet stored.
+pub(crate) const ENDING_PENDS: i32 = -18;
+
+/// This drive's arm moves, or has arrived and has not interrupted.
+pub(crate) const DEVICE_END_OWED: i32 = -19;
+
+/// Why something was not made, attached, or is no image.
+pub(crate) fn of_refusal(refusal: Refusal) -> i32
+    ensures { result ≡ pos 0 → ⊥ }
+{
+    match refusal {
+        Refusal::BadSize => BAD_SIZE,
+        Refusal::BadNumber => BAD_CHANNELS,
+        Refusal::NoChannel => NO_CHANNEL,
+        Refusal::NoCylinders => NO_CYLINDERS,
+        Refusal::NoFiles => NO_FILES,
+        Refusal::TooManyFiles => TOO_MANY_FILES,
+        Refusal::Mount(fault) => of_mount(fault),
+        Refusal::AddressTaken => ADDRESS_TAKEN,
+        Refusal::Full => FULL,
+        Refusal::OutOfMemory => NO_MEMORY,
+    }
+}
+
+fn of_mount(fault: MountFault) -> i32
+    ensures { result ≡ pos 0 → ⊥ }
+{
+    match fault {
+        MountFault::NotCkdP370 => -32,
+        MountFault::Compressed => -33,
+        MountFault::DeviceType => -34,
+        MountFault::Heads => -35,
+        MountFault::TrackSize => -36,
+        MountFault::Split => -37,
+        MountFault::Length => -38,
+        MountFault::StoreFault => -39,
+    }
+}
+
+/// What came of a call that may be refused.
+pub(crate) fn of_done(done: Result<(), Refusal>) -> i32
+    ensures done { OnOk done (result ≡ pos 0) }
+    ensures refused { OnErr done (result ≡ pos 0 → ⊥) }
+{
+    match done {
+        Ok(()) => DONE,
+        Err(refusal) => of_refusal(refusal),
+    }
+}
+
+/// Why a drive stays.
+pub(crate) fn of_detach(fault: DetachFault) -> i32
+    ensures { result ≡ pos 0 → ⊥ }
+{
+    match fault {
+        DetachFault::NoDrive => NO_DRIVE,
+        DetachFault::ProgramRuns => PROGRAM_RUNS,
+        DetachFault::EndingPends => ENDING_PENDS,
+        DetachFault::DeviceEndOwed => DEVICE_END_OWED,
+    }
+}
+
+/// The condition code of an instruction that stores status, 0 to 3.
+pub(crate) fn of_status(condition: Condition<Status>) -> i32
+    ensures { result ≡ code_of (condition_seen status_seen condition) }
+{
+    match condition {
+        Condition::Zero => 0,
+        Condition::Stored(_) => 1,
+        Condition::Two => 2,
+        Condition::Three => 3,
+    }
+}
+
+/// The condition code of one that stores a channel status word.
+pub(crate) fn of_csw(condition: Condition<Csw>) -> i32
+    ensures { result ≡ code_of (condition_seen csw_seen condition) }
+{
+    match condition {
+        Condition::Zero => 0,
+        Condition::Stored(_) => 1,
+        Condition::Two => 2,
+        Condition::Three => 3,
+    }
+}
+
+/// The condition code of Test Channel.
+pub(crate) fn of_test(condition: Condition<()>) -> i32
+    ensures { result ≡ code_of (condition_seen (λ u. machine.Condition code.One) condition) }
+{
+    match condition {
+        Condition::Zero => 0,
+        Condition::Stored(_) => 1,
+        Condition::Two => 2,
+        Condition::Three => 3,
+    }
+}
+
+/// Whether an arm arrived.
+pub(crate) fn of_arrival(arrived: bool) -> i32
+    ensures { result ≡ code_of (machine.HasArrived arrived) }
+{
+    if arrived { 1 } else { 0 }
+}
+
+/// Whether storage kept what was stored.
+pub(crate) fn of_kept(kept: bool) -> i32
+    ensures { result ≡ code_of (machine.WasKept kept) }
+{
+    if kept { DONE } else { OUTSIDE_STORAGE }
+}
+
+/// Whether an interruption was taken, whose address is put where C wants it.
+pub(crate) fn of_interruption(interruption: Option<(u16, Csw)>, address: &mut u16) -> i32
+    ensures told { result ≡ code_of (machine.Interrupted interruption) }
+    ensures from { address.new ≡ address_from (machine.Interrupted interruption) address.old }
+{
+    match interruption {
+        Some((from, _)) => {
+            *address = from;
+            1
+        }
+        None => 0,
+    }
+}

@@ -1,0 +1,6 @@
+//! A volume's file in memory: a store that counts its changes.
+#![tactic(auto)]
+
+mod volume_file;
+
+pub use crate::volume_file::VolumeFile;

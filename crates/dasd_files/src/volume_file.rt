@@ -1,0 +1,146 @@
+//! A volume's file in memory.
+
+ghost use Rattle.std.specs.Prelude.{◌≡◌, ◌≢◌, ◌+◌, ◌<◌, ◌≤◌, false, nat_lt, length, replicate, slice_range, is_ok, IsOk, IfOk};
+ghost use Rattle.ckd_image.specs.Store.{overwritten};
+ghost use Rattle.dasd_files.specs.Files.{file_of, has_room_in, Writes};
+
+use ckd_image::{ImageStore, StoreFault};
+use ghost_data::{Count, Trace};
+use std::alloc::{AllocError, Global};
+use std::marker::Model;
+
+/// The bytes of a file in memory, and a number that is another after each write that changes one of them. Their length stays:
+/// a write that would pass their end fails and changes nothing; every other call succeeds.
+#[derive(Drop)]
+pub struct VolumeFile {
+    held: Vec<u8>,
+    first: Trace,
+    refused: Count,
+    changes: u64,
+}
+
+impl Model for VolumeFile {
+    ghost use Rattle.dasd_files.specs.Files.{FileState, IsFile};
+
+    ghost Value = { FileState };
+
+    ghost view = { λ f. record { content = f.held.items; first = f.first.bytes; failures = f.refused; changes = f.changes } };
+
+    ghost invariant = { λ f. IsFile (record { content = f.held.items; first = f.first.bytes; failures = f.refused; changes = f.changes }) };
+}
+
+impl VolumeFile {
+    /// A file of these bytes. It takes no memory.
+    pub fn new(held: Vec<u8>) -> VolumeFile
+        ensures { result ≡ file_of held.items }
+    {
+        let first = Trace::of(held.as_slice());
+        VolumeFile {
+            held,
+            first,
+            refused: Count::new(),
+            changes: 0,
+        }
+    }
+
+    /// A file of a copy of these bytes. The only error is that memory was refused.
+    pub fn copy_of(alloc: Global, bytes: &[u8]) -> Result<VolumeFile, AllocError>
+        ensures { IfOk result (λ f. f ≡ file_of bytes.now) }
+    {
+        Ok(VolumeFile::new(Vec::from_slice(alloc, bytes)?))
+    }
+
+    /// A file of this many zero bytes. The only error is that memory was refused.
+    pub fn zeros(alloc: Global, len: u64) -> Result<VolumeFile, AllocError>
+        ensures { IfOk result (λ f. f ≡ file_of (replicate len 0)) }
+    {
+        Ok(VolumeFile::new(vec![in alloc; 0u8; len as usize]?))
+    }
+
+    /// The bytes held.
+    pub fn bytes(&self) -> &[u8]
+        ensures { result.now ≡ self.now.content }
+    {
+        self.held.as_slice()
+    }
+
+    /// Where the bytes lie. They stay there as long as the file is held.
+    pub fn as_ptr(&self) -> *const u8 {
+        self.held.as_ptr()
+    }
+
+    /// A number: 0 before the first write that changes a byte, and another after each.
+    pub fn changes(&self) -> u64
+        ensures { result ≡ self.now.changes }
+    {
+        self.changes
+    }
+
+    /// Whether a write changed a byte; if none did, the bytes are those that the file was made of.
+    pub fn is_changed(&self) -> bool
+        ensures { result ≡ nat_lt 0 self.now.changes }
+    {
+        self.changes > 0
+    }
+}
+
+impl ImageStore for VolumeFile {
+    ghost content = { λ f. f.content };
+
+    ghost failures = { λ f. f.failures };
+
+    fn len(&self) -> u64
+        ensures { result ≡ length self.now.content }
+    {
+        self.held.len() as u64
+    }
+
+    fn read_at(&mut self, at: u64, into: &mut [u8]) -> Result<(), StoreFault>
+        requires { at + length into.old ≤ length self.old.content }
+        ensures succeeds { IsOk result }
+        ensures read { into.new ≡ slice_range self.old.content at (at + length into.old) }
+        ensures kept { self.new ≡ self.old }
+    {
+        let rest = &self.held[at as usize..];
+        into.copy_from_slice(&rest[..into.len()]);
+        Ok(())
+    }
+
+    fn write_at(&mut self, at: u64, bytes: &[u8]) -> Result<(), StoreFault>
+        requires { at ≤ length self.old.content }
+        ensures succeeds { is_ok result ≡ has_room_in self.old at bytes.now }
+        ensures writes { Writes at bytes.now self.old self.new }
+    {
+        let from = at as usize;
+        if bytes.len() > self.held.len() - from {
+            self.refused = self.refused.next();
+            return Err(StoreFault);
+        }
+        if overwrite(self.held.as_mut_slice(), from, bytes) {
+            self.changes = another(self.changes);
+        }
+        Ok(())
+    }
+}
+
+// Another number, and not 0: the next one, and 1 behind the last.
+fn another(number: u64) -> u64
+    ensures other { result ≢ number }
+    ensures not_zero { 0 < result }
+{
+    if number == u64::MAX { 1 } else { number + 1 }
+}
+
+// Puts bytes over those from a place on, and says whether one of them is another.
+fn overwrite(held: &mut [u8], at: usize, bytes: &[u8]) -> bool
+    requires { at + length bytes.now ≤ length held.old }
+    ensures put { held.new ≡ overwritten held.old at bytes.now }
+    ensures same { result ≡ false → held.new ≡ held.old }
+{
+    let to = at + bytes.len();
+    if &held[at..to] == bytes {
+        return false;
+    }
+    held[at..to].copy_from_slice(bytes);
+    true
+}

@@ -1,0 +1,7 @@
+use Rattle.std.proofs.Common.{subst, List, ℕ}
+use Rattle.ckd_image.specs.Image.{Holds}
+use Rattle.dasd_subsystem.proofs.mounting.mounted.Goals as goal
+
+-- the copies hold what the files do
+pub returns-in-Ok : goal.returns-in-Ok
+returns-in-Ok c = subst (λ (fs : List (List ℕ)). Holds fs c.in-Ok.image.geometry c.in-Ok.image.slots) c.in_ok-copied.ensures.contents c.in-Ok.ensures.holds

@@ -1,0 +1,19 @@
+-- What a subsystem leaves when a drive is attached, and of what its image is made.
+use Rattle.std.specs.Prelude.{◌≡◌, ℕ, List, [], ◌∷◌, ◌++◌}
+use Rattle.ckd_track.specs.declared.model.DriveModel.{DriveModel}
+use Rattle.ckd_image.specs.Image.{ImageState, Holds, new_image}
+use Rattle.s360_channel.specs.Channel.{ChannelState, new_unit}
+
+-- these files, in their order, hold the volume of an image
+abbrev pub IsImageOf : (files : List (List ℕ)) → ImageState → Type 0
+IsImageOf files i = Holds files i.geometry i.slots
+
+-- A drive with the image of these files is attached behind the others, and nothing else has changed.
+pub record Attaches (device : ℕ) (files : List (List ℕ)) (old new : ChannelState) : Type 0 where
+  pub image : ImageState
+  pub of_files : IsImageOf files image
+  pub attached : new ≡ record old { units = old.units ++ new_unit device image ∷ [] }
+
+-- A drive with a new volume of so many cylinders is.
+abbrev pub AttachesNew : (device : ℕ) → DriveModel → (cylinders : ℕ) → (old new : ChannelState) → Type 0
+AttachesNew device model cylinders old new = new ≡ record old { units = old.units ++ new_unit device (new_image model cylinders 0) ∷ [] }

@@ -1,0 +1,89 @@
+//! Files become an image.
+
+ghost use Rattle.std.specs.Prelude.{◌≡◌, ◌+◌, ◌<◌, ◌≤◌, ◌∷◌, ◌++◌, [], length, map, IfOk, OnOk, All, IsSome};
+ghost use Rattle.arrayvec.specs.ArrayVec.{array_vec_len};
+ghost use Rattle.ckd_image.specs.Files.{each};
+ghost use Rattle.ckd_image.specs.Image.{new_image};
+ghost use Rattle.dasd_subsystem.specs.Attaching.{IsImageOf};
+
+use crate::refusal::Refusal;
+use arrayvec::ArrayVec;
+use ckd_image::{Image, image_len};
+use ckd_track::DriveModel;
+use dasd_files::VolumeFile;
+use std::alloc::Global;
+
+/// Whether these files, in their order, are an image.
+///
+/// # Errors
+///
+/// `NoFiles`, `TooManyFiles`, `OutOfMemory`, or why they are none.
+pub fn check(alloc: Global, files: &[&[u8]]) -> Result<(), Refusal> {
+    match mounted(alloc, files) {
+        Ok(_) => Ok(()),
+        Err(refusal) => Err(refusal),
+    }
+}
+
+/// The image that copies of these files, in their order, are.
+pub(crate) fn mounted(alloc: Global, files: &[&[u8]]) -> Result<Image<VolumeFile>, Refusal>
+    ensures { IfOk result (λ i. IsImageOf (map (λ file. file.now) files.now) i) }
+{
+    if files.is_empty() {
+        return Err(Refusal::NoFiles);
+    }
+    if files.len() > 8 {
+        return Err(Refusal::TooManyFiles);
+    }
+    match Image::mount_files(copied(alloc, files)?) {
+        Ok(image) => Ok(image),
+        Err((fault, _)) => Err(Refusal::Mount(fault)),
+    }
+}
+
+// Copies of the files, none of which has failed.
+fn copied(alloc: Global, files: &[&[u8]]) -> Result<ArrayVec<Option<VolumeFile>, 8>, Refusal>
+    requires { length files.now ≤ 8 }
+    ensures there { IfOk result (λ copies. All IsSome copies.items) }
+    ensures contents { IfOk result (λ copies. each (λ f. f.content) copies.items ≡ map (λ file. file.now) files.now) }
+{
+    let mut copies: ArrayVec<Option<VolumeFile>, 8> = ArrayVec::new();
+    for bytes in files {
+        let Ok(file) = VolumeFile::copy_of(alloc, *bytes) else {
+            return Err(Refusal::OutOfMemory);
+        };
+        append(&mut copies, file);
+    }
+    Ok(copies)
+}
+
+// One file more.
+fn append(files: &mut ArrayVec<Option<VolumeFile>, 8>, file: VolumeFile)
+    requires room { array_vec_len files.old < 8 }
+    requires there { All IsSome files.old.items }
+    ensures there { All IsSome files.new.items }
+    ensures count { length files.new.items ≡ length files.old.items + 1 }
+    ensures contents { each (λ f. f.content) files.new.items ≡ each (λ f. f.content) files.old.items ++ file.content ∷ [] }
+{
+    files.push(Some(file));
+}
+
+/// The image of a new volume of so many cylinders.
+pub(crate) fn formatted(
+    alloc: Global,
+    model: DriveModel,
+    cylinders: u16,
+) -> Result<Image<VolumeFile>, Refusal>
+    ensures { IfOk result (λ i. i ≡ new_image model cylinders 0) }
+{
+    if cylinders == 0 {
+        return Err(Refusal::NoCylinders);
+    }
+    let Ok(file) = VolumeFile::zeros(alloc, image_len(model, cylinders)) else {
+        return Err(Refusal::OutOfMemory);
+    };
+    match Image::format(file, model, cylinders) {
+        Ok(image) => Ok(image),
+        Err((fault, _)) => Err(Refusal::Mount(fault)),
+    }
+}

@@ -1,0 +1,102 @@
+//! What the library refuses.
+
+use std::error::Error;
+use std::fmt;
+
+macro_rules! faults {
+    ($($(#[doc = $text:literal])+ $name:ident = $code:literal,)*) => {
+        /// Why a call was refused. Nothing has changed.
+        #[derive(Clone, Copy, Debug, PartialEq, Eq, Hash)]
+        #[non_exhaustive]
+        pub enum Fault {
+            $($(#[doc = $text])+ $name,)*
+            /// A number that this crate does not know.
+            Other(i32),
+        }
+
+        impl Fault {
+            pub(crate) fn of(code: i32) -> Fault {
+                match code {
+                    $($code => Fault::$name,)*
+                    code => Fault::Other(code),
+                }
+            }
+
+            /// The number of `enum dasd_fault`.
+            pub fn code(self) -> i32 {
+                match self {
+                    $(Fault::$name => $code,)*
+                    Fault::Other(code) => code,
+                }
+            }
+        }
+
+        impl fmt::Display for Fault {
+            fn fmt(&self, f: &mut fmt::Formatter<'_>) -> fmt::Result {
+                match self {
+                    $(Fault::$name => f.write_str(concat!($($text),+).trim()),)*
+                    Fault::Other(code) => write!(f, "fault {code}"),
+                }
+            }
+        }
+    };
+}
+
+faults! {
+    /// the handle holds nothing
+    NothingHeld = -1,
+    /// the handle holds something already
+    InUse = -2,
+    /// memory was refused
+    NoMemory = -3,
+    /// a byte lies outside main storage
+    OutsideStorage = -4,
+    /// storage has a multiple of 2,048 bytes, from 4,096 to 16,777,216
+    BadSize = -5,
+    /// the set of channels has none, or one above 6
+    BadChannels = -6,
+    /// a storage key is 0 to 15
+    BadKey = -7,
+    /// a drive's model is 2311 or 2314
+    BadModel = -8,
+    /// a volume has at least one cylinder
+    NoCylinders = -9,
+    /// there is no channel of this number
+    NoChannel = -10,
+    /// no drive with this address is attached
+    NoDrive = -11,
+    /// a drive with this address is attached
+    AddressTaken = -12,
+    /// eight drives are attached to this channel
+    Full = -13,
+    /// an image has at least one file
+    NoFiles = -14,
+    /// an image has at most eight files
+    TooManyFiles = -15,
+    /// the drive's image has no such file
+    NoFile = -16,
+    /// a channel program runs
+    ProgramRuns = -17,
+    /// the channel status word of this drive's program is not yet stored
+    EndingPends = -18,
+    /// this drive's arm moves, or has arrived and has not interrupted
+    DeviceEndOwed = -19,
+    /// not a CKD_P370 image
+    NotCkdP370 = -32,
+    /// a compressed image, or a shadow file
+    Compressed = -33,
+    /// neither a 2311 nor a 2314
+    DeviceType = -34,
+    /// the number of heads is not the drive's
+    Heads = -35,
+    /// a track of the drive may not fit the track size
+    TrackSize = -36,
+    /// the files are not those of one image, in order
+    Split = -37,
+    /// a file's length is not that of an image
+    Length = -38,
+    /// a file could not be read or written
+    Store = -39,
+}
+
+impl Error for Fault {}

@@ -1,0 +1,27 @@
+//! A selector channel with IBM 2311 and 2314 drives, for emulators of the System/360: a safe way to the library `libdasd`.
+//!
+//! ```
+//! use dasd::{Address, ChannelSet, Subsystem, Condition, DriveModel};
+//!
+//! let drive = Address(0x190);
+//! let mut disks = Subsystem::new(65536, ChannelSet::of(&[1]))?;
+//! disks.attach_new(drive, DriveModel::D2314, 2)?;
+//! let storage = disks.storage();
+//! storage[0x48..0x4C].copy_from_slice(&[0, 0, 1, 0]); // the channel address word
+//! storage[0x100..0x108].copy_from_slice(&[0x16, 0, 2, 0, 0x20, 0, 0, 16]); // Read R0 to 200
+//! assert_eq!(disks.sio(drive), Condition::Zero);
+//! disks.run_on(1, 1000)?;
+//! let (from, csw) = disks.interrupt(ChannelSet::ALL).unwrap();
+//! assert_eq!((from, csw.status.unit), (drive, 0x0C));
+//! # Ok::<(), dasd::Fault>(())
+//! ```
+
+mod subsystem;
+mod events;
+mod fault;
+mod words;
+
+pub use crate::subsystem::{check, version, Subsystem, DriveView, File, RunOn, View};
+pub use crate::events::{Answer, Event};
+pub use crate::fault::Fault;
+pub use crate::words::{Address, Arm, ChannelSet, Condition, Csw, DriveModel, Status, SubchannelView};

@@ -1,0 +1,271 @@
+//! A channel with its drives, behind a handle that nothing else reaches.
+
+use crate::{Address, Arm, ChannelSet, Condition, Csw, DriveModel, Fault, Status, SubchannelView};
+use dasd_sys as sys;
+
+const CSW: usize = 64;
+
+/// Main storage, and a channel with its drives and their volumes.
+///
+/// What a call lends borrows this value, so that no other call is made while it is used. It may go to another thread, and is used by
+/// one at a time.
+#[derive(Debug)]
+pub struct Subsystem {
+    handle: sys::dasd,
+}
+
+// SAFETY: the library proves that what a handle holds may go to another thread; nothing else leads to it.
+unsafe impl Send for Subsystem {}
+
+/// A file of a volume, lent to be saved.
+#[derive(Clone, Copy, Debug)]
+pub struct File<'a> {
+    pub bytes: &'a [u8],
+    /// Another number after each write that changed a byte.
+    pub changes: u64,
+}
+
+/// What is known of a drive without a channel program.
+#[derive(Clone, Copy, Debug, PartialEq, Eq)]
+pub struct DriveView {
+    pub model: DriveModel,
+    pub cylinders: u16,
+    /// Where the arm is or, in motion, goes.
+    pub cylinder: u16,
+    pub head: u16,
+    pub arm: Arm,
+    pub sense: [u8; 6],
+}
+
+/// A channel, as it is shown.
+#[derive(Clone, Debug, PartialEq, Eq)]
+pub struct View {
+    pub subchannel: SubchannelView,
+    /// The low byte of each drive's address and its arm, in the order of attachment.
+    pub drives: Vec<(u8, Arm)>,
+}
+
+/// What came of a run.
+#[derive(Clone, Copy, Debug, PartialEq, Eq)]
+pub struct RunOn {
+    /// How many units were done.
+    pub units: u32,
+    /// The subchannel behind them.
+    pub subchannel: SubchannelView,
+}
+
+fn done(code: i32) -> Result<u32, Fault> {
+    u32::try_from(code).map_err(|_| Fault::of(code))
+}
+
+fn arm_of(number: u8) -> Arm {
+    match number {
+        0 => Arm::AtRest,
+        1 => Arm::InMotion,
+        _ => Arm::Arrived,
+    }
+}
+
+fn subchannel_of(number: u8, device: u8, asked: u8) -> SubchannelView {
+    match number {
+        0 => SubchannelView::Idle,
+        1 => SubchannelView::Working(device, asked == 1),
+        _ => SubchannelView::Pending(device),
+    }
+}
+
+fn pairs(files: &[&[u8]]) -> Vec<sys::dasd_bytes> {
+    files.iter().map(|file| sys::dasd_bytes { at: file.as_ptr(), len: file.len() }).collect()
+}
+
+// In each call below: SAFETY: the handle is this value's own and was made by `new`; what else is passed is a value of its type, or bytes
+// with their length, that no other argument overlaps, and that can't lie in storage or in a file, since those are lent by `&mut self`.
+impl Subsystem {
+    /// Main storage of so many zero bytes, and the channel of this set, without drives. The set has one channel.
+    pub fn new(storage_bytes: u32, channels: ChannelSet) -> Result<Subsystem, Fault> {
+        let mut handle = sys::dasd { stamp: 0, place: std::ptr::null_mut() };
+        done(unsafe { sys::dasd_new(&mut handle, storage_bytes, channels.0) })?;
+        Ok(Subsystem { handle })
+    }
+
+    /// Attaches a drive with the volume that these files, one to eight in their order, hold. They are copied.
+    pub fn attach(&mut self, address: Address, files: &[&[u8]]) -> Result<(), Fault> {
+        let files = pairs(files);
+        done(unsafe { sys::dasd_attach(&mut self.handle, address.0, files.as_ptr(), files.len()) }).map(drop)
+    }
+
+    /// Attaches a drive with a new volume.
+    pub fn attach_new(&mut self, address: Address, model: DriveModel, cylinders: u16) -> Result<(), Fault> {
+        let model = match model {
+            DriveModel::D2311 => 2311,
+            DriveModel::D2314 => 2314,
+        };
+        done(unsafe { sys::dasd_attach_new(&mut self.handle, address.0, model, cylinders) }).map(drop)
+    }
+
+    /// Takes a drive off its channel, and frees its volume.
+    pub fn detach(&mut self, address: Address) -> Result<(), Fault> {
+        done(unsafe { sys::dasd_detach(&mut self.handle, address.0) }).map(drop)
+    }
+
+    /// A file of a drive's volume, 0 for its first, where no program runs on its channel.
+    pub fn file(&mut self, address: Address, place: u8) -> Result<File<'_>, Fault> {
+        let mut shown = sys::dasd_file { at: std::ptr::null(), len: 0, changes: 0 };
+        done(unsafe { sys::dasd_show_file(&mut self.handle, address.0, place, &mut shown) })?;
+        // SAFETY: the bytes stay as they are until the next call, which the borrow forbids.
+        let bytes = unsafe { std::slice::from_raw_parts(shown.at, shown.len) };
+        Ok(File { bytes, changes: shown.changes })
+    }
+
+    /// What is known of a drive.
+    pub fn drive(&mut self, address: Address) -> Result<DriveView, Fault> {
+        let mut shown = sys::dasd_drive::default();
+        done(unsafe { sys::dasd_show_drive(&mut self.handle, address.0, &mut shown) })?;
+        Ok(DriveView {
+            model: if shown.model == 2311 { DriveModel::D2311 } else { DriveModel::D2314 },
+            cylinders: shown.cylinders,
+            cylinder: shown.cylinder,
+            head: shown.head,
+            arm: arm_of(shown.arm),
+            sense: shown.sense,
+        })
+    }
+
+    /// Start I/O.
+    pub fn sio(&mut self, address: Address) -> Condition<Status> {
+        let code = unsafe { sys::dasd_sio(&mut self.handle, address.0) };
+        self.condition(code, |csw| csw.status)
+    }
+
+    /// Test I/O.
+    pub fn tio(&mut self, address: Address) -> Condition<Csw> {
+        let code = unsafe { sys::dasd_tio(&mut self.handle, address.0) };
+        self.condition(code, |csw| csw)
+    }
+
+    /// Halt I/O.
+    pub fn hio(&mut self, address: Address) -> Condition<Status> {
+        let code = unsafe { sys::dasd_hio(&mut self.handle, address.0) };
+        self.condition(code, |csw| csw.status)
+    }
+
+    /// Test Channel, of the channel of an address.
+    pub fn tch(&mut self, address: Address) -> Condition<()> {
+        let code = unsafe { sys::dasd_tch(&mut self.handle, address.0) };
+        self.condition(code, |_| ())
+    }
+
+    fn condition<T>(&mut self, code: i32, stored: impl Fn(Csw) -> T) -> Condition<T> {
+        match code {
+            0 => Condition::Zero,
+            1 => Condition::Stored(stored(self.csw())),
+            2 => Condition::Two,
+            _ => Condition::Three,
+        }
+    }
+
+    /// The channel status word that stands in storage.
+    pub fn csw(&mut self) -> Csw {
+        let mut bytes = [0; 8];
+        bytes.copy_from_slice(&self.storage()[CSW..CSW + 8]);
+        Csw::from_bytes(bytes)
+    }
+
+    /// Lets the program that runs on a channel do so many units at most; how many it did.
+    pub fn step(&mut self, channel: u8, units: u32) -> Result<u32, Fault> {
+        let mut did = 0;
+        done(unsafe { sys::dasd_step(&mut self.handle, channel, units, &mut did) })?;
+        Ok(did)
+    }
+
+    /// The same, with the subchannel behind them.
+    pub fn run_on(&mut self, channel: u8, units: u32) -> Result<RunOn, Fault> {
+        let mut ran = sys::dasd_run::default();
+        done(unsafe { sys::dasd_run_on(&mut self.handle, channel, units, &mut ran) })?;
+        Ok(RunOn { units: ran.units, subchannel: subchannel_of(ran.subchannel, ran.device, ran.asked) })
+    }
+
+    /// The arm of the drive at an address arrives; whether it moved.
+    pub fn arrive(&mut self, address: Address) -> bool {
+        unsafe { sys::dasd_arrive(&mut self.handle, address.0) == 1 }
+    }
+
+    /// Whether an interruption would be taken from one of these channels now.
+    pub fn is_pending(&mut self, channels: ChannelSet) -> bool {
+        unsafe { sys::dasd_is_pending(&mut self.handle, channels.0) == 1 }
+    }
+
+    /// Takes an interruption from a channel of this set: its address, and the channel status word that is stored.
+    pub fn interrupt(&mut self, channels: ChannelSet) -> Option<(Address, Csw)> {
+        let mut address = 0;
+        let taken = unsafe { sys::dasd_interrupt(&mut self.handle, channels.0, &mut address) == 1 };
+        taken.then(|| (Address(address), self.csw()))
+    }
+
+    /// Resets a channel and its drives; address, cylinder and head of a track that could not be saved.
+    pub fn reset(&mut self, channel: u8) -> Result<Option<(Address, u16, u16)>, Fault> {
+        let mut track = sys::dasd_track::default();
+        let code = done(unsafe { sys::dasd_reset(&mut self.handle, channel, &mut track) })?;
+        Ok((code == 1).then_some((Address(track.address), track.cylinder, track.head)))
+    }
+
+    /// A channel.
+    pub fn channel(&mut self, number: u8) -> Result<View, Fault> {
+        let mut shown = sys::dasd_state::default();
+        done(unsafe { sys::dasd_show_channel(&mut self.handle, number, &mut shown) })?;
+        let drives = shown.units.iter().zip(shown.arms).take(usize::from(shown.drives));
+        Ok(View {
+            subchannel: subchannel_of(shown.subchannel, shown.device, shown.asked),
+            drives: drives.map(|(unit, arm)| (*unit, arm_of(arm))).collect(),
+        })
+    }
+
+    /// Main storage, without a copy: what is stored here the processor stores.
+    pub fn storage(&mut self) -> &mut [u8] {
+        let mut shown = sys::dasd_storage { at: std::ptr::null_mut(), len: 0 };
+        let code = unsafe { sys::dasd_show_storage(&mut self.handle, &mut shown) };
+        assert_eq!(code, sys::DASD_DONE, "a handle that was made holds something");
+        // SAFETY: the bytes are the caller's until the next call, which the borrow forbids.
+        unsafe { std::slice::from_raw_parts_mut(shown.at, shown.len) }
+    }
+
+    /// Copies bytes of storage from an address on.
+    pub fn peek(&mut self, at: u32, into: &mut [u8]) -> Result<(), Fault> {
+        done(unsafe { sys::dasd_peek(&mut self.handle, at, into.as_mut_ptr(), into.len()) }).map(drop)
+    }
+
+    /// Stores bytes from an address on.
+    pub fn poke(&mut self, at: u32, bytes: &[u8]) -> Result<(), Fault> {
+        done(unsafe { sys::dasd_poke(&mut self.handle, at, bytes.as_ptr(), bytes.len()) }).map(drop)
+    }
+
+    /// The storage key of the block of 2,048 bytes that has this address.
+    pub fn key(&mut self, at: u32) -> Result<u8, Fault> {
+        done(unsafe { sys::dasd_key(&mut self.handle, at) }).map(|key| key as u8)
+    }
+
+    /// Sets it, below 16.
+    pub fn set_key(&mut self, at: u32, key: u8) -> Result<(), Fault> {
+        done(unsafe { sys::dasd_set_key(&mut self.handle, at, key) }).map(drop)
+    }
+}
+
+impl Drop for Subsystem {
+    fn drop(&mut self) {
+        unsafe { sys::dasd_free(&mut self.handle) };
+    }
+}
+
+/// Whether these files, in their order, are an image.
+pub fn check(files: &[&[u8]]) -> Result<(), Fault> {
+    let files = pairs(files);
+    // SAFETY: pairs of pointers and lengths, which are only read.
+    done(unsafe { sys::dasd_check(files.as_ptr(), files.len()) }).map(drop)
+}
+
+/// The version of the library: major, minor, patch.
+pub fn version() -> (u32, u32, u32) {
+    // SAFETY: it takes nothing.
+    let version = unsafe { sys::dasd_version() };
+    (version >> 16, version >> 8 & 255, version & 255)
+}

@@ -1,0 +1,86 @@
+//! Each call once, and what the library refuses.
+
+use dasd::{check, version, Address, Arm, ChannelSet, Subsystem, Condition, DriveModel, Fault, SubchannelView};
+
+const DRIVE: Address = Address(0x190);
+
+fn made() -> Subsystem {
+    let mut disks = Subsystem::new(65536, ChannelSet::of(&[1])).unwrap();
+    disks.attach_new(DRIVE, DriveModel::D2314, 2).unwrap();
+    disks.storage()[0x48..0x4C].copy_from_slice(&[0, 0, 1, 0]);
+    disks.storage()[0x100..0x108].copy_from_slice(&[0x16, 0, 2, 0, 0x20, 0, 0, 16]);
+    disks
+}
+
+#[test]
+fn version_is_that_of_the_crate() {
+    let (major, minor, patch) = version();
+    assert_eq!(format!("{major}.{minor}.{patch}"), env!("CARGO_PKG_VERSION"));
+}
+
+#[test]
+fn a_record_is_read() {
+    let mut disks = made();
+    assert_eq!(disks.sio(DRIVE), Condition::Zero);
+    assert_eq!((disks.tio(DRIVE), disks.tch(DRIVE)), (Condition::Two, Condition::Two));
+    assert_eq!(disks.file(DRIVE, 0).unwrap_err(), Fault::ProgramRuns);
+    assert_eq!(disks.step(1, 3), Ok(3));
+    let ran = disks.run_on(1, 1000).unwrap();
+    assert!(ran.units < 1000 && ran.subchannel == SubchannelView::Pending(0x90));
+    assert!(disks.is_pending(ChannelSet::ALL) && !disks.is_pending(ChannelSet::of(&[2])));
+    assert_eq!(disks.detach(DRIVE), Err(Fault::EndingPends));
+    let (from, csw) = disks.interrupt(ChannelSet::ALL).unwrap();
+    assert_eq!((from, csw.status.unit, csw.address, csw.count), (DRIVE, 0x0C, 0x108, 0));
+    assert_eq!(disks.interrupt(ChannelSet::ALL), None);
+    assert_eq!(disks.storage()[0x200..0x210], [0, 0, 0, 0, 0, 0, 0, 8, 0, 0, 0, 0, 0, 0, 0, 0]);
+    assert_eq!((disks.hio(DRIVE).code(), disks.sio(Address(0x390)).code(), disks.reset(1)), (1, 3, Ok(None)));
+}
+
+#[test]
+fn a_volume_goes_from_one_to_another() {
+    let mut disks = made();
+    let image = disks.file(DRIVE, 0).unwrap().bytes.to_vec();
+    assert_eq!((check(&[&image]), check(&[&image[1..]]), check(&[])), (Ok(()), Err(Fault::NotCkdP370), Err(Fault::NoFiles)));
+    assert_eq!(disks.attach(Address(0x191), &[&image]), Ok(()));
+    assert_eq!(disks.attach(Address(0x192), &[&image[..image.len() - 1]]), Err(Fault::Length));
+    assert_eq!(disks.file(Address(0x191), 0).unwrap().changes, 0);
+    assert_eq!(disks.file(Address(0x191), 1).unwrap_err(), Fault::NoFile);
+    assert_eq!((disks.detach(Address(0x191)), disks.detach(Address(0x191))), (Ok(()), Err(Fault::NoDrive)));
+}
+
+#[test]
+fn an_arm_moves() {
+    let mut disks = made();
+    disks.storage()[0x100..0x108].copy_from_slice(&[7, 0, 2, 0, 0x20, 0, 0, 6]);
+    disks.storage()[0x200..0x206].copy_from_slice(&[0, 0, 0, 1, 0, 3]);
+    assert_eq!(disks.sio(DRIVE), Condition::Zero);
+    disks.run_on(1, 1000).unwrap();
+    disks.interrupt(ChannelSet::ALL).unwrap();
+    let drive = disks.drive(DRIVE).unwrap();
+    assert_eq!((drive.model, drive.cylinders, drive.cylinder, drive.head, drive.arm), (DriveModel::D2314, 2, 1, 3, Arm::InMotion));
+    assert_eq!(disks.detach(DRIVE), Err(Fault::DeviceEndOwed));
+    assert!(disks.arrive(DRIVE) && !disks.arrive(DRIVE));
+    let view = disks.channel(1).unwrap();
+    assert_eq!((view.subchannel, view.drives), (SubchannelView::Idle, vec![(0x90, Arm::Arrived)]));
+}
+
+#[test]
+fn refusals() {
+    let mut disks = made();
+    assert_eq!((disks.peek(65536, &mut [0]), disks.poke(65535, &[1, 2])), (Err(Fault::OutsideStorage), Err(Fault::OutsideStorage)));
+    assert_eq!((disks.set_key(2048, 7), disks.key(4095), disks.set_key(0, 16)), (Ok(()), Ok(7), Err(Fault::BadKey)));
+    assert_eq!(disks.attach_new(DRIVE, DriveModel::D2311, 1), Err(Fault::AddressTaken));
+    assert_eq!(disks.attach_new(Address(0x191), DriveModel::D2311, 0), Err(Fault::NoCylinders));
+    assert_eq!(disks.attach(Address(0x191), &[&[0u8][..]; 9]), Err(Fault::TooManyFiles));
+    assert_eq!((disks.step(3, 1), disks.reset(7), disks.channel(0).err()), (Err(Fault::NoChannel), Err(Fault::NoChannel), Some(Fault::NoChannel)));
+    assert_eq!(Subsystem::new(1000, ChannelSet::of(&[1])).err(), Some(Fault::BadSize));
+    assert_eq!(Subsystem::new(4096, ChannelSet::of(&[1, 2])).err(), Some(Fault::BadChannels));
+    let fault: Box<dyn std::error::Error> = Fault::Full.into();
+    assert_eq!((fault.to_string(), Fault::Full.code()), ("eight drives are attached to this channel".to_string(), -13));
+}
+
+#[test]
+fn a_subsystem_goes_to_another_thread() {
+    let mut disks = made();
+    std::thread::spawn(move || assert_eq!(disks.tio(DRIVE), Condition::Zero)).join().unwrap();
+}
