@@ -1,5 +1,5 @@
 -- A new channel, one with a drive more, and a storage into which the processor puts something.
-use Rattle.std.proofs.Common.{◌≡◌, ◌<◌, ◌≤◌, ◌++◌, ◌∷◌, [], ℕ, refl, sym, ap, ◌∙◌, Bool, true, false, cond, length, arith, List, Option, Some, None}
+use Rattle.std.proofs.Common.{◌≡◌, ◌<◌, ◌≤◌, ◌++◌, ◌∷◌, [], ℕ, refl, ap, ◌∙◌, Bool, true, false, cond, length, arith}
 use Rattle.std.proofs.lemmas.List.{length-replicate}
 use Rattle.s360_words.specs.Storage.{Storage, Change, Bytes, KeyOf, changed, cleared}
 use Rattle.s360_words.proofs.Overwriting.{length-overwritten}

@@ -1,10 +1,10 @@
 -- A call at the channel with a number.
-use Rattle.std.proofs.Common.{◌≡◌, ◌<◌, ◌≤◌, ℕ, zero, suc, refl, sym, ap, ◌∙◌, subst, arith, length, List, [], ◌∷◌, Option, Some, None}
+use Rattle.std.proofs.Common.{◌≡◌, ◌<◌, ◌≤◌, ℕ, zero, suc, refl, sym, ◌∙◌, subst, arith, length, List, [], ◌∷◌, Option, Some, None}
 use Rattle.std.proofs.lemmas.List.{get_or_default}
 use Rattle.std.specs.Prelude.{slice_index_or, slice_set}
 use Rattle.s360_words.specs.Storage.{Storage}
 use Rattle.s360_channel.specs.Channel.{ChannelState}
-use Rattle.s360_channels.specs.Channels.{ChannelsState, Fits, AllFit, Calls, OnFound}
+use Rattle.s360_channels.specs.Channels.{Fits, AllFit, OnFound}
 use Rattle.s360_channels.specs.Inside.{Serves, ServesAt, of_parts}
 
 pub fits_at : (size : ℕ) (cs : List (Option ChannelState)) (number : ℕ) (c : ChannelState) → AllFit size cs → slice_index_or cs number None ≡ Some c → Fits size c

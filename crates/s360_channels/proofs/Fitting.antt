@@ -1,22 +1,21 @@
 -- A channel behind a call has storage as large as before, and still stands for a machine.
-use Rattle.std.proofs.Common.{◌≡◌, ℕ, refl, sym, ap, ◌∙◌, subst, length, List, [], ◌∷◌, Option, Some, None, zero, suc}
-use Rattle.std.specs.Prelude.{slice_index_or, slice_set}
+use Rattle.std.proofs.Common.{◌≡◌, ℕ, sym, ap, ◌∙◌, subst, length, Some, None}
 use Rattle.s360_words.specs.Storage.{Storage}
 use Rattle.s360_runs.specs.Writes.{OutcomeKeepsSize}
 use Rattle.s360_runs.proofs.Sizes.{keeps_size}
 use Rattle.s360_program.proofs.Ties.{seen}
 use Rattle.s360_laws.specs.Events.{Event, Answer}
 use Rattle.s360_laws.specs.Machine.{Machine, react, start_of}
-use Rattle.s360_channel.specs.Channel.{ChannelState, IsChannel, Shows, StandsFor}
+use Rattle.s360_channel.specs.Channel.{ChannelState, IsChannel, Shows}
 use Rattle.s360_channel.specs.Shares.{with_storage}
 use Rattle.s360_channel.specs.declared.subchannel.Subchannel.{Subchannel}
 use Rattle.s360_channel.specs.declared.subchannel.Subchannel.TheVariants.{Idle, Working, Pending}
 use Rattle.s360_channel.specs.declared.channel.Reset.{Reset}
 use Rattle.s360_channel.specs.declared.view.RunOn.{RunOn}
 use Rattle.s360_channel.proofs.Works.{storage_seen}
-use Rattle.s360_channels.specs.Channels.{Fits, AllFit, Quietly, AtMost, RunsTo, ResetsTo}
+use Rattle.s360_channels.specs.Channels.{Fits, Quietly, AtMost, RunsTo, ResetsTo}
 use Rattle.s360_channels.specs.Inside.{Exchanged, Serves}
-use Rattle.s360_channels.proofs.MachineSizes.{size_of, size_stays}
+use Rattle.s360_channels.proofs.MachineSizes.{size_stays}
 
 size_in : (c : ChannelState) (m : Machine) (s : Subchannel) → Shows c m s → length c.storage.bytes ≡ length m.storage.bytes
 size_in c m Idle h = ap (λ (m : Machine). length m.storage.bytes) (sym h.0)

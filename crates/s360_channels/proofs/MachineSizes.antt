@@ -1,21 +1,20 @@
 -- No event changes the size of a machine's storage.
-use Rattle.std.proofs.Common.{◌≡◌, ℕ, ◌/◌, ◌%◌, refl, sym, ap, ◌∙◌, true, false, Bool, cond, ◌==◌, ◌++◌, length, Option, Some, None}
-use Rattle.std.specs.Prelude.{option_map, is_some, find, filter}
-use Rattle.s360_words.specs.Storage.{Storage, Change, Bytes, KeyOf, changed, csw_stored, status_stored, is_within}
+use Rattle.std.proofs.Common.{◌≡◌, ℕ, ◌/◌, ◌%◌, refl, true, false, Bool, cond, ◌==◌, ◌++◌, length, Option, Some, None}
+use Rattle.std.specs.Prelude.{option_map, is_some, filter}
+use Rattle.s360_words.specs.Storage.{Storage, Change, Bytes, KeyOf, changed, is_within}
 use Rattle.s360_words.proofs.Overwriting.{length-overwritten}
 use Rattle.s360_words.specs.declared.words.Csw.{Csw}
-use Rattle.ckd_command.specs.Drive.{Fault, IdleDrive}
+use Rattle.ckd_command.specs.Drive.{Fault}
 use Rattle.s360_runs.specs.Endings.{Outcome, Ended, NotEnded}
 use Rattle.s360_runs.specs.Runs.{run}
 use Rattle.s360_runs.specs.Scripts.{Script}
 use Rattle.s360_runs.specs.Starts.{First, BadStart, RejectedStart, ImmediateStart, AcceptedStart, first}
 use Rattle.s360_runs.specs.Writes.{OutcomeKeepsSize}
 use Rattle.s360_runs.proofs.Sizes.{keeps_size}
-use Rattle.s360_laws.specs.Events.{Answer, Condition, Event, FaultAfter, Sio, Tio, Hio, Tch, StepBy, Arrive, HasArrived, Interrupt, Reset, Store, SetKey, Show, WasKept}
-use Rattle.s360_laws.specs.Machine.{Machine, Device, Subchannel, Idle, Working, Pending, device_at, with_change, change, cut, started, start_of, start_device, start_io, test_device, test_io, halt_io, stepped, step, units_with, arrive, is_in_motion, lowest, has_arrived, interrupt_device, interrupt_program, asked_by, interrupt, run_of, reset, keep, on_channel, fault_in, react}
+use Rattle.s360_laws.specs.Events.{Answer, Event, FaultAfter, Sio, Tio, Hio, Tch, StepBy, Arrive, Interrupt, Reset, Store, SetKey, Show}
+use Rattle.s360_laws.specs.Machine.{Machine, Device, Subchannel, Idle, Working, Pending, device_at, change, cut, started, start_of, start_device, start_io, test_device, test_io, halt_io, stepped, step, units_with, arrive, is_in_motion, lowest, has_arrived, interrupt_device, interrupt_program, asked_by, interrupt, run_of, reset, keep, fault_in, react}
 use Rattle.s360_laws.specs.declared.arm.Arm.{Arm}
 use Rattle.s360_laws.specs.declared.arm.Arm.TheVariants.{InMotion, Arrived, AtRest}
-use Rattle.s360_laws.specs.declared.condition.ConditionCode.TheVariants.{Three}
 
 abbrev pub size_of : Machine → ℕ
 size_of m = length m.storage.bytes

@@ -1,5 +1,5 @@
 -- Channels that are added, and drives that are attached to one of them.
-use Rattle.std.specs.Prelude.{◌≡◌, ◌++◌, ◌∷◌, [], ℕ, List, length, Option, Some, None, Bool, true, false, is_some, nat_le, slice_index_or, slice_set}
+use Rattle.std.specs.Prelude.{◌≡◌, ◌++◌, ◌∷◌, [], ℕ, List, Option, Some, None, Bool, true, false, is_some, nat_le, slice_index_or, slice_set}
 use Rattle.s360_words.specs.Storage.{cleared}
 use Rattle.ckd_image.specs.Image.{ImageState}
 use Rattle.s360_channel.specs.Attaches as channel

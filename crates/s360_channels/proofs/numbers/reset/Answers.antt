@@ -1,4 +1,4 @@
-use Rattle.std.proofs.Common.{rules, tests, ◌/◌}
+use Rattle.std.proofs.Common.{rules, tests}
 use Rattle.s360_channels.proofs.At.{fits_at, somebody, there}
 use Rattle.s360_channels.proofs.numbers.reset.Goals as goal
 
