@@ -1,0 +1,63 @@
+-- A call at the channel with a number.
+use Rattle.std.proofs.Common.{◌≡◌, ◌<◌, ◌≤◌, ℕ, zero, suc, refl, sym, ◌∙◌, subst, arith, length, List, [], ◌∷◌, Option, Some, None}
+use Rattle.std.proofs.lemmas.List.{get_or_default}
+use Rattle.std.specs.Prelude.{slice_index_or, slice_set}
+use Rattle.s360_words.specs.Storage.{Storage}
+use Rattle.s360_channel.specs.Channel.{ChannelState}
+use Rattle.s360_channels.specs.Channels.{Fits, AllFit, OnFound}
+use Rattle.s360_channels.specs.Inside.{Serves, ServesAt, of_parts}
+
+pub fits_at : (size : ℕ) (cs : List (Option ChannelState)) (number : ℕ) (c : ChannelState) → AllFit size cs → slice_index_or cs number None ≡ Some c → Fits size c
+fits_at size [] number c h e = absurd (no e)
+  where
+    no : ◌≡◌ {A = Option ChannelState} None (Some c) → ⊥
+    no h = cc
+fits_at size (None ∷ cs) zero c h e = absurd (no e)
+  where
+    no : ◌≡◌ {A = Option ChannelState} None (Some c) → ⊥
+    no h = cc
+fits_at size (Some d ∷ cs) zero c h e = subst (Fits size) (same d c e) h.0
+  where
+    same : (a b : ChannelState) → Some a ≡ Some b → a ≡ b
+    same a b h = cc
+fits_at size (None ∷ cs) (suc number) c h e = fits_at size cs number c h e
+fits_at size (Some d ∷ cs) (suc number) c h e = fits_at size cs number c h.1 e
+
+pub fit_set : (size : ℕ) (cs : List (Option ChannelState)) (number : ℕ) (c : ChannelState) → AllFit size cs → Fits size c → AllFit size (slice_set cs number (Some c))
+fit_set size [] number c h f = tt
+fit_set size (None ∷ cs) zero c h f = (f, h)
+fit_set size (Some d ∷ cs) zero c h f = (f, h.1)
+fit_set size (None ∷ cs) (suc number) c h f = fit_set size cs number c h f
+fit_set size (Some d ∷ cs) (suc number) c h f = (h.0, fit_set size cs number c h.1 f)
+
+none_past : (cs : List (Option ChannelState)) (number : ℕ) → length cs ≤ number → slice_index_or cs number None ≡ None
+none_past [] number h = refl
+none_past (c ∷ cs) zero h = absurd (no (length cs) h)
+  where
+    no : (n : ℕ) → suc n ≤ zero → ⊥
+    no n h = omega arith
+none_past (c ∷ cs) (suc number) h = none_past cs number (less (length cs) number h)
+  where
+    less : (n m : ℕ) → suc n ≤ suc m → n ≤ m
+    less n m h = omega arith
+
+module _ (number : ℕ) (How : ChannelState → ChannelState → Type 0) (Missing : Type 0) (s : Storage) (cs : List (Option ChannelState)) (fit : AllFit (length s.bytes) cs) where
+  pub nobody : slice_index_or cs number None ≡ None → Missing → ServesAt number How Missing (of_parts s cs) (of_parts s cs)
+  nobody e missing = record {
+    calls = subst (λ x. OnFound x number How Missing (of_parts s cs) (of_parts s cs)) (sym e) (missing, refl);
+    fit = fit;
+    size = refl;
+  }
+
+  pub beyond : length cs ≤ number → Missing → ServesAt number How Missing (of_parts s cs) (of_parts s cs)
+  beyond h missing = nobody (none_past cs number h) missing
+
+  pub somebody : (before after : ChannelState) (t : Storage) → slice_index_or cs number None ≡ Some before → Serves How before s after t → ServesAt number How Missing (of_parts s cs) (of_parts t (slice_set cs number (Some after)))
+  somebody before after t e v = record {
+    calls = subst (λ x. OnFound x number How Missing (of_parts s cs) (of_parts t (slice_set cs number (Some after)))) (sym e) (record { after = after; finds = v.finds; others_stay = refl });
+    fit = fit_set (length s.bytes) cs number after fit v.fits;
+    size = v.size;
+  }
+
+pub there : (cs : List (Option ChannelState)) (number : ℕ) (r : Option ChannelState) (c : ChannelState) → number < length cs → slice_index_or cs number r ≡ Some c → slice_index_or cs number None ≡ Some c
+there cs number r c h e = get_or_default cs number None r h ∙ e

@@ -1,0 +1,73 @@
+-- A channel behind a call has storage as large as before, and still stands for a machine.
+use Rattle.std.proofs.Common.{◌≡◌, ℕ, sym, ap, ◌∙◌, subst, length, Some, None}
+use Rattle.s360_words.specs.Storage.{Storage}
+use Rattle.s360_runs.specs.Writes.{OutcomeKeepsSize}
+use Rattle.s360_runs.proofs.Sizes.{keeps_size}
+use Rattle.s360_program.proofs.Ties.{seen}
+use Rattle.s360_laws.specs.Events.{Event, Answer}
+use Rattle.s360_laws.specs.Machine.{Machine, react, start_of}
+use Rattle.s360_channel.specs.Channel.{ChannelState, IsChannel, Shows}
+use Rattle.s360_channel.specs.Shares.{with_storage}
+use Rattle.s360_channel.specs.declared.subchannel.Subchannel.{Subchannel}
+use Rattle.s360_channel.specs.declared.subchannel.Subchannel.TheVariants.{Idle, Working, Pending}
+use Rattle.s360_channel.specs.declared.channel.Reset.{Reset}
+use Rattle.s360_channel.specs.declared.view.RunOn.{RunOn}
+use Rattle.s360_channel.proofs.Works.{storage_seen}
+use Rattle.s360_channels.specs.Channels.{Fits, Quietly, AtMost, RunsTo, ResetsTo}
+use Rattle.s360_channels.specs.Inside.{Exchanged, Serves}
+use Rattle.s360_channels.proofs.MachineSizes.{size_stays}
+
+size_in : (c : ChannelState) (m : Machine) (s : Subchannel) → Shows c m s → length c.storage.bytes ≡ length m.storage.bytes
+size_in c m Idle h = ap (λ (m : Machine). length m.storage.bytes) (sym h.0)
+size_in c m (Pending device csw) h = ap (λ (m : Machine). length m.storage.bytes) (sym h.0)
+size_in c m (Working place r) w =
+    ap (λ s. length s.bytes) (sym (storage_seen r.key r.stage r.place c.storage w.unit.drive.state w.unit.drive.work))
+    ∙ subst (OutcomeKeepsSize m.storage) (seen (start_of m w.drive) w.script r c.storage w.unit.drive w.runs) (keeps_size (start_of m w.drive) w.script)
+
+pub quiet_fits : (e : Event) (answer : Answer) (old new : ChannelState) → Quietly e answer old new → IsChannel old → Fits (length old.storage.bytes) new
+quiet_fits e answer old new q k =
+    let d = q.does k.machine k.stands in
+    record {
+      is_channel = record { machine = (react e None k.machine).1; stands = d.stands };
+      as_large = size_in new _ new.subchannel d.stands.shows ∙ (size_stays e None k.machine ∙ sym (size_in old k.machine old.subchannel k.stands.shows));
+    }
+
+pub most_fits : (most : ℕ) (e : Event) (answer : Answer) (old new : ChannelState) → AtMost most e answer old new → IsChannel old → Fits (length old.storage.bytes) new
+most_fits most e answer old new q k =
+    let d = q.does k.machine k.stands in
+    record {
+      is_channel = record { machine = (react e d.fault k.machine).1; stands = d.stands };
+      as_large = size_in new _ new.subchannel d.stands.shows ∙ (size_stays e d.fault k.machine ∙ sym (size_in old k.machine old.subchannel k.stands.shows));
+    }
+
+module _ (How : ChannelState → ChannelState → Type 0) (fits_after : (old new : ChannelState) → How old new → IsChannel old → Fits (length old.storage.bytes) new) where
+  fits_then : (c : ChannelState) (s : Storage) (c₁ : ChannelState) (s₁ : Storage) (c₂ : ChannelState) → Fits (length s.bytes) c → Exchanged c s c₁ s₁ → How c₁ c₂ → Fits (length s.bytes) c₂
+  fits_then c s c₁ s₁ c₂ f x h =
+      subst (λ n. Fits n c₂) (ap (λ (c : ChannelState). length c.storage.bytes) x.found) (fits_after c₁ c₂ h (x.stands f.is_channel))
+
+  pub goes_back : (c : ChannelState) (s : Storage) (c₁ : ChannelState) (s₁ : Storage) (c₂ : ChannelState) → Fits (length s.bytes) c → Exchanged c s c₁ s₁ → How c₁ c₂ → length s₁.bytes ≡ length c₂.storage.bytes
+  goes_back c s c₁ s₁ c₂ f x h =
+      ap (λ (s : Storage). length s.bytes) x.gives ∙ (f.as_large ∙ sym (fits_then c s c₁ s₁ c₂ f x h).as_large)
+
+  pub serves : (c : ChannelState) (s : Storage) (c₁ : ChannelState) (s₁ : Storage) (c₂ c₃ : ChannelState) (s₃ : Storage) → Fits (length s.bytes) c → Exchanged c s c₁ s₁ → How c₁ c₂ → Exchanged c₂ s₁ c₃ s₃ → Serves How c s c₃ s₃
+  serves c s c₁ s₁ c₂ c₃ s₃ f x h y =
+      let g = fits_then c s c₁ s₁ c₂ f x h in
+      record {
+        finds = record {
+          last = c₂;
+          how = subst (λ c. How c c₂) x.found h;
+          storage = y.gives;
+          channel = y.found ∙ ap (with_storage c₂) x.gives;
+        };
+        fits = record {
+          is_channel = y.stands g.is_channel;
+          as_large = ap (λ (c : ChannelState). length c.storage.bytes) y.found ∙ (ap (λ (s : Storage). length s.bytes) x.gives ∙ f.as_large);
+        };
+        size = ap (λ (s : Storage). length s.bytes) y.gives ∙ g.as_large;
+      }
+
+pub runs_fit : (units : ℕ) (ran : RunOn) (old new : ChannelState) → RunsTo units (Some ran) old new → IsChannel old → Fits (length old.storage.bytes) new
+runs_fit units ran old new r k = most_fits _ _ _ old new r.steps k
+
+pub reset_fits : (reset : Reset) (old new : ChannelState) → ResetsTo (Some reset) old new → IsChannel old → Fits (length old.storage.bytes) new
+reset_fits reset old new r k = most_fits _ _ _ old new r k

@@ -1,0 +1,6 @@
+pub mod MachineSizes
+pub mod Fitting
+pub mod At
+pub mod Added
+pub mod Pending
+pub mod Asking

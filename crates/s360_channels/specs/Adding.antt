@@ -1,0 +1,40 @@
+-- Channels that are added, and drives that are attached to one of them.
+use Rattle.std.specs.Prelude.{◌≡◌, ◌++◌, ◌∷◌, [], ℕ, List, Option, Some, None, Bool, true, false, is_some, nat_le, slice_index_or, slice_set}
+use Rattle.s360_words.specs.Storage.{cleared}
+use Rattle.ckd_image.specs.Image.{ImageState}
+use Rattle.s360_channel.specs.Attaches as channel
+use Rattle.s360_channel.specs.Channel.{ChannelState, new_unit}
+use Rattle.s360_channel.specs.declared.subchannel.Subchannel.TheVariants.{Idle}
+use Rattle.s360_channels.specs.declared.faults.AttachFault.{AttachFault}
+use Rattle.s360_channels.specs.declared.faults.AttachFault.TheVariants.{NoChannel, Refused}
+use Rattle.s360_channels.specs.declared.faults.AddFault.{AddFault}
+use Rattle.s360_channels.specs.declared.faults.AddFault.TheVariants.{BadNumber, NumberTaken, OutOfMemory}
+
+-- a channel with no drives; the storage that it has between calls is zero, and as large as the shared one
+abbrev pub new_channel : (number size : ℕ) → ChannelState
+new_channel number size = record { number = number; storage = cleared size; subchannel = Idle; units = [] }
+
+abbrev pub is_taken : (number : ℕ) → List (Option ChannelState) → Bool
+is_taken number cs = is_some (slice_index_or cs number None)
+
+-- When a channel is not added, in this order: its number is above 6; there is one with this number; there is no memory.
+abbrev pub RefusedAs : (number : ℕ) → List (Option ChannelState) → AddFault → Type 0
+RefusedAs number cs BadNumber = nat_le 7 number ≡ true
+RefusedAs number cs NumberTaken = (nat_le 7 number ≡ false) × (is_taken number cs ≡ true)
+RefusedAs number cs OutOfMemory = (nat_le 7 number ≡ false) × (is_taken number cs ≡ false)
+
+-- A drive that holds this image is attached to the channel with a number, as `s360_channel` does it; every other channel stays.
+abbrev pub AttachesTo : Option ChannelState → (number device : ℕ) → ImageState → (old new : List (Option ChannelState)) → Type 0
+AttachesTo None number device image old new = ⊥
+AttachesTo (Some c) number device image old new =
+    channel.NotRefused device c × (new ≡ slice_set old number (Some (record c { units = c.units ++ new_unit device image ∷ [] })))
+
+abbrev pub AttachesAt : (number device : ℕ) → ImageState → (old new : List (Option ChannelState)) → Type 0
+AttachesAt number device image old new = AttachesTo (slice_index_or old number None) number device image old new
+
+-- Why it is not, in this order: there is no such channel; the channel refuses it.
+abbrev pub WhyNot : Option ChannelState → (device : ℕ) → AttachFault → Type 0
+WhyNot None device NoChannel = Unit {0}
+WhyNot None device (Refused why) = ⊥
+WhyNot (Some c) device NoChannel = ⊥
+WhyNot (Some c) device (Refused why) = channel.RefusedAs device c why

@@ -1,0 +1,4 @@
+pub mod Channels
+pub mod Inside
+pub mod Adding
+pub mod Asked

@@ -1,0 +1,222 @@
+//! Several channels, and the calls for an address of any of them.
+
+ghost use Rattle.std.specs.Prelude.{◌≡◌, ◌<◌, ◌/◌, ◌%◌, None, Some, length, replicate, slice_set, false, is_ok, option_map, OnOk, OnErr, IfErr};
+ghost use Rattle.s360_words.specs.Storage.{Bytes, KeyOf};
+ghost use Rattle.s360_laws.specs.Events as machine;
+ghost use Rattle.s360_events.specs.Seen.{answer_seen};
+ghost use Rattle.s360_events.specs.declared.answers.Answer.TheVariants as answer;
+ghost use Rattle.s360_events.specs.declared.conditions.Condition.TheVariants.{Three};
+ghost use Rattle.s360_channels.specs.Adding.{AttachesAt, RefusedAs, WhyNot, new_channel};
+ghost use Rattle.s360_channels.specs.Asked.{InterruptsAt, TestsAt};
+ghost use Rattle.s360_channels.specs.Channels.{OnChannel, Quietly, AtMost, RunsTo, ResetsTo, Puts, Stores, channel_at};
+
+use crate::faults::{AddFault, AttachFault};
+use crate::{adding, numbers};
+use ckd_image::{Image, ImageStore};
+use s360_channel::{Channel, OutsideStorage, Reset, RunOn};
+use s360_events::{Condition, Status};
+use s360_words::{Csw, Storage};
+use std::alloc::Global;
+use std::marker::Model;
+
+/// Selector channels with the numbers 0 to 6, over one main storage.
+///
+/// An input/output address has a channel's number in its high byte. A call for it is made at that channel, which finds the
+/// storage as it is, and leaves in it what it stored; every other channel stays. So to the program of one channel, what the
+/// others and the processor store is a change from outside between two of its units.
+#[derive(Drop)]
+pub struct Channels<S: ImageStore> {
+    storage: Storage,
+    list: [Option<Channel<S>>; 7],
+}
+
+impl<S: ImageStore> Model for Channels<S> {
+    ghost use Rattle.std.specs.Prelude.{length};
+    ghost use Rattle.s360_channels.specs.Channels.{ChannelsState, AllFit};
+
+    ghost Value = { ChannelsState };
+
+    ghost view = { λ c. record { storage = c.storage; channels = c.list } };
+
+    ghost invariant = { λ c. AllFit (length c.storage.bytes) c.list };
+}
+
+impl<S: ImageStore> Channels<S> {
+    /// No channels, over this storage. It takes no memory.
+    pub fn new(storage: Storage) -> Channels<S>
+        ensures { result ≡ record { storage = storage; channels = replicate 7 None } }
+    {
+        Channels {
+            storage,
+            list: [None, None, None, None, None, None, None],
+        }
+    }
+
+    /// Start I/O at an input/output address, at the channel of its high byte; 3 where there is none. It makes no call of a store
+    /// ('Start I/O').
+    pub fn sio(&mut self, address: u16) -> Condition<Status>
+        ensures { OnChannel (address / 256) (Quietly (machine.Sio address) (answer_seen (answer.Sio address result))) (result ≡ Three) self.old self.new }
+    {
+        numbers::sio(&mut self.list, &mut self.storage, address)
+    }
+
+    /// Test I/O at an input/output address, at the channel of its high byte; 3 where there is none. It makes no call of a store
+    /// ('Test I/O').
+    pub fn tio(&mut self, address: u16) -> Condition<Csw>
+        ensures { OnChannel (address / 256) (Quietly (machine.Tio address) (answer_seen (answer.Tio address result))) (result ≡ Three) self.old self.new }
+    {
+        numbers::tio(&mut self.list, &mut self.storage, address)
+    }
+
+    /// Halt I/O at an input/output address, at the channel of its high byte; 3 where there is none. It makes at most one call of
+    /// a store ('Halt I/O').
+    pub fn hio(&mut self, address: u16) -> Condition<Status>
+        ensures { OnChannel (address / 256) (AtMost 1 (machine.Hio address) (answer_seen (answer.Hio address result))) (result ≡ Three) self.old self.new }
+    {
+        numbers::hio(&mut self.list, &mut self.storage, address)
+    }
+
+    /// Lets the program of the channel with this number do units until it ends, so many at most; none where there is no such
+    /// channel. A unit makes at most two calls of a store.
+    pub fn run_on(&mut self, number: u8, units: u32) -> Option<RunOn>
+        ensures { OnChannel number (RunsTo units result) (result ≡ None) self.old self.new }
+    {
+        numbers::run_on(&mut self.list, &mut self.storage, number, units)
+    }
+
+    /// The arm of the drive at an input/output address arrives, if it moves. It makes no call of a store.
+    pub fn arrive(&mut self, address: u16) -> bool
+        ensures { OnChannel (address / 256) (Quietly (machine.Arrive address) (machine.HasArrived result)) (result ≡ false) self.old self.new }
+    {
+        numbers::arrive(&mut self.list, &mut self.storage, address)
+    }
+
+    /// The processor takes an interruption of the channel with this number, if it has one: its channel status word is stored. It
+    /// makes no call of a store ('Input/Output Interruptions').
+    pub fn interrupt_at(&mut self, number: u8) -> Option<(u16, Csw)>
+        ensures { OnChannel number (Quietly machine.Interrupt (machine.Interrupted result)) (result ≡ None) self.old self.new }
+    {
+        numbers::interrupt(&mut self.list, &mut self.storage, number)
+    }
+
+    /// Resets the channel with this number and its drives; none where there is no such channel. It makes at most one call of a
+    /// store.
+    pub fn reset(&mut self, number: u8) -> Option<Reset>
+        ensures { OnChannel number (ResetsTo result) (result ≡ None) self.old self.new }
+    {
+        numbers::reset(&mut self.list, &mut self.storage, number)
+    }
+
+    /// Main storage as it is now, also while programs run, lent.
+    pub fn storage(&self) -> &Storage
+        ensures { result.now ≡ self.now.storage }
+    {
+        &self.storage
+    }
+
+    /// The processor stores these bytes from an address on, also while programs run.
+    ///
+    /// # Errors
+    ///
+    /// A byte would be outside storage; nothing has changed.
+    pub fn poke(&mut self, at: u32, bytes: &[u8]) -> Result<(), OutsideStorage>
+        ensures { Stores (Bytes at bytes.now) (is_ok result) self.old self.new }
+    {
+        if put(&mut self.storage, at, bytes) {
+            Ok(())
+        } else {
+            Err(OutsideStorage)
+        }
+    }
+
+    /// The processor sets the key, below 16, of the block of storage that has this address, also while programs run.
+    ///
+    /// # Errors
+    ///
+    /// The address is outside storage; nothing has changed.
+    pub fn set_key(&mut self, at: u32, key: u8) -> Result<(), OutsideStorage>
+        requires { key < 16 }
+        ensures { Stores (KeyOf at key) (is_ok result) self.old self.new }
+    {
+        if set_key(&mut self.storage, at, key) {
+            Ok(())
+        } else {
+            Err(OutsideStorage)
+        }
+    }
+
+    /// Adds a channel with this number and no drives. It takes memory for the storage that the channel has between calls.
+    ///
+    /// # Errors
+    ///
+    /// `BadNumber`, `NumberTaken` and `OutOfMemory`, in this order; nothing has changed.
+    pub fn add(&mut self, alloc: Global, number: u8) -> Result<(), AddFault>
+        ensures added { OnOk result (self.new ≡ record self.old { channels = slice_set self.old.channels number (Some (new_channel number (length self.old.storage.bytes))) }) }
+        ensures refused { IfErr result (λ e. RefusedAs number self.old.channels e) }
+        ensures stays { OnErr result (self.new ≡ self.old) }
+    {
+        adding::add(&mut self.list, self.storage.size(), alloc, number)
+    }
+
+    /// Attaches a drive that holds this image to the channel of the high byte of an address, under its low byte, as
+    /// `Channel::attach` does.
+    ///
+    /// # Errors
+    ///
+    /// `NoChannel`, and what the channel refuses; the image is handed back, and nothing has changed.
+    pub fn attach(
+        &mut self,
+        alloc: Global,
+        address: u16,
+        image: Image<S>,
+    ) -> Result<(), (AttachFault, Image<S>)>
+        ensures attached { OnOk result (AttachesAt (address / 256) (address % 256) image self.old.channels self.new.channels) }
+        ensures storage { self.new.storage ≡ self.old.storage }
+        ensures refused { IfErr result (λ e. WhyNot (channel_at (address / 256) self.old) (address % 256) e.0) }
+        ensures handed_back { IfErr result (λ e. e.1 ≡ image) }
+        ensures stays { OnErr result (self.new ≡ self.old) }
+    {
+        adding::attach(&mut self.list, alloc, address, image)
+    }
+
+    /// Test Channel, at the channel of the high byte of an address; 3 where there is none ('Test Channel').
+    pub fn tch(&self, address: u16) -> Condition<()>
+        ensures { TestsAt (answer_seen (answer.Tch result)) self.now.storage (channel_at (address / 256) self.now) }
+    {
+        numbers::tch(&self.list, address)
+    }
+
+    /// Whether `interrupt_at` would give an interruption of the channel with this number now; false where there is none.
+    pub fn is_pending_at(&self, number: u8) -> bool
+        ensures { InterruptsAt result self.now.storage (channel_at number self.now) }
+    {
+        numbers::is_pending(&self.list, number)
+    }
+
+    /// The channel with this number, lent, to be asked for its drives, its images and what its subchannel does; the storage that
+    /// it has between calls is not the machine's.
+    pub fn channel(&self, number: u8) -> Option<&Channel<S>>
+        ensures { option_map (λ c. c.now) result ≡ channel_at number self.now }
+    {
+        numbers::channel(&self.list, number)
+    }
+}
+
+// Puts bytes into storage, whose size stays.
+#[tactic(auto, using(crate::proofs::Added::put_size))]
+fn put(storage: &mut Storage, at: u32, bytes: &[u8]) -> bool
+    ensures puts { Puts (Bytes at bytes.now) result storage.old storage.new }
+    ensures size { length storage.new.bytes ≡ length storage.old.bytes }
+{
+    storage.put(at, bytes)
+}
+
+// Sets the key of a block of storage, whose size stays.
+#[tactic(auto, using(crate::proofs::Added::put_size))]
+fn set_key(storage: &mut Storage, at: u32, key: u8) -> bool
+    requires { key < 16 }
+    ensures puts { Puts (KeyOf at key) result storage.old storage.new }
+    ensures size { length storage.new.bytes ≡ length storage.old.bytes }
+{
+    storage.set_key(at, key)
+}

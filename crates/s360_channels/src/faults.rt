@@ -1,0 +1,29 @@
+//! What several channels refuse.
+
+use std::alloc::AllocError;
+use thiserror::Error;
+
+/// Why a channel is not added. The faults are looked for in this order.
+#[derive(Clone, Copy, Debug, PartialEq, Eq, Error)]
+pub enum AddFault {
+    /// The channels of a System/360 have the numbers 0 to 6 (Principles of Operation, 'Input/Output Device Addressing').
+    #[error("a channel's number is 0 to 6")]
+    BadNumber,
+    /// There is a channel with this number.
+    #[error("there is a channel with this number")]
+    NumberTaken,
+    /// There is no memory for the storage that the channel holds between calls.
+    #[error("out of memory")]
+    OutOfMemory,
+}
+
+/// Why a drive is not attached. `NoChannel` is looked for first.
+#[derive(Clone, Copy, Debug, PartialEq, Eq, Error)]
+pub enum AttachFault {
+    /// There is no channel with the number in the high byte.
+    #[error("there is no channel with this number")]
+    NoChannel,
+    /// The channel refuses it.
+    #[error("{0}")]
+    Refused(s360_channel::AttachFault),
+}
