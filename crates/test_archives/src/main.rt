@@ -10,6 +10,7 @@ use anyhow::{Context, Result, bail};
 use ckd_image::{Image, ImageStore, MemoryStore};
 use ckd_track::{DriveModel, Geometry};
 use dasd_archive::{Comparison, Form, Part, Range, Style, Tally, check_strict, compare, dump};
+use dasd_volumes::SlotReader;
 use std::alloc::Global;
 use std::io;
 use std::io::Write;
@@ -147,15 +148,25 @@ fn compare_both<W: Write>(
 ) -> Result<()> {
     let mut volume = volume_of(alloc, lines, "track ")?;
     let mut other = volume_of(alloc, lines, "other ")?;
-    if volume.geometry() != other.geometry() {
-        bail!("another geometry");
-    }
     let form = Comparison {
         style,
         path: "\"a.ckd\"",
         other: "\"b.ckd\"",
         lists,
     };
-    compare(alloc, &mut volume, &mut other, writer, form)?;
+    compare_alike(alloc, &mut volume, &mut other, writer, form)
+}
+
+fn compare_alike<V: SlotReader, U: SlotReader, W: Write>(
+    alloc: Global,
+    volume: &mut V,
+    other: &mut U,
+    writer: &mut W,
+    form: Comparison<'_>,
+) -> Result<()> {
+    if volume.geometry() != other.geometry() {
+        bail!("another geometry");
+    }
+    compare(alloc, volume, other, writer, form)?;
     Ok(())
 }
