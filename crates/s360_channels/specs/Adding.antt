@@ -17,11 +17,14 @@ new_channel number size = record { number = number; storage = cleared size; subc
 abbrev pub is_taken : (number : ℕ) → List (Option ChannelState) → Bool
 is_taken number cs = is_some (slice_index_or cs number None)
 
+abbrev pub IsFree : (number : ℕ) → List (Option ChannelState) → Type 0
+IsFree number cs = (nat_le 7 number ≡ false) × (is_taken number cs ≡ false)
+
 -- When a channel is not added, in this order: its number is above 6; there is one with this number; there is no memory.
 abbrev pub RefusedAs : (number : ℕ) → List (Option ChannelState) → AddFault → Type 0
 RefusedAs number cs BadNumber = nat_le 7 number ≡ true
 RefusedAs number cs NumberTaken = (nat_le 7 number ≡ false) × (is_taken number cs ≡ true)
-RefusedAs number cs OutOfMemory = (nat_le 7 number ≡ false) × (is_taken number cs ≡ false)
+RefusedAs number cs OutOfMemory = IsFree number cs
 
 -- A drive that holds this image is attached to the channel with a number, as `s360_channel` does it; every other channel stays.
 abbrev pub AttachesTo : Option ChannelState → (number device : ℕ) → ImageState → (old new : List (Option ChannelState)) → Type 0

@@ -4,7 +4,7 @@ ghost use Rattle.std.specs.Prelude.{◌≡◌, ◌<◌, ◌/◌, ◌%◌, ◌++�
 ghost use Rattle.s360_channel.specs.Attaches.{NotRefused};
 ghost use Rattle.s360_channel.specs.Channel.{new_unit};
 ghost use Rattle.s360_channels.specs.Channels.{AllFit, Fits};
-ghost use Rattle.s360_channels.specs.Adding.{AttachesAt, RefusedAs, WhyNot, new_channel};
+ghost use Rattle.s360_channels.specs.Adding.{AttachesAt, IsFree, RefusedAs, WhyNot, new_channel};
 
 use crate::faults::{AddFault, AttachFault};
 use ckd_image::{Image, ImageStore};
@@ -22,6 +22,7 @@ pub(crate) fn add<S: ImageStore>(
     requires fit { AllFit size channels.old }
     requires seven { length channels.old ≡ 7 }
     ensures added { OnOk result (channels.new ≡ slice_set channels.old number (Some (new_channel number size))) }
+    ensures free { OnOk result (IsFree number channels.old) }
     ensures refused { IfErr result (λ e. RefusedAs number channels.old e) }
     ensures stays { OnErr result (channels.new ≡ channels.old) }
     ensures fit { AllFit size channels.new }

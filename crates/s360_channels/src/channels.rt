@@ -6,7 +6,7 @@ ghost use Rattle.s360_laws.specs.Events as machine;
 ghost use Rattle.s360_events.specs.Seen.{answer_seen};
 ghost use Rattle.s360_events.specs.declared.answers.Answer.TheVariants as answer;
 ghost use Rattle.s360_events.specs.declared.conditions.Condition.TheVariants.{Three};
-ghost use Rattle.s360_channels.specs.Adding.{AttachesAt, RefusedAs, WhyNot, new_channel};
+ghost use Rattle.s360_channels.specs.Adding.{AttachesAt, IsFree, RefusedAs, WhyNot, new_channel};
 ghost use Rattle.s360_channels.specs.Asked.{InterruptsAt, TestsAt};
 ghost use Rattle.s360_channels.specs.Channels.{OnChannel, Quietly, AtMost, RunsTo, ResetsTo, Puts, Stores, channel_at};
 
@@ -152,6 +152,7 @@ impl<S: ImageStore> Channels<S> {
     /// `BadNumber`, `NumberTaken` and `OutOfMemory`, in this order; nothing has changed.
     pub fn add(&mut self, alloc: Global, number: u8) -> Result<(), AddFault>
         ensures added { OnOk result (self.new ≡ record self.old { channels = slice_set self.old.channels number (Some (new_channel number (length self.old.storage.bytes))) }) }
+        ensures free { OnOk result (IsFree number self.old.channels) }
         ensures refused { IfErr result (λ e. RefusedAs number self.old.channels e) }
         ensures stays { OnErr result (self.new ≡ self.old) }
     {
