@@ -1,10 +1,13 @@
 //! Lists of thousands of events.
 
+ghost use Rattle.std.specs.Prelude.{IfOk};
+ghost use Rattle.s360_events.specs.Answered.{AllAnswered};
+
 use crate::ends::{Pieces, Room};
 use crate::stage::{ALL, new_channel, play};
 use anyhow::{Result, bail};
 use s360_deck::{Answer, Event, drive, parse, serial};
-use std::alloc::Global;
+use std::alloc::{AllocError, Global};
 use test_rows::Tally;
 
 /// How many events a list has at least.
@@ -62,11 +65,21 @@ fn is_made_serial(
         bail!("no deck");
     };
     let answers = driven(alloc, file, events.as_slice())?;
-    let list = serial(alloc, events.as_slice(), answers.as_slice())?;
+    let list = list_of(alloc, events.as_slice(), answers.as_slice())?;
     Ok(answers.len() == length && list.len() == kept)
 }
 
-fn driven(alloc: Global, file: &[u8], events: &[Event]) -> Result<Vec<Answer>> {
+// The serial list of events and of what a channel answered to them.
+#[tactic(auto, using(crate::proofs::Fit::all_fit))]
+fn list_of(alloc: Global, events: &[Event], answers: &[Answer]) -> Result<Vec<Event>, AllocError>
+    requires { AllAnswered events.now answers.now }
+{
+    serial(alloc, events, answers)
+}
+
+fn driven(alloc: Global, file: &[u8], events: &[Event]) -> Result<Vec<Answer>>
+    ensures { IfOk result (λ answers. AllAnswered events.now answers.items) }
+{
     let mut channel = new_channel(alloc, file)?;
     Ok(drive(alloc, &mut channel, events)?)
 }
