@@ -259,7 +259,7 @@ impl<'a> ImageFiles for HostFiles<'a> {
             return Err(FileFault::Twice);
         }
         match keep(&mut self.locked, alloc, path, &file, &known) {
-            Ok(()) => Ok(HostFile::of(file, known.len())),
+            Ok(()) => Ok(HostFile::of(alloc, file, known.len())),
             Err(fault) => Err(refused(&mut self.remarks, alloc, path, &fault)),
         }
     }

@@ -5,6 +5,7 @@ ghost use Rattle.std.specs.Prelude.{◌≡◌, ◌≤◌, length, IfOk, OnOk, On
 use crate::host::wrong;
 use ckd_image::StoreFault;
 use dasd_jobs::{OpenedFile, is_header};
+use std::alloc::Global;
 use std::fs::{self, File};
 use std::io;
 use std::io::{ErrorKind, Read};
@@ -16,11 +17,81 @@ const HEADER: usize = 512;
 /// How many bytes are read at once.
 const PIECE: usize = 4_096;
 
+/// How many bytes of a regular file are read ahead, so that its slots cost no call of the system each.
+const WINDOW: usize = 65_536;
+
+/// A regular file, with the bytes that were read ahead.
+#[derive(Drop)]
+pub(crate) struct RegularFile {
+    file: File,
+    len: u64,
+    /// Where the bytes stand that were read ahead.
+    begin: u64,
+    /// How many they are.
+    held: usize,
+    /// The room for them: none where there was no memory for it, and then nothing is read ahead.
+    window: Vec<u8>,
+}
+
+impl RegularFile {
+    // A file of this length, of which nothing is read yet.
+    fn new(alloc: Global, file: File, len: u64) -> RegularFile {
+        let window = vec![in alloc; 0; WINDOW].unwrap_or(Vec::new(alloc));
+        RegularFile {
+            file,
+            len,
+            begin: 0,
+            held: 0,
+            window,
+        }
+    }
+
+    // The bytes from `at` on that were read ahead, as many as there are.
+    fn ahead(&self, at: u64) -> &[u8] {
+        let held = self.window.get(..self.held).unwrap_or(&[]);
+        let Some(behind) = at.checked_sub(self.begin) else {
+            return &[];
+        };
+        match usize::try_from(behind) {
+            Ok(behind) => held.get(behind..).unwrap_or(&[]),
+            Err(_) => &[],
+        }
+    }
+
+    // Reads ahead from `at` on.
+    fn read_ahead(&mut self, at: u64) -> io::Result<()> {
+        let left = self.len.saturating_sub(at);
+        let count = left.min(self.window.len() as u64) as usize;
+        self.held = 0;
+        self.file.read_exact_at(&mut self.window[..count], at)?;
+        self.begin = at;
+        self.held = count;
+        Ok(())
+    }
+
+    // Reads the bytes from `at` on that fill `into`.
+    fn read_at(&mut self, at: u64, into: &mut [u8]) -> io::Result<()> {
+        if into.len() > self.window.len() {
+            return self.file.read_exact_at(into, at);
+        }
+        if self.ahead(at).len() < into.len() {
+            self.read_ahead(at)?;
+        }
+        match self.ahead(at).get(..into.len()) {
+            Some(found) => {
+                into.copy_from_slice(found);
+                Ok(())
+            }
+            None => self.file.read_exact_at(into, at),
+        }
+    }
+}
+
 /// A file that is read in place, or what was read of a pipe or of a device.
 #[derive(Drop)]
 pub(crate) enum HostFile {
-    /// A regular file of this length.
-    Regular(File, u64),
+    /// A regular file.
+    Regular(RegularFile),
     /// All that a pipe gave; of one that begins no image only the beginning.
     Read(Vec<u8>),
 }
@@ -31,7 +102,7 @@ impl HostFile {
         let mut file = File::open(host, path)?;
         let known = file.metadata()?;
         if known.is_file() {
-            return Ok(HostFile::of(file, known.len()));
+            return Ok(HostFile::of(host.alloc(), file, known.len()));
         }
         let mut bytes = Vec::new(host.alloc());
         read_up_to(&mut file, &mut bytes, HEADER)?;
@@ -42,22 +113,22 @@ impl HostFile {
     }
 
     /// A regular file of this length.
-    pub(crate) fn of(file: File, len: u64) -> HostFile {
-        HostFile::Regular(file, len)
+    pub(crate) fn of(alloc: Global, file: File, len: u64) -> HostFile {
+        HostFile::Regular(RegularFile::new(alloc, file, len))
     }
 }
 
 impl OpenedFile for HostFile {
     fn len(&self) -> u64 {
         match self {
-            HostFile::Regular(_, len) => *len,
+            HostFile::Regular(it) => it.len,
             HostFile::Read(bytes) => bytes.len() as u64,
         }
     }
 
     fn read_at(&mut self, at: u64, into: &mut [u8]) -> Result<(), StoreFault> {
         match self {
-            HostFile::Regular(file, _) => file.read_exact_at(into, at).map_err(|_| StoreFault),
+            HostFile::Regular(it) => it.read_at(at, into).map_err(|_| StoreFault),
             HostFile::Read(bytes) => copy_at(bytes.as_slice(), at, into),
         }
     }

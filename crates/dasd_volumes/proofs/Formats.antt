@@ -1,9 +1,10 @@
 -- What the holes of a format write.
-use Rattle.std.proofs.Common.{ℕ, ◌-◌, ◌+◌, ◌<◌, ◌^◌, ◌≡◌, List, [], ◌++◌, true, false, length, take, get_or, refl, codes}
+use Rattle.std.proofs.Common.{ℕ, ◌-◌, ◌+◌, ◌<◌, ◌^◌, ◌≡◌, List, [], ◌∷◌, ◌++◌, append_assoc, true, false, length, take, get_or, refl, codes}
 use Rattle.std.proofs.Math.Nat.{sub-zero}
 use Rattle.std.proofs.lemmas.List.{take_at, append-nil, flat_map_more, take_more}
 use Rattle.std.specs.Fmt.{digits, padded_integral, format_spec, char_count}
-use Rattle.dasd_volumes.specs.Lines.{hexadecimal, bytes_text, address_text}
+use Rattle.std.specs.List.{concat}
+use Rattle.dasd_volumes.specs.Lines.{hexadecimal, bytes_text, address_text, line_feed}
 use Rattle.ckd_track.specs.Track.{Record, IsRecord, count_area}
 
 -- `{n:0widthX}`
@@ -27,3 +28,15 @@ padded_address cylinder head = rw (padded_hexadecimal 4 cylinder, padded_hexadec
 -- the first five bytes of a count area
 pub identifier_is : (count : List ℕ) (r : Record) → count ≡ count_area r → IsRecord r → take 5 count ≡ r.id
 identifier_is count r is h = rw is (take_at r.id _ 5 h.id)
+
+-- the parts of a record's line, as they were put together
+pub record_is : (id key_length data_length : List ℕ)
+    → (((((codes "  " ++ id) ++ codes " KL ") ++ key_length) ++ codes " DL ") ++ data_length) ++ line_feed
+    ≡ concat (codes "  " ∷ id ∷ codes " KL " ∷ key_length ∷ codes " DL " ∷ data_length ∷ line_feed ∷ [])
+record_is id key_length data_length = simp (append_assoc)
+
+-- and those of a track's
+pub track_is : (cylinder head home_address records used : List ℕ)
+    → ((((((((cylinder ++ codes " ") ++ head) ++ codes " HA ") ++ home_address) ++ codes " records ") ++ records) ++ codes " used ") ++ used) ++ line_feed
+    ≡ concat ((cylinder ++ (codes " " ++ head)) ∷ codes " HA " ∷ home_address ∷ codes " records " ∷ records ∷ codes " used " ∷ used ∷ line_feed ∷ [])
+track_is cylinder head home_address records used = simp (append_assoc)

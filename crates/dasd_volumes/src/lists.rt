@@ -1,6 +1,7 @@
 //! A volume's tracks and records.
 
-ghost use Rattle.std.specs.Prelude.{◌≡◌, ◌≢◌, ◌++◌, ◌<◌, length, OnOk, IfErr};
+ghost use Rattle.std.specs.Prelude.{◌≡◌, ◌≢◌, ◌+◌, ◌≤◌, ◌++◌, ◌<◌, length, OnOk, IfErr};
+ghost use Rattle.std.specs.Fmt.{decimal};
 ghost use Rattle.std.specs.List.{flat_map};
 ghost use Rattle.std.specs.Io.KnownBytes.{Appends, Keeps};
 ghost use Rattle.ckd_track.specs.Track.{track_of, record_in};
@@ -10,10 +11,16 @@ ghost use Rattle.dasd_volumes.specs.Volumes.{cylinder_text, volume_text};
 
 use crate::fault::VolumeFault;
 use crate::reading::SlotReader;
-use crate::text::{Hexadecimal, Reason, TrackAddress, model_number};
+use crate::text::{Reason, TrackAddress, model_number};
+use arrayvec::ArrayString;
 use ckd_track::{Geometry, TrackView, read_slot, used};
+use itoa::Buffer;
 use std::alloc::Global;
 use std::io::Write;
+use text_lines::{put_bytes, put_decimal, put_hexadecimal};
+
+// The bytes that a line has room for: more than any has.
+const LINE: usize = 96;
 
 /// Prints a volume: its model, cylinders, heads and slot size; then each track with its home address, its
 /// records and the bytes of the track that they take; and each record with its identifier, key length and data length. A
@@ -138,13 +145,18 @@ fn list_home_address<W: Write>(
     ensures { OnOk result (Appends (W.contents writer.old) (W.contents writer.new)
         (track_line geometry.model address.cylinder address.head track.now)) }
 {
-    let home_address = Hexadecimal(track.ha());
-    let used = used(geometry.model, track);
-    let records = track.len();
-    writeln!(
-        writer,
-        "{address} HA {home_address} records {records} used {used}"
-    )
+    let mut line: ArrayString<LINE> = ArrayString::new();
+    put_hexadecimal(&mut line, 4, u32::from(address.cylinder));
+    line.push_str(" ");
+    put_hexadecimal(&mut line, 4, u32::from(address.head));
+    line.push_str(" HA ");
+    put_bytes(&mut line, track.ha());
+    line.push_str(" records ");
+    put_count(&mut line, track.len());
+    line.push_str(" used ");
+    put_decimal(&mut line, used(geometry.model, track));
+    line.push_str("\n");
+    writer.write_all(line.as_bytes())
 }
 
 // The line of a record.
@@ -152,8 +164,22 @@ fn list_record<W: Write>(writer: &mut W, track: &TrackView, i: usize) -> std::io
     requires { i < length track.now.records }
     ensures { OnOk result (Appends (W.contents writer.old) (W.contents writer.new) (record_line (record_in track.now i))) }
 {
-    let identifier = Hexadecimal(&track.count_of(i)[..5]);
-    let key_length = track.key_of(i).len();
-    let data_length = track.data_of(i).len();
-    writeln!(writer, "  {identifier} KL {key_length} DL {data_length}")
+    let mut line: ArrayString<LINE> = ArrayString::new();
+    line.push_str("  ");
+    put_bytes(&mut line, &track.count_of(i)[..5]);
+    line.push_str(" KL ");
+    put_count(&mut line, track.key_of(i).len());
+    line.push_str(" DL ");
+    put_count(&mut line, track.data_of(i).len());
+    line.push_str("\n");
+    writer.write_all(line.as_bytes())
+}
+
+// The count in decimal digits goes to the end of the line, which has room for the twenty that a count may have.
+fn put_count(line: &mut ArrayString<LINE>, count: usize)
+    requires { length line.old.bytes + 20 ≤ 96 }
+    ensures text { line.new.bytes ≡ line.old.bytes ++ decimal count }
+    ensures size { length line.new.bytes ≤ length line.old.bytes + 20 }
+{
+    line.push_str(Buffer::new().format(count));
 }
