@@ -1,5 +1,5 @@
 -- An image, with the slot of one track at hand: loaded when it is first wanted, written in place, saved late.
-use Rattle.std.specs.Prelude.{◌≡◌, ℕ, ◌+◌, ◌<◌, List, [], Bool, true, false, ◌==◌, Option, Some, None, IsSome, unwrap_or, length, slice_index_or, slice_set, All}
+use Rattle.std.specs.Prelude.{◌≡◌, ℕ, ◌+◌, ◌<◌, List, [], Bool, true, false, ◌==◌, Option, Some, None, IsSome, unwrap_or, length, slice_index_or, slice_set, All, if◌then◌else◌}
 use Rattle.ckd_track.specs.Geometry.{IsGeometry, tracks_of}
 use Rattle.ckd_image.specs.Image.{ImageState}
 use Rattle.ckd_track.specs.Track.{track_of, slot_of}
@@ -45,6 +45,10 @@ with_held c slot = record c { slots = slice_set c.slots (unwrap_or c.held 0) slo
 abbrev pub holds : Option ℕ → ℕ → Bool
 holds None track = false
 holds (Some t) track = t == track
+
+-- the slot of a track, where it is the one at hand
+abbrev pub slot_at_hand : CacheState → (track : ℕ) → Option (List ℕ)
+slot_at_hand c track = if holds c.held track then Some (slot_held c) else None
 
 -- after a look at a track: it is loaded where another is at hand
 abbrev pub loaded : ImageState → (at_hand : Bool) → ImageState

@@ -58,6 +58,12 @@ abbrev pub passed_of : Work → List ℕ
 passed_of (Passing o b left) = b
 passed_of w = []
 
+-- the command that works, if one does
+abbrev pub command_of : Work → Option Opened
+command_of (Looking o) = Some o
+command_of (Passing o b left) = Some o
+command_of w = None
+
 abbrev pub left_of : Work → ℕ
 left_of (Passing o b left) = left
 left_of w = 0
