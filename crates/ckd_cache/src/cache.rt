@@ -1,12 +1,12 @@
 //! An image, with the slot of one track at hand: loaded when it is first wanted, written in place, saved late.
 
-ghost use Rattle.std.specs.Prelude.{◌≡◌, ◌≤◌, ◌<◌, ◌+◌, Some, None, true, false, [], length, unwrap_or, slice_index_or, IfOk, IfErr, OnOk, OnErr, IsSome};
+ghost use Rattle.std.specs.Prelude.{◌≡◌, ◌≤◌, ◌<◌, ◌+◌, Some, None, true, false, [], length, unwrap_or, slice_index_or, option_map, IfOk, IfErr, OnOk, OnErr, IsSome};
 ghost use Rattle.ckd_track.specs.Geometry.{tracks_of};
 ghost use Rattle.ckd_track.specs.Track.{track_of, track_in, slot_of};
 ghost use Rattle.ckd_track.specs.Changes.{overwritten, bare_track};
 ghost use Rattle.ckd_position.specs.Contents.{is_readable, with_record_changed, replaced, kept};
 ghost use Rattle.ckd_slot.specs.Buffer.{SameRecords, FitsSlot, IsUpdate, IsRecordOf};
-ghost use Rattle.ckd_cache.specs.Cache.{slot_held, with_held, holds, after_hold, after_failed_hold, after_save, after_failed_save, IsVolume, FormatsHeld};
+ghost use Rattle.ckd_cache.specs.Cache.{slot_held, slot_at_hand, with_held, holds, after_hold, after_failed_hold, after_save, after_failed_save, IsVolume, FormatsHeld};
 
 use ckd_image::{Image, ImageStore, StoreFault};
 use ckd_position::{Area, Extent};
@@ -113,6 +113,16 @@ impl<S: ImageStore> TrackCache<S> {
         self.buffer.load(&mut self.image, track)?;
         self.held = Some(track);
         Ok(())
+    }
+
+    /// The slot of a track, lent, if it is the one at hand.
+    pub fn at_hand(&self, track: u32) -> Option<&TrackBuffer>
+        ensures { option_map (λ b. b.now) result ≡ slot_at_hand self.now track }
+    {
+        if self.held != Some(track) {
+            return None;
+        }
+        Some(&self.buffer)
     }
 
     /// The slot at hand.

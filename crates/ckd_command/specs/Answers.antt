@@ -41,29 +41,34 @@ moved_to r cylinder head = record r { cylinder = cylinder; head = head; position
 
 -- The same, by what a call answers and by the registers that it leaves.
 
+-- what a begin came to, by its answer and the registers that it left
 abbrev pub begun_as : Start → Registers → Beginning
 begun_as start.Rejected r = Rejected r
 begun_as start.Immediate r = Immediate r
 begun_as (start.Works o) r = Started r o
 begun_as (start.ToCylinderZero o) r = ToCylinderZero r o
 
+-- what a look came to, by its answer, the command that looked and the registers that it left
 abbrev pub seen_as : Seen → Opened → Registers → Sight
 seen_as (seen.Found a) o r = Found (record o { area = Some a })
 seen_as seen.IndexPassed o r = IndexPassed r
 seen_as seen.NextHead o r = NextHead (moved_to r r.cylinder (r.head + 1))
 seen_as seen.Missed o r = Missed r
 
+-- how a command closed, by its answer and the registers that it left
 abbrev pub closed_as : Closed → Registers → CommandEnd
 closed_as (Stays unit) r = record { registers = r; ending = record { unit = unit; motion = false }; moves_off = false }
 closed_as (Moves cylinder head ending) r = record { registers = moved_to r cylinder head; ending = ending; moves_off = true }
 
 -- Where the arm has still to leave the track, or an area is found, a call has changed nothing.
 
+-- a look that found its area, or goes on at the next head, has changed no register yet
 abbrev pub SeenStays : Seen → Registers → Registers → Type 0
 SeenStays (seen.Found a) r r' = r' ≡ r
 SeenStays seen.NextHead r r' = r' ≡ r
 SeenStays _ r r' = Unit {0}
 
+-- a close that sends the arm or the head away has changed no register yet
 abbrev pub ClosedStays : Closed → Registers → Registers → Type 0
 ClosedStays (Moves cylinder head ending) r r' = r' ≡ r
 ClosedStays _ r r' = Unit {0}

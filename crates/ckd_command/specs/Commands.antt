@@ -48,19 +48,23 @@ number (high ∷ low ∷ _) = 256 * high + low
 
 -- Unit status at a command's end ('Status Byte').
 
--- channel end and device end; these and unit check; and unit exception; and status modifier; channel end alone
+-- channel end and device end
 abbrev pub ending_status : ℕ
 ending_status = 0x0C
 
+-- channel end, device end and unit check
 abbrev pub unit_check_status : ℕ
 unit_check_status = 0x0E
 
+-- channel end, device end and unit exception
 abbrev pub unit_exception_status : ℕ
 unit_exception_status = 0x0D
 
+-- channel end, device end and status modifier: a search is satisfied
 abbrev pub satisfied_status : ℕ
 satisfied_status = 0x4C
 
+-- channel end alone: the arm still moves
 abbrev pub in_motion_status : ℕ
 in_motion_status = 0x08
 
@@ -75,6 +79,7 @@ pub record IsAtTrack (g : Geometry) (r : Registers) : Type 0 where
 abbrev pub program_start : Registers → Registers
 program_start r = record r { position = AtIndex; file_mask = mask_of_byte 0x00; mask_set = false; credit = None; lap = First }
 
+-- the sense with this cause of unit check beside what it has
 abbrev pub with_cause : Registers → Sense → Registers
 with_cause r cause = record r { sense = joined r.sense cause }
 
@@ -84,6 +89,7 @@ at_index r = record r { position = AtIndex; lap = First }
 
 -- Begin.
 
+-- the sense that a command begins with: Sense alone keeps it, since it gives it
 abbrev pub sense_after_begin : Command → Sense → Sense
 sense_after_begin command.Sense sense = sense
 sense_after_begin _ sense = cause.ZERO
@@ -92,6 +98,7 @@ sense_after_begin _ sense = cause.ZERO
 abbrev pub cleared : Command → Registers → Registers
 cleared c r = record r { sense = sense_after_begin c r.sense; credit = None; lap = if is_search (action_of c) then r.lap else First }
 
+-- whether a command works on the area that a credit names
 abbrev pub is_credited : Aim → Bool
 is_credited Credited = true
 is_credited _ = false
@@ -107,20 +114,25 @@ refusal_under NoWrite c r = Some cause.WRITE_NOT_ALLOWED
 refusal_under NoSeek c r = Some cause.SEEK_NOT_ALLOWED
 refusal_under Yes c r = if is_out_of_sequence c r then Some cause.OUT_OF_SEQUENCE else None
 
+-- why a command is not begun, if it is not, under the file mask that is set
 abbrev pub refusal : Command → Registers → Option Sense
 refusal c r = refusal_under (permit_of r.file_mask c) c r
 
+-- where a command that is allowed begins: No Operation is over at once, Recalibrate and Read IPL send the arm to
+-- cylinder 0, head 0, and the others work
 abbrev pub started : Command → Registers → Opened → Beginning
 started command.NoOperation r o = Immediate r
 started command.Recalibrate r o = ToCylinderZero r None
 started command.ReadIpl r o = ToCylinderZero r (Some o)
 started _ r o = Started r o
 
+-- a command that the file mask or the sequence refuses is rejected for that cause; another begins
 abbrev pub begin_allowed : CommandCode → Registers → Option Sense → Beginning
 begin_allowed c r (Some cause) = Rejected (with_cause (cleared c.command r) cause)
 begin_allowed c r None =
     started c.command (cleared c.command r) (record { command = c.command; multi_track = c.multi_track; area = credited c.command r.credit })
 
+-- a code that is no command's is rejected as invalid; it takes away what every command does
 abbrev pub begin_decoded : Option CommandCode → Registers → Beginning
 begin_decoded None r = Rejected (with_cause (cleared command.NoOperation r) cause.INVALID_COMMAND)
 begin_decoded (Some c) r = begin_allowed c r (refusal c.command r)
@@ -131,36 +143,44 @@ beginning code r = begin_decoded (decoded code) r
 
 -- One look at the track under the arm.
 
--- the index passes: on the same track twice at most; with the multi-track bit to the next head, as far as the mask and the cylinder go
+-- an index that passes without the multi-track bit: the second one of a command ends it
 abbrev pub turned : Registers → Lap → Sight
 turned r First = IndexPassed (record r { position = AtIndex; lap = Second })
 turned r Second = Missed (with_cause (at_index r) cause.NO_RECORD_FOUND)
 
+-- an index that passes with the multi-track bit: the next head of the cylinder, where the file mask allows one and
+-- there is one
 abbrev pub next_head : Geometry → Registers → Sight
 next_head g r =
     if not (allows_head_change r.file_mask) then Missed (with_cause (at_index r) cause.HEAD_CHANGE_NOT_ALLOWED)
     else (if r.head + 1 == heads_of g.model then Missed (with_cause (at_index r) cause.END_OF_CYLINDER)
     else NextHead (moved_to r r.cylinder (r.head + 1)))
 
+-- what a look comes to, by the next area of the command's kind
 abbrev pub sight_of : Geometry → Opened → Registers → NextArea → Sight
 sight_of g o r (next.Found a) = Found (record o { area = Some a })
 sight_of g o r next.IndexPassed = if o.multi_track then next_head g r else turned r r.lap
 
+-- a command with a kind of area looks for the next of that kind, on a track that can be read where it needs one;
+-- every other command has found its area, or wants none
 abbrev pub look_for : Geometry → Sighted → Opened → Registers → Aim → Sight
 look_for g t o r (Next kind) =
     if needs_readable (action_of o.command) && not (is_readable t) then Missed (with_cause r cause.UNREADABLE_TRACK)
     else sight_of g o r (next_of_kind (track_or_none t) r.position kind)
 look_for g t o r _ = Found o
 
+-- what one look at the track under the arm comes to
 unfoldable pub sight : Geometry → Sighted → Opened → Registers → Sight
 sight g t o r = look_for g t o r (aim o.command)
 
 -- The bytes that pass.
 
+-- these bytes of an area; none where there is no area
 abbrev pub bytes_at : Extent → Sighted → Option Area → List ℕ
 bytes_at e t (Some a) = bytes_of e t a
 bytes_at e t None = []
 
+-- what a command of this action gives, compares or replaces: Sense gives the sense bytes
 abbrev pub bytes_for : Action → Sighted → Opened → Registers → List ℕ
 bytes_for action.GiveSense t o r = sense_bytes r.sense
 bytes_for _ t o r = bytes_at (extent_of o.command) t o.area
@@ -169,6 +189,7 @@ bytes_for _ t o r = bytes_at (extent_of o.command) t o.area
 unfoldable pub area_bytes : Sighted → Opened → Registers → List ℕ
 area_bytes t o r = bytes_for (action_of o.command) t o r
 
+-- whether the record of these count bytes fits the track behind the records that it keeps
 abbrev pub new_record_fits : Geometry → Sighted → Opened → List ℕ → Bool
 new_record_fits g t o b = has_room g.model (kept t o.area) (key_length b) (data_length b)
 
@@ -177,6 +198,7 @@ abbrev pub format_length : Geometry → Sighted → Opened → List ℕ → ℕ
 format_length g t o b =
     if nat_lt (length b) 8 || not (new_record_fits g t o b) then 8 else 8 + body_length b
 
+-- the bytes in all of a command of this action: a field's size, a format's record, or the length of the area
 abbrev pub length_for : Action → Geometry → Sighted → Opened → Registers → List ℕ → ℕ
 length_for action.SeekCylinderAndHead g t o r b = 6
 length_for action.SeekHead g t o r b = 6
@@ -191,8 +213,8 @@ length_after g t o r b = length_for (action_of o.command) g t o r b
 
 -- Close.
 
--- how a command closes: what the track has become, if the command wrote it; what the drive remembers; the unit status; whether the
--- arm still moves; and whether the arm or the head leaves the track, which is saved first
+-- how a command closes: what the track has become, if the command wrote it; what the drive remembers; the unit status;
+-- whether the arm still moves; and whether the arm or the head leaves the track, which is saved first
 pub record Closing : Type 0 where
   pub written : Option Track
   pub registers : Registers
@@ -200,19 +222,24 @@ pub record Closing : Type 0 where
   pub motion : Bool
   pub moves_off : Bool
 
+-- a command that ends with this unit status, and writes and moves nothing
 abbrev pub ends : Registers → (unit : ℕ) → Closing
 ends r unit = record { written = None; registers = r; unit = unit; motion = false; moves_off = false }
 
+-- a command that ends with unit check for this cause
 abbrev pub fails : Registers → Sense → Closing
 fails r cause = ends (with_cause r cause) unit_check_status
 
+-- the same, where the command has made this of the track
 abbrev pub writes : Track → Closing → Closing
 writes t c = record c { written = Some t }
 
+-- the position at a command's end: the area that it worked on, or where it was
 abbrev pub position_left : Extent → Option Area → Position → Position
 position_left e None p = p
 position_left e (Some a) p = At (area_left e a)
 
+-- the registers at the end of a command that passed its area
 abbrev pub at_end : Opened → Registers → Registers
 at_end o r = record r { position = position_left (extent_of o.command) o.area r.position }
 
@@ -230,6 +257,7 @@ seek_cylinder_and_head g r b =
     then record { written = None; registers = moved_to r cylinder head; unit = in_motion_status; motion = true; moves_off = true }
     else fails r cause.SEEK_ADDRESS_OUTSIDE
 
+-- the head of the address, where the drive has it: the arm stays, and the head leaves the track
 abbrev pub seek_head : Geometry → Registers → List ℕ → Closing
 seek_head g r b =
     let head = number (slice_range b 4 6) in
@@ -237,6 +265,7 @@ seek_head g r b =
     then record (ends (moved_to r r.cylinder head) ending_status) { moves_off = true }
     else fails r cause.SEEK_ADDRESS_OUTSIDE
 
+-- the first byte is the new mask; without a byte the mask stays
 abbrev pub set_file_mask : Registers → List ℕ → Closing
 set_file_mask r [] = ends r ending_status
 set_file_mask r (byte ∷ _) = ends (record r { file_mask = mask_of_byte byte; mask_set = true }) ending_status
@@ -247,15 +276,18 @@ search_ends o r true whole =
     ends (record (at_end o r) { credit = if whole then credit_of_search o.command o.area else None }) satisfied_status
 search_ends o r false whole = ends (at_end o r) ending_status
 
+-- a search of the bytes that came against the first bytes of the area
 abbrev pub search : Sighted → Opened → Registers → List ℕ → Closing
 search t o r b =
     let area = area_bytes t o r in
     search_ends o r (nat_lt 0 (length b) && is_satisfied (comparison o.command) area b) (length b == length area)
 
+-- a command that passed its area: a record without data is reported by unit exception
 abbrev pub area_ends : Opened → Registers → (no_data : Bool) → Closing
 area_ends o r no_data =
     ends (at_end o r) (if ends_with_data (extent_of o.command) && no_data then unit_exception_status else ending_status)
 
+-- the same, by what the track has
 abbrev pub end_of_area : Sighted → Opened → Registers → Closing
 end_of_area t o r = area_ends o r (has_no_data t o.area)
 
@@ -264,10 +296,12 @@ abbrev pub updated : Sighted → Option Area → (Record → Record) → Closing
 updated (Ok t) (Some a) change c = writes (with_record_changed change a t) c
 updated _ _ change c = c
 
+-- an update by the bytes that came: without one it writes nothing
 abbrev pub update : (Record → Record) → Sighted → Opened → Registers → List ℕ → Closing
 update change t o r b =
     if length b == 0 then end_of_area t o r else updated t o.area change (end_of_area t o r)
 
+-- a formatting write leaves the new record's number as its credit, and the position behind its data
 abbrev pub format_ends : Registers → (new : ℕ) → Closing
 format_ends r i = ends (record r { position = At (Of Data i); credit = Some (WroteRecord i) }) ending_status
 
@@ -278,9 +312,11 @@ format g t o r b =
     then writes (formatted t o.area b) (format_ends r (length (kept t o.area)))
     else fails r cause.RECORD_DOES_NOT_FIT
 
+-- the home address of the track under the arm: flag 0, then cylinder and head in two bytes each
 abbrev pub own_home_address : Registers → List ℕ
 own_home_address r = 0 ∷ r.cylinder / 256 ∷ r.cylinder % 256 ∷ r.head / 256 ∷ r.head % 256 ∷ []
 
+-- a Write Home Address leaves its credit
 abbrev pub home_address_ends : Opened → Registers → Closing
 home_address_ends o r = ends (record (at_end o r) { credit = Some WroteHomeAddress }) ending_status
 
@@ -291,6 +327,7 @@ write_home_address o r b =
     then writes (bare_track b) (home_address_ends o r)
     else fails (at_end o r) cause.WRONG_HOME_ADDRESS
 
+-- how a command of this action closes, by the bytes that passed
 abbrev pub close_by : Action → Geometry → Sighted → Opened → Registers → List ℕ → Closing
 close_by action.SeekCylinderAndHead g t o r b = whole_field r b 6 (seek_cylinder_and_head g r b)
 close_by action.SeekHead g t o r b = whole_field r b 6 (seek_head g r b)

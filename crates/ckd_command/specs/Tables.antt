@@ -109,6 +109,7 @@ extent_of WriteData = extent.Data
 extent_of WriteKeyAndData = extent.KeyAndData
 extent_of _ = extent.Nothing
 
+-- whether the action compares the bytes that pass with the area
 abbrev pub is_search : Action → Bool
 is_search action.Search = true
 is_search _ = false

@@ -53,10 +53,11 @@ pub record Comes (loads saves : Bool) (old : DriveState) (after : Option Fault �
   pub calls : CallsStore loads saves old (state_of now)
   pub at_hand : now.cache.image.loads ≡ old.image.loads + 1 → is_written old.state ≡ false
 
--- a drive before it begins a command, and one whose command looks for its area
+-- a drive before it begins a command
 abbrev pub idle_drive : Kept → Parts
 idle_drive k = parts_of k Idle [] []
 
+-- a drive whose command looks for its area
 abbrev pub looking_drive : Kept → Opened → Parts
 looking_drive k o = parts_of k (Looking o) [] []
 

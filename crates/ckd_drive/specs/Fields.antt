@@ -25,6 +25,7 @@ closes_by r o written.HomeAddress = command_end (home_address_ends o r)
 closes_by r o (written.Record number) = command_end (format_ends r number)
 closes_by r o (written.Area no_data) = command_end (area_ends o r no_data)
 
+-- where the bytes of this command stand, with how it closes, by what the fields hold
 abbrev pub place_seen : Registers → Opened → TransferHeld → Transfer
 place_seen r o (held.Sense bytes) = Sense bytes (command_end (area_ends o r false))
 place_seen r o (held.Field bytes) = Field bytes
@@ -33,6 +34,7 @@ place_seen r o (held.Search w so_far) = Search w so_far
 place_seen r o (held.Fill w no_data) = Fill w (command_end (area_ends o r no_data))
 place_seen r o (held.Filled w what) = Filled w (closes_by r o what)
 
+-- how far this command is, by what the fields hold
 abbrev pub progress_seen : Registers → Opened → ProgressHeld → Progress
 progress_seen r o p = record { opened = o; moved = p.moved; left = p.left; place = place_seen r o p.place }
 
@@ -40,6 +42,7 @@ progress_seen r o p = record { opened = o; moved = p.moved; left = p.left; place
 abbrev pub half_done : CacheState → Registers → (before passed : List ℕ) → Opened → ProgressHeld → HalfDone
 half_done c r before passed o p = record { cache = c; registers = r; before = before; passed = passed; progress = progress_seen r o p }
 
+-- what the drive does, by what the fields hold
 abbrev pub stage_seen : Registers → Opened → ProgressHeld → StageHeld → Stage
 stage_seen r o p now.Idle = Idle
 stage_seen r o p now.Ended = Over (immediate_ending false)
@@ -61,11 +64,12 @@ abbrev pub MayGiveHeld : TransferHeld → ℕ → Type 0
 MayGiveHeld (held.Read w no_data) n = (n ≤ w.len) × (w.start + w.len < 2 ^ 32)
 MayGiveHeld _ n = Unit {0}
 
--- a begin comes to no stage in which bytes pass, and a look to none in which there is no command
+-- a begin comes to no stage in which bytes pass
 abbrev pub IsBegunHeld : StageHeld → Type 0
 IsBegunHeld now.Passing = ⊥
 IsBegunHeld _ = Unit {0}
 
+-- a look comes to no stage in which there is no command
 abbrev pub IsLookedHeld : StageHeld → Type 0
 IsLookedHeld now.Idle = ⊥
 IsLookedHeld _ = Unit {0}

@@ -60,9 +60,11 @@ remaining a (Search w o) moved = w.len
 remaining a (Fill w u) moved = w.len
 remaining a (Filled w u) moved = w.len
 
+-- the number of the track under the arm
 abbrev pub track_under : Geometry → Registers → ℕ
 track_under g r = track_at g r.cylinder r.head
 
+-- the slot of track n; no byte where there is none
 abbrev pub slot_at : List (List ℕ) → ℕ → List ℕ
 slot_at slots n = slice_index_or slots n []
 
@@ -71,10 +73,12 @@ abbrev pub seen_by : List (List ℕ) → (n : ℕ) → (before : List ℕ) → T
 seen_by slots n before (Filled w u) = slice_set slots n before
 seen_by slots n before _ = slots
 
+-- the same, by what the drive does
 abbrev pub seen : List (List ℕ) → (n : ℕ) → (before : List ℕ) → Stage → List (List ℕ)
 seen slots n before (stage.Passing p) = seen_by slots n before p.place
 seen slots n before _ = slots
 
+-- how far the drive is, as those see it who call
 abbrev pub work_of : Stage → (passed : List ℕ) → Work
 work_of stage.Idle passed = Idle
 work_of (stage.Over e) passed = Over e
@@ -87,13 +91,15 @@ pub record Kept : Type 0 where
   pub registers : Registers
   pub mark : Mark
 
+-- a cache, registers and a mark, as one
 abbrev pub kept : CacheState → Registers → Mark → Kept
 kept c r m = record { cache = c; registers = r; mark = m }
 
--- the number of the track under the arm, and the slot of it
+-- the number of the track under the arm
 abbrev pub number_under : Kept → ℕ
 number_under k = track_under k.cache.image.geometry k.registers
 
+-- the slot under the arm
 abbrev pub slot_under : Kept → List ℕ
 slot_under k = slot_at k.cache.slots (number_under k)
 
@@ -107,6 +113,7 @@ pub record Parts : Type 0 where
   pub before : List ℕ
   pub passed : List ℕ
 
+-- a drive made of what it keeps, and of the command at hand
 abbrev pub parts_of : Kept → Stage → (before passed : List ℕ) → Parts
 parts_of k s before passed = record { cache = k.cache; registers = k.registers; mark = k.mark; stage = s; before = before; passed = passed }
 
@@ -114,6 +121,7 @@ parts_of k s before passed = record { cache = k.cache; registers = k.registers; 
 abbrev pub track_in_reach : Parts → ℕ
 track_in_reach d = track_under d.cache.image.geometry d.registers
 
+-- the drive as those see it who call, by what it is made of
 abbrev pub state_of : Parts → DriveState
 state_of d = record {
   image = d.cache.image;
@@ -133,23 +141,27 @@ pub record AtWork : Type 0 where
   pub before : List ℕ
   pub passed : List ℕ
 
--- the geometry that it works on, the number of the track under the arm, and the slot of it
+-- the geometry that it works on
 abbrev pub geometry_in : AtWork → Geometry
 geometry_in job = job.cache.image.geometry
 
+-- the number of the track under the arm
 abbrev pub number_in : AtWork → ℕ
 number_in job = track_under (geometry_in job) job.registers
 
+-- the slot under the arm, as it now is
 abbrev pub slot_in : AtWork → List ℕ
 slot_in job = slot_at job.cache.slots (number_in job)
 
+-- what the command does with its bytes
 abbrev pub action_in : AtWork → Action
 action_in job = action_of job.opened.command
 
--- the bytes of its area, and how it closes, by a track
+-- the bytes of its area
 abbrev pub area_in : AtWork → List ℕ
 area_in job = area_bytes (track_of (slot_in job)) job.opened job.registers
 
+-- how it closes by the bytes that passed, over a track
 abbrev pub closing_in : AtWork → Sighted → Closing
 closing_in job t = closing (geometry_in job) t job.opened job.registers job.passed
 
@@ -196,6 +208,7 @@ pub record IsFilled (job : AtWork) (now : List ℕ) (w : Window) (u : CommandEnd
       → ClosesWritten (geometry_in job).track_size (lengths_on (track_in now)) (closing (geometry_in job) (track_of job.before) job.opened job.registers (job.passed ++ more)) u (head ++ (padded (drop lead (job.passed ++ more)) room ++ tail))
   pub wants : (more : List ℕ) → length more ≤ w.len → length_after (geometry_in job) (track_of job.before) job.opened job.registers (job.passed ++ more) ≡ lead + room
 
+-- the commands whose bytes are a field, collected before anything is done with them
 abbrev pub IsField : Action → Type 0
 IsField action.SeekCylinderAndHead = Unit {0}
 IsField action.SeekHead = Unit {0}
@@ -210,17 +223,20 @@ FieldAtHand action.WriteHomeAddress c n = c.held ≡ Some n
 FieldAtHand action.Format c n = AtHand c n
 FieldAtHand _ c n = Unit {0}
 
+-- the bytes of a field that came, as far as they came
 pub record HasField (job : AtWork) (f : List ℕ) : Type 0 where
   pub is_field : IsField (action_in job)
   pub room : length job.passed ≤ field_size (action_in job)
   pub collected : take (length job.passed) f ≡ job.passed
   pub at_hand : FieldAtHand (action_in job) job.cache (number_in job)
 
+-- the sense bytes are given
 pub record HasSense (job : AtWork) (bytes : List ℕ) : Type 0 where
   pub is_sense : action_in job ≡ action.GiveSense
   pub bytes_are : bytes ≡ sense_bytes job.registers.sense
   pub room : length job.passed ≤ 6
 
+-- the window has what is still to be given of the area
 pub record HasRead (job : AtWork) (w : Window) : Type 0 where
   pub is_read : action_in job ≡ action.Read
   pub held : job.cache.held ≡ Some (number_in job)
@@ -228,6 +244,7 @@ pub record HasRead (job : AtWork) (w : Window) : Type 0 where
   pub room : length job.passed ≤ length (area_in job)
   pub begins : length job.passed ≤ w.start
 
+-- the window has what is still to be compared of the area, and those before compared so
 pub record HasSearched (job : AtWork) (w : Window) (so_far : Ordering) : Type 0 where
   pub is_search : action_in job ≡ action.Search
   pub at_hand : AtHand job.cache (number_in job)
@@ -241,6 +258,7 @@ abbrev pub PlaceIn : Extent → Track → Option Area → Window → Type 0
 PlaceIn e t (Some a) w = IsPlaceOf e t a w
 PlaceIn e t None w = Unit {0}
 
+-- an update of which no byte has come: the window is its area
 pub record WillFill (job : AtWork) (w : Window) : Type 0 where
   pub is_update : action_in job ≡ action.Update
   pub at_hand : AtHand job.cache (number_in job)
@@ -248,6 +266,7 @@ pub record WillFill (job : AtWork) (w : Window) : Type 0 where
   pub place : PlaceIn (extent_of job.opened.command) (track_in (slot_in job)) job.opened.area w
   pub none : job.passed ≡ []
 
+-- a track that is being written: the slot has the bytes that came, and zeros for those that may still come
 pub record HasFilled (job : AtWork) (w : Window) (u : CommandEnd) : Type 0 where
   pub at_hand : AtHand job.cache (number_in job)
   pub size : length job.before ≡ (geometry_in job).track_size
@@ -260,6 +279,7 @@ pub record HasFilled (job : AtWork) (w : Window) (u : CommandEnd) : Type 0 where
   pub cylinder : u.registers.cylinder ≡ job.registers.cylinder
   pub head : u.registers.head ≡ job.registers.head
 
+-- a command that works by a credit has the credit's track at hand
 abbrev pub CreditAtHand : Aim → CacheState → ℕ → Type 0
 CreditAtHand Credited c n = AtHand c n
 CreditAtHand _ c n = Unit {0}
@@ -275,6 +295,7 @@ IsPlaced job (Filled w u) = HasFilled job w u
 
 -- What a look has found.
 
+-- an area, if there is one, has the bytes that are asked for
 abbrev pub AreaBy : Sighted → Extent → Option Area → Type 0
 AreaBy t e (Some a) = HasBytes e t a
 AreaBy t e None = Unit {0}
@@ -283,6 +304,7 @@ AreaBy t e None = Unit {0}
 abbrev pub AreaOf : Sighted → Opened → Type 0
 AreaOf t o = AreaBy t (extent_of o.command) o.area
 
+-- an area that a look found is one of the track's, and the look was that of this command
 abbrev pub AreaIsThere : Sighted → Opened → Sight → Type 0
 AreaIsThere t o (Found opened) = (opened.command ≡ o.command) × AreaOf t opened
 AreaIsThere t o _ = Unit {0}
@@ -305,6 +327,7 @@ pub record StaysAt (r q : Registers) : Type 0 where
   pub head : q.head ≡ r.head
   pub credit : q.credit ≡ r.credit
 
+-- what a look leaves of the arm and of the credit
 abbrev pub SightKeeps : Geometry → Registers → Sight → Type 0
 SightKeeps g r (Found o) = Unit {0}
 SightKeeps g r (answer.IndexPassed q) = StaysAt r q
@@ -316,6 +339,7 @@ abbrev pub ReadsWhole : Action → Sighted → Type 0
 ReadsWhole action.WriteHomeAddress t = Unit {0}
 ReadsWhole a t = is_readable t ≡ true
 
+-- how far a command is fits the bytes that passed, and the rest are where it says
 pub record Goes (c : CacheState) (r : Registers) (before passed : List ℕ) (p : Progress) : Type 0 where
   pub moved : length passed ≡ p.moved
   pub left : p.left ≤ remaining (action_of p.opened.command) p.place (length passed)
@@ -333,19 +357,24 @@ pub record WillLook (c : CacheState) (r : Registers) (o : Opened) : Type 0 where
   pub credit : CreditAtHand (aim o.command) c (track_under c.image.geometry r)
   pub no_credit : r.credit ≡ None
 
+-- what stands of the command at hand, by what the drive does
 abbrev pub StageIs : CacheState → Registers → (before passed : List ℕ) → Stage → Type 0
 StageIs c r before passed (stage.Looking o) = WillLook c r o
 StageIs c r before passed (stage.Passing p) = Goes c r before passed p
 StageIs c r before passed _ = CreditIs r.credit c (track_under c.image.geometry r)
 
+-- whether the track is being written
 abbrev pub is_filled_by : Transfer → Bool
 is_filled_by (Filled w u) = true
 is_filled_by _ = false
 
+-- the same, of what the drive does
 abbrev pub is_filled : Stage → Bool
 is_filled (stage.Passing p) = is_filled_by p.place
 is_filled _ = false
 
+-- what stands of a drive between two calls: the slot at hand is changed where the track under the arm is written or being
+-- written, and is then that track's
 pub record Stands (d : Parts) : Type 0 where
   pub volume : IsVolume d.cache
   pub arm : IsAtTrack d.cache.image.geometry d.registers
@@ -355,11 +384,13 @@ pub record Stands (d : Parts) : Type 0 where
 
 -- What a command leaves as it begins.
 
+-- the arm stays and the credit is gone
 pub record IsCleared (r q : Registers) : Type 0 where
   pub cylinder : q.cylinder ≡ r.cylinder
   pub head : q.head ≡ r.head
   pub credit : q.credit ≡ None
 
+-- what a command leaves as it begins, by what its code leads to
 abbrev pub BeginsWell : CacheState → ℕ → Registers → Beginning → Type 0
 BeginsWell c n r (answer.Rejected q) = IsCleared r q
 BeginsWell c n r (answer.Immediate q) = IsCleared r q
@@ -369,6 +400,7 @@ BeginsWell c n r (answer.ToCylinderZero q (Some o)) = IsCleared r q × (action_o
 
 -- More bytes.
 
+-- a command once so many more bytes passed, and the rest have this place
 abbrev pub next_progress : Progress → (more : ℕ) → Transfer → Progress
 next_progress p n place = record { opened = p.opened; moved = p.moved + n; left = p.left - n; place = place }
 
@@ -393,6 +425,7 @@ field_ends action.WriteHomeAddress g o r b = whole_field (at_end o r) b 5 (fails
 field_ends action.Format g o r b = whole_field r b 8 (fails r cause.RECORD_DOES_NOT_FIT)
 field_ends _ g o r b = ends r ending_status
 
+-- how a command closes after so many bytes, by where the rest stand
 abbrev pub command_end_at : Geometry → Registers → Opened → (moved : ℕ) → Transfer → CommandEnd
 command_end_at g r o moved (Field f) = command_end (field_ends (action_of o.command) g o r (take moved f))
 command_end_at g r o moved (Search w so_far) = command_end (search_ends o r (nat_lt 0 moved && accepts (comparison o.command) so_far) (w.len == 0))
@@ -401,6 +434,7 @@ command_end_at g r o moved (Read w u) = u
 command_end_at g r o moved (Fill w u) = u
 command_end_at g r o moved (Filled w u) = u
 
+-- no more bytes passed than the field has
 abbrev pub MovedInField : Action → (moved : ℕ) → Transfer → Type 0
 MovedInField a moved (Field f) = moved ≤ field_size a
 MovedInField a moved _ = Unit {0}
@@ -427,15 +461,19 @@ pub record HalfDone : Type 0 where
   pub passed : List ℕ
   pub progress : Progress
 
+-- it, without how far it is
 abbrev pub at_work : HalfDone → AtWork
 at_work h = record { cache = h.cache; registers = h.registers; opened = h.progress.opened; before = h.before; passed = h.passed }
 
+-- the number of the track under its arm
 abbrev pub own_track : HalfDone → ℕ
 own_track h = number_in (at_work h)
 
+-- the slot under its arm
 abbrev pub own_slot : HalfDone → List ℕ
 own_slot h = slot_in (at_work h)
 
+-- what it does with its bytes
 abbrev pub action_now : HalfDone → Action
 action_now h = action_in (at_work h)
 

@@ -18,6 +18,7 @@ pub data Called (old new : DriveState) : Type 0 where
   Settle : (state : new ≡ with_image (after_settle (fault_met old new) old) new.image) (calls : CallsStore false (is_written old.state) old new)
       (reported : Reports (unsaved new.state ≡ Some (old.state.registers.cylinder, old.state.registers.head)) old new) → Called old new
 
+-- the drive's sense has equipment check
 abbrev pub tells : DriveState → Type 0
 tells d = tells_equipment_check d.state.registers.sense ≡ true
 
@@ -27,6 +28,7 @@ abbrev pub TellsFailures : DriveState → DriveState → Type 0
 TellsFailures old new = ((new.image.failures ≡ old.image.failures) × (tells new → tells old))
     ⊎ ((new.image.failures ≡ old.image.failures + 1) × tells new × (is_written new.state ≡ false))
 
+-- every call of a drive reports its failed calls of the store so
 abbrev pub EachCallTells : Type 0
 EachCallTells = (old new : DriveState) → Called old new → TellsFailures old new
 
@@ -41,5 +43,6 @@ pub record GainsByFailures (first last : DriveState) : Type 0 where
   pub counted : last.image.failures ≡ first.image.failures + rose
   pub gained : rose ≡ 0 → tells last → tells first
 
+-- and so does any number of calls
 abbrev pub EachTrailTells : Type 0
 EachTrailTells = (first last : DriveState) → Trail first last → GainsByFailures first last

@@ -26,55 +26,73 @@ pub data Work : Type 0 where
   Looking : (opened : Opened) → Work
   Passing : (opened : Opened) (passed : List ℕ) (left : ℕ) → Work
 
+-- a drive as those see it who call: its image, its state by the definitions of commands, and the command at hand
 pub record DriveState : Type 0 where
   pub image : ImageState
   pub state : State
   pub work : Work
 
+-- the command that was opened, on this drive
 abbrev pub open_at : DriveState → Opened → Open
 open_at d o = record { opened = o; state = d.state }
 
 -- What may be called.
 
+-- whether there is no command
 abbrev pub is_idle : Work → Bool
 is_idle Idle = true
 is_idle w = false
 
+-- whether a command looks for its area or has found it
 abbrev pub is_working : Work → Bool
 is_working (Looking o) = true
 is_working (Passing o b left) = true
 is_working w = false
 
+-- whether a command may be ended: it is over, or its area is found
 abbrev pub may_end : Work → Bool
 may_end (Over e) = true
 may_end (Passing o b left) = true
 may_end w = false
 
+-- whether a command has found its area
 abbrev pub passes_now : Work → Bool
 passes_now (Passing o b left) = true
 passes_now w = false
 
+-- the bytes that passed in the command at hand
 abbrev pub passed_of : Work → List ℕ
 passed_of (Passing o b left) = b
 passed_of w = []
 
+-- the command that works, if one does
+abbrev pub command_of : Work → Option Opened
+command_of (Looking o) = Some o
+command_of (Passing o b left) = Some o
+command_of w = None
+
+-- how many more bytes may pass, by what the last look allowed
 abbrev pub left_of : Work → ℕ
 left_of (Passing o b left) = left
 left_of w = 0
 
+-- whether the drive gives bytes now
 abbrev pub gives_now : Work → Bool
 gives_now (Passing o b left) = is_giving (action_of o.command)
 gives_now w = false
 
+-- whether the drive takes bytes now
 abbrev pub takes_now : Work → Bool
 takes_now (Passing o b left) = not (is_giving (action_of o.command))
 takes_now w = false
 
 -- How far a command is, as it is reported to those who call.
 
+-- a command that has found its area gives bytes or takes them; so many passed, and so many more may
 abbrev pub phase_of_transfer : (gives : Bool) (passed left : ℕ) → Phase
 phase_of_transfer gives passed left = if gives then phase.Gives passed left else phase.Takes passed left
 
+-- how far a command is, as reported
 abbrev pub phase_of : Work → Phase
 phase_of Idle = phase.Idle
 phase_of (Over e) = phase.Over
@@ -94,17 +112,21 @@ Allows (phase.Takes passed left) w =
 
 -- Begin.
 
+-- the end of a command that is over as it begins; while the arm moves the device end is still to come
 abbrev pub immediate_ending : (motion : Bool) → DriveEnding
 immediate_ending motion = record { unit = record { 0 = if motion then in_motion_status else ending_status }; motion = motion }
 
+-- the drive once its command came to this as it began
 abbrev pub after_begun : AfterBegin → DriveState → DriveState
 after_begun (Rejected s) d = record d { state = s }
 after_begun (Immediate s motion) d = record d { state = s; work = Over (immediate_ending motion) }
 after_begun (Started o) d = record d { state = o.state; work = Looking o.opened }
 
+-- the drive once a command code was begun
 abbrev pub after_begin : Option Fault → (code : ℕ) → DriveState → DriveState
 after_begin f code d = after_begun (begin f code d.state) d
 
+-- what a begin answers
 abbrev pub answer_of_begin : AfterBegin → Begun
 answer_of_begin (Rejected s) = begun.Rejected
 answer_of_begin (Immediate s motion) = begun.Immediate
@@ -116,6 +138,7 @@ answer_of_begin (Started o) = begun.Started
 abbrev pub failed_ending : DriveEnding
 failed_ending = record { unit = record { 0 = unit_check_status }; motion = false }
 
+-- the drive once its look came to this
 abbrev pub after_sight : AfterLook → DriveState → DriveState
 after_sight (Ready o) d = record d { state = o.state; work = Passing o.opened [] (length_of o []) }
 after_sight (Passed o) d = record d { state = o.state; work = Looking o.opened }
@@ -128,9 +151,11 @@ after_look_of f d (Looking o) = after_sight (look f (open_at d o)) d
 after_look_of f d (Passing o b left) = record d { work = Passing o b (length_of (open_at d o) b - length b) }
 after_look_of f d w = d
 
+-- the drive after one look
 abbrev pub after_look : Option Fault → DriveState → DriveState
 after_look f d = after_look_of f d d.work
 
+-- what a look answers, by how far the command then is
 abbrev pub answer_of_look : Work → Look
 answer_of_look (Passing o b left) = looked.Ready left
 answer_of_look (Looking o) = looked.Passed
@@ -138,36 +163,44 @@ answer_of_look w = looked.Failed
 
 -- Bytes.
 
+-- a command once these bytes passed too
 abbrev pub moved_on : List ℕ → Work → Work
 moved_on more (Passing o b left) = Passing o (b ++ more) (left - length more)
 moved_on more w = w
 
+-- all the bytes that the command at hand gives
 abbrev pub given_now : DriveState → Work → List ℕ
 given_now d (Passing o b left) = given (open_at d o)
 given_now d w = []
 
 -- End.
 
+-- how the command at hand ends: by the bytes that passed, or as it was over before
 abbrev pub closed_of : Option Fault → DriveState → Work → Closed
 closed_of f d (Passing o b left) = close f (open_at d o) b
 closed_of f d (Over e) = record { state = d.state; unit = e.unit; motion = e.motion }
 closed_of f d w = record { state = d.state; unit = record { 0 = ending_status }; motion = false }
 
+-- the drive once its command ended
 abbrev pub after_end : Option Fault → DriveState → DriveState
 after_end f d = record d { state = (closed_of f d d.work).state; work = Idle }
 
+-- the unit status of an end, and whether the arm still moves
 abbrev pub ending_of : Closed → DriveEnding
 ending_of c = record { unit = c.unit; motion = c.motion }
 
 -- Settle, and the next program.
 
+-- a mark once a written track was saved
 abbrev pub settled_mark : Mark → Mark
 settled_mark mark.Written = mark.Saved
 settled_mark m = m
 
+-- a written track is saved, or lost where that fails
 abbrev pub settled_state : Option Fault → State → State
 settled_state f s = saving (left_by f s.mark) s (λ lost. lost) (record s { mark = settled_mark s.mark })
 
+-- the drive once a program ended: no command, and nothing is left to be saved
 abbrev pub after_settle : Option Fault → DriveState → DriveState
 after_settle f d = record d { state = settled_state f d.state; work = Idle }
 
@@ -176,38 +209,43 @@ abbrev pub owed_mark : Mark → Mark
 owed_mark mark.Written = mark.Written
 owed_mark m = mark.Saved
 
+-- a drive as the next program begins, with what is still to be saved
 abbrev pub begun_program : State → State
 begun_program s = record (begin_program (drive_of s)) { mark = owed_mark s.mark }
 
 -- Calls of the store.
 
--- a written track is left, and saved first, as a command sends the arm to cylinder 0, head 0;
+-- whether a begin sends the arm to cylinder 0, head 0: a written track is left, and saved first
 abbrev pub goes_to_cylinder_zero : Beginning → Bool
 goes_to_cylinder_zero (ToCylinderZero r o) = true
 goes_to_cylinder_zero b = false
 
+-- whether a begin saves
 abbrev pub begin_saves : (code : ℕ) → DriveState → Bool
 begin_saves code d = is_written d.state && goes_to_cylinder_zero (beginning code d.state.registers)
 
--- as a look goes on at the next head;
+-- whether a look goes on at the next head: a written track is left, and saved first
 abbrev pub goes_to_next_head : Sight → Bool
 goes_to_next_head (NextHead r) = true
 goes_to_next_head s = false
 
+-- whether a look of a command this far saves
 abbrev pub look_saves_of : DriveState → Work → Bool
 look_saves_of d (Looking o) =
     is_written d.state && goes_to_next_head (sight d.state.volume.geometry (track_under d.state) o d.state.registers)
 look_saves_of d w = false
 
+-- whether a look saves
 abbrev pub look_saves : DriveState → Bool
 look_saves d = look_saves_of d d.work
 
--- and as a seek ends with a good address
+-- whether the end of a command this far saves: a seek with a good address leaves the track
 abbrev pub end_saves_of : DriveState → Work → Bool
 end_saves_of d (Passing o b left) =
     is_written d.state && (closing d.state.volume.geometry (track_under d.state) o d.state.registers b).moves_off
 end_saves_of d w = false
 
+-- whether an end saves
 abbrev pub end_saves : DriveState → Bool
 end_saves d = end_saves_of d d.work
 
@@ -216,10 +254,12 @@ abbrev pub is_next : Aim → Bool
 is_next (Next kind) = true
 is_next a = false
 
+-- whether a look of a command this far may load a track
 abbrev pub look_loads_of : Work → Bool
 look_loads_of (Looking o) = is_next (aim o.command)
 look_loads_of w = false
 
+-- whether a look may load a track
 abbrev pub look_loads : DriveState → Bool
 look_loads d = look_loads_of d.work
 
@@ -253,6 +293,7 @@ pub record Reports (so : Type 0) (old new : DriveState) : Type 0 where
 
 -- A new drive.
 
+-- a drive that is new at this image
 abbrev pub new_drive : ImageState → DriveState
 new_drive i = record {
   image = i;
@@ -260,8 +301,10 @@ new_drive i = record {
   work = Idle;
 }
 
+-- the state with no cause of unit check left
 abbrev pub without_sense : State → State
 without_sense s = with_registers s (record s.registers { sense = no_sense })
 
+-- the drive over this image
 abbrev pub with_image : DriveState → ImageState → DriveState
 with_image d i = record d { image = i }

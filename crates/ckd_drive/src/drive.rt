@@ -25,14 +25,14 @@ use std::marker::Model;
 /// One drive over an image.
 #[derive(Drop)]
 pub struct Drive<S: ImageStore> {
-    cache: TrackCache<S>,
-    registers: Registers,
-    mark: Mark,
-    stage: Stage,
+    pub(crate) cache: TrackCache<S>,
+    pub(crate) registers: Registers,
+    pub(crate) mark: Mark,
+    pub(crate) stage: Stage,
     /// The command that works, if one does.
-    opened: Opened,
+    pub(crate) opened: Opened,
     /// How far its bytes are, if they pass.
-    progress: Progress,
+    pub(crate) progress: Progress,
     /// The slot under the arm as it was before the command wrote to it.
     before: Trace,
     /// The bytes that passed in the command.

@@ -9,6 +9,7 @@ mod drive;
 mod laws;
 mod look;
 mod transfer;
+mod view;
 
 pub use crate::answers::{Begun, Look, Phase};
 pub use crate::drive::Drive;

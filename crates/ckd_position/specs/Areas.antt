@@ -13,6 +13,7 @@ use Rattle.ckd_position.specs.declared.areas.Kind.TheVariants as kind
 use Rattle.ckd_position.specs.declared.areas.Next.{Next}
 use Rattle.ckd_position.specs.declared.areas.Next.TheVariants.{Found, IndexPassed}
 
+-- whether a record has a key area
 abbrev pub has_key : Record → Bool
 has_key r = not (length r.key_area == 0)
 
@@ -29,6 +30,7 @@ areas_from i (r ∷ rs) = areas_of i r ++ areas_from (i + 1) rs
 abbrev pub areas : Track → List Area
 areas t = HomeAddress ∷ areas_from 0 t.records
 
+-- whether the one part of a record passes before the other: count, key, data
 abbrev pub part_before : Part → Part → Bool
 part_before Count Key = true
 part_before Count Data = true
@@ -51,6 +53,7 @@ abbrev pub is_in : Position → ℕ → Bool
 is_in (At (Of _ j)) i = i == j
 is_in _ i = false
 
+-- whether the last area that passed is the key area of record i
 abbrev pub is_at_key : Position → ℕ → Bool
 is_at_key (At (Of Key j)) i = i == j
 is_at_key _ i = false
@@ -72,6 +75,7 @@ admits _ _ _ = false
 abbrev pub takes : Kind → Position → Area → Bool
 takes kind position a = admits kind position a && is_behind position a
 
+-- what is answered of a search along the track: the area; or the index passed, where there is none
 abbrev pub found : Option Area → Next
 found (Some a) = Found a
 found None = IndexPassed
@@ -85,6 +89,7 @@ abbrev pub IsOnTrack : Track → Area → Type 0
 IsOnTrack t HomeAddress = ⊤
 IsOnTrack t (Of _ i) = i < length t.records
 
+-- this holds of the area that was found; where the index passed nothing is asked
 abbrev pub IfFound : Next → (Area → Type 0) → Type 0
 IfFound (Found a) P = P a
 IfFound IndexPassed P = ⊤

@@ -13,16 +13,20 @@ use Rattle.ckd_position.specs.declared.extents.Extent.TheVariants as extent
 abbrev pub Sighted : Type 0
 Sighted = Result Track SlotFault
 
+-- the records of the track; none where it can't be read
 abbrev pub records_on : Sighted → List Record
 records_on t = (track_or_none t).records
 
+-- the home address of the track; no byte where it can't be read
 abbrev pub home_address_on : Sighted → List ℕ
 home_address_on t = (track_or_none t).home_address
 
+-- whether the track can be read
 abbrev pub is_readable : Sighted → Bool
 is_readable (Ok t) = true
 is_readable (Err fault) = false
 
+-- record i of the track; an empty one where there is none
 abbrev pub record_on : Sighted → ℕ → Record
 record_on t i = slice_index_or (records_on t) i no_record
 
@@ -49,9 +53,11 @@ has_no_data t _ = false
 
 -- An update.
 
+-- a record with these bytes as its data, as long as it was
 abbrev pub with_data : List ℕ → Record → Record
 with_data b r = record r { data_area = padded b (length r.data_area) }
 
+-- a record with these bytes as its key and data, each as long as it was
 abbrev pub with_key_and_data : List ℕ → Record → Record
 with_key_and_data b r =
     let bytes = padded b (length r.key_area + length r.data_area) in
@@ -62,6 +68,7 @@ abbrev pub replaced : Extent → List ℕ → Record → Record
 replaced extent.KeyAndData b = with_key_and_data b
 replaced _ b = with_data b
 
+-- the track with this change of the area's record; a home address is no record
 abbrev pub with_record_changed : (Record → Record) → Area → Track → Track
 with_record_changed change (Of part i) t = record t { records = slice_set t.records i (change (slice_index_or t.records i no_record)) }
 with_record_changed change HomeAddress t = t

@@ -33,6 +33,7 @@ data_record t (At (Of Count i)) = i
 data_record t (At (Of Key i)) = i
 data_record t position = max (records_begun t position) 1
 
+-- whether the area is a key area
 abbrev pub is_key : Area → Bool
 is_key (Of Key _) = true
 is_key _ = false

@@ -4,6 +4,7 @@ use Rattle.ckd_sense.specs.declared.commands.Command.{Command}
 use Rattle.ckd_sense.specs.declared.commands.Command.TheVariants.{NoOperation, Recalibrate, Seek, SeekCylinder, SeekHead, SetFileMask, Sense, SearchHomeAddressEqual, SearchIdEqual, SearchIdHigh, SearchIdEqualOrHigh, SearchKeyEqual, SearchKeyHigh, SearchKeyEqualOrHigh, ReadIpl, ReadHomeAddress, ReadR0, ReadCount, ReadData, ReadKeyAndData, ReadCountKeyAndData, WriteHomeAddress, WriteR0, WriteCountKeyAndData, WriteData, WriteKeyAndData}
 use Rattle.ckd_sense.specs.declared.commands.CommandCode.{CommandCode}
 
+-- a row of the table of command codes
 pub record Row : Type 0 where
   pub code : ℕ
   -- whether the code with the multi-track bit, 80, is the same command over several tracks
@@ -18,6 +19,7 @@ single code command = record { code = code; has_multi_track = false; command = c
 abbrev pub double : ℕ → Command → Row
 double code command = record { code = code; has_multi_track = true; command = command }
 
+-- the commands and their codes
 abbrev pub command_table : List Row
 command_table =
     single 0x03 NoOperation
@@ -48,9 +50,11 @@ command_table =
     ∷ single 0x0D WriteKeyAndData
     ∷ []
 
+-- whether a code is that of a row, with or without the multi-track bit
 abbrev pub stands_for : ℕ → Row → Bool
 stands_for code row = code == row.code || (row.has_multi_track && code == row.code + 0x80)
 
+-- the command of a row, and whether the code has the multi-track bit
 abbrev pub read_as : ℕ → Row → CommandCode
 read_as code row = record { command = row.command; multi_track = not (code == row.code) }
 

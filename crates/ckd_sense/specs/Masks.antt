@@ -28,11 +28,13 @@ seeks_of_bits bits =
     else if bits == 0x10 then PermitSeekHead
     else InhibitAllSeeks
 
+-- the file mask of a byte
 abbrev pub mask_of_byte : ℕ → FileMask
 mask_of_byte byte = record { writes = writes_of_bits (bit_and byte 0xC0); seeks = seeks_of_bits (bit_and byte 0x18) }
 
 -- What a mask does not allow.
 
+-- the write commands
 abbrev pub is_write : Command → Bool
 is_write WriteHomeAddress = true
 is_write WriteR0 = true
@@ -48,6 +50,7 @@ is_format_write WriteR0 = true
 is_format_write WriteCountKeyAndData = true
 is_format_write _ = false
 
+-- whether a mask's rule for writes forbids a command
 abbrev pub inhibits_write : WritePermission → Command → Bool
 inhibits_write PermitAllWrites _ = false
 inhibits_write InhibitHomeAddressAndR0 WriteHomeAddress = true
@@ -65,6 +68,7 @@ is_seek Recalibrate = true
 is_seek ReadIpl = true
 is_seek _ = false
 
+-- whether a mask's rule for seeks forbids a command
 abbrev pub inhibits_seek : SeekPermission → Command → Bool
 inhibits_seek PermitAllSeeks _ = false
 inhibits_seek PermitSeekCylinderAndHead SeekCylinder = false
@@ -74,6 +78,7 @@ inhibits_seek PermitSeekHead SeekHead = false
 inhibits_seek PermitSeekHead command = is_seek command
 inhibits_seek InhibitAllSeeks command = is_seek command
 
+-- what a mask says of a command; of two rules that forbid it that of the writes counts
 abbrev pub permit_of : FileMask → Command → Permit
 permit_of mask command =
     if inhibits_write mask.writes command then NoWrite
@@ -84,5 +89,6 @@ abbrev pub head_changes_under : SeekPermission → Bool
 head_changes_under InhibitAllSeeks = false
 head_changes_under _ = true
 
+-- the same, of a mask
 abbrev pub allows_head_change : FileMask → Bool
 allows_head_change mask = head_changes_under mask.seeks

@@ -4,6 +4,7 @@ use Rattle.std.specs.Int.RustNames.{bit_or}
 use Rattle.ckd_sense.specs.declared.sense_bytes.Sense.{Sense}
 use Rattle.ckd_sense.specs.declared.sense_bytes.TheConstants.Sense as sense
 
+-- the six bytes that Sense gives: two with causes, and four zeros
 abbrev pub sense_bytes : Sense → List ℕ
 sense_bytes s = s.0 / 256 ∷ s.0 % 256 ∷ 0 ∷ 0 ∷ 0 ∷ 0 ∷ []
 
@@ -38,6 +39,7 @@ pub record Cause : Type 0 where
   pub byte_0 : ℕ
   pub byte_1 : ℕ
 
+-- a row of the causes
 abbrev pub cause : Sense → (byte_0 byte_1 : ℕ) → Cause
 cause s byte_0 byte_1 = record { sense = s; byte_0 = byte_0; byte_1 = byte_1 }
 

@@ -26,10 +26,12 @@ pub record Tabled (slot offsets : List ℕ) (n : ℕ) : Type 0 where
   pub within : n ≤ length offsets
   pub table : take n offsets ≡ record_offsets (track_in slot)
 
+-- where the slot spells a track its table has so many offsets; where it spells none there is no count
 abbrev pub IsRead : List ℕ → List ℕ → Option ℕ → Type 0
 IsRead slot offsets (Some n) = Tabled slot offsets n
 IsRead slot offsets None = is_readable (track_of slot) ≡ false
 
+-- a slot beside a table of offsets that has room for as many records as a slot of that length can spell
 pub record IsIndexed (slot offsets : List ℕ) (records : Option ℕ) : Type 0 where
   pub room : (length slot - 5) / 8 ≤ length offsets
   pub size : length slot < 2 ^ 32
@@ -104,6 +106,7 @@ IsUpdate _ = ⊥
 abbrev pub end_of_records : Track → ℕ → ℕ
 end_of_records t n = length t.home_address + length (flat_map record_bytes (take n t.records))
 
+-- the area is that of a record which the track has
 abbrev pub IsRecordOf : Track → Area → Type 0
 IsRecordOf t (Of part i) = i < length t.records
 IsRecordOf t HomeAddress = ⊥

@@ -25,3 +25,4 @@ pub mod Seen
 pub mod Finding
 pub mod Images
 pub mod Fronts
+pub mod Phases

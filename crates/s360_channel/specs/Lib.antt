@@ -9,3 +9,4 @@ pub mod Finishes
 pub mod Attaches
 pub mod Ends
 pub mod Nexts
+pub mod Watched

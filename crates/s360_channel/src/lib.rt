@@ -20,9 +20,10 @@ mod turns;
 mod unit;
 mod units;
 mod view;
+mod watching;
 
 pub use crate::asking::finds_another;
 pub use crate::channel::{Channel, Finished, Reset};
 pub use crate::driving::drive;
 pub use crate::faults::{AttachFault, DetachFault, NewFault, OtherSize, OutsideStorage};
-pub use crate::view::{DriveView, RunOn, SubchannelView, View};
+pub use crate::view::{DriveView, RunOn, SubchannelView, View, Watched};

@@ -2,6 +2,7 @@
 
 use ckd_track::DriveModel;
 use s360_laws::arm::Arm;
+use s360_program::view::ProgramView;
 use s360_words::Csw;
 
 /// The subchannel, as it is shown.
@@ -49,4 +50,13 @@ pub struct RunOn {
     pub units: u32,
     /// The subchannel behind them: `Working` where the program goes on, `Pending` where it has ended, `Idle` where none ran.
     pub subchannel: SubchannelView,
+}
+
+/// The program that runs, as it is seen between two units.
+#[derive(Clone, Copy, Debug, PartialEq, Eq)]
+pub struct Watched {
+    /// The low byte of its drive's address.
+    pub device: u8,
+    /// What is seen of it.
+    pub program: ProgramView,
 }

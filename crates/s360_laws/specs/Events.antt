@@ -25,6 +25,7 @@ pub data Event : Type 0 where
   SetKey : (at key : ℕ) → Event
   Show : (at len : ℕ) → Event
 
+-- what a channel answers to an event
 pub data Answer : Type 0 where
   -- a condition code, where nothing is stored
   Condition : ConditionCode → Answer

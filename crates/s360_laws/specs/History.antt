@@ -19,6 +19,8 @@ pub data Fate : Type 0 where
   ByItself : Fate
   IsCut : Option Fault → Fate
 
+-- an act of the history: a program that runs whole, a command that is rejected at its start, a change of storage by the
+-- processor or the channel, or a reset of the sense
 pub data Act : Type 0 where
   Program : (device : ℕ) → Script → Fate → Act
   RejectedCommand : (device : ℕ) → Act
@@ -54,6 +56,7 @@ abbrev pub script_ahead : List Exchange → Script
 script_ahead [] = []
 script_ahead (t ∷ rest) = where_over (units_ahead (t ∷ rest)) [] (turns_of t ++ script_ahead rest)
 
+-- how the program that runs comes to its end, by what comes next
 abbrev pub fate_ahead : List Exchange → Fate
 fate_ahead [] = ByItself
 fate_ahead ((Hio a, x, Condition Two) ∷ rest) = IsCut (fault_in x)
@@ -85,6 +88,7 @@ acts_of (SetKey at key, x, WasKept true) rest = own_change rest (KeyOf at key)
 acts_of (Reset, x, answer) rest = ClearsSense ∷ []
 acts_of t rest = []
 
+-- the acts of a list of exchanges
 abbrev pub acts : List Exchange → List Act
 acts [] = []
 acts (t ∷ rest) = acts_of t rest ++ acts rest
@@ -94,6 +98,7 @@ abbrev pub begun_act : Subchannel → List Exchange → List Act
 begun_act (Working device script) list = Program device (script ++ script_ahead list) (fate_ahead list) ∷ []
 begun_act _ list = []
 
+-- the acts of a list, behind that of the program that runs as it begins
 abbrev pub all_acts : Machine → List Exchange → List Act
 all_acts m list = begun_act m.subchannel list ++ acts list
 
@@ -104,12 +109,15 @@ pub record World : Type 0 where
   pub storage : Storage
   pub drives : List (ℕ × IdleDrive)
 
+-- a device's drive, if the device is there
 abbrev pub drive_in : World → ℕ → Option (ℕ × IdleDrive)
 drive_in w device = find (λ d. d.0 == device) w.drives
 
+-- the drives with this one for a device
 abbrev pub with_drive : ℕ → IdleDrive → List (ℕ × IdleDrive) → List (ℕ × IdleDrive)
 with_drive device drive drives = map (λ d. if d.0 == device then (d.0, drive) else d) drives
 
+-- storage and drives at the end of a program
 abbrev pub after_end : World → (device : ℕ) → Storage → IdleDrive → World
 after_end w device s drive = record { storage = s; drives = with_drive device drive w.drives }
 
@@ -119,30 +127,37 @@ after_run w device fate (Ended used s e) = after_end w device s e.drive
 after_run w device (IsCut fault) (NotEnded seen) = after_end w device seen.storage (seen.cut fault).drive
 after_run w device ByItself (NotEnded seen) = record w { storage = seen.storage }
 
+-- a start on the storage and a drive of a world
 abbrev pub start_in : World → IdleDrive → Start
 start_in w drive = record { caw = caw_word w.storage; storage = w.storage; drive = drive }
 
+-- storage and drives behind a program, if its device is there
 abbrev pub after_program : World → (device : ℕ) → Script → Fate → Option (ℕ × IdleDrive) → World
 after_program w device script fate None = w
 after_program w device script fate (Some d) = after_run w device fate (run script (start_in w d.1))
 
+-- storage and drives behind a start that was rejected
 abbrev pub after_first : World → (device : ℕ) → First → World
 after_first w device (RejectedStart drive) = record w { drives = with_drive device drive w.drives }
 after_first w device _ = w
 
+-- the same, if the device is there
 abbrev pub after_rejection : World → (device : ℕ) → Option (ℕ × IdleDrive) → World
 after_rejection w device None = w
 after_rejection w device (Some d) = after_first w device (first (start_in w d.1))
 
+-- what an act does
 abbrev pub does : World → Act → World
 does w (Program device script fate) = after_program w device script fate (drive_in w device)
 does w (RejectedCommand device) = after_rejection w device (drive_in w device)
 does w (Changes c) = record w { storage = changed c w.storage }
 does w ClearsSense = record w { drives = map (λ d. (d.0, record d.1 { sense = no_sense })) w.drives }
 
+-- what acts do, one after another
 abbrev pub history : World → List Act → World
 history w list = fold does w list
 
+-- the storage and the drives of a machine
 abbrev pub world_of : Machine → World
 world_of m = record { storage = m.storage; drives = map (λ d. (d.device, d.drive)) m.devices }
 

@@ -16,6 +16,7 @@ accepted (Sio a, x, StatusStored unit channel) =
     if tells unit CHANNEL_END && not (tells unit BUSY) then Some a else None
 accepted _ = None
 
+-- whether an exchange is the acceptance of a start for this address
 abbrev pub is_accepted : (address : ℕ) → Exchange → Bool
 is_accepted u t = is_for u (accepted t)
   where
@@ -23,6 +24,7 @@ is_accepted u t = is_for u (accepted t)
     is_for u None = false
     is_for u (Some a) = a == u
 
+-- whether an exchange is a reset
 abbrev pub is_reset : Exchange → Bool
 is_reset (Reset, x, answer) = true
 is_reset _ = false
@@ -46,6 +48,7 @@ stores_end end u t = is_for (stored_status t)
 abbrev pub counted : (end : UnitStatus) → (address : ℕ) → ℕ → Exchange → ℕ
 counted end u n t = (if is_reset t || is_accepted u t then 0 else n) + (if stores_end end u t then 1 else 0)
 
+-- how often this end was stored for an address, in all
 abbrev pub times_stored : (end : UnitStatus) → (address : ℕ) → List Exchange → ℕ
 times_stored end u exchanges = fold (counted end u) 0 exchanges
 
@@ -55,9 +58,11 @@ pub data Since : Type 0 where
   SinceAcceptance : Since
   SinceReset : Since
 
+-- what came last for an address, an exchange later
 abbrev pub later : (address : ℕ) → Since → Exchange → Since
 later u s t = if is_reset t then SinceReset else (if is_accepted u t then SinceAcceptance else s)
 
+-- what came last for an address in a list
 abbrev pub since : (address : ℕ) → List Exchange → Since
 since u exchanges = fold (later u) SinceBeginning exchanges
 
@@ -81,6 +86,7 @@ Pends m so_far now u =
     (times_stored CHANNEL_END u so_far + owes_channel_end u now ≡ due (owes_channel_end u m) (since u so_far))
     × (times_stored DEVICE_END u so_far + owes_device_end u now ≡ due (owes_device_end u m) (since u so_far))
 
+-- each end pends so behind every list of events
 abbrev pub EndsPend : Type 0
 EndsPend = (m : Machine) (es : List Input) (u : ℕ) → IsSound m → Pends m (exchanges es m) (after_all es m) u
 
@@ -112,11 +118,13 @@ StartsAfterChannelEnd = (m : Machine) (es : List Input) (e : Input) (u v : ℕ) 
 abbrev pub RefusesStarts : Machine → Type 0
 RefusesStarts m = (a : ℕ) (x : Option FaultAfter) → react (Sio a) x m ≡ (Condition (if a / 256 == m.channel then Two else Three), m)
 
+-- starts are refused so whenever a program runs
 abbrev pub NoStartWhileWorking : Type 0
 NoStartWhileWorking = (m : Machine) → is_working m.subchannel ≡ true → RefusesStarts m
 
 -- While the channel end of a program that ended is owed, no program starts and the next interruption gives it.
 
+-- what each exchange answers while this CSW is held
 abbrev pub HeldAnswer : (channel device : ℕ) → Csw → Exchange → Type 0
 HeldAnswer channel device csw (Sio a, x, answer) = a / 256 ≡ channel → answer ≡ Condition Two
 HeldAnswer channel device csw (Tio a, x, answer) = a / 256 ≡ channel → (a % 256 ≡ device → ⊥) → answer ≡ Condition Two
@@ -135,6 +143,7 @@ HeldAnswers channel device csw (t ∷ rest) =
     HeldAnswer channel device csw t
     × (ends_holding (256 * channel + device) t ≡ false → HeldAnswers channel device csw rest)
 
+-- a CSW that pends answers so until it is stored or a reset takes it away
 abbrev pub HeldUntilStored : Type 0
 HeldUntilStored = (m : Machine) (device : ℕ) (csw : Csw) (es : List Input) → IsSound m
     → m.subchannel ≡ Pending device csw → HeldAnswers m.channel device csw (exchanges es m)

@@ -33,6 +33,7 @@ pub data Subchannel : Type 0 where
   Working : (device : ℕ) → Script → Subchannel
   Pending : (device : ℕ) → Csw → Subchannel
 
+-- the channel, its storage and its drives
 pub record Machine : Type 0 where
   pub channel : ℕ
   pub storage : Storage
@@ -41,27 +42,35 @@ pub record Machine : Type 0 where
 
 -- Parts of a machine, and its changes.
 
+-- a device's address at this channel
 abbrev pub address_of : Machine → (device : ℕ) → ℕ
 address_of m device = 256 * m.channel + device
 
+-- the device of a low address byte
 abbrev pub device_at : Machine → ℕ → Option Device
 device_at m device = find (λ d. d.device == device) m.devices
 
+-- the machine with this change of a device
 abbrev pub with_device : ℕ → (Device → Device) → Machine → Machine
 with_device device f m = record m { devices = map (λ d. if d.device == device then f d else d) m.devices }
 
+-- the machine with a device's arm here
 abbrev pub with_arm : Arm → ℕ → Machine → Machine
 with_arm arm device m = with_device device (λ d. record d { arm = arm }) m
 
+-- the machine with this subchannel
 abbrev pub with_subchannel : Subchannel → Machine → Machine
 with_subchannel s m = record m { subchannel = s }
 
+-- the machine with this change of its storage
 abbrev pub with_change : Change → Machine → Machine
 with_change change m = record m { storage = changed change m.storage }
 
+-- the machine with this CSW stored
 abbrev pub with_csw : Csw → Machine → Machine
 with_csw csw m = with_change (csw_stored csw) m
 
+-- the machine with these two status bytes stored
 abbrev pub with_status : UnitStatus → ChannelStatus → Machine → Machine
 with_status unit channel m = with_change (status_stored unit.0 channel.0) m
 
@@ -69,6 +78,7 @@ with_status unit channel m = with_change (status_stored unit.0 channel.0) m
 abbrev pub csw_of_unit : UnitStatus → Csw
 csw_of_unit unit = record { key = 0; address = 0; unit = unit; channel = no_channel_status; count = 0 }
 
+-- a start on a drive of the machine, with its storage
 abbrev pub start_of : Machine → IdleDrive → Start
 start_of m drive = record { caw = caw_word m.storage; storage = m.storage; drive = drive }
 
@@ -78,9 +88,11 @@ run_of m device script = option_map (λ d. run script (start_of m d.drive)) (dev
 
 -- The end of a program.
 
+-- where the arm is left by an ending
 abbrev pub arm_after : Ending → Arm
 arm_after e = if e.motion then InMotion else AtRest
 
+-- storage and drive as a program leaves them
 abbrev pub with_ending : (device : ℕ) → Storage → Ending → Machine → Machine
 with_ending device s e m =
     with_device device (λ d. record d { arm = arm_after e; drive = e.drive }) (record m { storage = s })
@@ -97,6 +109,7 @@ cut fault device m (Some (NotEnded seen)) = ended device seen.storage (seen.cut 
 
 -- Start I/O ('Start I/O').
 
+-- Start I/O at a device whose arm is at rest, by the first unit of the program
 abbrev pub started : (device : ℕ) → Machine → First → Answer × Machine
 started device m BadStart = (StatusStored no_unit_status PROGRAM_CHECK, with_status no_unit_status PROGRAM_CHECK m)
 started device m (RejectedStart drive) = (
@@ -107,6 +120,7 @@ started device m (ImmediateStart e) =
     (StatusStored e.csw.unit e.csw.channel, with_status e.csw.unit e.csw.channel (with_ending device m.storage e m))
 started device m AcceptedStart = (Condition Zero, with_subchannel (Working device (units 1)) m)
 
+-- Start I/O stores this status and starts nothing
 abbrev pub refused : UnitStatus → Machine → Answer × Machine
 refused unit m = (StatusStored unit no_channel_status, with_status unit no_channel_status m)
 
@@ -119,15 +133,18 @@ start_device device m (Some d) = elim d.arm [
   | AtRest ↦ started device m (first (start_of m d.drive))
 ]
 
+-- Start I/O, with the channel free or not
 abbrev pub start_io : (device : ℕ) → Machine → Subchannel → Answer × Machine
 start_io device m Idle = start_device device m (device_at m device)
 start_io device m busy = (Condition Two, m)
 
 -- Test I/O and Test Channel ('Test I/O', 'Test Channel').
 
+-- Test I/O stores a CSW
 abbrev pub tested : Csw → Machine → Answer × Machine
 tested csw m = (CswStored csw, with_csw csw m)
 
+-- Test I/O at a device, by its arm
 abbrev pub test_device : (device : ℕ) → Machine → Option Device → Answer × Machine
 test_device device m None = (Condition Three, m)
 test_device device m (Some d) = elim d.arm [
@@ -136,12 +153,14 @@ test_device device m (Some d) = elim d.arm [
   | AtRest ↦ (Condition Zero, m)
 ]
 
+-- Test I/O, with the channel free or not
 abbrev pub test_io : (device : ℕ) → Machine → Subchannel → Answer × Machine
 test_io device m Idle = test_device device m (device_at m device)
 test_io device m (Working p script) = (Condition Two, m)
 test_io device m (Pending p csw) =
     if device == p then tested csw (with_subchannel Idle m) else (Condition Two, m)
 
+-- the condition code of Test Channel
 abbrev pub test_channel : Subchannel → ConditionCode
 test_channel Idle = Zero
 test_channel (Working p script) = Two
@@ -149,6 +168,7 @@ test_channel (Pending p csw) = One
 
 -- Halt I/O ('Halt I/O').
 
+-- Halt I/O, with the channel free or not
 abbrev pub halt_io : Option Fault → (device : ℕ) → Machine → Subchannel → Answer × Machine
 halt_io fault device m Idle =
     if is_some (device_at m device)
@@ -159,6 +179,7 @@ halt_io fault device m (Pending p csw) = (Condition Zero, m)
 
 -- Units.
 
+-- k units, of which the one behind so many others meets a fault
 abbrev pub units_failing : (k after : ℕ) → Fault → Script
 units_failing zero after fault = []
 units_failing (suc k) zero fault = OneUnit (Some fault) ∷ units k
@@ -169,6 +190,7 @@ abbrev pub units_with : ℕ → Option FaultAfter → Script
 units_with k None = units k
 units_with k (Some x) = units_failing k x.units x.fault
 
+-- the program that runs, with this added to its script
 abbrev pub goes_on : (device : ℕ) → Script → Script → Machine → Machine
 goes_on device script more m = with_subchannel (Working device (script ++ more)) m
 
@@ -178,35 +200,43 @@ stepped device script k m None = (Stepped 0, m)
 stepped device script k m (Some (Ended used s e)) = (Stepped (used - units_in script), ended device s e m)
 stepped device script k m (Some (NotEnded seen)) = (Stepped k, goes_on device script (units k) m)
 
+-- the units of a step; a channel with no program that runs does none
 abbrev pub step : ℕ → Option FaultAfter → Machine → Subchannel → Answer × Machine
 step k x m (Working device script) = stepped device script k m (run_of m device (script ++ units_with k x))
 step k x m _ = (Stepped 0, m)
 
 -- Arrivals and interruptions ('Input/Output Interruptions', 'Program-Controlled Interruption').
 
+-- whether an arm moves
 abbrev pub is_in_motion : Arm → Bool
 is_in_motion InMotion = true
 is_in_motion arm = false
 
+-- the arm of a device arrives, where it moves
 abbrev pub arrive : (device : ℕ) → Machine → Option Device → Answer × Machine
 arrive device m None = (HasArrived false, m)
 arrive device m (Some d) =
     if is_in_motion d.arm then (HasArrived true, with_arm Arrived device m) else (HasArrived false, m)
 
+-- whether a device's arm has arrived and owes its device end
 abbrev pub has_arrived : Device → Bool
 has_arrived d = elim d.arm [ Arrived ↦ true | _ ↦ false ]
 
+-- the lower of two numbers
 abbrev pub lower : ℕ → Option ℕ → Option ℕ
 lower a None = Some a
 lower a (Some b) = if nat_lt a b then Some a else Some b
 
+-- the lowest device
 abbrev pub lowest : List Device → Option ℕ
 lowest [] = None
 lowest (d ∷ ds) = lower d.device (lowest ds)
 
+-- the processor takes an interruption, and the CSW is stored
 abbrev pub interrupted : (device : ℕ) → Csw → Machine → Answer × Machine
 interrupted device csw m = (Interrupted (Some (address_of m device, csw)), with_csw csw m)
 
+-- the device end that an arm owes interrupts
 abbrev pub interrupt_device : Machine → Option ℕ → Answer × Machine
 interrupt_device m None = (Interrupted None, m)
 interrupt_device m (Some device) = interrupted device (csw_of_unit DEVICE_END) (with_arm AtRest device m)
@@ -216,6 +246,7 @@ abbrev pub asked_by : Option Outcome → Option Csw
 asked_by (Some (NotEnded seen)) = seen.interruption
 asked_by outcome = None
 
+-- the program-controlled interruption of the program that runs interrupts
 abbrev pub interrupt_program : (device : ℕ) → Script → Machine → Option Csw → Answer × Machine
 interrupt_program device script m None = (Interrupted None, m)
 interrupt_program device script m (Some csw) = (
@@ -231,12 +262,15 @@ interrupt m (Pending p csw) = interrupted p csw (with_subchannel Idle m)
 
 -- Reset.
 
+-- a device behind a reset: its arm at rest, its sense zero
 abbrev pub at_rest : Device → Device
 at_rest d = record d { arm = AtRest; drive = record d.drive { sense = no_sense } }
 
+-- every device behind a reset, with the channel free
 abbrev pub all_at_rest : Machine → Machine
 all_at_rest m = record m { subchannel = Idle; devices = map at_rest m.devices }
 
+-- a track that a cut could not save, with its address
 abbrev pub unsaved_at : (address : ℕ) → Option Fault → Option Outcome → Option (ℕ × ℕ × ℕ)
 unsaved_at address fault (Some (NotEnded seen)) = option_map (λ t. (address, t.0, t.1)) (seen.cut fault).unsaved
 unsaved_at address fault outcome = None
@@ -255,13 +289,16 @@ abbrev pub storage_after : Machine → Option Outcome → Storage
 storage_after m (Some (NotEnded seen)) = seen.storage
 storage_after m outcome = m.storage
 
+-- storage as it stands, with the program that runs or without one
 abbrev pub storage_of : Machine → Subchannel → Storage
 storage_of m (Working device script) = storage_after m (run_of m device script)
 storage_of m _ = m.storage
 
+-- the bytes of storage from an address on, if it has them
 abbrev pub part_of : Storage → (at len : ℕ) → Option (List ℕ)
 part_of s at len = if is_inside s at len then Some (slice_range s.bytes at (at + len)) else None
 
+-- whether a program runs
 abbrev pub is_working : Subchannel → Bool
 is_working (Working device script) = true
 is_working _ = false
@@ -271,6 +308,7 @@ abbrev pub change : Change → Machine → Subchannel → Machine
 change c m (Working device script) = goes_on device script (Outside c ∷ []) m
 change c m _ = with_change c m
 
+-- the processor changes storage, where it is within storage
 abbrev pub keep : Change → Machine → Answer × Machine
 keep c m = if is_within c m.storage then (WasKept true, change c m m.subchannel) else (WasKept false, m)
 
@@ -280,6 +318,7 @@ keep c m = if is_within c m.storage then (WasKept true, change c m m.subchannel)
 abbrev pub on_channel : (address : ℕ) → Machine → Answer × Machine → Answer × Machine
 on_channel address m reaction = if address / 256 == m.channel then reaction else (Condition Three, m)
 
+-- the fault that an event may meet
 abbrev pub fault_in : Option FaultAfter → Option Fault
 fault_in x = option_map (λ x. x.fault) x
 
@@ -300,14 +339,17 @@ react (Show at len) x m = (Shown (part_of (storage_of m m.subchannel) at len), m
 
 -- Lists of events.
 
+-- the answers to a list of events
 abbrev pub answers : List Input → Machine → List Answer
 answers [] m = []
 answers (e ∷ es) m = let r = react e.0 e.1 m in r.0 ∷ answers es r.1
 
+-- the events, the faults that they may meet and their answers
 abbrev pub exchanges : List Input → Machine → List Exchange
 exchanges [] m = []
 exchanges (e ∷ es) m = let r = react e.0 e.1 m in (e.0, e.1, r.0) ∷ exchanges es r.1
 
+-- the machine behind a list of events
 abbrev pub after_all : List Input → Machine → Machine
 after_all [] m = m
 after_all (e ∷ es) m = after_all es (react e.0 e.1 m).1

@@ -9,6 +9,7 @@ use Rattle.s360_laws.specs.Events.{Answer, WasReset, Event, Reset, FaultAfter}
 use Rattle.s360_laws.specs.History.{Runs}
 use Rattle.s360_laws.specs.Machine.{Machine, Device, device_at, react, start_of, Working}
 
+-- an answer reports no track as not saved
 abbrev pub TellsNoTrack : Answer → Type 0
 TellsNoTrack (WasReset unsaved) = unsaved ≡ None
 TellsNoTrack answer = Unit {0}

@@ -7,6 +7,7 @@ use Rattle.s360_laws.specs.declared.condition.ConditionCode.TheVariants.{Zero, T
 
 -- Rule 1: leave out what changed nothing, as the answer shows.
 
+-- whether the answer of an exchange shows that it changed nothing
 abbrev pub changes_nothing : Exchange → Bool
 changes_nothing (Sio a, x, Condition Zero) = false
 changes_nothing (Sio a, x, Condition code) = true
@@ -22,15 +23,18 @@ changes_nothing (SetKey at key, x, WasKept false) = true
 changes_nothing (Show at len, x, r) = true
 changes_nothing t = false
 
+-- the exchanges that changed something
 abbrev pub that_change : List Exchange → List Exchange
 that_change list = filter (λ t. not (changes_nothing t)) list
 
 -- Rule 2: an arrival between the steps of one program is moved behind the last of them.
 
+-- whether an exchange is a step
 abbrev pub is_step : Exchange → Bool
 is_step (StepBy k, x, r) = true
 is_step t = false
 
+-- whether an exchange is an arrival
 abbrev pub is_arrival : Exchange → Bool
 is_arrival (Arrive a, x, r) = true
 is_arrival t = false
@@ -57,6 +61,7 @@ arrivals_last inside held (t ∷ rest) =
 
 -- Rule 3: steps that stand together become steps of 65,535 units and one of the rest.
 
+-- a step of n units that were all done
 abbrev pub whole_step : ℕ → Exchange
 whole_step n = (StepBy n, None, Stepped n)
 
@@ -70,6 +75,7 @@ steps_joined n [] = steps_of n
 steps_joined n ((StepBy k, x, Stepped d) ∷ rest) = steps_joined (n + d) rest
 steps_joined n (t ∷ rest) = steps_of n ++ t ∷ steps_joined 0 rest
 
+-- the list with what changed nothing left out, arrivals behind the steps of their program, and steps joined
 abbrev pub serial_list : List Exchange → List Exchange
 serial_list list = steps_joined 0 (arrivals_last false [] (that_change list))
 

@@ -20,6 +20,7 @@ arm_owes AtRest = 0
 arm_owes InMotion = 1
 arm_owes Arrived = 1
 
+-- the device ends that a device owes
 abbrev pub device_owes : Option Device → ℕ
 device_owes None = 0
 device_owes (Some d) = arm_owes d.arm
@@ -34,10 +35,11 @@ channel_owes end u m Idle = 0
 channel_owes end u m (Working device script) = if address_of m device == u then 1 else 0
 channel_owes end u m (Pending device csw) = if address_of m device == u && tells csw.unit end then 1 else 0
 
--- how often a machine owes channel end to an address; and device end, which its arm may owe
+-- how often a machine owes channel end to an address
 abbrev pub owes_channel_end : (address : ℕ) → Machine → ℕ
 owes_channel_end u m = channel_owes CHANNEL_END u m m.subchannel
 
+-- how often it owes device end, which its arm may owe too
 abbrev pub owes_device_end : (address : ℕ) → Machine → ℕ
 owes_device_end u m = channel_owes DEVICE_END u m m.subchannel + device_owes (device_for m u)
 
@@ -55,6 +57,7 @@ IsSoundIn m (Pending device csw) =
     (tells csw.unit CHANNEL_END ≡ true)
     × ((if tells csw.unit DEVICE_END then 1 else 0) + device_owes (device_at m device) ≡ 1)
 
+-- a sound machine: distinct addresses, and a subchannel that is sound in it
 abbrev pub IsSound : Machine → Type 0
 IsSound m = AreDistinct m.devices × IsSoundIn m m.subchannel
 

@@ -10,10 +10,12 @@ use Rattle.s360_laws.specs.History.{Runs}
 use Rattle.s360_laws.specs.Machine.{Machine, react, is_working, after_all, answers, Pending, Device, device_at, Working, address_of}
 use Rattle.s360_laws.specs.declared.condition.ConditionCode.TheVariants.{Two}
 
+-- the units that an answer reports
 abbrev pub units_of : Answer → ℕ
 units_of (Stepped done) = done
 units_of answer = 0
 
+-- the units that answers report, in all
 abbrev pub all_units : List Answer → ℕ
 all_units [] = 0
 all_units (a ∷ rest) = units_of a + all_units rest
@@ -24,6 +26,7 @@ StepsAtMost = (m : Machine) (k : ℕ) (x : Option FaultAfter) → Runs m m.subch
     (units_of (react (StepBy k) x m).0 ≤ k)
     × (is_working (react (StepBy k) x m).1.subchannel ≡ true → (react (StepBy k) x m).0 ≡ Stepped k)
 
+-- a fault that may be met behind so many more units
 abbrev pub after_units : ℕ → Option FaultAfter → Option FaultAfter
 after_units j None = None
 after_units j (Some x) = Some (record x { units = j + x.units })
@@ -36,6 +39,7 @@ StepsJoin = (m : Machine) (j k : ℕ) (x : Option FaultAfter) → Runs m m.subch
     let whole = react (StepBy (j + k)) (after_units j x) m in
     (second.1 ≡ whole.1) × (whole.0 ≡ Stepped (units_of first.0 + units_of second.0))
 
+-- a list of steps, without faults
 abbrev pub all_steps : List ℕ → List Input
 all_steps ks = map (λ k. (StepBy k, None)) ks
 
@@ -78,6 +82,7 @@ pub record ToldByReset (m : Machine) (r : Answer × Machine) : Type 0 where
   pub is_there : device_at r.1 device ≡ Some drive
   pub told : r.0 ≡ WasReset (Some (address_of m device, drive.drive.cylinder, drive.drive.head))
 
+-- a reset meets it as it cuts the program; or it is the reset without the fault
 abbrev pub FaultToldByReset : Type 0
 FaultToldByReset = (m : Machine) (x : FaultAfter) → Runs m m.subchannel →
     (react Reset (Some x) m ≡ react Reset None m) ⊎ ToldByReset m (react Reset (Some x) m)
@@ -89,6 +94,7 @@ meets_fault (Hio a) = true
 meets_fault Reset = true
 meets_fault _ = false
 
+-- an event that is no step, halt or reset is the same with a fault and without
 abbrev pub OthersMeetNone : Type 0
 OthersMeetNone = (m : Machine) (e : Event) (x : Option FaultAfter)
     → meets_fault e ≡ false → react e x m ≡ react e None m

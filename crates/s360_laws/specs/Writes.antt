@@ -16,6 +16,7 @@ abbrev pub program_writes : World → (track : ℕ) → Script → Option (ℕ �
 program_writes w track script None = false
 program_writes w track script (Some d) = run_writes track script (start_in w d.1)
 
+-- whether an act may write the track of a device
 abbrev pub act_writes : World → (device track : ℕ) → Act → Bool
 act_writes w device track (Program p script fate) = (p == device) && program_writes w track script (drive_in w p)
 act_writes w device track act = false

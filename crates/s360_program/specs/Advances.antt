@@ -65,10 +65,12 @@ pub record CameToEnd (key : ℕ) (before : ProgramPhase) (asked did : ℕ) (told
   pub walk : walk (units earlier ++ OneUnit fault ∷ []) key before ≡ EndsWith [] s ending
   pub is_ending : IsEnding ending told new
 
+-- units that were asked for came to this, by how many were done and whether an ending is told
 abbrev pub AdvancesTo : (key : ℕ) → ProgramPhase → (asked did : ℕ) → Option (Csw × Bool) → RunningState → Storage → (old new : DriveState) → Type 0
 AdvancesTo key before asked did None r s old new = WentOn key before asked did r s old new
 AdvancesTo key before asked did (Some told) r s old new = CameToEnd key before asked did told s old new
 
+-- the same, by what an advance answers
 abbrev pub Advances : (key : ℕ) → ProgramPhase → (asked : ℕ) → Advance → RunningState → Storage → (old new : DriveState) → Type 0
 Advances key before asked a r s old new = AdvancesTo key before asked a.done a.ending r s old new
 
@@ -104,6 +106,7 @@ pub record TellsFault (csw : Csw) (d : DriveState) : Type 0 where
   pub length : has csw.channel.0 INCORRECT_LENGTH.0 ≡ false
   pub equipment_check : tells_equipment_check d.state.registers.sense ≡ true
 
+-- the program is over, and its CSW tells of the fault
 abbrev pub EndsWithFault : Option (Csw × Bool) → DriveState → Type 0
 EndsWithFault None d = ⊥
 EndsWithFault (Some told) d = TellsFault told.0 d

@@ -5,3 +5,4 @@ pub mod Advances
 pub mod Starting
 pub mod Laws
 pub mod Steps
+pub mod Seen

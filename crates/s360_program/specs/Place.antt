@@ -8,6 +8,7 @@ use Rattle.s360_program.specs.declared.place.Place.{Place as KeptPlace}
 use Rattle.s360_program.specs.declared.place.Fetched.{Fetched as KeptFetched}
 use Rattle.s360_program.specs.declared.place.Fetched.TheVariants as kept
 
+-- the channel's place in a program, by what the code keeps of it
 abbrev pub place_of : KeptPlace → Place
 place_of p = record {
   next = p.next;
@@ -17,6 +18,7 @@ place_of p = record {
   interruption = p.interruption;
 }
 
+-- what a fetch found, by what the code answers
 abbrev pub fetched_of : KeptFetched → Fetched
 fetched_of kept.NoCcw = NoCcw
 fetched_of (kept.TransferTo address) = TransferTo address

@@ -12,10 +12,12 @@ pub data Stage : Type 0 where
   Looking : Ccw → Stage
   Moving : Ccw → (address : ℕ) → Stage
 
+-- what comes next, by what the code keeps of it
 abbrev pub stage_by : Comes → Ccw → (address : ℕ) → Stage
 stage_by comes.NextCommand ccw address = Between
 stage_by comes.Look ccw address = Looking ccw
 stage_by comes.Bytes ccw address = Moving ccw address
 
+-- what comes next in a program
 abbrev pub stage_of : Run → Stage
 stage_of r = stage_by r.comes r.ccw r.address

@@ -24,6 +24,7 @@ phase_by (stage.Moving ccw address) p s d (Passing o b left) =
     phase.Moving (record { opened = o; state = d }) (record { storage = s; ccw = ccw; place = p; address = address; bytes = b })
 phase_by _ p s d _ = Between (record { storage = s; place = p; state = d })
 
+-- the phase in which a running program stands
 abbrev pub phase_in : RunningState → Storage → DriveState → ProgramPhase
 phase_in r s d = phase_by r.stage r.place s d.state d.work
 
@@ -59,6 +60,7 @@ pub record PlaceWithin (p : Place) : Type 0 where
   pub next : p.next ≤ 2 ^ 24 + 8
   pub last : p.last ≤ 2 ^ 24 + 8
 
+-- the key, the channel's place and the addresses of a running program are within their ranges
 pub record Within (r : RunningState) : Type 0 where
   pub key : r.key < 16
   pub place : PlaceWithin r.place

@@ -53,6 +53,7 @@ pub record IsAccepted (s : Start) (r : RunningState) (new : DriveState) : Type 0
   pub unit : unit None caw.key (Between (start_point caw s)) ≡ GoesOn (phase_in r s.storage new)
   pub stands : Stands r new
 
+-- what Start I/O answers is what the first unit of the program comes to
 abbrev pub IsFirst : Start → Answer → (old new : DriveState) → Type 0
 IsFirst s start.Bad old new = IsBad s old new
 IsFirst s start.Rejected old new = IsRejected s new
@@ -66,6 +67,7 @@ pub record StartsQuietly (old new : DriveState) : Type 0 where
 
 -- The first command.
 
+-- the first command as the channel asks for it
 abbrev pub request_for : Storage → Ccw → KeptPlace → Request
 request_for s ccw p = record { storage = s; ccw = ccw; place = place_of p }
 
@@ -78,6 +80,7 @@ ImmediateDone key ccw p motion (begun.Accepted r) old new =
     (chains_command ccw ≡ true) × (new.image ≡ old.image) × (run_of r ≡ record { key = key; place = place_of p; stage = stage.Between }) × (new.state ≡ old.state) × (new.work ≡ Idle)
 ImmediateDone key ccw p motion begun.Rejected old new = ⊥
 
+-- the first command is over at once, and the program with it
 pub record BegunImmediate (key : ℕ) (r : Request) (b : AfterBegin) (told : DriveEnding) (asked : Bool) (new : DriveState) : Type 0 where
   pub over : Ending
   pub first : first_begun key r b ≡ ImmediateStart over
@@ -86,6 +89,7 @@ pub record BegunImmediate (key : ℕ) (r : Request) (b : AfterBegin) (told : Dri
   pub channel : over.csw.channel ≡ with_interruption asked no_channel_status
   pub drive : Leaves over new
 
+-- what the first command comes to is what the first unit comes to
 abbrev pub FirstBegun : (key : ℕ) → Storage → Ccw → KeptPlace → FirstAnswer → (old new : DriveState) → Type 0
 FirstBegun key s ccw p begun.Rejected old new =
     (first_begun key (request_for s ccw p) (begin None ccw.code old.state) ≡ RejectedStart (drive_of new.state)) × Rests new

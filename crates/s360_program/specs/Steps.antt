@@ -36,15 +36,18 @@ use Rattle.s360_program.specs.declared.run.Step.TheVariants as step
 
 -- The running program.
 
+-- a running program, by what the code keeps of it
 abbrev pub run_of : Run → RunningState
 run_of r = record { key = r.key; place = place_of r.place; stage = stage_of r }
 
+-- a running program fits the drive: its fields are within their ranges, and the two stand together
 pub record Fits (r : Run) (d : DriveState) : Type 0 where
   pub within : Within (run_of r)
   pub stands : Stands (run_of r) d
 
 -- Channel status.
 
+-- channel status, by what the code keeps of it
 abbrev pub status_of : Condition → ChannelStatus
 status_of condition.Clear = no_channel_status
 status_of condition.IncorrectLength = INCORRECT_LENGTH
@@ -55,6 +58,7 @@ status_of condition.ProtectionCheck = PROTECTION_CHECK
 abbrev pub condition_for : (incorrect : Bool) → UnitStatus → Condition
 condition_for incorrect unit = if incorrect && not (tells unit UNIT_CHECK) then condition.IncorrectLength else condition.Clear
 
+-- whether a command chains to the next: chain command is on, and nothing stops it
 abbrev pub chains_after : Ccw → UnitStatus → Condition → Bool
 chains_after ccw unit c = chains_command ccw && not (stops_chaining unit) && is_clear (status_of c)
 
@@ -103,6 +107,7 @@ pub record EndsBy (next : Option Fault → Next) (told : Csw × Bool) (s : Stora
 abbrev pub told_of : Run → Csw × Bool
 told_of r = (csw_at r.key (place_of r.place) r.ended.unit r.ended.channel, r.ended.motion)
 
+-- one unit, which goes on or ends the program
 abbrev pub ComesBy : (key : ℕ) → (Option Fault → Next) → Step → Run → Storage → (old new : DriveState) → Type 0
 ComesBy key next (step.Units n) r s old new = (n ≡ 1) × GoesBy key (next None) r s old new
 ComesBy key next step.Over r s old new = EndsBy next (told_of r) s old new
@@ -124,30 +129,35 @@ Steps key phase most step.Over r s old new = EndsBy (λ f. unit f key phase) (to
 
 -- The parts of a unit.
 
+-- where a program stands between two commands
 abbrev pub point_at : Storage → Run → DriveState → Point
 point_at s r d = record { storage = s; place = place_of r.place; state = d.state }
 
+-- the command that a program asks for, with this storage
 abbrev pub request_at : Storage → Ccw → Run → Request
 request_at s ccw r = record { storage = s; ccw = ccw; place = place_of r.place }
 
+-- a command that is over with this ending
 abbrev pub closed_with : State → DriveEnding → Closed
 closed_with s e = record { state = s; unit = e.unit; motion = e.motion }
 
 -- Bytes.
 
--- the area of a command is found
+-- the area of the command at hand is found, and no more bytes are left than it has in all
 abbrev pub MovesBy : State → Work → Type 0
 MovesBy s (Passing o b left) = length b + left ≤ length_of (record { opened = o; state = s }) b
 MovesBy s w = ⊥
 
+-- the drive has found the area of its command
 abbrev pub IsMoving : DriveState → Type 0
 IsMoving d = MovesBy d.state d.work
 
--- and of the bytes that the drive gives all are reported as left
+-- the area is found, and the bytes that are left are reported as they are to those who call
 abbrev pub FindsBy : State → Work → Type 0
 FindsBy s (Passing o b left) = LeftFits (record { opened = o; state = s }) b left
 FindsBy s w = ⊥
 
+-- the drive has found the area, and reports what is left of it
 abbrev pub HasFound : DriveState → Type 0
 HasFound d = FindsBy d.state d.work
 
@@ -159,14 +169,17 @@ FlowsBy flow s (Passing o b left) =
     × (is_giving (action_of o.command) ≡ true → length b + flow.left ≡ all) × ((length b + flow.left ≡ 8 → ⊥) → length b + flow.left ≡ all)
 FlowsBy flow s w = ⊥
 
+-- a command of which this many bytes more may pass
 abbrev pub with_left : ℕ → Work → Work
 with_left left (Passing o b l) = Passing o b left
 with_left left w = w
 
+-- the drive reports whether it gives or takes, and how many bytes are left, and changes nothing else
 pub record Flows (flow : Flow) (old new : DriveState) : Type 0 where
   pub told : FlowsBy flow old.state old.work
   pub drive : new ≡ record old { work = with_left flow.left old.work }
 
+-- the bytes of a command, under this CCW and from or to this address on
 abbrev pub transfer_by : Ccw → (address : ℕ) → Storage → Place → Work → Transfer
 transfer_by ccw address s p w = record { storage = s; ccw = ccw; place = p; address = address; bytes = passed_of w }
 
@@ -177,6 +190,7 @@ pub record PassesAs (m key : ℕ) (o : Open) (t : Transfer) (w : Work) (s_new : 
   pub storage : s_new ≡ storage_after m o t
   pub drive : d_new ≡ record d { work = moved_on (next_bytes m o t) w }
 
+-- bytes of an open command pass, or the first of them may not, for this reason
 abbrev pub PassesBy : (key : ℕ) → Ccw → (address most : ℕ) → Result ℕ Condition → (s s_new : Storage) → (d d_new : DriveState) → Work → Type 0
 PassesBy key ccw address most (Ok m) s s_new d d_new (Passing o b left) =
     (0 < m) × (m ≤ most) × ((p : Place) → m ≤ p.residual →
@@ -195,6 +209,7 @@ abbrev pub chains_by : Stage → Bool
 chains_by (stage.Moving ccw address) = chains_data ccw
 chains_by _ = false
 
+-- whether the next CCW has a further area of the same command, since the count is spent
 abbrev pub needs_area : RunningState → Bool
 needs_area r = r.place.residual == 0 && chains_by r.stage
 
@@ -204,9 +219,11 @@ differs residual left = (not (residual == 0) && left == 0) || (residual == 0 && 
 
 -- Many units, and a cut.
 
+-- whether a program has not ended
 abbrev pub goes_on : Ran → Bool
 goes_on a = is_none a.ending
 
+-- whether a byte of a command has passed
 abbrev pub has_passed : Work → Bool
 has_passed (Passing o [] left) = false
 has_passed (Passing o (byte ∷ b) left) = true

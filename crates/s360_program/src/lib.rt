@@ -10,3 +10,4 @@ pub mod program;
 mod run;
 mod starting;
 mod units;
+pub mod view;

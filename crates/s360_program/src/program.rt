@@ -9,12 +9,14 @@ ghost use Rattle.s360_runs.specs.Units.{standing_in, phase_past};
 ghost use Rattle.s360_runs.specs.Unsaved.{has_written};
 ghost use Rattle.s360_program.specs.Advances.{Rests, Advances, RunsOn, KeepsStorage, Cuts, CallsAtMost, NeedNoStore, TellsOf, CutTellsOf};
 ghost use Rattle.s360_program.specs.Stands.{Stands, phase_in};
+ghost use Rattle.s360_program.specs.Seen.{seen_in};
 ghost use Rattle.s360_program.specs.Starting.{IsFirst, StartsQuietly};
 
 use crate::conditions::csw_at;
 use crate::place::{Fetched, Place};
 use crate::run::Run;
 use crate::starting::{First, first_command};
+use crate::view::ProgramView;
 use ckd_command::DriveEnding;
 use ckd_drive::Drive;
 use ckd_image::ImageStore;
@@ -183,6 +185,22 @@ impl Running {
             UnitStatus(0),
             ChannelStatus::PROGRAM_CONTROLLED_INTERRUPTION,
         ))
+    }
+
+    /// What is seen of the program between two units: the word at work and the next one, the residual count, and what the next
+    /// unit does. It is read off the phase in which the program stands.
+    pub fn view(&self) -> ProgramView
+        ensures { (s : StorageState) (d : DriveState) → Stands self.now d → result ≡ seen_in self.now.key (phase_in self.now s d) }
+    {
+        let run = &self.run;
+        ProgramView {
+            key: run.key,
+            last: run.place.last,
+            next: run.place.next,
+            residual: run.place.residual,
+            interruption: run.place.interruption,
+            at_work: run.at_work(),
+        }
     }
 
     /// Whether an interruption is asked for and not yet taken.

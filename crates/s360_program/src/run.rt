@@ -1,8 +1,11 @@
 //! What a running program keeps, and what units of it come to.
 
 ghost use Rattle.std.specs.Prelude.{◌≡◌};
+ghost use Rattle.s360_program.specs.Stage.{stage_of};
+ghost use Rattle.s360_program.specs.Seen.{work_at};
 
 use crate::place::Place;
+use crate::view::AtWork;
 use s360_words::{Ccw, ChannelStatus, UnitStatus};
 
 /// What comes next.
@@ -61,6 +64,17 @@ pub const NOT_ENDED: Ended = Ended {
 };
 
 impl Run {
+    /// What the next unit does.
+    pub fn at_work(&self) -> AtWork
+        ensures { result ≡ work_at (stage_of self.now) }
+    {
+        match self.comes {
+            Comes::NextCommand => AtWork::Fetching,
+            Comes::Look => AtWork::Looking(self.ccw),
+            Comes::Bytes => AtWork::Moving(self.ccw, self.address),
+        }
+    }
+
     /// Keeps the word of the command that works.
     // Part by part, which is leaner than the whole: the parts were just read from storage.
     #[inline(always)]

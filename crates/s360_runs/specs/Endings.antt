@@ -29,6 +29,7 @@ csw_at key p unit channel = record {
   count = p.residual;
 }
 
+-- the ending of a program whose drive has saved what was written
 abbrev pub settled_ending : (key : ℕ) → Place → Closed → ChannelStatus → Ending
 settled_ending key p c channel = record {
   drive = drive_of c.state;
@@ -64,6 +65,7 @@ pub record Standing : Type 0 where
   pub interruption : Option Csw
   pub cut : Option Fault → Ending
 
+-- a program that stands here, and whose open command closes so if it is cut
 abbrev pub standing : (key : ℕ) → Storage → Place → (Option Fault → Closed) → Standing
 standing key s p close_at = record {
   storage = s;
@@ -76,6 +78,7 @@ pub data Outcome : Type 0 where
   Ended : (used : ℕ) → Storage → Ending → Outcome
   NotEnded : Standing → Outcome
 
+-- the script is spent, and the program has not ended
 abbrev pub RunsOn : Outcome → Type 0
 RunsOn (Ended used s e) = ⊥
 RunsOn (NotEnded seen) = Unit {0}

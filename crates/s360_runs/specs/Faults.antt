@@ -47,10 +47,11 @@ pub record StaysAt (before after : IdleDrive) : Type 0 where
 
 -- Units.
 
--- the drive as a unit finds it; and as a cut leaves it that meets no fault
+-- the drive as a unit finds it
 abbrev pub drive_in : ProgramPhase → IdleDrive
 drive_in phase = drive_of (state_in phase)
 
+-- the drive as a cut in a phase leaves it, where it meets no fault
 abbrev pub cut_drive : (key : ℕ) → ProgramPhase → IdleDrive
 cut_drive key phase = ((standing_in key phase).cut None).drive
 
@@ -65,6 +66,7 @@ pub record UnitByFault (fault : Fault) (key : ℕ) (phase : ProgramPhase) : Type
   pub met : meets fault key phase ≡ true → NextByFault fault key phase (unit (Some fault) key phase)
   pub not_met : meets fault key phase ≡ false → unit (Some fault) key phase ≡ unit None key phase
 
+-- every unit of every phase meets a fault so
 abbrev pub FaultEndsUnit : Type 0
 FaultEndsUnit = (fault : Fault) (key : ℕ) (phase : ProgramPhase) → UnitByFault fault key phase
 
@@ -84,6 +86,7 @@ ended_by_load key o r = record {
   unsaved = None;
 }
 
+-- a look at an area whose load fails ends the program so
 abbrev pub FailedLoad : Type 0
 FailedLoad = (s : Start) (caw : Caw) (script : Script) (o : Open) (r : Request)
     → walk script caw.key (Between (start_point caw s)) ≡ StandsIn (Looking o r) → looks_for_area o ≡ true
@@ -97,11 +100,13 @@ pub record CutByFault (fault : Fault) (key : ℕ) (phase : ProgramPhase) : Type 
       → let e = (standing_in key phase).cut (Some fault) in EndsByFault fault (cut_drive key phase) e × StaysAt (drive_in phase) e.drive
   pub not_met : cut_meets fault phase ≡ false → (standing_in key phase).cut (Some fault) ≡ (standing_in key phase).cut None
 
+-- and every cut in every phase
 abbrev pub FaultEndsPhase : Type 0
 FaultEndsPhase = (fault : Fault) (key : ℕ) (phase : ProgramPhase) → CutByFault fault key phase
 
 -- Runs.
 
+-- a program that ended by a fault in the last of so many units
 abbrev pub OutcomeByFault : Fault → (units : ℕ) → (before : IdleDrive) → Outcome → Type 0
 OutcomeByFault fault units before (NotEnded seen) = ⊥
 OutcomeByFault fault units before (Ended used s e) = (used ≡ units) × EndsByFault fault before e
@@ -126,6 +131,7 @@ without_faults [] = []
 without_faults (OneUnit fault ∷ rest) = OneUnit None ∷ without_faults rest
 without_faults (turn ∷ rest) = turn ∷ without_faults rest
 
+-- a program that goes on has met no fault, so it goes on as the same script does without them
 abbrev pub GoesOnWithoutFaults : Type 0
 GoesOnWithoutFaults = (s : Start) (script : Script) (seen : Standing) → run script s ≡ NotEnded seen
     → (more : Script) → run (without_faults script ++ more) s ≡ run (script ++ more) s

@@ -26,6 +26,7 @@ abbrev pub walked_on : Walk → (key : ℕ) → Script → Walk
 walked_on (StandsIn phase) key more = walk more key phase
 walked_on (EndsWith rest s e) key more = EndsWith (rest ++ more) s e
 
+-- a walk over two scripts, one behind the other, is the walk over the second from where the first led
 abbrev pub WalkGoesOn : Type 0
 WalkGoesOn = (script more : Script) (key : ℕ) (phase : ProgramPhase)
     → walk (script ++ more) key phase ≡ walked_on (walk script key phase) key more
@@ -85,10 +86,12 @@ IsFirstUnit s (RejectedStart drive) o =
 IsFirstUnit s (ImmediateStart e) o =
     (o ≡ Ended 1 s.storage e) × ((e.csw.unit ≡ CHANNEL_END) ⊎ (e.csw.unit ≡ normal_end))
 
+-- what Start I/O makes of a start is its first unit, and that unit is so
 pub record FirstUnit (s : Start) : Type 0 where
   pub first_is : first s ≡ first_of (run (units 1) s)
   pub unit_is : IsFirstUnit s (first s) (run (units 1) s)
 
+-- what Start I/O makes of any start is its first unit
 abbrev pub FirstIsUnit : Type 0
 FirstIsUnit = (s : Start) → FirstUnit s
 

@@ -17,6 +17,7 @@ pub data Fetched : Type 0 where
 abbrev pub is_invalid : (begins : Bool) → Ccw → Bool
 is_invalid begins ccw = ccw.count == 0 || has_reserved_flags ccw || (begins && ccw.code % 16 == 0)
 
+-- what eight bytes are where a CCW is fetched
 abbrev pub read_ccw : (begins : Bool) → Ccw → Fetched
 read_ccw begins ccw =
     if is_transfer ccw then TransferTo ccw.address
@@ -41,9 +42,11 @@ abbrev pub unless_transfer : (may_transfer : Bool) → Fetched → Fetched
 unless_transfer false (TransferTo address) = NoCcw
 unless_transfer may fetched = fetched
 
+-- what is found where the next CCW is fetched; one that begins a command needs a valid code
 abbrev pub fetch : Storage → Place → (begins : Bool) → Fetched
 fetch s p begins = unless_transfer p.may_transfer (fetched_at s p.next begins)
 
+-- the place behind a good CCW
 abbrev pub past_ccw : Place → Ccw → Place
 past_ccw p ccw = record {
   next = p.next + 8;
@@ -53,9 +56,11 @@ past_ccw p ccw = record {
   interruption = p.interruption || interrupts ccw;
 }
 
+-- the place behind a transfer in channel: no second one may follow
 abbrev pub past_transfer : Place → (address : ℕ) → Place
 past_transfer p address = record p { next = address; may_transfer = false; last = p.next }
 
+-- the place behind a fetch that found no CCW: its address is that of the last one tried
 abbrev pub past_no_ccw : Place → Place
 past_no_ccw p = record p { last = p.next }
 

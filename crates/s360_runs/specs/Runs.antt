@@ -27,9 +27,11 @@ first_place address = record {
   interruption = false;
 }
 
+-- where a program stands as it begins
 abbrev pub start_point : Caw → Start → Point
 start_point caw s = record { storage = s.storage; place = first_place caw.address; state = begin_program s.drive }
 
+-- what comes behind a step that goes on; a step that does not go on stays
 abbrev pub on_step : Step → (Script → Point → Step) → Step
 on_step (Goes rest p) next = next rest p
 on_step (Over rest s e) next = Over rest s e
@@ -40,6 +42,7 @@ abbrev pub commands : (most : ℕ) → (key : ℕ) → Step → Step
 commands zero key step = step
 commands (suc most) key step = on_step step (λ rest p. commands most key (command rest key p))
 
+-- what a program comes to over a script, by the step in which the script was spent or the program ended
 abbrev pub outcome : Script → (key : ℕ) → Step → Outcome
 outcome script key (Spent s) = NotEnded s
 outcome script key (Over rest s e) = Ended (units_in script - units_in rest) s e

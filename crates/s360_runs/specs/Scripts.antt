@@ -10,6 +10,7 @@ pub data Turn : Type 0 where
   Outside : Change → Turn
   TakesInterruption : Turn
 
+-- what happens in the course of a program
 abbrev pub Script : Type 0
 Script = List Turn
 
@@ -17,6 +18,7 @@ Script = List Turn
 abbrev pub units : ℕ → Script
 units n = replicate n (OneUnit None)
 
+-- how many units a script has
 abbrev pub units_in : Script → ℕ
 units_in [] = 0
 units_in (OneUnit fault ∷ rest) = 1 + units_in rest

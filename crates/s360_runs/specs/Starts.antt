@@ -19,6 +19,7 @@ pub data First : Type 0 where
   ImmediateStart : Ending → First
   AcceptedStart : First
 
+-- what becomes of a start whose first command was begun
 abbrev pub first_begun : (key : ℕ) → Request → AfterBegin → First
 first_begun key r (Rejected s) = RejectedStart (drive_of s)
 first_begun key r (Immediate s motion) =
@@ -26,13 +27,16 @@ first_begun key r (Immediate s motion) =
     else ImmediateStart (ending None key r.place (immediate s motion) no_channel_status)
 first_begun key r (Started o) = AcceptedStart
 
+-- what becomes of a start, by what stands at the command address; a bad CCW starts nothing
 abbrev pub first_fetched : (key : ℕ) → Point → Fetched → First
 first_fetched key p (GoodCcw ccw) = first_begun key (requested p ccw) (begin None ccw.code p.state)
 first_fetched key p bad = BadStart
 
+-- what becomes of a start with this channel address word, or with a bad one
 abbrev pub first_from : Start → Option Caw → First
 first_from s None = BadStart
 first_from s (Some caw) = let p = start_point caw s in first_fetched caw.key p (fetch p.storage p.place true)
 
+-- what Start I/O makes of a start, in its first unit
 abbrev pub first : Start → First
 first s = first_from s (caw_of s.caw)

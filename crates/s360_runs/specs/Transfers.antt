@@ -17,6 +17,7 @@ pub record Request : Type 0 where
   pub ccw : Ccw
   pub place : Place
 
+-- the command behind a turn that is no unit
 abbrev pub request_past : Turn → Request → Request
 request_past turn r = record r { storage = storage_past turn r.storage; place = place_past turn r.place }
 
@@ -28,12 +29,15 @@ pub record Transfer : Type 0 where
   pub address : ℕ
   pub bytes : List ℕ
 
+-- a command whose area is found, and of which no byte has passed
 abbrev pub first_transfer : Request → Transfer
 first_transfer r = record { storage = r.storage; ccw = r.ccw; place = r.place; address = r.ccw.address; bytes = [] }
 
+-- the same, as the command that the channel asks for
 abbrev pub request_of : Transfer → Request
 request_of t = record { storage = t.storage; ccw = t.ccw; place = t.place }
 
+-- the bytes behind a turn that is no unit
 abbrev pub transfer_past : Turn → Transfer → Transfer
 transfer_past turn t = record t { storage = storage_past turn t.storage; place = place_past turn t.place }
 
@@ -45,11 +49,13 @@ pub data Looked : Type 0 where
   Misses : Script → Option Fault → Request → State → Looked
   Finds : Script → Open → Transfer → Looked
 
+-- what comes behind a look, by what it came to
 abbrev pub on_look : Option Fault → Script → Request → AfterLook → (Open → Looked) → Looked
 on_look fault rest r (Ready o) again = Finds (OneUnit fault ∷ rest) o (first_transfer r)
 on_look fault rest r (Failed s) again = Misses rest fault r s
 on_look fault rest r (Passed next) again = again next
 
+-- a command looks over a script, until its area is found or a look fails
 abbrev pub looked : Script → Request → Open → Looked
 looked [] r o = Looks o r
 looked (OneUnit fault ∷ rest) r o = on_look fault rest r (look fault o) (looked rest r)
@@ -67,6 +73,7 @@ abbrev pub storage_after : ℕ → Open → Transfer → Storage
 storage_after m o t =
     if gives o && not (skips t.ccw) then stored t.storage t.address (next_bytes m o t) else t.storage
 
+-- the same once m bytes passed
 abbrev pub after_bytes : ℕ → Open → Transfer → Transfer
 after_bytes m o t = record {
   storage = storage_after m o t;
@@ -96,15 +103,19 @@ chained_data t NoCcw = Stops (record t { place = past_no_ccw t.place }) PROGRAM_
 chained_data t (TransferTo address) = Moves (record t { place = past_transfer t.place address })
 chained_data t (GoodCcw ccw) = Moves (record t { ccw = ccw; place = past_ccw t.place ccw; address = ccw.address })
 
+-- the next byte passes, or a check stops the command
 abbrev pub byte_or_check : Open → Transfer → (check : ChannelStatus) → TransferUnit
 byte_or_check o t check = if is_clear check then Moves (after_bytes 1 o t) else Stops t check
 
+-- whether the next unit fetches a CCW with a further area of the same command: the count is spent and chains data
 abbrev pub needs_ccw : Transfer → Bool
 needs_ccw t = t.place.residual == 0 && chains_data t.ccw
 
+-- whether a byte is wanted by the channel and by the drive
 abbrev pub needs_byte : Open → Transfer → Bool
 needs_byte o t = nat_lt 0 t.place.residual && nat_lt (length t.bytes) (length_of o t.bytes)
 
+-- one unit of a command whose area is found
 abbrev pub transfer_unit : (key : ℕ) → Open → Transfer → TransferUnit
 transfer_unit key o t =
     if needs_ccw t then chained_data t (fetch t.storage t.place false)
@@ -116,11 +127,13 @@ pub data Moved : Type 0 where
   Stopped : Script → Option Fault → Transfer → (check : ChannelStatus) → Moved
   Completed : Script → Option Fault → Transfer → Moved
 
+-- what comes behind a unit, by what it came to
 abbrev pub on_unit : Option Fault → Script → Transfer → TransferUnit → (Transfer → Moved) → Moved
 on_unit fault rest t (Moves next) again = again next
 on_unit fault rest t (Stops next check) again = Stopped rest fault next check
 on_unit fault rest t Completes again = Completed rest fault t
 
+-- bytes pass over a script, until a check stops them or the command is complete
 abbrev pub moved : Script → (key : ℕ) → Open → Transfer → Moved
 moved [] key o t = StillMoves t
 moved (OneUnit fault ∷ rest) key o t = on_unit fault rest t (transfer_unit key o t) (moved rest key o)
@@ -128,10 +141,12 @@ moved (turn ∷ rest) key o t = moved rest key o (transfer_past turn t)
 
 -- Incorrect length: the drive's length and the count differ, and the CCW does not suppress telling it.
 
+-- whether the drive's length and the count differ: bytes are left of one where the other is spent
 abbrev pub lengths_differ : (length_of_drive : ℕ) → Transfer → Bool
 lengths_differ L t =
     let m = length t.bytes in
     (m == L && nat_lt 0 t.place.residual) || (t.place.residual == 0 && nat_lt m L)
 
+-- whether incorrect length is told: the lengths differ, and the CCW does not suppress it
 abbrev pub is_incorrect_length : (length_of_drive : ℕ) → Transfer → Bool
 is_incorrect_length L t = not (suppresses_length t.ccw) && lengths_differ L t

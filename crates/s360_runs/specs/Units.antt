@@ -28,27 +28,32 @@ pub data Next : Type 0 where
   GoesOn : ProgramPhase → Next
   EndsIn : Storage → Ending → Next
 
+-- what a unit comes to that ends a command
 abbrev pub next_chosen : Choice → Next
 next_chosen (Chains p) = GoesOn (Between p)
 next_chosen (Ends s e) = EndsIn s e
 
+-- what a unit comes to that begins a command
 abbrev pub next_begun : Option Fault → (key : ℕ) → Request → AfterBegin → Next
 next_begun fault key r (Rejected s) = EndsIn r.storage (ending fault key r.place (failed s) no_channel_status)
 next_begun fault key r (Immediate s motion) = next_chosen (choice fault key r (immediate s motion) no_channel_status)
 next_begun fault key r (Started o) = GoesOn (Looking o r)
 
+-- what a unit comes to that fetches a CCW
 abbrev pub next_fetched : Option Fault → (key : ℕ) → Point → Fetched → Next
 next_fetched fault key p NoCcw =
     EndsIn p.storage (ending fault key (past_no_ccw p.place) (untouched p.state) PROGRAM_CHECK)
 next_fetched fault key p (TransferTo address) = GoesOn (Between (record p { place = past_transfer p.place address }))
 next_fetched fault key p (GoodCcw ccw) = next_begun fault key (requested p ccw) (begin fault ccw.code p.state)
 
+-- what a unit comes to that moves a byte, or meets a check, or completes the command
 abbrev pub next_moved : Option Fault → (key : ℕ) → Open → Transfer → TransferUnit → Next
 next_moved fault key o t (Moves next) = GoesOn (Moving o next)
 next_moved fault key o t (Stops next check) =
     EndsIn next.storage (ending fault key next.place (close fault o next.bytes) check)
 next_moved fault key o t Completes = next_chosen (completed fault key t o (close fault o t.bytes))
 
+-- what a unit comes to that looks for an area; where it finds it the unit moves a byte too
 abbrev pub next_looked : Option Fault → (key : ℕ) → Request → AfterLook → Next
 next_looked fault key r (Failed s) = EndsIn r.storage (ending fault key r.place (failed s) no_channel_status)
 next_looked fault key r (Passed o) = GoesOn (Looking o r)
@@ -71,10 +76,12 @@ pub data Walk : Type 0 where
   StandsIn : ProgramPhase → Walk
   EndsWith : Script → Storage → Ending → Walk
 
+-- what a walk comes to behind a unit
 abbrev pub on_next : Script → Next → (ProgramPhase → Walk) → Walk
 on_next rest (GoesOn phase) walk_on = walk_on phase
 on_next rest (EndsIn s e) walk_on = EndsWith rest s e
 
+-- a program over a script, unit by unit
 abbrev pub walk : Script → (key : ℕ) → ProgramPhase → Walk
 walk [] key phase = StandsIn phase
 walk (OneUnit fault ∷ rest) key phase = on_next rest (unit fault key phase) (walk rest key)

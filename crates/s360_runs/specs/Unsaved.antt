@@ -30,9 +30,11 @@ pub record WritesByCommands : Type 0 where
 
 -- A track that is reported as not saved was written.
 
+-- an ending that reports a track as not saved reports one that was written
 abbrev pub TellsWritten : ProgramPhase → Ending → Type 0
 TellsWritten phase e = is_some e.unsaved ≡ true → has_written phase ≡ true
 
+-- a unit that ends the program reports a track as not saved only if it was written
 abbrev pub NextTellsWritten : ProgramPhase → Next → Type 0
 NextTellsWritten phase (GoesOn next) = Unit {0}
 NextTellsWritten phase (EndsIn s e) = TellsWritten phase e
@@ -46,6 +48,7 @@ UnsavedWasWritten = (s : Start) (caw : Caw) (script : Script) (phase : ProgramPh
 
 -- Without faults.
 
+-- the sense gains no equipment check
 abbrev pub GainsNoCheck : (before after : IdleDrive) → Type 0
 GainsNoCheck before after = tells_equipment_check before.sense ≡ false → tells_equipment_check after.sense ≡ false
 
@@ -54,10 +57,12 @@ pub record TellsNoFault (before : IdleDrive) (e : Ending) : Type 0 where
   pub saved : e.unsaved ≡ None
   pub no_check : GainsNoCheck before e.drive
 
+-- the end of a run, or the cut where it stands, reports no track and gains no equipment check
 abbrev pub OutcomeTellsNoFault : IdleDrive → Outcome → Type 0
 OutcomeTellsNoFault before (Ended used s e) = TellsNoFault before e
 OutcomeTellsNoFault before (NotEnded seen) = TellsNoFault before (seen.cut None)
 
+-- what Start I/O makes of a start reports no track and gains no equipment check
 abbrev pub FirstTellsNoFault : IdleDrive → First → Type 0
 FirstTellsNoFault before (RejectedStart drive) = GainsNoCheck before drive
 FirstTellsNoFault before (ImmediateStart e) = TellsNoFault before e

@@ -21,6 +21,7 @@ slot_in v track = slice_get v.slots track
 abbrev pub may_write : (track : ℕ) → ProgramPhase → Bool
 may_write track phase = (number_under (state_in phase) == track) && has_written phase
 
+-- the track keeps its slot behind a unit
 abbrev pub NextKeeps : (track : ℕ) → Volume → Next → Type 0
 NextKeeps track v (GoesOn next) = slot_in (state_in next).volume track ≡ slot_in v track
 NextKeeps track v (EndsIn s e) = slot_in e.drive.volume track ≡ slot_in v track
@@ -30,6 +31,7 @@ pub record UnitKeeps (track key : ℕ) (phase : ProgramPhase) (fault : Option Fa
   pub by_unit : NextKeeps track (state_in phase).volume (unit fault key phase)
   pub by_cut : slot_in ((standing_in key phase).cut fault).drive.volume track ≡ slot_in (state_in phase).volume track
 
+-- such a track keeps its slot, whatever unit comes and whatever fault it meets
 abbrev pub WritesUnderArm : Type 0
 WritesUnderArm = (s : Start) (caw : Caw) (script : Script) (phase : ProgramPhase) (fault : Option Fault) (track : ℕ)
     → walk script caw.key (Between (start_point caw s)) ≡ StandsIn phase
@@ -42,15 +44,18 @@ abbrev pub on_going : Next → (ProgramPhase → Bool) → Bool
 on_going (GoesOn phase) later = later phase
 on_going (EndsIn s e) later = false
 
+-- whether a unit of a walk, or a cut behind it, may write a track
 abbrev pub walk_writes : (track : ℕ) → Script → (key : ℕ) → ProgramPhase → Bool
 walk_writes track [] key phase = may_write track phase
 walk_writes track (OneUnit fault ∷ rest) key phase = may_write track phase || on_going (unit fault key phase) (walk_writes track rest key)
 walk_writes track (turn ∷ rest) key phase = walk_writes track rest key (phase_past turn phase)
 
+-- whether a unit of a run, or a cut behind it, may write a track; a bad channel address word starts nothing
 abbrev pub run_writes_from : (track : ℕ) → Script → Start → Option Caw → Bool
 run_writes_from track script s None = false
 run_writes_from track script s (Some caw) = walk_writes track script caw.key (Between (start_point caw s))
 
+-- the same, by the channel address word of the start
 abbrev pub run_writes : (track : ℕ) → Script → Start → Bool
 run_writes track script s = run_writes_from track script s (caw_of s.caw)
 
@@ -59,6 +64,7 @@ abbrev pub OutcomeKeeps : (track : ℕ) → Volume → Outcome → Type 0
 OutcomeKeeps track v (Ended used s e) = slot_in e.drive.volume track ≡ slot_in v track
 OutcomeKeeps track v (NotEnded seen) = (fault : Option Fault) → slot_in (seen.cut fault).drive.volume track ≡ slot_in v track
 
+-- a program keeps the slot of every track that none of its units may write
 abbrev pub RunKeeps : Type 0
 RunKeeps = (s : Start) (script : Script) (track : ℕ) → run_writes track script s ≡ false → OutcomeKeeps track s.drive.volume (run script s)
 
@@ -69,6 +75,7 @@ abbrev pub writes_moved : Open → Transfer → TransferUnit → Bool
 writes_moved o t Completes = is_some (closing_of o t.bytes).written
 writes_moved o t unit = false
 
+-- whether a unit closes a command that has changed the track
 abbrev pub writes_in_unit : (key : ℕ) → ProgramPhase → Bool
 writes_in_unit key (Moving o t) = writes_moved o t (transfer_unit key o t)
 writes_in_unit key phase = false
@@ -77,6 +84,7 @@ writes_in_unit key phase = false
 abbrev pub written_past : (key : ℕ) → ProgramPhase → (so_far : Bool) → Bool
 written_past key phase so_far = if leaves key phase then false else (if writes_in_unit key phase then true else so_far)
 
+-- whether the track is written and not saved at the end of a script, by its units alone
 abbrev pub written_since : Script → (key : ℕ) → ProgramPhase → (so_far : Bool) → Bool
 written_since [] key phase so_far = so_far
 written_since (OneUnit fault ∷ rest) key phase so_far =
@@ -90,9 +98,11 @@ MarkIsOfScript = (script : Script) (key : ℕ) (phase last : ProgramPhase) → w
 
 -- Of storage a program changes bytes, and not their number.
 
+-- a program keeps storage's size
 abbrev pub OutcomeKeepsSize : Storage → Outcome → Type 0
 OutcomeKeepsSize before (Ended used s e) = length s.bytes ≡ length before.bytes
 OutcomeKeepsSize before (NotEnded seen) = length seen.storage.bytes ≡ length before.bytes
 
+-- every run keeps storage's size
 abbrev pub KeepsSize : Type 0
 KeepsSize = (s : Start) (script : Script) → OutcomeKeepsSize s.storage (run script s)

@@ -41,9 +41,11 @@ overwritten (x ∷ xs) zero [] = x ∷ xs
 overwritten (x ∷ xs) zero (y ∷ ys) = y ∷ overwritten xs zero ys
 overwritten (x ∷ xs) (suc at) new = x ∷ overwritten xs at new
 
+-- storage with these bytes from an address on, as far as it goes
 abbrev pub stored : Storage → ℕ → List ℕ → Storage
 stored s at bytes = record s { bytes = overwritten s.bytes at bytes }
 
+-- storage with this key for the block of an address
 abbrev pub with_key : Storage → (at key : ℕ) → Storage
 with_key s at key = record s { keys = slice_set s.keys (at / 2048) key }
 
@@ -52,6 +54,7 @@ pub data Change : Type 0 where
   Bytes : (at : ℕ) → List ℕ → Change
   KeyOf : (at key : ℕ) → Change
 
+-- storage behind a change
 abbrev pub changed : Change → Storage → Storage
 changed (Bytes at bytes) s = stored s at bytes
 changed (KeyOf at key) s = with_key s at key
@@ -63,14 +66,19 @@ is_within (KeyOf at key) s = nat_lt at (length s.bytes)
 
 -- The places that the channel knows: the channel address word at 72, the channel status word at 64, its two status
 -- bytes at 68.
+
+-- the channel address word
 abbrev pub caw_word : Storage → ℕ
 caw_word s = big_number 4 (slice_range s.bytes 72 76)
 
+-- the channel command word at an address
 abbrev pub ccw_at : Storage → ℕ → Ccw
 ccw_at s at = ccw_of (slice_range s.bytes at (at + 8))
 
+-- a channel status word is stored
 abbrev pub csw_stored : Csw → Change
 csw_stored csw = Bytes 64 (csw_bytes csw)
 
+-- unit status and channel status alone are stored
 abbrev pub status_stored : (unit channel : ℕ) → Change
 status_stored unit channel = Bytes 68 (unit ∷ channel ∷ [])

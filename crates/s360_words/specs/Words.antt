@@ -26,6 +26,7 @@ ccw_of bytes = record {
   count = big_number 2 (slice_range bytes 6 8);
 }
 
+-- whether the next word has a further area of the same command
 abbrev pub chains_data : Ccw → Bool
 chains_data ccw = has ccw.flags.0 0x80
 
@@ -37,6 +38,7 @@ chains_command ccw = has ccw.flags.0 0x40 && not (chains_data ccw)
 abbrev pub suppresses_length : Ccw → Bool
 suppresses_length ccw = has ccw.flags.0 0x20 && not (chains_data ccw)
 
+-- whether what is read is kept out of storage
 abbrev pub skips : Ccw → Bool
 skips ccw = has ccw.flags.0 0x10
 
@@ -58,6 +60,7 @@ abbrev pub csw_bytes : Csw → List ℕ
 csw_bytes csw =
     (csw.key % 16 * 16 ∷ big_bytes 3 csw.address) ++ (csw.unit.0 ∷ csw.channel.0 ∷ big_bytes 2 csw.count)
 
+-- the channel status word that eight bytes are
 abbrev pub csw_of : List ℕ → Csw
 csw_of bytes = record {
   key = slice_index bytes 0 / 16;

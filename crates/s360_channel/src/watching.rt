@@ -1,0 +1,39 @@
+//! What is seen of the program that runs, between two units. Nothing here changes it, takes memory or calls a store.
+
+ghost use Rattle.std.specs.Prelude.{option_map};
+ghost use Rattle.s360_laws.specs.Machine.{Machine};
+ghost use Rattle.s360_channel.specs.Channel.{StandsFor};
+ghost use Rattle.s360_channel.specs.Watched.{ShowsProgram, ShowsDriveAtWork};
+
+use crate::channel::Channel;
+use crate::subchannel::Subchannel;
+use crate::view::Watched;
+use ckd_drive::Drive;
+use ckd_image::ImageStore;
+
+impl<S: ImageStore> Channel<S> {
+    /// The program that runs: the word at work and the next one, the residual count, and what its next unit does; none where no
+    /// program runs.
+    pub fn program(&self) -> Option<Watched>
+        ensures { (m : Machine) → StandsFor self.now m → ShowsProgram m result }
+    {
+        match &self.subchannel {
+            Subchannel::Working(place, running) => Some(Watched {
+                device: self.units.device(*place),
+                program: running.view(),
+            }),
+            Subchannel::Idle | Subchannel::Pending(_, _) => None,
+        }
+    }
+
+    /// The drive of the program that runs, lent: its registers, its command, and how many bytes have passed in that; none where no
+    /// program runs.
+    pub fn drive_at_work(&self) -> Option<&Drive<S>>
+        ensures { (m : Machine) → StandsFor self.now m → ShowsDriveAtWork m (option_map (λ d. d.now) result) }
+    {
+        match &self.subchannel {
+            Subchannel::Working(place, _) => Some(self.units.drive(*place)),
+            Subchannel::Idle | Subchannel::Pending(_, _) => None,
+        }
+    }
+}
