@@ -21,6 +21,7 @@ pub mod PartLengths
 pub mod Finishing
 pub mod Fits
 pub mod Removing
+pub mod Exchanging
 pub mod Seen
 pub mod Finding
 pub mod Images

@@ -158,7 +158,7 @@ stays_at us place p u e h r = go (nat_lt place p) refl
 
 -- Which program runs, and which word pends, at the channel and at the machine.
 
-same_places : (us : List UnitState) (p place : ℕ) (w u : UnitState) → AreDistinct (devices us) → slice_get us p ≡ Some w → slice_get us place ≡ Some u → (w.device == u.device) ≡ (p == place)
+pub same_places : (us : List UnitState) (p place : ℕ) (w u : UnitState) → AreDistinct (devices us) → slice_get us p ≡ Some w → slice_get us place ≡ Some u → (w.device == u.device) ≡ (p == place)
 same_places us p place w u a h k = go (p == place) refl
   where
     go : (b : Bool) → (p == place) ≡ b → (w.device == u.device) ≡ b
@@ -180,7 +180,7 @@ module _ (c : ChannelState) (m : Machine) (s : StandsFor c m) (device place : �
   here : SeenBy c m
   here = seen_by c m c.subchannel s.shows
 
-  distinct : AreDistinct (devices c.units)
+  pub distinct : AreDistinct (devices c.units)
   distinct = distinct_units c m here s.sound
 
   found : find (λ d. d.device == device) (devices c.units) ≡ Some (device_of u)
@@ -245,13 +245,13 @@ module _ (c : ChannelState) (m : Machine) (s : StandsFor c m) (device place : �
 -- A free drive is taken out.
 
 module _ (c : ChannelState) (m : Machine) (s : StandsFor c m) (device place : ℕ) (f : IsFree device place c) where
-  unit : IsUnit device place c.units f.unit
+  pub unit : IsUnit device place c.units f.unit
   unit = record { is_there = f.is_there; same_device = f.same_device }
 
-  off : runs_at device m.subchannel ≡ false
+  pub off : runs_at device m.subchannel ≡ false
   off = same_runs c m s device place f.unit unit ∙ f.runs
 
-  quiet : pends_for device m.subchannel ≡ false
+  pub quiet : pends_for device m.subchannel ≡ false
   quiet = same_pends c m s device place f.unit unit ∙ f.pends
 
   pub is_free : why_stays device m ≡ None

@@ -1,15 +1,20 @@
--- Drives that are taken off a channel.
-use Rattle.std.specs.Prelude.{◌≡◌, ◌-◌, ℕ, Bool, true, false, not, ◌==◌, Option, Some, None, filter, slice_get, nat_lt, if◌then◌else◌}
+-- Drives that are taken off a channel, and packs that are changed.
+use Rattle.std.specs.Prelude.{◌≡◌, ◌-◌, ℕ, Bool, true, false, not, ◌==◌, ◌&&◌, Option, Some, None, filter, option_map, slice_get, slice_set, nat_lt, if◌then◌else◌}
 use Rattle.std.specs.List.{remove}
-use Rattle.ckd_command.specs.Drive.{Volume}
+use Rattle.ckd_command.specs.Drive.{Volume, first_drive}
 use Rattle.ckd_image.specs.Image.{ImageState}
+use Rattle.ckd_track.specs.declared.model.DriveModel.{DriveModel}
+use Rattle.ckd_track.specs.declared.model.DriveModel.TheVariants.{D2311, D2314}
+use Rattle.ckd_track.specs.declared.geometries.Geometry.{Geometry}
 use Rattle.s360_laws.specs.Machine as machine
-use Rattle.s360_laws.specs.Machine.{Machine, Device, device_at}
+use Rattle.s360_laws.specs.Machine.{Machine, Device, device_at, with_device}
 use Rattle.s360_laws.specs.declared.arm.Arm.{Arm}
 use Rattle.s360_laws.specs.declared.arm.Arm.TheVariants.{AtRest}
-use Rattle.s360_channel.specs.Channel.{ChannelState, StandsFor, UnitState}
+use Rattle.s360_channel.specs.Channel.{ChannelState, StandsFor, UnitState, new_unit}
 use Rattle.s360_channel.specs.declared.faults.DetachFault.{DetachFault}
 use Rattle.s360_channel.specs.declared.faults.DetachFault.TheVariants.{NoDrive, ProgramRuns, EndingPends, DeviceEndOwed}
+use Rattle.s360_channel.specs.declared.faults.ExchangeFault.{ExchangeFault}
+use Rattle.s360_channel.specs.declared.faults.ExchangeFault.TheVariants.{Held, OtherPack}
 use Rattle.s360_channel.specs.declared.subchannel.Subchannel.{Subchannel}
 use Rattle.s360_channel.specs.declared.subchannel.Subchannel.TheVariants.{Working, Pending}
 
@@ -90,3 +95,38 @@ pub record Detaches (device : ℕ) (m : Machine) (image : ImageState) (old new :
   pub stands : StandsFor new (without_device device m)
   pub same_image : image ≡ is_free.unit.drive.image
   pub gives_back : GivesBack device image m
+
+-- Packs that are changed.
+
+abbrev pub is_same_model : DriveModel → DriveModel → Bool
+is_same_model D2311 D2311 = true
+is_same_model D2314 D2314 = true
+is_same_model a b = false
+
+-- a pack fits a drive that has held one of this geometry: it is of the same model, and its slots are as large
+abbrev pub fits_drive : Geometry → Geometry → Bool
+fits_drive held other = is_same_model held.model other.model && (held.track_size == other.track_size)
+
+abbrev pub fits_at : (device : ℕ) → ImageState → Machine → Option Bool
+fits_at device image m = option_map (λ d. fits_drive d.drive.volume.geometry image.geometry) (device_at m device)
+
+-- the machine whose device has another pack: a new drive
+abbrev pub with_pack : (device : ℕ) → ImageState → Machine → Machine
+with_pack device image m = with_device device (λ d. record d { arm = AtRest; drive = first_drive (volume_in image) }) m
+
+-- Why it has not, in this order: the drive could not be taken off; the pack does not fit.
+abbrev pub WhyHeld : (device : ℕ) → ImageState → Machine → ExchangeFault → Type 0
+WhyHeld device image m (Held why) = why_stays device m ≡ Some why
+WhyHeld device image m OtherPack = (why_stays device m ≡ None) × (fits_at device image m ≡ Some false)
+
+-- The pack is changed: the drive was free and the pack fits; the drive is new, over this image; the image that is given back is
+-- that of the drive before, and holds its volume.
+pub record Exchanges (device : ℕ) (m : Machine) (image before : ImageState) (old new : ChannelState) : Type 0 where
+  pub free : why_stays device m ≡ None
+  pub fits : fits_at device image m ≡ Some true
+  pub place : ℕ
+  pub is_free : IsFree device place old
+  pub becomes : new ≡ record old { units = slice_set old.units place (new_unit device image) }
+  pub stands : StandsFor new (with_pack device image m)
+  pub same_image : before ≡ is_free.unit.drive.image
+  pub gives_back : GivesBack device before m

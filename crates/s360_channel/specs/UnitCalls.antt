@@ -4,10 +4,10 @@ use Rattle.std.specs.List.{remove}
 use Rattle.s360_words.specs.Storage.{Storage}
 use Rattle.s360_words.specs.declared.words.Csw.{Csw}
 use Rattle.ckd_command.specs.Drive.{drive_of}
-use Rattle.ckd_drive.specs.Work.{DriveState, CallsStore, without_sense}
+use Rattle.ckd_drive.specs.Work.{DriveState, CallsStore, new_drive, without_sense}
 use Rattle.ckd_image.specs.Image.{ImageState}
 use Rattle.s360_runs.specs.Unsaved.{has_written}
-use Rattle.s360_program.specs.Advances.{RunsOn, KeepsStorage, Cuts, CallsAtMost, TellsOf, CutTellsOf}
+use Rattle.s360_program.specs.Advances.{RunsOn, KeepsStorage, Cuts, CallsAtMost, Rests, TellsOf, CutTellsOf}
 use Rattle.s360_program.specs.Stands.{RunningState, phase_in}
 use Rattle.s360_program.specs.Starting.{IsFirst, StartsQuietly}
 use Rattle.s360_program.specs.declared.program.Ran.{Ran}
@@ -70,6 +70,19 @@ pub record Removes (place : ℕ) (image : ImageState) (old new : List UnitState)
   pub gives : image ≡ unit.drive.image
   pub geometry : unit.drive.image.geometry ≡ unit.drive.state.volume.geometry
   pub volume : unit.drive.image.slots ≡ unit.drive.state.volume.slots
+
+-- The drive at a place has another image, and is new; the one that it had holds its volume.
+pub record ExchangesPack (place : ℕ) (image before : ImageState) (old new : List UnitState) : Type 0 where
+  pub unit : UnitState
+  pub was : slice_get old place ≡ Some unit
+  pub becomes : new ≡ slice_set old place (record unit { drive = new_drive image })
+  pub gives : before ≡ unit.drive.image
+  pub geometry : unit.drive.image.geometry ≡ unit.drive.state.volume.geometry
+  pub volume : unit.drive.image.slots ≡ unit.drive.state.volume.slots
+
+-- the drive at a place rests, and may have a pack with slots of this size
+abbrev pub MayExchange : (size : ℕ) → DriveState → Type 0
+MayExchange size d = Rests d × (size ≡ d.image.geometry.track_size)
 
 -- as a reset leaves a unit
 abbrev pub at_rest_unit : UnitState → UnitState

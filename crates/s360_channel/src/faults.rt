@@ -47,6 +47,17 @@ pub enum DetachFault {
     DeviceEndOwed,
 }
 
+/// Why a drive does not change its pack. `Held` is looked for first.
+#[derive(Clone, Copy, Debug, PartialEq, Eq, Error)]
+pub enum ExchangeFault {
+    /// There is no such drive, or something is owed of it.
+    #[error("{0}")]
+    Held(DetachFault),
+    /// The image is a pack of another model, or its tracks have slots of another size.
+    #[error("a pack of another drive")]
+    OtherPack,
+}
+
 /// The storage is not as large as the channel's.
 #[derive(Clone, Copy, Debug, PartialEq, Eq, Error)]
 #[error("a storage of another size")]

@@ -25,5 +25,7 @@ mod watching;
 pub use crate::asking::finds_another;
 pub use crate::channel::{Channel, Finished, Reset};
 pub use crate::driving::drive;
-pub use crate::faults::{AttachFault, DetachFault, NewFault, OtherSize, OutsideStorage};
+pub use crate::faults::{
+    AttachFault, DetachFault, ExchangeFault, NewFault, OtherSize, OutsideStorage,
+};
 pub use crate::view::{DriveView, RunOn, SubchannelView, View, Watched};

@@ -1,12 +1,12 @@
-//! Drives are taken off a channel.
+//! Drives are taken off a channel, and packs are changed.
 
 ghost use Rattle.std.specs.Prelude.{◌≡◌, IfOk, IfErr, OnErr, Some};
 ghost use Rattle.s360_laws.specs.Machine.{Machine};
 ghost use Rattle.s360_channel.specs.Channel.{StandsFor};
-ghost use Rattle.s360_channel.specs.Packs.{Detaches, IsFree, moved_up, waits_for, why_stays, works_at};
+ghost use Rattle.s360_channel.specs.Packs.{Detaches, Exchanges, IsFree, WhyHeld, moved_up, waits_for, why_stays, works_at};
 
 use crate::channel::Channel;
-use crate::faults::DetachFault;
+use crate::faults::{DetachFault, ExchangeFault};
 use crate::subchannel::Subchannel;
 use ckd_image::{Image, ImageStore};
 use s360_laws::arm::Arm;
@@ -27,6 +27,34 @@ impl<S: ImageStore> Channel<S> {
         let place = self.free_place(device)?;
         move_up(place, &mut self.subchannel);
         Ok(self.units.remove(place))
+    }
+
+    /// Changes the pack of the drive with this low byte of an address: it has this image from now on, and gives back the one that
+    /// it had, which holds the drive's volume. The drive is as one that is attached: its arm is at rest, at cylinder 0 and head 0,
+    /// with zero sense bytes. Every other drive, the order of attachment and the subchannel stay. It makes no call of a store and
+    /// takes no memory.
+    ///
+    /// # Errors
+    ///
+    /// `Held`, where `detach` would be refused, and `OtherPack`, in this order; the image is handed back, and nothing has changed.
+    pub fn exchange(
+        &mut self,
+        device: u8,
+        image: Image<S>,
+    ) -> Result<Image<S>, (ExchangeFault, Image<S>)>
+        ensures exchanged { (m : Machine) → StandsFor self.old m → IfOk result (λ before. Exchanges device m image before self.old self.new) }
+        ensures refused { (m : Machine) → StandsFor self.old m → IfErr result (λ e. WhyHeld device image m e.0) }
+        ensures stays { OnErr result (self.new ≡ self.old) }
+        ensures handed_back { IfErr result (λ e. e.1 ≡ image) }
+    {
+        let place = match self.free_place(device) {
+            Ok(place) => place,
+            Err(fault) => return Err((ExchangeFault::Held(fault), image)),
+        };
+        if !self.units.fits(place, image.geometry()) {
+            return Err((ExchangeFault::OtherPack, image));
+        }
+        Ok(self.units.exchange(place, image))
     }
 
     // The place of the drive with this address, if nothing is owed of it.

@@ -7,13 +7,15 @@ ghost use Rattle.s360_program.specs.Stands.{Stands};
 ghost use Rattle.s360_laws.specs.Machine.{lowest, lower, has_arrived};
 ghost use Rattle.s360_channel.specs.Channel.{is_at, device_of, new_unit, AllRest};
 ghost use Rattle.s360_channel.specs.Finishes.{images_of};
-ghost use Rattle.s360_channel.specs.UnitCalls.{DriveChanges, DriveIs, Starts, AdvancesAt, CutsAt, ArmChanges, OnlyDrive, TakesFirst, Removes, RestsAt, at_rest_unit};
+ghost use Rattle.s360_channel.specs.UnitCalls.{DriveChanges, DriveIs, Starts, AdvancesAt, CutsAt, ArmChanges, OnlyDrive, TakesFirst, Removes, ExchangesPack, MayExchange, RestsAt, at_rest_unit};
+ghost use Rattle.s360_channel.specs.Packs.{fits_drive, is_same_model};
 ghost use Rattle.s360_channel.specs.Views.{drives_seen, drive_seen};
 
 use crate::unit::Unit;
 use crate::view::DriveView;
 use ckd_drive::Drive;
 use ckd_image::{Image, ImageStore};
+use ckd_track::{DriveModel, Geometry};
 use s360_laws::arm::Arm;
 use s360_program::program::{Ran, Running, Start};
 use s360_words::{Csw, Storage};
@@ -88,6 +90,24 @@ impl<S: ImageStore> Units<S> {
         ensures { Removes place result self.old self.new }
     {
         Box::into_inner(self.list.remove(place).drive).into_image()
+    }
+
+    /// Whether a pack of this geometry fits the drive at a place.
+    pub(crate) fn fits(&self, place: usize, geometry: Geometry) -> bool
+        requires { place < length self.now }
+        ensures volume { Some result ≡ option_map (λ u. fits_drive u.drive.state.volume.geometry geometry) (slice_get self.now place) }
+        ensures image { Some result ≡ option_map (λ u. fits_drive u.drive.image.geometry geometry) (slice_get self.now place) }
+    {
+        let held = self.list[place].drive.geometry();
+        is_same_model(held.model, geometry.model) && held.track_size == geometry.track_size
+    }
+
+    /// The drive at a place takes another image, and gives its own back.
+    pub(crate) fn exchange(&mut self, place: usize, image: Image<S>) -> Image<S>
+        requires { DriveIs place (MayExchange image.geometry.track_size) self.old }
+        ensures { ExchangesPack place image result self.old self.new }
+    {
+        self.list[place].drive.exchange(image)
     }
 
     /// The place of the drive with this address, if it is attached.
@@ -253,6 +273,16 @@ fn drive_of<S: ImageStore>(
     match Box::new(alloc, drive) {
         Ok(drive) => Ok(drive),
         Err(refused) => Err((AllocError, refused.value.into_image())),
+    }
+}
+
+fn is_same_model(held: DriveModel, other: DriveModel) -> bool
+    ensures { result ≡ is_same_model held other }
+{
+    match (held, other) {
+        (DriveModel::D2311, DriveModel::D2311) => true,
+        (DriveModel::D2314, DriveModel::D2314) => true,
+        _ => false,
     }
 }
 
