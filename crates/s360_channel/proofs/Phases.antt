@@ -12,10 +12,10 @@ use Rattle.s360_program.specs.Stage.{Stage}
 use Rattle.s360_program.specs.Stage as stage
 use Rattle.s360_program.specs.Stands.{RunningState, Stands, StageFits, phase_in, phase_by}
 use Rattle.s360_program.specs.declared.view.ProgramView.{ProgramView}
-use Rattle.s360_laws.specs.Machine.{Machine}
+use Rattle.s360_laws.specs.Machine.{Machine, is_working}
 use Rattle.s360_laws.specs.Soundness.{IsSound}
 use Rattle.s360_channel.specs.Channel.{ChannelState, Shows, StandsFor, WorksFor}
-use Rattle.s360_channel.specs.Watched.{StandsInPhase, SeesProgram, SeesDrive, command_in, passed_in, is_working}
+use Rattle.s360_channel.specs.Watched.{StandsInPhase, SeesProgram, SeesDrive, command_in, passed_in}
 use Rattle.s360_channel.specs.declared.subchannel.Subchannel.TheVariants as code
 use Rattle.s360_channel.proofs.Places.{inside}
 use Rattle.s360_channel.proofs.Works.{subchannel_of, device_there}

@@ -1,17 +1,13 @@
 -- What is seen of the program that runs: it is read off its run, which stands in a phase between two units.
-use Rattle.std.specs.Prelude.{◌≡◌, ℕ, List, [], Bool, true, false, Option, Some, None}
+use Rattle.std.specs.Prelude.{◌≡◌, ℕ, List, [], false, Option, Some, None}
 use Rattle.ckd_command.specs.declared.begin.Opened.{Opened}
 use Rattle.ckd_drive.specs.Work.{DriveState, command_of, passed_of}
 use Rattle.s360_runs.specs.Scripts.{Script}
 use Rattle.s360_runs.specs.Units.{ProgramPhase, Between, Looking, Moving, StandsAt, state_in}
 use Rattle.s360_program.specs.Seen.{seen_in}
 use Rattle.s360_laws.specs.Machine as machine
-use Rattle.s360_laws.specs.Machine.{Machine, Device, device_at, start_of}
+use Rattle.s360_laws.specs.Machine.{Machine, Device, device_at, is_working, start_of}
 use Rattle.s360_channel.specs.declared.view.Watched.{Watched}
-
-abbrev pub is_working : machine.Subchannel → Bool
-is_working (machine.Working device script) = true
-is_working s = false
 
 -- the command that works in a phase, if one does
 abbrev pub command_in : ProgramPhase → Option Opened
