@@ -1,0 +1,10 @@
+use Rattle.std.proofs.Common.{sym, subst}
+use Rattle.s360_laws.specs.Events as machine
+use Rattle.s360_events.specs.Seen.{event_seen}
+use Rattle.s360_trace.specs.Happens.{Happens}
+use Rattle.s360_trace.proofs.watching.react.Goals as goal
+
+pub returns-in-Step-clause-happens : goal.returns-in-Step-clause-happens
+returns-in-Step-clause-happens g c m stands =
+    subst (λ e. Happens (event_seen e) m (machine.Stepped c.step.result) c.args.channel.now c.step.new.channel) (sym c.in-Step.is)
+    (subst (λ n. Happens (machine.StepBy n) m (machine.Stepped c.step.result) c.args.channel.now c.step.new.channel) c.from.ensures (c.step.ensures.happens m stands))
