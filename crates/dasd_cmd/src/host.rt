@@ -258,8 +258,11 @@ impl<'a> ImageFiles for HostFiles<'a> {
             note_twice(&mut self.remarks, alloc, path);
             return Err(FileFault::Twice);
         }
-        match keep(&mut self.locked, alloc, path, &file, &known) {
-            Ok(()) => Ok(HostFile::of(alloc, file, known.len())),
+        if let Err(fault) = keep(&mut self.locked, alloc, path, &file, &known) {
+            return Err(refused(&mut self.remarks, alloc, path, &fault));
+        }
+        match HostFile::of(alloc, file, known.len()) {
+            Ok(file) => Ok(file),
             Err(fault) => Err(refused(&mut self.remarks, alloc, path, &fault)),
         }
     }

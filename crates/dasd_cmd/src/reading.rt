@@ -29,21 +29,21 @@ pub(crate) struct RegularFile {
     begin: u64,
     /// How many they are.
     held: usize,
-    /// The room for them: none where there was no memory for it, and then nothing is read ahead.
+    /// The room for them.
     window: Vec<u8>,
 }
 
 impl RegularFile {
     // A file of this length, of which nothing is read yet.
-    fn new(alloc: Global, file: File, len: u64) -> RegularFile {
-        let window = vec![in alloc; 0; WINDOW].unwrap_or(Vec::new(alloc));
-        RegularFile {
+    fn new(alloc: Global, file: File, len: u64) -> io::Result<RegularFile> {
+        let window = vec![in alloc; 0; WINDOW]?;
+        Ok(RegularFile {
             file,
             len,
             begin: 0,
             held: 0,
             window,
-        }
+        })
     }
 
     // The bytes from `at` on that were read ahead, as many as there are.
@@ -74,8 +74,9 @@ impl RegularFile {
         if into.len() > self.window.len() {
             return self.file.read_exact_at(into, at);
         }
-        if self.ahead(at).len() < into.len() {
-            self.read_ahead(at)?;
+        // what can't be read behind these bytes is no fault of theirs
+        if self.ahead(at).len() < into.len() && self.read_ahead(at).is_err() {
+            return self.file.read_exact_at(into, at);
         }
         match self.ahead(at).get(..into.len()) {
             Some(found) => {
@@ -102,7 +103,7 @@ impl HostFile {
         let mut file = File::open(host, path)?;
         let known = file.metadata()?;
         if known.is_file() {
-            return Ok(HostFile::of(host.alloc(), file, known.len()));
+            return HostFile::of(host.alloc(), file, known.len());
         }
         let mut bytes = Vec::new(host.alloc());
         read_up_to(&mut file, &mut bytes, HEADER)?;
@@ -113,8 +114,8 @@ impl HostFile {
     }
 
     /// A regular file of this length.
-    pub(crate) fn of(alloc: Global, file: File, len: u64) -> HostFile {
-        HostFile::Regular(RegularFile::new(alloc, file, len))
+    pub(crate) fn of(alloc: Global, file: File, len: u64) -> io::Result<HostFile> {
+        Ok(HostFile::Regular(RegularFile::new(alloc, file, len)?))
     }
 }
 
