@@ -1,0 +1,278 @@
+#!/usr/bin/env python3
+"""Measures how sharp the suites are: which of the wrong bodies that stand in must-fail edits a program of tests catches.
+
+    tools/sharpness.py [--crates CRATE,..] SUITE..
+
+A suite is a crate whose program prints what is kept in its `stdout`. For each suite the wrong bodies of the crates that it is meant to
+watch (or of those named) are put beside the right ones, in one unproved build (see unproved_dasd.py), with a number that says which
+of them is taken; the program is then run once a number. A wrong body is caught if what the program prints or its status is another, or
+if it does not end in the time that it has. For each suite one line tells how many were caught, and then which were not.
+
+What stands outside a function (an edit of a definition, of a table, or of a function of a trait) is not tried, and is counted.
+NOTHING THAT IS BUILT HERE IS PROVED, and the gate does not run this.
+"""
+
+import argparse
+import importlib.util
+import os
+import re
+import shutil
+import subprocess
+import sys
+import tempfile
+import time
+from pathlib import Path
+
+TOP = Path(__file__).resolve().parent.parent
+SECONDS = 300  # at most, for the right bodies
+TIMES = 8  # so much longer may a wrong body take
+# The crates that a suite is meant to watch: what it does not ask of them is another suite's.
+LAYERS = {
+    "test_tracks": ["ckd_track"],
+    "test_images": ["ckd_image"],
+    "test_drives": ["ckd_position", "ckd_sense", "ckd_command", "ckd_slot", "ckd_cache", "ckd_drive"],
+    "test_programs": ["s360_words", "s360_program"],
+    "test_channel_rows": ["s360_program", "s360_channel", "s360_deck"],
+    "test_random_lists": ["s360_program", "s360_channel"],
+    "test_cut_programs": ["s360_program", "s360_channel"],
+    "test_deck_vectors": ["s360_words", "ckd_position", "ckd_sense", "ckd_command", "ckd_drive", "s360_program", "s360_channel"],
+    "test_hostile_images": ["ckd_track", "ckd_image"],
+    "test_hostile_decks": ["s360_deck"],
+    "test_dasd_rows": ["dasd_volumes", "dasd_jobs", "dasd_run"],
+    "test_archives": ["dasd_archive", "volume_labels"],
+}
+HEAD = re.compile(r"^(?P<indent> *)(?P<before>(?:pub(?:\([a-z]+\))? )?(?:const )?)fn (?P<name>\w+)", re.M)
+NUMBER_MADE = re.compile(r'^(define internal [^\n]*@"\w+::wrong_body::number"\([^\n]*\)[^\n{]*)\{\n.*?^\}\n', re.M | re.S)
+NUMBER = """//! Which wrong body is taken.
+
+/// Its number, or 0: what stands here is read from the environment once the program is built.
+pub fn number() -> u32 {
+    0
+}
+"""
+READ = """{
+  %known = load i32, ptr @wrong_body_number
+  %is_known = icmp sge i32 %known, 0
+  br i1 %is_known, label %answer, label %ask
+answer:
+  ret i32 %known
+ask:
+  %text = call ptr @getenv(ptr @wrong_body_name)
+  %none = icmp eq ptr %text, null
+  br i1 %none, label %right, label %wrong
+right:
+  store i32 0, ptr @wrong_body_number
+  ret i32 0
+wrong:
+  %number = call i32 @atoi(ptr %text)
+  store i32 %number, ptr @wrong_body_number
+  ret i32 %number
+}
+"""
+
+
+def unproved():
+    """The script that makes unproved builds."""
+    loaded = importlib.util.spec_from_file_location("unproved_dasd", TOP / "tools" / "unproved_dasd.py")
+    module = importlib.util.module_from_spec(loaded)
+    loaded.loader.exec_module(module)
+    return module
+
+
+def crates_below(suite):
+    """The crates of this repository that a suite stands on."""
+    lines = [it.split(":", 1) for it in (TOP / "crates.txt").read_text().splitlines() if re.match(r"\w", it)]
+    needs = {name.split()[0]: words.split() for name, words in lines}
+    found, waiting = [], [suite]
+    while waiting:
+        for name in needs.get(waiting.pop(), []):
+            if name in needs and name not in found:
+                found.append(name)
+                waiting.append(name)
+    return found
+
+
+def closing(text, at):
+    """The place behind the bracket that closes the one at `at`."""
+    depth = 0
+    for place in range(at, len(text)):
+        depth += {"(": 1, "[": 1, "{": 1, ")": -1, "]": -1, "}": -1}.get(text[place], 0)
+        if depth == 0:
+            return place + 1
+    raise ValueError("a bracket is not closed")
+
+
+def function_at(text, place):
+    """Begin, body and end of the function in which `place` lies, with its head, or none."""
+    heads = [it for it in HEAD.finditer(text) if it.start() <= place]
+    for head in reversed(heads):
+        indent = head["indent"]
+        end = text.find(f"\n{indent}}}\n", head.end())
+        if end < 0 or end < place:
+            continue
+        body = re.compile(rf"^{indent}\{{\n|[^\n]\{{\n", re.M)
+        parameters = closing(text, text.index("(", head.end()))
+        for it in body.finditer(text, parameters):
+            line = text[text.rfind("\n", 0, it.end() - 1) + 1 : it.end()]
+            if line.strip() == "{" or not re.match(r" *(requires|ensures|decreases)\b", line):
+                return head, it.end(), end + len(indent) + 3
+    return None
+
+
+def arguments(text, head):
+    """What calls the function with what it was called with, up to its name: the receiver, and the arguments."""
+    begin = text.index("(", head.end())
+    inside = text[begin + 1 : closing(text, begin) - 1]
+    names, receiver, depth, word = [], None, 0, ""
+    for sign in inside + ",":
+        depth += {"(": 1, "[": 1, "<": 1, "{": 1, ")": -1, "]": -1, ">": -1, "}": -1}.get(sign, 0)
+        if sign != "," or depth > 0:
+            word += sign
+            continue
+        word, part = "", word.strip()
+        if re.fullmatch(r"(&(mut )?)?(mut )?self", part):
+            receiver = "self."
+        elif part:
+            name = re.match(r"(?:mut )?(\w+)\s*:", part)
+            if not name:
+                return None
+            names.append(name[1])
+    return receiver, names
+
+
+def read_edit(path):
+    """The file of an edit, and its pairs."""
+    file, pairs = None, []
+    for line in path.read_text().splitlines():
+        key, _, rest = line.partition(": ")
+        if key == "file":
+            file = rest
+        elif key == "old":
+            pairs.append([rest, ""])
+        elif line.startswith("new:"):
+            pairs[-1][1] = line[5:]
+    return file, pairs
+
+
+def beside(text, pairs, number):
+    """The file with a wrong copy of the function beside the right one, which calls it where its number is asked for; or none."""
+    place = text.find(pairs[0][0])
+    found = function_at(text, place) if place >= 0 else None
+    if not found:
+        return None
+    head, body, end = found
+    blocks = re.findall(r"^(?:unsafe )?impl\b[^\n]*", text[: head.start()], re.M)
+    if head["indent"] and blocks and " for " in blocks[-1]:
+        return None
+    whole, called = text[head.start() : end], arguments(text, head)
+    if called is None or any(old not in whole for old, _ in pairs):
+        return None
+    wrong = whole
+    for old, new in pairs:
+        wrong = wrong.replace(old, new, 1)
+    name = f"{head['name']}_wrong_{number}"
+    wrong = HEAD.sub(lambda it: f"{it['indent']}fn {name}" if it["name"] == head["name"] else it[0], wrong, count=1)
+    receiver, names = called
+    receiver = receiver or ("Self::" if head["indent"] else "")
+    taken = f"if crate::wrong_body::number() == {number} {{ return {receiver}{name}({', '.join(names)}); }}\n"
+    return text[: head.start()] + wrong + "\n" + text[head.start() : body] + taken + text[body:]
+
+
+def plant(top, crates):
+    """Puts the wrong bodies of these crates beside the right ones in a copy; answers their names by number, and those left out."""
+    planted, left_out = {}, []
+    for crate in crates:
+        folder, before = top / "crates" / crate, len(planted)
+        for edit in sorted((folder / "must-fail").glob("*.edit")):
+            file, pairs = read_edit(edit)
+            number, source = len(planted) + 1, folder / file
+            text = source.read_text() if file.startswith("src/") else None
+            changed = beside(text, pairs, number) if text else None
+            if changed is None:
+                left_out.append(f"{crate}/{edit.stem}")
+                continue
+            source.write_text(changed)
+            planted[number] = f"{crate}/{edit.stem}"
+        if len(planted) > before:
+            (folder / "src" / "wrong_body.rt").write_text(NUMBER)
+            root = folder / "src" / "lib.rt"
+            lines = root.read_text()
+            at = re.search(r"^(pub )?mod ", lines, re.M)
+            at = at.start() if at else len(lines)
+            root.write_text(lines[:at] + "mod wrong_body;\n" + lines[at:])
+    return planted, left_out
+
+
+def reading_the_environment(text):
+    """The module's text, with the number of each crate read from the environment."""
+    text, found = NUMBER_MADE.subn(lambda it: it[1] + READ, text)
+    if not found:
+        sys.exit("sharpness.py: no wrong body stands in the module")
+    name = b"WRONG_BODY\0"
+    text += f'@wrong_body_name = private constant [{len(name)} x i8] c"WRONG_BODY\\00"\n'
+    text += "@wrong_body_number = internal global i32 -1\n"
+    for declared in ("declare ptr @getenv(ptr)", "declare i32 @atoi(ptr)"):
+        if not re.search(re.escape(declared.split("(")[0]) + r"\(", text):
+            text += declared + "\n"
+    return text
+
+
+def build(tools, top, suite, made, room):
+    """An unproved build of a suite in a copy, with its wrong bodies."""
+    tools.TOP, tools.CRATE = top, top / "crates" / suite
+    (room / suite).mkdir()
+    module = tools.module_of_try(tools.kit(), room / suite)
+    tools.compile_module(tools.kit(), module, made, room / suite, reading_the_environment)
+
+
+def verdict(made, suite, number, seconds):
+    """What the program printed and its status, or none if it did not end in these seconds."""
+    crate = TOP / "crates" / suite
+    given = (crate / "stdin").read_bytes() if (crate / "stdin").exists() else b""
+    environment = dict(os.environ, WRONG_BODY=str(number))
+    try:
+        ran = subprocess.run([made], cwd=crate, input=given, capture_output=True, env=environment, timeout=seconds, check=False)
+    except subprocess.TimeoutExpired:
+        return None
+    return ran.returncode, ran.stdout
+
+
+def measure(tools, suite, crates):
+    with tempfile.TemporaryDirectory() as folder:
+        room, top = Path(folder), Path(folder) / "copy"
+        kept = shutil.ignore_patterns("out", ".git")
+        shutil.copytree(TOP / "crates", top / "crates", ignore=kept)
+        shutil.copy(TOP / "crates.txt", top)
+        shutil.copy(TOP / "HANDLES", top)
+        watched = crates or LAYERS.get(suite, [])
+        planted, left_out = plant(top, [it for it in crates_below(suite) if it in watched])
+        if not planted:
+            sys.exit(f"sharpness.py: no wrong body of {suite} can be tried")
+        made = room / "suite"
+        build(tools, top, suite, made, room)
+        began = time.monotonic()
+        right = verdict(made, suite, 0, SECONDS)
+        seconds = 2 + TIMES * (time.monotonic() - began)
+        expected = (TOP / "crates" / suite / "stdout").read_bytes()
+        if right is None or right[1] != expected:
+            sys.exit(f"sharpness.py: {suite} does not print its stdout")
+        missed = [name for number, name in planted.items() if verdict(made, suite, number, seconds) == right]
+    print(f"{suite}: {len(planted) - len(missed)} of {len(planted)} wrong bodies caught, {len(left_out)} not tried", flush=True)
+    for name in missed:
+        print(f"    not caught: {name}", flush=True)
+    for name in left_out:
+        print(f"    not tried: {name}", flush=True)
+
+
+def main():
+    words = argparse.ArgumentParser(description=__doc__, formatter_class=argparse.RawDescriptionHelpFormatter)
+    words.add_argument("--crates", default="", help="of these crates alone, with commas between")
+    words.add_argument("suites", nargs="+", metavar="SUITE")
+    given = words.parse_args()
+    tools = unproved()
+    for suite in given.suites:
+        measure(tools, suite, [it for it in given.crates.split(",") if it])
+
+
+if __name__ == "__main__":
+    main()
