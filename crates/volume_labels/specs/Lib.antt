@@ -1,3 +1,4 @@
+pub mod Blocks
 pub mod Ebcdic
 pub mod Fields
 pub mod Labels

@@ -1,7 +1,7 @@
 //! Fields of labels and control blocks: numbers, addresses, extents and dates.
 
 ghost use Rattle.std.specs.Prelude.{◌≡◌, ◌+◌, ◌≤◌, length, slice_range};
-ghost use Rattle.volume_labels.specs.Fields.{number_at, track_address_at, record_address_at, relative_address_at, extent_at, date_at};
+ghost use Rattle.volume_labels.specs.Fields.{number_at, track_address_at, record_address_at, relative_address_at, extent_at, date_at, long_number_at, free_tracks_at};
 
 /// The address of a track, as a label says it. A volume need not have such a track.
 #[derive(Clone, Copy, Debug, PartialEq, Eq)]
@@ -52,12 +52,31 @@ pub struct Date {
     pub day: u16,
 }
 
+/// Free tracks, as a control block says them: nothing is known of the three numbers. All are 0 where there are none.
+#[derive(Clone, Copy, Debug, PartialEq, Eq)]
+pub struct FreeTracks {
+    /// The number of the first, track 0 being the first of the volume.
+    pub first: u16,
+    /// How many whole cylinders there are.
+    pub cylinders: u16,
+    /// How many tracks there are beside them.
+    pub tracks: u8,
+}
+
 /// The number in the two bytes from an offset on.
 pub(crate) fn number_at(bytes: &[u8], at: usize) -> u16
     requires { at + 2 ≤ length bytes.now }
     ensures { result ≡ number_at bytes.now at }
 {
     u16::from_be_bytes([bytes[at], bytes[at + 1]])
+}
+
+/// The number in the four bytes from an offset on.
+pub(crate) fn long_number_at(bytes: &[u8], at: usize) -> u32
+    requires { at + 4 ≤ length bytes.now }
+    ensures { result ≡ long_number_at bytes.now at }
+{
+    u32::from(number_at(bytes, at)) * 65536 + u32::from(number_at(bytes, at + 2))
 }
 
 /// The address of a track in the four bytes from an offset on.
@@ -114,6 +133,18 @@ pub(crate) fn date_at(bytes: &[u8], at: usize) -> Date
     Date {
         year: bytes[at],
         day: number_at(bytes, at + 1),
+    }
+}
+
+/// The free tracks in the five bytes from an offset on.
+pub(crate) fn free_tracks_at(bytes: &[u8], at: usize) -> FreeTracks
+    requires { at + 5 ≤ length bytes.now }
+    ensures { result ≡ free_tracks_at bytes.now at }
+{
+    FreeTracks {
+        first: number_at(bytes, at),
+        cylinders: number_at(bytes, at + 2),
+        tracks: bytes[at + 4],
     }
 }
 

@@ -3,6 +3,7 @@
 
 mod blocks;
 mod ebcdic;
+mod extents;
 mod fields;
 mod labels;
 
@@ -11,5 +12,9 @@ pub use crate::blocks::{
     data_set_block,
 };
 pub use crate::ebcdic::{character, shown_character};
-pub use crate::fields::{Date, Extent, RecordAddress, RelativeAddress, TrackAddress};
+pub use crate::extents::{
+    ExtentsBlock, FreeSpaceBlock, IndexesBlock, extents_block, free_space_block, has_key_of,
+    indexes_block,
+};
+pub use crate::fields::{Date, Extent, FreeTracks, RecordAddress, RelativeAddress, TrackAddress};
 pub use crate::labels::{VolumeLabel, volume_label};

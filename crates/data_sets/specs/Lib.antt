@@ -1,0 +1,5 @@
+pub mod Addresses
+pub mod Directories
+pub mod Lines
+pub mod Names
+pub mod Records
