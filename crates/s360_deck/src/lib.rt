@@ -13,6 +13,7 @@ mod reading;
 mod runs;
 mod serial_lists;
 mod spelling;
+mod watched_runs;
 mod writing;
 
 pub use crate::counted_runs::run_counted;
@@ -21,5 +22,6 @@ pub use crate::lines::AnswerLine;
 pub use crate::parsing::parse;
 pub use crate::runs::{RunFault, run};
 pub use crate::serial_lists::serial;
+pub use crate::watched_runs::run_watched;
 pub use s360_channel::drive;
 pub use s360_events::{Answer, Event};

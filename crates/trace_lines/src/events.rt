@@ -1,0 +1,128 @@
+//! The line of an event and of its answer.
+
+use crate::names::{ChannelNames, UnitNames};
+use s360_events::{Answer, Condition, Status};
+use s360_words::Csw;
+use std::fmt;
+
+/// An answer, in words.
+#[derive(Clone, Copy)]
+pub(crate) struct Answered<'a>(pub(crate) &'a Answer);
+
+impl fmt::Display for Answered<'_> {
+    fn fmt<W: fmt::Write>(&self, f: &mut fmt::Formatter<W>) -> fmt::Result {
+        match self.0 {
+            Answer::Sio(unit, condition) => write!(f, "SIO {unit:03X} {}", Started(*condition)),
+            Answer::Tio(unit, condition) => write!(f, "TIO {unit:03X} {}", Tested(*condition)),
+            Answer::Hio(unit, condition) => write!(f, "HIO {unit:03X} {}", Halted(*condition)),
+            Answer::Tch(condition) => write!(f, "TCH {}", TestedChannel(*condition)),
+            Answer::Step(done) => write!(f, "STEP {done}"),
+            Answer::Arrive(unit, true) => write!(f, "ARRIVE {unit:03X}: the arm has come to rest"),
+            Answer::Arrive(unit, false) => write!(f, "ARRIVE {unit:03X}: no arm was in motion"),
+            Answer::Interrupt(None) => write!(f, "INT none"),
+            Answer::Interrupt(Some((unit, csw))) => write!(f, "INT {unit:03X} {}", Word(*csw)),
+            Answer::Reset(None) => write!(f, "RESET"),
+            Answer::Reset(Some((unit, cylinder, head))) => write!(
+                f,
+                "RESET; {unit:03X} has lost the track of cylinder {cylinder} head {head}"
+            ),
+            Answer::Store(true) => write!(f, "STORE"),
+            Answer::Store(false) => write!(f, "STORE outside storage"),
+            Answer::Key(true) => write!(f, "KEY"),
+            Answer::Key(false) => write!(f, "KEY outside storage"),
+            Answer::Show(at, _) => write!(f, "SHOW {at:06X}"),
+        }
+    }
+}
+
+// A channel status word, by its bits.
+#[derive(Clone, Copy)]
+struct Word(Csw);
+
+impl fmt::Display for Word {
+    fn fmt<W: fmt::Write>(&self, f: &mut fmt::Formatter<W>) -> fmt::Result {
+        let csw = self.0;
+        let behind = csw.address.wrapping_sub(8) & 0x00FF_FFFF;
+        if csw.unit.0 != 0 {
+            write!(f, "{}; ", UnitNames(csw.unit))?;
+        }
+        if csw.channel.0 != 0 {
+            write!(f, "{}; ", ChannelNames(csw.channel))?;
+        }
+        write!(
+            f,
+            "last word {behind:06X}; residual count {}; key {:X}",
+            csw.count, csw.key
+        )
+    }
+}
+
+// Two bytes of status.
+#[derive(Clone, Copy)]
+struct Stored(Status);
+
+impl fmt::Display for Stored {
+    fn fmt<W: fmt::Write>(&self, f: &mut fmt::Formatter<W>) -> fmt::Result {
+        write!(f, "CC 1, status stored: {}", UnitNames(self.0.unit))?;
+        if self.0.channel.0 != 0 {
+            write!(f, "{}", ChannelNames(self.0.channel))?;
+        }
+        Ok(())
+    }
+}
+
+#[derive(Clone, Copy)]
+struct Started(Condition<Status>);
+
+impl fmt::Display for Started {
+    fn fmt<W: fmt::Write>(&self, f: &mut fmt::Formatter<W>) -> fmt::Result {
+        match self.0 {
+            Condition::Zero => write!(f, "CC 0, started"),
+            Condition::Stored(status) => write!(f, "{}", Stored(status)),
+            Condition::Two => write!(f, "CC 2, the channel is busy"),
+            Condition::Three => write!(f, "CC 3, no such device"),
+        }
+    }
+}
+
+#[derive(Clone, Copy)]
+struct Tested(Condition<Csw>);
+
+impl fmt::Display for Tested {
+    fn fmt<W: fmt::Write>(&self, f: &mut fmt::Formatter<W>) -> fmt::Result {
+        match self.0 {
+            Condition::Zero => write!(f, "CC 0, available"),
+            Condition::Stored(csw) => write!(f, "CC 1, CSW stored: {}", Word(csw)),
+            Condition::Two => write!(f, "CC 2, the channel is busy"),
+            Condition::Three => write!(f, "CC 3, no such device"),
+        }
+    }
+}
+
+#[derive(Clone, Copy)]
+struct Halted(Condition<Status>);
+
+impl fmt::Display for Halted {
+    fn fmt<W: fmt::Write>(&self, f: &mut fmt::Formatter<W>) -> fmt::Result {
+        match self.0 {
+            Condition::Zero => write!(f, "CC 0, an interruption is pending"),
+            Condition::Stored(status) => write!(f, "{}", Stored(status)),
+            Condition::Two => write!(f, "CC 2, the program is cut"),
+            Condition::Three => write!(f, "CC 3, no such device"),
+        }
+    }
+}
+
+#[derive(Clone, Copy)]
+struct TestedChannel(Condition<()>);
+
+impl fmt::Display for TestedChannel {
+    fn fmt<W: fmt::Write>(&self, f: &mut fmt::Formatter<W>) -> fmt::Result {
+        match self.0 {
+            Condition::Zero => write!(f, "CC 0, available"),
+            Condition::Stored(()) => write!(f, "CC 1, an interruption is pending"),
+            Condition::Two => write!(f, "CC 2, a program runs"),
+            Condition::Three => write!(f, "CC 3, not operational"),
+        }
+    }
+}

@@ -1,0 +1,14 @@
+//! A trace of channel programs: a line for each channel command word that was fetched, and one for each event, from what is seen of
+//! a channel between two units.
+#![tactic(auto)]
+
+mod events;
+mod found;
+mod line;
+mod met;
+mod names;
+mod notes;
+mod reasons;
+mod tracer;
+
+pub use crate::tracer::{TraceFault, Tracer};

@@ -1,0 +1,151 @@
+//! Why a program ended with a check, in words.
+
+use bitflags::Flags;
+use ckd_sense::{Command, CommandCode, Sense};
+use s360_words::{ChannelStatus, Csw, Storage, UnitStatus};
+
+/// Why a command ended in unit check, by the sense and by its code (component descriptions, 'Sense'; which bits go together is the
+/// project's profile).
+pub(crate) fn of_unit_check(code: u8, sense: Sense) -> &'static str {
+    if sense.contains(Sense::EQUIPMENT_CHECK) {
+        return "the image's file could not be read or written";
+    }
+    if sense.contains(Sense::UNREADABLE_TRACK) {
+        return "the track can't be read";
+    }
+    if sense.contains(Sense::TRACK_OVERRUN) {
+        return "the record does not fit the track";
+    }
+    if sense.contains(Sense::SEEK_CHECK) {
+        return "the volume has no such cylinder or head";
+    }
+    if sense.contains(Sense::INVALID_SEQUENCE) {
+        return of_sequence(code);
+    }
+    if sense.contains(Sense::WRITE_NOT_ALLOWED) {
+        return "the file mask does not allow this write";
+    }
+    if sense.contains(Sense::COMMAND_REJECT) {
+        return of_reject(code);
+    }
+    if sense.contains(Sense::FILE_PROTECTED) {
+        return of_protection(code);
+    }
+    if sense.contains(Sense::NO_RECORD_FOUND) {
+        return "the index passed twice, and no such area was found";
+    }
+    if sense.contains(Sense::END_OF_CYLINDER) {
+        return "the cylinder's last head was passed";
+    }
+    "see the sense bytes"
+}
+
+// A command that may not stand behind those before it.
+fn of_sequence(code: u8) -> &'static str {
+    match command_of(code) {
+        Some(Command::SetFileMask) => "a second Set File Mask in one program",
+        Some(Command::WriteData) =>
+            "no Search ID Equal or Search Key Equal that found its record stands right before it",
+        Some(Command::WriteKeyAndData) =>
+            "no Search ID Equal that found its record stands right before it",
+        Some(Command::WriteR0) =>
+            "no Search HA Equal that was equal, and no Write Home Address, stands right before it",
+        _ =>
+            "no search that found its record equal, and no write that made one, stands right before it",
+    }
+}
+
+// A command that is none, or that was not given what it needs.
+fn of_reject(code: u8) -> &'static str {
+    match command_of(code) {
+        None => "the drive has no such command",
+        Some(Command::WriteHomeAddress) =>
+            "not the track's own home address with flag 00, or too few bytes of it",
+        Some(_) => "too few bytes came of its argument",
+    }
+}
+
+// A command that the file mask does not allow.
+fn of_protection(code: u8) -> &'static str {
+    match command_of(code) {
+        Some(
+            Command::Seek
+            | Command::SeekCylinder
+            | Command::SeekHead
+            | Command::Recalibrate
+            | Command::ReadIpl,
+        ) => { "the file mask does not allow this seek" }
+        _ => "the file mask does not allow the next head",
+    }
+}
+
+fn command_of(code: u8) -> Option<Command> {
+    let CommandCode {
+        command,
+        multi_track: _,
+    } = Command::decode(code)?;
+    Some(command)
+}
+
+/// Why the channel ended a program, by the word whose fetch was the last to be tried, if it did (Principles of Operation, 'Program
+/// Check', 'Protection Check', 'Incorrect Length').
+pub(crate) fn of_channel(
+    csw: &Csw,
+    at: u32,
+    fetched: bool,
+    storage: &Storage,
+) -> Option<&'static str> {
+    if csw.channel.contains(ChannelStatus::PROGRAM_CHECK) {
+        return Some(if fetched {
+            "an address under the word is outside storage"
+        } else {
+            of_word(at, storage)
+        });
+    }
+    if csw.channel.contains(ChannelStatus::PROTECTION_CHECK) {
+        return Some("the key of the block is not that of the program");
+    }
+    if csw.channel.contains(ChannelStatus::INCORRECT_LENGTH) {
+        return Some(if csw.count > 0 {
+            "the count is longer than what the drive had or wanted"
+        } else {
+            "the count is shorter than what the drive had or wanted"
+        });
+    }
+    None
+}
+
+// What is wrong with a word that was not taken.
+fn of_word(at: u32, storage: &Storage) -> &'static str {
+    if at % 8 != 0 {
+        return "the word does not stand at a multiple of 8";
+    }
+    let Some(ccw) = storage.ccw_at(at) else {
+        return "the word is outside storage";
+    };
+    if ccw.is_transfer() {
+        return "a Transfer In Channel may not stand here";
+    }
+    if ccw.count == 0 {
+        return "the count of the word is zero";
+    }
+    if ccw.has_reserved_flags() {
+        return "a reserved bit of the word is on";
+    }
+    "the code of the word is no command of a channel"
+}
+
+/// Whether unit check is on.
+pub(crate) fn has_unit_check(unit: UnitStatus) -> bool {
+    unit.contains(UnitStatus::UNIT_CHECK)
+}
+
+/// Whether unit exception is on.
+pub(crate) fn has_unit_exception(unit: UnitStatus) -> bool {
+    unit.contains(UnitStatus::UNIT_EXCEPTION)
+}
+
+/// Whether status modifier is on.
+pub(crate) fn has_status_modifier(unit: UnitStatus) -> bool {
+    unit.contains(UnitStatus::STATUS_MODIFIER)
+}
