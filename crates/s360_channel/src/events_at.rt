@@ -14,7 +14,7 @@ use ckd_image::ImageStore;
 use s360_events::{Answer, Event, ShowCount};
 
 impl<S: ImageStore> Channel<S> {
-    /// Does what an event asks, and answers it. It takes no memory, and calls a store at most twice for each unit of a step, and
+    /// Does what an event asks, and answers it. It takes no memory, and calls a store at most twice for each unit of a step or run, and
     /// once at Halt I/O and at a reset.
     pub fn react(&mut self, event: &Event) -> Answer
         ensures does { (m : Machine) → StandsFor self.old m → Does (event_seen event.now) m (answer_seen result) self.old self.new }
@@ -27,6 +27,7 @@ impl<S: ImageStore> Channel<S> {
             Event::Hio(address) => Answer::Hio(*address, self.hio(*address)),
             Event::Tch => Answer::Tch(self.tch()),
             Event::Step(units) => Answer::Step(self.step(*units)),
+            Event::Run(units) => Answer::Run(self.run_on(*units).units),
             Event::Arrive(address) => Answer::Arrive(*address, self.arrive(*address)),
             Event::Interrupt => Answer::Interrupt(self.interrupt()),
             Event::Reset => Answer::Reset(self.reset().unsaved),

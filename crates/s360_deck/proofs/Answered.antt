@@ -13,6 +13,7 @@ fits (event.Tio a) (answer.Tio b c) is = tt
 fits (event.Hio a) (answer.Hio b c) is = tt
 fits event.Tch (answer.Tch c) is = tt
 fits (event.Step k) (answer.Step done) is = tt
+fits (event.Run k) (answer.Run done) is = tt
 fits (event.Arrive a) (answer.Arrive b arrived) is = tt
 fits event.Interrupt (answer.Interrupt i) is = tt
 fits event.Reset (answer.Reset unsaved) is = tt

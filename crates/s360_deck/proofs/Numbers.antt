@@ -10,9 +10,9 @@ one_digit_more base value digit k small below fits =
     let power : 16 ^ (k + 1) ≡ 16 ^ k * 16 = rw add-one (pow-suc 16 k) in
     omega (arith, power, mul-le-mul_right value small)
 
--- six digits
-pub six_digits : (value k : ℕ) → k ≤ 6 → value < 16 ^ k → value < 2 ^ 32
-six_digits value k short fits = omega (arith, pow-le-pow_right {n = 16} (lit< tt) short)
+-- eleven digits
+pub eleven_digits : (value k : ℕ) → k ≤ 11 → value < 16 ^ k → value < 2 ^ 64
+eleven_digits value k short fits = omega (arith, pow-le-pow_right {n = 16} (lit< tt) short)
 
 -- the number behind which the next digit is read
 pub next_digit : (value base digit : ℕ) (word : List ℕ) (k : ℕ) → k < length word → Some digit ≡ digit_of base (get_or word k 0)

@@ -12,7 +12,7 @@ use Rattle.s360_deck.specs.declared.spelling.EventName.{EventName}
 use Rattle.s360_deck.specs.declared.spelling.EventName.TheVariants as name
 use Rattle.s360_deck.specs.declared.spelling.LineFault.{LineFault}
 use Rattle.s360_deck.specs.declared.spelling.LineFault.TheVariants as line
-use Rattle.s360_deck.specs.Digits.{unit_address_of, storage_address_of, key_of, count_within, stored_bytes_of}
+use Rattle.s360_deck.specs.Digits.{unit_address_of, storage_address_of, key_of, count_within, run_units_of, stored_bytes_of}
 
 -- Lines and words.
 
@@ -47,12 +47,13 @@ name_of word =
     else (if bytes_eq word (codes "HIO") then Some name.Hio
     else (if bytes_eq word (codes "TCH") then Some name.Tch
     else (if bytes_eq word (codes "STEP") then Some name.Step
+    else (if bytes_eq word (codes "RUN") then Some name.Run
     else (if bytes_eq word (codes "INT") then Some name.Int
     else (if bytes_eq word (codes "RESET") then Some name.Reset
     else (if bytes_eq word (codes "STORE") then Some name.Store
     else (if bytes_eq word (codes "KEY") then Some name.Key
     else (if bytes_eq word (codes "SHOW") then Some name.Show
-    else None))))))))))
+    else None)))))))))))
 
 -- no operand; one; or two
 abbrev pub without_operand : List (List ℕ) → Event → Option Event
@@ -71,6 +72,11 @@ unit_address_in words = option_and_then unit_address_of (only words)
 
 abbrev pub units_in : List (List ℕ) → Option ℕ
 units_in words = option_and_then (count_within 0 65535) (only words)
+
+-- the units of a run: where no operand says how many, 16,777,216 at most
+abbrev pub run_units_in : List (List ℕ) → Option ℕ
+run_units_in [] = Some 16777216
+run_units_in words = option_and_then run_units_of (only words)
 
 abbrev pub joined : List (List ℕ) → List ℕ
 joined words = flat_map (λ word. word) words
@@ -94,6 +100,7 @@ event_of name.Tio words = option_map event.Tio (unit_address_in words)
 event_of name.Hio words = option_map event.Hio (unit_address_in words)
 event_of name.Tch words = without_operand words event.Tch
 event_of name.Step words = option_map event.Step (units_in words)
+event_of name.Run words = option_map event.Run (run_units_in words)
 event_of name.Arrive words = option_map event.Arrive (unit_address_in words)
 event_of name.Int words = without_operand words event.Interrupt
 event_of name.Reset words = without_operand words event.Reset

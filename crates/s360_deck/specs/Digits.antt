@@ -37,6 +37,10 @@ within least most n = if nat_le least n && nat_le n most then Some n else None
 abbrev pub count_within : (least most : ℕ) → List ℕ → Option ℕ
 count_within least most word = option_and_then (within least most) (number_of 10 1 5 word)
 
+-- the units of a run: one to ten decimal digits, from 1 to 4,294,967,295
+abbrev pub run_units_of : List ℕ → Option ℕ
+run_units_of word = option_and_then (within 1 4294967295) (number_of 10 1 10 word)
+
 -- the bytes that pairs of hexadecimal digits spell
 abbrev pub bytes_of : List ℕ → Option (List ℕ)
 bytes_of [] = Some []

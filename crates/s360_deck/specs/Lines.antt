@@ -9,7 +9,7 @@ use Rattle.s360_events.specs.declared.conditions.Status.{Status}
 use Rattle.s360_events.specs.declared.conditions.Condition.{Condition}
 use Rattle.s360_events.specs.declared.conditions.Condition.TheVariants as condition
 use Rattle.s360_events.specs.declared.answers.Answer.{Answer}
-use Rattle.s360_events.specs.declared.answers.Answer.TheVariants.{Sio, Tio, Hio, Tch, Step, Arrive, Interrupt, Reset, Store, Key, Show}
+use Rattle.s360_events.specs.declared.answers.Answer.TheVariants.{Sio, Tio, Hio, Tch, Step, Run, Arrive, Interrupt, Reset, Store, Key, Show}
 
 abbrev pub status_text : Status → List ℕ
 status_text status = bytes_text (status.unit.0 ∷ status.channel.0 ∷ [])
@@ -34,6 +34,7 @@ answer_text (Tio address c) = codes "TIO " ++ hexadecimal 3 address ++ condition
 answer_text (Hio address c) = codes "HIO " ++ hexadecimal 3 address ++ condition_text (λ s. after_space (status_text s)) c
 answer_text (Tch c) = codes "TCH" ++ condition_text (λ nothing. []) c
 answer_text (Step done) = codes "STEP " ++ decimal done
+answer_text (Run done) = codes "RUN " ++ decimal done
 answer_text (Arrive address true) = codes "ARRIVE " ++ hexadecimal 3 address ++ codes " YES"
 answer_text (Arrive address false) = codes "ARRIVE " ++ hexadecimal 3 address ++ codes " NO"
 answer_text (Interrupt None) = codes "INT NONE"

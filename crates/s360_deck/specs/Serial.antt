@@ -1,7 +1,7 @@
 -- The serial list of a list of events and the answers that were given to them.
-use Rattle.std.specs.Prelude.{◌≡◌, ◌≤◌, ℕ, ◌+◌, List, [], ◌∷◌, ◌++◌, Bool, map, None}
+use Rattle.std.specs.Prelude.{◌≡◌, ◌≤◌, ℕ, ◌+◌, List, [], ◌∷◌, ◌++◌, Bool, map, Option, Some, None, if◌then◌else◌}
 use Rattle.s360_laws.specs.Events as machine
-use Rattle.s360_laws.specs.SerialLists.{serial_list, steps_ahead, arrivals_last, steps_joined}
+use Rattle.s360_laws.specs.SerialLists.{serial_list, is_step, steps_ahead, arrivals_last, steps_joined}
 use Rattle.s360_events.specs.declared.events.Event.{Event}
 use Rattle.s360_events.specs.declared.events.Event.TheVariants as event
 use Rattle.s360_events.specs.declared.answers.Answer.{Answer}
@@ -24,6 +24,7 @@ Fits (event.Tio a) (answer.Tio b c) = Unit {0}
 Fits (event.Hio a) (answer.Hio b c) = Unit {0}
 Fits event.Tch (answer.Tch c) = Unit {0}
 Fits (event.Step k) (answer.Step d) = Unit {0}
+Fits (event.Run k) (answer.Run d) = Unit {0}
 Fits (event.Arrive a) (answer.Arrive b y) = Unit {0}
 Fits event.Interrupt (answer.Interrupt i) = Unit {0}
 Fits event.Reset (answer.Reset u) = Unit {0}
@@ -54,6 +55,14 @@ serial_events events answers = events_in (serial_list (exchanges_of events answe
 
 -- Parts of the rules.
 
+-- how many units a step did, by its answer
+abbrev pub units_of : machine.Answer → Option ℕ
+units_of (machine.Stepped done) = Some done
+units_of answer = None
+
+abbrev pub units_done : machine.Exchange → Option ℕ
+units_done t = if is_step t then units_of t.2 else None
+
 -- one exchange more, of those that are ordered and those that are held, with steps of the program ahead or not: whatever
 -- comes behind, the list is the same
 abbrev pub Places : (ordered ordered_now held held_now : List Exchange) → (inside : Bool) → Exchange → (ahead now : Bool) → Type 0
@@ -66,4 +75,4 @@ Places ordered ordered_now held held_now inside t ahead now =
 abbrev pub Joins : (events events_now : List machine.Event) → (units : ℕ) → machine.Exchange → (now : ℕ) → Type 0
 Joins events events_now units t now =
     ((rest : List machine.Exchange) → events ++ events_in (steps_joined units (t ∷ rest)) ≡ events_now ++ events_in (steps_joined now rest))
-    × (now ≤ units + 65535)
+    × (now ≤ units + 4294967295)

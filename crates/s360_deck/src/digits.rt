@@ -1,7 +1,7 @@
 //! Numbers in digits. Letters are capitals.
 
 ghost use Rattle.std.specs.Prelude.{◌≡◌, ◌^◌, ◌≤◌, ◌<◌, option_map, length, IfSome};
-ghost use Rattle.s360_deck.specs.Digits.{digit_of, number_of, unit_address_of, storage_address_of, key_of, count_within, bytes_of};
+ghost use Rattle.s360_deck.specs.Digits.{digit_of, number_of, unit_address_of, storage_address_of, key_of, count_within, run_units_of, bytes_of};
 
 use arrayvec::ArrayVec;
 use s360_events::{ShowCount, StorageKey};
@@ -18,7 +18,8 @@ pub(crate) fn unit_address(word: &[u8]) -> Option<u16>
 pub(crate) fn storage_address(word: &[u8]) -> Option<u32>
     ensures { result ≡ storage_address_of word.now }
 {
-    number(word, 16, 1, 6)
+    let address = number(word, 16, 1, 6)?;
+    Some(address as u32)
 }
 
 /// A storage key: one hexadecimal digit.
@@ -43,10 +44,21 @@ pub(crate) fn count(word: &[u8], least: u16, most: u16) -> Option<u16>
     ensures within { IfSome result (λ n. n ≤ most) }
 {
     let value = number(word, 10, 1, 5)?;
-    if value < u32::from(least) || u32::from(most) < value {
+    if value < u64::from(least) || u64::from(most) < value {
         return None;
     }
     Some(value as u16)
+}
+
+/// The units of a run: one to ten decimal digits, from 1 to 4,294,967,295.
+pub(crate) fn run_units(word: &[u8]) -> Option<u32>
+    ensures { result ≡ run_units_of word.now }
+{
+    let value = number(word, 10, 1, 10)?;
+    if value < 1 || 4_294_967_295 < value {
+        return None;
+    }
+    Some(value as u32)
 }
 
 /// The bytes that pairs of hexadecimal digits spell.
@@ -80,19 +92,19 @@ fn digit(byte: u8, base: u32) -> Option<u32>
 }
 
 // The number that a word of `least` to `most` digits spells.
-fn number(word: &[u8], base: u32, least: usize, most: usize) -> Option<u32>
+fn number(word: &[u8], base: u32, least: usize, most: usize) -> Option<u64>
     requires base { base ≤ 16 }
-    requires most { most ≤ 6 }
+    requires most { most ≤ 10 }
     ensures value { result ≡ number_of base least most word.now }
     ensures bound { IfSome result (λ value. value < 16 ^ most) }
 {
     if word.len() < least || most < word.len() {
         return None;
     }
-    let mut value = 0;
+    let mut value: u64 = 0;
     for byte in word {
         let next = digit(*byte, base)?;
-        value = base * value + next;
+        value = u64::from(base) * value + u64::from(next);
     }
     Some(value)
 }

@@ -54,6 +54,10 @@ pub(crate) fn put_answer(line: &mut Line, answer: &Answer)
             line.push_str("STEP ");
             put_decimal(line, u32::from(*done));
         }
+        Answer::Run(done) => {
+            line.push_str("RUN ");
+            put_decimal(line, *done);
+        }
         Answer::Arrive(address, arrived) => {
             put_named(line, "ARRIVE ", *address);
             line.push_str(if *arrived { " YES" } else { " NO" });

@@ -3,10 +3,10 @@
 ghost use Rattle.std.specs.Prelude.{◌≡◌, ◌⊎◌, ◌==◌, map, option_map, length, Err, IfOk, OnOk, IfErr};
 ghost use Rattle.std.specs.List.{before_first, after_first, position};
 ghost use Rattle.s360_deck.specs.Digits.{stored_bytes_of};
-ghost use Rattle.s360_deck.specs.Deck.{without_return, is_blank, is_empty, words_of, name_of, only, two_of, unit_address_in, units_in, joined, store_of, set_key_of, show_of, event_of, is_comment, words_read, line_read, fault_at, appended, events_of, IsRead};
+ghost use Rattle.s360_deck.specs.Deck.{without_return, is_blank, is_empty, words_of, name_of, only, two_of, unit_address_in, units_in, run_units_in, joined, store_of, set_key_of, show_of, event_of, is_comment, words_read, line_read, fault_at, appended, events_of, IsRead};
 
 use crate::digits::{
-    bytes_of_digits, count, show_count, storage_address, storage_key, unit_address,
+    bytes_of_digits, count, run_units, show_count, storage_address, storage_key, unit_address,
 };
 use crate::fault::DeckFault;
 use crate::spelling::{EventName, LineFault};
@@ -16,6 +16,9 @@ use std::alloc::{AllocError, Global};
 
 /// The most bytes of a line, without LF and a CR before it.
 const LINE_LENGTH: usize = 512;
+
+/// How many units a run does at most whose line does not say it.
+const RUN_UNITS: u32 = 16_777_216;
 
 /// Reads a deck. Each line ends with LF, which the last may lack; one CR at a line's end is dropped. A line has the name of
 /// an event and its operands, separated by spaces and tabs, in capitals or small letters; or no word, or a comment that
@@ -172,6 +175,7 @@ fn event_name(word: &[u8]) -> Option<EventName>
         b"HIO" => Some(EventName::Hio),
         b"TCH" => Some(EventName::Tch),
         b"STEP" => Some(EventName::Step),
+        b"RUN" => Some(EventName::Run),
         b"INT" => Some(EventName::Int),
         b"RESET" => Some(EventName::Reset),
         b"STORE" => Some(EventName::Store),
@@ -191,6 +195,7 @@ fn event(name: EventName, operands: &[&[u8]]) -> Option<Event>
         EventName::Hio => Some(Event::Hio(only_unit_address(operands)?)),
         EventName::Tch => operands.is_empty().then_some(Event::Tch),
         EventName::Step => Some(Event::Step(only_units(operands)?)),
+        EventName::Run => Some(Event::Run(most_units(operands)?)),
         EventName::Arrive => Some(Event::Arrive(only_unit_address(operands)?)),
         EventName::Int => operands.is_empty().then_some(Event::Interrupt),
         EventName::Reset => operands.is_empty().then_some(Event::Reset),
@@ -220,6 +225,16 @@ fn only_units(operands: &[&[u8]]) -> Option<u16>
     ensures { result ≡ units_in (map (λ w. w.now) operands.now) }
 {
     count(only_word(operands)?, 0, 65535)
+}
+
+// How many units a run does at most.
+fn most_units(operands: &[&[u8]]) -> Option<u32>
+    ensures { result ≡ run_units_in (map (λ w. w.now) operands.now) }
+{
+    if operands.is_empty() {
+        return Some(RUN_UNITS);
+    }
+    run_units(only_word(operands)?)
 }
 
 // A storage address, and bytes in one word or in several.

@@ -80,6 +80,7 @@ fn changes_nothing(exchange: Exchange) -> bool
         (Event::Hio(_), Answer::Hio(_, condition)) => halts_nothing(condition),
         (Event::Tch, _) | (Event::Show(_, _), _) => true,
         (Event::Step(_), Answer::Step(done)) => *done == 0,
+        (Event::Run(_), Answer::Run(done)) => *done == 0,
         (Event::Arrive(_), Answer::Arrive(_, arrived)) => !*arrived,
         (Event::Interrupt, Answer::Interrupt(given)) => given.is_none(),
         (Event::Reset, _) => false,
@@ -113,13 +114,27 @@ fn halts_nothing(condition: &Condition<Status>) -> bool
 impl Exchange<'_> {
     ghost use Rattle.std.specs.Prelude.{◌≡◌};
     ghost use Rattle.s360_laws.specs.SerialLists.{is_step as does_units, is_arrival as arrives, is_between as stands_between};
-    ghost use Rattle.s360_deck.specs.Serial.{exchange_seen};
+    ghost use Rattle.s360_deck.specs.Serial.{exchange_seen, units_done};
 
     // Whether it is a step.
     fn is_step(&self) -> bool
         ensures { result ≡ does_units (exchange_seen self.now) }
     {
-        matches!(self.event, Event::Step(_))
+        matches!(self.event, Event::Step(_) | Event::Run(_))
+    }
+
+    // How many units it did, if it is a step.
+    fn units_done(&self) -> Option<u32>
+        ensures { result ≡ units_done (exchange_seen self.now) }
+    {
+        if !self.is_step() {
+            return None;
+        }
+        match self.answer {
+            Answer::Step(done) => Some(u32::from(*done)),
+            Answer::Run(done) => Some(*done),
+            _ => None,
+        }
     }
 
     // Whether it is an arrival.
@@ -229,8 +244,8 @@ fn join(events: &mut Vec<Event>, units: u128, exchange: Exchange) -> Result<u128
     requires { units < 2 ^ 100 }
     ensures { IfOk result (λ more. Joins (map event_seen events.old.items) (map event_seen events.new.items) units (exchange_seen exchange.entry) more) }
 {
-    if let (Event::Step(_), Answer::Step(done)) = (exchange.event, exchange.answer) {
-        return Ok(units + u128::from(*done));
+    if let Some(done) = exchange.units_done() {
+        return Ok(units + u128::from(done));
     }
     push_steps(events, units)?;
     events.push(exchange.event.copy())?;

@@ -13,6 +13,8 @@ pub enum EventName {
     Tch,
     /// Units of the running program.
     Step,
+    /// The running program, until it ends.
+    Run,
     /// An arm arrives.
     Arrive,
     /// An interruption.

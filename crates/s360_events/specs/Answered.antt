@@ -12,6 +12,7 @@ IsAnswered (event.Tio a) (answer.Tio b c) = b ≡ a
 IsAnswered (event.Hio a) (answer.Hio b c) = b ≡ a
 IsAnswered event.Tch (answer.Tch c) = Unit {0}
 IsAnswered (event.Step k) (answer.Step done) = Unit {0}
+IsAnswered (event.Run k) (answer.Run done) = Unit {0}
 IsAnswered (event.Arrive a) (answer.Arrive b arrived) = b ≡ a
 IsAnswered event.Interrupt (answer.Interrupt i) = Unit {0}
 IsAnswered event.Reset (answer.Reset unsaved) = Unit {0}

@@ -17,6 +17,8 @@ pub enum Answer {
     Tch(Condition<()>),
     /// How many units were done.
     Step(u16),
+    /// How many units were done until the program ended, or as many as were allowed.
+    Run(u32),
     /// Whether the drive at an address had an arm in motion, which has arrived now.
     Arrive(u16, bool),
     /// The address that interrupted, if one did, and the channel status word that was stored.

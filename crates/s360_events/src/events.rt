@@ -89,6 +89,8 @@ pub enum Event {
     Tch,
     /// The running program does so many units, unless it ends first.
     Step(u16),
+    /// The running program does units until it ends, but at most so many: a step of a larger number.
+    Run(u32),
     /// The arm of the drive at an input/output address arrives.
     Arrive(u16),
     /// The processor takes an input/output interruption, if one is pending.
@@ -114,6 +116,7 @@ impl Event {
             Event::Hio(address) => Event::Hio(*address),
             Event::Tch => Event::Tch,
             Event::Step(units) => Event::Step(*units),
+            Event::Run(units) => Event::Run(*units),
             Event::Arrive(address) => Event::Arrive(*address),
             Event::Interrupt => Event::Interrupt,
             Event::Reset => Event::Reset,

@@ -72,6 +72,7 @@ fn react<S: ImageStore, W: Watcher>(
 {
     match event {
         Event::Step(units) => Answer::Step(step(channel, u32::from(*units), watcher) as u16),
+        Event::Run(units) => Answer::Run(step(channel, *units, watcher)),
         _ => channel.react(event),
     }
 }

@@ -14,7 +14,7 @@ use anyhow::Result;
 use std::fs;
 
 /// The groups, each a file.
-const GROUPS: [&str; 17] = [
+const GROUPS: [&str; 18] = [
     "worked",
     "seeks",
     "reads",
@@ -32,6 +32,7 @@ const GROUPS: [&str; 17] = [
     "drives",
     "storages",
     "channels",
+    "run",
 ];
 
 fn main(rt: HostRuntime) -> Result<()> {

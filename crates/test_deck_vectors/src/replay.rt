@@ -9,11 +9,12 @@ use arrayvec::ArrayVec;
 use ckd_image::{Image, ImageStore, MemoryStore, image_len};
 use ckd_track::{DriveModel, Geometry};
 use s360_channel::Channel;
-use s360_deck::{RunFault, run};
+use s360_deck::{RunFault, run, run_watched};
 use s360_words::Storage;
 use sha2::{Digest, Sha256};
 use std::alloc::Global;
 use std::{fmt, fs};
+use trace_lines::Tracer;
 
 /// How what comes of a vector differs from what must.
 #[derive(Clone, Copy, Debug, PartialEq, Eq)]
@@ -46,12 +47,20 @@ const HEADER: usize = 512;
 
 type Disks = Channel<MemoryStore>;
 
-/// Runs the deck of a vector, and says how what comes of it differs from what must.
+/// Runs the deck of a vector, and runs it again with a trace, and says how what comes of it differs from what must.
 pub(crate) fn replay(rt: &HostRuntime, vector: &Vector) -> Result<Option<Difference>> {
+    match replay_once(rt, vector, false)? {
+        None => replay_once(rt, vector, true),
+        difference => Ok(difference),
+    }
+}
+
+// Runs the deck of a vector, traced or not.
+fn replay_once(rt: &HostRuntime, vector: &Vector, traced: bool) -> Result<Option<Difference>> {
     let alloc = rt.alloc();
     let mut channel = channel_of(alloc, vector)?;
     attach_all(rt, &mut channel, vector)?;
-    match answers_differ(alloc, &mut channel, vector)? {
+    match answers_differ(alloc, &mut channel, vector, traced)? {
         None => images_differ(alloc, vector, channel),
         difference => Ok(difference),
     }
@@ -65,14 +74,21 @@ fn attach_all(rt: &HostRuntime, channel: &mut Disks, vector: &Vector) -> Result<
     Ok(())
 }
 
-// Runs the deck of a vector, and says how its fault or its answers differ.
+// Runs the deck of a vector, and says how its fault or its answers differ. The text of a trace is thrown away.
 fn answers_differ(
     alloc: Global,
     channel: &mut Disks,
     vector: &Vector,
+    traced: bool,
 ) -> Result<Option<Difference>> {
     let mut output = Vec::new(alloc);
-    let ran = run(alloc, &mut vector.deck.as_slice(), &mut output, channel);
+    let mut deck = vector.deck.as_slice();
+    let ran = if traced {
+        let mut tracer = Tracer::new(Vec::new(alloc));
+        run_watched(alloc, &mut deck, &mut output, channel, &mut tracer)
+    } else {
+        run(alloc, &mut deck, &mut output, channel)
+    };
     if fault_of(alloc, ran)?.as_str() != vector.fault.unwrap_or("") {
         return Ok(Some(Difference::Fault));
     }

@@ -17,6 +17,33 @@ const ADDRESS_WORD: u32 = 0x48;
 
 /// A list for so many drives: tables of arguments and chains are stored first.
 pub(crate) fn random_list(alloc: Global, chance: &mut Chance, drives: u32) -> Result<Vec<Event>> {
+    let mut events = first_events(alloc, chance)?;
+    let turns = chance.below(16).saturating_add(8);
+    for _ in 0..turns {
+        add_turn(chance, drives, &mut events)?;
+    }
+    Ok(events)
+}
+
+/// A list of so many events, for so many drives.
+pub(crate) fn long_list(
+    alloc: Global,
+    chance: &mut Chance,
+    drives: u32,
+    length: usize,
+) -> Result<Vec<Event>> {
+    let mut events = first_events(alloc, chance)?;
+    for _ in 0..length {
+        if events.len() < length {
+            add_turn(chance, drives, &mut events)?;
+        }
+    }
+    events.truncate(length);
+    Ok(events)
+}
+
+// Tables of arguments and chains are stored, and the channel address word.
+fn first_events(alloc: Global, chance: &mut Chance) -> Result<Vec<Event>> {
     let mut events = Vec::new(alloc);
     for table in [SEEKS, IDENTIFIERS, MASKS, HOME_ADDRESSES, RECORDS] {
         events.push(store_table(chance, table))?;
@@ -25,17 +52,19 @@ pub(crate) fn random_list(alloc: Global, chance: &mut Chance, drives: u32) -> Re
         events.push(store_chain(chance, place))?;
     }
     events.push(store_address_word(chance))?;
-    let turns = chance.below(16).saturating_add(8);
-    for _ in 0..turns {
-        if chance.percent(40) {
-            add_program(chance, drives, &mut events)?;
-        } else if chance.percent(10) {
-            add_moving_arm(chance, drives, &mut events)?;
-        } else {
-            events.push(random_event(chance, drives))?;
-        }
-    }
     Ok(events)
+}
+
+// A program, an arm that moves, or one event.
+fn add_turn(chance: &mut Chance, drives: u32, events: &mut Vec<Event>) -> Result<()> {
+    if chance.percent(40) {
+        add_program(chance, drives, events)?;
+    } else if chance.percent(10) {
+        add_moving_arm(chance, drives, events)?;
+    } else {
+        events.push(random_event(chance, drives))?;
+    }
+    Ok(())
 }
 
 // A start, other events between its steps, and its ends.

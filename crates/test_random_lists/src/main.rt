@@ -1,7 +1,8 @@
 //! Lists of events by chance at a channel with one to four drives. Each is compared with its serial list at a fresh channel, and its
 //! answers are looked at one by one, whether they may come. In other lists calls of a store fail, once or for good: up to the first fault
 //! all is as without it, and at most the slot differs that could not be saved; each fault is reported by its event; and the list
-//! goes on past it, with answers that may come. It is printed how many lists were tried, and how many came out as they must.
+//! goes on past it, with answers that may come. Each list comes to the same where it is watched, and so does a long one that is traced.
+//! It is printed how many lists were tried, and how many came out as they must.
 #![tactic(auto)]
 
 mod chains;
@@ -9,17 +10,20 @@ mod chance;
 mod faults;
 mod ledger;
 mod lists;
+mod looks;
 mod telling;
 mod watching;
 
 use crate::chance::Chance;
 use crate::faults::{Ending, fail_list, keeps_slots};
-use crate::lists::random_list;
+use crate::lists::{long_list, random_list};
+use crate::looks::{Looks, units_if_same};
 use crate::watching::{Breach, watch_list};
 use anyhow::Result;
 use s360_deck::Event;
 use std::alloc::Global;
 use test_watched_channels::{Comparison, Disk, Failure, Tally, compare_lists, test_disks};
+use trace_lines::Tracer;
 
 /// How many lists by chance are tried over stores that do not fail.
 const LISTS: u32 = 3_000;
@@ -27,9 +31,14 @@ const LISTS: u32 = 3_000;
 /// How many over stores of which a call fails.
 const FAILING_LISTS: u32 = 3_000;
 
+/// The events of the long list.
+const LONG: usize = 10_000;
+
 fn main(rt: HostRuntime) -> Result<()> {
     play_random_lists(&rt)?;
-    play_failing_lists(&rt)
+    play_failing_lists(&rt)?;
+    play_watched_lists(&rt)?;
+    play_traced_list(&rt)
 }
 
 // Lists by chance over stores that do not fail.
@@ -83,6 +92,54 @@ fn play_failing_lists(rt: &HostRuntime) -> Result<()> {
     )?;
     println!(rt;
         "lists by chance past their faults: {past} with answers that may come, and {faults} faults told"
+    )?;
+    Ok(())
+}
+
+// Lists by chance that are watched, without a fault and with one.
+fn play_watched_lists(rt: &HostRuntime) -> Result<()> {
+    let alloc = rt.alloc();
+    let mut same = Tally::NONE;
+    for number in 0..LISTS {
+        let mut chance = Chance::new(u64::from(number));
+        let drives = chance.below(4).saturating_add(1);
+        let disks = test_disks(alloc, drives)?;
+        let list = random_list(alloc, &mut chance, drives)?;
+        let fault = random_failure(&mut chance, list.as_slice());
+        for failure in [Failure::NONE, fault] {
+            let mut looks = Looks { units: 0 };
+            let units = units_if_same(
+                alloc,
+                disks.as_slice(),
+                list.as_slice(),
+                failure,
+                &mut looks,
+            )?;
+            same = same.and(units == Some(looks.units));
+        }
+    }
+    println!(rt; "lists by chance that are watched in each unit: {same} as where nobody watches")?;
+    Ok(())
+}
+
+// A long list by chance that is traced.
+fn play_traced_list(rt: &HostRuntime) -> Result<()> {
+    let alloc = rt.alloc();
+    let mut chance = Chance::new(2_000_000);
+    let disks = test_disks(alloc, 4)?;
+    let list = long_list(alloc, &mut chance, 4, LONG)?;
+    let mut tracer = Tracer::new(Vec::new(alloc));
+    let units = units_if_same(
+        alloc,
+        disks.as_slice(),
+        list.as_slice(),
+        Failure::NONE,
+        &mut tracer,
+    )?;
+    let same = Tally::NONE.and(units.is_some() && tracer.into_writer().is_ok());
+    println!(rt;
+        "lists of {} events that are traced: {same} as where nobody traces",
+        list.len()
     )?;
     Ok(())
 }

@@ -203,8 +203,8 @@ pub(crate) fn most_calls(answer: &Answer) -> u64 {
     }
 }
 
-// Whether two answers have one line.
-fn are_alike(alloc: Global, one: &Answer, other: &Answer) -> Result<bool> {
+/// Whether two answers have one line.
+pub(crate) fn are_alike(alloc: Global, one: &Answer, other: &Answer) -> Result<bool> {
     let one = AnswerLine(one);
     let one = format!(in alloc; "{one}")?;
     let other = AnswerLine(other);

@@ -1,7 +1,7 @@
 -- Which answers show that nothing changed.
 use Rattle.std.specs.Prelude.{Bool, true, false, not, ◌==◌, Some, None}
 use Rattle.s360_events.specs.declared.answers.Answer.{Answer}
-use Rattle.s360_events.specs.declared.answers.Answer.TheVariants.{Sio, Tio, Hio, Tch, Step, Arrive, Interrupt, Reset, Store, Key, Show}
+use Rattle.s360_events.specs.declared.answers.Answer.TheVariants.{Sio, Tio, Hio, Tch, Step, Run, Arrive, Interrupt, Reset, Store, Key, Show}
 use Rattle.s360_events.specs.declared.conditions.Condition.TheVariants.{Zero, Stored, Two, Three}
 
 -- the event of this answer changed nothing: no program was started or halted, no word stored into the channel status word, no
@@ -21,6 +21,7 @@ changes_nothing (Hio address Two) = false
 changes_nothing (Hio address Three) = true
 changes_nothing (Tch condition) = true
 changes_nothing (Step done) = done == 0
+changes_nothing (Run done) = done == 0
 changes_nothing (Arrive address arrived) = not arrived
 changes_nothing (Interrupt None) = true
 changes_nothing (Interrupt (Some given)) = false

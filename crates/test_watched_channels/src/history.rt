@@ -37,6 +37,7 @@ impl History {
         let line = AnswerLine(answer);
         match answer {
             Answer::Step(done) => self.units = self.units.saturating_add(u64::from(*done)),
+            Answer::Run(done) => self.units = self.units.saturating_add(u64::from(*done)),
             Answer::Arrive(_, _) => {
                 let line = format!(in alloc; "{line}\n")?;
                 self.arrivals.push_str(line.as_str())?;
@@ -61,6 +62,7 @@ pub(crate) fn changes_nothing(answer: &Answer) -> bool
         Answer::Hio(_, condition) => matches!(condition, Condition::Zero | Condition::Three),
         Answer::Tch(_) | Answer::Show(_, _) => true,
         Answer::Step(done) => *done == 0,
+        Answer::Run(done) => *done == 0,
         Answer::Arrive(_, arrived) => !*arrived,
         Answer::Interrupt(given) => given.is_none(),
         Answer::Reset(_) => false,
@@ -77,7 +79,7 @@ enum ListPlace {
 }
 
 /// Whether each event of a list changed something and each step did its units, no arrival stands between the steps of a
-/// program, and only a step of 65,535 units stands before another.
+/// program, only a step of 65,535 units stands before another, and there is no run.
 pub(crate) fn is_serial(events: &[Event], answers: &[Answer]) -> bool
     ensures { IsTrue result → length events.now ≡ length answers.now }
 {
@@ -102,6 +104,7 @@ fn is_next(place: ListPlace, units: u16, event: &Event, answer: &Answer) -> bool
         (Event::Step(asked), Answer::Step(done)) => {
             place != ListPlace::BehindArrival && units == 65_535 && *asked == *done
         }
+        (Event::Run(_), _) => false,
         _ => true,
     }
 }
@@ -109,7 +112,7 @@ fn is_next(place: ListPlace, units: u16, event: &Event, answer: &Answer) -> bool
 fn place_behind(place: ListPlace, event: &Event) -> ListPlace {
     match event {
         Event::Sio(_) | Event::Hio(_) | Event::Reset => ListPlace::BeforeSteps,
-        Event::Step(_) => ListPlace::BehindSteps,
+        Event::Step(_) | Event::Run(_) => ListPlace::BehindSteps,
         Event::Arrive(_) if place == ListPlace::BehindSteps => ListPlace::BehindArrival,
         _ => place,
     }

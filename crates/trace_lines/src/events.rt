@@ -2,7 +2,7 @@
 
 use crate::names::{ChannelNames, UnitNames};
 use s360_events::{Answer, Condition, Status};
-use s360_words::Csw;
+use s360_words::{Csw, UnitStatus};
 use std::fmt;
 
 /// An answer, in words.
@@ -17,6 +17,7 @@ impl fmt::Display for Answered<'_> {
             Answer::Hio(unit, condition) => write!(f, "HIO {unit:03X} {}", Halted(*condition)),
             Answer::Tch(condition) => write!(f, "TCH {}", TestedChannel(*condition)),
             Answer::Step(done) => write!(f, "STEP {done}"),
+            Answer::Run(done) => write!(f, "RUN {done}"),
             Answer::Arrive(unit, true) => write!(f, "ARRIVE {unit:03X}: the arm has come to rest"),
             Answer::Arrive(unit, false) => write!(f, "ARRIVE {unit:03X}: no arm was in motion"),
             Answer::Interrupt(None) => write!(f, "INT none"),
@@ -35,23 +36,41 @@ impl fmt::Display for Answered<'_> {
     }
 }
 
-// A channel status word, by its bits.
+// Unit status and channel status, by their bits.
+#[derive(Clone, Copy)]
+struct StatusNames(Status);
+
+impl fmt::Display for StatusNames {
+    fn fmt<W: fmt::Write>(&self, f: &mut fmt::Formatter<W>) -> fmt::Result {
+        let Status { unit, channel } = self.0;
+        match (unit.0, channel.0) {
+            (0, 0) => write!(f, "none"),
+            (0, _) => write!(f, "{}", ChannelNames(channel)),
+            (_, 0) => write!(f, "{}", UnitNames(unit)),
+            _ => write!(f, "{}; {}", UnitNames(unit), ChannelNames(channel)),
+        }
+    }
+}
+
+// A channel status word, by its bits: of one that no program has left, the status alone.
 #[derive(Clone, Copy)]
 struct Word(Csw);
 
 impl fmt::Display for Word {
     fn fmt<W: fmt::Write>(&self, f: &mut fmt::Formatter<W>) -> fmt::Result {
         let csw = self.0;
-        let behind = csw.address.wrapping_sub(8) & 0x00FF_FFFF;
-        if csw.unit.0 != 0 {
-            write!(f, "{}; ", UnitNames(csw.unit))?;
+        let status = Status {
+            unit: csw.unit,
+            channel: csw.channel,
+        };
+        write!(f, "{}", StatusNames(status))?;
+        if csw.channel.0 == 0 && csw.unit.0 & UnitStatus::CHANNEL_END.0 == 0 {
+            return Ok(());
         }
-        if csw.channel.0 != 0 {
-            write!(f, "{}; ", ChannelNames(csw.channel))?;
-        }
+        let last = csw.address.wrapping_sub(8) & 0x00FF_FFFF;
         write!(
             f,
-            "last word {behind:06X}; residual count {}; key {:X}",
+            "; last word {last:06X}; residual count {}; key {:X}",
             csw.count, csw.key
         )
     }
@@ -63,11 +82,7 @@ struct Stored(Status);
 
 impl fmt::Display for Stored {
     fn fmt<W: fmt::Write>(&self, f: &mut fmt::Formatter<W>) -> fmt::Result {
-        write!(f, "CC 1, status stored: {}", UnitNames(self.0.unit))?;
-        if self.0.channel.0 != 0 {
-            write!(f, "{}", ChannelNames(self.0.channel))?;
-        }
-        Ok(())
+        write!(f, "CC 1, status stored: {}", StatusNames(self.0))
     }
 }
 

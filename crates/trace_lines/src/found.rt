@@ -2,33 +2,58 @@
 
 use crate::line::{Found, Line};
 use crate::met::Met;
-use crate::reasons;
-use ckd_sense::Command;
-use s360_words::UnitStatus;
+use ckd_sense::{Command, FileMask};
 
 /// What a command has met that is not over.
 pub(crate) fn found_so_far(line: Line, met: Option<Met>) -> Found {
     match (met, line.command()) {
-        (Some(met), Some(Command::WriteR0 | Command::WriteCountKeyAndData)) => Found::Behind(met),
+        (Some(met), Some(command)) if is_formatting(command) => Found::Behind(met),
         (Some(met), _) => Found::Area(met),
         (None, _) => Found::Nothing,
     }
 }
 
-/// What the command met in which a program ended.
-pub(crate) fn last_found(met: Met, command: Command, unit: UnitStatus) -> Found {
-    if is_search(command) {
-        return Found::Compared(met, outcome(command, reasons::has_status_modifier(unit)));
-    }
+/// What a command came to that is over: the area that it met, and a search's outcome there; where the arm stands, if that is known; or
+/// the mask.
+pub(crate) fn found(
+    line: Line,
+    met: Option<Met>,
+    satisfied: bool,
+    place: Option<(u16, u16)>,
+) -> Found {
+    let Some(command) = line.command() else {
+        return Found::Nothing;
+    };
     match command {
-        Command::WriteR0 | Command::WriteCountKeyAndData => Found::Behind(met),
-        Command::Seek | Command::SeekCylinder | Command::SeekHead => Found::Nothing,
-        _ => Found::Area(met),
+        Command::Seek | Command::SeekCylinder | Command::SeekHead | Command::Recalibrate => {
+            place_of(place)
+        }
+        Command::SetFileMask => mask_of(line),
+        _ => match met {
+            Some(met) if is_search(command) => Found::Compared(met, outcome(command, satisfied)),
+            _ => found_so_far(line, met),
+        },
     }
 }
 
-/// What a search came to.
-pub(crate) fn outcome(command: Command, satisfied: bool) -> &'static str {
+// Where the arm stands, if that is known.
+fn place_of(place: Option<(u16, u16)>) -> Found {
+    match place {
+        Some((cylinder, head)) => Found::Place(cylinder, head),
+        None => Found::Nothing,
+    }
+}
+
+// The mask that a word's byte has set, if it took one.
+fn mask_of(line: Line) -> Found {
+    match line.first.first() {
+        Some(byte) if line.moved > 0 && !line.is_chained => Found::Mask(FileMask::from_byte(*byte)),
+        _ => Found::Nothing,
+    }
+}
+
+// What a search came to.
+fn outcome(command: Command, satisfied: bool) -> &'static str {
     match (command, satisfied) {
         (Command::SearchIdHigh | Command::SearchKeyHigh, true) => "high",
         (Command::SearchIdHigh | Command::SearchKeyHigh, false) => "not high",
@@ -39,8 +64,8 @@ pub(crate) fn outcome(command: Command, satisfied: bool) -> &'static str {
     }
 }
 
-/// Whether a command is a search.
-pub(crate) fn is_search(command: Command) -> bool {
+// Whether a command is a search.
+fn is_search(command: Command) -> bool {
     matches!(
         command,
         Command::SearchHomeAddressEqual
@@ -51,6 +76,11 @@ pub(crate) fn is_search(command: Command) -> bool {
             | Command::SearchKeyHigh
             | Command::SearchKeyEqualOrHigh
     )
+}
+
+// Whether a command makes a record behind the area that it met.
+fn is_formatting(command: Command) -> bool {
+    matches!(command, Command::WriteR0 | Command::WriteCountKeyAndData)
 }
 
 /// Whether the command of a code needs a credit.

@@ -2,6 +2,7 @@
 //! a channel between two units.
 #![tactic(auto)]
 
+mod ends;
 mod events;
 mod found;
 mod line;
@@ -9,6 +10,7 @@ mod met;
 mod names;
 mod notes;
 mod reasons;
+mod starts;
 mod tracer;
 
 pub use crate::tracer::{TraceFault, Tracer};

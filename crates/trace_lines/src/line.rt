@@ -4,7 +4,7 @@ use crate::met::Met;
 use crate::names::{MaskNames, code_name};
 use arrayvec::ArrayString;
 use ckd_sense::{Command, CommandCode, FileMask};
-use s360_words::Ccw;
+use s360_words::{Ccw, Storage};
 use std::fmt;
 use std::fmt::Write;
 
@@ -22,8 +22,8 @@ const AT_CHAIN: usize = 107;
 /// How many of the bytes that moved are shown.
 const SHOWN: usize = 6;
 
-/// A line, which has fewer than 120 characters.
-pub(crate) type Text = ArrayString<128>;
+/// A line, with room for the longest.
+pub(crate) type Text = ArrayString<160>;
 
 /// What is known of a word at work.
 #[derive(Clone, Copy, Debug)]
@@ -40,6 +40,8 @@ pub(crate) struct Line {
     pub(crate) moved: u32,
     /// The first of them.
     pub(crate) first: [u8; SHOWN],
+    /// Whether it is written already.
+    pub(crate) is_told: bool,
 }
 
 /// What a command worked on, and what came of it.
@@ -82,6 +84,7 @@ impl Line {
             is_chained: false,
             moved: 0,
             first: [0; SHOWN],
+            is_told: false,
         }
     }
 
@@ -90,6 +93,13 @@ impl Line {
         let mut line = Line::of(at, ccw);
         line.code = self.code;
         line.is_chained = true;
+        line
+    }
+
+    /// The same line, as it is written already.
+    pub(crate) fn told(&self) -> Line {
+        let mut line = *self;
+        line.is_told = true;
         line
     }
 
@@ -113,19 +123,15 @@ impl Line {
     /// The line's text, with what the command found, the unit status, and what comes behind it.
     pub(crate) fn text(&self, found: Found, status: &str, chain: &str) -> Text {
         let mut text = Text::new();
-        let name = if self.is_chained {
-            "  (data chaining)"
-        } else {
-            code_name(self.code)
-        };
-        let _ = write!(text, " {:06X} {:02X} {name}", self.at, self.ccw.code);
-        pad(&mut text, AT_COUNT);
-        let direction = if self.gives() { '>' } else { '<' };
         let _ = write!(
             text,
-            "{:>5} {direction}{:06X}",
-            self.ccw.count, self.ccw.address
+            " {:06X} {:02X} {}",
+            self.at,
+            self.ccw.code,
+            self.name()
         );
+        pad(&mut text, AT_COUNT);
+        self.put_count(&mut text);
         self.put_bytes(&mut text);
         if !matches!(found, Found::Nothing) {
             pad(&mut text, AT_MET);
@@ -134,6 +140,28 @@ impl Line {
         put_at(&mut text, AT_STATUS, status);
         put_at(&mut text, AT_CHAIN, chain);
         text
+    }
+
+    // The name of what the word asks for.
+    fn name(&self) -> &'static str {
+        if self.ccw.is_transfer() {
+            code_name(self.ccw.code)
+        } else if self.is_chained {
+            "  (data chaining)"
+        } else {
+            code_name(self.code)
+        }
+    }
+
+    // The count, and where the bytes come from or go; of a transfer in channel, where that goes.
+    fn put_count(&self, text: &mut Text) {
+        let address = self.ccw.address;
+        let _ = if self.ccw.is_transfer() {
+            write!(text, "      >{address:06X}")
+        } else {
+            let direction = if self.gives() { '>' } else { '<' };
+            write!(text, "{:>5} {direction}{address:06X}", self.ccw.count)
+        };
     }
 
     // Whether the command gives bytes.
@@ -165,13 +193,28 @@ fn put_at(text: &mut Text, column: usize, word: &str) {
     }
 }
 
-/// The line of a transfer in channel.
-pub(crate) fn transfer_text(at: u32, code: u8, to: u32) -> Text {
-    let mut text = Text::new();
-    let _ = write!(text, " {at:06X} {code:02X} Transfer In Channel");
-    pad(&mut text, AT_COUNT);
-    let _ = write!(text, "      >{to:06X}");
-    text
+/// The word at an address, unless no word can stand there.
+pub(crate) fn word_at(storage: &Storage, at: u32) -> Option<Ccw> {
+    if at % 8 != 0 {
+        return None;
+    }
+    storage.ccw_at(at)
+}
+
+/// The line of a word that was not taken, behind the line of the one before it where it was to have a further area.
+pub(crate) fn not_taken(at: u32, word: Option<Ccw>, before: Option<Line>, status: &str) -> Text {
+    let Some(ccw) = word else {
+        let mut text = Text::new();
+        let _ = write!(text, " {at:06X} (no word)");
+        put_at(&mut text, AT_STATUS, status);
+        put_at(&mut text, AT_CHAIN, "not taken");
+        return text;
+    };
+    let line = match before {
+        Some(line) => line.chained(at, ccw),
+        None => Line::of(at, ccw),
+    };
+    line.text(Found::Nothing, status, "not taken")
 }
 
 // Blanks up to a column, and one at least.
@@ -189,12 +232,20 @@ pub(crate) fn short<T: fmt::Display>(shown: &T) -> ArrayString<32> {
     text
 }
 
-/// The residual count of a program that ended.
+/// How a program came to its end, with the residual count.
 #[derive(Clone, Copy)]
-pub(crate) struct Left(pub(crate) u16);
+pub(crate) enum Last {
+    /// By itself.
+    Left(u16),
+    /// By a halt.
+    Cut(u16),
+}
 
-impl fmt::Display for Left {
+impl fmt::Display for Last {
     fn fmt<W: fmt::Write>(&self, f: &mut fmt::Formatter<W>) -> fmt::Result {
-        write!(f, "left {}", self.0)
+        match self {
+            Last::Left(count) => write!(f, "left {count}"),
+            Last::Cut(count) => write!(f, "cut; left {count}"),
+        }
     }
 }

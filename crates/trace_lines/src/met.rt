@@ -1,7 +1,9 @@
 //! What a command met on its track.
 
 use ckd_command::Credit;
-use ckd_position::Area;
+use ckd_drive::Drive;
+use ckd_image::ImageStore;
+use ckd_position::{Area, Position};
 use ckd_track::read_slot;
 use std::fmt;
 
@@ -43,6 +45,17 @@ pub(crate) fn record_of(area: Area) -> Option<usize> {
     match area {
         Area::HomeAddress => None,
         Area::Of(_, number) => Some(number),
+    }
+}
+
+/// The area at which a drive's command works, once it has found it; or the last that passed, where no command works.
+pub(crate) fn area_at<S: ImageStore>(drive: &Drive<S>) -> Option<Area> {
+    if let Some(opened) = drive.command() {
+        return opened.area;
+    }
+    match drive.registers().position {
+        Position::At(area) => Some(area),
+        Position::AtIndex => None,
     }
 }
 

@@ -4,7 +4,7 @@ use crate::met::CreditNames;
 use crate::names::{ChannelNames, SenseNames};
 use ckd_command::Credit;
 use ckd_sense::Sense;
-use s360_words::Csw;
+use s360_words::ChannelStatus;
 use std::fmt;
 
 /// A line below or above that of a word.
@@ -22,8 +22,8 @@ pub(crate) enum Note {
     Uses(Credit),
     /// The command takes the credit away.
     Takes(Credit),
-    /// The channel ended the program, and why.
-    Channel(Csw, &'static str),
+    /// The channel ended the program, or did not begin it, and why.
+    Channel(ChannelStatus, &'static str),
     /// The sense bytes.
     Sensed(Sense),
     /// A reason in words.
@@ -43,9 +43,20 @@ impl fmt::Display for Note {
                 "        takes the credit away: {}",
                 CreditNames(*credit)
             ),
-            Note::Channel(csw, reason) => write!(f, "    {}: {reason}", ChannelNames(csw.channel)),
+            Note::Channel(status, reason) => {
+                write!(
+                    f,
+                    "    {}: {reason}",
+                    ChannelNames(without_interruption(*status))
+                )
+            }
             Note::Sensed(sense) => write!(f, "    sense {:04X}: {}", sense.0, SenseNames(*sense)),
             Note::Reason(reason) => write!(f, "    {reason}"),
         }
     }
+}
+
+// Channel status without the interruption that a word asked for, which ends no program.
+fn without_interruption(status: ChannelStatus) -> ChannelStatus {
+    ChannelStatus(status.0 & !ChannelStatus::PROGRAM_CONTROLLED_INTERRUPTION.0)
 }

@@ -2,6 +2,7 @@
 
 use bitflags::Flags;
 use ckd_sense::{Command, CommandCode, Sense};
+use s360_channel::DriveView;
 use s360_words::{ChannelStatus, Csw, Storage, UnitStatus};
 
 /// Why a command ended in unit check, by the sense and by its code (component descriptions, 'Sense'; which bits go together is the
@@ -87,6 +88,10 @@ fn command_of(code: u8) -> Option<Command> {
     Some(command)
 }
 
+/// What is wrong with a channel address word.
+pub(crate) const BAD_ADDRESS_WORD: &str =
+    "a bit of the channel address word that must be zero is on";
+
 /// Why the channel ended a program, by the word whose fetch was the last to be tried, if it did (Principles of Operation, 'Program
 /// Check', 'Protection Check', 'Incorrect Length').
 pub(crate) fn of_channel(
@@ -115,8 +120,8 @@ pub(crate) fn of_channel(
     None
 }
 
-// What is wrong with a word that was not taken.
-fn of_word(at: u32, storage: &Storage) -> &'static str {
+/// What is wrong with a word that was not taken.
+pub(crate) fn of_word(at: u32, storage: &Storage) -> &'static str {
     if at % 8 != 0 {
         return "the word does not stand at a multiple of 8";
     }
@@ -148,4 +153,27 @@ pub(crate) fn has_unit_exception(unit: UnitStatus) -> bool {
 /// Whether status modifier is on.
 pub(crate) fn has_status_modifier(unit: UnitStatus) -> bool {
     unit.contains(UnitStatus::STATUS_MODIFIER)
+}
+
+/// Whether busy is on: what was asked was not begun.
+pub(crate) fn is_busy(unit: UnitStatus) -> bool {
+    unit.contains(UnitStatus::BUSY)
+}
+
+/// Whether program check is on.
+pub(crate) fn has_program_check(status: ChannelStatus) -> bool {
+    status.contains(ChannelStatus::PROGRAM_CHECK)
+}
+
+/// Whether a word has asked for an interruption that is not yet taken.
+pub(crate) fn has_interruption(status: ChannelStatus) -> bool {
+    status.contains(ChannelStatus::PROGRAM_CONTROLLED_INTERRUPTION)
+}
+
+/// Where a drive's arm stands or goes to behind a command that has not failed.
+pub(crate) fn place_in(drive: Option<DriveView>, unit: UnitStatus) -> Option<(u16, u16)> {
+    match drive {
+        Some(drive) if !has_unit_check(unit) => Some((drive.cylinder, drive.head)),
+        _ => None,
+    }
 }

@@ -8,3 +8,7 @@ pub returns-in-Step-clause-happens : goal.returns-in-Step-clause-happens
 returns-in-Step-clause-happens g c m stands =
     subst (λ e. Happens (event_seen e) m (machine.Stepped c.step.result) c.args.channel.now c.step.new.channel) (sym c.in-Step.is)
     (subst (λ n. Happens (machine.StepBy n) m (machine.Stepped c.step.result) c.args.channel.now c.step.new.channel) c.from.ensures (c.step.ensures.happens m stands))
+
+pub returns-in-Run-clause-happens : goal.returns-in-Run-clause-happens
+returns-in-Run-clause-happens g c m stands =
+    subst (λ e. Happens (event_seen e) m (machine.Stepped c.step-in-Run.result) c.args.channel.now c.step-in-Run.new.channel) (sym c.in-Run.is) (c.step-in-Run.ensures.happens m stands)
