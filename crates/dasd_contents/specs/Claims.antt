@@ -1,0 +1,63 @@
+-- Which tracks of a volume are some extent's: a mark for each, which is 0 where it is none's.
+use Rattle.std.specs.Prelude.{ℕ, ◌+◌, ◌-◌, ◌==◌, Bool, not, ◌&&◌, if◌then◌else◌, List, ◌++◌, take, drop, replicate, slice_range, Option, Some, None}
+use Rattle.std.specs.List.{position}
+use Rattle.ckd_track.specs.declared.geometries.Geometry.{Geometry}
+use Rattle.ckd_track.specs.Model.{heads_of}
+use Rattle.volume_labels.specs.declared.fields.Extent.{Extent}
+use Rattle.data_sets.specs.Addresses.{number_of_track, is_run}
+use Rattle.dasd_contents.specs.declared.runs.Run.{Run}
+use Rattle.dasd_contents.specs.declared.findings.Problem.{Problem}
+use Rattle.dasd_contents.specs.declared.findings.Problem.TheVariants.{BadExtent, ExtentOutside, Overlap}
+use Rattle.dasd_contents.specs.Runs.{exists_on}
+
+abbrev pub is_taken : ℕ → Bool
+is_taken mark = not (mark == 0)
+
+abbrev pub place_taken : (marks : List ℕ) → Run → Option ℕ
+place_taken marks r = position is_taken (slice_range marks r.first (r.first + r.tracks))
+
+-- the first track of a run that is some extent's
+abbrev pub behind_first : Run → Option ℕ → Option ℕ
+behind_first r None = None
+behind_first r (Some i) = Some (r.first + i)
+
+abbrev pub first_taken : (marks : List ℕ) → Run → Option ℕ
+first_taken marks r = behind_first r (place_taken marks r)
+
+-- a run's tracks are marked up to that one
+abbrev pub end_of_claim : Run → Option ℕ → ℕ
+end_of_claim r None = r.first + r.tracks
+end_of_claim r (Some i) = r.first + i
+
+abbrev pub marked_up_to : (marks : List ℕ) → (first behind : ℕ) → List ℕ
+marked_up_to marks first behind = take first marks ++ (replicate (behind - first) 1 ++ drop behind marks)
+
+abbrev pub claimed : (marks : List ℕ) → Run → List ℕ
+claimed marks r = marked_up_to marks r.first (end_of_claim r (place_taken marks r))
+
+-- the tracks of an extent
+abbrev pub run_of : Geometry → Extent → Run
+run_of g e = record {
+  first = number_of_track (heads_of g.model) e.first;
+  tracks = number_of_track (heads_of g.model) e.last + 1 - number_of_track (heads_of g.model) e.first;
+}
+
+abbrev pub overlap : Extent → Option ℕ → Option Problem
+overlap e None = None
+overlap e (Some track) = Some (Overlap e track)
+
+-- what is wrong with an extent; those of type 80, which share cylinders, have their tracks in turn
+abbrev pub claim_of : Geometry → (marks : List ℕ) → Extent → Option Problem
+claim_of g marks e =
+    if not (is_run (heads_of g.model) e) then Some (BadExtent e)
+    else (if not (exists_on g e.first && exists_on g e.last) then Some (ExtentOutside e)
+    else (if e.kind == 0x80 then None
+    else overlap e (first_taken marks (run_of g e))))
+
+-- the marks behind it
+abbrev pub claimed_by : Geometry → (marks : List ℕ) → Extent → List ℕ
+claimed_by g marks e =
+    if not (is_run (heads_of g.model) e) then marks
+    else (if not (exists_on g e.first && exists_on g e.last) then marks
+    else (if e.kind == 0x80 then marks
+    else claimed marks (run_of g e)))

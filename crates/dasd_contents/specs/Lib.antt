@@ -1,0 +1,6 @@
+pub mod Blocks
+pub mod Runs
+pub mod Contents
+pub mod Chains
+pub mod Sets
+pub mod Claims

@@ -1,0 +1,4 @@
+pub mod Blocks
+pub mod Members
+pub mod Walk
+pub mod Written

@@ -1,0 +1,87 @@
+-- The blocks of a data set, over its extents and tracks.
+use Rattle.std.specs.Prelude.{◌≡◌, ℕ, ◌+◌, ◌-◌, ◌==◌, nat_lt, if◌then◌else◌, List, [], length, position, slice_index_or, Option, Some, None, Result, Ok, Err}
+use Rattle.ckd_track.specs.declared.geometries.Geometry.{Geometry}
+use Rattle.ckd_track.specs.declared.fault.SlotFault.{SlotFault}
+use Rattle.ckd_track.specs.Model.{heads_of}
+use Rattle.ckd_track.specs.Geometry.{tracks_of}
+use Rattle.ckd_track.specs.Track.{Track, track_of, record_in}
+use Rattle.volume_labels.specs.declared.fields.Extent.{Extent}
+use Rattle.volume_labels.specs.declared.fields.RelativeAddress.{RelativeAddress}
+use Rattle.data_sets.specs.declared.addresses.TrackPlace.{TrackPlace}
+use Rattle.data_sets.specs.declared.addresses.TrackPlace.TheVariants as place
+use Rattle.data_sets.specs.Addresses as addresses
+use Rattle.dasd_volumes.specs.Reading.{KnownVolume}
+use Rattle.dasd_extract.specs.declared.stops.Cause.{Cause}
+use Rattle.dasd_extract.specs.declared.stops.Cause.TheVariants.{PastExtents, Outside, BadExtent, NoTrack, Unreadable, NoBlock, TooManyTracks}
+use Rattle.dasd_extract.specs.declared.stops.Stop.{Stop}
+use Rattle.dasd_extract.specs.declared.blocks.Form.{Form}
+use Rattle.dasd_extract.specs.declared.tracks.Part.{Part}
+use Rattle.dasd_extract.specs.Written.{Written, stopped, and_then, until_stop, Writes}
+use Rattle.dasd_extract.specs.Blocks.{number_of, block_written}
+
+-- the block of a number; number 0 is what stands before the first block, which is behind record 0
+abbrev pub first_block : (number : ℕ) → Track → Option ℕ
+first_block number t = if number == 0 then Some 1 else position (λ r. number_of r == number) t.records
+
+-- the blocks of a track from one on
+abbrev pub blocks_from : Form → (track : ℕ) → Track → (first : ℕ) → Written
+blocks_from form track t first = until_stop (λ k. block_written form track (record_in t (first + k))) (length t.records - first)
+
+abbrev pub blocks_or_none : Form → (track number : ℕ) → Track → Option ℕ → Written
+blocks_or_none form track number t (Some first) = blocks_from form track t first
+blocks_or_none form track number t None = stopped track (NoBlock number)
+
+-- the blocks of a slot's track from that of a number on
+abbrev pub slot_written : Form → (track number : ℕ) → Result Track SlotFault → Written
+slot_written form track number (Ok t) = blocks_or_none form track number t (first_block number t)
+slot_written form track number (Err fault) = stopped track (Unreadable fault)
+
+-- which blocks are written, and how
+pub record Wanted : Type 0 where
+  pub form : Form
+  pub extents : List Extent
+  pub start : RelativeAddress
+  pub tracks : ℕ
+
+abbrev pub wanted : Form → List Extent → RelativeAddress → (tracks : ℕ) → Wanted
+wanted form extents start tracks = record { form = form; extents = extents; start = start; tracks = tracks }
+
+-- on the first track the blocks begin with that of the start's number, and on each other one with the first
+abbrev pub number_on : RelativeAddress → (i : ℕ) → ℕ
+number_on start i = if i == 0 then start.number else 0
+
+-- where the extents have no more tracks, or not even the first
+abbrev pub past_end : (i : ℕ) → Cause
+past_end i = if i == 0 then Outside else PastExtents
+
+abbrev pub place_written : Form → (track number i : ℕ) → Geometry → (slots : List (List ℕ)) → TrackPlace → Written
+place_written form track number i g slots (place.Track n) =
+    if nat_lt n (tracks_of g) then slot_written form track number (track_of (slice_index_or slots n [])) else stopped track NoTrack
+place_written form track number i g slots place.PastEnd = stopped track (past_end i)
+place_written form track number i g slots place.BadExtent = stopped track BadExtent
+
+-- what is written of the track that is so many behind the first
+abbrev pub track_written : Wanted → Geometry → (slots : List (List ℕ)) → (i : ℕ) → Written
+track_written s g slots i =
+    place_written s.form (s.start.track + i) (number_on s.start i) i g slots (addresses.track_of (heads_of g.model) s.extents (s.start.track + i))
+
+-- What is written of a data set or of a member from its start on: track after track over the extents, and block after block, up to
+-- the first end of file, or to what ends it before.
+abbrev pub source_written : Wanted → Geometry → (slots : List (List ℕ)) → Written
+source_written s g slots = and_then (until_stop (track_written s g slots) s.tracks) (stopped (s.start.track + s.tracks) TooManyTracks)
+
+-- from before to now the blocks of a source were written, and this is where they end, if the slots of the volume are known
+abbrev pub Extracts : Wanted → KnownVolume → (before now : Option (List ℕ)) → Stop → Type 0
+Extracts s v before now stop =
+    (slots : List (List ℕ)) → v.slots ≡ Some slots → Writes (source_written s v.geometry slots) before now (Some stop)
+
+-- the same of one track
+abbrev pub ExtractsTrack : Wanted → (i : ℕ) → KnownVolume → (before now : Option (List ℕ)) → Option Stop → Type 0
+ExtractsTrack s i v before now stop =
+    (slots : List (List ℕ)) → v.slots ≡ Some slots → Writes (track_written s v.geometry slots i) before now stop
+
+-- the same of the slot of a track on the volume
+abbrev pub ExtractsSlot : Part → (found : ℕ) → KnownVolume → (before now : Option (List ℕ)) → Option Stop → Type 0
+ExtractsSlot p found v before now stop =
+    (slots : List (List ℕ)) → v.slots ≡ Some slots
+    → Writes (slot_written p.form p.track p.number (track_of (slice_index_or slots found []))) before now stop

@@ -1,0 +1,38 @@
+-- What is written of blocks one after another, and where it ends.
+use Rattle.std.specs.Prelude.{◌≡◌, ℕ, zero, suc, List, [], ◌++◌, Option, Some, None}
+use Rattle.std.specs.Io.KnownBytes.{Appends}
+use Rattle.dasd_extract.specs.declared.stops.Cause.{Cause}
+use Rattle.dasd_extract.specs.declared.stops.Stop.{Stop}
+
+-- the bytes that are written, and where it ended, if it has
+pub record Written : Type 0 where
+  pub bytes : List ℕ
+  pub stop : Option Stop
+
+abbrev pub nothing : Written
+nothing = record { bytes = []; stop = None }
+
+abbrev pub these_bytes : List ℕ → Written
+these_bytes bytes = record { bytes = bytes; stop = None }
+
+abbrev pub stopped : (track : ℕ) → Cause → Written
+stopped track cause = record { bytes = []; stop = Some (record { track = track; cause = cause }) }
+
+-- what is written behind bytes, unless it has ended with them
+abbrev pub behind : Option Stop → List ℕ → Written → Written
+behind None bytes next = record { bytes = bytes ++ next.bytes; stop = next.stop }
+behind (Some stop) bytes next = record { bytes = bytes; stop = Some stop }
+
+-- one, and then the next, unless it has ended
+abbrev pub and_then : Written → Written → Written
+and_then w next = behind w.stop w.bytes next
+
+-- 0, and then 1 and so on, of so many, up to where it ends
+unfoldable pub until_stop : (ℕ → Written) → ℕ → Written
+until_stop of zero = nothing
+until_stop of (suc n) = and_then (until_stop of n) (of n)
+
+-- from before to now this was written, and it ended so
+pub record Writes (w : Written) (before now : Option (List ℕ)) (ended : Option Stop) : Type 0 where
+  pub bytes : Appends before now w.bytes
+  pub stop : ended ≡ w.stop

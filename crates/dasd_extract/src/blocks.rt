@@ -1,0 +1,187 @@
+//! What is written of a block.
+
+ghost use Rattle.std.specs.Prelude.{◌≡◌, ◌<◌, ◌≤◌, Some, length, slice_range, IfOk, OnOk};
+ghost use Rattle.std.specs.Io.KnownBytes.{Appends};
+ghost use Rattle.ckd_track.specs.Track.{record_in};
+ghost use Rattle.dasd_extract.specs.Written.{Writes, these_bytes};
+ghost use Rattle.dasd_extract.specs.Blocks.{text_character, text_of, line_of, piece_text, lines_written, directory_written, form_written, block_written, number_of};
+
+use crate::stops::{Cause, Stop};
+use ckd_track::TrackView;
+use data_sets::{DIRECTORY_BLOCK, Piece, RecordForm, Segment, next_record, without_blanks};
+use std::io::Write;
+use std::{fmt, io};
+use volume_labels::character;
+
+/// The length of a directory block's key, in bytes.
+const DIRECTORY_KEY: usize = 8;
+
+/// What stands for a character that is no text.
+const REPLACEMENT: char = '\u{FFFD}';
+
+/// How blocks are written.
+#[derive(Clone, Copy, Debug, PartialEq, Eq)]
+pub enum Form {
+    /// Their data as it stands.
+    Raw,
+    /// Their records as lines of UTF-8, from EBCDIC (code page 037), each without the blanks at its end. A character that controls
+    /// a terminal or a file is written as U+FFFD, so that each record is one line.
+    Text(RecordForm),
+    /// Their data as it stands, of blocks of a directory alone: those with a key of 8 bytes and 256 bytes of data.
+    Directory,
+}
+
+// A byte of EBCDIC as text.
+fn text_character(byte: u8) -> char
+    ensures { result ≡ text_character byte }
+{
+    let character = character(byte);
+    if character < 32 || (character >= 127 && character < 160) {
+        REPLACEMENT
+    } else {
+        char::from(character)
+    }
+}
+
+// Bytes of EBCDIC as text.
+#[derive(Clone, Copy)]
+struct Characters<'a>(&'a [u8]);
+
+impl fmt::Display for Characters<'_> {
+    ghost output = { λ c. Some (text_of c.0.now) };
+
+    fn fmt<W: fmt::Write>(&self, f: &mut fmt::Formatter<W>) -> fmt::Result {
+        for byte in self.0 {
+            f.write_char(text_character(*byte))?;
+        }
+        Ok(())
+    }
+}
+
+// Writes a line without the blanks at its end.
+fn write_line<W: Write>(writer: &mut W, bytes: &[u8]) -> io::Result<()>
+    ensures { OnOk result (Appends (W.contents writer.old) (W.contents writer.new) (line_of bytes.now)) }
+{
+    let characters = Characters(without_blanks(bytes));
+    writeln!(writer, "{characters}")
+}
+
+// Writes a part of a line.
+fn write_part<W: Write>(writer: &mut W, bytes: &[u8]) -> io::Result<()>
+    ensures { OnOk result (Appends (W.contents writer.old) (W.contents writer.new) (text_of bytes.now)) }
+{
+    let characters = Characters(bytes);
+    write!(writer, "{characters}")
+}
+
+// Writes a record of a block, or a segment of one.
+fn write_piece<W: Write>(writer: &mut W, block: &[u8], piece: Piece) -> io::Result<()>
+    requires start { piece.start ≤ piece.end }
+    requires end { piece.end ≤ length block.now }
+    ensures { OnOk result (Appends (W.contents writer.old) (W.contents writer.new) (piece_text block.now piece)) }
+{
+    let bytes = &block[piece.start..piece.end];
+    match piece.segment {
+        Segment::Whole | Segment::Last => write_line(writer, bytes),
+        Segment::First | Segment::Middle => write_part(writer, bytes),
+    }
+}
+
+// Writes the records of a block as lines.
+fn write_lines<W: Write>(
+    writer: &mut W,
+    form: RecordForm,
+    track: u32,
+    number: u8,
+    block: &[u8],
+) -> io::Result<Option<Stop>>
+    ensures { IfOk result (Writes (lines_written form track number block.now) (W.contents writer.old) (W.contents writer.new)) }
+{
+    let mut at = 0;
+    for _ in 0..block.len() {
+        match next_record(form, block, at) {
+            Ok(Some(piece)) => {
+                write_piece(writer, block, piece)?;
+                at = piece.end;
+            }
+            Ok(None) => return Ok(None),
+            Err(fault) => {
+                let cause = Cause::NoRecord(number, fault);
+                return Ok(Some(Stop { track, cause }));
+            }
+        }
+    }
+    Ok(None)
+}
+
+// Writes a block of a directory.
+fn write_directory<W: Write>(
+    writer: &mut W,
+    track: u32,
+    number: u8,
+    key: &[u8],
+    block: &[u8],
+) -> io::Result<Option<Stop>>
+    ensures { IfOk result (Writes (directory_written track number key.now block.now) (W.contents writer.old) (W.contents writer.new)) }
+{
+    if key.len() == DIRECTORY_KEY && block.len() == DIRECTORY_BLOCK {
+        write_raw(writer, block)
+    } else {
+        let cause = Cause::NotDirectory(number);
+        Ok(Some(Stop { track, cause }))
+    }
+}
+
+// Writes a block as it stands.
+fn write_raw<W: Write>(writer: &mut W, block: &[u8]) -> io::Result<Option<Stop>>
+    ensures { IfOk result (Writes (these_bytes block.now) (W.contents writer.old) (W.contents writer.new)) }
+{
+    writer.write_all(block)?;
+    Ok(None)
+}
+
+/// The number of a record in its count area.
+pub(crate) fn number_of(view: &TrackView, i: usize) -> u8
+    requires { i < length view.now.records }
+    ensures { result ≡ number_of (record_in view.now i) }
+{
+    view.count_of(i)[4]
+}
+
+// Writes a block in its form.
+fn write_in_form<W: Write>(
+    writer: &mut W,
+    form: Form,
+    track: u32,
+    view: &TrackView,
+    i: usize,
+) -> io::Result<Option<Stop>>
+    requires { i < length view.now.records }
+    ensures { IfOk result (Writes (form_written form track (record_in view.now i)) (W.contents writer.old) (W.contents writer.new)) }
+{
+    let block = view.data_of(i);
+    let number = number_of(view, i);
+    match form {
+        Form::Raw => write_raw(writer, block),
+        Form::Text(records) => write_lines(writer, records, track, number, block),
+        Form::Directory => write_directory(writer, track, number, view.key_of(i), block),
+    }
+}
+
+/// Writes record `i` of a track, if it is no end of file.
+pub(crate) fn write_block<W: Write>(
+    writer: &mut W,
+    form: Form,
+    track: u32,
+    view: &TrackView,
+    i: usize,
+) -> io::Result<Option<Stop>>
+    requires { i < length view.now.records }
+    ensures { IfOk result (Writes (block_written form track (record_in view.now i)) (W.contents writer.old) (W.contents writer.new)) }
+{
+    if view.data_of(i).is_empty() {
+        let cause = Cause::EndOfFile;
+        return Ok(Some(Stop { track, cause }));
+    }
+    write_in_form(writer, form, track, view, i)
+}

@@ -1,0 +1,14 @@
+//! The blocks of a data set or of a member of a partitioned one, block after block over extents and tracks, as they stand or as
+//! lines of text.
+#![tactic(auto)]
+
+mod blocks;
+mod members;
+mod stops;
+mod tracks;
+mod walks;
+
+pub use crate::blocks::Form;
+pub use crate::members::{Members, directory_of, find_member, member_of, read_members};
+pub use crate::stops::{Cause, Stop};
+pub use crate::walks::{Source, extract};
