@@ -2,7 +2,7 @@
 """Runs the built program `dasd` over real files in a scratch folder, and compares what stands there afterwards byte for byte.
 
 Each row makes files, runs commands and says what they print, end with and leave: links, pipes, devices, modes, owners, full
-disks, kills, runs at once, broken pipes, odd names and files that are no images. What a volume must hold is made here, from the
+disks, kills, runs at once, traces, broken pipes, odd names and files that are no images. What a volume must hold is made here, from the
 layout of an image (docs/DECISIONS.md), and not by the program. A row that needs root, a small file system of its own or a
 device, where these can't be had, is skipped, with a word.
 
@@ -487,6 +487,106 @@ def file_at_two_addresses_is_refused(s):
     is_held(s.path("vol.ckd"), volume())
 
 
+# Traces.
+
+
+@row
+def trace_goes_to_standard_error_and_changes_nothing(s):
+    s.put("vol.ckd", volume())
+    status, out, told = s.write("--trace", "90=vol.ckd")
+    same((status, out), wrote()[:2])
+    events = [line for line in told.splitlines() if not line.startswith(" ")]
+    same(events[:2], ["SIO 190 CC 0, started", "STEP 20"])
+    same((len(events), events[-1][:8]), (3, "INT 190 "))
+    is_held(s.path("vol.ckd"), volume(data="D5D6D7D8"))
+    same(s.names(), ["vol.ckd"])
+
+
+@row
+def trace_goes_to_a_file_in_the_place_of_what_it_held(s):
+    told = s.write("--trace", "90=new:2311:1")[2].encode()
+    s.put("old", b"x" * 100000)
+    for name in ("new", "old"):
+        s.put("vol.ckd", volume())
+        same(s.write("--trace-to", name, "90=vol.ckd", umask=0o027), wrote())
+        is_held(s.path(name), told)
+        is_held(s.path("vol.ckd"), volume(data="D5D6D7D8"))
+    same(oct(s.path("new").stat().st_mode & 0o7777), oct(0o640))
+    same(s.names(), ["new", "old", "vol.ckd"])
+    os.mkfifo(s.path("pipe"))
+    ours = os.open(s.path("pipe"), os.O_RDONLY | os.O_NONBLOCK)
+    same(s.write("--trace-to", "pipe", "90=new:2311:1"), wrote())
+    same(os.read(ours, 65536), told)
+    os.close(ours)
+
+
+@row
+def trace_file_keeps_what_it_held_where_the_deck_is_not_run(s):
+    s.put("trace", b"mine")
+    same(s.dasd("run", "--trace-to", "trace", "90=new:2311:1", deck="FOO\n"), fault("line 1: unknown event"))
+    same(s.dasd("run", "--trace-to", "trace", "90=nowhere.ckd"), fault("read fault"))
+    is_held(s.path("trace"), b"mine")
+    same(s.dasd("run", "--trace-to", "trace", "90=new:2311:1"), (0, "", ""))
+    is_held(s.path("trace"), b"")
+
+
+@row
+def trace_file_that_cannot_be_opened(s):
+    s.put("vol.ckd", volume())
+    s.path("folder").mkdir()
+    for name, why in (("folder", "Is a directory"), ("nowhere/trace", "No such file or directory")):
+        same(s.write("--trace-to", name, "90=vol.ckd"), fault("trace file not opened"), name)
+        same(s.write("--verbose", "--trace-to", name, "90=nowhere.ckd"), fault(f"trace file not opened\n  {name}: {why}"), name)
+    same((s.names(), os.listdir(s.path("folder"))), (["folder", "vol.ckd"], []))
+    is_held(s.path("vol.ckd"), volume())
+
+
+@row
+def trace_over_a_file_of_the_run_is_refused(s):
+    s.put("vol.ckd", volume())
+    s.put("deck", b"INT\n")
+    for name in ("vol.ckd", "deck"):
+        s.path(f"link_{name}").symlink_to(name)
+        os.link(s.path(name), s.path(f"hard_{name}"))
+        for other in (name, f"./{name}", f"link_{name}", f"hard_{name}"):
+            told = fault(f"trace file in use\n  {other}: this run uses it already")
+            same(s.dasd("run", "--verbose", "--trace-to", other, "--deck", "deck", "90=vol.ckd"), told, other)
+    with open(s.path("deck"), "rb") as given:
+        same(s.dasd("run", "--trace-to", "deck", "90=vol.ckd", stdin=given), fault("trace file in use"))
+    with open(s.path("out"), "wb") as out:
+        ended = s.dasd("run", "--verbose", "--trace-to", "out", "90=vol.ckd", deck="INT\n", stdout=out)
+    same(ended, fault("trace file in use\n  out: it is standard input or output"))
+    is_held(s.path("vol.ckd"), volume())
+    is_held(s.path("deck"), b"INT\n")
+    is_held(s.path("out"), b"")
+
+
+@row
+def trace_over_an_image_of_another_run_is_refused(s):
+    s.put("vol.ckd", volume())
+    with waiting_run(s, "90=vol.ckd") as (run, deck):
+        same(s.write("--trace-to", "vol.ckd", "90=new:2311:1"), fault("trace file in use"))
+        deck.close()
+        run.communicate(timeout=60)
+    same(run.returncode, 0)
+    is_held(s.path("vol.ckd"), volume())
+
+
+@row
+def trace_that_cannot_be_written_changes_nothing_else(s):
+    if not os.path.exists("/dev/full"):
+        raise Skipped("there is no /dev/full")
+    s.put("vol.ckd", volume())
+    answers = ANSWERS.format(unit="190")
+    same(s.write("--trace-to", "/dev/full", "90=vol.ckd"), fault("trace write fault", answers))
+    is_held(s.path("vol.ckd"), volume(data="D5D6D7D8"))
+    with open("/dev/full", "wb") as full:
+        same(s.write("--trace", "90=vol.ckd", data="01020304", stderr=full)[:2], (1, answers))
+        is_held(s.path("vol.ckd"), volume(data="01020304"))
+        same(s.write("--trace-to", "/dev/full", "90=vol.ckd", stdout=full)[::2], (1, "dasd: write fault\n"))
+    is_held(s.path("vol.ckd"), volume(data="D5D6D7D8"))
+
+
 # What is no image, and what is read as a stream.
 
 
@@ -562,7 +662,7 @@ def findings_end_with_status_1(s):
 
 @row
 def wrong_words_end_with_status_2(s):
-    for words in (["format"], ["fomrat"], ["check", "--what", "a"], ["run", "90"]):
+    for words in (["format"], ["fomrat"], ["check", "--what", "a"], ["run", "90"], ["run", "--trace", "--trace-to", "a", "90=a"]):
         status, out, told = s.dasd(*words)
         same((status, out, bool(told)), (2, "", True), " ".join(words))
     same(s.dasd("run", "90")[2], "dasd: bad volume\n")

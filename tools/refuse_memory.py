@@ -3,7 +3,7 @@
 
 `test_refused_memory` makes each call of the libraries that takes memory: a call of which a taking is refused says that there is no
 memory, has left all as it was, and comes out right when it is made again. `dasd` prints `dasd: out of memory` and ends with
-status 1, with a front of what it prints otherwise, and no file is changed or left.
+status 1, with a front of what it prints otherwise, in a trace too, and no other file is changed or left.
 
 For a word that is misspelled `clap` suggests those that are like it. It collects the letters of each, and where the standard library
 collects items whose number is not known, it asks once more, for less, when it is refused. There, and nowhere else, a refusal changes
@@ -35,6 +35,7 @@ INT
 """
 COMMANDS = ["format", "list", "check", "dump", "compare", "run", "help"]
 WRONG = "fomrat"
+TRACE = "trace"
 
 
 def growths(length):
@@ -52,6 +53,7 @@ JOBS = {
     "list": (["list", "old.ckd"], None, 0),
     "check": (["check", "old.ckd"], None, 0),
     "a deck that writes a record": (["run", "90=old.ckd", "91=new:2314:1"], DECK, 0),
+    "a deck that is traced": (["run", "--trace-to", TRACE, "90=old.ckd"], DECK, 0),
     "a word that is wrong": ([WRONG], None, sum(growths(len(WRONG)) + growths(len(it)) for it in COMMANDS)),
 }
 
@@ -133,8 +135,9 @@ def check_dasd(program, name, job, old):
     total, told, absorbed, wrong = noted[-1][0], 0, 0, 0
     for number in range(1, total + 1):
         ended, text, said, left, _ = program.run(words, deck, number, old)
-        is_told = (ended, said) == (1, "dasd: out of memory\n") and right.startswith(text) and left == {"old.ckd": old}
         is_absorbed = (ended, text, said, left) == (status, right, faults, files)
+        is_front = right.startswith(text) and files.get(TRACE, b"").startswith(left.pop(TRACE, b""))
+        is_told = (ended, said) == (1, "dasd: out of memory\n") and is_front and left == {"old.ckd": old}
         told, absorbed = told + is_told, absorbed + (is_absorbed and not is_told)
         if not is_told and not is_absorbed:
             wrong += 1

@@ -3,7 +3,8 @@
 
     tools/sharpness.py [--crates CRATE,..] SUITE..
 
-A suite is a crate whose program prints what is kept in its `stdout`. For each suite the wrong bodies of the crates that it is meant to
+A suite is a crate whose program prints what is kept in its `stdout`; or a script that asks a built `dasd` (`differ`, lists by chance
+beside the conformance suite's model, and `real_files`), whose status is 0 where all is right. For each suite the wrong bodies of the crates that it is meant to
 watch (or of those named) are put beside the right ones, in one unproved build (see unproved_dasd.py), with a number that says which
 of them is taken; the program is then run once a number. A wrong body is caught if what the program prints or its status is another, or
 if it does not end in the time that it has. For each suite one line tells how many were caught, and then which were not.
@@ -40,7 +41,15 @@ LAYERS = {
     "test_hostile_decks": ["s360_deck"],
     "test_dasd_rows": ["dasd_volumes", "dasd_jobs", "dasd_run"],
     "test_archives": ["dasd_archive", "volume_labels"],
+    "differ": ["s360_words", "ckd_position", "ckd_sense", "ckd_command", "ckd_slot", "ckd_cache", "ckd_drive", "s360_program", "s360_channel"],
+    "real_files": ["dasd_volumes", "dasd_jobs", "dasd_run", "dasd_cmd"],
 }
+# The suites that are scripts over a built `dasd`, whose path stands for MADE.
+SCRIPTS = {
+    "differ": ["conformance/differ.py", "--lists", "200", "model", "dasd=MADE"],
+    "real_files": ["tools/real_files.py", "--built", "MADE"],
+}
+PROGRAM = "dasd_cmd"
 HEAD = re.compile(r"^(?P<indent> *)(?P<before>(?:pub(?:\([a-z]+\))? )?(?:const )?)fn (?P<name>\w+)", re.M)
 NUMBER_MADE = re.compile(r'^(define internal [^\n]*@"\w+::wrong_body::number"\([^\n]*\)[^\n{]*)\{\n.*?^\}\n', re.M | re.S)
 NUMBER = """//! Which wrong body is taken.
@@ -195,7 +204,7 @@ def plant(top, crates):
             planted[number] = f"{crate}/{edit.stem}"
         if len(planted) > before:
             (folder / "src" / "wrong_body.rt").write_text(NUMBER)
-            root = folder / "src" / "lib.rt"
+            root = next(it for it in (folder / "src" / "lib.rt", folder / "src" / "main.rt") if it.exists())
             lines = root.read_text()
             at = re.search(r"^(pub )?mod ", lines, re.M)
             at = at.start() if at else len(lines)
@@ -226,15 +235,20 @@ def build(tools, top, suite, made, room):
 
 
 def verdict(made, suite, number, seconds):
-    """What the program printed and its status, or none if it did not end in these seconds."""
-    crate = TOP / "crates" / suite
-    given = (crate / "stdin").read_bytes() if (crate / "stdin").exists() else b""
+    """What the program printed and its status, or the status of the script; none if it did not end in these seconds."""
     environment = dict(os.environ, WRONG_BODY=str(number))
+    if suite in SCRIPTS:
+        words = [word.replace("MADE", str(made)) for word in SCRIPTS[suite]]
+        room, given = TOP, b""
+    else:
+        crate = TOP / "crates" / suite
+        room = crate / "data" if (crate / "data").exists() else crate
+        words, given = [made], (crate / "stdin").read_bytes() if (crate / "stdin").exists() else b""
     try:
-        ran = subprocess.run([made], cwd=crate, input=given, capture_output=True, env=environment, timeout=seconds, check=False)
+        ran = subprocess.run(words, cwd=room, input=given, capture_output=True, env=environment, timeout=seconds, check=False)
     except subprocess.TimeoutExpired:
         return None
-    return ran.returncode, ran.stdout
+    return ran.returncode, b"" if suite in SCRIPTS else ran.stdout
 
 
 def measure(tools, suite, crates):
@@ -244,18 +258,18 @@ def measure(tools, suite, crates):
         shutil.copytree(TOP / "crates", top / "crates", ignore=kept)
         shutil.copy(TOP / "crates.txt", top)
         shutil.copy(TOP / "HANDLES", top)
-        watched = crates or LAYERS.get(suite, [])
-        planted, left_out = plant(top, [it for it in crates_below(suite) if it in watched])
+        watched, program = crates or LAYERS.get(suite, []), PROGRAM if suite in SCRIPTS else suite
+        planted, left_out = plant(top, [it for it in [*crates_below(program), program] if it in watched])
         if not planted:
             sys.exit(f"sharpness.py: no wrong body of {suite} can be tried")
         made = room / "suite"
-        build(tools, top, suite, made, room)
+        build(tools, top, program, made, room)
         began = time.monotonic()
         right = verdict(made, suite, 0, SECONDS)
         seconds = 2 + TIMES * (time.monotonic() - began)
-        expected = (TOP / "crates" / suite / "stdout").read_bytes()
-        if right is None or right[1] != expected:
-            sys.exit(f"sharpness.py: {suite} does not print its stdout")
+        expected = b"" if suite in SCRIPTS else (TOP / "crates" / suite / "stdout").read_bytes()
+        if right is None or right != (0, expected):
+            sys.exit(f"sharpness.py: {suite} does not come out right with the right bodies")
         missed = [name for number, name in planted.items() if verdict(made, suite, number, seconds) == right]
     print(f"{suite}: {len(planted) - len(missed)} of {len(planted)} wrong bodies caught, {len(left_out)} not tried", flush=True)
     for name in missed:

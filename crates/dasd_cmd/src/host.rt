@@ -4,10 +4,13 @@ ghost use Rattle.std.specs.Prelude.{◌≡◌, ◌+◌, [], length};
 
 use crate::drafts::{HostDraft, Old};
 use crate::reading::{HostFile, read_some};
+use crate::traces::{TraceFile, TraceOutput};
 use dasd_jobs::{FileFault, ImageFiles, Written};
+use dasd_run::Traces;
+use dasd_words::TraceTarget;
 use std::alloc::Global;
 use std::fs::{File, Metadata, OpenOptions, TryLockError};
-use std::io::{Error, ErrorKind};
+use std::io::{BufWriter, Error, ErrorKind};
 use std::os::unix::fs::MetadataExt;
 use std::{fmt, fs, io};
 
@@ -24,6 +27,9 @@ pub(crate) struct HostFiles<'a> {
     remarks: String,
     is_verbose: bool,
 }
+
+/// A file of the host: its device, and its number there.
+type Node = (u64, u64);
 
 /// A file that is locked.
 #[derive(Drop)]
@@ -89,7 +95,7 @@ fn list_done(held: &[Locked], alloc: Global) -> Option<String> {
 }
 
 // Notes that a new file has taken the place of one that is locked.
-fn mark_done(held: &mut [Locked], node: Option<(u64, u64)>) {
+fn mark_done(held: &mut [Locked], node: Option<Node>) {
     for locked in held.iter_mut() {
         if node == Some((locked.device, locked.node)) {
             locked.is_done = true;
@@ -128,9 +134,20 @@ pub(crate) fn wrong(why: &str) -> Error {
     Error::new(ErrorKind::InvalidInput, why)
 }
 
+// A file that is in use.
+fn busy(why: &str) -> Error {
+    Error::new(ErrorKind::ResourceBusy, why)
+}
+
 // Whether a file was locked already.
 fn is_locked(locked: &[Locked], known: &Metadata) -> bool {
     locked.iter().any(|held| held.device == known.dev() && held.node == known.ino())
+}
+
+// The file that a path leads to, if there is one.
+fn node_at(host: &HostRuntime, path: &str) -> Option<Node> {
+    let known = fs::metadata(host, path).ok()?;
+    Some((known.dev(), known.ino()))
 }
 
 // Opens a regular file, for writing too where that is allowed.
@@ -156,9 +173,7 @@ fn lock_file(file: &File, may_write: bool) -> io::Result<()> {
     };
     match locked {
         Ok(()) => Ok(()),
-        Err(TryLockError::WouldBlock) => {
-            Err(Error::new(ErrorKind::ResourceBusy, "another program has locked it"))
-        }
+        Err(TryLockError::WouldBlock) => Err(busy("another program has locked it")),
         Err(TryLockError::Error(fault)) => Err(fault),
     }
 }
@@ -177,7 +192,7 @@ fn open_locked(host: &HostRuntime, held: &[Locked], path: &str) -> io::Result<(F
             return Ok((file, known));
         }
     }
-    Err(Error::new(ErrorKind::ResourceBusy, "another program replaces it"))
+    Err(busy("another program replaces it"))
 }
 
 // Keeps a file locked until the end.
@@ -233,6 +248,35 @@ fn find_old(
         path: target,
         known,
     }))
+}
+
+// Opens a file for a trace. A regular one is locked until the end; it is none of these files, and not standard input or output.
+fn open_trace_file(
+    host: &HostRuntime,
+    held: &mut Vec<Locked>,
+    path: &str,
+    beside: &[&str],
+) -> io::Result<TraceFile> {
+    let input = node_at(host, "/dev/stdin");
+    let output = node_at(host, "/dev/stdout");
+    let file = OpenOptions::new()
+        .write(true)
+        .create(true)
+        .open(host, path)?;
+    let known = file.metadata()?;
+    if !known.is_file() {
+        return Ok(TraceFile::new(file, false));
+    }
+    let node = Some((known.dev(), known.ino()));
+    if node == input || node == output {
+        return Err(busy("it is standard input or output"));
+    }
+    if beside.iter().any(|other| node_at(host, other) == node) {
+        return Err(busy("this run uses it already"));
+    }
+    lock_file(&file, true)?;
+    keep(held, host.alloc(), path, &file, &known)?;
+    Ok(TraceFile::new(file, true))
 }
 
 impl<'a> ImageFiles for HostFiles<'a> {
@@ -312,6 +356,28 @@ impl<'a> ImageFiles for HostFiles<'a> {
 
     fn ask_remarks(&mut self) {
         self.is_verbose = true;
+    }
+}
+
+impl<'a> Traces for HostFiles<'a> {
+    type Sink = BufWriter<TraceOutput<'a>>;
+
+    fn open_trace(
+        &mut self,
+        alloc: Global,
+        target: TraceTarget,
+        beside: &[&str],
+    ) -> Result<BufWriter<TraceOutput<'a>>, FileFault> {
+        let output = match target {
+            TraceTarget::StandardError => TraceOutput::StandardError(self.host),
+            TraceTarget::File(path) => {
+                match open_trace_file(self.host, &mut self.locked, path, beside) {
+                    Ok(file) => TraceOutput::File(file),
+                    Err(fault) => return Err(refused(&mut self.remarks, alloc, path, &fault)),
+                }
+            }
+        };
+        BufWriter::new(alloc, output).map_err(|_| FileFault::OutOfMemory)
     }
 }
 

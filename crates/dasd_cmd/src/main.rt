@@ -5,6 +5,7 @@ mod drafts;
 mod host;
 mod reading;
 mod terminal;
+mod traces;
 
 use crate::host::HostFiles;
 use crate::terminal::{HostOutput, TerminalLine};

@@ -21,9 +21,12 @@ keeps_files fault.ChannelNumber = true
 keeps_files fault.UnitTaken = true
 keeps_files fault.TooManyUnits = true
 keeps_files fault.NoTrack = true
+keeps_files fault.TraceNotOpened = true
+keeps_files fault.TraceInUse = true
 keeps_files (fault.Run f) = is_not_run f
 keeps_files fault.OutOfMemory = false
 keeps_files (fault.Job _) = false
+keeps_files fault.TraceWrite = false
 
 -- 2 for words that are wrong or ask for help, 1 for every other fault
 abbrev pub status_of : ProgramFault → ℕ
@@ -36,5 +39,8 @@ status_of fault.ChannelNumber = 1
 status_of fault.UnitTaken = 1
 status_of fault.TooManyUnits = 1
 status_of fault.NoTrack = 1
+status_of fault.TraceNotOpened = 1
+status_of fault.TraceInUse = 1
+status_of fault.TraceWrite = 1
 status_of (fault.Job _) = 1
 status_of (fault.Run _) = 1

@@ -34,8 +34,8 @@ fn style(json: bool) -> Style {
     if json { Style::Json } else { Style::Text }
 }
 
-// The paths of an image as one string of JSON: joined by plus signs, with quotes.
-fn quoted(alloc: Global, paths: &[&str]) -> Result<String, ProgramFault> {
+/// The paths of an image as one string of JSON: joined by plus signs, with quotes.
+pub(crate) fn quoted(alloc: Global, paths: &[&str]) -> Result<String, ProgramFault> {
     let mut joined = String::new(alloc);
     for (i, path) in paths.iter().enumerate() {
         if i > 0 {
@@ -50,8 +50,8 @@ fn quoted(alloc: Global, paths: &[&str]) -> Result<String, ProgramFault> {
         .map_err(|_| ProgramFault::OutOfMemory)
 }
 
-// What a fault over the files of a volume is: a slot that can't be read is a file that can't be.
-fn of_volume(fault: VolumeFault) -> ProgramFault {
+/// What a fault over the files of a volume is: a slot that can't be read is a file that can't be.
+pub(crate) fn of_volume(fault: VolumeFault) -> ProgramFault {
     ProgramFault::Job(match fault {
         VolumeFault::Store => JobFault::Read,
         fault => JobFault::from(fault),

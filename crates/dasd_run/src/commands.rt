@@ -4,11 +4,14 @@ ghost use Rattle.std.specs.Prelude.{◌≡◌, true, IfErr};
 ghost use Rattle.dasd_run.specs.Faults.{keeps_files};
 
 use crate::archive::{Lines, check_strictly, compare_both, dump_part};
-use crate::decks::run_deck;
+use crate::decks::{read_deck, run_text, tell_fault};
+use crate::explain::explain;
 use crate::fault::ProgramFault;
 use crate::runs::{Disks, build, finish};
+use crate::traces::{Traces, begin_trace, end_trace};
+use crate::vtoc::list_contents;
 use dasd_jobs::{ImageFiles, JobFault, NewVolume, Progress, check_files, format_file, list_files};
-use dasd_words::{Request, Volume, WordFault, read_words};
+use dasd_words::{DeckRun, Request, Volume, WordFault, read_words};
 use s360_deck::RunFault;
 use std::alloc::Global;
 use std::io::{Read, Write};
@@ -27,8 +30,9 @@ pub enum Ending {
 ///
 /// # Errors
 ///
-/// Wrong words, before any file is read or written; or what stopped the command. A run whose deck was not run writes no file.
-pub fn obey<F: ImageFiles, R: Read, W: Write, P: Progress>(
+/// Wrong words, before any file is read or written; or what stopped the command. A run whose deck was not run writes no file; one
+/// whose trace can't be written ends as without it, and then reports that.
+pub fn obey<F: Traces, R: Read, W: Write, P: Progress>(
     alloc: Global,
     words: &[&str],
     files: &mut F,
@@ -50,7 +54,7 @@ pub fn obey<F: ImageFiles, R: Read, W: Write, P: Progress>(
 }
 
 // Does what is asked.
-fn answer<F: ImageFiles, R: Read, W: Write, P: Progress>(
+fn answer<F: Traces, R: Read, W: Write, P: Progress>(
     alloc: Global,
     request: Request,
     files: &mut F,
@@ -100,18 +104,34 @@ fn answer<F: ImageFiles, R: Read, W: Write, P: Progress>(
             other.as_slice(),
             Lines { lists, json },
         ),
-        Request::Run {
-            storage,
-            channel,
-            deck,
-            volumes,
-        } => {
-            let volumes = volumes.as_slice();
-            let mut channel = build(alloc, files, storage, channel, volumes)?;
-            let run = run_deck(alloc, files, reader, writer, deck, &mut channel);
-            conclude(alloc, files, volumes, channel, run)
+        Request::ListContents { paths, json } => {
+            list_contents(alloc, files, writer, paths.as_slice(), json)
         }
+        Request::Explain(noted) => explain(writer, noted),
+        Request::Run(asked) => run_volumes(alloc, files, reader, writer, asked),
     }
+}
+
+// Runs a deck over its volumes. Of the faults of a deck that was run, that of its trace is reported last.
+fn run_volumes<F: Traces, R: Read, W: Write>(
+    alloc: Global,
+    files: &mut F,
+    reader: &mut R,
+    writer: &mut W,
+    asked: DeckRun,
+) -> Result<Ending, ProgramFault>
+    ensures { IfErr result (λ e. keeps_files e ≡ true → F.written files.new ≡ F.written files.old) }
+{
+    let volumes = asked.volumes.as_slice();
+    let mut tracer = begin_trace(alloc, files, &asked)?;
+    let mut channel = build(alloc, files, asked.storage, asked.channel, volumes)?;
+    let text = read_deck(alloc, files, reader, asked.deck).map_err(ProgramFault::Run)?;
+    let run = run_text(alloc, writer, text.as_slice(), &mut channel, &mut tracer);
+    tell_fault(files, text.as_slice(), run);
+    let traced = end_trace(tracer, run);
+    conclude(alloc, files, volumes, channel, run)?;
+    traced?;
+    Ok(Ending::Done)
 }
 
 // Checks the volume of these files, and says whether it has tracks that can't be read.
@@ -149,14 +169,11 @@ fn conclude<F: ImageFiles>(
     volumes: &[Volume],
     channel: Disks,
     run: Result<(), RunFault>,
-) -> Result<Ending, ProgramFault>
+) -> Result<(), ProgramFault>
     ensures { IfErr result (λ e. keeps_files e ≡ true → F.written files.new ≡ F.written files.old) }
 {
     match run {
-        Ok(()) => {
-            finish(alloc, files, volumes, channel)?;
-            Ok(Ending::Done)
-        }
+        Ok(()) => finish(alloc, files, volumes, channel),
         Err(RunFault::Write) => {
             finish(alloc, files, volumes, channel)?;
             Err(ProgramFault::Run(RunFault::Write))

@@ -1,14 +1,17 @@
 //! A deck is read and run, and its faults are told in more words.
 
 ghost use Rattle.std.specs.Prelude.{◌≡◌};
+ghost use Rattle.s360_deck.specs.Runs.{StaysUnlessRun};
+ghost use Rattle.dasd_run.specs.Runs.{RunsText};
 
 use crate::remarks::{Remark, first_word};
 use crate::runs::Disks;
 use dasd_jobs::{FileFault, ImageFiles};
 use dasd_words::operand_rule;
-use s360_deck::{DeckFault, RunFault, run};
+use s360_deck::{DeckFault, RunFault, run, run_watched};
 use std::alloc::Global;
 use std::io::{Read, Write};
+use trace_lines::Tracer;
 
 /// The most bytes of a deck, and one more.
 const PAST_DECK: usize = 1_048_577;
@@ -16,58 +19,63 @@ const PAST_DECK: usize = 1_048_577;
 /// How many bytes a read may give.
 const PIECE: usize = 4_096;
 
-/// Runs the deck of a file, or else that of the reader.
+/// The text of the deck of a file, or else of the reader; of one that is too long its first bytes, one more than it may have.
 ///
 /// # Errors
 ///
-/// What stopped it, of which more is said by a remark. No event has run, but with a write fault.
-pub(crate) fn run_deck<F: ImageFiles, R: Read, W: Write>(
+/// It can't be read, or there is no memory.
+pub(crate) fn read_deck<F: ImageFiles, R: Read>(
     alloc: Global,
     files: &mut F,
     reader: &mut R,
-    writer: &mut W,
     deck: Option<&str>,
-    channel: &mut Disks,
-) -> Result<(), RunFault>
+) -> Result<Vec<u8>, RunFault>
     ensures { F.written files.new ≡ F.written files.old }
 {
-    let text = match deck {
-        Some(path) => match files.read(alloc, path, PAST_DECK) {
-            Ok(text) => text,
-            Err(FileFault::OutOfMemory) => return Err(RunFault::Deck(DeckFault::OutOfMemory)),
-            Err(_) => return Err(RunFault::Read),
-        },
-        None => match read_text(alloc, reader) {
-            Ok(text) => text,
-            Err(fault) => {
-                if fault == RunFault::Read {
-                    files.remark(&Remark::NoDeck);
-                }
-                return Err(fault);
-            }
-        },
+    let Some(path) = deck else {
+        let text = read_text(alloc, reader);
+        if matches!(&text, Err(RunFault::Read)) {
+            files.remark(&Remark::NoDeck);
+        }
+        return text;
     };
-    run_text(alloc, files, writer, text.as_slice(), channel)
+    match files.read(alloc, path, PAST_DECK) {
+        Ok(text) => Ok(text),
+        Err(FileFault::OutOfMemory) => Err(RunFault::Deck(DeckFault::OutOfMemory)),
+        Err(_) => Err(RunFault::Read),
+    }
 }
 
-// Runs the deck that this text is.
-fn run_text<F: ImageFiles, W: Write>(
+/// Runs the deck that this text is, with the same promise whether it is traced or not.
+///
+/// # Errors
+///
+/// What stopped it. No event has run, but with a write fault.
+pub(crate) fn run_text<W: Write, T: Write + Drop>(
     alloc: Global,
-    files: &mut F,
     writer: &mut W,
     text: &[u8],
     channel: &mut Disks,
+    tracer: &mut Option<Tracer<T>>,
 ) -> Result<(), RunFault>
-    ensures { F.written files.new ≡ F.written files.old }
+    ensures runs { RunsText result text.now channel.old channel.new (W.contents writer.old) (W.contents writer.new) }
+    ensures no_event { StaysUnlessRun result channel.old channel.new }
+    ensures nothing_written { StaysUnlessRun result writer.old writer.new }
 {
     let mut unread = text;
-    match run(alloc, &mut unread, writer, channel) {
-        Ok(()) => Ok(()),
-        Err(fault) => {
-            if let Some(remark) = remark_of(text, fault) {
-                files.remark(&remark);
-            }
-            Err(fault)
+    match tracer {
+        Some(tracer) => run_watched(alloc, &mut unread, writer, channel, tracer),
+        None => run(alloc, &mut unread, writer, channel),
+    }
+}
+
+/// Says more of a fault of the deck that this text is.
+pub(crate) fn tell_fault<F: ImageFiles>(files: &mut F, text: &[u8], run: Result<(), RunFault>)
+    ensures { F.written files.new ≡ F.written files.old }
+{
+    if let Err(fault) = run {
+        if let Some(remark) = remark_of(text, fault) {
+            files.remark(&remark);
         }
     }
 }

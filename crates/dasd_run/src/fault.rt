@@ -37,6 +37,15 @@ pub enum ProgramFault {
     /// The volume has no such track.
     #[error("no such track")]
     NoTrack,
+    /// The file of a trace can't be opened.
+    #[error("trace file not opened")]
+    TraceNotOpened,
+    /// The file of a trace is another program's, or one that this run reads or writes, standard input and output too.
+    #[error("trace file in use")]
+    TraceInUse,
+    /// The deck was run, and files that it changed are replaced, but its trace is not whole.
+    #[error("trace write fault")]
+    TraceWrite,
     /// An image file or its image is faulty.
     #[error(transparent)]
     Job(JobFault),

@@ -5,10 +5,14 @@
 mod archive;
 mod commands;
 mod decks;
+mod explain;
 mod fault;
 mod remarks;
 mod runs;
+mod traces;
+mod vtoc;
 
 pub use crate::commands::{Ending, obey};
 pub use crate::fault::ProgramFault;
 pub use crate::runs::{Disks, build, finish};
+pub use crate::traces::Traces;

@@ -18,6 +18,8 @@ pub(crate) enum Remark<'a> {
     NoEvent(usize, &'a str),
     /// What the operands of a line must be.
     Operand(usize, &'static str),
+    /// The file of the trace is one of the run's others.
+    Used(&'a str),
     /// A program still ran when the deck was done.
     StillRan(u8),
     /// A track was not saved: its drive, cylinder and head.
@@ -32,6 +34,7 @@ impl fmt::Display for Remark<'_> {
             Remark::LongLine(line) => write!(f, "line {line}: a line has at most 512 bytes"),
             Remark::NoEvent(line, word) => write!(f, "line {line}: {word} is no event"),
             Remark::Operand(line, rule) => write!(f, "line {line}: {rule}"),
+            Remark::Used(path) => write!(f, "{path}: this run uses it already"),
             Remark::StillRan(device) => {
                 write!(
                     f,

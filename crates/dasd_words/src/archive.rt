@@ -34,8 +34,8 @@ pub(crate) fn check_command<'a>(alloc: Global) -> Result<Command<'a>, AllocError
     command.arg(strict)?.arg(json(alloc))
 }
 
-// The word for lines of JSON.
-fn json<'a>(alloc: Global) -> Arg<'a> {
+/// The word for lines of JSON.
+pub(crate) fn json<'a>(alloc: Global) -> Arg<'a> {
     Arg::new(alloc, "json")
         .long("json")
         .action(ArgAction::SetTrue)

@@ -8,6 +8,7 @@ A deck is a text with an event a line, and each answer is a line:
   HIO uuu             Halt I/O                 HIO uuu CC c, as SIO
   TCH                 Test Channel             TCH CC c
   STEP n              so many units of work    STEP done; n is 0 to 65535
+  RUN [n]             units until it ends      RUN done; at most n, 1 to 4294967295, or 16777216
   ARRIVE uuu          a moving arm arrives     ARRIVE uuu YES or NO
   INT                 an interruption, if any  INT NONE, or INT uuu and the channel status word
   RESET               a system reset           RESET CLEAN, or RESET UNSAVED uuu cccc hhhh
@@ -17,7 +18,7 @@ A deck is a text with an event a line, and each answer is a line:
 uuu is the address of a device in three hexadecimal digits: the channel's number, and the UU of a VOLUME.
 aaaaaa is an address of storage in one to six hexadecimal digits. Letters may be small or capital.
 A line has at most 512 bytes and a deck 1,048,576. An empty line and one that begins with * are no events.
-An accepted program does its work by STEP alone. Each file of a volume that the deck changed is replaced at
+An accepted program does its work by STEP and RUN alone. Each file of a volume that the deck changed is replaced at
 the end, whole, or stays as it was. `docs/DECKS.md` has eight decks.
 
 Example: dasd run 90=work.ckd 91=new:2311:5 < deck.txt";
@@ -26,6 +27,8 @@ Example: dasd run 90=work.ckd 91=new:2311:5 < deck.txt";
 pub fn operand_rule(word: &str) -> &'static str {
     if word.eq_ignore_ascii_case("STEP") {
         "STEP takes a number up to 65535"
+    } else if word.eq_ignore_ascii_case("RUN") {
+        "RUN takes no operand, or a number from 1 to 4294967295"
     } else if word.eq_ignore_ascii_case("STORE") {
         "STORE takes an address of one to six hexadecimal digits, and 1 to 128 bytes of two digits each"
     } else if word.eq_ignore_ascii_case("SHOW") {

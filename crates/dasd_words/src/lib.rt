@@ -4,13 +4,17 @@
 mod archive;
 mod commands;
 mod decks;
+mod explain;
 mod format;
 mod listings;
 mod requests;
 mod run;
 mod volumes;
+mod vtoc;
 
 pub use crate::commands::read_words;
 pub use crate::decks::{DECK_TABLE, operand_rule};
-pub use crate::requests::{Asked, DumpedPart, Numbers, Request, WordFault};
+pub use crate::requests::{
+    Asked, DeckRun, DumpedPart, Noted, Numbers, Request, TraceTarget, WordFault,
+};
 pub use crate::volumes::{MOST_FILES, Volume, VolumeSource};

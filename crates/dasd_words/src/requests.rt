@@ -1,6 +1,7 @@
 //! What `dasd` is asked to do.
 
 use crate::volumes::Volume;
+use arrayvec::ArrayVec;
 use ckd_track::DriveModel;
 
 /// What `dasd` is asked to do, and how.
@@ -30,6 +31,21 @@ pub struct DumpedPart {
     pub heads: Numbers,
     /// The numbers of its records.
     pub records: Numbers,
+}
+
+/// A number that somebody has noted.
+#[derive(Debug, Drop)]
+pub enum Noted {
+    /// A channel status word.
+    Csw([u8; 8]),
+    /// The second half of a channel status word: unit status, channel status and the residual count.
+    Ending([u8; 4]),
+    /// The unit status and the channel status.
+    Status([u8; 2]),
+    /// One to six sense bytes.
+    Sense(ArrayVec<u8, 8>),
+    /// A channel command word.
+    Ccw([u8; 8]),
 }
 
 /// What `dasd` is asked to do.
@@ -77,17 +93,41 @@ pub enum Request<'a> {
         /// Whether each line is an object of JSON.
         json: bool,
     },
-    /// Run a deck.
-    Run {
-        /// The size of main storage, in bytes.
-        storage: u32,
-        /// The number of the channel.
-        channel: u8,
-        /// The file of the deck; none is standard input.
-        deck: Option<&'a str>,
-        /// The volumes, in the order of the words.
-        volumes: Vec<Volume<'a>>,
+    /// Print what the volume of the image holds that these files are: its label, its data sets, and what is wrong with them.
+    ListContents {
+        /// The files.
+        paths: Vec<&'a str>,
+        /// Whether each line is an object of JSON.
+        json: bool,
     },
+    /// Say in words what a number means.
+    Explain(Noted),
+    /// Run a deck.
+    Run(DeckRun<'a>),
+}
+
+/// A deck that is to be run.
+#[derive(Debug, Drop)]
+pub struct DeckRun<'a> {
+    /// The size of main storage, in bytes.
+    pub storage: u32,
+    /// The number of the channel.
+    pub channel: u8,
+    /// The file of the deck; none is standard input.
+    pub deck: Option<&'a str>,
+    /// Where its trace goes; none is written without that.
+    pub trace: Option<TraceTarget<'a>>,
+    /// The volumes, in the order of the words.
+    pub volumes: Vec<Volume<'a>>,
+}
+
+/// Where the trace of a deck goes.
+#[derive(Clone, Copy, Debug, PartialEq, Eq)]
+pub enum TraceTarget<'a> {
+    /// To standard error.
+    StandardError,
+    /// To the file at this path.
+    File(&'a str),
 }
 
 /// Why the words ask for nothing.

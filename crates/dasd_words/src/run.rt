@@ -1,7 +1,7 @@
 //! The words of `dasd run`.
 
 use crate::decks::DECK_TABLE;
-use crate::requests::{Request, WordFault};
+use crate::requests::{DeckRun, Request, TraceTarget, WordFault};
 use crate::volumes::{Volume, add_volume, read_volume};
 use clap::{Arg, ArgAction, ArgMatches, Command};
 use std::alloc::{AllocError, Global};
@@ -29,6 +29,15 @@ pub(crate) fn command<'a>(alloc: Global) -> Result<Command<'a>, AllocError> {
         .long("deck")
         .value_name("FILE")
         .help("the deck; standard input where there is none");
+    let trace = Arg::new(alloc, "trace")
+        .long("trace")
+        .action(ArgAction::SetTrue)
+        .help("tells on standard error what each channel command word does");
+    let trace_to = Arg::new(alloc, "trace-to")
+        .long("trace-to")
+        .value_name("FILE")
+        .conflicts_with("trace")?
+        .help("as --trace, into a file, whose bytes are replaced");
     let volumes = Arg::new(alloc, "VOLUME")
         .required(true)
         .action(ArgAction::Append)
@@ -40,6 +49,8 @@ pub(crate) fn command<'a>(alloc: Global) -> Result<Command<'a>, AllocError> {
         .arg(storage)?
         .arg(channel)?
         .arg(deck)?
+        .arg(trace)?
+        .arg(trace_to)?
         .arg(volumes)
 }
 
@@ -48,12 +59,23 @@ pub(crate) fn read<'a>(alloc: Global, options: &ArgMatches<'a>) -> Result<Reques
     let Some(words) = options.get_strs("VOLUME") else {
         return Err(WordFault::BadVolume);
     };
-    Ok(Request::Run {
+    Ok(Request::Run(DeckRun {
         storage: options.get_one::<u32>("storage").unwrap_or(STORAGE),
         channel: options.get_one::<u8>("channel").unwrap_or(CHANNEL),
         deck: options.get_str("deck"),
+        trace: read_trace(options),
         volumes: read_volumes(alloc, words)?,
-    })
+    }))
+}
+
+// Where the trace goes.
+fn read_trace<'a>(options: &ArgMatches<'a>) -> Option<TraceTarget<'a>> {
+    match options.get_str("trace-to") {
+        Some(path) => Some(TraceTarget::File(path)),
+        None => options
+            .get_flag("trace")
+            .then_some(TraceTarget::StandardError),
+    }
 }
 
 fn read_volumes<'a>(alloc: Global, words: &[&'a str]) -> Result<Vec<Volume<'a>>, WordFault> {

@@ -2,10 +2,13 @@
 
 ghost use Rattle.std.specs.Prelude.{◌≡◌, ◌+◌};
 
+use crate::ends::LineWriter;
 use anyhow::{Context, Result};
 use ckd_image::{ImageStore, StoreFault};
 use ckd_track::Geometry;
 use dasd_jobs::{FileFault, ImageFiles, OpenedFile, Written};
+use dasd_run::Traces;
+use dasd_words::TraceTarget;
 use ghost_data::{Count, Trace};
 use std::alloc::Global;
 use std::fmt;
@@ -17,8 +20,8 @@ struct File {
     bytes: Vec<u8>,
 }
 
-/// Files in memory. One whose name begins with `locked` can't be replaced, one whose name begins with `busy` is another program's,
-/// and for one whose name begins with `vast` there is no memory.
+/// Files in memory. One whose name begins with `locked` can't be replaced or take a trace, one whose name begins with `busy` is another
+/// program's, and for one whose name begins with `vast` there is no memory. What a trace writes is let go.
 #[derive(Drop)]
 pub(crate) struct MemoryFiles {
     alloc: Global,
@@ -29,6 +32,8 @@ pub(crate) struct MemoryFiles {
     pub remarks: String,
     /// The names of the files that are locked since the last command, each with a space before and behind it.
     locks: String,
+    /// How many bytes of the next trace may be written; all, where there is no number.
+    pub trace_room: Option<usize>,
     written: Written,
 }
 
@@ -40,6 +45,7 @@ impl MemoryFiles {
             replaced: String::new(alloc),
             remarks: String::new(alloc),
             locks: String::new(alloc),
+            trace_room: None,
             written: Written::new(),
         }
     }
@@ -266,6 +272,24 @@ impl ImageFiles for MemoryFiles {
     }
 
     fn ask_remarks(&mut self) {}
+}
+
+impl Traces for MemoryFiles {
+    type Sink = LineWriter;
+
+    fn open_trace(
+        &mut self,
+        alloc: Global,
+        target: TraceTarget,
+        _beside: &[&str],
+    ) -> std::result::Result<LineWriter, FileFault> {
+        match target {
+            TraceTarget::File(path) if path.starts_with("busy") => Err(FileFault::InUse),
+            TraceTarget::File(path) if path.starts_with("locked") => Err(FileFault::Refused),
+            TraceTarget::File(path) if path.starts_with("vast") => Err(FileFault::OutOfMemory),
+            _ => Ok(LineWriter::new(alloc, self.trace_room)),
+        }
+    }
 }
 
 // Locks a name, unless it is locked already.

@@ -89,6 +89,7 @@ fn play_line(alloc: Global, stage: &mut Stage, line: &str) -> Result<bool> {
         "reader" => stage.deck_fails = true,
         "writer" => stage.room = Some(number(rest)?),
         "flush" => stage.flush_fails = true,
+        "tracer" => stage.files.trace_room = Some(number(rest)?),
         "dasd" => return command(alloc, stage, line),
         "failing" => return failing(alloc, stage, rest),
         "<" => return Ok(prints(alloc, stage, rest)?),
@@ -131,6 +132,7 @@ fn command(alloc: Global, stage: &mut Stage, line: &str) -> Result<bool> {
     stage.deck_fails = false;
     stage.room = None;
     stage.flush_fails = false;
+    stage.files.trace_room = None;
     Ok(true)
 }
 

@@ -1,0 +1,54 @@
+//! Numbers that somebody has noted, in words.
+
+use crate::commands::Ending;
+use crate::fault::ProgramFault;
+use arrayvec::ArrayVec;
+use dasd_jobs::JobFault;
+use dasd_words::Noted;
+use s360_explain::{Lines, of_ccw, of_csw, of_ending, of_sense, of_status};
+use s360_words::{Ccw, Csw};
+use std::io::Write;
+
+// The lines of a number.
+fn lines_of(noted: Noted) -> Lines {
+    match noted {
+        Noted::Csw(bytes) => of_csw(Csw::from_bytes(bytes)),
+        Noted::Ending(bytes) => of_second_half(bytes),
+        Noted::Status(bytes) => of_stored(bytes),
+        Noted::Sense(bytes) => of_sense_bytes(bytes),
+        Noted::Ccw(bytes) => of_ccw(Ccw::from_bytes(bytes)),
+    }
+}
+
+// The lines of the second half of a channel status word.
+fn of_second_half(bytes: [u8; 4]) -> Lines {
+    let [unit, channel, high, low] = bytes;
+    let csw = Csw::from_bytes([0, 0, 0, 0, unit, channel, high, low]);
+    of_ending(csw.unit, csw.channel, csw.count)
+}
+
+// The lines of unit status and channel status.
+fn of_stored(bytes: [u8; 2]) -> Lines {
+    let [unit, channel] = bytes;
+    let csw = Csw::from_bytes([0, 0, 0, 0, unit, channel, 0, 0]);
+    of_status(csw.unit, csw.channel)
+}
+
+// The lines of sense bytes.
+fn of_sense_bytes(bytes: ArrayVec<u8, 8>) -> Lines {
+    of_sense(bytes.as_slice())
+}
+
+/// Prints what a number means.
+pub(crate) fn explain<W: Write>(writer: &mut W, noted: Noted) -> Result<Ending, ProgramFault> {
+    let lines = lines_of(noted);
+    for line in lines.as_slice() {
+        if writeln!(writer, "{line}").is_err() {
+            return Err(ProgramFault::Job(JobFault::Write));
+        }
+    }
+    match writer.flush() {
+        Ok(()) => Ok(Ending::Done),
+        Err(_) => Err(ProgramFault::Job(JobFault::Write)),
+    }
+}

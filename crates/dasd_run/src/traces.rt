@@ -1,0 +1,107 @@
+//! The trace of a deck: where it goes, and how it begins and ends.
+
+ghost use Rattle.std.specs.Prelude.{◌≡◌, false, IfErr};
+ghost use Rattle.dasd_run.specs.Faults.{keeps_files};
+
+use crate::fault::ProgramFault;
+use crate::remarks::Remark;
+use dasd_jobs::{FileFault, ImageFiles};
+use dasd_words::{DeckRun, TraceTarget, VolumeSource};
+use s360_deck::RunFault;
+use std::alloc::Global;
+use std::io::Write;
+use trace_lines::Tracer;
+
+/// Files, and what a trace can be written to beside them.
+pub trait Traces: ImageFiles {
+    /// What takes the lines of a trace.
+    type Sink: Write + Drop;
+
+    /// Opens standard error or a file for a trace. A file that is not there is made; one that is there keeps its bytes until the
+    /// trace is first written or flushed, and is locked. `beside` are the other files that are used.
+    ///
+    /// # Errors
+    ///
+    /// The host can't open the file for writing; it is one of those beside it, also by another name, or standard input or output;
+    /// another program has locked it; or there is no memory.
+    fn open_trace(
+        &mut self,
+        alloc: Global,
+        target: TraceTarget,
+        beside: &[&str],
+    ) -> Result<Self::Sink, FileFault>
+        ensures { Self.written self.new ≡ Self.written self.old };
+}
+
+/// The trace that a run asks for, before anything else of it is opened.
+///
+/// # Errors
+///
+/// It can't be opened, or its file is one that the run reads or writes.
+pub(crate) fn begin_trace<F: Traces>(
+    alloc: Global,
+    files: &mut F,
+    asked: &DeckRun,
+) -> Result<Option<Tracer<F::Sink>>, ProgramFault>
+    ensures { F.written files.new ≡ F.written files.old }
+{
+    let Some(target) = asked.trace else {
+        return Ok(None);
+    };
+    let beside = paths_of(alloc, asked)?;
+    if let TraceTarget::File(path) = target {
+        if beside.iter().any(|other| *other == path) {
+            files.remark(&Remark::Used(path));
+            return Err(ProgramFault::TraceInUse);
+        }
+    }
+    match files.open_trace(alloc, target, beside.as_slice()) {
+        Ok(sink) => Ok(Some(Tracer::new(sink))),
+        Err(fault) => Err(of_opening(fault)),
+    }
+}
+
+// The paths of the files that a run reads or writes, beside its trace.
+fn paths_of<'a>(alloc: Global, asked: &DeckRun<'a>) -> Result<Vec<&'a str>, ProgramFault> {
+    let mut paths = Vec::new(alloc);
+    if let Some(deck) = asked.deck {
+        paths.push(deck).map_err(|_| ProgramFault::OutOfMemory)?;
+    }
+    for volume in &asked.volumes {
+        if let VolumeSource::Files(files) = &volume.source {
+            paths
+                .extend_from_slice(files.as_slice())
+                .map_err(|_| ProgramFault::OutOfMemory)?;
+        }
+    }
+    Ok(paths)
+}
+
+// What a trace that is not opened is to the program.
+fn of_opening(fault: FileFault) -> ProgramFault {
+    match fault {
+        FileFault::OutOfMemory => ProgramFault::OutOfMemory,
+        FileFault::Refused => ProgramFault::TraceNotOpened,
+        FileFault::InUse | FileFault::Twice | FileFault::Exists => ProgramFault::TraceInUse,
+    }
+}
+
+/// Ends the trace of a deck that was run. Of one that was not run nothing is written.
+///
+/// # Errors
+///
+/// The trace is not whole.
+pub(crate) fn end_trace<T: Write + Drop>(
+    tracer: Option<Tracer<T>>,
+    run: Result<(), RunFault>,
+) -> Result<(), ProgramFault>
+    ensures { IfErr result (λ e. keeps_files e ≡ false) }
+{
+    match (tracer, run) {
+        (Some(tracer), Ok(()) | Err(RunFault::Write)) => match tracer.into_writer() {
+            Ok(_) => Ok(()),
+            Err(_) => Err(ProgramFault::TraceWrite),
+        },
+        _ => Ok(()),
+    }
+}

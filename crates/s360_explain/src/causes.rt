@@ -1,0 +1,46 @@
+//! What sense bytes 0 and 1 are reported for.
+
+ghost use Rattle.std.specs.Prelude.{◌≡◌};
+ghost use Rattle.s360_explain.specs.Lines.{is_reported};
+
+/// Whether these drives report sense bytes 0 and 1 so for a cause, or for none. Which bits go together is the project's profile.
+pub(crate) fn is_reported(sense: u16) -> bool
+    ensures { result ≡ is_reported sense }
+{
+    matches!(
+        sense,
+        0x0000
+            | 0x8000
+            | 0x8004
+            | 0x0004
+            | 0x8010
+            | 0x0008
+            | 0x0020
+            | 0x0802
+            | 0x8100
+            | 0x0040
+            | 0x1000
+    )
+}
+
+/// What the drives report sense bytes 0 and 1 so for.
+pub(crate) fn cause_text(sense: u16) -> &'static str {
+    match sense {
+        0x0000 => "the last command but Sense ended without unit check",
+        0x8000 =>
+            "the drive has no such command, or too few bytes came of a home address, a count or a seek address, or Write Home Address was given a flag or the address of another track",
+        0x8004 => "the file mask does not allow this write",
+        0x0004 =>
+            "the file mask does not allow this seek, or does not allow the multi-track bit to go on at the next head",
+        0x8010 =>
+            "a write without the search that found its record equal right before it, or a second Set File Mask in one program",
+        0x0008 =>
+            "the index passed twice, and no area that the command looks for was found on the track",
+        0x0020 => "a command with the multi-track bit went past the cylinder's last head",
+        0x0802 => "the track can't be read: its slot in the image does not spell records",
+        0x8100 => "a seek to a cylinder or a head that the volume does not have",
+        0x0040 => "the record to be written does not fit the track",
+        0x1000 => "the image's file could not be read or written",
+        _ => "no cause of these drives alone",
+    }
+}
