@@ -144,7 +144,7 @@ class Plan:
         with tempfile.TemporaryDirectory() as room:
             control = pathlib.Path(room, "control")
             control.write_text("\n".join(lines) + "\n", encoding="ascii")
-            done = subprocess.run(["dasdload", str(control), str(image), "1"], capture_output=True, text=True, check=False)
+            done = subprocess.run(["dasdload", str(control), str(image), "2"], capture_output=True, text=True, check=False)
         self.messages = done.stdout
         if done.returncode != 0 or not image.exists():
             sys.exit(f"dasdload: {done.stdout}{done.stderr}")
