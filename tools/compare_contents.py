@@ -22,7 +22,8 @@ What dasdls can't tell, or tells otherwise, is left out:
 - the organisation IS, for which it prints blanks; and none (0), for which `dasd` has question marks;
 - the record format of a data set that has none (0): it prints U, and `dasd` a question mark;
 - a date of creation of zeros, for which it prints asterisks, and `dasd` a hyphen;
-- the percentage is of the image's slots, which are larger than tracks; so it says the number of used tracks, and no more;
+- the percentage is of the image's slots, which are larger than tracks, and is rounded: where a data set has more than a hundred tracks, it
+  is that of one track more or less too;
 - owner, free tracks and free control blocks, which it does not print. `dasdload` writes no free tracks, so those of three volumes are
   none, and those of the other two were written by hercules_volumes.py; the number of free control blocks is compared with what that
   script or `dasdload` wrote into the format 4 block. The owner is the one that `dasdload` writes."""
@@ -80,6 +81,7 @@ class Volume:
     def __init__(self, comparison: readings.Comparison, dasd: str, folder: pathlib.Path, plan: volumes.Plan):
         self.comparison, self.plan, self.path = comparison, plan, folder / f"{plan.name}.ckd"
         self.image = layouts.Image(self.path)
+        self.blocks = layouts.find_blocks(self.image)
         self.tracks = (len(self.image.bytes) - layouts.HEADER) // self.image.slot
         self.serial, self.listed = readings.list_by_dasdls(self.path)
         self.allotted = allotted(plan.messages, self.image.heads)
@@ -140,8 +142,13 @@ class Volume:
         count = len(extents) if isinstance(extents, list) else extents
         self.same(f"{listed.name} number of extents{where}", count, listed.extents, "dasdls")
         used = found.get("used", -1)
-        is_so = (used - 1) * 100 / listed.tracks - 1 < listed.used_percent <= used * 100 / listed.tracks + 1
+        is_so = abs(self.percentage(listed, used) - listed.used_percent) <= 0.5
         self.comparison.holds(f"{self.plan.name} {listed.name}{where}: {used} of {listed.tracks} tracks used, and dasdls {listed.used_percent}%", is_so)
+
+    def percentage(self, listed: readings.Listed, used: int) -> float:
+        """What dasdls rounds: the tracks before the last one and what is used of it, each as large as a slot."""
+        balance = int.from_bytes(self.image.block(self.blocks[listed.name])[1][57:59], "big")
+        return (used - balance / self.image.slot) * 100 / listed.tracks
 
     def compare_extents(self, found: dict) -> None:
         """The extents of a data set."""
