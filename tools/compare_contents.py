@@ -143,7 +143,8 @@ class Volume:
         self.same(f"{listed.name} number of extents{where}", count, listed.extents, "dasdls")
         used = found.get("used", -1)
         is_so = abs(self.percentage(listed, used) - listed.used_percent) <= 0.5
-        self.comparison.holds(f"{self.plan.name} {listed.name}{where}: {used} of {listed.tracks} tracks used, and dasdls {listed.used_percent}%", is_so)
+        what = f"{self.plan.name} {listed.name}{where}"
+        self.comparison.holds(f"{what}: {used} of {listed.tracks} tracks used, and dasdls {listed.used_percent}%", is_so)
 
     def percentage(self, listed: readings.Listed, used: int) -> float:
         """What dasdls rounds: the tracks before the last one and what is used of it, each as large as a slot."""

@@ -7,8 +7,8 @@ A volume is made in memory first; then a deck writes it into a new image of `das
 Search Identifier Equal for record 0, and one Write Count, Key and Data after another. Each answer of the deck is looked at, and the
 image must hold the same bytes as the one in memory. The volumes are, for both drives:
 
-- one with a label: VOL1 as record 3 of cylinder 0, head 0, and blocks of format 4, 5, 1 and 3 behind it, all spelled by this script; a
-  sequential data set over five extents, and a partitioned one;
+- one with a label: VOL1 as record 3 of cylinder 0, head 0, and blocks of formats 4, 5, 1 and 3 on the track behind it, all spelled by
+  tools/written_labels.py; a sequential data set over five extents, and a partitioned one;
 - one without any label;
 - those of tools/hercules_volumes.py, each written by decks anew, track by track.
 
@@ -30,15 +30,13 @@ import hercules_readings as readings
 import hercules_volumes as volumes
 import volume_layouts as layouts
 from record_forms import cut, fixed_blocks
-from volume_layouts import ebcdic
+from written_labels import DataSet, put_label
 
 PROGRAM, ARGUMENTS, DATA = 0x400, 0x1000, 0x2000
 SEEK, SEARCH, TRANSFER, WRITE = 0x07, 0x31, 0x08, 0x1D
 CHAIN = 0x40
 MOST_TEXT = 900_000
 CYLINDERS = 3
-# The characteristics of a drive in a format 4 block: bytes of a track, overheads, tolerance, blocks of either kind on a track.
-DEVICE = {"2311": "0E29511414010219100A", "2314": "1C7E922D2D0102161911"}
 
 
 def word(command: int, address: int, flags: int, count: int) -> bytes:
@@ -117,45 +115,10 @@ class Written:
             known = [given if wanted is not None else None for given, wanted in zip(answers, deck.answers)]
             self.comparison.same(f"{path.name} status and faults", (ended.returncode, ended.stderr), (0, b""), "this script")
             self.comparison.same(f"{path.name} answers", (len(answers), known), (len(deck.answers), deck.answers), "this script")
+        strict = readings.run(self.dasd, "check", "--strict", path)
+        self.comparison.same(f"{path.name} status of a strict check", strict.returncode, 0, "this script")
         self.comparison.holds(f"{path.name} holds other bytes than were to be written", path.read_bytes() == bytes(image.bytes))
         return path
-
-
-def fill(image: layouts.Image, blocks: list[tuple[bytes, bytes]], track: int) -> None:
-    """Puts records behind record 0 of a track."""
-    place = b"".join(it.to_bytes(2, "big") for it in divmod(track, image.heads))
-    records = [(place + bytes([number]), *block) for number, block in enumerate(blocks, 1)]
-    image.put_track(track, [image.track(track)[0], *records])
-
-
-def extent(image: layouts.Image, number: int, run: tuple[int, int]) -> bytes:
-    """An extent of a control block."""
-    return bytes([1, number]) + b"".join(it.to_bytes(2, "big") for track in run for it in divmod(track, image.heads))
-
-
-def data_set(image: layouts.Image, name: str, lengths: tuple[int, int], runs: list[tuple[int, int]], last: tuple[int, int]) -> tuple[bytes, bytes]:
-    """A format 1 block of records of fixed length: sequential, or partitioned where its name says so."""
-    is_library = name.endswith("LIBRARY")
-    block = b"\xf1" + ebcdic("DECK01", 6) + b"\0\1" + bytes([74, 1, 109]) + bytes([99, 1, 109, len(runs), 0, 0]) + ebcdic("SCRIPT", 13) + bytes(7)
-    block += (b"\2\0" if is_library else b"\x40\0") + b"\x90\0" + lengths[1].to_bytes(2, "big") + lengths[0].to_bytes(2, "big")
-    block = block.ljust(54, b"\0") + last[0].to_bytes(2, "big") + bytes([last[1]]) + bytes(4)
-    block += b"".join(extent(image, *it) for it in enumerate(runs[:3])).ljust(30, b"\0")
-    return ebcdic(name, 44), block + (b"\0\0\0\1\5" if len(runs) > 3 else bytes(5))
-
-
-def label(image: layouts.Image, model: str, sets: list[tuple[bytes, bytes]], runs: list[tuple[int, int]]) -> None:
-    """The volume label and the volume table of contents: the blocks of data sets stand as records 3 and 4, and that of the further extents of
-    the first as record 5."""
-    volume = ebcdic("VOL1DECK01", 11) + b"\0\0\0\1\1" + ebcdic("", 21) + ebcdic("    DECK", 14)
-    loader = [(ebcdic("IPL1", 4), bytes(24)), (ebcdic("IPL2", 4), bytes(144))]
-    fill(image, [*loader, (ebcdic("VOL1", 4), volume.ljust(80, b"\x40"))], 0)
-    device = CYLINDERS.to_bytes(2, "big") + image.heads.to_bytes(2, "big") + bytes.fromhex(DEVICE[model])
-    table = b"\xf4\0\0\0\1\4" + (5).to_bytes(2, "big") + bytes(6) + b"\x80\1\0\0" + device
-    table = table.ljust(61, b"\0") + extent(image, 0, (1, 1))
-    free = (b"\5" * 4).ljust(44, b"\0"), b"\xf5".ljust(96, b"\0")
-    more = b"".join(extent(image, number, run) for number, run in enumerate(runs[3:], 3)).ljust(130, b"\0")
-    further = b"\3" * 4 + more[:40], b"\xf3" + more[40:] + bytes(5)
-    fill(image, [(b"\4" * 44, table.ljust(96, b"\0")), free, *sets, further, *[(bytes(44), bytes(96))] * 5], 1)
 
 
 def compare_label(written: Written, model: str) -> None:
@@ -171,18 +134,26 @@ def compare_label(written: Written, model: str) -> None:
     library = layouts.Extents(image, model, [(14, 18)])
     layouts.partition(library, members, 2)
     sets = [
-        data_set(image, "DECK.CARDS", (80, 800), runs, sequential.last()),
-        data_set(image, "DECK.LIBRARY", (80, 400), [(14, 18)], library.last()),
+        DataSet("DECK.CARDS", "PS", 80, 800, runs, sequential.last()),
+        DataSet("DECK.LIBRARY", "PO", 80, 400, [(14, 18)], library.last()),
     ]
-    label(image, model, sets, runs)
+    put_label(image, model, "DECK01", sets)
     path = written.write(image)
-    serial, listed = readings.list_by_dasdls(path)
-    found = [(it.name, it.created, it.expires, it.organisation, it.form, it.record_length, it.block_length, it.tracks, it.extents) for it in listed]
-    days = ("1974-365", "1999-365")
-    wanted = [("DECK.CARDS", *days, "PS", "FB", 80, 800, 6, 5), ("DECK.LIBRARY", *days, "PO", "FB", 80, 400, 5, 1)]
-    written.comparison.same(f"{path.name} data sets", (serial, wanted), (serial, found), "dasdls")
-    written.comparison.same(f"{path.name} serial number", "DECK01", serial, "dasdls")
+    compare_list(written, path)
     compare_records(written, path, b"".join(cards), members)
+
+
+def compare_list(written: Written, path: pathlib.Path) -> None:
+    """The data sets of a volume with a label."""
+    serial, listed = readings.list_by_dasdls(path)
+    written.comparison.same(f"{path.name} serial number", "DECK01", serial, "dasdls")
+    found = [(it.name, it.created, it.expires, it.organisation, it.form, it.record_length, it.block_length) for it in listed]
+    days = ("1974-365", "1999-365")
+    wanted = [("DECK.CARDS", *days, "PS", "FB", 80, 800), ("DECK.LIBRARY", *days, "PO", "FB", 80, 400)]
+    written.comparison.same(f"{path.name} data sets", wanted, found, "dasdls")
+    written.comparison.same(f"{path.name} tracks and extents", [(6, 5), (5, 1)], [(it.tracks, it.extents) for it in listed], "dasdls")
+    contents = readings.run(written.dasd, "vtoc", path)
+    written.comparison.same(f"{path.name} status of dasd vtoc", (contents.returncode, contents.stderr), (0, b""), "this script")
 
 
 def compare_records(written: Written, path: pathlib.Path, cards: bytes, members: dict[str, layouts.Member]) -> None:
