@@ -75,6 +75,11 @@ def spelled(runs: list[tuple[int, int]], heads: int) -> list[list[int]]:
     return [[*divmod(first, heads), *divmod(last, heads)] for first, last in runs]
 
 
+def is_read_by_dasdseq(form: list[str]) -> bool:
+    """Whether a data set is sequential and has records of fixed length."""
+    return form[:1] == ["PS"] and form[1][0] == "F"
+
+
 class Volume:
     """What each side says of a volume."""
 
@@ -158,7 +163,7 @@ class Volume:
         parts = [name, *(held.parts if held else [])]
         wanted = spelled([self.allotted[it] for it in parts], self.image.heads)
         self.same(f"{name} extents", found["extents"], wanted, "dasdload")
-        if self.plan.forms.get(name, [""] * 2)[0] == "PS" and self.plan.forms[name][1] in ("F", "FB"):
+        if is_read_by_dasdseq(self.plan.forms[name]):
             by_dasdseq = [list(it) for it in readings.extents_by_dasdseq(self.path, name)]
             self.same(f"{name} extents", found["extents"], by_dasdseq, "dasdseq")
 

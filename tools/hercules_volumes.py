@@ -25,7 +25,8 @@ sys.dont_write_bytecode = True
 sys.path.insert(0, str(pathlib.Path(__file__).resolve().parent))
 
 from record_forms import cut, fixed_blocks, spanned_blocks, variable_blocks
-from volume_layouts import CAPACITY, Details, Extents, Image, Member, count_free, date, ebcdic, find_blocks, join, partition, put_last, runs_of
+from volume_layouts import CAPACITY, Details, Extents, Image, Member, blocks_of, count_free, date, ebcdic, find_blocks, join, partition
+from volume_layouts import put_last, runs_of
 
 # What stands for itself in the name of a file.
 PLAIN = set("ABCDEFGHIJKLMNOPQRSTUVWXYZ0123456789.-_@#$")
@@ -100,6 +101,7 @@ class Plan:
     sequential: dict[str, bytes] = field(default_factory=dict)
     partitioned: dict[str, Library] = field(default_factory=dict)
     blocked: dict[str, Blocks] = field(default_factory=dict)
+    filled: list[str] = field(default_factory=list)
     details: dict[str, Details] = field(default_factory=dict)
     forms: dict[str, list[str]] = field(default_factory=dict)
     messages: str = ""
@@ -136,6 +138,12 @@ class Plan:
         parts = self.add_parts(name, tracks, 0, form, False)
         self.blocked[name] = Blocks(list(zip(keys or [b""] * len(blocks), blocks)), parts)
 
+    def add_filled(self, name: str, words: str, form: str) -> None:
+        """One that dasdload fills by itself, without an end of file; what it holds is read from the image."""
+        self.forms[name] = form.split()
+        self.filled.append(name)
+        self.statements.append(f"{name} {words} {form}")
+
     def load(self, image: pathlib.Path, contents: pathlib.Path) -> None:
         """Has dasdload write the image, and keeps its messages."""
         paths = {name: str((contents / file_name(name)).resolve()) for name in self.sequential}
@@ -168,6 +176,9 @@ class Plan:
         for name, blocks in self.blocked.items():
             self.make_blocks(image, name, blocks)
             (contents / file_name(name)).write_bytes(blocks.data())
+        for name in self.filled:
+            held = blocks_of(image, runs_of(image, find_blocks(image)[name]))
+            (contents / file_name(name)).write_bytes(b"".join(held))
         for name, details in self.details.items():
             details.put(image, find_blocks(image)[name])
         if self.exact:
@@ -250,7 +261,8 @@ def add_odd_blocks(plan: Plan) -> None:
     plan.add_empty("ODD.IS", "TRK 2 1", "IS FB 80 800 10")
     plan.add_empty("ODD.DA", "TRK 2 1", "DA F 80 80 0")
     plan.add_empty("ODD.NAME.WHICH.IS.AS.LONG.AS.ANY.CAN.BE.X123", "TRK 1 0", "PS F 80 80 0")
-    plan.statements += ["SYS1.LOGREC DIP TRK 1 0 0", "SYSCTLG CVOL TRK 2 0 0 PS F 256 256 8"]
+    plan.add_filled("SYS1.LOGREC", "DIP TRK 1 0 0", "")
+    plan.add_filled("SYSCTLG", "CVOL TRK 2 0 0", "PS F 256 256 8")
     plan.details |= {
         "FORM.F": Details(created=(126, 328), expires=(126, 365)),
         "FORM.FB": Details(created=(99, 365), expires=(99, 365)),

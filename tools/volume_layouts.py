@@ -188,6 +188,12 @@ def runs_of(image: Image, block: tuple[int, int]) -> list[tuple[int, int]]:
     return [run_of(image, it) for it in cut(spelled, EXTENT) if it[0]]
 
 
+def blocks_of(image: Image, runs: list[tuple[int, int]]) -> list[bytes]:
+    """The data of each record of these tracks, up to the first without any, if there is one."""
+    records = [data for first, last in runs for track in range(first, last + 1) for _, _, data in image.track(track)[1:]]
+    return records[: records.index(b"")] if b"" in records else records
+
+
 def date(image: Image) -> None:
     """Gives each format 1 block one date of creation, day 1 of 1975, where `dasdload` has put that of today."""
     for place in find_blocks(image).values():
