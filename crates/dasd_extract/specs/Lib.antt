@@ -1,4 +1,5 @@
 pub mod Blocks
 pub mod Members
+pub mod Names
 pub mod Walk
 pub mod Written

@@ -4,11 +4,13 @@
 
 mod blocks;
 mod members;
+mod names;
 mod stops;
 mod tracks;
 mod walks;
 
 pub use crate::blocks::Form;
 pub use crate::members::{Members, directory_of, find_member, member_of, read_members};
+pub use crate::names::{data_set_name, member_name};
 pub use crate::stops::{Cause, Stop};
 pub use crate::walks::{Source, extract};

@@ -2,6 +2,7 @@
 //! writes back those of a run. The files are behind a trait, so that nothing here touches a host.
 #![tactic(auto)]
 
+mod drafts;
 mod faults;
 mod files;
 mod headers;
@@ -12,6 +13,7 @@ mod reasons;
 mod store;
 mod written;
 
+pub use crate::drafts::{DraftWriter, begin_file, put_file};
 pub use crate::faults::JobFault;
 pub use crate::files::{FileFault, ImageFiles, OpenedFile};
 pub use crate::headers::is_header;

@@ -11,7 +11,7 @@ is_not_run (run.Deck _) = true
 is_not_run run.Read = true
 is_not_run run.Write = false
 
--- words are wrong, a channel is not made, or its deck is not run
+-- words are wrong, there is nothing of the kind, a channel is not made, or its deck is not run
 abbrev pub keeps_files : ProgramFault → Bool
 keeps_files (fault.Words _) = true
 keeps_files (fault.Help _) = true
@@ -23,10 +23,15 @@ keeps_files fault.TooManyUnits = true
 keeps_files fault.NoTrack = true
 keeps_files fault.TraceNotOpened = true
 keeps_files fault.TraceInUse = true
+keeps_files fault.NoDataSet = true
+keeps_files fault.NoMember = true
+keeps_files fault.NoMemberNamed = true
+keeps_files fault.NoRecordFormat = true
 keeps_files (fault.Run f) = is_not_run f
 keeps_files fault.OutOfMemory = false
 keeps_files (fault.Job _) = false
 keeps_files fault.TraceWrite = false
+keeps_files (fault.NotWhole _) = false
 
 -- 2 for words that are wrong or ask for help, 1 for every other fault
 abbrev pub status_of : ProgramFault → ℕ
@@ -42,5 +47,10 @@ status_of fault.NoTrack = 1
 status_of fault.TraceNotOpened = 1
 status_of fault.TraceInUse = 1
 status_of fault.TraceWrite = 1
+status_of fault.NoDataSet = 1
+status_of fault.NoMember = 1
+status_of fault.NoMemberNamed = 1
+status_of fault.NoRecordFormat = 1
+status_of (fault.NotWhole _) = 1
 status_of (fault.Job _) = 1
 status_of (fault.Run _) = 1

@@ -1,2 +1,3 @@
+pub mod Extracts
 pub mod Faults
 pub mod Runs

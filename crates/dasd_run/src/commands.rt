@@ -6,6 +6,8 @@ ghost use Rattle.dasd_run.specs.Faults.{keeps_files};
 use crate::archive::{Lines, check_strictly, compare_both, dump_part};
 use crate::decks::{read_deck, run_text, tell_fault};
 use crate::explain::explain;
+use crate::extract::extract_one;
+use crate::extract_all::extract_all;
 use crate::fault::ProgramFault;
 use crate::runs::{Disks, build, finish};
 use crate::traces::{Traces, begin_trace, end_trace};
@@ -107,6 +109,8 @@ fn answer<F: Traces, R: Read, W: Write, P: Progress>(
         Request::ListContents { paths, json } => {
             list_contents(alloc, files, writer, paths.as_slice(), json)
         }
+        Request::Extract(asked) => extract_one(alloc, files, writer, &asked),
+        Request::ExtractAll(asked) => extract_all(alloc, files, writer, asked),
         Request::Explain(noted) => explain(writer, noted),
         Request::Run(asked) => run_volumes(alloc, files, reader, writer, asked),
     }

@@ -125,8 +125,8 @@ fn read_number(digits: &str) -> Option<u16> {
     digits.parse::<u16>().ok()
 }
 
-// The files of one image.
-fn read_paths<'a>(alloc: Global, words: &[&'a str]) -> Result<Vec<&'a str>, WordFault> {
+/// The files of one image.
+pub(crate) fn read_paths<'a>(alloc: Global, words: &[&'a str]) -> Result<Vec<&'a str>, WordFault> {
     if words.len() > MOST_FILES {
         return Err(wrong(alloc, TOO_MANY_PATHS));
     }

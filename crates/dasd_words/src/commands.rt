@@ -1,7 +1,7 @@
 //! The commands of `dasd`: each has a module of its own, for its options and for what they ask.
 
 use crate::requests::{Asked, Request, WordFault};
-use crate::{archive, explain, format, listings, run, vtoc};
+use crate::{archive, explain, extract, format, listings, run, vtoc};
 use clap::error::ErrorKind;
 use clap::{Arg, ArgAction, ArgMatches, Command, Error};
 use std::alloc::{AllocError, Global};
@@ -28,6 +28,7 @@ fn dasd_command<'a>(alloc: Global) -> Result<Command<'a>, AllocError> {
         .subcommand(verbose(alloc, archive::dump_command(alloc)?)?)?
         .subcommand(verbose(alloc, archive::compare_command(alloc)?)?)?
         .subcommand(verbose(alloc, vtoc::command(alloc)?)?)?
+        .subcommand(verbose(alloc, extract::command(alloc)?)?)?
         .subcommand(verbose(alloc, explain::command(alloc)?)?)?
         .subcommand(verbose(alloc, run::command(alloc)?)?)
 }
@@ -79,6 +80,7 @@ fn read_request<'a>(
         "dump" => archive::read_dump(alloc, options),
         "compare" => archive::read_compare(alloc, options),
         "vtoc" => vtoc::read(alloc, options),
+        "extract" => extract::read(alloc, options),
         "explain" => explain::read(alloc, options),
         "run" => run::read(alloc, options),
         _ => Err(wrong(alloc, NO_COMMAND)),

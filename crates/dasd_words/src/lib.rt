@@ -5,6 +5,7 @@ mod archive;
 mod commands;
 mod decks;
 mod explain;
+mod extract;
 mod format;
 mod listings;
 mod requests;
@@ -15,6 +16,7 @@ mod vtoc;
 pub use crate::commands::read_words;
 pub use crate::decks::{DECK_TABLE, operand_rule};
 pub use crate::requests::{
-    Asked, DeckRun, DumpedPart, Noted, Numbers, Request, TraceTarget, WordFault,
+    Asked, DeckRun, DumpedPart, ExtractedSet, ExtractedVolume, Noted, Numbers, Request, SetName,
+    TraceTarget, WordFault,
 };
 pub use crate::volumes::{MOST_FILES, Volume, VolumeSource};

@@ -100,10 +100,49 @@ pub enum Request<'a> {
         /// Whether each line is an object of JSON.
         json: bool,
     },
+    /// Take a data set, or a member of one, out of a volume.
+    Extract(ExtractedSet<'a>),
+    /// Take all data sets out of a volume.
+    ExtractAll(ExtractedVolume<'a>),
     /// Say in words what a number means.
     Explain(Noted),
     /// Run a deck.
     Run(DeckRun<'a>),
+}
+
+/// A data set or a member of one that is taken out of a volume.
+#[derive(Debug, Drop)]
+pub struct ExtractedSet<'a> {
+    /// The files of the image.
+    pub paths: Vec<&'a str>,
+    /// What is taken.
+    pub name: SetName<'a>,
+    /// The new file for it; none is standard output.
+    pub target: Option<&'a str>,
+    /// Whether records are written as lines of text; if not, blocks are as they stand.
+    pub is_text: bool,
+}
+
+/// A volume all of whose data sets are taken out, with all members, each to a new file.
+#[derive(Debug, Drop)]
+pub struct ExtractedVolume<'a> {
+    /// The files of the image.
+    pub paths: Vec<&'a str>,
+    /// The folder of the new files.
+    pub folder: &'a str,
+    /// Whether records are written as lines of text; if not, blocks are as they stand.
+    pub is_text: bool,
+    /// Whether each line of what is printed is an object of JSON.
+    pub json: bool,
+}
+
+/// The name of a data set or of a member of one.
+#[derive(Clone, Copy, Debug, PartialEq, Eq)]
+pub struct SetName<'a> {
+    /// The data set.
+    pub data_set: &'a str,
+    /// Its member.
+    pub member: Option<&'a str>,
 }
 
 /// A deck that is to be run.

@@ -23,8 +23,9 @@ pub(crate) fn is_reported(sense: u16) -> bool
     )
 }
 
-/// What the drives report sense bytes 0 and 1 so for.
-pub(crate) fn cause_text(sense: u16) -> &'static str {
+/// What the drives report sense bytes 0 and 1 so for, in the words that a trace has too: the table of causes that the component
+/// descriptions give under 'Sense', with the project's profile of which bits go together.
+pub fn cause_text(sense: u16) -> &'static str {
     match sense {
         0x0000 => "the last command but Sense ended without unit check",
         0x8000 =>
@@ -34,13 +35,23 @@ pub(crate) fn cause_text(sense: u16) -> &'static str {
             "the file mask does not allow this seek, or does not allow the multi-track bit to go on at the next head",
         0x8010 =>
             "a write without the search that found its record equal right before it, or a second Set File Mask in one program",
-        0x0008 =>
-            "the index passed twice, and no area that the command looks for was found on the track",
-        0x0020 => "a command with the multi-track bit went past the cylinder's last head",
-        0x0802 => "the track can't be read: its slot in the image does not spell records",
-        0x8100 => "a seek to a cylinder or a head that the volume does not have",
-        0x0040 => "the record to be written does not fit the track",
+        0x0008 => "the index passed twice, and no such area was found",
+        0x0020 => "the cylinder's last head was passed",
+        0x0802 => "the track can't be read",
+        0x8100 => "the volume has no such cylinder or head",
+        0x0040 => "the record does not fit the track",
         0x1000 => "the image's file could not be read or written",
         _ => "no cause of these drives alone",
+    }
+}
+
+/// What is said behind a cause to those who have no trace.
+pub(crate) fn hint_text(sense: u16) -> &'static str {
+    match sense {
+        0x0008 => ": no area that the command looks for is on the track",
+        0x0020 => ": the command has the multi-track bit",
+        0x0802 => ": its slot in the image does not spell records",
+        0x8100 => ": a seek was to go there",
+        _ => "",
     }
 }

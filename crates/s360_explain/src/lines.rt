@@ -5,7 +5,7 @@ ghost use Rattle.s360_explain.specs.Bits.{bits_of};
 ghost use Rattle.s360_explain.specs.Lines.{lines_of_bits, bit_lines, field_lines, status_lines, ending_lines, csw_lines, sense_lines, ccw_lines, cause_line, has_nonzero};
 
 use crate::bits::{Field, name_of, named_bits};
-use crate::causes::{cause_text, is_reported};
+use crate::causes::{cause_text, hint_text, is_reported};
 use crate::commands::{Code, code_of, command_name};
 use crate::text::{bit_text, command_text};
 use arrayvec::ArrayVec;
@@ -216,7 +216,9 @@ impl fmt::Display for Line {
                 f,
                 "residual count {count}: so many bytes of the last word's count did not pass"
             ),
-            Line::Cause(sense) => write!(f, "cause: {}", cause_text(sense)),
+            Line::Cause(sense) => {
+                write!(f, "cause: {}{}", cause_text(sense), hint_text(sense))
+            }
             Line::NoCause => write!(
                 f,
                 "no single cause of these drives: two at once, as with a track that could not be saved, or those of other drives"

@@ -10,7 +10,8 @@ mod programs;
 use crate::programs::{Cut, cut_at_each_unit, sum_of};
 use anyhow::Result;
 use std::io;
-use test_watched_channels::{Tally, test_disks};
+use test_rows::Tally;
+use test_watched_channels::test_disks;
 
 fn main(rt: HostRuntime) -> Result<()> {
     let text = io::read_to_string(rt.alloc(), rt.reader())?;

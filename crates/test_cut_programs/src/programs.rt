@@ -6,7 +6,8 @@ use anyhow::{Result, bail};
 use s360_deck::{Answer, Event, drive, parse};
 use std::alloc::Global;
 use std::fmt;
-use test_watched_channels::{Comparison, Disk, Failure, Tally, Watch, channel_over, compare_lists};
+use test_rows::Tally;
+use test_watched_channels::{Comparison, Disk, Failure, Watch, channel_over, compare_lists};
 
 /// The address whose programs are cut.
 const DEVICE: u16 = 0x190;
@@ -49,7 +50,7 @@ pub(crate) fn cut_at_each_unit(
     for units in 1..units_of(alloc, disks, before.as_slice())?.saturating_add(1) {
         let list = cut_behind(alloc, before.as_slice(), units, cut)?;
         let comparison = compare_lists(alloc, disks, list.as_slice())?;
-        tally = tally.and(comparison == Comparison::Same);
+        tally.add(comparison == Comparison::Same);
     }
     Ok(tally)
 }

@@ -22,7 +22,8 @@ use crate::watching::{Breach, watch_list};
 use anyhow::Result;
 use s360_deck::Event;
 use std::alloc::Global;
-use test_watched_channels::{Comparison, Disk, Failure, Tally, compare_lists, test_disks};
+use test_rows::Tally;
+use test_watched_channels::{Comparison, Disk, Failure, compare_lists, test_disks};
 use trace_lines::Tracer;
 
 /// How many lists by chance are tried over stores that do not fail.
@@ -53,17 +54,17 @@ fn play_random_lists(rt: &HostRuntime) -> Result<()> {
         let disks = test_disks(alloc, drives)?;
         let list = random_list(alloc, &mut chance, drives)?;
         let comparison = compare_lists(alloc, disks.as_slice(), list.as_slice())?;
-        serial = serial.and(comparison == Comparison::Same);
+        serial.add(comparison == Comparison::Same);
         if comparison != Comparison::Same {
             println!(rt; "list {number}: {comparison}")?;
         }
         match watch_list(alloc, disks.as_slice(), list.as_slice(), Failure::NONE)? {
             Ok(came) => {
-                watched = watched.and(true);
+                watched.add(true);
                 programs = programs.saturating_add(came.programs);
             }
             Err(breach) => {
-                watched = watched.and(false);
+                watched.add(false);
                 println!(rt; "list {number}: {breach}")?;
             }
         }
@@ -115,7 +116,7 @@ fn play_watched_lists(rt: &HostRuntime) -> Result<()> {
                 failure,
                 &mut looks,
             )?;
-            same = same.and(units == Some(looks.units));
+            same.add(units == Some(looks.units));
         }
     }
     println!(rt; "lists by chance that are watched in each unit: {same} as where nobody watches")?;
@@ -136,7 +137,8 @@ fn play_traced_list(rt: &HostRuntime) -> Result<()> {
         Failure::NONE,
         &mut tracer,
     )?;
-    let same = Tally::NONE.and(units.is_some() && tracer.into_writer().is_ok());
+    let mut same = Tally::NONE;
+    same.add(units.is_some() && tracer.into_writer().is_ok());
     println!(rt;
         "lists of {} events that are traced: {same} as where nobody traces",
         list.len()
@@ -174,12 +176,12 @@ impl FailingLists {
             self.no_call = self.no_call.saturating_add(1);
             return Ok(());
         }
-        self.told = self.told.and(ending == Ending::Told);
+        self.told.add(ending == Ending::Told);
         if ending != Ending::Told {
             println!(rt; "list {number} with a fault: {ending}")?;
         }
         let came = go_on(alloc, disks.as_slice(), list.as_slice(), failure)?;
-        self.past = self.past.and(came.is_ok());
+        self.past.add(came.is_ok());
         match came {
             Ok(met) => self.faults = self.faults.saturating_add(met),
             Err(breach) => println!(rt; "list {number} past a fault: {breach}")?,

@@ -5,12 +5,10 @@
 mod disks;
 mod history;
 mod replays;
-mod tally;
 mod volumes;
 mod watched;
 
 pub use crate::disks::{Content, Disk, Failure, Left, TestChannel, channel_over, finish};
 pub use crate::replays::{Comparison, compare_lists};
-pub use crate::tally::Tally;
 pub use crate::volumes::test_disks;
 pub use crate::watched::{Watch, WatchedStore};

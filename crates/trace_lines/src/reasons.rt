@@ -3,42 +3,46 @@
 use bitflags::Flags;
 use ckd_sense::{Command, CommandCode, Sense};
 use s360_channel::DriveView;
+use s360_explain::cause_text;
 use s360_words::{ChannelStatus, Csw, Storage, UnitStatus};
+
+/// The causes of a unit check, as the drives' sense names them: that of the store first, and then the more telling of two.
+const CAUSES: [Sense; 10] = [
+    Sense::STORE_FAULT,
+    Sense::UNREADABLE_TRACK,
+    Sense::RECORD_DOES_NOT_FIT,
+    Sense::SEEK_ADDRESS_OUTSIDE,
+    Sense::OUT_OF_SEQUENCE,
+    Sense::WRITE_NOT_ALLOWED,
+    Sense::INVALID_COMMAND,
+    Sense::SEEK_NOT_ALLOWED,
+    Sense::NO_RECORD_FOUND,
+    Sense::END_OF_CYLINDER,
+];
 
 /// Why a command ended in unit check, by the sense and by its code (component descriptions, 'Sense'; which bits go together is the
 /// project's profile).
 pub(crate) fn of_unit_check(code: u8, sense: Sense) -> &'static str {
-    if sense.contains(Sense::EQUIPMENT_CHECK) {
-        return "the image's file could not be read or written";
-    }
-    if sense.contains(Sense::UNREADABLE_TRACK) {
-        return "the track can't be read";
-    }
-    if sense.contains(Sense::TRACK_OVERRUN) {
-        return "the record does not fit the track";
-    }
-    if sense.contains(Sense::SEEK_CHECK) {
-        return "the volume has no such cylinder or head";
-    }
-    if sense.contains(Sense::INVALID_SEQUENCE) {
-        return of_sequence(code);
-    }
-    if sense.contains(Sense::WRITE_NOT_ALLOWED) {
-        return "the file mask does not allow this write";
-    }
-    if sense.contains(Sense::COMMAND_REJECT) {
-        return of_reject(code);
-    }
-    if sense.contains(Sense::FILE_PROTECTED) {
-        return of_protection(code);
-    }
-    if sense.contains(Sense::NO_RECORD_FOUND) {
-        return "the index passed twice, and no such area was found";
-    }
-    if sense.contains(Sense::END_OF_CYLINDER) {
-        return "the cylinder's last head was passed";
+    for cause in &CAUSES {
+        if sense.contains(*cause) {
+            return of_cause(code, *cause);
+        }
     }
     "see the sense bytes"
+}
+
+// What one cause is for a command of this code.
+fn of_cause(code: u8, cause: Sense) -> &'static str {
+    if cause == Sense::OUT_OF_SEQUENCE {
+        return of_sequence(code);
+    }
+    if cause == Sense::INVALID_COMMAND {
+        return of_reject(code);
+    }
+    if cause == Sense::SEEK_NOT_ALLOWED {
+        return of_protection(code);
+    }
+    cause_text(cause.0)
 }
 
 // A command that may not stand behind those before it.

@@ -1,0 +1,22 @@
+-- Files that come to a folder.
+use Rattle.std.proofs.Common.{◌≡◌, ◌∙◌, ap, sym, ℕ, List, [], ◌∷◌, ◌++◌, append_assoc, append-nil}
+use Rattle.std.specs.List.{All}
+use Rattle.std.proofs.lemmas.List.Elements.{All-append, All-nil}
+use Rattle.dasd_jobs.specs.Written.{Replaced, with_file}
+use Rattle.dasd_run.specs.Extracts.{AddsIn, StandsIn}
+
+-- none came
+pub adds_nothing : (folder : List ℕ) (before : List Replaced) → AddsIn folder before before
+adds_nothing folder before = record {
+  more = [];
+  added = sym (append-nil before);
+  stand = All-nil (StandsIn folder);
+}
+
+-- some came, and then others
+pub adds_both : (folder : List ℕ) (before between now : List Replaced) → AddsIn folder before between → AddsIn folder between now → AddsIn folder before now
+adds_both folder before between now first next = record {
+  more = first.more ++ next.more;
+  added = next.added ∙ ap (λ l. l ++ next.more) first.added ∙ append_assoc before first.more next.more;
+  stand = All-append (StandsIn folder) first.more next.more first.stand next.stand;
+}

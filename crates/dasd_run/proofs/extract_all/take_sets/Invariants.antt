@@ -1,0 +1,6 @@
+use Rattle.dasd_run.specs.Extracts.{AddsIn}
+use Rattle.dasd_run.proofs.extract_all.take_sets.Given as goal
+
+-- the files that came so far stand in the folder
+abbrev pub invariant-loop-block : goal.invariant-loop-block
+invariant-loop-block g l = AddsIn l.target.folder (g.F.ImageFiles.written l.fn.files) (g.F.ImageFiles.written l.files)
