@@ -1,84 +1,222 @@
 #!/usr/bin/env python3
-"""Has Hercules' tools read the volumes of tools/hercules_volumes.py, and compares what they read with what was put there.
+"""Compares what `dasd extract` takes out of volumes with what was put there, and with what Hercules' tools read.
 
-    tools/compare_extract.py
+    tools/compare_extract.py [DASD]
 
-`dasdcat` reads each member as it stands, and `dasdpdsu` each member of blocks that are cards; both are compared byte by byte with the
-files beside the images, and `dasdls` must list the data sets. The same files are what crates/test_extract must read of the volume
-SMALL1 (tools/extract_rows.py). So what `dasd_extract` reads is compared with what Hercules reads. It needs Debian's package hercules,
-and ends with status 1 where something differs."""
+The volumes are those of tools/hercules_volumes.py: data sets of all record formats over one to sixteen extents, and partitioned ones with
+source, load modules and records of variable length. The program is the word, or else the built one of crates/dasd_cmd. It needs Debian's
+package hercules. Each difference is a line; the last line is 'N compared, M differ', and the status 1 where M is not 0.
 
+Each data set and each member is taken out to standard output, to a file with --to, and as text; and each volume by --all, raw, as text and
+with lines of JSON, whose files must be those that were put there, under their names, and no others. Beside what was put there stand:
+
+- `dasdcat`, for each member: its bytes, and the names of a directory;
+- `dasdpdsu`, for each member of cards: its bytes; and with ascii, as text;
+- `dasdcat` with the flag c, for each member of cards: as text;
+- `dasdseq`, for each sequential data set of records of fixed length: its records; and with -ascii, as text.
+
+What Hercules' tools can't tell, or tell otherwise, is left out:
+
+- `dasdpdsu` and the flag c take members of cards alone, records of 80 bytes: others are compared with what was put there and with `dasdcat`;
+- both cut a card to 72 columns as text, so the first 72 columns of a line are compared;
+- control characters, which they print and `dasd` shows as U+FFFD: two data sets of bytes by chance are compared with what was put there;
+- they know no text in records of variable or undefined length, and none of them reads a data set that is not partitioned and has such
+  records or is direct or indexed sequential: these are compared with what was put there alone, by a reading of record formats that shares
+  no code with `dasd` (tools/record_forms.py);
+- `dasdcat` shows names of members in small letters, which are made large again."""
+
+import json
 import pathlib
-import subprocess
+import re
 import sys
 import tempfile
+from dataclasses import dataclass
 
 sys.dont_write_bytecode = True
 sys.path.insert(0, str(pathlib.Path(__file__).resolve().parent))
 
+import hercules_readings as readings
 import hercules_volumes as volumes
+from record_forms import cut, records_of, text_of
 
-CARD = 80
-
-
-def members(contents: pathlib.Path) -> dict[str, dict[str, bytes]]:
-    """What the members of each partitioned data set hold."""
-    found: dict[str, dict[str, bytes]] = {}
-    for path in contents.iterdir():
-        if path.name.endswith(")"):
-            library, member = path.name[:-1].split("(")
-            found.setdefault(library, {})[member] = path.read_bytes()
-    return found
+CARD, COLUMNS = 80, 72
+NO_END = "the extents end before an end of file"
 
 
-def read_by_cat(image: pathlib.Path, library: str, member: str) -> bytes:
-    done = subprocess.run(["dasdcat", "-i", str(image), f"{library}/{member}"], capture_output=True, check=False)
-    return done.stdout
+@dataclass
+class Piece:
+    """A data set or a member: its name for dasd, the name of its file, its blocks and its form; and whether it ends as it should."""
+
+    name: str
+    file: str
+    blocks: list[bytes]
+    form: list[str]
+    is_whole: bool = True
+
+    def raw(self) -> bytes:
+        return b"".join(self.blocks)
+
+    def records(self) -> list[bytes]:
+        return records_of(self.form[1], int(self.form[2]), self.blocks)
+
+    def text(self) -> bytes | None:
+        """Its text; None where it has no record format."""
+        return text_of(self.records()) if self.form else None
 
 
-def read_by_unload(image: pathlib.Path, library: str) -> dict[str, bytes]:
-    """The members that `dasdpdsu` unloads: it writes a file for each, with the member's name in small letters."""
-    with tempfile.TemporaryDirectory() as room:
-        subprocess.run(["dasdpdsu", str(image), library], cwd=room, capture_output=True, check=False)
-        return {path.name.removesuffix(".mac").upper(): path.read_bytes() for path in pathlib.Path(room).iterdir()}
-
-
-def compare(folder: pathlib.Path, plan: volumes.Plan) -> tuple[int, list[str]]:
-    """How many readings there were of a volume, and which were others."""
-    image, wrong, count = folder / f"{plan.name}.ckd", [], 0
-    listed = subprocess.run(["dasdls", str(image)], capture_output=True, text=True, check=False).stdout
-    for name in [*plan.sequential, *plan.partitioned]:
-        count += 1
-        if name not in listed.split():
-            wrong.append(f"dasdls {plan.name} {name}")
-    for library, held in members(folder / plan.name).items():
-        for member, body in held.items():
-            count += 1
-            if read_by_cat(image, library, member) != body:
-                wrong.append(f"dasdcat {plan.name} {library}({member})")
-        if any(len(block) % CARD for made in plan.partitioned[library][0].values() for block in made.blocks):
+def pieces_of(plan: volumes.Plan, contents: pathlib.Path) -> list[Piece]:
+    """All that is on a volume."""
+    pieces = []
+    for name, form in plan.forms.items():
+        if name in plan.partitioned:
+            for member, made in plan.partitioned[name].members.items():
+                for other in (member, *made.aliases):
+                    pieces.append(Piece(f"{name}({other})", volumes.file_name(name, other), made.blocks, form))
             continue
-        unloaded = read_by_unload(image, library)
-        for member, body in held.items():
-            count += 1
-            if unloaded.get(member) != body:
-                wrong.append(f"dasdpdsu {plan.name} {library}({member})")
-    return count, wrong
+        data = (contents / volumes.file_name(name)).read_bytes()
+        if name in plan.blocked:
+            blocks = [data for _, data in plan.blocked[name].blocks]
+        else:
+            blocks = cut(data, int(form[3]) if form else len(data))
+        pieces.append(Piece(name, volumes.file_name(name), blocks, form, name not in plan.filled))
+    return pieces
 
 
-def main() -> None:
-    total, others = 0, []
-    with tempfile.TemporaryDirectory() as room:
-        folder = pathlib.Path(room)
+def columns_of(text: bytes) -> bytes:
+    """Lines cut to the columns of a card that have no number, in the code page that Hercules' tools are asked for."""
+    lines = text.decode().splitlines(keepends=True)
+    return "".join(line.rstrip("\n")[:COLUMNS].rstrip(" ") + "\n" for line in lines).encode("latin-1")
+
+
+def read_lines(lines: list[str]) -> tuple[dict[str, int], int, tuple[int, int]]:
+    """What --all prints: the sizes of files, how many lines tell of something else, and the numbers of the last line."""
+    found = [re.fullmatch(r"(\S+) (\d+) bytes", line) for line in lines]
+    last = re.fullmatch(r"(\d+) files, (\d+) findings", lines[-1])
+    sizes = {it[1]: int(it[2]) for it in found if it}
+    return sizes, found.count(None) - 1, (int(last[1]), int(last[2])) if last else (-1, -1)
+
+
+def read_objects(lines: list[str]) -> tuple[dict[str, int], int, tuple[int, int]]:
+    """The same of objects of JSON."""
+    *objects, last = [json.loads(line) for line in lines]
+    sizes = {it["name"]: it["bytes"] for it in objects if "bytes" in it}
+    return sizes, len(objects) - len(sizes), (last["files"], last["findings"])
+
+
+class Extraction:
+    """What each side reads of a volume."""
+
+    def __init__(self, comparison: readings.Comparison, dasd: str, folder: pathlib.Path, plan: volumes.Plan):
+        self.comparison, self.dasd, self.folder, self.plan = comparison, dasd, folder, plan
+        self.image = folder / f"{plan.name}.ckd"
+        self.pieces = pieces_of(plan, folder / plan.name)
+
+    def same(self, what: str, found, wanted, reader: str) -> None:
+        self.comparison.same(f"{self.plan.name} {what}", found, wanted, reader)
+
+    def compare(self) -> None:
+        """All that is compared of a volume."""
+        for piece in self.pieces:
+            self.compare_piece(piece)
+        for name, library in self.plan.partitioned.items():
+            self.compare_library(name, library)
+        for options in ((), ("--json",), ("--text",), ("--text", "--json")):
+            self.compare_all(options)
+        self.compare_refusals()
+
+    def extract(self, name: str, *options) -> tuple[int, str, bytes]:
+        """Status, fault and standard output of an extraction."""
+        ended = readings.run(self.dasd, "extract", self.image, name, *options)
+        return ended.returncode, ended.stderr.decode(), ended.stdout
+
+    def compare_piece(self, piece: Piece) -> None:
+        """One data set or member: to standard output, to a file, and as text."""
+        status, fault, raw = self.extract(piece.name)
+        self.same(f"{piece.name} status", status, 0 if piece.is_whole else 1, "this script")
+        self.same(f"{piece.name} fault", fault.rstrip("\n").endswith(NO_END), not piece.is_whole, "this script")
+        self.same(piece.name, raw, piece.raw(), "what was put there")
+        target = self.folder / "taken"
+        target.unlink(missing_ok=True)
+        ended = self.extract(piece.name, "--to", target)
+        self.same(f"{piece.name} status with --to", (ended[0], ended[2]), (status, b""), "this script")
+        self.same(f"{piece.name} with --to", target.read_bytes() if target.exists() else None, raw, "standard output")
+        status, fault, text = self.extract(piece.name, "--text")
+        if piece.text() is None:
+            self.same(f"{piece.name} text", (status, fault, text), (1, "dasd: no record format\n", b""), "this script")
+        else:
+            self.same(f"{piece.name} text", text, piece.text(), "what was put there")
+        if self.plan.forms[piece.name.split("(")[0]][:1] == ["PS"] and piece.form[1][0] == "F":
+            self.compare_sequential(piece, raw, text)
+
+    def compare_sequential(self, piece: Piece, raw: bytes, text: bytes) -> None:
+        """A sequential data set of records of fixed length, beside dasdseq."""
+        self.same(piece.name, raw, readings.records_by_dasdseq(self.image, piece.name), "dasdseq")
+        if "\ufffd".encode() not in text:
+            lines = readings.records_by_dasdseq(self.image, piece.name, "-ascii")
+            self.same(f"{piece.name} text", text.decode().encode("latin-1"), lines, "dasdseq -ascii")
+
+    def compare_library(self, name: str, library: volumes.Library) -> None:
+        """The members of a partitioned data set, beside dasdcat and dasdpdsu."""
+        pieces = {it.name.removeprefix(f"{name}(")[:-1]: it for it in self.pieces if it.name.startswith(f"{name}(")}
+        self.same(f"{name} members", sorted(pieces), sorted(readings.members_by_dasdcat(self.image, name)), "dasdcat")
+        is_cards = self.plan.forms[name][1:3] == ["FB", str(CARD)]
+        unloaded = readings.members_by_dasdpdsu(self.image, name) if is_cards else {}
+        unloaded_text = readings.members_by_dasdpdsu(self.image, name, "ascii") if is_cards else {}
+        for member, piece in pieces.items():
+            raw = self.extract(piece.name)[2]
+            self.same(piece.name, raw, readings.member_by_dasdcat(self.image, name, member), "dasdcat")
+            if is_cards:
+                text = columns_of(self.extract(piece.name, "--text")[2])
+                self.same(piece.name, raw, unloaded.get(member), "dasdpdsu")
+                self.same(f"{piece.name} text", text, unloaded_text.get(member), "dasdpdsu ascii")
+                self.same(f"{piece.name} text", text, readings.member_by_dasdcat(self.image, name, member, ":c"), "dasdcat :c")
+
+    def compare_all(self, options: tuple[str, ...]) -> None:
+        """All that is on the volume, taken out into a folder."""
+        is_text, title = "--text" in options, " ".join(["--all", *options])
+        with tempfile.TemporaryDirectory(dir=self.folder) as name:
+            ended = readings.run(self.dasd, "extract", "--all", name, *options, self.image)
+            found = {path.name: path.read_bytes() for path in pathlib.Path(name).iterdir()}
+        wanted = {it.file: it.text() if is_text else it.raw() for it in self.pieces}
+        wanted = {file: body for file, body in wanted.items() if body is not None}
+        self.same(f"{title} files", sorted(found), sorted(wanted), "what was put there")
+        for file, body in wanted.items():
+            self.same(f"{title} {file}", found.get(file), body, "what was put there")
+        findings = sum(1 for it in self.pieces if not it.is_whole or is_text and it.text() is None)
+        self.same(f"{title} status", (ended.returncode, ended.stderr), (1 if findings else 0, b""), "this script")
+        read = read_objects if "--json" in options else read_lines
+        printed, told, last = read(ended.stdout.decode().splitlines())
+        sizes = {file: len(body) for file, body in wanted.items()}
+        self.same(f"{title} sizes", printed, sizes, "what was put there")
+        self.same(f"{title} findings and last line", (told, last), (findings, (len(sizes), findings)), "this script")
+
+    def compare_refusals(self) -> None:
+        """What is not there, and what is there already."""
+        first, library = self.pieces[0], next(iter(self.plan.partitioned))
+        sequential = next(it.name for it in self.pieces if "(" not in it.name)
+        taken = self.folder / "taken"
+        taken.write_bytes(b"mine")
+        for name, options, fault in (
+            ("NOT.THERE", (), "no such data set"),
+            (f"{library}(NOTHERE)", (), "no such member"),
+            (f"{sequential}(MEMBER)", (), "no such member"),
+            (library, (), "no member named"),
+            (first.name, ("--to", taken), "file exists"),
+        ):
+            self.same(f"{name} refused", self.extract(name, *options), (1, f"dasd: {fault}\n", b""), "this script")
+        self.same("file that was there", taken.read_bytes(), b"mine", "this script")
+
+
+def main() -> int:
+    dasd = readings.program(__doc__)
+    comparison = readings.Comparison()
+    with tempfile.TemporaryDirectory() as name:
+        folder = pathlib.Path(name)
         for plan in volumes.plans():
             plan.make(folder)
-            count, wrong = compare(folder, plan)
-            total, others = total + count, others + wrong
-    for line in others:
-        print(line)
-    print(f"{total} readings, {len(others)} others")
-    sys.exit(1 if others else 0)
+            Extraction(comparison, dasd, folder, plan).compare()
+    return comparison.end()
 
 
 if __name__ == "__main__":
-    main()
+    sys.exit(main())

@@ -16,6 +16,7 @@ sys.dont_write_bytecode = True
 sys.path.insert(0, str(pathlib.Path(__file__).resolve().parent))
 
 import hercules_volumes as volumes
+import volume_layouts as layouts
 
 CRATE = pathlib.Path(__file__).resolve().parent.parent / "crates/test_extract"
 MARK = b"\xff" * 8
@@ -65,16 +66,16 @@ def hercules_row() -> tuple[list[str], list[str]]:
     with tempfile.TemporaryDirectory() as room:
         folder = pathlib.Path(room)
         plan.make(folder)
-        image = volumes.Image(folder / "SMALL1.ckd")
+        image = layouts.Image(folder / "SMALL1.ckd")
         contents = {it.name: it.read_bytes() for it in (folder / "SMALL1").iterdir()}
     asked, answers = ["SMALL1 of Hercules"], ["SMALL1 of Hercules"]
     for track in range(20):
-        at = volumes.HEADER + track * image.slot
+        at = layouts.HEADER + track * image.slot
         slot = bytes(image.bytes[at : at + image.slot])
         end = 5 + sum(8 + len(key) + len(data) for _, key, data in image.track(track)) + len(MARK)
         asked.append(f"track {track} 0 {spelled(slot[:end])}")
-    blocks = volumes.find_blocks(image)
-    runs = {name: volumes.runs_of(image, block) for name, block in blocks.items()}
+    blocks = layouts.find_blocks(image)
+    runs = {name: layouts.runs_of(image, block) for name, block in blocks.items()}
     spell = lambda name: " ".join(f"{a // 10}:{a % 10}-{b // 10}:{b % 10}" for a, b in runs[name])
     cards = contents["SYS1.CARDS"]
     for form in ("raw", "fixed:80"):
@@ -144,7 +145,7 @@ def small_rows() -> list[tuple[list[str], list[str]]]:
          "raw 0 0 1 0:1-0:2", ["C1C1", ends(1, "more tracks than are read")]),
         ("a block of no directory", [put(1, record(1, 1, bytes(256), bytes(8)), record(1, 2, a))],
          "directory 0 0 65535 0:1-0:1", ["00" * 256, ends(0, "block 2 is none of a directory")]),
-        ("lines without the blanks at their end", [put(1, record(1, 1, volumes.ebcdic("  AB", 8) + volumes.ebcdic("", 8) + volumes.ebcdic("A¬B¢", 8)), record(1, 2, end))],
+        ("lines without the blanks at their end", [put(1, record(1, 1, layouts.ebcdic("  AB", 8) + layouts.ebcdic("", 8) + layouts.ebcdic("A¬B¢", 8)), record(1, 2, end))],
          "fixed:8 0 0 65535 0:1-0:1", ["  AB", "", "A¬B¢", ends(0, "end of file")]),
         ("a control character", [put(1, record(1, 1, b"\xc1\x27\x25\x07\xc2\x40"), record(1, 2, end))],
          "fixed:6 0 0 65535 0:1-0:1", ["A\ufffd\ufffd\ufffdB", ends(0, "end of file")]),
@@ -215,8 +216,8 @@ def tally(data: bytes, kinds: int, reading) -> list[int]:
 
 def hostile_rows() -> list[tuple[list[str], list[str]]]:
     """Rows in which each byte of a directory's block, and each of a block of records, is replaced in turn."""
-    entries = [(volumes.ebcdic(f"MEMBER{i}", 8), bytes([0, 1, i + 1, user // 2]) + bytes(user)) for i, user in enumerate((0, 30, 12, 62))]
-    key, block = volumes.directory_blocks(entries, 1)[0]
+    entries = [(layouts.ebcdic(f"MEMBER{i}", 8), bytes([0, 1, i + 1, user // 2]) + bytes(user)) for i, user in enumerate((0, 30, 12, 62))]
+    key, block = layouts.directory_blocks(entries, 1)[0]
     name = "each byte of a directory"
     lines = [name, put(1, record(1, 1, block, key), record(1, 2, b"")), f"hostile-members 1 {RECORDS + 16} {len(block)} 0:1-0:1"]
     counts = tally(block, 4, directory_end)

@@ -6,12 +6,12 @@
 writes into FOLDER, for each volume, the image NAME.ckd and the folder NAME with the data of each data set or member in a file of its
 own, as `dasd extract --all` names it. The same arguments give the same bytes.
 
-It needs Debian's package hercules: `dasdload` writes label, volume table of contents, sequential data sets (method SEQ) and empty
-partitioned ones (method EMPTY) by a control file that this script writes. Without a copy of an unloaded partitioned data set that
-tool makes no members, and never more than one extent. So this script puts directory and members into the tracks of an empty data set
-itself, and joins the extents of several into one, by the layouts of System Control Blocks (GC28-6628), 'Partitioned Data Set Directory'
-and 'Data Set Control Block'. It shares no code with `dasd`, and what it makes is read by Hercules' `dasdpdsu` and `dasdcat` too
-(tools/compare_extract.py)."""
+It needs Debian's package hercules: `dasdload` writes label, volume table of contents, sequential data sets (methods SEQ, TEXT, DIP and
+CVOL) and empty ones (method EMPTY) by a control file that this script writes. Without a copy of an unloaded partitioned data set that
+tool makes no members, never more than one extent, no dates but that of today and no list of free tracks. So this script puts directory,
+members and blocks of any format into the tracks of an empty data set itself, joins the extents of several into one, and writes dates and
+free tracks, by the layouts of System Control Blocks (GC28-6628), 'Partitioned Data Set Directory' and 'Data Set Control Block'. It
+shares no code with `dasd`, and what it makes is read by Hercules' tools too (tools/compare_contents.py, tools/compare_extract.py)."""
 
 import pathlib
 import random
@@ -19,200 +19,23 @@ import shutil
 import subprocess
 import sys
 import tempfile
+from dataclasses import dataclass, field
 
-HEADER = 512
-END = b"\xff" * 8
-HEADS = {"2311": 10, "2314": 20}
-CAPACITY = {"2311": 3625, "2314": 7294}
-EXTENTS = 61
-EXTENT = 10
+sys.dont_write_bytecode = True
+sys.path.insert(0, str(pathlib.Path(__file__).resolve().parent))
 
+from record_forms import cut, fixed_blocks, spanned_blocks, variable_blocks
+from volume_layouts import CAPACITY, Details, Extents, Image, Member, blocks_of, count_free, date, ebcdic, find_blocks, join, partition
+from volume_layouts import put_last, runs_of
 
-class Image:
-    """An image in the layout CKD_P370 in memory: its tracks as home address and records, each an identifier, a key and data."""
-
-    def __init__(self, path: pathlib.Path):
-        self.path = path
-        self.bytes = bytearray(path.read_bytes())
-        assert self.bytes[:8] == b"CKD_P370"
-        self.heads = int.from_bytes(self.bytes[8:12], "little")
-        self.slot = int.from_bytes(self.bytes[12:16], "little")
-
-    def track(self, number: int) -> list[tuple[bytes, bytes, bytes]]:
-        """The records of a track, record 0 the first."""
-        at, records = HEADER + number * self.slot + 5, []
-        while self.bytes[at : at + 8] != END:
-            count = bytes(self.bytes[at : at + 8])
-            key, data = count[5], int.from_bytes(count[6:8], "big")
-            body = bytes(self.bytes[at + 8 : at + 8 + key + data])
-            records.append((count[:5], body[:key], body[key:]))
-            at += 8 + key + data
-        return records
-
-    def put_track(self, number: int, records: list[tuple[bytes, bytes, bytes]]) -> None:
-        """Replaces the records of a track."""
-        at = HEADER + number * self.slot
-        made = bytes(self.bytes[at : at + 5])
-        for name, key, data in records:
-            made += name + bytes([len(key)]) + len(data).to_bytes(2, "big") + key + data
-        made += END
-        assert len(made) <= self.slot
-        self.bytes[at : at + self.slot] = made.ljust(self.slot, b"\0")
-
-    def save(self) -> None:
-        self.path.write_bytes(self.bytes)
-
-
-class Extents:
-    """The tracks of a data set, by their numbers on the volume."""
-
-    def __init__(self, image: Image, model: str, runs: list[tuple[int, int]]):
-        self.image, self.capacity = image, CAPACITY[model]
-        self.tracks = [track for first, last in runs for track in range(first, last + 1)]
-        self.filled: list[list[tuple[bytes, bytes]]] = [[]]
-
-    def charge(self, key: bytes, data: bytes) -> int:
-        """More than a record is ever charged on either drive."""
-        return 146 + (len(key) + len(data)) * 537 // 512 + 1
-
-    def append(self, key: bytes, data: bytes) -> tuple[int, int]:
-        """Writes a block behind the last one, and answers its track and its number."""
-        used = sum(self.charge(*block) for block in self.filled[-1])
-        if self.filled[-1] and used + self.charge(key, data) > self.capacity:
-            self.filled.append([])
-        self.filled[-1].append((key, data))
-        return len(self.filled) - 1, len(self.filled[-1])
-
-    def turn(self) -> None:
-        """The next block begins a track."""
-        if self.filled[-1]:
-            self.filled.append([])
-
-    def save(self) -> None:
-        """Puts the blocks on the tracks; those behind them have record 0 alone."""
-        assert len(self.filled) <= len(self.tracks), (len(self.filled), len(self.tracks))
-        for relative, track in enumerate(self.tracks):
-            first = self.image.track(track)[0]
-            blocks = self.filled[relative] if relative < len(self.filled) else []
-            place = b"".join(it.to_bytes(2, "big") for it in divmod(track, self.image.heads))
-            records = [(place + bytes([number]), *block) for number, block in enumerate(blocks, 1)]
-            self.image.put_track(track, [first, *records])
-
-
-def ebcdic(text: str, length: int) -> bytes:
-    return text.ljust(length).encode("cp037")
-
-
-def directory_blocks(entries: list[tuple[bytes, bytes]], count: int) -> list[tuple[bytes, bytes]]:
-    """The blocks of a directory: keys and data. Each entry is a name and what stands behind it."""
-    blocks, room, last = [], bytearray(), b""
-    for name, rest in sorted(entries) + [(END, b"")]:
-        entry = name + rest
-        if name == END:
-            entry = END + bytes(4)
-        if 2 + len(room) + len(entry) > 256:
-            blocks.append((last, room))
-            room = bytearray()
-        room += entry
-        last = name
-    blocks.append((last, room))
-    assert len(blocks) <= count
-    made = [(key, ((len(used) + 2).to_bytes(2, "big") + used).ljust(256, b"\0")) for key, used in blocks]
-    return made + [(bytes(8), bytes([0, 2]).ljust(256, b"\0"))] * (count - len(made))
-
-
-class Member:
-    """A member: its blocks, the names that it has beside its own, and whether it begins a track."""
-
-    def __init__(self, blocks: list[bytes], aliases: tuple[str, ...] = (), turns: bool = False, user: bytes = b"", notes: int = 0):
-        self.blocks, self.aliases, self.turns, self.user, self.notes = blocks, aliases, turns, user, notes
-
-    def data(self) -> bytes:
-        return b"".join(self.blocks)
-
-
-def partition(extents: Extents, members: dict[str, Member], count: int) -> None:
-    """Writes a partitioned data set: the directory, and each member with an end of file behind it."""
-    for _ in range(count):
-        extents.append(bytes(8), bytes(256))
-    extents.append(b"", b"")
-    entries = []
-    for name, member in members.items():
-        if member.turns:
-            extents.turn()
-        places = [extents.append(b"", block) for block in member.blocks + [b""]]
-        track, number = places[0]
-        address = track.to_bytes(2, "big") + bytes([number])
-        for other in (name, *member.aliases):
-            lengths = (128 if other != name else 0) + member.notes * 32 + len(member.user) // 2
-            entries.append((ebcdic(other, 8), address + bytes([lengths]) + member.user))
-    blocks = directory_blocks(entries, count)
-    flat = [(track, i) for track, filled in enumerate(extents.filled) for i in range(len(filled))]
-    for (track, i), block in zip(flat, blocks):
-        extents.filled[track][i] = block
-    extents.save()
-
-
-def find_blocks(image: Image) -> dict[str, tuple[int, int]]:
-    """The format 1 blocks: the track and the place on it, by the name of their data set."""
-    found = {}
-    for track in range((len(image.bytes) - HEADER) // image.slot):
-        for i, (_, key, data) in enumerate(image.track(track)):
-            if len(key) == 44 and len(data) == 96 and data[0] == 0xF1:
-                found[key.decode("cp037").rstrip()] = (track, i)
-    return found
-
-
-def runs_of(image: Image, block: tuple[int, int]) -> list[tuple[int, int]]:
-    """The extents of a format 1 block, as the numbers of their first and last tracks."""
-    data = image.track(block[0])[block[1]][2]
-    runs = []
-    for at in range(EXTENTS, EXTENTS + 3 * EXTENT, EXTENT):
-        if data[at]:
-            number = [int.from_bytes(data[at + k : at + k + 2], "big") for k in (2, 4, 6, 8)]
-            runs.append((number[0] * image.heads + number[1], number[2] * image.heads + number[3]))
-    return runs
-
-
-def date(image: Image) -> None:
-    """Gives each format 1 block one date of creation, day 1 of 1975, where `dasdload` has put that of today."""
-    for track, i in find_blocks(image).values():
-        records = image.track(track)
-        place, key, data = records[i]
-        records[i] = (place, key, data[:9] + bytes([75, 0, 1]) + data[12:])
-        image.put_track(track, records)
-
-
-def join(image: Image, name: str, parts: list[str]) -> None:
-    """Gives a data set the extents of others, whose format 1 blocks are free from then on."""
-    blocks = find_blocks(image)
-    track, i = blocks[name]
-    records = image.track(track)
-    place, key, data = records[i]
-    made = bytearray(data)
-    for number, part in enumerate(parts, 1):
-        other = image.track(blocks[part][0])[blocks[part][1]][2]
-        at = EXTENTS + EXTENT * number
-        made[at : at + EXTENT] = other[EXTENTS : EXTENTS + EXTENT]
-        made[at + 1] = number
-    made[15] = 1 + len(parts)
-    records[i] = (place, key, bytes(made))
-    image.put_track(track, records)
-    for part in parts:
-        track, i = blocks[part]
-        records = image.track(track)
-        records[i] = (records[i][0], bytes(44), bytes(96))
-        image.put_track(track, records)
+# What stands for itself in the name of a file.
+PLAIN = set("ABCDEFGHIJKLMNOPQRSTUVWXYZ0123456789.-_@#$")
 
 
 def cards(chance: random.Random, count: int) -> bytes:
     """Lines of text, each of 80 bytes of EBCDIC."""
     lines = [f"{chance.choice(['         L     R1,', '*  COMMENT ', '//STEP EXEC PGM=', 'A¬B¢|'])}{chance.randrange(10**6)}" for _ in range(count)]
     return b"".join(ebcdic(line, 80) for line in lines)
-
-
-def cut(data: bytes, length: int) -> list[bytes]:
-    return [data[at : at + length] for at in range(0, len(data), length)]
 
 
 def variable(chance: random.Random, count: int) -> list[bytes]:
@@ -238,29 +61,101 @@ def members_of(chance: random.Random, count: int, blocks) -> dict[str, Member]:
     return members
 
 
+def file_name(name: str, member: str | None = None) -> str:
+    """The name of the file of a data set or of a member: a character that is not plain is its EBCDIC byte behind a percent sign."""
+    safe = ["".join(it if it in PLAIN else f"%{it.encode('cp037')[0]:02X}" for it in part) for part in (name, member) if part]
+    return safe[0] if member is None else f"{safe[0]}({safe[1]})"
+
+
+@dataclass
+class Library:
+    """A partitioned data set to be: its members, the blocks of its directory, and the parts that are its extents behind the first."""
+
+    members: dict[str, Member]
+    count: int
+    parts: list[str]
+
+
+@dataclass
+class Blocks:
+    """A data set of blocks to be: their keys and data, and the parts that are its extents behind the first."""
+
+    blocks: list[tuple[bytes, bytes]]
+    parts: list[str]
+
+    def data(self) -> bytes:
+        return b"".join(data for _, data in self.blocks)
+
+
+@dataclass
 class Plan:
-    """A volume to be: its statements for dasdload, and what its partitioned data sets have."""
+    """A volume to be: its statements for dasdload, and what its data sets have. Where it is `exact`, its control blocks say its free
+    tracks, its free blocks and the last block of each data set that this script wrote; `dasdload` says them of its own alone."""
 
-    def __init__(self, name: str, model: str, cylinders: int):
-        self.name, self.model, self.cylinders = name, model, cylinders
-        self.statements: list[str] = []
-        self.sequential: dict[str, bytes] = {}
-        self.partitioned: dict[str, tuple[dict[str, Member], int, list[str]]] = {}
+    name: str
+    model: str
+    cylinders: int
+    table: int = 4
+    exact: bool = False
+    statements: list[str] = field(default_factory=list)
+    sequential: dict[str, bytes] = field(default_factory=dict)
+    partitioned: dict[str, Library] = field(default_factory=dict)
+    blocked: dict[str, Blocks] = field(default_factory=dict)
+    filled: list[str] = field(default_factory=list)
+    details: dict[str, Details] = field(default_factory=dict)
+    forms: dict[str, list[str]] = field(default_factory=dict)
+    messages: str = ""
 
-    def add_sequential(self, name: str, data: bytes, tracks: int, form: str) -> None:
+    def add_sequential(self, name: str, data: bytes, space: str, form: str) -> None:
+        """One that dasdload writes. A form is organisation, record format, record length, block length and key length."""
+        self.forms[name] = form.split()
         self.sequential[name] = data
-        self.statements.append(f"{name} SEQ {{{name}}} TRK {tracks} 0 0 PS {form}")
+        self.statements.append(f"{name} SEQ {{{name}}} {space} 0 {form}")
+
+    def add_empty(self, name: str, space: str, form: str) -> None:
+        """One that is empty."""
+        self.forms[name] = form.split()
+        self.sequential[name] = b""
+        self.statements.append(f"{name} EMPTY {space} 0 {form}")
+
+    def add_parts(self, name: str, tracks: list[int], count: int, form: str, is_apart: bool) -> list[str]:
+        """An empty data set for each of these lengths, with one of one track behind each of them, or behind each but the last."""
+        self.forms[name], parts = form.split(), []
+        for number, length in enumerate(tracks):
+            parts.append(name if number == 0 else f"PART{number}.{name}")
+            directory = 0 if count == 0 else count if number == 0 else 1
+            self.statements.append(f"{parts[-1]} EMPTY TRK {length} 0 {directory} {form}")
+            if is_apart or number + 1 < len(tracks):
+                self.add_empty(f"GAP{number}.{name}", "TRK 1 0", "PS FB 80 400 0")
+        return parts[1:]
 
     def add_partitioned(self, name: str, members: dict[str, Member], count: int, tracks: list[int], form: str) -> None:
-        """One that has an extent of each of these lengths; a data set of one track stands between two of them."""
-        parts = []
-        for number, length in enumerate(tracks):
-            part = name if number == 0 else f"PART{number}.{name}"
-            parts.append(part)
-            self.statements.append(f"{part} EMPTY TRK {length} 0 {count if number == 0 else 1} PO {form}")
-            self.statements.append(f"GAP{number}.{name} EMPTY TRK 1 0 0 PS FB 80 400 0")
-            self.sequential[f"GAP{number}.{name}"] = b""
-        self.partitioned[name] = (members, count, parts[1:])
+        """One that has an extent of each of these lengths."""
+        self.partitioned[name] = Library(members, count, self.add_parts(name, tracks, count, f"PO {form}", not self.exact))
+
+    def add_blocks(self, name: str, blocks: list[bytes], tracks: list[int], form: str, keys: list[bytes] | None = None) -> None:
+        """A data set of these blocks, which has an extent of each of these lengths."""
+        parts = self.add_parts(name, tracks, 0, form, False)
+        self.blocked[name] = Blocks(list(zip(keys or [b""] * len(blocks), blocks)), parts)
+
+    def add_filled(self, name: str, words: str, form: str) -> None:
+        """One that dasdload fills by itself, without an end of file; what it holds is read from the image."""
+        self.forms[name] = form.split()
+        self.filled.append(name)
+        self.statements.append(f"{name} {words} {form}")
+
+    def load(self, image: pathlib.Path, contents: pathlib.Path) -> None:
+        """Has dasdload write the image, and keeps its messages."""
+        paths = {name: str((contents / file_name(name)).resolve()) for name in self.sequential}
+        lines = [f"{self.name} {self.model} {self.cylinders}", f"SYSVTOC VTOC TRK {self.table}"]
+        lines += [line.replace("{" + line.split()[0] + "}", paths.get(line.split()[0], "")) for line in self.statements]
+        with tempfile.TemporaryDirectory() as room:
+            control = pathlib.Path(room, "control")
+            control.write_text("\n".join(lines) + "\n", encoding="ascii")
+            done = subprocess.run(["dasdload", str(control), str(image), "2"], capture_output=True, text=True, check=False)
+        self.messages = done.stdout
+        if done.returncode != 0 or not image.exists():
+            sys.exit(f"dasdload: {done.stdout}{done.stderr}")
 
     def make(self, folder: pathlib.Path) -> None:
         """Writes the image and the files of its contents."""
@@ -269,43 +164,139 @@ class Plan:
         image_path.unlink(missing_ok=True)
         contents.mkdir()
         for name, data in self.sequential.items():
-            (contents / name).write_bytes(data)
-        with tempfile.TemporaryDirectory() as room:
-            control = pathlib.Path(room, "control")
-            paths = {name: str((contents / name).resolve()) for name in self.sequential}
-            lines = [f"{self.name} {self.model} {self.cylinders}", "SYSVTOC VTOC TRK 4"]
-            lines += [line.replace("{" + line.split()[0] + "}", paths.get(line.split()[0], "")) for line in self.statements]
-            control.write_text("\n".join(lines) + "\n")
-            done = subprocess.run(["dasdload", str(control), str(image_path), "0"], capture_output=True, text=True, check=False)
-            if done.returncode != 0 or not image_path.exists():
-                sys.exit(f"dasdload: {done.stdout}{done.stderr}")
+            (contents / file_name(name)).write_bytes(data)
+        self.load(image_path, contents)
         image = Image(image_path)
         date(image)
-        for name, (members, count, parts) in self.partitioned.items():
-            join(image, name, parts)
-            partition(Extents(image, self.model, runs_of(image, find_blocks(image)[name])), members, count)
-            for member, made in members.items():
+        for name, library in self.partitioned.items():
+            self.make_library(image, name, library)
+            for member, made in library.members.items():
                 for other in (member, *made.aliases):
-                    (contents / f"{name}({other})").write_bytes(made.data())
+                    (contents / file_name(name, other)).write_bytes(made.data())
+        for name, blocks in self.blocked.items():
+            self.make_blocks(image, name, blocks)
+            (contents / file_name(name)).write_bytes(blocks.data())
+        for name in self.filled:
+            held = blocks_of(image, runs_of(image, find_blocks(image)[name]))
+            (contents / file_name(name)).write_bytes(b"".join(held))
+        for name, details in self.details.items():
+            details.put(image, find_blocks(image)[name])
+        if self.exact:
+            count_free(image)
         image.save()
+
+    def make_library(self, image: Image, name: str, library: Library) -> None:
+        """Puts directory and members into the extents of a partitioned data set."""
+        join(image, name, library.parts)
+        place = find_blocks(image)[name]
+        extents = Extents(image, self.model, runs_of(image, place))
+        partition(extents, library.members, library.count)
+        if self.exact:
+            put_last(image, place, extents.last())
+
+    def make_blocks(self, image: Image, name: str, blocks: Blocks) -> None:
+        """Puts blocks, and an end of file behind them, into the extents of a data set."""
+        join(image, name, blocks.parts)
+        place = find_blocks(image)[name]
+        extents = Extents(image, self.model, runs_of(image, place))
+        for key, data in [*blocks.blocks, (b"", b"")]:
+            extents.append(key, data)
+        extents.save()
+        if self.exact:
+            put_last(image, place, extents.last())
+
+
+def words(chance: random.Random, length: int) -> bytes:
+    """A record of characters of code page 037, with blanks at its end now and then."""
+    blanks = chance.choice([0, 0, 1, length // 2, length])
+    return bytes(chance.randrange(0x40, 0xFF) for _ in range(length - blanks)).ljust(length, b"\x40")
+
+
+def lines(chance: random.Random, count: int, longest: int) -> list[bytes]:
+    """Records of lengths by chance."""
+    return [words(chance, chance.randrange(1, longest + 1)) for _ in range(count)]
+
+
+def numbered_cards(chance: random.Random, count: int) -> list[bytes]:
+    """Cards with a number in their last eight columns."""
+    return [line[:72] + ebcdic(f"{10 * number:08}", 8) for number, line in enumerate(cut(cards(chance, count), 80), 1)]
+
+
+def add_record_forms(plan: Plan, chance: random.Random) -> None:
+    """Sequential and direct data sets, one of each record format, over one to sixteen extents."""
+    full = CAPACITY[plan.model]
+    plan.add_sequential("FORM.CARDS", b"".join(numbered_cards(chance, 60)), "CYL 1 1", "PS FB 80 3200 0")
+    plan.add_blocks("FORM.F", [words(chance, 100) for _ in range(40)], [3], "PS F 100 100 0")
+    plan.add_blocks("FORM.FB", fixed_blocks(numbered_cards(chance, 230), 720), [2, 1, 5], "PS FB 80 720 0")
+    plan.add_blocks("FORM.FBA", fixed_blocks([words(chance, 133) for _ in range(30)], 1330), [3], "PS FBA 133 1330 0")
+    plan.add_blocks("FORM.FBM", fixed_blocks([words(chance, 121) for _ in range(30)], 1210), [3], "PS FBM 121 1210 0")
+    plan.add_blocks("FORM.FBS", fixed_blocks([words(chance, 50) for _ in range(120)], 500), [2, 2], "PS FBS 50 500 0")
+    plan.add_blocks("FORM.V", [block for it in lines(chance, 20, 196) for block in variable_blocks([it], 204)], [2], "PS V 200 204 0")
+    plan.add_blocks("FORM.VB", variable_blocks(lines(chance, 90, 196), 1000), [3, 2], "PS VB 200 1000 0")
+    plan.add_blocks("FORM.VBA", variable_blocks(lines(chance, 40, 133), 700), [3], "PS VBA 137 700 0")
+    plan.add_blocks("FORM.VBS", spanned_blocks(lines(chance, 50, 900), 300), [4, 1, 30], "PS VBS 904 300 0")
+    plan.add_blocks("FORM.U", [chance.randbytes(chance.randrange(1, 3001)) for _ in range(9)], [2, 1, 1, 3, 9], "PS U 0 3000 0")
+    plan.add_blocks("FORM.SPREAD", fixed_blocks(numbered_cards(chance, 14 * full // 120), 400), [1] * 16, "PS FB 80 400 0")
+    plan.add_blocks("FORM.FULL", [chance.randbytes(full) for _ in range(3)], [4], f"PS F {full} {full} 0")
+    keys = [ebcdic(f"KEY{number:03}", 10) for number in range(20)]
+    plan.add_blocks("FORM.KEYS", [words(chance, 80) for _ in keys], [2], "PS F 80 80 10", keys)
+    plan.add_blocks("FORM.DIRECT", [words(chance, 80) for _ in keys], [1, 1], "DA F 80 80 10", keys)
+
+
+def add_libraries(plan: Plan, chance: random.Random) -> None:
+    """Partitioned data sets over one to five extents: source, load modules, records of variable length, and one without a member."""
+    source = members_of(chance, 30, lambda i: fixed_blocks(numbered_cards(chance, 1 + 9 * i % 70), 400))
+    source |= {"EMPTY": Member([]), "ODD{#": Member([ebcdic("A LINE", 80)], ("OTHER\\",))}
+    plan.add_partitioned("FORM.SOURCE", source, 5, [2, 1, 60], "FB 80 400 0")
+    modules = members_of(chance, 20, lambda i: [chance.randbytes(chance.randrange(1, 3001)) for _ in range(i % 7 + 1)])
+    plan.add_partitioned("FORM.MODULES", modules, 6, [3, 1, 2, 9, 60], "U 0 3000 0")
+    plan.add_partitioned("FORM.VLIB", members_of(chance, 12, lambda i: variable(chance, i % 5 + 1)), 3, [2, 8], "VB 100 600 0")
+    plan.add_partitioned("FORM.NONE", {}, 4, [2], "FB 80 400 0")
+
+
+def add_odd_blocks(plan: Plan) -> None:
+    """Empty data sets whose control blocks say what is seldom said, and two that Hercules fills by itself."""
+    for form in ("FBS 80 800", "V 96 100", "VA 133 137", "VM 133 137", "VBM 133 1330", "U 0 800"):
+        plan.add_empty(f"ODD.{form.split()[0]}", "TRK 1 1", f"PS {form} 0")
+    plan.add_empty("ODD.IS", "TRK 2 1", "IS FB 80 800 10")
+    plan.add_empty("ODD.DA", "TRK 2 1", "DA F 80 80 0")
+    plan.add_empty("ODD.NAME.WHICH.IS.AS.LONG.AS.ANY.CAN.BE.X123", "TRK 1 0", "PS F 80 80 0")
+    plan.add_filled("SYS1.LOGREC", "DIP TRK 1 0 0", "")
+    plan.add_filled("SYSCTLG", "CVOL TRK 2 0 0", "PS F 256 256 8")
+    plan.details |= {
+        "FORM.F": Details(created=(126, 328), expires=(126, 365)),
+        "FORM.FB": Details(created=(99, 365), expires=(99, 365)),
+        "FORM.U": Details(created=(72, 366), unmovable=True),
+        "FORM.DIRECT": Details(created=(68, 60), expires=(100, 366), unmovable=True),
+        "ODD.U": Details(created=(0, 0)),
+    }
+
+
+def forms_plan(name: str, model: str, cylinders: int) -> Plan:
+    """A volume with data sets of many forms."""
+    plan, chance = Plan(name, model, cylinders, table=8, exact=True), random.Random(model)
+    add_record_forms(plan, chance)
+    add_libraries(plan, chance)
+    add_odd_blocks(plan)
+    return plan
 
 
 def plans() -> list[Plan]:
     """The volumes."""
     chance = random.Random(360)
     small = Plan("SMALL1", "2311", 2)
-    small.add_sequential("SYS1.CARDS", cards(chance, 12), 1, "FB 80 400 0")
+    small.add_sequential("SYS1.CARDS", cards(chance, 12), "TRK 1 0", "PS FB 80 400 0")
     small.add_partitioned("SYS1.MACLIB", members_of(chance, 3, lambda i: cut(cards(chance, 3 + i), 240)), 2, [2, 1], "FB 80 240 0")
     large = Plan("LARGE1", "2311", 40)
-    large.add_sequential("MY.CARDS", cards(chance, 400), 20, "FB 80 800 0")
-    large.add_sequential("MY.BYTES", chance.randbytes(100 * 60), 8, "F 100 100 0")
+    large.add_sequential("MY.CARDS", cards(chance, 400), "TRK 20 0", "PS FB 80 800 0")
+    large.add_sequential("MY.BYTES", chance.randbytes(100 * 60), "TRK 8 0", "PS F 100 100 0")
     large.add_partitioned("MY.LIB", members_of(chance, 40, lambda i: cut(cards(chance, 1 + 7 * i % 50), 800)), 6, [40], "FB 80 800 0")
     large.add_partitioned("MY.LOAD", members_of(chance, 25, lambda i: [chance.randbytes(chance.randrange(1, 3000)) for _ in range(i % 9 + 1)]), 9, [60, 20, 60], "U 0 3625 0")
     large.add_partitioned("MY.VARY", members_of(chance, 30, lambda i: variable(chance, i % 12 + 1)), 7, [5, 3, 50], "VB 100 600 0")
     wide = Plan("WIDE14", "2314", 20)
-    wide.add_sequential("WIDE.CARDS", cards(chance, 900), 20, "FB 80 1600 0")
+    wide.add_sequential("WIDE.CARDS", cards(chance, 900), "TRK 20 0", "PS FB 80 1600 0")
     wide.add_partitioned("WIDE.LIB", members_of(chance, 120, lambda i: cut(cards(chance, 1 + i % 33), 1600)), 30, [3, 9, 120], "FB 80 1600 0")
-    return [small, large, wide]
+    return [small, large, wide, forms_plan("FORM11", "2311", 50), forms_plan("FORM14", "2314", 30)]
 
 
 def main() -> None:
