@@ -1,7 +1,8 @@
 -- What is written back of an image that was changed.
-use Rattle.std.specs.Prelude.{◌≡◌, ℕ, zero, suc, ◌<◌, List, [], ◌∷◌, ◌++◌, length, slice_index_or, if◌then◌else◌, Option, Some, None, Result, Ok, Err}
+use Rattle.std.specs.Prelude.{◌≡◌, ℕ, ◌<◌, List, [], ◌∷◌, ◌++◌, length, slice_index_or, if◌then◌else◌, Option, Some, None, Result, Ok, Err}
 use Rattle.ckd_image.specs.Files.{each, file_at}
 use Rattle.ckd_image.specs.Image.{ImageState, HoldsImage}
+use Rattle.dasd_volumes.specs.Volumes.{of_each}
 use Rattle.dasd_jobs.specs.Held.{Held}
 use Rattle.dasd_jobs.specs.Written.{Replaced}
 use Rattle.dasd_jobs.specs.declared.faults.JobFault.{JobFault}
@@ -12,9 +13,8 @@ changed_file path None = []
 changed_file path (Some h) = if h.is_changed then record { path = path; bytes = h.content } ∷ [] else []
 
 -- those of the first so many files of an image, in their order
-unfoldable pub changed_files : (paths : List (List ℕ)) → (stores : List (Option Held)) → ℕ → List Replaced
-changed_files paths stores zero = []
-changed_files paths stores (suc n) = changed_files paths stores n ++ changed_file (slice_index_or paths n []) (file_at stores n)
+abbrev pub changed_files : (paths : List (List ℕ)) → (stores : List (Option Held)) → ℕ → List Replaced
+changed_files paths stores n = of_each (λ k. changed_file (slice_index_or paths k []) (file_at stores k)) n
 
 -- it was written, or nothing was
 abbrev pub WritesChanged : {A : Type 0} → Result A JobFault → (path : List ℕ) → Option Held → (before now : List Replaced) → Type 0

@@ -1,0 +1,18 @@
+-- Files that are written back one after another.
+use Rattle.std.proofs.Common.{ℕ, ◌+◌, ◌<◌, ◌≡◌, ◌∙◌, List, ◌++◌, length, get_or, ap, sym, append_assoc, append-nil}
+use Rattle.std.proofs.lemmas.List.{get_or-map}
+use Rattle.dasd_volumes.specs.Volumes.{of_each}
+use Rattle.dasd_volumes.proofs.Appended.{of_none, of_one_more}
+
+-- none so far
+pub none_yet : {A : Type 0} (before : List A) (of : ℕ → List A) → before ≡ before ++ of_each of 0
+none_yet before of = sym (append-nil before) ∙ ap (λ l. before ++ l) (sym (of_none of))
+
+-- one more
+pub and_one : {A : Type 0} (before now after : List A) (of : ℕ → List A) (n : ℕ) → now ≡ before ++ of_each of n → after ≡ now ++ of n → after ≡ before ++ of_each of (n + 1)
+and_one before now after of n first next =
+    next ∙ ap (λ l. l ++ of n) first ∙ append_assoc before (of_each of n) (of n) ∙ ap (λ l. before ++ l) (sym (of_one_more of n))
+
+-- an element that is there does not go by what stands for one that is not
+pub same_at : {A : Type 0} (xs : List A) (i : ℕ) (d e : A) → i < length xs → get_or xs i d ≡ get_or xs i e
+same_at xs i d e inside = sym (get_or-map (λ x. x) xs i d d inside) ∙ get_or-map (λ x. x) xs i e d inside
