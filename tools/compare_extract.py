@@ -56,12 +56,9 @@ class Piece:
     def raw(self) -> bytes:
         return b"".join(self.blocks)
 
-    def records(self) -> list[bytes]:
-        return records_of(self.form[1], int(self.form[2]), self.blocks)
-
     def text(self) -> bytes | None:
         """Its text; None where it has no record format."""
-        return text_of(self.records()) if self.form else None
+        return text_of(records_of(self.form[1], int(self.form[2]), self.blocks)) if self.form else None
 
 
 def pieces_of(plan: volumes.Plan, contents: pathlib.Path) -> list[Piece]:

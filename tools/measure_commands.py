@@ -95,6 +95,7 @@ def measure(folder: pathlib.Path, given: list[tuple[str, list[str]]], rounds: in
     for _ in range(rounds):
         for name, words in given:
             shutil.rmtree(folder / "out", ignore_errors=True)
+            (folder / "out").mkdir()
             measured = [str(folder / "resource_use"), *words]
             line = subprocess.run(measured, cwd=folder, check=True, stdout=subprocess.PIPE, stderr=subprocess.DEVNULL, text=True)
             uses[name].add(line.stdout)
