@@ -1,7 +1,6 @@
 //! What an archive asks of volumes: a strict check, a dump, and a comparison.
 
-ghost use Rattle.std.specs.Prelude.{◌≡◌, IfSome, IfErr, false};
-ghost use Rattle.dasd_run.specs.Faults.{keeps_files};
+ghost use Rattle.std.specs.Prelude.{◌≡◌, IfSome};
 ghost use Rattle.dasd_archive.specs.Dump.{IsPartOf};
 
 use crate::commands::Ending;
@@ -36,9 +35,7 @@ fn style(json: bool) -> Style {
 }
 
 /// The paths of an image as one string of JSON: joined by plus signs, with quotes.
-pub(crate) fn quoted(alloc: Global, paths: &[&str]) -> Result<String, ProgramFault>
-    ensures { IfErr result (λ e. keeps_files e ≡ false) }
-{
+pub(crate) fn quoted(alloc: Global, paths: &[&str]) -> Result<String, ProgramFault> {
     let mut joined = String::new(alloc);
     for (i, path) in paths.iter().enumerate() {
         if i > 0 {
@@ -54,9 +51,7 @@ pub(crate) fn quoted(alloc: Global, paths: &[&str]) -> Result<String, ProgramFau
 }
 
 /// What a fault over the files of a volume is: a slot that can't be read is a file that can't be.
-pub(crate) fn of_volume(fault: VolumeFault) -> ProgramFault
-    ensures { keeps_files result ≡ false }
-{
+pub(crate) fn of_volume(fault: VolumeFault) -> ProgramFault {
     ProgramFault::Job(match fault {
         VolumeFault::Store => JobFault::Read,
         fault => JobFault::from(fault),

@@ -6,11 +6,10 @@ ghost use Rattle.dasd_run.specs.Faults.{keeps_files};
 use crate::archive::{Lines, check_strictly, compare_both, dump_part};
 use crate::decks::{read_deck, run_text, tell_fault};
 use crate::explain::explain;
-use crate::extract::extract_one;
-use crate::extract_all::extract_all;
 use crate::fault::ProgramFault;
 use crate::runs::{Disks, build, finish};
 use crate::traces::{Traces, begin_trace, end_trace};
+use crate::unload::{extract_set, extract_volume};
 use crate::vtoc::list_contents;
 use dasd_jobs::{ImageFiles, JobFault, NewVolume, Progress, check_files, format_file, list_files};
 use dasd_words::{DeckRun, Request, Volume, WordFault, read_words};
@@ -109,8 +108,8 @@ fn answer<F: Traces, R: Read, W: Write, P: Progress>(
         Request::ListContents { paths, json } => {
             list_contents(alloc, files, writer, paths.as_slice(), json)
         }
-        Request::Extract(asked) => extract_one(alloc, files, writer, &asked),
-        Request::ExtractAll(asked) => extract_all(alloc, files, writer, asked),
+        Request::Extract(asked) => extract_set(alloc, files, writer, &asked),
+        Request::ExtractAll(asked) => extract_volume(alloc, files, writer, &asked),
         Request::Explain(noted) => explain(writer, noted),
         Request::Run(asked) => run_volumes(alloc, files, reader, writer, asked),
     }

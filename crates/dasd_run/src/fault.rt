@@ -1,7 +1,7 @@
 //! Why `dasd` did not do what it was asked.
 
-use dasd_extract::Stop;
 use dasd_jobs::JobFault;
+use dasd_unload::UnloadFault;
 use dasd_words::WordFault;
 use s360_channel::{AttachFault, NewFault};
 use s360_deck::{DeckFault, RunFault};
@@ -47,21 +47,9 @@ pub enum ProgramFault {
     /// The deck was run, and files that it changed are replaced, but its trace is not whole.
     #[error("trace write fault")]
     TraceWrite,
-    /// The volume has no data set of this name.
-    #[error("no such data set")]
-    NoDataSet,
-    /// The data set has no member of this name.
-    #[error("no such member")]
-    NoMember,
-    /// The data set is partitioned, and none of its members is named.
-    #[error("no member named")]
-    NoMemberNamed,
-    /// The format of the data set is of no records, which could be lines.
-    #[error("no record format")]
-    NoRecordFormat,
-    /// What was taken out of a volume ends so, before its end of file.
-    #[error("{0}")]
-    NotWhole(Stop),
+    /// Data sets are not unloaded, or not as a whole.
+    #[error(transparent)]
+    Unload(UnloadFault),
     /// An image file or its image is faulty.
     #[error(transparent)]
     Job(JobFault),

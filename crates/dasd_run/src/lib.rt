@@ -6,13 +6,11 @@ mod archive;
 mod commands;
 mod decks;
 mod explain;
-mod extract;
-mod extract_all;
-mod extracted;
 mod fault;
 mod remarks;
 mod runs;
 mod traces;
+mod unload;
 mod vtoc;
 
 pub use crate::commands::{Ending, obey};

@@ -1,19 +1,16 @@
-//! A data set or a member of a partitioned one, taken out of a volume.
+//! A data set or a member of a partitioned one, unloaded from a volume.
 
-ghost use Rattle.std.specs.Prelude.{◌≡◌, true, false, IfErr};
-ghost use Rattle.dasd_run.specs.Faults.{keeps_files};
-ghost use Rattle.dasd_run.specs.Extracts.{TakesOut};
+ghost use Rattle.std.specs.Prelude.{◌≡◌, true, false, Some, IfOk, IfErr, OnOk, OnErr};
+ghost use Rattle.dasd_jobs.specs.Written.{Replaced};
 ghost use Rattle.dasd_extract.specs.Walk.{wanted};
+ghost use Rattle.dasd_unload.specs.Unloads.{UnloadsTo, AddsAt, is_of_job, leaves_a_file};
 
-use crate::archive::of_volume;
-use crate::commands::Ending;
-use crate::fault::ProgramFault;
+use crate::fault::{NO_MEMORY, UnloadFault, of_volume};
 use dasd_contents::{DataSet, find, read_contents};
 use dasd_extract::{
     Cause, Form, Source, Stop, data_set_name, extract, find_member, member_name, read_members,
 };
 use dasd_jobs::{ImageFiles, JobFault, SlotReader, begin_file, open_volume, put_file};
-use dasd_words::ExtractedSet;
 use data_sets::record_form;
 use std::alloc::Global;
 use std::io::{BufWriter, Write};
@@ -29,46 +26,62 @@ const FIRST: RelativeAddress = RelativeAddress {
     number: 0,
 };
 
-/// What was taken out of a volume: how many bytes, and where they end and why.
+/// A data set that is to be unloaded.
 #[derive(Clone, Copy, Debug, PartialEq, Eq)]
-pub(crate) struct Copied {
+pub struct WantedSet<'a> {
+    /// Its name.
+    pub name: &'a str,
+    /// The member of it, if it is partitioned.
+    pub member: Option<&'a str>,
+    /// The path of the new file for it; none is the writer.
+    pub target: Option<&'a str>,
+    /// Whether records are written as lines of text; if not, blocks are as they stand.
+    pub is_text: bool,
+}
+
+/// What was unloaded to a file: how many bytes, and where the blocks end and why.
+#[derive(Clone, Copy, Debug, PartialEq, Eq)]
+pub(crate) struct Unloaded {
     pub(crate) bytes: u64,
     pub(crate) stop: Stop,
 }
 
-/// Takes a data set or a member out of the volume of these files: to the writer, or to a new file. What ends before its end of file
-/// is written as far as it goes.
+/// Unloads a data set or a member of one from the volume of these files: its blocks up to the end of file, to the writer or to a new
+/// file. What ends before that is written as far as it goes.
 ///
 /// # Errors
 ///
-/// There is no such data set or member; the file is there already; or a fault stopped it. What is not whole is the last of them.
-pub(crate) fn extract_one<F: ImageFiles, W: Write>(
+/// There is no such data set or member; a file is at the path; or a fault stopped it: then no file is there that was not. Or it was
+/// unloaded, and is not whole.
+pub fn unload_set<F: ImageFiles, W: Write>(
     alloc: Global,
     files: &mut F,
     writer: &mut W,
-    asked: &ExtractedSet,
-) -> Result<Ending, ProgramFault>
-    ensures { IfErr result (λ e. keeps_files e ≡ true → F.written files.new ≡ F.written files.old) }
+    paths: &[&str],
+    set: WantedSet,
+) -> Result<(), UnloadFault>
+    ensures kept { IfErr result (λ e. leaves_a_file e ≡ false → F.written files.new ≡ F.written files.old) }
 {
-    let mut volume =
-        open_volume(alloc, files, asked.paths.as_slice()).map_err(ProgramFault::Job)?;
-    let set = find_set(alloc, &mut volume, asked.name.data_set)?;
-    let Some(form) = form_of(&set.block, asked.is_text) else {
-        return Err(ProgramFault::NoRecordFormat);
+    let mut volume = open_volume(alloc, files, paths).map_err(UnloadFault::Job)?;
+    let found = find_set(alloc, &mut volume, set.name)?;
+    let Some(form) = form_of(&found.block, set.is_text) else {
+        return Err(UnloadFault::NoRecordFormat);
     };
-    let start = find_start(alloc, &mut volume, &set, asked.name.member)?;
+    let start = find_start(alloc, &mut volume, &found, set.member)?;
     let source = Source {
+        extents: found.extents.as_slice(),
         start,
-        ..whole(set.extents.as_slice(), form)
+        tracks: u16::MAX,
+        form,
     };
-    let stop = match asked.target {
-        Some(path) => copy_to_file(alloc, files, &mut volume, path, source)?.stop,
+    let stop = match set.target {
+        Some(path) => unload_to(alloc, files, &mut volume, path, source)?.stop,
         None => print(alloc, &mut volume, writer, source)?,
     };
     if stop.cause != Cause::EndOfFile {
-        return Err(ProgramFault::NotWhole(stop));
+        return Err(UnloadFault::NotWhole(stop));
     }
-    Ok(Ending::Done)
+    Ok(())
 }
 
 // The data set of a name.
@@ -76,15 +89,15 @@ fn find_set<V: SlotReader>(
     alloc: Global,
     volume: &mut V,
     name: &str,
-) -> Result<DataSet, ProgramFault> {
+) -> Result<DataSet, UnloadFault> {
     let Some(name) = data_set_name(name) else {
-        return Err(ProgramFault::NoDataSet);
+        return Err(UnloadFault::NoDataSet);
     };
     let contents = read_contents(alloc, volume).map_err(|fault| of_volume(fault))?;
     match find(alloc, contents.found.blocks.as_slice(), &name) {
         Ok(Some(set)) => Ok(set),
-        Ok(None) => Err(ProgramFault::NoDataSet),
-        Err(_) => Err(ProgramFault::OutOfMemory),
+        Ok(None) => Err(UnloadFault::NoDataSet),
+        Err(_) => Err(NO_MEMORY),
     }
 }
 
@@ -117,11 +130,11 @@ fn find_start<V: SlotReader>(
     volume: &mut V,
     set: &DataSet,
     member: Option<&str>,
-) -> Result<RelativeAddress, ProgramFault> {
+) -> Result<RelativeAddress, UnloadFault> {
     match (is_partitioned(&set.block), member) {
         (false, None) => Ok(FIRST),
-        (false, Some(_)) => Err(ProgramFault::NoMember),
-        (true, None) => Err(ProgramFault::NoMemberNamed),
+        (false, Some(_)) => Err(UnloadFault::NoMember),
+        (true, None) => Err(UnloadFault::NoMemberNamed),
         (true, Some(member)) => find_member_start(alloc, volume, set, member),
     }
 }
@@ -132,15 +145,15 @@ fn find_member_start<V: SlotReader>(
     volume: &mut V,
     set: &DataSet,
     member: &str,
-) -> Result<RelativeAddress, ProgramFault> {
+) -> Result<RelativeAddress, UnloadFault> {
     let Some(name) = member_name(member) else {
-        return Err(ProgramFault::NoMember);
+        return Err(UnloadFault::NoMember);
     };
     let members =
         read_members(alloc, volume, set.extents.as_slice()).map_err(|fault| of_volume(fault))?;
     match find_member(members.entries.as_slice(), name) {
         Some(entry) => Ok(entry.address),
-        None => Err(ProgramFault::NoMember),
+        None => Err(UnloadFault::NoMember),
     }
 }
 
@@ -150,11 +163,11 @@ fn print<V: SlotReader, W: Write>(
     volume: &mut V,
     writer: &mut W,
     source: Source,
-) -> Result<Stop, ProgramFault> {
+) -> Result<Stop, UnloadFault> {
     let stop = extract(alloc, volume, writer, source).map_err(|fault| of_volume(fault))?;
     match writer.flush() {
         Ok(()) => Ok(stop),
-        Err(_) => Err(ProgramFault::Job(JobFault::Write)),
+        Err(_) => Err(UnloadFault::Job(JobFault::Write)),
     }
 }
 
@@ -163,26 +176,34 @@ fn print<V: SlotReader, W: Write>(
 /// # Errors
 ///
 /// A file is at the path, or a fault stopped it: nothing is there that was not.
-pub(crate) fn copy_to_file<F: ImageFiles, V: SlotReader>(
+pub(crate) fn unload_to<F: ImageFiles, V: SlotReader>(
     alloc: Global,
     files: &mut F,
     volume: &mut V,
     path: &str,
     source: Source,
-) -> Result<Copied, ProgramFault>
-    ensures taken { TakesOut result path.now (wanted source.entry.form source.entry.extents.now source.entry.start source.entry.tracks)
+) -> Result<Unloaded, UnloadFault>
+    ensures file { UnloadsTo result path.now (wanted source.entry.form source.entry.extents.now source.entry.start source.entry.tracks)
         (V.volume volume.old) (F.written files.old) (F.written files.new) }
-    ensures fault { IfErr result (λ e. keeps_files e ≡ false) }
+    ensures fault { IfErr result (λ e. is_of_job e ≡ true) }
 {
-    let new = begin_file(alloc, files, path).map_err(ProgramFault::Job)?;
-    let Ok(mut writer) = BufWriter::new(alloc, new) else {
-        return Err(ProgramFault::OutOfMemory);
+    let new = match begin_file(alloc, files, path) {
+        Ok(new) => new,
+        Err(fault) => return Err(UnloadFault::Job(fault)),
     };
-    let stop = extract(alloc, volume, &mut writer, source).map_err(|fault| of_volume(fault))?;
+    let Ok(mut writer) = BufWriter::new(alloc, new) else {
+        return Err(NO_MEMORY);
+    };
+    let stop = match extract(alloc, volume, &mut writer, source) {
+        Ok(stop) => stop,
+        Err(fault) => return Err(of_volume(fault)),
+    };
     let Ok(new) = writer.into_inner() else {
-        return Err(ProgramFault::Job(JobFault::Write));
+        return Err(UnloadFault::Job(JobFault::Write));
     };
     let bytes = new.len();
-    put_file(files, path, new).map_err(ProgramFault::Job)?;
-    Ok(Copied { bytes, stop })
+    match put_file(files, path, new) {
+        Ok(()) => Ok(Unloaded { bytes, stop }),
+        Err(fault) => Err(UnloadFault::Job(fault)),
+    }
 }

@@ -1,5 +1,5 @@
-use Rattle.dasd_run.specs.Extracts.{AddsIn}
-use Rattle.dasd_run.proofs.extract_all.take_sets.Given as goal
+use Rattle.dasd_unload.specs.Unloads.{AddsIn}
+use Rattle.dasd_unload.proofs.volumes.unload_sets.Given as goal
 
 -- the files that came so far stand in the folder
 abbrev pub invariant-loop-block : goal.invariant-loop-block

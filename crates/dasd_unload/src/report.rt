@@ -1,11 +1,10 @@
-//! What is said of data sets that were taken out of a volume.
+//! What is said of data sets that were unloaded from a volume.
 
-ghost use Rattle.std.specs.Prelude.{◌≡◌, IfErr, false};
-ghost use Rattle.dasd_run.specs.Faults.{keeps_files};
+ghost use Rattle.std.specs.Prelude.{◌≡◌, IfErr, true};
+ghost use Rattle.dasd_unload.specs.Unloads.{is_of_job};
 
-use crate::commands::Ending;
-use crate::extract::Copied;
-use crate::fault::ProgramFault;
+use crate::fault::UnloadFault;
+use crate::sets::Unloaded;
 use dasd_extract::{Cause, Members, Stop};
 use dasd_jobs::JobFault;
 use data_sets::DirectoryFault;
@@ -34,8 +33,8 @@ impl<'a, W: Write> Report<'a, W> {
     }
 
     /// So many things are wrong with the volume's label and its control blocks.
-    pub(crate) fn contents(&mut self, findings: usize) -> Result<(), ProgramFault>
-        ensures { IfErr result (λ e. keeps_files e ≡ false) }
+    pub(crate) fn contents(&mut self, findings: usize) -> Result<(), UnloadFault>
+        ensures { IfErr result (λ e. is_of_job e ≡ true) }
     {
         if findings == 0 {
             return Ok(());
@@ -51,8 +50,8 @@ impl<'a, W: Write> Report<'a, W> {
         &mut self,
         name: &str,
         text: &T,
-    ) -> Result<(), ProgramFault>
-        ensures { IfErr result (λ e. keeps_files e ≡ false) }
+    ) -> Result<(), UnloadFault>
+        ensures { IfErr result (λ e. is_of_job e ≡ true) }
     {
         self.findings = self.findings.saturating_add(1);
         written(match self.json {
@@ -65,10 +64,10 @@ impl<'a, W: Write> Report<'a, W> {
     }
 
     /// A file of this name was written.
-    pub(crate) fn copied(&mut self, name: &str, copied: Copied) -> Result<(), ProgramFault>
-        ensures { IfErr result (λ e. keeps_files e ≡ false) }
+    pub(crate) fn unloaded(&mut self, name: &str, unloaded: Unloaded) -> Result<(), UnloadFault>
+        ensures { IfErr result (λ e. is_of_job e ≡ true) }
     {
-        let Copied { bytes, stop } = copied;
+        let Unloaded { bytes, stop } = unloaded;
         self.files = self.files.saturating_add(1);
         written(match self.json {
             None => writeln!(self.writer, "{name} {bytes} bytes"),
@@ -81,8 +80,8 @@ impl<'a, W: Write> Report<'a, W> {
     }
 
     /// What is wrong with the directory of a partitioned data set.
-    pub(crate) fn directory(&mut self, name: &str, members: &Members) -> Result<(), ProgramFault>
-        ensures { IfErr result (λ e. keeps_files e ≡ false) }
+    pub(crate) fn directory(&mut self, name: &str, members: &Members) -> Result<(), UnloadFault>
+        ensures { IfErr result (λ e. is_of_job e ≡ true) }
     {
         if let Some(fault) = members.fault {
             self.finding(name, &Directory(fault))?;
@@ -91,8 +90,8 @@ impl<'a, W: Write> Report<'a, W> {
     }
 
     // Blocks end here: it is something that is wrong where that is no end of file.
-    fn ended(&mut self, name: &str, stop: Stop) -> Result<(), ProgramFault>
-        ensures { IfErr result (λ e. keeps_files e ≡ false) }
+    fn ended(&mut self, name: &str, stop: Stop) -> Result<(), UnloadFault>
+        ensures { IfErr result (λ e. is_of_job e ≡ true) }
     {
         if stop.cause == Cause::EndOfFile {
             return Ok(());
@@ -100,9 +99,9 @@ impl<'a, W: Write> Report<'a, W> {
         self.finding(name, &stop)
     }
 
-    /// How many files there are, and how many things that are wrong; and whether there is one.
-    pub(crate) fn end(self) -> Result<Ending, ProgramFault>
-        ensures { IfErr result (λ e. keeps_files e ≡ false) }
+    /// Prints how many files there are, and how many things that are wrong, and answers the second.
+    pub(crate) fn end(self) -> Result<usize, UnloadFault>
+        ensures { IfErr result (λ e. is_of_job e ≡ true) }
     {
         let Report {
             writer,
@@ -118,21 +117,17 @@ impl<'a, W: Write> Report<'a, W> {
             ),
         })?;
         written(writer.flush())?;
-        Ok(if findings == 0 {
-            Ending::Done
-        } else {
-            Ending::Findings
-        })
+        Ok(findings)
     }
 }
 
-// What a failed write is to the program.
-fn written(write: io::Result<()>) -> Result<(), ProgramFault>
-    ensures { IfErr result (λ e. keeps_files e ≡ false) }
+// What a failed write is.
+fn written(write: io::Result<()>) -> Result<(), UnloadFault>
+    ensures { IfErr result (λ e. is_of_job e ≡ true) }
 {
     match write {
         Ok(()) => Ok(()),
-        Err(_) => Err(ProgramFault::Job(JobFault::Write)),
+        Err(_) => Err(UnloadFault::Job(JobFault::Write)),
     }
 }
 

@@ -3,7 +3,7 @@ use Rattle.std.proofs.Common.{◌≡◌, ◌∙◌, ap, sym, ℕ, List, [], ◌�
 use Rattle.std.specs.List.{All}
 use Rattle.std.proofs.lemmas.List.Elements.{All-append, All-nil}
 use Rattle.dasd_jobs.specs.Written.{Replaced, with_file}
-use Rattle.dasd_run.specs.Extracts.{AddsIn, StandsIn}
+use Rattle.dasd_unload.specs.Unloads.{AddsIn, StandsIn}
 
 -- none came
 pub adds_nothing : (folder : List ℕ) (before : List Replaced) → AddsIn folder before before

@@ -1,0 +1,57 @@
+//! Data sets, unloaded from a volume.
+
+ghost use Rattle.std.specs.Prelude.{◌≡◌, true, IfErr};
+ghost use Rattle.dasd_run.specs.Faults.{keeps_files};
+
+use crate::archive::quoted;
+use crate::commands::Ending;
+use crate::fault::ProgramFault;
+use dasd_jobs::ImageFiles;
+use dasd_unload::{WantedSet, WantedVolume, unload_set, unload_volume};
+use dasd_words::{ExtractedSet, ExtractedVolume};
+use std::alloc::Global;
+use std::io::Write;
+
+/// Takes a data set, or a member of one, out of the volume of its files.
+pub(crate) fn extract_set<F: ImageFiles, W: Write>(
+    alloc: Global,
+    files: &mut F,
+    writer: &mut W,
+    asked: &ExtractedSet,
+) -> Result<Ending, ProgramFault>
+    ensures { IfErr result (λ e. keeps_files e ≡ true → F.written files.new ≡ F.written files.old) }
+{
+    let set = WantedSet {
+        name: asked.name.data_set,
+        member: asked.name.member,
+        target: asked.target,
+        is_text: asked.is_text,
+    };
+    match unload_set(alloc, files, writer, asked.paths.as_slice(), set) {
+        Ok(()) => Ok(Ending::Done),
+        Err(fault) => Err(ProgramFault::Unload(fault)),
+    }
+}
+
+/// Takes all data sets out of the volume of its files, and says whether something was wrong.
+pub(crate) fn extract_volume<F: ImageFiles, W: Write>(
+    alloc: Global,
+    files: &mut F,
+    writer: &mut W,
+    asked: &ExtractedVolume,
+) -> Result<Ending, ProgramFault>
+    ensures { IfErr result (λ e. keeps_files e ≡ true → F.written files.new ≡ F.written files.old) }
+{
+    let paths = asked.paths.as_slice();
+    let path = quoted(alloc, paths)?;
+    let volume = WantedVolume {
+        folder: asked.folder,
+        is_text: asked.is_text,
+        json: asked.json.then_some(path.as_str()),
+    };
+    match unload_volume(alloc, files, writer, paths, volume) {
+        Ok(0) => Ok(Ending::Done),
+        Ok(_) => Ok(Ending::Findings),
+        Err(fault) => Err(ProgramFault::Unload(fault)),
+    }
+}

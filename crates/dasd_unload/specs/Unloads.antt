@@ -1,0 +1,77 @@
+-- What is unloaded from a volume, and where it goes.
+use Rattle.std.specs.Prelude.{◌≡◌, ℕ, Bool, true, false, List, [], ◌∷◌, ◌++◌, length, codes, Option, Some, None, Result, Ok, Err}
+use Rattle.std.specs.List.{All}
+use Rattle.data_sets.specs.Names.{safe_name_of}
+use Rattle.dasd_volumes.specs.declared.fault.VolumeFault.{VolumeFault}
+use Rattle.dasd_volumes.specs.declared.fault.VolumeFault.TheVariants as volume
+use Rattle.dasd_volumes.specs.Reading.{KnownVolume}
+use Rattle.dasd_extract.specs.Walk.{Wanted, Extracts}
+use Rattle.dasd_jobs.specs.declared.faults.JobFault.TheVariants as job
+use Rattle.dasd_jobs.specs.Written.{Replaced, with_file}
+use Rattle.dasd_unload.specs.declared.fault.UnloadFault.{UnloadFault}
+use Rattle.dasd_unload.specs.declared.fault.UnloadFault.TheVariants as fault
+use Rattle.dasd_unload.specs.declared.sets.Unloaded.{Unloaded}
+
+-- a slot that can't be read is a file that can't be
+abbrev pub unload_fault : VolumeFault → UnloadFault
+unload_fault volume.OutOfMemory = fault.Job job.OutOfMemory
+unload_fault volume.Store = fault.Job job.Read
+unload_fault volume.Write = fault.Job job.Write
+
+-- what is unloaded was put at its path before it is told that it is not whole; every other fault leaves no file
+abbrev pub leaves_a_file : UnloadFault → Bool
+leaves_a_file (fault.NotWhole _) = true
+leaves_a_file fault.NoDataSet = false
+leaves_a_file fault.NoMember = false
+leaves_a_file fault.NoMemberNamed = false
+leaves_a_file fault.NoRecordFormat = false
+leaves_a_file (fault.Job _) = false
+
+-- a fault of the files or of the volume
+abbrev pub is_of_job : UnloadFault → Bool
+is_of_job (fault.Job _) = true
+is_of_job (fault.NotWhole _) = false
+is_of_job fault.NoDataSet = false
+is_of_job fault.NoMember = false
+is_of_job fault.NoMemberNamed = false
+is_of_job fault.NoRecordFormat = false
+
+-- the blocks of a source were put into a file at a path, and are so many bytes
+pub record Unloads (path : List ℕ) (s : Wanted) (v : KnownVolume) (before now : List Replaced) (u : Unloaded) : Type 0 where
+  pub bytes : List ℕ
+  pub put : now ≡ with_file before path bytes
+  pub blocks : Extracts s v (Some []) (Some bytes) u.stop
+  pub count : u.bytes ≡ length bytes
+
+-- they were, or nothing was
+abbrev pub UnloadsTo : Result Unloaded UnloadFault → (path : List ℕ) → Wanted → KnownVolume → (before now : List Replaced) → Type 0
+UnloadsTo (Ok u) path s v before now = Unloads path s v before now u
+UnloadsTo (Err _) path s v before now = now ≡ before
+
+-- the name of the file for a data set, or for a member of one: SYS1.MACLIB(OPEN)
+abbrev pub file_name : (data_set : List ℕ) → (member : Option (List ℕ)) → List ℕ
+file_name data_set None = safe_name_of data_set
+file_name data_set (Some member) = safe_name_of data_set ++ codes "(" ++ safe_name_of member ++ codes ")"
+
+-- a name is one of these
+pub record IsFileName (name : List ℕ) : Type 0 where
+  pub data_set : List ℕ
+  pub member : Option (List ℕ)
+  pub made : name ≡ file_name data_set member
+
+-- a file stands in a folder, under the name of a data set or of a member
+pub record StandsIn (folder : List ℕ) (f : Replaced) : Type 0 where
+  pub name : List ℕ
+  pub is_name : IsFileName name
+  pub path : f.path ≡ folder ++ codes "/" ++ name
+
+-- files came to these, and each stands in the folder
+pub record AddsIn (folder : List ℕ) (before now : List Replaced) : Type 0 where
+  pub more : List Replaced
+  pub added : now ≡ before ++ more
+  pub stand : All (StandsIn folder) more
+
+-- at most one file came to these, at this path, if there is one
+abbrev pub AddsAt : (path : Option (List ℕ)) → (before now : List Replaced) → Type 0
+AddsAt None before now = now ≡ before
+AddsAt (Some path) before now = (bytes : List ℕ) × (now ≡ with_file before path bytes)

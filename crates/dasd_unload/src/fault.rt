@@ -1,0 +1,46 @@
+//! Why data sets were not unloaded.
+
+ghost use Rattle.std.specs.Prelude.{◌≡◌};
+ghost use Rattle.dasd_unload.specs.Unloads.{unload_fault};
+
+use dasd_extract::Stop;
+use dasd_jobs::JobFault;
+use dasd_volumes::VolumeFault;
+use thiserror::Error;
+
+/// Why a data set was not unloaded, or not as a whole.
+#[derive(Clone, Copy, Debug, PartialEq, Eq, Error)]
+pub enum UnloadFault {
+    /// The volume has no data set of this name.
+    #[error("no such data set")]
+    NoDataSet,
+    /// The data set has no member of this name.
+    #[error("no such member")]
+    NoMember,
+    /// The data set is partitioned, and none of its members is named.
+    #[error("no member named")]
+    NoMemberNamed,
+    /// The format of the data set is of no records, which could be lines.
+    #[error("no record format")]
+    NoRecordFormat,
+    /// What was unloaded ends so, before its end of file.
+    #[error("{0}")]
+    NotWhole(Stop),
+    /// A fault of the files or of the volume stopped it.
+    #[error(transparent)]
+    Job(JobFault),
+}
+
+/// No memory.
+pub(crate) const NO_MEMORY: UnloadFault = UnloadFault::Job(JobFault::OutOfMemory);
+
+/// What a fault over the files of a volume is: a slot that can't be read is a file that can't be.
+pub(crate) fn of_volume(fault: VolumeFault) -> UnloadFault
+    ensures { result ≡ unload_fault fault }
+{
+    UnloadFault::Job(match fault {
+        VolumeFault::OutOfMemory => JobFault::OutOfMemory,
+        VolumeFault::Store => JobFault::Read,
+        VolumeFault::Write => JobFault::Write,
+    })
+}

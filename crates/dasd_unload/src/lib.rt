@@ -1,0 +1,12 @@
+//! Data sets and members of partitioned ones, unloaded from a volume: one to a writer or to a new file, or all of them to the files of a
+//! folder. The files are behind a trait, so that nothing here touches a host.
+#![tactic(auto)]
+
+mod fault;
+mod report;
+mod sets;
+mod volumes;
+
+pub use crate::fault::UnloadFault;
+pub use crate::sets::{WantedSet, unload_set};
+pub use crate::volumes::{WantedVolume, unload_volume};

@@ -1,0 +1,127 @@
+"""What the scripts that run `dasd` over real files share: rows, scratch folders, what volumes hold, and comparisons.
+
+What a volume must hold is made here, from the layout of an image (docs/DECISIONS.md), and not by the program."""
+
+import os
+import subprocess
+from contextlib import contextmanager
+from pathlib import Path
+
+NOBODY = 65534
+HEADS = {"2311": 10, "2314": 20}
+SLOT = {"2311": 4096, "2314": 7680}
+# Searches record 0 of cylinder 0, head 0, and formats record 1 of four bytes behind it.
+WRITE = """STORE 48 00000400
+STORE 400 3100050040000005 0800040000000000 1D0006000000000C
+STORE 500 0000000000
+STORE 600 0000000001000004 {data}
+SIO {unit}
+STEP 100
+INT
+"""
+ANSWERS = "STORE OK\n" * 4 + "SIO {unit} CC 0\nSTEP 20\nINT {unit} 00000418 0C000000\n"
+ROWS = []
+
+
+class Skipped(Exception):
+    """A row that can't be played here."""
+
+
+def row(play):
+    """A row: its name is that of the function, in words."""
+    ROWS.append((play.__name__.replace("_", " "), play))
+    return play
+
+
+# What volumes hold.
+
+
+def header(model, sequence=0, highest=0):
+    fields = HEADS[model].to_bytes(4, "little") + SLOT[model].to_bytes(4, "little")
+    kind = bytes([{"2311": 0x11, "2314": 0x14}[model], sequence]) + highest.to_bytes(2, "little")
+    return (b"CKD_P370" + fields + kind).ljust(512, b"\0")
+
+
+def track(model, cylinder, head, records=b""):
+    at = cylinder.to_bytes(2, "big") + head.to_bytes(2, "big")
+    spelled = b"\0" + at + at + bytes([0, 0, 0, 8]) + bytes(8) + records + b"\xff" * 8
+    return spelled.ljust(SLOT[model], b"\0")
+
+
+def volume(model="2311", cylinders=1, data=None, first=0, sequence=0, highest=0):
+    """A new volume; with data, what WRITE makes of it."""
+    record = b"" if data is None else bytes([0, 0, 0, 0, 1, 0, 0, 4]) + bytes.fromhex(data)
+    slots = [track(model, c, h, b"" if c or h else record) for c in range(first, cylinders) for h in range(HEADS[model])]
+    return header(model, sequence, highest) + b"".join(slots)
+
+
+# Commands.
+
+
+class Scratch:
+    """A folder of a row's own, and the program."""
+
+    def __init__(self, program, folder, **how):
+        self.program, self.folder, self.how = program, Path(folder), how
+
+    def path(self, name):
+        return self.folder / name
+
+    def put(self, name, held):
+        self.path(name).write_bytes(held)
+        return self.path(name)
+
+    def start(self, *words, **how):
+        given = {"stdin": subprocess.PIPE, "stdout": subprocess.PIPE, "stderr": subprocess.PIPE, "cwd": self.folder, **self.how, **how}
+        return subprocess.Popen([self.program, *map(str, words)], **given)
+
+    def begin(self, *words, deck):
+        """A run that has its deck."""
+        run = self.start(*words)
+        try:
+            run.stdin.write(deck.encode())
+            run.stdin.close()
+        except BrokenPipeError:  # it was refused before it read
+            pass
+        run.stdin = None
+        return run
+
+    def dasd(self, *words, deck="", **how):
+        """Runs a command; its status, what it printed, and what it said on standard error."""
+        ran = self.start(*words, **how)
+        out, told = ran.communicate(deck.encode() if isinstance(deck, str) else deck, timeout=120)
+        return ran.returncode, (out or b"").decode(), (told or b"").decode()
+
+    def write(self, *words, data="D5D6D7D8", unit="190", **how):
+        return self.dasd("run", *words, deck=WRITE.format(data=data, unit=unit), **how)
+
+    def names(self):
+        return sorted(it.name for it in self.folder.iterdir())
+
+
+def same(found, wanted, what="it"):
+    if found != wanted:
+        shown = [repr(it if not isinstance(it, bytes) else f"{len(it)} bytes") for it in (found, wanted)]
+        raise AssertionError(f"{what} is {shown[0]}, not {shown[1]}")
+
+
+def is_held(path, held):
+    same(path.read_bytes(), held, path.name)
+
+
+def wrote(unit="190"):
+    return 0, ANSWERS.format(unit=unit), ""
+
+
+def fault(text, printed=""):
+    return 1, printed, f"dasd: {text}\n"
+
+
+@contextmanager
+def waiting_run(scratch, *volumes, name="deck"):
+    """A run that has locked its images and waits for its deck; the deck's pipe."""
+    os.mkfifo(scratch.path(name))
+    run = scratch.start("run", "--deck", name, *volumes)
+    with open(scratch.path(name), "wb", buffering=0) as deck:
+        yield run, deck
+    scratch.path(name).unlink()
