@@ -23,7 +23,9 @@ What Hercules' tools can't tell, or tell otherwise, is left out:
 - they know no text in records of variable or undefined length, and none of them reads a data set that is not partitioned and has such
   records or is direct or indexed sequential: these are compared with what was put there alone, by a reading of record formats that shares
   no code with `dasd` (tools/record_forms.py);
-- `dasdcat` shows names of members in small letters, which are made large again."""
+- `dasdcat` shows names of members in small letters, which are made large again.
+
+Of a spanned record `dasd` drops the blanks at the end of its last segment alone (docs/DECISIONS.md), and so does that reading."""
 
 import json
 import pathlib

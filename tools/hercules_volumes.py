@@ -89,13 +89,15 @@ class Blocks:
 
 @dataclass
 class Plan:
-    """A volume to be: its statements for dasdload, and what its data sets have. Where it is `exact`, its control blocks say its free
-    tracks, its free blocks and the last block of each data set that this script wrote; `dasdload` says them of its own alone."""
+    """A volume to be: its statements for dasdload, and what its data sets have. The volume table of contents has so many tracks (`table`), and
+    stands behind so many data sets (`behind`). Where a plan is `exact`, the control blocks say the free tracks, the free blocks and the
+    last block of each data set that this script wrote; `dasdload` says them of its own alone."""
 
     name: str
     model: str
     cylinders: int
     table: int = 4
+    behind: int = 0
     exact: bool = False
     statements: list[str] = field(default_factory=list)
     sequential: dict[str, bytes] = field(default_factory=dict)
@@ -147,8 +149,9 @@ class Plan:
     def load(self, image: pathlib.Path, contents: pathlib.Path) -> None:
         """Has dasdload write the image, and keeps its messages."""
         paths = {name: str((contents / file_name(name)).resolve()) for name in self.sequential}
-        lines = [f"{self.name} {self.model} {self.cylinders}", f"SYSVTOC VTOC TRK {self.table}"]
-        lines += [line.replace("{" + line.split()[0] + "}", paths.get(line.split()[0], "")) for line in self.statements]
+        lines = [line.replace("{" + line.split()[0] + "}", paths.get(line.split()[0], "")) for line in self.statements]
+        lines.insert(self.behind, f"SYSVTOC VTOC TRK {self.table}")
+        lines.insert(0, f"{self.name} {self.model} {self.cylinders}")
         with tempfile.TemporaryDirectory() as room:
             control = pathlib.Path(room, "control")
             control.write_text("\n".join(lines) + "\n", encoding="ascii")
@@ -272,9 +275,9 @@ def add_odd_blocks(plan: Plan) -> None:
     }
 
 
-def forms_plan(name: str, model: str, cylinders: int) -> Plan:
+def forms_plan(name: str, model: str, cylinders: int, behind: int) -> Plan:
     """A volume with data sets of many forms."""
-    plan, chance = Plan(name, model, cylinders, table=8, exact=True), random.Random(model)
+    plan, chance = Plan(name, model, cylinders, table=8, behind=behind, exact=True), random.Random(model)
     add_record_forms(plan, chance)
     add_libraries(plan, chance)
     add_odd_blocks(plan)
@@ -296,7 +299,7 @@ def plans() -> list[Plan]:
     wide = Plan("WIDE14", "2314", 20)
     wide.add_sequential("WIDE.CARDS", cards(chance, 900), "TRK 20 0", "PS FB 80 1600 0")
     wide.add_partitioned("WIDE.LIB", members_of(chance, 120, lambda i: cut(cards(chance, 1 + i % 33), 1600)), 30, [3, 9, 120], "FB 80 1600 0")
-    return [small, large, wide, forms_plan("FORM11", "2311", 50), forms_plan("FORM14", "2314", 30)]
+    return [small, large, wide, forms_plan("FORM11", "2311", 50, 0), forms_plan("FORM14", "2314", 30, 20)]
 
 
 def main() -> None:
