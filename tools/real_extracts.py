@@ -57,10 +57,11 @@ def put_library(image):
     extents.save()
 
 
-def labelled(s, name="pack.ckd"):
-    """The path of the volume."""
-    image = Image(s.put(name, volume(MODEL, 2)))
-    put_label(image, MODEL, "ABC123", [DataSet(it, kind, 80, 160, runs, (0, 1)) for it, kind, runs in SETS])
+def spell(path, sets=SETS):
+    """Makes the file of the volume, with the control blocks of these data sets."""
+    path.write_bytes(volume(MODEL, 2))
+    image = Image(path)
+    put_label(image, MODEL, "ABC123", [DataSet(it, kind, 80, 160, runs, (0, 1)) for it, kind, runs in sets])
     put_blocks(image, CARDS, [LINES[:2], LINES[2:]])
     put_library(image)
     put_blocks(image, OUTSIDE, [["ROOT"]])
@@ -70,7 +71,12 @@ def labelled(s, name="pack.ckd"):
     key, data = image.block((1, 7))
     image.put_block((1, 7), key, data[:40] + b"\0" + data[41:])  # a record format without bits
     image.save()
-    return s.path(name)
+
+
+def labelled(s):
+    """The path of the volume in the folder of a row."""
+    spell(s.path("pack.ckd"))
+    return s.path("pack.ckd")
 
 
 def raw(*lines):

@@ -23,6 +23,11 @@ import sys
 import tempfile
 from pathlib import Path
 
+sys.dont_write_bytecode = True
+sys.path.insert(0, str(Path(__file__).resolve().parent))
+
+from real_extracts import SETS, spell
+
 TOP = Path(__file__).resolve().parent.parent
 CALL = re.compile(r"([A-Za-z:]+): ([a-z ,]+)\n")
 DECK = """STORE 48 00000400
@@ -33,9 +38,11 @@ SIO 190
 STEP 100
 INT
 """
-COMMANDS = ["format", "list", "check", "dump", "compare", "run", "help"]
+COMMANDS = ["format", "list", "check", "dump", "compare", "vtoc", "extract", "explain", "run", "help"]
 WRONG = "fomrat"
 TRACE = "trace"
+# Of all data sets those that were whole before it stay.
+ALL = "all data sets to files"
 
 
 def growths(length):
@@ -54,6 +61,12 @@ JOBS = {
     "check": (["check", "old.ckd"], None, 0),
     "a deck that writes a record": (["run", "90=old.ckd", "91=new:2314:1"], DECK, 0),
     "a deck that is traced": (["run", "--trace-to", TRACE, "90=old.ckd"], DECK, 0),
+    "a number in words": (["explain", "csw", "000004080C400014"], None, 0),
+    "the data sets of a volume": (["vtoc", "old.ckd"], None, 0),
+    "the same in objects": (["vtoc", "--json", "old.ckd"], None, 0),
+    "a data set": (["extract", "old.ckd", "PAY.CARDS", "--text"], None, 0),
+    "a member to a file": (["extract", "old.ckd", "SYS1.MACLIB(BETA)", "--to", "beta"], None, 0),
+    ALL: (["extract", "--all", ".", "old.ckd"], None, 0),
     "a word that is wrong": ([WRONG], None, sum(growths(len(WRONG)) + growths(len(it)) for it in COMMANDS)),
 }
 
@@ -137,7 +150,8 @@ def check_dasd(program, name, job, old):
         ended, text, said, left, _ = program.run(words, deck, number, old)
         is_absorbed = (ended, text, said, left) == (status, right, faults, files)
         is_front = right.startswith(text) and files.get(TRACE, b"").startswith(left.pop(TRACE, b""))
-        is_told = (ended, said) == (1, "dasd: out of memory\n") and is_front and left == {"old.ckd": old}
+        stays = {it: files[it] for it in left if it in files} if name == ALL else {"old.ckd": old}
+        is_told = (ended, said) == (1, "dasd: out of memory\n") and is_front and left == stays and left["old.ckd"] == old
         told, absorbed = told + is_told, absorbed + (is_absorbed and not is_told)
         if not is_told and not is_absorbed:
             wrong += 1
@@ -159,7 +173,8 @@ def main():
         refusing = library(folder)
         calls, dasd = (Program(path, refusing) for path in paths)
         total, wrong = check_calls(calls)
-        old = dasd.run(["format", "new.ckd", "--model", "2311", "--cylinders", "1"], None, 0)[3]["new.ckd"]
+        spell(Path(folder, "old.ckd"), SETS[:-1])
+        old = Path(folder, "old.ckd").read_bytes()
         for name, job in JOBS.items():
             tried, failed = check_dasd(dasd, name, job, old)
             total, wrong = total + tried, wrong + failed

@@ -1,3 +1,4 @@
+pub mod Back
 pub mod Held
 pub mod Causes
 pub mod Lines

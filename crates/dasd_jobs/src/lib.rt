@@ -2,23 +2,23 @@
 //! writes back those of a run. The files are behind a trait, so that nothing here touches a host.
 #![tactic(auto)]
 
-mod drafts;
 mod faults;
 mod files;
 mod headers;
 mod jobs;
 mod mounting;
+mod new_files;
 mod opened;
 mod reasons;
 mod store;
 mod written;
 
-pub use crate::drafts::{DraftWriter, begin_file, put_file};
 pub use crate::faults::JobFault;
 pub use crate::files::{FileFault, ImageFiles, OpenedFile};
 pub use crate::headers::is_header;
 pub use crate::jobs::{NewVolume, check_files, format_file, list_files};
 pub use crate::mounting::{new_image, read_image, write_back, write_file};
+pub use crate::new_files::{DraftWriter, begin_file, put_file};
 pub use crate::opened::{OpenedVolume, open_volume};
 pub use crate::store::FileStore;
 pub use crate::written::Written;

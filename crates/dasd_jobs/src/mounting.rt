@@ -1,8 +1,9 @@
 //! Images in memory, and the files that hold them.
 
-ghost use Rattle.std.specs.Prelude.{◌≡◌, ◌+◌, ◌<◌, ◌≤◌, [], length, All, IsSome, IfOk, OnOk};
+ghost use Rattle.std.specs.Prelude.{◌≡◌, ◌+◌, ◌<◌, ◌≤◌, [], length, map, All, IsSome, IfOk, OnOk};
 ghost use Rattle.arrayvec.specs.ArrayVec.{array_vec_len};
 ghost use Rattle.dasd_jobs.specs.Written.{WritesFile};
+ghost use Rattle.dasd_jobs.specs.Back.{WritesBack, WritesStores, WritesChanged};
 
 use crate::faults::{JobFault, of_read, of_write};
 use crate::files::{FileFault, ImageFiles, OpenedFile};
@@ -186,10 +187,26 @@ pub fn write_back<F: ImageFiles>(
     files: &mut F,
     paths: &[&str],
     image: Image<FileStore>,
-) -> Result<(), JobFault> {
+) -> Result<(), JobFault>
+    ensures { WritesBack result (map (λ path. path.now) paths.now) image (F.written files.old) (F.written files.new) }
+{
     let stores = image.into_stores();
-    for (path, store) in paths.iter().zip(stores.as_slice()) {
-        write_changed(alloc, files, path, store)?;
+    write_stores(alloc, files, paths, stores.as_slice())
+}
+
+// Writes the stores that were changed to their paths, up to the first that can't be written.
+fn write_stores<F: ImageFiles>(
+    alloc: Global,
+    files: &mut F,
+    paths: &[&str],
+    stores: &[Option<FileStore>],
+) -> Result<(), JobFault>
+    ensures { WritesStores result (map (λ path. path.now) paths.now) stores.now (F.written files.old) (F.written files.new) }
+{
+    for i in 0..paths.len() {
+        if i < stores.len() {
+            write_changed(alloc, files, paths[i], &stores[i])?;
+        }
     }
     Ok(())
 }
@@ -200,7 +217,9 @@ fn write_changed<F: ImageFiles>(
     files: &mut F,
     path: &str,
     store: &Option<FileStore>,
-) -> Result<(), JobFault> {
+) -> Result<(), JobFault>
+    ensures { WritesChanged result path.now store.now (F.written files.old) (F.written files.new) }
+{
     match store {
         Some(store) if store.is_changed() => write_file(alloc, files, path, true, store.bytes()),
         _ => Ok(()),
