@@ -22,6 +22,7 @@ What dasdls can't tell, or tells otherwise, is left out:
 - the organisation IS, for which it prints blanks; and none (0), for which `dasd` has question marks;
 - the record format of a data set that has none (0): it prints U, and `dasd` a question mark;
 - a date of creation of zeros, for which it prints asterisks, and `dasd` a hyphen;
+- tracks for user labels, which it counts as the data set's, and `dasd` does not;
 - the percentage is of the image's slots, which are larger than tracks, and is rounded: where a data set has more than a hundred tracks, it
   is that of one track more or less too;
 - owner, free tracks and free control blocks, which it does not print. `dasdload` writes no free tracks, so those of three volumes are
@@ -139,7 +140,7 @@ class Volume:
             "format": listed.form if listed.block_length else found.get("format"),
             "record_length": listed.record_length,
             "block_length": listed.block_length,
-            "tracks": listed.tracks,
+            "tracks": listed.tracks - self.label_tracks(listed.name),
         }
         for field, value in wanted.items():
             self.same(f"{listed.name} {field}{where}", found.get(field), value, "dasdls")
@@ -150,6 +151,11 @@ class Volume:
         is_so = abs(self.percentage(listed, used) - listed.used_percent) <= 0.5
         what = f"{self.plan.name} {listed.name}{where}"
         self.comparison.holds(f"{what}: {used} of {listed.tracks} tracks used, and dasdls {listed.used_percent}%", is_so)
+
+    def label_tracks(self, name: str) -> int:
+        """How many tracks of a data set are for user labels."""
+        first, last = self.allotted[name]
+        return last + 1 - first if self.plan.has_labels(name) else 0
 
     def percentage(self, listed: readings.Listed, used: int) -> float:
         """What dasdls rounds: the tracks before the last one and what is used of it, each as large as a slot."""

@@ -19,11 +19,14 @@ What Hercules' tools can't tell, or tell otherwise, is left out:
 
 - `dasdpdsu` and the flag c take members of cards alone, records of 80 bytes: others are compared with what was put there and with `dasdcat`;
 - both cut a card to 72 columns as text, so the first 72 columns of a line are compared;
+- `dasdseq` takes an extent for user labels for one of the data set's, and finds nothing behind the end of file in it;
 - control characters, which they print and `dasd` shows as U+FFFD: two data sets of bytes by chance are compared with what was put there;
 - they know no text in records of variable or undefined length, and none of them reads a data set that is not partitioned and has such
   records or is direct or indexed sequential: these are compared with what was put there alone, by a reading of record formats that shares
   no code with `dasd` (tools/record_forms.py);
-- `dasdcat` shows names of members in small letters, which are made large again."""
+- `dasdcat` shows names of members in small letters, which are made large again.
+
+Of a spanned record `dasd` drops the blanks at the end of its last segment alone (docs/DECISIONS.md), and so does that reading."""
 
 import json
 import pathlib
@@ -56,12 +59,9 @@ class Piece:
     def raw(self) -> bytes:
         return b"".join(self.blocks)
 
-    def records(self) -> list[bytes]:
-        return records_of(self.form[1], int(self.form[2]), self.blocks)
-
     def text(self) -> bytes | None:
         """Its text; None where it has no record format."""
-        return text_of(self.records()) if self.form else None
+        return text_of(records_of(self.form[1], int(self.form[2]), self.blocks)) if self.form else None
 
 
 def pieces_of(plan: volumes.Plan, contents: pathlib.Path) -> list[Piece]:
@@ -145,7 +145,7 @@ class Extraction:
             self.same(f"{piece.name} text", (status, fault, text), (1, "dasd: no record format\n", b""), "this script")
         else:
             self.same(f"{piece.name} text", text, piece.text(), "what was put there")
-        if self.plan.forms[piece.name.split("(")[0]][:1] == ["PS"] and piece.form[1][0] == "F":
+        if piece.form[:1] == ["PS"] and piece.form[1][0] == "F" and not self.plan.has_labels(piece.name):
             self.compare_sequential(piece, raw, text)
 
     def compare_sequential(self, piece: Piece, raw: bytes, text: bytes) -> None:

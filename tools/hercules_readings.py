@@ -49,7 +49,8 @@ class Comparison:
         self.compared += 1
         if found != wanted:
             self.differ += 1
-            print(f"{what}: dasd has {shown(found)}, {reader} {shown(wanted)}")
+            at = first_difference(found, wanted)
+            print(f"{what}: dasd has {shown(found, at)}, {reader} {shown(wanted, at)}")
 
     def holds(self, what: str, is_so: bool) -> None:
         """Counts something that must hold."""
@@ -64,10 +65,17 @@ class Comparison:
         return 1 if self.differ else 0
 
 
-def shown(it) -> str:
-    """A value for a line: long bytes by their number and their beginning."""
+def first_difference(one, other) -> int:
+    """Where bytes begin to differ; 0 for anything else."""
+    if not isinstance(one, bytes) or not isinstance(other, bytes):
+        return 0
+    return next((at for at, pair in enumerate(zip(one, other)) if pair[0] != pair[1]), min(len(one), len(other)))
+
+
+def shown(it, at: int) -> str:
+    """A value for a line: long bytes by their number and some of them from an offset on."""
     if isinstance(it, bytes) and len(it) > 40:
-        return f"{len(it)} bytes {it[:40]!r}.."
+        return f"{len(it)} bytes, from {at} on {it[at : at + 40]!r}"
     return repr(it)
 
 

@@ -28,6 +28,9 @@ from record_forms import cut, fixed_blocks, spanned_blocks, variable_blocks
 from volume_layouts import CAPACITY, Details, Extents, Image, Member, blocks_of, count_free, date, ebcdic, find_blocks, join, partition
 from volume_layouts import put_last, runs_of
 
+# Organisations that dasdload can't write, a bit of record formats that it can't, and the type of an extent for user labels.
+SEQUENTIAL_UNMOVABLE, DIRECT_UNMOVABLE, VSAM = 0x4100, 0x2100, 0x0008
+TRACK_OVERFLOW, USER_LABELS = 0x20, 0x40
 # What stands for itself in the name of a file.
 PLAIN = set("ABCDEFGHIJKLMNOPQRSTUVWXYZ0123456789.-_@#$")
 
@@ -89,13 +92,15 @@ class Blocks:
 
 @dataclass
 class Plan:
-    """A volume to be: its statements for dasdload, and what its data sets have. Where it is `exact`, its control blocks say its free
-    tracks, its free blocks and the last block of each data set that this script wrote; `dasdload` says them of its own alone."""
+    """A volume to be: its statements for dasdload, and what its data sets have. The volume table of contents has so many tracks (`table`), and
+    stands behind so many data sets (`behind`). Where a plan is `exact`, the control blocks say the free tracks, the free blocks and the
+    last block of each data set that this script wrote; `dasdload` says them of its own alone."""
 
     name: str
     model: str
     cylinders: int
     table: int = 4
+    behind: int = 0
     exact: bool = False
     statements: list[str] = field(default_factory=list)
     sequential: dict[str, bytes] = field(default_factory=dict)
@@ -144,18 +149,23 @@ class Plan:
         self.filled.append(name)
         self.statements.append(f"{name} {words} {form}")
 
+    def has_labels(self, name: str) -> bool:
+        """Whether the first extent of a data set is for user labels, so that none of its blocks stands there."""
+        return name in self.details and self.details[name].first_extent == USER_LABELS
+
     def load(self, image: pathlib.Path, contents: pathlib.Path) -> None:
         """Has dasdload write the image, and keeps its messages."""
         paths = {name: str((contents / file_name(name)).resolve()) for name in self.sequential}
-        lines = [f"{self.name} {self.model} {self.cylinders}", f"SYSVTOC VTOC TRK {self.table}"]
-        lines += [line.replace("{" + line.split()[0] + "}", paths.get(line.split()[0], "")) for line in self.statements]
+        lines = [line.replace("{" + line.split()[0] + "}", paths.get(line.split()[0], "")) for line in self.statements]
+        lines.insert(self.behind, f"SYSVTOC VTOC TRK {self.table}")
+        lines.insert(0, f"{self.name} {self.model} {self.cylinders}")
         with tempfile.TemporaryDirectory() as room:
             control = pathlib.Path(room, "control")
             control.write_text("\n".join(lines) + "\n", encoding="ascii")
             done = subprocess.run(["dasdload", str(control), str(image), "2"], capture_output=True, text=True, check=False)
         self.messages = done.stdout
         if done.returncode != 0 or not image.exists():
-            sys.exit(f"dasdload: {done.stdout}{done.stderr}")
+            sys.exit("dasdload: " + "\n".join([*done.stdout.splitlines()[-4:], *done.stderr.splitlines()]))
 
     def make(self, folder: pathlib.Path) -> None:
         """Writes the image and the files of its contents."""
@@ -198,7 +208,7 @@ class Plan:
         """Puts blocks, and an end of file behind them, into the extents of a data set."""
         join(image, name, blocks.parts)
         place = find_blocks(image)[name]
-        extents = Extents(image, self.model, runs_of(image, place))
+        extents = Extents(image, self.model, runs_of(image, place)[1 if self.has_labels(name) else 0 :])
         for key, data in [*blocks.blocks, (b"", b"")]:
             extents.append(key, data)
         extents.save()
@@ -238,6 +248,7 @@ def add_record_forms(plan: Plan, chance: random.Random) -> None:
     plan.add_blocks("FORM.U", [chance.randbytes(chance.randrange(1, 3001)) for _ in range(9)], [2, 1, 1, 3, 9], "PS U 0 3000 0")
     plan.add_blocks("FORM.SPREAD", fixed_blocks(numbered_cards(chance, 14 * full // 120), 400), [1] * 16, "PS FB 80 400 0")
     plan.add_blocks("FORM.FULL", [chance.randbytes(full) for _ in range(3)], [4], f"PS F {full} {full} 0")
+    plan.add_blocks("FORM.LABELS", fixed_blocks(numbered_cards(chance, 40), 400), [1, 2], "PS FB 80 400 0")
     keys = [ebcdic(f"KEY{number:03}", 10) for number in range(20)]
     plan.add_blocks("FORM.KEYS", [words(chance, 80) for _ in keys], [2], "PS F 80 80 10", keys)
     plan.add_blocks("FORM.DIRECT", [words(chance, 80) for _ in keys], [1, 1], "DA F 80 80 10", keys)
@@ -258,6 +269,8 @@ def add_odd_blocks(plan: Plan) -> None:
     """Empty data sets whose control blocks say what is seldom said, and two that Hercules fills by itself."""
     for form in ("FBS 80 800", "V 96 100", "VA 133 137", "VM 133 137", "VBM 133 1330", "U 0 800"):
         plan.add_empty(f"ODD.{form.split()[0]}", "TRK 1 1", f"PS {form} 0")
+    plan.add_empty("ODD.OVERFLOW", "TRK 1 0", "PS FB 80 800 0")
+    plan.add_empty("ODD.VSAM", "TRK 1 0", "PS U 0 800 0")
     plan.add_empty("ODD.IS", "TRK 2 1", "IS FB 80 800 10")
     plan.add_empty("ODD.DA", "TRK 2 1", "DA F 80 80 0")
     plan.add_empty("ODD.NAME.WHICH.IS.AS.LONG.AS.ANY.CAN.BE.X123", "TRK 1 0", "PS F 80 80 0")
@@ -266,15 +279,18 @@ def add_odd_blocks(plan: Plan) -> None:
     plan.details |= {
         "FORM.F": Details(created=(126, 328), expires=(126, 365)),
         "FORM.FB": Details(created=(99, 365), expires=(99, 365)),
-        "FORM.U": Details(created=(72, 366), unmovable=True),
-        "FORM.DIRECT": Details(created=(68, 60), expires=(100, 366), unmovable=True),
+        "FORM.U": Details(created=(72, 366), organisation=SEQUENTIAL_UNMOVABLE),
+        "FORM.DIRECT": Details(created=(68, 60), expires=(100, 366), organisation=DIRECT_UNMOVABLE),
         "ODD.U": Details(created=(0, 0)),
+        "ODD.OVERFLOW": Details(format=TRACK_OVERFLOW),
+        "ODD.VSAM": Details(organisation=VSAM),
+        "FORM.LABELS": Details(first_extent=USER_LABELS),
     }
 
 
-def forms_plan(name: str, model: str, cylinders: int) -> Plan:
+def forms_plan(name: str, model: str, cylinders: int, behind: int) -> Plan:
     """A volume with data sets of many forms."""
-    plan, chance = Plan(name, model, cylinders, table=8, exact=True), random.Random(model)
+    plan, chance = Plan(name, model, cylinders, table=8, behind=behind, exact=True), random.Random(model)
     add_record_forms(plan, chance)
     add_libraries(plan, chance)
     add_odd_blocks(plan)
@@ -296,7 +312,7 @@ def plans() -> list[Plan]:
     wide = Plan("WIDE14", "2314", 20)
     wide.add_sequential("WIDE.CARDS", cards(chance, 900), "TRK 20 0", "PS FB 80 1600 0")
     wide.add_partitioned("WIDE.LIB", members_of(chance, 120, lambda i: cut(cards(chance, 1 + i % 33), 1600)), 30, [3, 9, 120], "FB 80 1600 0")
-    return [small, large, wide, forms_plan("FORM11", "2311", 50), forms_plan("FORM14", "2314", 30)]
+    return [small, large, wide, forms_plan("FORM11", "2311", 50, 0), forms_plan("FORM14", "2314", 30, 20)]
 
 
 def main() -> None:

@@ -47,7 +47,8 @@ def fill_volume(image: Image) -> None:
         at = track % 64 * BLOCKS_OF_TRACK
         end = [b""] if track == first - 1 else []
         labels.fill(image, [(b"", it) for it in data[at : at + BLOCKS_OF_TRACK - len(end)] + end], track)
-    count = (tracks - first - 2) * BLOCKS_OF_TRACK // BLOCKS_OF_MEMBER
+    # A member takes its blocks, and one of 340 entries on a track of the directory.
+    count = (tracks - first - 2) * 340 * BLOCKS_OF_TRACK // (340 * BLOCKS_OF_MEMBER + BLOCKS_OF_TRACK)
     members = {f"MEMB{number:03}": Member(data[number % 8 * BLOCKS_OF_MEMBER :][:BLOCKS_OF_MEMBER]) for number in range(count)}
     library = Extents(image, "2314", [(first, tracks - 1)])
     partition(library, members, count // 20 + 1)
@@ -95,6 +96,7 @@ def measure(folder: pathlib.Path, given: list[tuple[str, list[str]]], rounds: in
     for _ in range(rounds):
         for name, words in given:
             shutil.rmtree(folder / "out", ignore_errors=True)
+            (folder / "out").mkdir()
             measured = [str(folder / "resource_use"), *words]
             line = subprocess.run(measured, cwd=folder, check=True, stdout=subprocess.PIPE, stderr=subprocess.DEVNULL, text=True)
             uses[name].add(line.stdout)

@@ -67,27 +67,28 @@ def segments_of(block: bytes) -> list[tuple[int, bytes]]:
     return segments
 
 
-def records_of(form: str, record_length: int, blocks: list[bytes]) -> list[bytes]:
-    """The records of blocks of a record format, as job control writes it."""
+def records_of(form: str, record_length: int, blocks: list[bytes]) -> list[list[bytes]]:
+    """The records of blocks of a record format, as job control writes it: the segments of each, which is one unless it is spanned."""
     if form[0] == "U":
-        return blocks
+        return [[block] for block in blocks]
     if form[0] == "F":
-        return [record for block in blocks for record in cut(block, record_length)]
-    records, room = [], b""
-    for code, piece in (it for block in blocks for it in segments_of(block)):
-        room += piece
+        return [[record] for block in blocks for record in cut(block, record_length)]
+    records: list[list[bytes]] = []
+    segments: list[bytes] = []
+    for code, segment in (it for block in blocks for it in segments_of(block)):
+        segments.append(segment)
         if code in (0, LAST):
-            records.append(room)
-            room = b""
+            records.append(segments)
+            segments = []
     return records
 
 
-def line_of(record: bytes) -> str:
-    """A record as a line: in code page 037, without the blanks at its end, a control character as U+FFFD."""
-    shown = record.rstrip(b"\x40").decode("cp037")
-    return "".join("\ufffd" if unicodedata.category(it) == "Cc" else it for it in shown)
+def shown(text: bytes) -> str:
+    """Text in code page 037, a control character as U+FFFD."""
+    return "".join("\ufffd" if unicodedata.category(it) == "Cc" else it for it in text.decode("cp037"))
 
 
-def text_of(records: list[bytes]) -> bytes:
-    """Records as lines of text in UTF-8."""
-    return "".join(line_of(record) + "\n" for record in records).encode()
+def text_of(records: list[list[bytes]]) -> bytes:
+    """Records as lines of text in UTF-8, without the blanks at the end of their last segments (docs/DECISIONS.md)."""
+    lines = ["".join(shown(it) for it in segments[:-1]) + shown(segments[-1].rstrip(b"\x40")) for segments in records]
+    return "".join(line + "\n" for line in lines).encode()

@@ -223,11 +223,14 @@ def join(image: Image, name: str, parts: list[str]) -> None:
 
 @dataclass
 class Details:
-    """What a format 1 block says beside what `dasdload` writes: dates, as years behind 1900 and days, and whether it can't be moved."""
+    """What a format 1 block says beside what `dasdload` writes, where it is given: dates, as years behind 1900 and days; the organisation; bits
+    of the record format that are on too; the type of the first extent."""
 
     created: tuple[int, int] = (75, 1)
     expires: tuple[int, int] = (0, 0)
-    unmovable: bool = False
+    organisation: int | None = None
+    format: int = 0
+    first_extent: int | None = None
 
     def put(self, image: Image, place: tuple[int, int]) -> None:
         """Writes them."""
@@ -235,7 +238,11 @@ class Details:
         made = bytearray(data)
         for at, (year, day) in ((9, self.created), (12, self.expires)):
             made[at : at + 3] = bytes([year]) + day.to_bytes(2, "big")
-        made[38] |= 1 if self.unmovable else 0
+        made[40] |= self.format
+        if self.organisation is not None:
+            made[38:40] = self.organisation.to_bytes(2, "big")
+        if self.first_extent is not None:
+            made[EXTENTS] = self.first_extent
         image.put_block(place, key, bytes(made))
 
 
