@@ -6,6 +6,7 @@ mod commands;
 mod decks;
 mod explain;
 mod format;
+mod list;
 mod listings;
 mod requests;
 mod run;
@@ -15,6 +16,6 @@ mod vtoc;
 pub use crate::commands::read_words;
 pub use crate::decks::{DECK_TABLE, operand_rule};
 pub use crate::requests::{
-    Asked, DeckRun, DumpedPart, Noted, Numbers, Request, TraceTarget, WordFault,
+    Asked, DeckRun, DumpedPart, ListedPart, Noted, Numbers, Request, TraceTarget, WordFault,
 };
 pub use crate::volumes::{MOST_FILES, Volume, VolumeSource};
