@@ -1,4 +1,5 @@
 pub mod Lined
+pub mod Listed
 pub mod Prefixes
 pub mod Reported
 pub mod Rows

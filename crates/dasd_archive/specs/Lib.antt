@@ -1,5 +1,6 @@
 pub mod Compare
 pub mod Dump
 pub mod Findings
+pub mod Listing
 pub mod Reports
 pub mod Strict

@@ -155,8 +155,8 @@ fn dump_track<W: Write>(
     }
 }
 
-// The line of a track that can't be read.
-fn dump_unreadable<W: Write>(
+/// The line of a track that can't be read.
+pub(crate) fn dump_unreadable<W: Write>(
     writer: &mut W,
     form: Form,
     address: TrackAddress,
@@ -307,8 +307,12 @@ fn write_object<W: Write>(
     write_areas(writer, &identifier, key, body)
 }
 
-// How an object of a track begins.
-fn write_place<W: Write>(writer: &mut W, path: &str, address: TrackAddress) -> io::Result<()>
+/// How an object of a track begins.
+pub(crate) fn write_place<W: Write>(
+    writer: &mut W,
+    path: &str,
+    address: TrackAddress,
+) -> io::Result<()>
     ensures { OnOk result (Appends (W.contents writer.old) (W.contents writer.new)
         (place_text path.now address.cylinder address.head)) }
 {
@@ -338,8 +342,8 @@ fn write_areas<W: Write>(
     )
 }
 
-// The line of a record's identifier and lengths.
-fn dump_count<W: Write>(writer: &mut W, track: &TrackView, i: usize) -> io::Result<()>
+/// The line of a record's identifier and lengths.
+pub(crate) fn dump_count<W: Write>(writer: &mut W, track: &TrackView, i: usize) -> io::Result<()>
     requires { i < length track.now.records }
     ensures { OnOk result (Appends (W.contents writer.old) (W.contents writer.new) (record_line (record_in track.now i))) }
 {

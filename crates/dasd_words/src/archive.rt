@@ -109,8 +109,8 @@ fn numbers_of(cylinders: &str, heads: &str, records: &str) -> Option<DumpedPart>
     })
 }
 
-// A decimal number, or two with a hyphen between, the first of which is not greater.
-fn read_numbers(word: &str) -> Option<Numbers> {
+/// A decimal number, or two with a hyphen between, the first of which is not greater.
+pub(crate) fn read_numbers(word: &str) -> Option<Numbers> {
     let (first, last) = word.split_once('-').unwrap_or((word, word));
     let first = read_number(first)?;
     let last = read_number(last)?;

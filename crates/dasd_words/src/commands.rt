@@ -1,7 +1,7 @@
 //! The commands of `dasd`: each has a module of its own, for its options and for what they ask.
 
 use crate::requests::{Asked, Request, WordFault};
-use crate::{archive, explain, extract, format, listings, run, vtoc};
+use crate::{archive, explain, extract, format, list, run, vtoc};
 use clap::error::ErrorKind;
 use clap::{Arg, ArgAction, ArgMatches, Command, Error};
 use std::alloc::{AllocError, Global};
@@ -15,15 +15,7 @@ fn dasd_command<'a>(alloc: Global) -> Result<Command<'a>, AllocError> {
         .after_help("Example: dasd run 90=new:2311:1 < deck.txt")
         .subcommand_required(true)
         .subcommand(verbose(alloc, format::command(alloc)?)?)?
-        .subcommand(verbose(
-            alloc,
-            listings::command(
-                alloc,
-                "list",
-                "Prints a volume with its tracks and records",
-                "Example: dasd list work.ckd",
-            )?,
-        )?)?
+        .subcommand(verbose(alloc, list::command(alloc)?)?)?
         .subcommand(verbose(alloc, archive::check_command(alloc)?)?)?
         .subcommand(verbose(alloc, archive::dump_command(alloc)?)?)?
         .subcommand(verbose(alloc, archive::compare_command(alloc)?)?)?
@@ -75,7 +67,7 @@ fn read_request<'a>(
 ) -> Result<Request<'a>, WordFault> {
     match name {
         "format" => format::read(alloc, options),
-        "list" => Ok(Request::List(listings::read(alloc, options)?)),
+        "list" => list::read(alloc, options),
         "check" => archive::read_check(alloc, options),
         "dump" => archive::read_dump(alloc, options),
         "compare" => archive::read_compare(alloc, options),

@@ -7,6 +7,7 @@ mod decks;
 mod explain;
 mod extract;
 mod format;
+mod list;
 mod listings;
 mod requests;
 mod run;
@@ -16,7 +17,7 @@ mod vtoc;
 pub use crate::commands::read_words;
 pub use crate::decks::{DECK_TABLE, operand_rule};
 pub use crate::requests::{
-    Asked, DeckRun, DumpedPart, ExtractedSet, ExtractedVolume, Noted, Numbers, Request, SetName,
-    TraceTarget, WordFault,
+    Asked, DeckRun, DumpedPart, ExtractedSet, ExtractedVolume, ListedPart, Noted, Numbers, Request,
+    SetName, TraceTarget, WordFault,
 };
 pub use crate::volumes::{MOST_FILES, Volume, VolumeSource};

@@ -1,4 +1,4 @@
-//! The words of `dasd list` and `dasd check`.
+//! The words of a command over the files of one image.
 
 use crate::commands::{NO_PATH, wrong};
 use crate::requests::WordFault;

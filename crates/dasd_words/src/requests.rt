@@ -33,6 +33,15 @@ pub struct DumpedPart {
     pub records: Numbers,
 }
 
+/// The part of a volume whose tracks are listed.
+#[derive(Clone, Copy, Debug, PartialEq, Eq)]
+pub struct ListedPart {
+    /// Its cylinders; all, where there are none.
+    pub cylinders: Option<Numbers>,
+    /// Whether only those tracks are listed that have more than one record, or that can't be read.
+    pub used_only: bool,
+}
+
 /// A number that somebody has noted.
 #[derive(Debug, Drop)]
 pub enum Noted {
@@ -64,6 +73,15 @@ pub enum Request<'a> {
     },
     /// Print the tracks and records of the image that these files hold.
     List(Vec<&'a str>),
+    /// Print some of the tracks of the image that these files hold, with their records, or all as objects.
+    ListPart {
+        /// The files.
+        paths: Vec<&'a str>,
+        /// The part.
+        part: ListedPart,
+        /// Whether each line is an object of JSON.
+        json: bool,
+    },
     /// Print the tracks that can't be read of the image that these files hold.
     Check(Vec<&'a str>),
     /// Print all that is found on the volume of the image that these files hold.

@@ -1,0 +1,10 @@
+use Rattle.std.proofs.Common.{take, ◌++◌}
+use Rattle.std.specs.List.{flat_map}
+use Rattle.std.specs.Io.KnownBytes.{Appends}
+use Rattle.dasd_volumes.specs.Lines.{track_line, record_line}
+use Rattle.dasd_archive.proofs.lists.list_lines.Given as goal
+
+-- the first line and those of the records so far are written
+abbrev pub invariant-loop-i : goal.invariant-loop-i
+invariant-loop-i g l = Appends (g.W.Write.contents l.fn.writer) (g.W.Write.contents l.writer)
+    (track_line l.fn.track.geometry.model l.fn.track.cylinder l.fn.track.head l.view ++ flat_map record_line (take l.i l.view.records))
