@@ -29,8 +29,8 @@ pub(crate) struct Lines {
     pub(crate) json: bool,
 }
 
-// For whom lines are printed.
-fn style(json: bool) -> Style {
+/// For whom lines are printed.
+pub(crate) fn style(json: bool) -> Style {
     if json { Style::Json } else { Style::Text }
 }
 
@@ -134,8 +134,8 @@ pub(crate) fn dump_part<F: ImageFiles, W: Write>(
     }
 }
 
-// Numbers as a range.
-fn range(numbers: Numbers) -> Range {
+/// Numbers as a range.
+pub(crate) fn range(numbers: Numbers) -> Range {
     Range {
         first: numbers.first,
         last: numbers.last,

@@ -7,6 +7,7 @@ use crate::archive::{Lines, check_strictly, compare_both, dump_part};
 use crate::decks::{read_deck, run_text, tell_fault};
 use crate::explain::explain;
 use crate::fault::ProgramFault;
+use crate::list::list_part;
 use crate::runs::{Disks, build, finish};
 use crate::traces::{Traces, begin_trace, end_trace};
 use crate::unload::{extract_set, extract_volume};
@@ -84,6 +85,9 @@ fn answer<F: Traces, R: Read, W: Write, P: Progress>(
         Request::List(paths) => {
             list_files(alloc, files, writer, paths.as_slice()).map_err(ProgramFault::Job)?;
             Ok(Ending::Done)
+        }
+        Request::ListPart { paths, part, json } => {
+            list_part(alloc, files, writer, paths.as_slice(), part, json)
         }
         Request::Check(paths) => check_volume(alloc, files, writer, progress, paths.as_slice()),
         Request::CheckStrictly { paths, json } => {
