@@ -149,8 +149,9 @@ fn find_member_start<V: SlotReader>(
     let Some(name) = member_name(member) else {
         return Err(UnloadFault::NoMember);
     };
-    let members =
-        read_members(alloc, volume, set.extents.as_slice()).map_err(|fault| of_volume(fault))?;
+    let members = read_members(alloc, volume, set.extents.as_slice()).map_err(|fault| of_volume(
+        fault,
+    ))?;
     match find_member(members.entries.as_slice(), name) {
         Some(entry) => Ok(entry.address),
         None => Err(UnloadFault::NoMember),

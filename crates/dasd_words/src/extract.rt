@@ -9,7 +9,8 @@ use std::alloc::{AllocError, Global};
 /// The name of the words of an extraction.
 const WORDS: &str = "PATH.. NAME";
 
-const NO_NAME: &str = "error: no name of a data set behind the paths, as SYS1.MACLIB(OPEN) or PAYROLL\n";
+const NO_NAME: &str =
+    "error: no name of a data set behind the paths, as SYS1.MACLIB(OPEN) or PAYROLL\n";
 
 const ALL_JSON: &str = "error: --json goes with --all\n";
 
@@ -19,16 +20,17 @@ pub(crate) fn command<'a>(alloc: Global) -> Result<Command<'a>, AllocError> {
         .required(true)
         .action(ArgAction::Append)
         .num_args(1..)
-        .help("the files of an image, and a data set, as PAYROLL or SYS1.MACLIB(OPEN); with --all no name");
+        .help(
+            "the files of an image, and a data set, as PAYROLL or SYS1.MACLIB(OPEN); with --all no name",
+        );
     let to = Arg::new(alloc, "to")
         .long("to")
         .value_name("FILE")
         .conflicts_with("all")?
         .help("a new file for what is taken out; standard output where there is none");
-    let all = Arg::new(alloc, "all")
-        .long("all")
-        .value_name("DIR")
-        .help("takes out all data sets and members, each into a new file of this folder");
+    let all = Arg::new(alloc, "all").long("all").value_name("DIR").help(
+        "takes out all data sets and members, each into a new file of this folder",
+    );
     let text = Arg::new(alloc, "text")
         .long("text")
         .action(ArgAction::SetTrue)

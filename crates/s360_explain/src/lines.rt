@@ -216,9 +216,7 @@ impl fmt::Display for Line {
                 f,
                 "residual count {count}: so many bytes of the last word's count did not pass"
             ),
-            Line::Cause(sense) => {
-                write!(f, "cause: {}{}", cause_text(sense), hint_text(sense))
-            }
+            Line::Cause(sense) => { write!(f, "cause: {}{}", cause_text(sense), hint_text(sense)) }
             Line::NoCause => write!(
                 f,
                 "no single cause of these drives: two at once, as with a track that could not be saved, or those of other drives"

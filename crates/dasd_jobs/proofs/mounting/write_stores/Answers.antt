@@ -12,16 +12,16 @@ loop-i-init g c = none_yet _ _
 
 pub loop-i-preserved : goal.loop-i-preserved
 loop-i-preserved g c =
-    let no_path : Bor (List ℕ) = record { ref_ptr = (0, 0); now = []; } in
+    let no_path : Bor (List ℕ) = record { ref_ptr = (0, 0); now = [] } in
     let path = λ (n : ℕ). slice_index_or (map (λ (p : Bor (List ℕ)). p.now) c.args.paths.now) n [] in
     let of = λ (n : ℕ). changed_file (path n) (file_at c.args.stores.now n) in
     let next = and_one _ _ _ of c.loop-i.i c.loop-i.invariant in
     elim c.if-i-stores.branch [
-      then-i-stores+in_ok-write_changed w ↦
+      | then-i-stores+in_ok-write_changed w ↦
           next (rw (w.files-is) (w.in_ok-write_changed.ensures
           ∙ ap (λ s. g.F.ImageFiles.written c.loop-i.files ++ changed_file (slice_index_or c.args.paths.now c.loop-i.i no_path).now s) (w.index-stores-i.is ∙ same_at c.args.stores.now c.loop-i.i _ None w.if-i-stores.true)
           ∙ ap (λ p. g.F.ImageFiles.written c.loop-i.files ++ changed_file p (file_at c.args.stores.now c.loop-i.i)) (sym (get_or-map (λ (p : Bor (List ℕ)). p.now) c.args.paths.now c.loop-i.i no_path))))
-    | else-i-stores w ↦
+      | else-i-stores w ↦
           next (rw (w.files-is) (sym (append-nil _)
           ∙ ap (λ s. g.F.ImageFiles.written c.loop-i.files ++ changed_file (path c.loop-i.i) s) (sym (get_or_past c.args.stores.now c.loop-i.i None (omega arith)))))
     ]
