@@ -126,7 +126,7 @@ impl<'a> HostDraft<'a> {
                 }
                 rename(self.host, self.beside.as_str(), old.path.as_str())
             }
-            None => rename(self.host, self.beside.as_str(), path),
+            None => name_new(self.host, self.beside.as_str(), path),
         }
     }
 }
@@ -207,6 +207,20 @@ fn rename(host: &HostRuntime, from: &str, to: &str) -> io::Result<()> {
     fs::rename(host, from, to)?;
     sync_folder(host, Path::new(to));
     Ok(())
+}
+
+// Gives a file a name that no file has: one that has come there since stays. Where a file system has no second names, the file is
+// renamed.
+fn name_new(host: &HostRuntime, from: &str, to: &str) -> io::Result<()> {
+    match fs::hard_link(host, from, to) {
+        Ok(()) => {
+            let _ = fs::remove_file(host, from);
+            sync_folder(host, Path::new(to));
+            Ok(())
+        }
+        Err(fault) if fault.kind() == ErrorKind::AlreadyExists => Err(fault),
+        Err(_) => rename(host, from, to),
+    }
 }
 
 // Has a folder's names written to the disk, as far as the host does that.
