@@ -1,6 +1,6 @@
 //! A new file that is written as it comes.
 
-ghost use Rattle.std.specs.Prelude.{◌≡◌, [], Some, IfOk};
+ghost use Rattle.std.specs.Prelude.{◌≡◌, [], Some, length, IfOk};
 ghost use Rattle.dasd_jobs.specs.Written.{WritesFile};
 
 use crate::faults::{JobFault, of_write};
@@ -18,7 +18,9 @@ pub struct DraftWriter<D: ImageStore> {
 
 impl<D: ImageStore> DraftWriter<D> {
     /// How many bytes were written.
-    pub fn len(&self) -> u64 {
+    pub fn len(&self) -> u64
+        ensures { result ≡ length (D.content self.now.draft) }
+    {
         self.draft.len()
     }
 }

@@ -1,8 +1,7 @@
 -- Files that come to a folder.
-use Rattle.std.proofs.Common.{◌≡◌, ◌∙◌, ap, sym, ℕ, List, [], ◌∷◌, ◌++◌, append_assoc, append-nil}
-use Rattle.std.specs.List.{All}
+use Rattle.std.proofs.Common.{◌∙◌, ap, sym, ℕ, List, [], ◌++◌, append_assoc, append-nil}
 use Rattle.std.proofs.lemmas.List.Elements.{All-append, All-nil}
-use Rattle.dasd_jobs.specs.Written.{Replaced, with_file}
+use Rattle.dasd_jobs.specs.Written.{Replaced}
 use Rattle.dasd_unload.specs.Unloads.{AddsIn, StandsIn}
 
 -- none came

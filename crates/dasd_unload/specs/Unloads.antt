@@ -1,5 +1,5 @@
 -- What is unloaded from a volume, and where it goes.
-use Rattle.std.specs.Prelude.{◌≡◌, ℕ, Bool, true, false, List, [], ◌∷◌, ◌++◌, length, codes, Option, Some, None, Result, Ok, Err}
+use Rattle.std.specs.Prelude.{◌≡◌, ℕ, Bool, true, false, List, [], ◌++◌, length, codes, Option, Some, None, Result, Ok, Err}
 use Rattle.std.specs.List.{All}
 use Rattle.data_sets.specs.Names.{safe_name_of}
 use Rattle.dasd_volumes.specs.declared.fault.VolumeFault.{VolumeFault}
@@ -70,8 +70,3 @@ pub record AddsIn (folder : List ℕ) (before now : List Replaced) : Type 0 wher
   pub more : List Replaced
   pub added : now ≡ before ++ more
   pub stand : All (StandsIn folder) more
-
--- at most one file came to these, at this path, if there is one
-abbrev pub AddsAt : (path : Option (List ℕ)) → (before now : List Replaced) → Type 0
-AddsAt None before now = now ≡ before
-AddsAt (Some path) before now = (bytes : List ℕ) × (now ≡ with_file before path bytes)

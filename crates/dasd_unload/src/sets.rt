@@ -1,9 +1,8 @@
 //! A data set or a member of a partitioned one, unloaded from a volume.
 
-ghost use Rattle.std.specs.Prelude.{◌≡◌, true, false, Some, IfOk, IfErr, OnOk, OnErr};
-ghost use Rattle.dasd_jobs.specs.Written.{Replaced};
+ghost use Rattle.std.specs.Prelude.{◌≡◌, true, false, IfErr};
 ghost use Rattle.dasd_extract.specs.Walk.{wanted};
-ghost use Rattle.dasd_unload.specs.Unloads.{UnloadsTo, AddsAt, is_of_job, leaves_a_file};
+ghost use Rattle.dasd_unload.specs.Unloads.{UnloadsTo, is_of_job, leaves_a_file};
 
 use crate::fault::{NO_MEMORY, UnloadFault, of_volume};
 use dasd_contents::{DataSet, find, read_contents};

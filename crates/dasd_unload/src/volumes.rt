@@ -227,7 +227,7 @@ fn unload_item<F: ImageFiles, V: SlotReader, W: Write>(
     report: &mut Report<W>,
     item: Item,
 ) -> Result<(), UnloadFault>
-    requires name { IsFileName item.entry.name.now }
+    requires name { IsFileName item.name.now }
     ensures files { AddsIn target.entry.folder.now (F.written files.old) (F.written files.new) }
     ensures fault { IfErr result (λ e. is_of_job e ≡ true) }
 {
