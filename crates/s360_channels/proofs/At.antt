@@ -30,7 +30,7 @@ fit_set size (Some d ∷ cs) zero c h f = (f, h.1)
 fit_set size (None ∷ cs) (suc number) c h f = fit_set size cs number c h f
 fit_set size (Some d ∷ cs) (suc number) c h f = (h.0, fit_set size cs number c h.1 f)
 
-none_past : (cs : List (Option ChannelState)) (number : ℕ) → length cs ≤ number → slice_index_or cs number None ≡ None
+pub none_past : (cs : List (Option ChannelState)) (number : ℕ) → length cs ≤ number → slice_index_or cs number None ≡ None
 none_past [] number h = refl
 none_past (c ∷ cs) zero h = absurd (no (length cs) h)
   where

@@ -11,7 +11,7 @@ impl<S: ImageStore> Channels<S> {
     /// The processor takes the first interruption that pends: that of the channel with the lowest number for which the system
     /// mask is open and which has one. The address that interrupts, and the channel status word that is stored. Bits 0 to 6 of
     /// the mask, from the left, are those of channels 0 to 6, as in the program status word: 80 is channel 0, 02 channel 6. It
-    /// makes no call of a store ('Interruptions', 'Input/Output Interruption').
+    /// makes no call of a store ('Input/Output Interruptions').
     pub fn interrupt(&mut self, mask: u8) -> Option<(u16, Csw)>
         ensures { TakesFirst mask result self.old self.new }
     {

@@ -85,7 +85,10 @@ fn detach<S: ImageStore>(
     found::exchange(channel, storage);
     let detached = channel.detach(device);
     found::exchange(channel, storage);
-    detached.map_err(DetachFault::Refused)
+    match detached {
+        Ok(image) => Ok(image),
+        Err(fault) => Err(DetachFault::Refused(fault)),
+    }
 }
 
 // Changes a pack at the channel of the high byte.
