@@ -1,10 +1,9 @@
 //! Drives that are taken off, and packs that are changed.
 
-ghost use Rattle.std.specs.Prelude.{◌≡◌, ◌/◌, ◌%◌, None, length, slice_index_or, IfOk, IfErr, OnErr};
-ghost use Rattle.s360_channel.specs.Shares.{with_storage};
+ghost use Rattle.std.specs.Prelude.{◌≡◌, ◌/◌, ◌%◌, Some, None, length, slice_index_or, IfOk, IfErr, OnErr};
 ghost use Rattle.s360_channels.specs.Channels.{AllFit, Fits, OnChannel, channel_at};
-ghost use Rattle.s360_channels.specs.Inside.{Serves, ServesAt, of_parts};
-ghost use Rattle.s360_channels.specs.Packs.{ChangesPack, Keeps, KeepsPack, RefusedDetach, RefusedExchange, TakesOff};
+ghost use Rattle.s360_channels.specs.Inside.{Serves, of_parts};
+ghost use Rattle.s360_channels.specs.Packs.{ChangesPack, RefusedDetach, RefusedExchange, TakesOff};
 
 use crate::channels::Channels;
 use crate::faults::{DetachFault, ExchangeFault};
@@ -55,10 +54,12 @@ fn detach_at<S: ImageStore>(
     address: u16,
 ) -> Result<Image<S>, DetachFault>
     requires { AllFit (length storage.old.bytes) channels.old }
-    ensures detached { IfOk result (λ image. ServesAt (address / 256) (TakesOff (address % 256) image) ⊥ (of_parts storage.old channels.old) (of_parts storage.new channels.new)) }
+    ensures detached { IfOk result (λ image. OnChannel (address / 256) (TakesOff (address % 256) image) ⊥ (of_parts storage.old channels.old) (of_parts storage.new channels.new)) }
     ensures refused { IfErr result (λ e. RefusedDetach (slice_index_or channels.old (address / 256) None) storage.old (address % 256) e) }
     ensures channels_stay { OnErr result (channels.new ≡ channels.old) }
     ensures storage_stays { OnErr result (storage.new ≡ storage.old) }
+    ensures fit { AllFit (length storage.old.bytes) channels.new }
+    ensures size { length storage.new.bytes ≡ length storage.old.bytes }
 {
     let number = (address / 256) as usize;
     if number >= channels.len() {
@@ -81,6 +82,8 @@ fn detach<S: ImageStore>(
     ensures refused { IfErr result (λ e. RefusedDetach (Some channel.old) storage.old device e) }
     ensures channel_stays { OnErr result (channel.new ≡ channel.old) }
     ensures storage_stays { OnErr result (storage.new ≡ storage.old) }
+    ensures fits { Fits (length storage.old.bytes) channel.new }
+    ensures size { length storage.new.bytes ≡ length storage.old.bytes }
 {
     found::exchange(channel, storage);
     let detached = channel.detach(device);
@@ -99,11 +102,13 @@ fn exchange_at<S: ImageStore>(
     image: Image<S>,
 ) -> Result<Image<S>, (ExchangeFault, Image<S>)>
     requires { AllFit (length storage.old.bytes) channels.old }
-    ensures exchanged { IfOk result (λ before. ServesAt (address / 256) (ChangesPack (address % 256) image before) ⊥ (of_parts storage.old channels.old) (of_parts storage.new channels.new)) }
+    ensures exchanged { IfOk result (λ before. OnChannel (address / 256) (ChangesPack (address % 256) image before) ⊥ (of_parts storage.old channels.old) (of_parts storage.new channels.new)) }
     ensures refused { IfErr result (λ e. RefusedExchange (slice_index_or channels.old (address / 256) None) storage.old (address % 256) image e.0) }
     ensures handed_back { IfErr result (λ e. e.1 ≡ image) }
     ensures channels_stay { OnErr result (channels.new ≡ channels.old) }
     ensures storage_stays { OnErr result (storage.new ≡ storage.old) }
+    ensures fit { AllFit (length storage.old.bytes) channels.new }
+    ensures size { length storage.new.bytes ≡ length storage.old.bytes }
 {
     let number = (address / 256) as usize;
     if number >= channels.len() {
@@ -128,6 +133,8 @@ fn exchange<S: ImageStore>(
     ensures handed_back { IfErr result (λ e. e.1 ≡ image) }
     ensures channel_stays { OnErr result (channel.new ≡ channel.old) }
     ensures storage_stays { OnErr result (storage.new ≡ storage.old) }
+    ensures fits { Fits (length storage.old.bytes) channel.new }
+    ensures size { length storage.new.bytes ≡ length storage.old.bytes }
 {
     found::exchange(channel, storage);
     let exchanged = channel.exchange(device, image);

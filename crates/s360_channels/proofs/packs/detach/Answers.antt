@@ -1,5 +1,7 @@
-use Rattle.std.proofs.Common.{subst, sym}
+use Rattle.std.proofs.Common.{ap, length, subst, sym}
+use Rattle.s360_words.specs.Storage.{Storage}
 use Rattle.s360_channel.specs.Packs.{Detaches}
+use Rattle.s360_channels.specs.Channels.{Fits}
 use Rattle.s360_channels.specs.Packs.{Keeps, TakesOff}
 use Rattle.s360_channels.proofs.Fitting.{serves}
 use Rattle.s360_channels.proofs.Leaving.{channel_again, goes_back_if, storage_again, takes_off_fits}
@@ -22,3 +24,15 @@ returns-in-Err-clause-channel_stays g c = channel_again c.args.channel.now c.arg
 
 pub returns-in-Err-clause-storage_stays : goal.returns-in-Err-clause-storage_stays
 returns-in-Err-clause-storage_stays g c = storage_again c.args.channel.now c.args.storage.now _ _ _ _ _ c.exchange.ensures c.in-Err.ensures.stays c.exchange-2.ensures
+
+pub returns-in-Ok-clause-fits : goal.returns-in-Ok-clause-fits
+returns-in-Ok-clause-fits g c = (serves (TakesOff c.args.device c.in-Ok.image) (takes_off_fits c.args.device c.in-Ok.image) _ _ _ _ _ _ _ c.requires c.exchange.ensures c.in-Ok.ensures.detached c.exchange-2.ensures).fits
+
+pub returns-in-Ok-clause-size : goal.returns-in-Ok-clause-size
+returns-in-Ok-clause-size g c = (serves (TakesOff c.args.device c.in-Ok.image) (takes_off_fits c.args.device c.in-Ok.image) _ _ _ _ _ _ _ c.requires c.exchange.ensures c.in-Ok.ensures.detached c.exchange-2.ensures).size
+
+pub returns-in-Err-clause-fits : goal.returns-in-Err-clause-fits
+returns-in-Err-clause-fits g c = subst (Fits (length c.args.storage.now.bytes)) (sym (channel_again c.args.channel.now c.args.storage.now _ _ _ _ _ c.exchange.ensures c.in-Err.ensures.stays c.exchange-2.ensures)) c.requires
+
+pub returns-in-Err-clause-size : goal.returns-in-Err-clause-size
+returns-in-Err-clause-size g c = ap (λ (s : Storage). length s.bytes) (storage_again c.args.channel.now c.args.storage.now _ _ _ _ _ c.exchange.ensures c.in-Err.ensures.stays c.exchange-2.ensures)
