@@ -7,33 +7,27 @@ ghost use Rattle.s360_channels.specs.Inside.{ServesEnd, of_parts};
 
 use crate::channels::Channels;
 use crate::found;
-use ckd_image::{Image, ImageStore};
-use s360_channel::{Channel, Reset};
+use ckd_image::ImageStore;
+use s360_channel::Channel;
 use s360_words::Storage;
-
-/// What a channel was made of, after its last reset, but for the storage.
-#[derive(Drop)]
-pub struct FinishedChannel<S: ImageStore> {
-    /// The image of each drive with the low byte of its address, in the order of attachment.
-    pub images: [Option<(u8, Image<S>)>; 8],
-    /// What the last reset answered.
-    pub reset: Reset,
-}
+use std::mem;
 
 /// What channels were made of, after their last resets.
 #[derive(Drop)]
 pub struct Finished<S: ImageStore> {
     /// The storage that they shared.
     pub storage: Storage,
-    /// The channels by their numbers.
-    pub channels: [Option<FinishedChannel<S>>; 7],
+    /// What each channel was made of, by the channels' numbers. Its storage is the one that it had between calls, and not the
+    /// machine's.
+    pub channels: [Option<s360_channel::Finished<S>>; 7],
 }
 
 impl<S: ImageStore> Channels<S> {
     /// Resets the channel with this number, takes it away, and gives back what it was made of; none where there is no such
-    /// channel. It makes at most one call of a store, which saves a track that was written.
-    pub fn remove(&mut self, number: u8) -> Option<FinishedChannel<S>>
-        ensures { RemovesAt number (option_map (λ c. record { images = c.images; unsaved = c.reset.unsaved }) result) self.old self.new }
+    /// channel. The storage that comes with it is the one that it had between calls; the machine's stays. It makes at most one
+    /// call of a store, which saves a track that was written.
+    pub fn remove(&mut self, number: u8) -> Option<s360_channel::Finished<S>>
+        ensures { RemovesAt number (option_map (λ c. record { storage = c.storage; images = c.images; unsaved = c.reset.unsaved }) result) self.old self.new }
     {
         remove(&mut self.list, &mut self.storage, number)
     }
@@ -41,7 +35,7 @@ impl<S: ImageStore> Channels<S> {
     /// Resets each channel, in order of the channels' numbers, and gives back what all were made of. It makes at most one call of
     /// a store for each channel, which saves a track that was written.
     pub fn finish(mut self) -> Finished<S>
-        ensures { FinishesAll self result.storage (map (option_map (λ c. record { images = c.images; unsaved = c.reset.unsaved })) result.channels) }
+        ensures { FinishesAll self result.storage (map (option_map (λ c. record { storage = c.storage; images = c.images; unsaved = c.reset.unsaved })) result.channels) }
     {
         let channels = [
             self.remove(0),
@@ -62,9 +56,9 @@ fn remove<S: ImageStore>(
     channels: &mut [Option<Channel<S>>],
     storage: &mut Storage,
     number: u8,
-) -> Option<FinishedChannel<S>>
+) -> Option<s360_channel::Finished<S>>
     requires { AllFit (length storage.old.bytes) channels.old }
-    ensures { ServesEnd number (option_map (λ c. record { images = c.images; unsaved = c.reset.unsaved }) result) (of_parts storage.old channels.old) (of_parts storage.new channels.new) }
+    ensures { ServesEnd number (option_map (λ c. record { storage = c.storage; images = c.images; unsaved = c.reset.unsaved }) result) (of_parts storage.old channels.old) (of_parts storage.new channels.new) }
 {
     let number = number as usize;
     if number >= channels.len() {
@@ -88,18 +82,14 @@ fn take_channel<S: ImageStore>(
     channels[place].take()
 }
 
-// A channel that finds this storage is reset, and gives its images back.
-fn end<S: ImageStore>(mut channel: Channel<S>, storage: &mut Storage) -> FinishedChannel<S>
+// A channel that finds this storage is reset, gives it back, and is taken apart with its own.
+fn end<S: ImageStore>(mut channel: Channel<S>, storage: &mut Storage) -> s360_channel::Finished<S>
     requires { Fits (length storage.old.bytes) channel }
-    ensures ends { Ends channel storage.old (record { images = result.images; unsaved = result.reset.unsaved }) storage.new }
+    ensures ends { Ends channel storage.old (record { storage = result.storage; images = result.images; unsaved = result.reset.unsaved }) storage.new }
     ensures size { length storage.new.bytes ≡ length storage.old.bytes }
 {
     found::exchange(&mut channel, storage);
-    let s360_channel::Finished {
-        storage: shared,
-        images,
-        reset,
-    } = channel.finish();
-    *storage = shared;
-    FinishedChannel { images, reset }
+    let mut finished = channel.finish();
+    mem::swap(&mut finished.storage, storage);
+    finished
 }

@@ -1,4 +1,5 @@
 use Rattle.std.proofs.Common.{◌∙◌, ap, length, subst, sym}
+use Rattle.s360_words.specs.Storage.{Storage}
 use Rattle.s360_laws.specs.Machine.{Machine}
 use Rattle.s360_channel.specs.Channel.{ChannelState, StandsFor}
 use Rattle.s360_channel.specs.Finishes.{Finishes}
@@ -10,8 +11,14 @@ exchange-requires g c = sym c.requires.as_large
 
 pub returns : goal.returns
 returns g c = record {
-  ends = subst (λ d. (m : Machine) → StandsFor d m → Finishes m d c.finish.result.storage c.finish.result.images c.finish.result.reset.unsaved) c.exchange.ensures.found c.finish.ensures;
+  ends = record {
+    finishes =
+        subst (λ t. (m : Machine) → StandsFor _ m → Finishes m _ t c.finish-finished.result.images c.finish-finished.result.reset.unsaved) (sym c.swap.ensures.y_after)
+        (subst (λ d. (m : Machine) → StandsFor d m → Finishes m d c.finish-finished.result.storage c.finish-finished.result.images c.finish-finished.result.reset.unsaved) c.exchange.ensures.found c.finish-finished.ensures);
+    own_storage = c.swap.ensures.x_after ∙ c.exchange.ensures.gives;
+  };
   size =
-      finished_size c.exchange.new.channel c.finish.result.storage c.finish.result.images c.finish.result.reset.unsaved (c.exchange.ensures.stands c.requires.is_channel) c.finish.ensures
-      ∙ ap (λ (c : ChannelState). length c.storage.bytes) c.exchange.ensures.found;
+      ap (λ (s : Storage). length s.bytes) c.swap.ensures.y_after
+      ∙ (finished_size c.exchange.new.channel c.finish-finished.result.storage c.finish-finished.result.images c.finish-finished.result.reset.unsaved (c.exchange.ensures.stands c.requires.is_channel) c.finish-finished.ensures
+      ∙ ap (λ (c : ChannelState). length c.storage.bytes) c.exchange.ensures.found);
 }
