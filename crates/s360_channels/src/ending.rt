@@ -8,34 +8,25 @@ ghost use Rattle.s360_channels.specs.Inside.{ServesEnd, of_parts};
 use crate::channels::Channels;
 use crate::found;
 use ckd_image::ImageStore;
-use s360_channel::Channel;
+use s360_channel::{Channel, Finished};
 use s360_words::Storage;
 use std::mem;
-
-/// What channels were made of, after their last resets.
-#[derive(Drop)]
-pub struct Finished<S: ImageStore> {
-    /// The storage that they shared.
-    pub storage: Storage,
-    /// What each channel was made of, by the channels' numbers. Its storage is the one that it had between calls, and not the
-    /// machine's.
-    pub channels: [Option<s360_channel::Finished<S>>; 7],
-}
 
 impl<S: ImageStore> Channels<S> {
     /// Resets the channel with this number, takes it away, and gives back what it was made of; none where there is no such
     /// channel. The storage that comes with it is the one that it had between calls; the machine's stays. It makes at most one
     /// call of a store, which saves a track that was written.
-    pub fn remove(&mut self, number: u8) -> Option<s360_channel::Finished<S>>
+    pub fn remove(&mut self, number: u8) -> Option<Finished<S>>
         ensures { RemovesAt number (option_map (λ c. record { storage = c.storage; images = c.images; unsaved = c.reset.unsaved }) result) self.old self.new }
     {
         remove(&mut self.list, &mut self.storage, number)
     }
 
-    /// Resets each channel, in order of the channels' numbers, and gives back what all were made of. It makes at most one call of
-    /// a store for each channel, which saves a track that was written.
-    pub fn finish(mut self) -> Finished<S>
-        ensures { FinishesAll self result.storage (map (option_map (λ c. record { storage = c.storage; images = c.images; unsaved = c.reset.unsaved })) result.channels) }
+    /// Resets each channel, in order of the channels' numbers, and gives back the storage that they shared, and by their numbers
+    /// what each was made of, as `remove` does. It makes at most one call of a store for each channel, which saves a track that
+    /// was written.
+    pub fn finish(mut self) -> (Storage, [Option<Finished<S>>; 7])
+        ensures { FinishesAll self result.0 (map (option_map (λ c. record { storage = c.storage; images = c.images; unsaved = c.reset.unsaved })) result.1) }
     {
         let channels = [
             self.remove(0),
@@ -47,7 +38,7 @@ impl<S: ImageStore> Channels<S> {
             self.remove(6),
         ];
         let Channels { storage, list: _ } = self;
-        Finished { storage, channels }
+        (storage, channels)
     }
 }
 
@@ -56,7 +47,7 @@ fn remove<S: ImageStore>(
     channels: &mut [Option<Channel<S>>],
     storage: &mut Storage,
     number: u8,
-) -> Option<s360_channel::Finished<S>>
+) -> Option<Finished<S>>
     requires { AllFit (length storage.old.bytes) channels.old }
     ensures { ServesEnd number (option_map (λ c. record { storage = c.storage; images = c.images; unsaved = c.reset.unsaved }) result) (of_parts storage.old channels.old) (of_parts storage.new channels.new) }
 {
@@ -83,7 +74,7 @@ fn take_channel<S: ImageStore>(
 }
 
 // A channel that finds this storage is reset, gives it back, and is taken apart with its own.
-fn end<S: ImageStore>(mut channel: Channel<S>, storage: &mut Storage) -> s360_channel::Finished<S>
+fn end<S: ImageStore>(mut channel: Channel<S>, storage: &mut Storage) -> Finished<S>
     requires { Fits (length storage.old.bytes) channel }
     ensures ends { Ends channel storage.old (record { storage = result.storage; images = result.images; unsaved = result.reset.unsaved }) storage.new }
     ensures size { length storage.new.bytes ≡ length storage.old.bytes }

@@ -13,5 +13,4 @@ mod processor;
 mod turns;
 
 pub use crate::channels::Channels;
-pub use crate::ending::Finished;
 pub use crate::faults::{AddFault, AttachFault, DetachFault, ExchangeFault};

@@ -1,6 +1,6 @@
 use Rattle.std.proofs.Common.{refl, ap}
 use Rattle.s360_channels.specs.Channels.{ChannelsState}
-use Rattle.s360_channels.proofs.ending.Channels.finish.Goals as goal
+use Rattle.s360_channels.proofs.channels.Channels.finish.Goals as goal
 
 pub returns : goal.returns
 returns g c = record {

@@ -1,6 +1,6 @@
 use Rattle.std.proofs.Common.{ℕ, ◌<◌}
 use Rattle.s360_channels.specs.Interrupting.{WaitsNot}
-use Rattle.s360_channels.proofs.interrupting.Channels.first_pending.Given as goal
+use Rattle.s360_channels.proofs.channels.Channels.first_pending.Given as goal
 
 -- no lower number waits
 abbrev pub invariant-loop-number : goal.invariant-loop-number
