@@ -1,5 +1,5 @@
 -- Channels that are taken apart.
-use Rattle.std.specs.Prelude.{◌≡◌, ◌+◌, ℕ, List, [], ◌∷◌, Option, Some, None, length, slice_set}
+use Rattle.std.specs.Prelude.{◌≡◌, ◌+◌, ℕ, List, [], ◌∷◌, Option, Some, None, slice_set}
 use Rattle.s360_words.specs.Storage.{Storage}
 use Rattle.ckd_image.specs.Image.{ImageState}
 use Rattle.s360_laws.specs.Machine.{Machine}
