@@ -1,77 +1,98 @@
-//! Two channels over one storage, which the machine keeps: it is swapped in for a call, and out again.
+//! Two channels over one storage.
 
 use crate::console::{Hex, code_of, show_interruption};
 use crate::programs::{
     CHAIN_COMMAND, CHAIN_DATA, READ_DATA, SEARCH_ID_EQUAL, TRANSFER_IN_CHANNEL,
-    WRITE_COUNT_KEY_AND_DATA, ccw, put, put_program,
+    WRITE_COUNT_KEY_AND_DATA, ccw,
 };
-use crate::volumes::{attach, new_channel, new_volume};
-use anyhow::Result;
-use ckd_image::MemoryStore;
-use s360_channel::Channel;
-use s360_words::Storage;
+use crate::volumes::new_volume;
+use anyhow::{Result, bail};
+use ckd_image::{Image, MemoryStore};
+use s360_channel::OutsideStorage;
+use s360_channels::Channels;
+use s360_words::{CAW_ADDRESS, Storage};
+use std::alloc::Global;
 
-type Disks = Channel<MemoryStore>;
+type Machine = Channels<MemoryStore>;
+
+/// The system mask that is open for channels 1 and 2.
+const BOTH: u8 = 0x60;
 
 /// A record is written at channel 1. Then it is read there, while channel 2 writes it to its own drive, from where the first
 /// channel has just put it.
 pub(crate) fn read_and_write_at_once(rt: &HostRuntime) -> Result<()> {
-    let alloc = rt.alloc();
-    let mut storage = new_storage(rt)?;
-    let (mut one, mut two) = (new_channel(alloc, 1)?, new_channel(alloc, 2)?);
-    attach(alloc, &mut one, 0x90, new_volume(alloc, 2)?)?;
-    attach(alloc, &mut two, 0x90, new_volume(alloc, 2)?)?;
-    put_program(&mut storage, 0x400, &write(0x400, 0x600))?;
-    let code = start(&mut one, &mut storage, 0x190)?;
-    let units = run_on(&mut one, &mut storage, 1_000)?;
+    let mut machine = new_machine(rt.alloc())?;
+    put_program(&mut machine, 0x400, &write(0x400, 0x600))?;
+    let code = code_of(&machine.sio(0x190));
+    let units = run_on(&mut machine, 1);
     println!(rt; "a record is written at channel 1: condition code {code}, {units} units")?;
-    take(rt, &mut one, &mut storage)?;
-    at_once(rt, &mut one, &mut two, &mut storage)?;
-    put_program(&mut storage, 0x400, &read(0x400, 0x710))?;
-    let code = start(&mut two, &mut storage, 0x290)?;
-    let units = run_on(&mut two, &mut storage, 1_000)?;
+    take(rt, &mut machine)?;
+    at_once(rt, &mut machine)?;
+    put_program(&mut machine, 0x400, &read(0x400, 0x710))?;
+    let code = code_of(&machine.sio(0x290));
+    let units = run_on(&mut machine, 2);
     println!(rt; "it is read at channel 2: condition code {code}, {units} units")?;
-    take(rt, &mut two, &mut storage)?;
-    let read = storage.slice(0x710, 8).unwrap_or(&[]);
+    take(rt, &mut machine)?;
+    let read = machine.peek(0x710, 8).unwrap_or(&[]);
     println!(rt; "  000710: {}", Hex(read))?;
     Ok(())
 }
 
-// Both channels work, a few units each in turns.
-fn at_once(
-    rt: &HostRuntime,
-    one: &mut Disks,
-    two: &mut Disks,
-    storage: &mut Storage,
-) -> Result<()> {
-    put_program(storage, 0x400, &read(0x400, 0x700))?;
-    let first = start(one, storage, 0x190)?;
-    put_program(storage, 0x440, &write(0x440, 0x700))?;
-    let second = start(two, storage, 0x290)?;
+// Both channels work, a few units each in turns. The interruption of the lower channel is taken first.
+fn at_once(rt: &HostRuntime, machine: &mut Machine) -> Result<()> {
+    put_program(machine, 0x400, &read(0x400, 0x700))?;
+    let first = code_of(&machine.sio(0x190));
+    put_program(machine, 0x440, &write(0x440, 0x700))?;
+    let second = code_of(&machine.sio(0x290));
     println!(rt;
         "and read there while channel 2 writes it too: condition codes {first} and {second}"
     )?;
     for most in [10, 1_000] {
-        let first = run_on(one, storage, most)?;
-        let second = run_on(two, storage, most)?;
+        let units = machine.step_all(most);
+        let (first, second) = (units[1].unwrap_or(0), units[2].unwrap_or(0));
         println!(rt; "  {first} units at channel 1, {second} at channel 2")?;
     }
-    take(rt, one, storage)?;
-    take(rt, two, storage)
+    take(rt, machine)?;
+    take(rt, machine)
 }
 
-/// Storage in which two identifiers, a count area and the data of a record stand.
-fn new_storage(rt: &HostRuntime) -> Result<Storage> {
-    let mut storage = Storage::new(rt.alloc(), 65_536)?;
-    put(&mut storage, 0x500, &[0, 0, 0, 0, 0])?;
-    put(&mut storage, 0x508, &[0, 0, 0, 0, 1])?;
-    put(&mut storage, 0x510, &[0, 0, 0, 0, 1, 0, 0, 8])?;
-    put(
-        &mut storage,
-        0x600,
-        &[0xF0, 0xF1, 0xF2, 0xF3, 0xF4, 0xF5, 0xF6, 0xF7],
-    )?;
-    Ok(storage)
+/// Channels 1 and 2 with a drive each, and storage in which two identifiers, a count area and the data of a record stand.
+fn new_machine(alloc: Global) -> Result<Machine> {
+    let mut machine = Channels::new(Storage::new(alloc, 65_536)?);
+    for number in [1, 2] {
+        machine.add(alloc, number)?;
+    }
+    for address in [0x190, 0x290] {
+        attach(alloc, &mut machine, address, new_volume(alloc, 2)?)?;
+    }
+    machine.poke(0x500, &[0, 0, 0, 0, 0])?;
+    machine.poke(0x508, &[0, 0, 0, 0, 1])?;
+    machine.poke(0x510, &[0, 0, 0, 0, 1, 0, 0, 8])?;
+    machine.poke(0x600, &[0xF0, 0xF1, 0xF2, 0xF3, 0xF4, 0xF5, 0xF6, 0xF7])?;
+    Ok(machine)
+}
+
+/// Attaches a drive that holds an image.
+fn attach(
+    alloc: Global,
+    machine: &mut Machine,
+    address: u16,
+    image: Image<MemoryStore>,
+) -> Result<()> {
+    match machine.attach(alloc, address, image) {
+        Ok(()) => Ok(()),
+        Err((fault, _image)) => bail!("{fault}"),
+    }
+}
+
+/// The processor stores a channel program, one word behind the other, and a channel address word that leads to it, with key 0.
+fn put_program(machine: &mut Machine, at: u32, words: &[[u8; 8]]) -> Result<(), OutsideStorage> {
+    let mut place = at;
+    for word in words {
+        machine.poke(place, word)?;
+        place = place.checked_add(8).ok_or(OutsideStorage)?;
+    }
+    machine.poke(CAW_ADDRESS, &at.to_be_bytes())
 }
 
 /// A program at an address that searches the record whose identifier stands at another one, and there does what two words say.
@@ -95,27 +116,13 @@ fn read(at: u32, to: u32) -> [[u8; 8]; 4] {
     search(at, 0x508, ccw(READ_DATA, to, 0, 8), [0; 8])
 }
 
-// Start I/O; the condition code.
-fn start(channel: &mut Disks, storage: &mut Storage, address: u16) -> Result<u8> {
-    channel.exchange_storage(storage)?;
-    let code = code_of(&channel.sio(address));
-    channel.exchange_storage(storage)?;
-    Ok(code)
+// Lets the program of a channel come to its end, and answers how many units it did.
+fn run_on(machine: &mut Machine, number: u8) -> u32 {
+    machine.run_on(number, 1_000).map_or(0, |ran| ran.units)
 }
 
-// Lets a channel's program do units, so many at most, and answers how many it did.
-fn run_on(channel: &mut Disks, storage: &mut Storage, most: u32) -> Result<u32> {
-    channel.exchange_storage(storage)?;
-    let ran = channel.run_on(most);
-    channel.exchange_storage(storage)?;
-    Ok(ran.units)
-}
-
-// Takes a channel's interruption, if one pends.
-fn take(rt: &HostRuntime, channel: &mut Disks, storage: &mut Storage) -> Result<()> {
-    channel.exchange_storage(storage)?;
-    let pends = channel.is_pending();
-    let taken = channel.interrupt();
-    channel.exchange_storage(storage)?;
-    show_interruption(rt, pends, taken)
+// Takes the first interruption of both channels, if one pends.
+fn take(rt: &HostRuntime, machine: &mut Machine) -> Result<()> {
+    let pends = machine.is_pending(BOTH);
+    show_interruption(rt, pends, machine.interrupt(BOTH))
 }

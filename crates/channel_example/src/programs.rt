@@ -2,7 +2,7 @@
 
 use ckd_image::ImageStore;
 use s360_channel::{Channel, OutsideStorage};
-use s360_words::{CAW_ADDRESS, Storage};
+use s360_words::CAW_ADDRESS;
 
 pub(crate) const NO_OPERATION: u8 = 0x03;
 
@@ -48,28 +48,6 @@ pub(crate) fn store_program<S: ImageStore>(
         place = place.checked_add(8).ok_or(OutsideStorage)?;
     }
     channel.poke(CAW_ADDRESS, &at.to_be_bytes())
-}
-
-/// The same where the processor has storage at hand.
-pub(crate) fn put_program(
-    storage: &mut Storage,
-    at: u32,
-    words: &[[u8; 8]],
-) -> Result<(), OutsideStorage> {
-    let mut place = at;
-    for word in words {
-        put(storage, place, word)?;
-        place = place.checked_add(8).ok_or(OutsideStorage)?;
-    }
-    put(storage, CAW_ADDRESS, &at.to_be_bytes())
-}
-
-/// The processor puts bytes into storage that it has at hand.
-pub(crate) fn put(storage: &mut Storage, at: u32, bytes: &[u8]) -> Result<(), OutsideStorage> {
-    match storage.put(at, bytes) {
-        true => Ok(()),
-        false => Err(OutsideStorage),
-    }
 }
 
 /// Where the identifier of R0 stands, and the count areas and the data of two records.

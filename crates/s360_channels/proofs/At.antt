@@ -1,5 +1,5 @@
 -- A call at the channel with a number.
-use Rattle.std.proofs.Common.{◌≡◌, ◌<◌, ◌≤◌, ℕ, zero, suc, refl, sym, ◌∙◌, subst, arith, length, List, [], ◌∷◌, Option, Some, None}
+use Rattle.std.proofs.Common.{◌≡◌, ◌<◌, ◌≤◌, ℕ, zero, suc, refl, sym, ◌∙◌, subst, arith, length, List, [], ◌∷◌, Option, Some, None, Result, Ok, Err, IfOk}
 use Rattle.std.proofs.lemmas.List.{get_or_default}
 use Rattle.std.specs.Prelude.{slice_index_or, slice_set}
 use Rattle.s360_words.specs.Storage.{Storage}
@@ -30,7 +30,7 @@ fit_set size (Some d ∷ cs) zero c h f = (f, h.1)
 fit_set size (None ∷ cs) (suc number) c h f = fit_set size cs number c h f
 fit_set size (Some d ∷ cs) (suc number) c h f = (h.0, fit_set size cs number c h.1 f)
 
-none_past : (cs : List (Option ChannelState)) (number : ℕ) → length cs ≤ number → slice_index_or cs number None ≡ None
+pub none_past : (cs : List (Option ChannelState)) (number : ℕ) → length cs ≤ number → slice_index_or cs number None ≡ None
 none_past [] number h = refl
 none_past (c ∷ cs) zero h = absurd (no (length cs) h)
   where
@@ -61,3 +61,8 @@ module _ (number : ℕ) (How : ChannelState → ChannelState → Type 0) (Missin
 
 pub there : (cs : List (Option ChannelState)) (number : ℕ) (r : Option ChannelState) (c : ChannelState) → number < length cs → slice_index_or cs number r ≡ Some c → slice_index_or cs number None ≡ Some c
 there cs number r c h e = get_or_default cs number None r h ∙ e
+
+-- what follows from what an answer that is no refusal says
+pub ok_then : {A E : Type 0} (r : Result A E) (P Q : A → Type 0) → ((a : A) → P a → Q a) → IfOk r P → IfOk r Q
+ok_then (Ok a) P Q f h = f a h
+ok_then (Err e) P Q f h = h

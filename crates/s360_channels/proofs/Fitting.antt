@@ -6,7 +6,8 @@ use Rattle.s360_runs.proofs.Sizes.{keeps_size}
 use Rattle.s360_program.proofs.Ties.{seen}
 use Rattle.s360_laws.specs.Events.{Event, Answer}
 use Rattle.s360_laws.specs.Machine.{Machine, react, start_of}
-use Rattle.s360_channel.specs.Channel.{ChannelState, IsChannel, Shows}
+use Rattle.s360_channel.specs.Calls.{Does}
+use Rattle.s360_channel.specs.Channel.{ChannelState, IsChannel, Shows, StandsFor}
 use Rattle.s360_channel.specs.Shares.{with_storage}
 use Rattle.s360_channel.specs.declared.subchannel.Subchannel.{Subchannel}
 use Rattle.s360_channel.specs.declared.subchannel.Subchannel.TheVariants.{Idle, Working, Pending}
@@ -15,6 +16,7 @@ use Rattle.s360_channel.specs.declared.view.RunOn.{RunOn}
 use Rattle.s360_channel.proofs.Works.{storage_seen}
 use Rattle.s360_channels.specs.Channels.{Fits, Quietly, AtMost, RunsTo, ResetsTo}
 use Rattle.s360_channels.specs.Inside.{Exchanged, Serves}
+use Rattle.s360_channels.specs.Turns.{StepsTo}
 use Rattle.s360_channels.proofs.MachineSizes.{size_stays}
 
 size_in : (c : ChannelState) (m : Machine) (s : Subchannel) → Shows c m s → length c.storage.bytes ≡ length m.storage.bytes
@@ -23,6 +25,10 @@ size_in c m (Pending device csw) h = ap (λ (m : Machine). length m.storage.byte
 size_in c m (Working place r) w =
     ap (λ s. length s.bytes) (sym (storage_seen r.key r.stage r.place c.storage w.unit.drive.state w.unit.drive.work))
     ∙ subst (OutcomeKeepsSize m.storage) (seen (start_of m w.drive) w.script r c.storage w.unit.drive w.runs) (keeps_size (start_of m w.drive) w.script)
+
+-- an event leaves storage as large as it was
+pub does_size : (e : Event) (answer : Answer) (m : Machine) (old new : ChannelState) → StandsFor old m → Does e m answer old new → length new.storage.bytes ≡ length old.storage.bytes
+does_size e answer m old new t d = size_in new _ new.subchannel d.stands.shows ∙ (size_stays e d.fault m ∙ sym (size_in old m old.subchannel t.shows))
 
 pub quiet_fits : (e : Event) (answer : Answer) (old new : ChannelState) → Quietly e answer old new → IsChannel old → Fits (length old.storage.bytes) new
 quiet_fits e answer old new q k =
@@ -37,7 +43,7 @@ most_fits most e answer old new q k =
     let d = q.does k.machine k.stands in
     record {
       is_channel = record { machine = (react e d.fault k.machine).1; stands = d.stands };
-      as_large = size_in new _ new.subchannel d.stands.shows ∙ (size_stays e d.fault k.machine ∙ sym (size_in old k.machine old.subchannel k.stands.shows));
+      as_large = does_size e answer k.machine old new k.stands d;
     }
 
 module _ (How : ChannelState → ChannelState → Type 0) (fits_after : (old new : ChannelState) → How old new → IsChannel old → Fits (length old.storage.bytes) new) where
@@ -71,3 +77,6 @@ runs_fit units ran old new r k = most_fits _ _ _ old new r.steps k
 
 pub reset_fits : (reset : Reset) (old new : ChannelState) → ResetsTo (Some reset) old new → IsChannel old → Fits (length old.storage.bytes) new
 reset_fits reset old new r k = most_fits _ _ _ old new r k
+
+pub steps_fit : (units done : ℕ) (old new : ChannelState) → StepsTo units (Some done) old new → IsChannel old → Fits (length old.storage.bytes) new
+steps_fit units done old new r k = most_fits _ _ _ old new r.steps k

@@ -4,3 +4,5 @@ pub mod At
 pub mod Added
 pub mod Pending
 pub mod Asking
+pub mod Leaving
+pub mod Taking

@@ -1,19 +1,18 @@
 //! Several channels, and the calls for an address of any of them.
 
-ghost use Rattle.std.specs.Prelude.{◌≡◌, ◌<◌, ◌/◌, ◌%◌, None, Some, length, replicate, slice_set, false, is_ok, option_map, OnOk, OnErr, IfErr};
-ghost use Rattle.s360_words.specs.Storage.{Bytes, KeyOf};
+ghost use Rattle.std.specs.Prelude.{◌≡◌, ◌/◌, ◌%◌, None, Some, length, replicate, slice_set, false, option_map, OnOk, OnErr, IfErr};
 ghost use Rattle.s360_laws.specs.Events as machine;
 ghost use Rattle.s360_events.specs.Seen.{answer_seen};
 ghost use Rattle.s360_events.specs.declared.answers.Answer.TheVariants as answer;
 ghost use Rattle.s360_events.specs.declared.conditions.Condition.TheVariants.{Three};
 ghost use Rattle.s360_channels.specs.Adding.{AttachesAt, IsFree, RefusedAs, WhyNot, new_channel};
 ghost use Rattle.s360_channels.specs.Asked.{InterruptsAt, TestsAt};
-ghost use Rattle.s360_channels.specs.Channels.{OnChannel, Quietly, AtMost, RunsTo, ResetsTo, Puts, Stores, channel_at};
+ghost use Rattle.s360_channels.specs.Channels.{OnChannel, Quietly, AtMost, RunsTo, ResetsTo, channel_at};
 
 use crate::faults::{AddFault, AttachFault};
 use crate::{adding, numbers};
 use ckd_image::{Image, ImageStore};
-use s360_channel::{Channel, OutsideStorage, Reset, RunOn};
+use s360_channel::{Channel, Reset, RunOn};
 use s360_events::{Condition, Status};
 use s360_words::{Csw, Storage};
 use std::alloc::Global;
@@ -26,8 +25,8 @@ use std::marker::Model;
 /// others and the processor store is a change from outside between two of its units.
 #[derive(Drop)]
 pub struct Channels<S: ImageStore> {
-    storage: Storage,
-    list: [Option<Channel<S>>; 7],
+    pub(crate) storage: Storage,
+    pub(crate) list: [Option<Channel<S>>; 7],
 }
 
 impl<S: ImageStore> Model for Channels<S> {
@@ -107,44 +106,6 @@ impl<S: ImageStore> Channels<S> {
         numbers::reset(&mut self.list, &mut self.storage, number)
     }
 
-    /// Main storage as it is now, also while programs run, lent.
-    pub fn storage(&self) -> &Storage
-        ensures { result.now ≡ self.now.storage }
-    {
-        &self.storage
-    }
-
-    /// The processor stores these bytes from an address on, also while programs run.
-    ///
-    /// # Errors
-    ///
-    /// A byte would be outside storage; nothing has changed.
-    pub fn poke(&mut self, at: u32, bytes: &[u8]) -> Result<(), OutsideStorage>
-        ensures { Stores (Bytes at bytes.now) (is_ok result) self.old self.new }
-    {
-        if put(&mut self.storage, at, bytes) {
-            Ok(())
-        } else {
-            Err(OutsideStorage)
-        }
-    }
-
-    /// The processor sets the key, below 16, of the block of storage that has this address, also while programs run.
-    ///
-    /// # Errors
-    ///
-    /// The address is outside storage; nothing has changed.
-    pub fn set_key(&mut self, at: u32, key: u8) -> Result<(), OutsideStorage>
-        requires { key < 16 }
-        ensures { Stores (KeyOf at key) (is_ok result) self.old self.new }
-    {
-        if set_key(&mut self.storage, at, key) {
-            Ok(())
-        } else {
-            Err(OutsideStorage)
-        }
-    }
-
     /// Adds a channel with this number and no drives. It takes memory for the storage that the channel has between calls.
     ///
     /// # Errors
@@ -201,23 +162,4 @@ impl<S: ImageStore> Channels<S> {
     {
         numbers::channel(&self.list, number)
     }
-}
-
-// Puts bytes into storage, whose size stays.
-#[tactic(auto, using(crate::proofs::Added::put_size))]
-fn put(storage: &mut Storage, at: u32, bytes: &[u8]) -> bool
-    ensures puts { Puts (Bytes at bytes.now) result storage.old storage.new }
-    ensures size { length storage.new.bytes ≡ length storage.old.bytes }
-{
-    storage.put(at, bytes)
-}
-
-// Sets the key of a block of storage, whose size stays.
-#[tactic(auto, using(crate::proofs::Added::put_size))]
-fn set_key(storage: &mut Storage, at: u32, key: u8) -> bool
-    requires { key < 16 }
-    ensures puts { Puts (KeyOf at key) result storage.old storage.new }
-    ensures size { length storage.new.bytes ≡ length storage.old.bytes }
-{
-    storage.set_key(at, key)
 }

@@ -27,3 +27,25 @@ pub enum AttachFault {
     #[error("{0}")]
     Refused(s360_channel::AttachFault),
 }
+
+/// Why a drive is not taken off its channel. `NoChannel` is looked for first.
+#[derive(Clone, Copy, Debug, PartialEq, Eq, Error)]
+pub enum DetachFault {
+    /// There is no channel with the number in the high byte.
+    #[error("there is no channel with this number")]
+    NoChannel,
+    /// The channel refuses it.
+    #[error("{0}")]
+    Refused(s360_channel::DetachFault),
+}
+
+/// Why a drive does not change its pack. `NoChannel` is looked for first.
+#[derive(Clone, Copy, Debug, PartialEq, Eq, Error)]
+pub enum ExchangeFault {
+    /// There is no channel with the number in the high byte.
+    #[error("there is no channel with this number")]
+    NoChannel,
+    /// The channel refuses it.
+    #[error("{0}")]
+    Refused(s360_channel::ExchangeFault),
+}

@@ -9,14 +9,15 @@ ghost use Rattle.s360_events.specs.Seen.{answer_seen};
 ghost use Rattle.s360_events.specs.declared.answers.Answer.TheVariants as answer;
 ghost use Rattle.s360_channels.specs.Channels.{Fits, Quietly, AtMost, RunsTo, ResetsTo};
 ghost use Rattle.s360_channels.specs.Inside.{Exchanged, Serves};
+ghost use Rattle.s360_channels.specs.Turns.{StepsTo};
 
 use ckd_image::ImageStore;
 use s360_channel::{Channel, Reset, RunOn};
 use s360_events::{Condition, Status};
 use s360_words::{Csw, Storage};
 
-// The channel finds this storage, and its own is given for it.
-fn exchange<S: ImageStore>(channel: &mut Channel<S>, storage: &mut Storage)
+/// The channel finds this storage, and its own is given for it.
+pub(crate) fn exchange<S: ImageStore>(channel: &mut Channel<S>, storage: &mut Storage)
     requires { length storage.old.bytes ≡ length channel.old.storage.bytes }
     ensures { Exchanged channel.old storage.old channel.new storage.new }
 {
@@ -69,6 +70,21 @@ pub(crate) fn hio<S: ImageStore>(
     let condition = channel.hio(address);
     exchange(channel, storage);
     condition
+}
+
+/// Units of the program that runs.
+pub(crate) fn step<S: ImageStore>(
+    channel: &mut Channel<S>,
+    storage: &mut Storage,
+    units: u16,
+) -> u16
+    requires { Fits (length storage.old.bytes) channel.old }
+    ensures { Serves (StepsTo units (Some result)) channel.old storage.old channel.new storage.new }
+{
+    exchange(channel, storage);
+    let done = channel.step(units);
+    exchange(channel, storage);
+    done
 }
 
 /// Units until the program ends, so many at most.

@@ -3,9 +3,14 @@
 
 mod adding;
 mod channels;
+mod ending;
 mod faults;
 mod found;
+mod interrupting;
 mod numbers;
+mod packs;
+mod processor;
+mod turns;
 
 pub use crate::channels::Channels;
-pub use crate::faults::{AddFault, AttachFault};
+pub use crate::faults::{AddFault, AttachFault, DetachFault, ExchangeFault};

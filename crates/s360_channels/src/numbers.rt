@@ -9,6 +9,7 @@ ghost use Rattle.s360_events.specs.declared.conditions.Condition.TheVariants.{Th
 ghost use Rattle.s360_channels.specs.Asked.{InterruptsAt, TestsAt};
 ghost use Rattle.s360_channels.specs.Channels.{AllFit, Quietly, AtMost, RunsTo, ResetsTo};
 ghost use Rattle.s360_channels.specs.Inside.{ServesAt, of_parts};
+ghost use Rattle.s360_channels.specs.Turns.{StepsTo};
 
 use crate::found;
 use ckd_image::ImageStore;
@@ -89,6 +90,26 @@ pub(crate) fn arrive<S: ImageStore>(
     match &mut channels[number] {
         Some(channel) => found::arrive(channel, storage, address),
         None => false,
+    }
+}
+
+/// Units of a channel's program, as `Channel::step` does them.
+pub(crate) fn step<S: ImageStore>(
+    channels: &mut [Option<Channel<S>>],
+    storage: &mut Storage,
+    number: u8,
+    units: u16,
+) -> Option<u16>
+    requires { AllFit (length storage.old.bytes) channels.old }
+    ensures { ServesAt number (StepsTo units result) (result ≡ None) (of_parts storage.old channels.old) (of_parts storage.new channels.new) }
+{
+    let number = number as usize;
+    if number >= channels.len() {
+        return None;
+    }
+    match &mut channels[number] {
+        Some(channel) => Some(found::step(channel, storage, units)),
+        None => None,
     }
 }
 
