@@ -25,6 +25,7 @@ impl<S: ImageStore> Channels<S> {
     /// Resets each channel, in order of the channels' numbers, and gives back the storage that they shared, and by their numbers
     /// what each was made of, as `remove` does. It makes at most one call of a store for each channel, which saves a track that
     /// was written.
+    // A pair, since of a struct around the array each call within would have to show that it fits memory, whatever the stores.
     pub fn finish(mut self) -> (Storage, [Option<Finished<S>>; 7])
         ensures { FinishesAll self result.0 (map (option_map (λ c. record { storage = c.storage; images = c.images; unsaved = c.reset.unsaved })) result.1) }
     {
