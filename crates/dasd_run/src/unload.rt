@@ -47,7 +47,8 @@ pub(crate) fn extract_volume<F: ImageFiles, W: Write>(
     let volume = WantedVolume {
         folder: asked.folder,
         is_text: asked.is_text,
-        json: asked.json.then_some(path.as_str()),
+        path: path.as_str(),
+        json: asked.json,
     };
     match unload_volume(alloc, files, writer, paths, volume) {
         Ok(0) => Ok(Ending::Done),

@@ -22,8 +22,10 @@ pub struct WantedVolume<'a> {
     pub folder: &'a str,
     /// Whether records are written as lines of text; if not, blocks are as they stand.
     pub is_text: bool,
-    /// The paths of the volume, as a string of JSON, if what is printed is objects of JSON, one a line.
-    pub json: Option<&'a str>,
+    /// The paths of the volume, as a string of JSON with its quotes.
+    pub path: &'a str,
+    /// Whether each line that is printed is an object of JSON, with this path.
+    pub json: bool,
 }
 
 /// Where data sets go, and how.
@@ -73,7 +75,8 @@ pub fn unload_volume<F: ImageFiles, W: Write>(
         Ok(contents) => contents,
         Err(fault) => return Err(of_volume(fault)),
     };
-    let mut report = Report::new(writer, volume.json);
+    let path = volume.json.then_some(volume.path);
+    let mut report = Report::new(writer, path);
     report.contents(contents.found.findings.len())?;
     let target = Target {
         alloc,
