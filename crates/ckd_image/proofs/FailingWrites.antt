@@ -8,6 +8,7 @@ use Rattle.ckd_image.proofs.Writes.{torn_within}
 pub record Told (old new : Stored) (before now at : ℕ) (bytes : List ℕ) (r : Result (Unit {0}) StoreFault) : Type 0 where
   pub written : OnOk r (new.content ≡ overwritten old.content at bytes)
   pub torn : OnErr r (Torn old.content new.content at (length bytes))
+  pub same : new.origin ≡ old.origin
   pub counted : Counts (old.failures + before) (new.failures + now) r
 
 -- the first 60 bytes, within the content
@@ -23,11 +24,13 @@ told old new before now at bytes true room (Ok v) begins ok is counted = cc
 told old new before now at bytes true room (Err e) begins ok is counted = record {
   written = tt;
   torn = torn_sixty old new at bytes begins is;
+  same = ap (λ (v : Stored). v.origin) is;
   counted = let same = ap (λ (v : Stored). v.failures) is in omega arith;
 }
 told old new before now at bytes false true (Ok v) begins ok is counted = record {
   written = ap (λ (v : Stored). v.content) is;
   torn = tt;
+  same = ap (λ (v : Stored). v.origin) is;
   counted = let same = ap (λ (v : Stored). v.failures) is in omega arith;
 }
 told old new before now at bytes false true (Err e) begins ok is counted = cc
@@ -35,5 +38,6 @@ told old new before now at bytes false false (Ok v) begins ok is counted = cc
 told old new before now at bytes false false (Err e) begins ok is counted = record {
   written = tt;
   torn = rw (ap (λ (v : Stored). v.content) is) (record { before = refl; behind = refl; same_length = refl });
+  same = ap (λ (v : Stored). v.origin) is;
   counted = let more = ap (λ (v : Stored). v.failures) is in omega arith;
 }

@@ -21,11 +21,11 @@ abbrev pub slots_of : Geometry → List (List ℕ) → List (List ℕ)
 slots_of g files = slots_in g.track_size (tracks_of g) (slot_bytes files)
 
 -- what is seen of an image of this geometry in these files
-abbrev pub seen : Geometry → List (List ℕ) → ℕ → ℕ → ℕ → ImageState
-seen g files failures loads saves = record {
+abbrev pub seen : Geometry → (files origins : List (List ℕ)) → (failures loads saves : ℕ) → ImageState
+seen g files origins failures loads saves = record {
   geometry = g;
   slots = slots_of g files;
-  header = concat (map (take 512) files);
+  lasting = record { header = concat (map (take 512) files); origins = origins };
   failures = failures;
   loads = loads;
   saves = saves;
@@ -42,15 +42,15 @@ holds_slots g files mounts =
       order = sym (concat-slots_in g.track_size (tracks_of g) (slot_bytes files) behind);
     }
 
-pub holds_image : (g : Geometry) (files : List (List ℕ)) (failures loads saves : ℕ) → mount_of files ≡ Ok g → HoldsImage files (seen g files failures loads saves)
-holds_image g files failures loads saves mounts = record { holds = holds_slots g files mounts; headers = refl }
+pub holds_image : (g : Geometry) (files origins : List (List ℕ)) (failures loads saves : ℕ) → mount_of files ≡ Ok g → HoldsImage files (seen g files origins failures loads saves)
+holds_image g files origins failures loads saves mounts = record { holds = holds_slots g files mounts; headers = refl }
 
-pub is_image : (g : Geometry) (files : List (List ℕ)) (failures loads saves : ℕ) → mount_of files ≡ Ok g → IsImage (seen g files failures loads saves)
-is_image g files failures loads saves mounts =
+pub is_image : (g : Geometry) (files origins : List (List ℕ)) (failures loads saves : ℕ) → mount_of files ≡ Ok g → IsImage (seen g files origins failures loads saves)
+is_image g files origins failures loads saves mounts =
     let holds = holds_slots g files mounts in
     record {
       files = files;
-      holds = holds_image g files failures loads saves mounts;
+      holds = holds_image g files origins failures loads saves mounts;
       geometry = (mount_fits files g mounts).is_geometry;
       count = holds.count;
       sizes = holds.sizes;
@@ -85,17 +85,17 @@ module _ {S : Type 0} where
       cancel (sum tracks) (tracks_of g) g.track_size (omega arith) (sym (bytes_held content g.track_size files tracks holds count) ∙ fits.is_length)
 
   -- a track of the image is one of its files
-  pub in_files : (content : S → List ℕ) (g : Geometry) (files : List (Option S)) (tracks : List ℕ) (failures loads saves track : ℕ) (v : ImageState) → seen g (each content files) failures loads saves ≡ v → mount_of (each content files) ≡ Ok g → HoldTracks content g.track_size files tracks → length files ≡ length tracks → track < tracks_of v.geometry → track < sum tracks
-  in_files content g files tracks failures loads saves track v is mounts holds count exists =
+  pub in_files : (content : S → List ℕ) (g : Geometry) (files : List (Option S)) (tracks : List ℕ) (origins : List (List ℕ)) (failures loads saves track : ℕ) (v : ImageState) → seen g (each content files) origins failures loads saves ≡ v → mount_of (each content files) ≡ Ok g → HoldTracks content g.track_size files tracks → length files ≡ length tracks → track < tracks_of v.geometry → track < sum tracks
+  in_files content g files tracks origins failures loads saves track v is mounts holds count exists =
       let same = ap (λ (w : ImageState). w.geometry) is in
       rw (tracks_held content g files tracks mounts holds count, same) exists
 
 -- a track of what is seen
-pub seen_track : (g : Geometry) (files : List (List ℕ)) (failures loads saves track : ℕ) (v : ImageState) → seen g files failures loads saves ≡ v → track < tracks_of v.geometry → track < tracks_of g
-seen_track g files failures loads saves track v is exists = let same = ap (λ (w : ImageState). w.geometry) is in rw same exists
+pub seen_track : (g : Geometry) (files origins : List (List ℕ)) (failures loads saves track : ℕ) (v : ImageState) → seen g files origins failures loads saves ≡ v → track < tracks_of v.geometry → track < tracks_of g
+seen_track g files origins failures loads saves track v is exists = let same = ap (λ (w : ImageState). w.geometry) is in rw same exists
 
-pub seen_size : (g : Geometry) (files : List (List ℕ)) (failures loads saves size : ℕ) (v : ImageState) → seen g files failures loads saves ≡ v → size ≡ v.geometry.track_size → size ≡ g.track_size
-seen_size g files failures loads saves size v is e = let same = ap (λ (w : ImageState). w.geometry) is in rw same e
+pub seen_size : (g : Geometry) (files origins : List (List ℕ)) (failures loads saves size : ℕ) (v : ImageState) → seen g files origins failures loads saves ≡ v → size ≡ v.geometry.track_size → size ≡ g.track_size
+seen_size g files origins failures loads saves size v is e = let same = ap (λ (w : ImageState). w.geometry) is in rw same e
 
 -- One slot.
 
@@ -118,15 +118,15 @@ slots_put g files new bytes track mounts exists size is =
     ap (slots_in g.track_size (tracks_of g)) is
     ∙ slots_in-overwritten g.track_size (tracks_of g) track (slot_bytes files) bytes exists size (omega arith)
 
-pub saved : (g : Geometry) (files new : List (List ℕ)) (bytes : List ℕ) (track before now loads saves once_more : ℕ) (r : Result (Unit {0}) StoreFault) → mount_of files ≡ Ok g → track < tracks_of g → length bytes ≡ g.track_size → once_more ≡ saves + 1 → map (take 512) new ≡ map (take 512) files → OnOk r (slot_bytes new ≡ overwritten (slot_bytes files) (track * g.track_size) bytes) → Counts before now r → OnOk r (seen g new now loads once_more ≡ record (seen g files before loads saves) { saves = saves + 1; slots = set (slots_of g files) track bytes })
-saved g files new bytes track before now loads saves once_more (Ok v) mounts exists size counts headers written counted =
+pub saved : (g : Geometry) (files new origins : List (List ℕ)) (bytes : List ℕ) (track before now loads saves once_more : ℕ) (r : Result (Unit {0}) StoreFault) → mount_of files ≡ Ok g → track < tracks_of g → length bytes ≡ g.track_size → once_more ≡ saves + 1 → map (take 512) new ≡ map (take 512) files → OnOk r (slot_bytes new ≡ overwritten (slot_bytes files) (track * g.track_size) bytes) → Counts before now r → OnOk r (seen g new origins now loads once_more ≡ record (seen g files origins before loads saves) { saves = saves + 1; slots = set (slots_of g files) track bytes })
+saved g files new origins bytes track before now loads saves once_more (Ok v) mounts exists size counts headers written counted =
     let slots = slots_put g files new bytes track mounts exists size written in
     rw (headers, slots, counted, counts) refl
-saved g files new bytes track before now loads saves once_more (Err e) mounts exists size counts headers written counted = tt
+saved g files new origins bytes track before now loads saves once_more (Err e) mounts exists size counts headers written counted = tt
 
-pub save_torn : (g : Geometry) (files new : List (List ℕ)) (track before now loads saves once_more : ℕ) (r : Result (Unit {0}) StoreFault) → mount_of files ≡ Ok g → track < tracks_of g → once_more ≡ saves + 1 → map (take 512) new ≡ map (take 512) files → OnErr r (Torn (slot_bytes files) (slot_bytes new) (track * g.track_size) g.track_size) → Counts before now r → OnErr r (seen g new now loads once_more ≡ record (seen g files before loads saves) { saves = saves + 1; failures = before + 1; slots = set (slots_of g files) track (get_or (slots_of g new) track []) })
-save_torn g files new track before now loads saves once_more (Ok v) mounts exists counts headers torn counted = tt
-save_torn g files new track before now loads saves once_more (Err e) mounts exists counts headers torn counted =
+pub save_torn : (g : Geometry) (files new origins : List (List ℕ)) (track before now loads saves once_more : ℕ) (r : Result (Unit {0}) StoreFault) → mount_of files ≡ Ok g → track < tracks_of g → once_more ≡ saves + 1 → map (take 512) new ≡ map (take 512) files → OnErr r (Torn (slot_bytes files) (slot_bytes new) (track * g.track_size) g.track_size) → Counts before now r → OnErr r (seen g new origins now loads once_more ≡ record (seen g files origins before loads saves) { saves = saves + 1; failures = before + 1; slots = set (slots_of g files) track (get_or (slots_of g new) track []) })
+save_torn g files new origins track before now loads saves once_more (Ok v) mounts exists counts headers torn counted = tt
+save_torn g files new origins track before now loads saves once_more (Err e) mounts exists counts headers torn counted =
     let at = track * g.track_size in
     let ends = slot_ends g files track mounts exists in
     let part = slice_range (slot_bytes new) at (at + g.track_size) in

@@ -141,8 +141,8 @@ new_file_mounted model cylinders least most =
     let g = new_geometry model cylinders in
     new_file_mounts model cylinders (new_file g) least most (header-new_file g) (length-begun g (tracks_of g) (slot_room g refl))
 
-pub new_image_seen : (model : DriveModel) (cylinders failures loads saves : ℕ) → loads ≡ 0 → saves ≡ 0 → seen (new_geometry model cylinders) (new_file (new_geometry model cylinders) ∷ []) failures loads saves ≡ new_image model cylinders failures
-new_image_seen model cylinders failures loads saves no_loads no_saves =
+pub new_image_seen : (model : DriveModel) (cylinders : ℕ) (origin : List ℕ) (failures loads saves : ℕ) → loads ≡ 0 → saves ≡ 0 → seen (new_geometry model cylinders) (new_file (new_geometry model cylinders) ∷ []) (origin ∷ []) failures loads saves ≡ new_image model cylinders origin failures
+new_image_seen model cylinders origin failures loads saves no_loads no_saves =
     let g = new_geometry model cylinders in
     let bytes : slot_bytes (new_file g ∷ []) ≡ drop 512 (new_file g) = append-nil (drop 512 (new_file g)) in
     let header : take 512 (new_file g) ++ [] ≡ new_header model = append-nil (take 512 (new_file g)) ∙ header-new_file g in

@@ -95,8 +95,9 @@ module _ {S : Type 0} where
   -- The reading of headers.
 
   -- after the headers of the first files
-  pub record HeadersRead (content : S → List ℕ) (failures : S → ℕ) (old now : List (Option S)) (place : ℕ) (read : List FileHeader) : Type 0 where
+  pub record HeadersRead (content origin : S → List ℕ) (failures : S → ℕ) (old now : List (Option S)) (place : ℕ) (read : List FileHeader) : Type 0 where
     pub kept : each content now ≡ each content old
+    pub same : each origin now ≡ each origin old
     pub none : each failures now ≡ each failures old
     pub front : headers_of [] (take place (map head_of (each content old))) ≡ Ok read
     pub sizes : All (λ h. 0 < h.track_size) read
@@ -104,8 +105,8 @@ module _ {S : Type 0} where
     pub there : All IsSome now
     pub same_length : length now ≡ length old
 
-  pub one_more_header : (content : S → List ℕ) (failures : S → ℕ) (old now next : List (Option S)) (place : ℕ) (x : Option S) (read : List FileHeader) (h : FileHeader) → All IsSome old → HeadersRead content failures old now place read → place < length now → next ≡ set now place x → IsSome x → held content [] x ≡ held content [] (file_at now place) → held failures 0 x ≡ held failures 0 (file_at now place) → header_of (head_of (held content [] (file_at now place))) ≡ Ok h → 0 < h.track_size → HeadersRead content failures old next (place + 1) (read ++ h ∷ [])
-  one_more_header content failures old now next place x read h all r below is some same_content same_failures header size =
+  pub one_more_header : (content origin : S → List ℕ) (failures : S → ℕ) (old now next : List (Option S)) (place : ℕ) (x : Option S) (read : List FileHeader) (h : FileHeader) → All IsSome old → HeadersRead content origin failures old now place read → place < length now → next ≡ set now place x → IsSome x → held content [] x ≡ held content [] (file_at now place) → held origin [] x ≡ held origin [] (file_at now place) → held failures 0 x ≡ held failures 0 (file_at now place) → header_of (head_of (held content [] (file_at now place))) ≡ Ok h → 0 < h.track_size → HeadersRead content origin failures old next (place + 1) (read ++ h ∷ [])
+  one_more_header content origin failures old now next place x read h all r below is some same_content same_origin same_failures header size =
       let there = there_at now place r.there below in
       let here : slice_index_or (map head_of (each content old)) place no_head ≡ head_of (held content [] (file_at now place)) =
       ap (λ (cs : List (List ℕ)). slice_index_or (map head_of cs) place no_head) (sym r.kept) ∙ head-each content now place r.there below in
@@ -113,6 +114,7 @@ module _ {S : Type 0} where
       let long : place < length (map head_of (each content old)) = rw (length-heads content old all, sym r.same_length) below in
       record {
         kept = rw is (each-set content [] now place x below there some same_content) ∙ r.kept;
+        same = rw is (each-set origin [] now place x below there some same_origin) ∙ r.same;
         none = rw is (each-set failures 0 now place x below there some same_failures) ∙ r.none;
         front = ap (λ (n : ℕ). headers_of [] (take n (map head_of (each content old)))) (add_one place) ∙ headers_next (map head_of (each content old)) place [] read h long r.front (rw here header);
         sizes = All-append (λ h. 0 < h.track_size) read (h ∷ []) r.sizes (one_size h size);
@@ -128,8 +130,8 @@ module _ {S : Type 0} where
       one_size h size zero d below = size
       one_size h size (suc k) d below = absurd (omega arith)
 
-  pub headers_refused : (content : S → List ℕ) (failures : S → ℕ) (old now next : List (Option S)) (place : ℕ) (x : Option S) (read : List FileHeader) (fault : MountFault) → All IsSome old → HeadersRead content failures old now place read → place < length now → next ≡ set now place x → IsSome x → HeaderRefused fault (held content [] (file_at now place)) (held failures 0 (file_at now place)) (held failures 0 x) → HeadersRefused fault (map head_of (each content old)) (each failures old) (each failures next)
-  headers_refused content failures old now next place x read fault all r below is some refused = by fault refused
+  pub headers_refused : (content origin : S → List ℕ) (failures : S → ℕ) (old now next : List (Option S)) (place : ℕ) (x : Option S) (read : List FileHeader) (fault : MountFault) → All IsSome old → HeadersRead content origin failures old now place read → place < length now → next ≡ set now place x → IsSome x → HeaderRefused fault (held content [] (file_at now place)) (held failures 0 (file_at now place)) (held failures 0 x) → HeadersRefused fault (map head_of (each content old)) (each failures old) (each failures next)
+  headers_refused content origin failures old now next place x read fault all r below is some refused = by fault refused
     where
       heads : List Head
       heads = map head_of (each content old)

@@ -11,12 +11,18 @@ use Rattle.ckd_image.specs.Header.{head_of, mount_of, new_header}
 use Rattle.ckd_image.specs.Files.{slot_bytes, FailedRead}
 use Rattle.ckd_image.specs.Slots.{slots_in, new_slots}
 
+-- what no load and no save changes of the files that hold an image
+pub record Lasting : Type 0 where
+  -- the bytes of each file before its slots, in order
+  pub header : List ℕ
+  -- what each file's store held when it was made, in order
+  pub origins : List (List ℕ)
+
 pub record ImageState : Type 0 where
   pub geometry : Geometry
   -- a slot for each track, cylinder by cylinder and head by head
   pub slots : List (List ℕ)
-  -- the bytes of each file before its slots, in order
-  pub header : List ℕ
+  pub lasting : Lasting
   -- how many calls of the stores failed
   pub failures : ℕ
   -- how many loads and saves were called of the image
@@ -34,7 +40,7 @@ pub record Holds (files : List (List ℕ)) (g : Geometry) (slots : List (List �
 -- these files hold the image. Their headers say how many slots each one has, so no others do
 pub record HoldsImage (files : List (List ℕ)) (i : ImageState) : Type 0 where
   pub holds : Holds files i.geometry i.slots
-  pub headers : concat (map (take 512) files) ≡ i.header
+  pub headers : concat (map (take 512) files) ≡ i.lasting.header
 
 -- what is true of each image
 pub record IsImage (i : ImageState) : Type 0 where
@@ -51,11 +57,11 @@ pub record IsFileAt (i : ImageState) (place : ℕ) (file : Option (List ℕ)) : 
   pub is_there : file ≡ slice_get files place
 
 -- the image of this geometry that files hold, as it is first held
-abbrev pub image_in : Geometry → List (List ℕ) → ℕ → ImageState
-image_in g files failures = record {
+abbrev pub image_in : Geometry → (files origins : List (List ℕ)) → (failures : ℕ) → ImageState
+image_in g files origins failures = record {
   geometry = g;
   slots = slots_in g.track_size (tracks_of g) (slot_bytes files);
-  header = concat (map (take 512) files);
+  lasting = record { header = concat (map (take 512) files); origins = origins };
   failures = failures;
   loads = 0;
   saves = 0;
@@ -90,12 +96,12 @@ abbrev pub FormatRefused : MountFault → Result Geometry MountFault → ℕ →
 FormatRefused StoreFault rules before now = IsOk rules × (now ≡ before + 1)
 FormatRefused fault rules before now = (rules ≡ Err fault) × (now ≡ before)
 
--- a new image of so many cylinders, as it is first held
-abbrev pub new_image : DriveModel → ℕ → ℕ → ImageState
-new_image model cylinders failures = let g = new_geometry model cylinders in record {
+-- a new image of so many cylinders, as it is first held in a store that was made of these bytes
+abbrev pub new_image : DriveModel → (cylinders : ℕ) → (origin : List ℕ) → (failures : ℕ) → ImageState
+new_image model cylinders origin failures = let g = new_geometry model cylinders in record {
   geometry = g;
   slots = new_slots g;
-  header = new_header model;
+  lasting = record { header = new_header model; origins = origin ∷ [] };
   failures = failures;
   loads = 0;
   saves = 0;

@@ -17,10 +17,15 @@ abbrev pub Counts : {T : Type 0} → ℕ → ℕ → Result T StoreFault → Typ
 Counts before now (Ok _) = now ≡ before
 Counts before now (Err _) = now ≡ before + 1
 
--- what a store in memory holds, and how many of its calls failed
+-- what a store in memory holds, what it held when it was made, and how many of its calls failed
 pub record Stored : Type 0 where
   pub content : List ℕ
+  pub origin : List ℕ
   pub failures : ℕ
+
+-- a store as it is made of these bytes
+abbrev pub store_of : List ℕ → Stored
+store_of bytes = record { content = bytes; origin = bytes; failures = 0 }
 
 -- a store in memory has room for the bytes of a write only within its content
 abbrev pub has_room : Stored → ℕ → List ℕ → Bool

@@ -100,6 +100,8 @@ impl FailingStore {
 impl ImageStore for FailingStore {
     ghost content = { λ f. f.store.content };
 
+    ghost origin = { λ f. f.store.origin };
+
     ghost failures = { λ f. f.store.failures + f.made_to_fail };
 
     fn len(&self) -> u64 {

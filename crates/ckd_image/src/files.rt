@@ -65,6 +65,7 @@ pub(crate) fn read_slot<S: ImageStore>(
     ensures one { let place = place_in tracks.now track in listed stores.new ≡ slice_set (listed stores.old) place.file (file_at (listed stores.new) place.file) }
     ensures kept { each S.content (listed stores.new) ≡ each S.content (listed stores.old) }
     ensures held { HoldTracks S.content size (listed stores.new) tracks.now }
+    ensures same { each S.origin (listed stores.new) ≡ each S.origin (listed stores.old) }
     ensures counted { Counts (sum (each S.failures (listed stores.old))) (sum (each S.failures (listed stores.new))) result }
 {
     let place = place_of(tracks, track);
@@ -91,6 +92,7 @@ pub(crate) fn write_slot<S: ImageStore>(
     ensures heads { map head_of (each S.content (listed stores.new)) ≡ map head_of (each S.content (listed stores.old)) }
     ensures headers { map (take 512) (each S.content (listed stores.new)) ≡ map (take 512) (each S.content (listed stores.old)) }
     ensures held { HoldTracks S.content size (listed stores.new) tracks.now }
+    ensures same { each S.origin (listed stores.new) ≡ each S.origin (listed stores.old) }
     ensures counted { Counts (sum (each S.failures (listed stores.old))) (sum (each S.failures (listed stores.new))) result }
 {
     let place = place_of(tracks, track);
@@ -103,6 +105,7 @@ pub(crate) fn read_header<S: ImageStore>(store: &mut S) -> Result<FileHeader, Mo
     ensures size { IfOk result (λ h. 0 < h.track_size) }
     ensures err { IfErr result (λ e. HeaderRefused e (S.content store.old) (S.failures store.old) (S.failures store.new)) }
     ensures kept { S.content store.new ≡ S.content store.old }
+    ensures same { S.origin store.new ≡ S.origin store.old }
     ensures none { OnOk result (S.failures store.new ≡ S.failures store.old) }
 {
     let len = store.len();
@@ -129,6 +132,7 @@ fn read_header_at<S: ImageStore>(
     ensures files { files.new ≡ slice_set files.old place (file_at files.new place) }
     ensures there { IsSome (file_at files.new place) }
     ensures kept { held S.content [] (file_at files.new place) ≡ held S.content [] (file_at files.old place) }
+    ensures same { held S.origin [] (file_at files.new place) ≡ held S.origin [] (file_at files.old place) }
     ensures none { OnOk result (held S.failures 0 (file_at files.new place) ≡ held S.failures 0 (file_at files.old place)) }
 {
     match &mut files[place] {
@@ -148,6 +152,7 @@ pub(crate) fn read_headers<S: ImageStore>(
     ensures count { IfOk result (λ read. array_vec_len read ≡ length files.old) }
     ensures err { IfErr result (λ e. HeadersRefused e (map head_of (each S.content files.old)) (each S.failures files.old) (each S.failures files.new)) }
     ensures kept { each S.content files.new ≡ each S.content files.old }
+    ensures same { each S.origin files.new ≡ each S.origin files.old }
     ensures none { OnOk result (each S.failures files.new ≡ each S.failures files.old) }
     ensures there { All IsSome files.new }
 {
@@ -181,6 +186,7 @@ fn append<S: ImageStore>(stores: &mut ArrayVec<Option<S>, MOST_FILES>, file: Opt
     requires room { array_vec_len stores.old < 8 }
     requires there { All IsSome stores.old.items }
     ensures content { each S.content stores.new.items ≡ each S.content stores.old.items ++ each S.content (file ∷ []) }
+    ensures origins { each S.origin stores.new.items ≡ each S.origin stores.old.items ++ each S.origin (file ∷ []) }
     ensures failures { each S.failures stores.new.items ≡ each S.failures stores.old.items ++ each S.failures (file ∷ []) }
     ensures there { All IsSome stores.new.items }
     ensures count { array_vec_len stores.new ≤ array_vec_len stores.old + 1 }
@@ -197,6 +203,7 @@ pub(crate) fn in_list<S: ImageStore>(
 ) -> ArrayVec<Option<S>, MOST_FILES>
     requires { stores.items ≡ [] }
     ensures content { each S.content result.items ≡ each S.content files }
+    ensures origins { each S.origin result.items ≡ each S.origin files }
     ensures failures { each S.failures result.items ≡ each S.failures files }
     ensures there { All IsSome result.items }
 {

@@ -46,7 +46,7 @@ impl<S: ImageStore> Model for Image<S> {
     ghost view = { λ i. record {
       geometry = i.geometry;
       slots = slots_in i.geometry.track_size (tracks_of i.geometry) (slot_bytes (each S.content (listed i.stores)));
-      header = concat (map (take 512) (each S.content (listed i.stores)));
+      lasting = record { header = concat (map (take 512) (each S.content (listed i.stores))); origins = each S.origin (listed i.stores) };
       failures = sum (each S.failures (listed i.stores));
       loads = i.loads;
       saves = i.saves;
@@ -58,7 +58,7 @@ impl<S: ImageStore> Model for Image<S> {
 /// The image of this geometry in these files.
 fn image_of<S: ImageStore>(stores: Stores<S>, geometry: Geometry) -> Image<S>
     requires { mount_of (each S.content (listed stores)) ≡ Ok geometry }
-    ensures { result ≡ image_in geometry (each S.content (listed stores)) (sum (each S.failures (listed stores))) }
+    ensures { result ≡ image_in geometry (each S.content (listed stores)) (each S.origin (listed stores)) (sum (each S.failures (listed stores))) }
 {
     let tracks = count_tracks(&stores, geometry.track_size);
     Image {
@@ -73,7 +73,7 @@ fn image_of<S: ImageStore>(stores: Stores<S>, geometry: Geometry) -> Image<S>
 /// The image of this geometry in one file.
 fn image_of_one<S: ImageStore>(store: S, geometry: Geometry) -> Image<S>
     requires { mount_of (S.content store ∷ []) ≡ Ok geometry }
-    ensures { result ≡ image_in geometry (S.content store ∷ []) (S.failures store) }
+    ensures { result ≡ image_in geometry (S.content store ∷ []) (S.origin store ∷ []) (S.failures store) }
 {
     image_of(only_store(store), geometry)
 }
@@ -88,10 +88,11 @@ impl<S: ImageStore> Image<S> {
     pub fn mount(mut store: S) -> Result<Image<S>, (MountFault, S)>
         ensures holds { IfOk result (λ i. Holds (S.content store ∷ []) i.geometry i.slots) }
         ensures image { IfOk result
-            (λ i. i ≡ image_in i.geometry (S.content store ∷ []) (S.failures store)) }
+            (λ i. i ≡ image_in i.geometry (S.content store ∷ []) (S.origin store ∷ []) (S.failures store)) }
         ensures refused { IfErr result
             (λ e. MountRefused e.0 (S.content store) (S.failures store) (S.failures e.1)) }
         ensures kept { IfErr result (λ e. S.content e.1 ≡ S.content store) }
+        ensures same { IfErr result (λ e. S.origin e.1 ≡ S.origin store) }
     {
         let header = match read_header(&mut store) {
             Ok(header) => header,
@@ -121,10 +122,11 @@ impl<S: ImageStore> Image<S> {
         requires there { All IsSome files.items }
         ensures holds { IfOk result (λ i. Holds (each S.content files.items) i.geometry i.slots) }
         ensures image { IfOk result
-            (λ i. i ≡ image_in i.geometry (each S.content files.items) (sum (each S.failures files.items))) }
+            (λ i. i ≡ image_in i.geometry (each S.content files.items) (each S.origin files.items) (sum (each S.failures files.items))) }
         ensures refused { IfErr result
             (λ e. FilesRefused e.0 (each S.content files.items) (each S.failures files.items) (each S.failures e.1.items)) }
         ensures kept { IfErr result (λ e. each S.content e.1.items ≡ each S.content files.items) }
+        ensures same { IfErr result (λ e. each S.origin e.1.items ≡ each S.origin files.items) }
         ensures there { IfErr result (λ e. All IsSome e.1.items) }
     {
         let headers = match read_headers(files.as_mut_slice()) {
@@ -148,12 +150,13 @@ impl<S: ImageStore> Image<S> {
     ) -> Result<Image<S>, (MountFault, S)>
         ensures allowed { OnOk result
             (format_of model cylinders (length (S.content store)) ≡ Ok (new_geometry model cylinders)) }
-        ensures image { IfOk result (λ i. i ≡ new_image model cylinders (S.failures store)) }
+        ensures image { IfOk result (λ i. i ≡ new_image model cylinders (S.origin store) (S.failures store)) }
         ensures refused { IfErr result (λ e. FormatRefused e.0
             (format_of model cylinders (length (S.content store)))
             (S.failures store) (S.failures e.1)) }
         ensures kept { IfErr result
             (λ e. e.0 ≡ MountFault.Length → S.content e.1 ≡ S.content store) }
+        ensures same { IfErr result (λ e. S.origin e.1 ≡ S.origin store) }
         ensures not_shorter { IfErr result
             (λ e. length (S.content store) ≤ length (S.content e.1)) }
         ensures not_longer { let len = image_length (new_geometry model cylinders) in IfErr result
@@ -222,9 +225,10 @@ impl<S: ImageStore> Image<S> {
         write_slot(&mut self.stores, &self.tracks, size, track, slot)
     }
 
-    /// The stores, which hold the image: its files in order. It takes no memory.
+    /// The stores that were given, in their order; they hold the image. It takes no memory.
     pub fn into_stores(self) -> ArrayVec<Option<S>, 8>
         ensures holds { HoldsImage (each S.content result.items) self }
+        ensures same { each S.origin result.items ≡ self.lasting.origins }
         ensures failures { sum (each S.failures result.items) ≡ self.failures }
         ensures there { All IsSome result.items }
     {

@@ -1,10 +1,10 @@
 //! A store in memory.
 
 ghost use Rattle.std.specs.Prelude.{◌≡◌, ℕ, ◌+◌, ◌≤◌, List, length, replicate, slice_range, is_ok, IsOk, IfOk};
-ghost use Rattle.ckd_image.specs.Store.{has_room, after_write};
+ghost use Rattle.ckd_image.specs.Store.{store_of, has_room, after_write};
 
 use crate::store::{ImageStore, StoreFault};
-use ghost_data::Count;
+use ghost_data::{Count, Trace};
 use std::alloc::{AllocError, Global};
 use std::marker::Model;
 
@@ -13,6 +13,7 @@ use std::marker::Model;
 #[derive(Drop)]
 pub struct MemoryStore {
     held: Vec<u8>,
+    origin: Trace,
     refused: Count,
 }
 
@@ -21,16 +22,17 @@ impl Model for MemoryStore {
 
     ghost Value = { Stored };
 
-    ghost view = { λ m. record { content = m.held.items; failures = m.refused } };
+    ghost view = { λ m. record { content = m.held.items; origin = m.origin.bytes; failures = m.refused } };
 }
 
 impl MemoryStore {
     /// A store of a copy of these bytes. The only error is that memory was refused.
     pub fn new(alloc: Global, bytes: &[u8]) -> Result<MemoryStore, AllocError>
-        ensures { IfOk result (λ m. m ≡ record { content = bytes.now; failures = 0 }) }
+        ensures { IfOk result (λ m. m ≡ store_of bytes.now) }
     {
         let held = Vec::from_slice(alloc, bytes)?;
         Ok(MemoryStore {
+            origin: Trace::of(bytes),
             held,
             refused: Count::new(),
         })
@@ -38,10 +40,11 @@ impl MemoryStore {
 
     /// A store of this many zero bytes. The only error is that memory was refused.
     pub fn zeros(alloc: Global, len: u64) -> Result<MemoryStore, AllocError>
-        ensures { IfOk result (λ m. m ≡ record { content = replicate len 0; failures = 0 }) }
+        ensures { IfOk result (λ m. m ≡ store_of (replicate len 0)) }
     {
         let held = vec![in alloc; 0u8; len as usize]?;
         Ok(MemoryStore {
+            origin: Trace::of(held.as_slice()),
             held,
             refused: Count::new(),
         })
@@ -57,6 +60,8 @@ impl MemoryStore {
 
 impl ImageStore for MemoryStore {
     ghost content = { λ m. m.content };
+
+    ghost origin = { λ m. m.origin };
 
     ghost failures = { λ m. m.failures };
 

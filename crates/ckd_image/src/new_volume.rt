@@ -27,6 +27,7 @@ pub fn write_new_volume<S: ImageStore>(store: &mut S, geometry: Geometry) -> Res
         (S.content store.new ≡ overwritten (S.content store.old) 0 (new_file geometry)) }
     ensures not_shorter { length (S.content store.old) ≤ length (S.content store.new) }
     ensures not_longer { length (S.content store.new) ≤ max (length (S.content store.old)) (image_length geometry) }
+    ensures same { S.origin store.new ≡ S.origin store.old }
     ensures counted { Counts (S.failures store.old) (S.failures store.new) result }
 {
     store.write_at(0, &new_header_of(geometry.model))?;
@@ -53,6 +54,7 @@ fn write_new_slot<S: ImageStore>(
         (S.content store.new ≡ overwritten (S.content store.old) at (new_slot geometry track)) }
     ensures torn { let at = 512 + track * geometry.track_size in OnErr result
         (Torn (S.content store.old) (S.content store.new) at geometry.track_size) }
+    ensures same { S.origin store.new ≡ S.origin store.old }
     ensures counted { Counts (S.failures store.old) (S.failures store.new) result }
 {
     let heads = geometry.model.heads() as u32;

@@ -15,6 +15,9 @@ pub struct StoreFault;
 pub trait ImageStore: Drop {
     ghost content: { Self → List ℕ };
 
+    // what the store held when it was made: by it a store is known again, since no call changes it; contracts alone speak of it
+    ghost origin: { Self → List ℕ };
+
     // how many calls failed; a whole number that contracts alone speak of
     ghost failures: { Self → ℕ };
 
@@ -28,6 +31,7 @@ pub trait ImageStore: Drop {
         requires { at + length into.old ≤ length (content self.old) }
         ensures read { OnOk result (into.new ≡ slice_range (content self.old) at (at + length into.old)) }
         ensures kept { content self.new ≡ content self.old }
+        ensures same { origin self.new ≡ origin self.old }
         ensures counted { Counts (failures self.old) (failures self.new) result };
 
     /// Writes these bytes from `at` on; past the end they extend the content. After an error the
@@ -36,5 +40,6 @@ pub trait ImageStore: Drop {
         requires { at ≤ length (content self.old) }
         ensures written { OnOk result (content self.new ≡ overwritten (content self.old) at bytes.now) }
         ensures torn { OnErr result (Torn (content self.old) (content self.new) at (length bytes.now)) }
+        ensures same { origin self.new ≡ origin self.old }
         ensures counted { Counts (failures self.old) (failures self.new) result };
 }

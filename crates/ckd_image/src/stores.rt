@@ -36,6 +36,7 @@ fn read_file<S: ImageStore>(
     ensures read { OnOk result (into.new ≡ slice_range (held S.content [] file.old) at (at + length into.old)) }
     ensures there { IsSome file.new }
     ensures kept { held S.content [] file.new ≡ held S.content [] file.old }
+    ensures same { held S.origin [] file.new ≡ held S.origin [] file.old }
     ensures counted { Counts (held S.failures 0 file.old) (held S.failures 0 file.new) result }
 {
     match file {
@@ -52,6 +53,7 @@ fn write_file<S: ImageStore>(file: &mut Option<S>, at: u64, bytes: &[u8]) -> Res
     ensures torn { OnErr result
         (Torn (held S.content [] file.old) (held S.content [] file.new) at (length bytes.now)) }
     ensures there { IsSome file.new }
+    ensures same { held S.origin [] file.new ≡ held S.origin [] file.old }
     ensures counted { Counts (held S.failures 0 file.old) (held S.failures 0 file.new) result }
 {
     match file {
@@ -75,6 +77,7 @@ pub(crate) fn read_store<S: ImageStore>(
     ensures files { listed stores.new ≡ slice_set (listed stores.old) place (file_at (listed stores.new) place) }
     ensures there { IsSome (file_at (listed stores.new) place) }
     ensures kept { held S.content [] (file_at (listed stores.new) place) ≡ held S.content [] (file_at (listed stores.old) place) }
+    ensures same { held S.origin [] (file_at (listed stores.new) place) ≡ held S.origin [] (file_at (listed stores.old) place) }
     ensures counted { Counts (held S.failures 0 (file_at (listed stores.old) place)) (held S.failures 0 (file_at (listed stores.new) place)) result }
 {
     match place {
@@ -105,6 +108,7 @@ pub(crate) fn write_store<S: ImageStore>(
         (Torn (held S.content [] (file_at (listed stores.old) place)) (held S.content [] (file_at (listed stores.new) place)) at (length bytes.now)) }
     ensures files { listed stores.new ≡ slice_set (listed stores.old) place (file_at (listed stores.new) place) }
     ensures there { IsSome (file_at (listed stores.new) place) }
+    ensures same { held S.origin [] (file_at (listed stores.new) place) ≡ held S.origin [] (file_at (listed stores.old) place) }
     ensures counted { Counts (held S.failures 0 (file_at (listed stores.old) place)) (held S.failures 0 (file_at (listed stores.new) place)) result }
 {
     match place {

@@ -9,6 +9,7 @@ loop-place-preserved g c =
     let below : c.loop-place.place < length c.args.files = let t = c.loop-place-test.true in let e = c.loop-place.invariant.long in omega arith in
     record {
       content = one_more_each g.S.ImageStore.content c.args.files c.loop-place.place _ _ c.take_file-file.result c.loop-place.invariant.content below here c.append.ensures.content;
+      origins = one_more_each g.S.ImageStore.origin c.args.files c.loop-place.place _ _ c.take_file-file.result c.loop-place.invariant.origins below here c.append.ensures.origins;
       failures = one_more_each g.S.ImageStore.failures c.args.files c.loop-place.place _ _ c.take_file-file.result c.loop-place.invariant.failures below here c.append.ensures.failures;
       there = c.append.ensures.there;
       long = c.loop-place.invariant.long;

@@ -30,6 +30,11 @@ returns-clause-kept g c =
     let l = located_at g.S.ImageStore.content c.args.size (listed c.args.stores.now) c.args.tracks.now c.args.track c.place_of-place.result c.requires.held (sym c.requires.count) c.requires.exists c.place_of-place.ensures.place in
     ap (each g.S.ImageStore.content) c.read_store.ensures.files ∙ each-set g.S.ImageStore.content [] (listed c.args.stores.now) c.place_of-place.result.file _ l.exists l.there c.read_store.ensures.there c.read_store.ensures.kept
 
+pub returns-clause-same : goal.returns-clause-same
+returns-clause-same g c =
+    let l = located_at g.S.ImageStore.content c.args.size (listed c.args.stores.now) c.args.tracks.now c.args.track c.place_of-place.result c.requires.held (sym c.requires.count) c.requires.exists c.place_of-place.ensures.place in
+    ap (each g.S.ImageStore.origin) c.read_store.ensures.files ∙ each-set g.S.ImageStore.origin [] (listed c.args.stores.now) c.place_of-place.result.file _ l.exists l.there c.read_store.ensures.there c.read_store.ensures.same
+
 pub returns-clause-held : goal.returns-clause-held
 returns-clause-held g c =
     let l = located_at g.S.ImageStore.content c.args.size (listed c.args.stores.now) c.args.tracks.now c.args.track c.place_of-place.result c.requires.held (sym c.requires.count) c.requires.exists c.place_of-place.ensures.place in

@@ -1,9 +1,9 @@
-use Rattle.std.proofs.Common.{◌≡◌, ◌∙◌, ◌+◌, ◌*◌, OnOk, OnErr, map, take, arith, ap, sym, subst}
+use Rattle.std.proofs.Common.{◌≡◌, ◌∙◌, ◌+◌, ◌*◌, [], OnOk, OnErr, map, take, arith, ap, sym, subst}
 use Rattle.std.specs.List.{sum}
 use Rattle.ckd_image.specs.Store.{overwritten, Torn}
 use Rattle.ckd_image.specs.Header.{head_of}
 use Rattle.ckd_image.specs.Files.{file_at, held, each, listed, slot_bytes, HoldTracks}
-use Rattle.ckd_image.proofs.FileLemmas.{located_at, stored_at, sum-set, counted_sum}
+use Rattle.ckd_image.proofs.FileLemmas.{located_at, each-set, stored_at, sum-set, counted_sum}
 use Rattle.ckd_image.proofs.files.write_slot.Goals as goal
 
 pub write_store-requires-clause-there : goal.write_store-requires-clause-there
@@ -23,6 +23,11 @@ returns-clause-written g c =
     let l = located_at g.S.ImageStore.content c.args.size (listed c.args.stores.now) c.args.tracks.now c.args.track c.place_of-place.result c.requires.held (sym c.requires.count) c.requires.exists c.place_of-place.ensures.place in
     let stored = stored_at g.S.ImageStore.content c.args.size (listed c.args.stores.now) c.args.tracks.now c.args.track c.slot_at.result c.place_of-place.result (file_at (listed c.write_store.new.stores) c.place_of-place.result.file) c.args.slot.now c.write_store.result c.requires.held l c.write_store.ensures.there c.requires.whole c.slot_at.ensures c.write_store.ensures.written c.write_store.ensures.torn in
     subst (λ fs. OnOk c.write_store.result (slot_bytes (each g.S.ImageStore.content fs) ≡ overwritten (slot_bytes (each g.S.ImageStore.content (listed c.args.stores.now))) (c.args.track * c.args.size) c.args.slot.now)) (sym c.write_store.ensures.files) stored.written
+
+pub returns-clause-same : goal.returns-clause-same
+returns-clause-same g c =
+    let l = located_at g.S.ImageStore.content c.args.size (listed c.args.stores.now) c.args.tracks.now c.args.track c.place_of-place.result c.requires.held (sym c.requires.count) c.requires.exists c.place_of-place.ensures.place in
+    ap (each g.S.ImageStore.origin) c.write_store.ensures.files ∙ each-set g.S.ImageStore.origin [] (listed c.args.stores.now) c.place_of-place.result.file _ l.exists l.there c.write_store.ensures.there c.write_store.ensures.same
 
 pub returns-clause-torn : goal.returns-clause-torn
 returns-clause-torn g c =

@@ -15,6 +15,7 @@ returns-in_err-write_new_slot-clause-not_longer g c =
 pub loop-track-preserved : goal.loop-track-preserved
 loop-track-preserved g c = record {
   written = one_more c.args.geometry (g.S.ImageStore.content c.args.store.now) (g.S.ImageStore.content c.loop-track.store) (g.S.ImageStore.content c.write_new_slot.new.store) c.loop-track.track c.requires c.loop-track.invariant.written c.in_ok-write_new_slot.ensures.written;
+  same = c.write_new_slot.ensures.same ∙ c.loop-track.invariant.same;
   no_failure = c.in_ok-write_new_slot.ensures.counted ∙ c.loop-track.invariant.no_failure;
 }
 

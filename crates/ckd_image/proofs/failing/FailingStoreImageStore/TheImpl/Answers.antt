@@ -9,4 +9,4 @@ write_at-tells x c =
     let old = c.args.self.now in
     let new = c.new.self.now in
     let it = told old.store new.store old.made_to_fail new.made_to_fail c.args.at c.args.bytes.now (fails_next old) (has_room old.store c.args.at c.args.bytes.now) c.result c.requires c.ensures.succeeds (ap (λ (f : Failing). f.store) c.ensures.after) (ap (λ (f : Failing). f.made_to_fail) c.ensures.after) in
-    record { written = it.written; torn = it.torn; counted = it.counted }
+    record { written = it.written; torn = it.torn; same = it.same; counted = it.counted }

@@ -25,5 +25,5 @@ returns-clause-image g c =
     let done = done_well c.write_new_volume.result _ (sym c.is_err.ensures.value ∙ c.if-is_err.false) c.write_new_volume.ensures.written in
     let counted = done_well c.write_new_volume.result _ (sym c.is_err.ensures.value ∙ c.if-is_err.false) (no_failure c.write_new_volume.result _ _ c.write_new_volume.ensures.counted) in
     let whole = written_whole c.args.model c.args.cylinders c.new-geometry.result (g.S.ImageStore.content c.args.store) (g.S.ImageStore.content c.write_new_volume.new.store) c.new-geometry.ensures (omega arith) done in
-    let is = new_image_seen c.args.model c.args.cylinders (g.S.ImageStore.failures c.args.store) 0 0 refl refl in
-    c.image_of_one.ensures ∙ rw (c.new-geometry.ensures, whole, counted) is
+    let is = new_image_seen c.args.model c.args.cylinders (g.S.ImageStore.origin c.args.store) (g.S.ImageStore.failures c.args.store) 0 0 refl refl in
+    c.image_of_one.ensures ∙ rw (c.new-geometry.ensures, whole, c.write_new_volume.ensures.same, counted) is

@@ -14,12 +14,12 @@ pub read_slot-requires-clause-exists : goal.read_slot-requires-clause-exists
 read_slot-requires-clause-exists g c =
     let i = c.self.inside in
     let count : length (listed i.stores) ≡ length i.tracks = search rules in
-    in_files g.S.ImageStore.content i.geometry (listed i.stores) i.tracks (sum (each g.S.ImageStore.failures (listed i.stores))) i.loads i.saves c.args.track c.args.self.now c.self.view_is c.self.invariant.0 c.self.invariant.1 count c.requires.exists
+    in_files g.S.ImageStore.content i.geometry (listed i.stores) i.tracks (each g.S.ImageStore.origin (listed i.stores)) (sum (each g.S.ImageStore.failures (listed i.stores))) i.loads i.saves c.args.track c.args.self.now c.self.view_is c.self.invariant.0 c.self.invariant.1 count c.requires.exists
 
 pub returns-clause-slot : goal.returns-clause-slot
 returns-clause-slot g c =
     let i = c.self.inside in
     let files = each g.S.ImageStore.content (listed i.stores) in
-    let exists = seen_track i.geometry files (sum (each g.S.ImageStore.failures (listed i.stores))) i.loads i.saves c.args.track c.args.self.now c.self.view_is c.requires.exists in
+    let exists = seen_track i.geometry files (each g.S.ImageStore.origin (listed i.stores)) (sum (each g.S.ImageStore.failures (listed i.stores))) i.loads i.saves c.args.track c.args.self.now c.self.view_is c.requires.exists in
     let is = slot_is i.geometry files c.args.track exists ∙ ap (λ (v : ImageState). get_or v.slots c.args.track []) c.self.view_is in
     read_part c.read_slot.result c.read_slot.new.slot _ (get_or c.args.self.now.slots c.args.track []) is c.read_slot.ensures.read

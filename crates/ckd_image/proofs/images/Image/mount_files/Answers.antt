@@ -1,10 +1,9 @@
-use Rattle.std.proofs.Common.{◌≡◌, ◌∙◌, Ok, [], length, map, ap, sym, subst}
+use Rattle.std.proofs.Common.{◌≡◌, ◌∙◌, Ok, [], length, map, ap, sym, subst, refl}
 use Rattle.ckd_image.specs.Header.{mount_of, head_of, headers_of, then_with, volume_of}
 use Rattle.ckd_image.specs.Files.{each, listed, slot_bytes}
 use Rattle.ckd_image.specs.Slots.{slots_in}
-use Rattle.ckd_image.specs.Image.{Holds, image_in}
+use Rattle.ckd_image.specs.Image.{Holds}
 use Rattle.ckd_track.specs.Geometry.{tracks_of}
-use Rattle.std.specs.List.{sum}
 use Rattle.ckd_image.proofs.MountLemmas.{files_refused}
 use Rattle.ckd_image.proofs.ReadLemmas.{each-array, each-slice}
 use Rattle.ckd_image.proofs.ImageLemmas.{holds_slots}
@@ -47,7 +46,8 @@ returns-in-Ok-volume_of_files-clause-image g c =
     let array : each g.S.ImageStore.content c.in_array.result ≡ each g.S.ImageStore.content items = ap (each g.S.ImageStore.content) c.in_array.ensures ∙ each-array g.S.ImageStore.content items new _ long ∙ kept in
     let stored : each g.S.ImageStore.content (listed c.stores_of.result) ≡ each g.S.ImageStore.content items = ap (each g.S.ImageStore.content) c.stores_of.ensures ∙ array in
     let failed : each g.S.ImageStore.failures (listed c.stores_of.result) ≡ each g.S.ImageStore.failures items = ap (each g.S.ImageStore.failures) c.stores_of.ensures ∙ same in
-    rw c.image_of.ensures (ap (λ fs. image_in c.in-Ok-volume_of_files.geometry fs (sum (each g.S.ImageStore.failures (listed c.stores_of.result)))) stored ∙ ap (λ ns. image_in c.in-Ok-volume_of_files.geometry (each g.S.ImageStore.content items) (sum ns)) failed)
+    let origins : each g.S.ImageStore.origin (listed c.stores_of.result) ≡ each g.S.ImageStore.origin items = ap (each g.S.ImageStore.origin) (c.stores_of.ensures ∙ c.in_array.ensures) ∙ each-array g.S.ImageStore.origin items new _ long ∙ c.read_headers.ensures.same ∙ ap (each g.S.ImageStore.origin) c.as_mut_slice.ensures.value in
+    rw c.image_of.ensures (rw (stored, origins, failed) refl)
 
 pub returns-in-Err-volume_of_files-clause-refused : goal.returns-in-Err-volume_of_files-clause-refused
 returns-in-Err-volume_of_files-clause-refused g c =

@@ -12,7 +12,7 @@ returns g c =
     record {
       file = record {
         files = files;
-        holds = subst (HoldsImage files) c.self.view_is (holds_image i.geometry files (sum (each g.S.ImageStore.failures (listed i.stores))) i.loads i.saves c.self.invariant.0);
+        holds = subst (HoldsImage files) c.self.view_is (holds_image i.geometry files (each g.S.ImageStore.origin (listed i.stores)) (sum (each g.S.ImageStore.failures (listed i.stores))) i.loads i.saves c.self.invariant.0);
         is_there = c.store_at.ensures;
       };
     }
