@@ -14,7 +14,8 @@ use Rattle.ckd_image.specs.Layout.{image_length}
 use Rattle.ckd_image.specs.Header.{new_header, mount_of}
 use Rattle.ckd_image.specs.Files.{slot_bytes}
 use Rattle.ckd_image.specs.Store.{overwritten}
-use Rattle.ckd_image.specs.Slots.{slots_in, new_slot, new_slots}
+use Rattle.ckd_track.specs.NewVolume.{new_slot, new_slots}
+use Rattle.ckd_image.specs.Slots.{slots_in}
 use Rattle.ckd_image.specs.Image.{new_file, new_image}
 use Rattle.ckd_image.proofs.MountLemmas.{new_file_mounts}
 use Rattle.ckd_image.proofs.ImageLemmas.{seen}

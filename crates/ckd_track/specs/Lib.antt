@@ -3,3 +3,4 @@ pub mod Model
 pub mod Charges
 pub mod Changes
 pub mod Geometry
+pub mod NewVolume

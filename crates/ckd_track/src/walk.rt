@@ -1,7 +1,7 @@
 //! Walking over the records of a slot.
 
 ghost use Rattle.std.specs.Prelude.{◌≡◌, ◌≤◌, ◌<◌, ◌+◌, length, drop, slice_index};
-ghost use Rattle.ckd_track.specs.Track.{body_length as length_of_body, key_length as length_of_key, data_length as length_of_data, size_at, track_of, track_in, number_of_records, record_offsets};
+ghost use Rattle.ckd_track.specs.Track.{body_length, key_length, data_length, size_at, track_of, track_in, number_of_records, record_offsets};
 
 use crate::fault::SlotFault;
 
@@ -17,8 +17,8 @@ pub const END_MARK: [u8; COUNT_LENGTH] = [255; COUNT_LENGTH];
 /// The key length and the data length that a count area gives.
 pub fn lengths(count: &[u8]) -> (u8, u16)
     requires { 8 ≤ length count.now }
-    ensures key { result.0 ≡ length_of_key count.now }
-    ensures data { result.1 ≡ length_of_data count.now }
+    ensures key { result.0 ≡ key_length count.now }
+    ensures data { result.1 ≡ data_length count.now }
 {
     (count[5], u16::from_be_bytes([count[6], count[7]]))
 }
@@ -26,7 +26,7 @@ pub fn lengths(count: &[u8]) -> (u8, u16)
 /// The key length that a count area gives.
 pub fn key_length(count: &[u8]) -> usize
     requires { 8 ≤ length count.now }
-    ensures { result ≡ length_of_key count.now }
+    ensures { result ≡ key_length count.now }
 {
     usize::from(lengths(count).0)
 }
@@ -34,7 +34,7 @@ pub fn key_length(count: &[u8]) -> usize
 /// The data length that a count area gives.
 pub fn data_length(count: &[u8]) -> usize
     requires { 8 ≤ length count.now }
-    ensures { result ≡ length_of_data count.now }
+    ensures { result ≡ data_length count.now }
 {
     usize::from(lengths(count).1)
 }
@@ -42,7 +42,7 @@ pub fn data_length(count: &[u8]) -> usize
 /// How many bytes the key and the data of a count area take together.
 pub fn body_length(count: &[u8]) -> usize
     requires { 8 ≤ length count.now }
-    ensures { result ≡ length_of_body count.now }
+    ensures { result ≡ body_length count.now }
 {
     key_length(count) + data_length(count)
 }
@@ -85,7 +85,7 @@ pub fn count_records(slot: &[u8]) -> Result<usize, SlotFault>
 /// The size of the record at an offset.
 fn record_size(slot: &[u8], at: usize) -> usize
     requires { at + 8 ≤ length slot.now }
-    ensures { result ≡ 8 + length_of_body (drop at slot.now) }
+    ensures { result ≡ 8 + body_length (drop at slot.now) }
 {
     COUNT_LENGTH + body_length(&slot[at..])
 }

@@ -9,7 +9,7 @@ use Rattle.ckd_track.specs.Geometry.{track_at}
 use Rattle.ckd_track.specs.Track.{Record, Track, track_of, record_in}
 use Rattle.ckd_track.specs.Charges.{used_of}
 use Rattle.ckd_track.specs.Changes.{end_offset}
-use Rattle.ckd_image.specs.Slots.{address}
+use Rattle.ckd_track.specs.NewVolume.{address}
 use Rattle.dasd_archive.specs.declared.findings.Problem.{Problem}
 use Rattle.dasd_archive.specs.declared.findings.Problem.TheVariants.{ReservedBytes, Unreadable, OtherHomeAddress, Flagged, NoRecord0, OverCapacity, SameIdentifier, OtherIdentifier, EndOfFile, BytesBehindEnd}
 use Rattle.dasd_archive.specs.declared.findings.Place.{Place}

@@ -2,7 +2,7 @@
 use Rattle.std.specs.Prelude.{ℕ, List, [], ◌∷◌, ◌++◌, map, replicate}
 use Rattle.ckd_track.specs.Track.{Record, Track, slot_of}
 use Rattle.ckd_track.specs.declared.model.DriveModel.TheVariants.{D2311}
-use Rattle.ckd_image.specs.Slots.{address, new_track, new_slots}
+use Rattle.ckd_track.specs.NewVolume.{address, new_track, new_slots}
 use Rattle.ckd_track.specs.declared.geometries.Geometry.{Geometry}
 use Rattle.ckd_command.specs.Drive.{IdleDrive, no_sense}
 

@@ -3,7 +3,7 @@
 //! 'Input/Output Interruptions'.
 
 ghost use Rattle.std.specs.Prelude.{◌≡◌, [], ◌∷◌, Some, None, true, Ok};
-ghost use Rattle.ckd_image.specs.Slots.{new_track};
+ghost use Rattle.ckd_track.specs.NewVolume.{new_track};
 ghost use Rattle.s360_laws.specs.Events.{Sio, StepBy, Arrive, Interrupt, Hio, Condition, StatusStored, CswStored, Stepped, HasArrived, Interrupted, WasKept};
 ghost use Rattle.s360_laws.specs.Machine.{answers};
 ghost use Rattle.s360_laws.specs.declared.condition.ConditionCode.TheVariants.{Zero, One, Two};
