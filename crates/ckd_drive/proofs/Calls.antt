@@ -30,10 +30,10 @@ loads_saved c = elim c.changed as (λ b. (saved c.image c.slots b).loads ≡ c.i
 
 -- the store is not called
 pub calls_none : (loads saves : Bool) (old new : DriveState) → new.image ≡ old.image → saves ≡ false → CallsStore loads saves old new
-calls_none loads saves old new e s = rw (e, s) (record { loads = inl refl; saves = omega arith; failures = inl refl; slots = λ _. refl; untouched = λ _ _. refl; header = refl; geometry = refl })
+calls_none loads saves old new e s = rw (e, s) (record { loads = inl refl; saves = omega arith; failures = inl refl; slots = λ _. refl; untouched = λ _ _. refl; lasting = refl; geometry = refl })
 
 save_by : (loads b : Bool) (old new : DriveState) (c : CacheState) (slots : List (List ℕ)) → old.image ≡ c.image → new.image ≡ saved c.image slots b → CallsStore loads b old new
-save_by loads true old new c slots e f = rw (e, f) (record { loads = inl refl; saves = omega arith; failures = inl refl; slots = λ s. absurd cc; untouched = λ s _. absurd cc; header = refl; geometry = refl })
+save_by loads true old new c slots e f = rw (e, f) (record { loads = inl refl; saves = omega arith; failures = inl refl; slots = λ s. absurd cc; untouched = λ s _. absurd cc; lasting = refl; geometry = refl })
 save_by loads false old new c slots e f = calls_none loads false old new (f ∙ sym e) refl
 
 -- the track is saved, if it was written
@@ -44,12 +44,12 @@ calls_of_save loads saves c old new e f s = rw (← s) (save_by loads c.changed 
 pub calls_of_failed_save : (loads saves : Bool) (c : CacheState) (left : List ℕ) (old new : DriveState) → old.image ≡ c.image → new.image ≡ (after_failed_save c left).image → c.changed ≡ saves → c.changed ≡ true → CallsStore loads saves old new
 calls_of_failed_save loads saves c left old new e f s changed =
     let saves_is : saves ≡ true = sym s ∙ changed in
-    rw (e, f, saves_is) (record { loads = inl refl; saves = omega arith; failures = inr (refl, inl refl); slots = λ s. absurd cc; untouched = λ s _. absurd cc; header = refl; geometry = refl })
+    rw (e, f, saves_is) (record { loads = inl refl; saves = omega arith; failures = inr (refl, inl refl); slots = λ s. absurd cc; untouched = λ s _. absurd cc; lasting = refl; geometry = refl })
 
 -- a load fails
 pub calls_of_failed_hold : (loads saves : Bool) (c : CacheState) (old new : DriveState) → old.image ≡ c.image → new.image ≡ (after_failed_hold c).image → loads ≡ true → saves ≡ false → CallsStore loads saves old new
 calls_of_failed_hold loads saves c old new e f l s =
-    rw (e, f, l, s) (record { loads = inr (refl, refl, refl); saves = omega arith; failures = inr (refl, inr refl); slots = λ _. refl; untouched = λ _ e. absurd (no_more c.image.loads (sym e)); header = refl; geometry = refl })
+    rw (e, f, l, s) (record { loads = inr (refl, refl, refl); saves = omega arith; failures = inr (refl, inr refl); slots = λ _. refl; untouched = λ _ e. absurd (no_more c.image.loads (sym e)); lasting = refl; geometry = refl })
 
 -- the track was loaded first
 pub calls_behind_load : (loads saves : Bool) (old held new : DriveState) → held.image ≡ record old.image { loads = old.image.loads + 1 } → loads ≡ true → saves ≡ false → new.image.loads ≡ held.image.loads
@@ -62,6 +62,6 @@ calls_behind_load loads saves old held new e l s same k =
       failures = elim k.failures [ inl x ↦ inl (x ∙ ap (λ i. i.failures) e) | inr x ↦ inr (x.0 ∙ rw e refl, inr more) ];
       slots = λ s. k.slots s ∙ ap (λ i. i.slots) e;
       untouched = λ _ x. absurd (no_more old.image.loads (sym x ∙ more));
-      header = k.header ∙ ap (λ i. i.header) e;
+      lasting = k.lasting ∙ ap (λ i. i.lasting) e;
       geometry = k.geometry ∙ ap (λ i. i.geometry) e;
     }

@@ -272,7 +272,7 @@ pub record CallsStore (may_load must_save : Bool) (old new : DriveState) : Type 
       ⊎ ((new.image.failures ≡ old.image.failures + 1) × ((must_save ≡ true) ⊎ (new.image.loads ≡ old.image.loads + 1)))
   pub slots : must_save ≡ false → new.image.slots ≡ old.image.slots
   pub untouched : must_save ≡ false → new.image.loads ≡ old.image.loads → new.image ≡ old.image
-  pub header : new.image.header ≡ old.image.header
+  pub lasting : new.image.lasting ≡ old.image.lasting
   pub geometry : new.image.geometry ≡ old.image.geometry
 
 -- The fault that a call met, by what the image counted: none where no call of its store failed; else a failed load, or a

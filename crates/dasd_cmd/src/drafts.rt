@@ -134,6 +134,8 @@ impl<'a> HostDraft<'a> {
 impl ImageStore for HostDraft<'_> {
     ghost content = { λ d. d.written.bytes };
 
+    ghost origin = { λ d. [] };
+
     ghost failures = { λ d. d.refused };
 
     fn len(&self) -> u64 {

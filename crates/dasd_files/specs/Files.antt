@@ -5,17 +5,17 @@ use Rattle.ckd_image.specs.Store.{overwritten}
 -- the bytes as they are and as the file was made, how many calls failed, and a number that moves on with each change
 pub record FileState : Type 0 where
   pub content : List ℕ
-  pub first : List ℕ
+  pub origin : List ℕ
   pub failures : ℕ
   pub changes : ℕ
 
 -- a file as it was made
 abbrev pub file_of : List ℕ → FileState
-file_of bytes = record { content = bytes; first = bytes; failures = 0; changes = 0 }
+file_of bytes = record { content = bytes; origin = bytes; failures = 0; changes = 0 }
 
 -- the bytes are those that the file was made of, as long as the number is 0
 abbrev pub IsFile : FileState → Type 0
-IsFile f = f.changes ≡ 0 → f.content ≡ f.first
+IsFile f = f.changes ≡ 0 → f.content ≡ f.origin
 
 -- whether these bytes, from a place on, end within the file
 abbrev pub has_room_in : FileState → (at : ℕ) → List ℕ → Bool
@@ -31,6 +31,6 @@ failures_behind f at bytes = if has_room_in f at bytes then f.failures else f.fa
 -- A write of these bytes from a place on. Where a byte was changed the number is another.
 pub record Writes (at : ℕ) (bytes : List ℕ) (old new : FileState) : Type 0 where
   pub content : new.content ≡ content_behind old at bytes
-  pub first : new.first ≡ old.first
+  pub same : new.origin ≡ old.origin
   pub failures : new.failures ≡ failures_behind old at bytes
   pub moves_on : new.content ≢ old.content → new.changes ≢ old.changes

@@ -14,7 +14,7 @@ use std::marker::Model;
 #[derive(Drop)]
 pub struct VolumeFile {
     held: Vec<u8>,
-    first: Trace,
+    origin: Trace,
     refused: Count,
     changes: u64,
 }
@@ -24,9 +24,9 @@ impl Model for VolumeFile {
 
     ghost Value = { FileState };
 
-    ghost view = { λ f. record { content = f.held.items; first = f.first.bytes; failures = f.refused; changes = f.changes } };
+    ghost view = { λ f. record { content = f.held.items; origin = f.origin.bytes; failures = f.refused; changes = f.changes } };
 
-    ghost invariant = { λ f. IsFile (record { content = f.held.items; first = f.first.bytes; failures = f.refused; changes = f.changes }) };
+    ghost invariant = { λ f. IsFile (record { content = f.held.items; origin = f.origin.bytes; failures = f.refused; changes = f.changes }) };
 }
 
 impl VolumeFile {
@@ -34,10 +34,10 @@ impl VolumeFile {
     pub fn new(held: Vec<u8>) -> VolumeFile
         ensures { result ≡ file_of held.items }
     {
-        let first = Trace::of(held.as_slice());
+        let origin = Trace::of(held.as_slice());
         VolumeFile {
             held,
-            first,
+            origin,
             refused: Count::new(),
             changes: 0,
         }
@@ -78,7 +78,8 @@ impl VolumeFile {
 
     /// Whether a write changed a byte; if none did, the bytes are those that the file was made of.
     pub fn is_changed(&self) -> bool
-        ensures { result ≡ nat_lt 0 self.now.changes }
+        ensures changes { result ≡ nat_lt 0 self.now.changes }
+        ensures kept { result ≡ false → self.now.content ≡ self.now.origin }
     {
         self.changes > 0
     }
@@ -86,6 +87,8 @@ impl VolumeFile {
 
 impl ImageStore for VolumeFile {
     ghost content = { λ f. f.content };
+
+    ghost origin = { λ f. f.origin };
 
     ghost failures = { λ f. f.failures };
 

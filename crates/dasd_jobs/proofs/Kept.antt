@@ -1,6 +1,10 @@
 -- Files that are written back one after another.
-use Rattle.std.proofs.Common.{ℕ, ◌+◌, ◌<◌, ◌≡◌, ◌∙◌, List, ◌++◌, length, get_or, ap, sym, append_assoc, append-nil}
+use Rattle.std.proofs.Common.{ℕ, ◌+◌, ◌<◌, ◌≤◌, ◌≡◌, ◌∙◌, ◌⊎◌, inl, inr, List, ◌++◌, length, get_or, ap, sym, subst, Option, append_assoc, append-nil, arith}
+use Rattle.std.proofs.lemmas.Bool.{cases_lt}
 use Rattle.std.proofs.lemmas.List.{get_or-map}
+use Rattle.ckd_image.specs.Files.{file_at}
+use Rattle.dasd_files.specs.Files.{FileState}
+use Rattle.dasd_jobs.specs.Back.{IsKept, AreKept}
 use Rattle.dasd_volumes.specs.Volumes.{of_each}
 use Rattle.dasd_volumes.proofs.Appended.{of_none, of_one_more}
 
@@ -16,3 +20,11 @@ and_one before now after of n first next =
 -- an element that is there does not go by what stands for one that is not
 pub same_at : {A : Type 0} (xs : List A) (i : ℕ) (d e : A) → i < length xs → get_or xs i d ≡ get_or xs i e
 same_at xs i d e inside = sym (get_or-map (λ x. x) xs i d d inside) ∙ get_or-map (λ x. x) xs i e d inside
+
+-- one more store that holds what was read of it, unless it was changed
+pub one_more_kept : (stores : List (Option FileState)) (n : ℕ) → AreKept stores n → IsKept (file_at stores n) → AreKept stores (n + 1)
+one_more_kept stores n before here k below = by (cases_lt k n)
+  where
+    by : (k < n) ⊎ (n ≤ k) → IsKept (file_at stores k)
+    by (inl less) = before k less
+    by (inr not_less) = subst (λ (m : ℕ). IsKept (file_at stores m)) (omega arith) here

@@ -24,7 +24,11 @@ impl Model for HeaderStore {
 
     ghost Value = { Stored };
 
-    ghost view = { λ s. record { content = take s.len (s.header ++ replicate s.len 0); failures = s.refused } };
+    ghost view = { λ s. record {
+      content = take s.len (s.header ++ replicate s.len 0);
+      origin = take s.len (s.header ++ replicate s.len 0);
+      failures = s.refused;
+    } };
 }
 
 impl HeaderStore {
@@ -42,6 +46,8 @@ impl HeaderStore {
 
 impl ImageStore for HeaderStore {
     ghost content = { λ s. s.content };
+
+    ghost origin = { λ s. s.origin };
 
     ghost failures = { λ s. s.failures };
 

@@ -10,10 +10,10 @@ use crate::files::{FileFault, ImageFiles, OpenedFile};
 use crate::headers::{HEADER, is_header};
 use crate::opened::{MOST_FILES, read_head};
 use crate::reasons::{Head, remark_on};
-use crate::store::FileStore;
 use arrayvec::ArrayVec;
 use ckd_image::{Image, ImageStore, MountFault, StoreFault, image_len};
 use ckd_track::DriveModel;
+use dasd_files::VolumeFile;
 use std::alloc::Global;
 
 /// How many bytes of a file are read at once.
@@ -28,7 +28,7 @@ pub fn read_image<F: ImageFiles>(
     alloc: Global,
     files: &mut F,
     paths: &[&str],
-) -> Result<Image<FileStore>, JobFault>
+) -> Result<Image<VolumeFile>, JobFault>
     ensures { F.written files.new ≡ F.written files.old }
 {
     if paths.len() > MOST_FILES {
@@ -46,7 +46,7 @@ pub fn read_image<F: ImageFiles>(
 }
 
 // Appends the store of a file.
-fn append(stores: &mut ArrayVec<Option<FileStore>, MOST_FILES>, store: FileStore)
+fn append(stores: &mut ArrayVec<Option<VolumeFile>, MOST_FILES>, store: VolumeFile)
     requires room { array_vec_len stores.old < 8 }
     requires there { All IsSome stores.old.items }
     ensures there { All IsSome stores.new.items }
@@ -61,7 +61,7 @@ fn read_files<F: ImageFiles>(
     files: &mut F,
     paths: &[&str],
     heads: &mut Vec<Head>,
-) -> Result<ArrayVec<Option<FileStore>, MOST_FILES>, JobFault>
+) -> Result<ArrayVec<Option<VolumeFile>, MOST_FILES>, JobFault>
     requires { length paths.now ≤ 8 }
     ensures kept { F.written files.new ≡ F.written files.old }
     ensures there { IfOk result (λ stores. All IsSome stores.items) }
@@ -84,7 +84,7 @@ fn read_file<F: ImageFiles>(
     path: &str,
     is_first: bool,
     heads: &mut Vec<Head>,
-) -> Result<FileStore, JobFault>
+) -> Result<VolumeFile, JobFault>
     ensures { F.written files.new ≡ F.written files.old }
 {
     let mut file = match files.lock(alloc, path) {
@@ -101,7 +101,7 @@ fn read_file<F: ImageFiles>(
     } else {
         head.len.min(HEADER as u64)
     };
-    Ok(FileStore::new(read_bytes(alloc, &mut file, len)?))
+    Ok(VolumeFile::new(read_bytes(alloc, &mut file, len)?))
 }
 
 // So many bytes of a file, from its beginning on.
@@ -132,10 +132,10 @@ pub fn new_image(
     alloc: Global,
     model: DriveModel,
     cylinders: u16,
-) -> Result<Image<FileStore>, JobFault> {
+) -> Result<Image<VolumeFile>, JobFault> {
     let length = image_len(model, cylinders) as usize;
     let bytes = vec![in alloc; 0u8; length].map_err(|_| JobFault::OutOfMemory)?;
-    match Image::format(FileStore::new(bytes), model, cylinders) {
+    match Image::format(VolumeFile::new(bytes), model, cylinders) {
         Ok(image) => Ok(image),
         Err((fault, _)) => Err(JobFault::Mount(fault)),
     }
@@ -177,7 +177,7 @@ fn write_bytes<D: ImageStore>(draft: &mut D, bytes: &[u8]) -> Result<(), StoreFa
 }
 
 /// Writes the files of an image that were changed, each whole and in their order, up to the first that can't be written.
-/// No other file is written.
+/// No other file is written, and each of those holds what was read of it.
 ///
 /// # Errors
 ///
@@ -186,7 +186,7 @@ pub fn write_back<F: ImageFiles>(
     alloc: Global,
     files: &mut F,
     paths: &[&str],
-    image: Image<FileStore>,
+    image: Image<VolumeFile>,
 ) -> Result<(), JobFault>
     ensures { WritesBack result (map (λ path. path.now) paths.now) image (F.written files.old) (F.written files.new) }
 {
@@ -199,7 +199,7 @@ fn write_stores<F: ImageFiles>(
     alloc: Global,
     files: &mut F,
     paths: &[&str],
-    stores: &[Option<FileStore>],
+    stores: &[Option<VolumeFile>],
 ) -> Result<(), JobFault>
     ensures { WritesStores result (map (λ path. path.now) paths.now) stores.now (F.written files.old) (F.written files.new) }
 {
@@ -216,7 +216,7 @@ fn write_changed<F: ImageFiles>(
     alloc: Global,
     files: &mut F,
     path: &str,
-    store: &Option<FileStore>,
+    store: &Option<VolumeFile>,
 ) -> Result<(), JobFault>
     ensures { WritesChanged result path.now store.now (F.written files.old) (F.written files.new) }
 {

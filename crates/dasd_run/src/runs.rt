@@ -6,14 +6,15 @@ ghost use Rattle.dasd_run.specs.Faults.{keeps_files};
 use crate::fault::{ProgramFault, of_attach, of_channel, of_storage};
 use crate::remarks::Remark;
 use ckd_image::Image;
-use dasd_jobs::{FileStore, ImageFiles, JobFault, new_image, read_image, write_back};
+use dasd_files::VolumeFile;
+use dasd_jobs::{ImageFiles, JobFault, new_image, read_image, write_back};
 use dasd_words::{Volume, VolumeSource};
 use s360_channel::{Channel, Finished, SubchannelView};
 use s360_words::Storage;
 use std::alloc::Global;
 
 /// A channel over images that were read from files.
-pub type Disks = Channel<FileStore>;
+pub type Disks = Channel<VolumeFile>;
 
 /// A channel with this number, over main storage of this size, with a drive for each volume in the order of the words. No
 /// file is written.
@@ -75,7 +76,7 @@ fn open<F: ImageFiles>(
     alloc: Global,
     files: &mut F,
     source: &VolumeSource,
-) -> Result<Image<FileStore>, ProgramFault>
+) -> Result<Image<VolumeFile>, ProgramFault>
     ensures { F.written files.new ≡ F.written files.old }
 {
     match source {
@@ -126,7 +127,7 @@ fn save<F: ImageFiles>(
     alloc: Global,
     files: &mut F,
     volume: &Volume,
-    image: Option<(u8, Image<FileStore>)>,
+    image: Option<(u8, Image<VolumeFile>)>,
 ) -> Result<(), JobFault> {
     match (&volume.source, image) {
         (VolumeSource::Files(paths), Some((_, image))) => {

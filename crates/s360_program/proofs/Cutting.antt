@@ -164,7 +164,7 @@ saves_together m w d0 d1 d2 only a b = record {
   failures = failures m w only a.failures b.failures (λ h. image_untouched w d1 d2 h b);
   slots = λ e. b.slots (second m w e) ∙ a.slots (first m w e);
   untouched = λ e l. image_untouched w d1 d2 (second m w e) b ∙ image_untouched m d0 d1 (first m w e) a;
-  header = b.header ∙ a.header;
+  lasting = b.lasting ∙ a.lasting;
   geometry = b.geometry ∙ a.geometry;
 }
   where

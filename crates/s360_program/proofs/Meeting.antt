@@ -245,7 +245,7 @@ ends_now next c key p k s told So d0 d2 nexts same saved settles tells_of is =
     ends_after (λ f. Unit {0}) ⊥ So next c key p k s told false false d0 d0 d2 (λ f at. nexts f) (λ at left w. tt)
     (λ at. record { saved = ap unsaved same ∙ saved; quiet = λ q. ap (λ s. tells_equipment_check (drive_of s).sense) same ∙ q })
     (λ x. absurd x) tt same
-    (record { loads = inl refl; saves = none d0.image.saves; failures = inl refl; slots = λ e. refl; untouched = λ e l. refl; header = refl; geometry = refl })
+    (record { loads = inl refl; saves = none d0.image.saves; failures = inl refl; slots = λ e. refl; untouched = λ e l. refl; lasting = refl; geometry = refl })
     (record { failed = inl refl; good = λ h k. k }) settles tells_of is
   where
     none : (n : ℕ) → n ≡ n + 0
@@ -283,7 +283,7 @@ comes_after At next later key s r step.Over d0 d1 d2 e at stable same loads quie
 -- How often the store is called.
 
 pub once : (l m : Bool) (d0 d1 : DriveState) → CallsStore l m d0 d1 → CallsAtMost 1 d0 d1
-once l m d0 d1 k = record { calls = go m k.saves k.loads; header = k.header; geometry = k.geometry }
+once l m d0 d1 k = record { calls = go m k.saves k.loads; lasting = k.lasting; geometry = k.geometry }
   where
     go : (m : Bool) → d1.image.saves ≡ d0.image.saves + (if m then 1 else 0) → (d1.image.loads ≡ d0.image.loads) ⊎ ((l ≡ true) × (m ≡ false) × (d1.image.loads ≡ d0.image.loads + 1))
         → d1.image.loads + d1.image.saves ≤ d0.image.loads + d0.image.saves + 1
@@ -293,13 +293,13 @@ once l m d0 d1 k = record { calls = go m k.saves k.loads; header = k.header; geo
     go false s (inr x) = let y : d1.image.loads ≡ d0.image.loads + 1 = x.2 in omega arith
 
 pub both : (n k : ℕ) (d0 d1 d2 : DriveState) → CallsAtMost n d0 d1 → CallsAtMost k d1 d2 → CallsAtMost (n + k) d0 d2
-both n k d0 d1 d2 a b = record { calls = omega (arith, a.calls, b.calls); header = b.header ∙ a.header; geometry = b.geometry ∙ a.geometry }
+both n k d0 d1 d2 a b = record { calls = omega (arith, a.calls, b.calls); lasting = b.lasting ∙ a.lasting; geometry = b.geometry ∙ a.geometry }
 
 -- a call that saved leaves nothing to be saved by the next
 pub once_together : (m w : Bool) (d0 d1 d2 : DriveState) → (m ≡ true → w ≡ false) → CallsStore false m d0 d1 → CallsStore false w d1 d2 → CallsAtMost 1 d0 d2
 once_together m w d0 d1 d2 only a b = record {
   calls = go m w only a.saves b.saves;
-  header = b.header ∙ a.header;
+  lasting = b.lasting ∙ a.lasting;
   geometry = b.geometry ∙ a.geometry;
 }
   where

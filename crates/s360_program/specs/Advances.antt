@@ -97,7 +97,7 @@ pub record Cuts (key : ℕ) (phase : ProgramPhase) (told : Csw × Bool × Option
 -- at most so many loads and saves together
 pub record CallsAtMost (most : ℕ) (old new : DriveState) : Type 0 where
   pub calls : new.image.loads + new.image.saves ≤ old.image.loads + old.image.saves + most
-  pub header : new.image.header ≡ old.image.header
+  pub lasting : new.image.lasting ≡ old.image.lasting
   pub geometry : new.image.geometry ≡ old.image.geometry
 
 -- unit check without incorrect length, and equipment check in the sense

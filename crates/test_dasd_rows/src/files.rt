@@ -154,6 +154,8 @@ pub(crate) struct MemoryDraft {
 impl ImageStore for MemoryDraft {
     ghost content = { λ d. d.bytes.items };
 
+    ghost origin = { λ d. [] };
+
     ghost failures = { λ d. d.refused };
 
     fn len(&self) -> u64 {

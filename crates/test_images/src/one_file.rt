@@ -169,6 +169,8 @@ struct Lent<'a> {
 impl ImageStore for Lent<'_> {
     ghost content = { λ l. l.bytes.now };
 
+    ghost origin = { λ l. l.bytes.now };
+
     ghost failures = { λ l. l.refused };
 
     fn len(&self) -> u64 {

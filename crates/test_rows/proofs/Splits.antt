@@ -7,7 +7,7 @@ use Rattle.std.specs.Option.{option_to_list}
 use Rattle.ckd_image.specs.Files.{each, slot_bytes}
 use Rattle.ckd_image.proofs.ReadLemmas.{each-append}
 use Rattle.ckd_image.proofs.Writes.{drop-overwritten}
-use Rattle.ckd_image.specs.Store.{Stored}
+use Rattle.ckd_image.specs.Store.{Stored, store_of}
 use Rattle.ckd_image.specs.Header.{mount_of}
 use Rattle.test_rows.specs.declared.files.RowFiles.{RowFiles}
 use Rattle.test_rows.specs.Files.{file_with, split_files, bytes_of, HaveSlots}
@@ -45,7 +45,7 @@ split_whole bytes header front behind at highest h f b =
     let first = length_header bytes header h in
     rw (slots_behind header front 1 highest first, slots_behind header behind 2 0 first, f.is, b.is) (joined bytes 512 at f.ordered f.within)
 
-pub split_is : (bytes header front behind : List ℕ) (at highest : ℕ) (first second : Stored) → IsPart bytes header 0 512 → IsPart bytes front 512 at → IsPart bytes behind at (length bytes) → first ≡ record { content = file_with header front 1 highest; failures = 0 } → second ≡ record { content = file_with header behind 2 0; failures = 0 } → (let files : RowFiles = record { first = first; second = Some second } in files ≡ split_files bytes at highest)
+pub split_is : (bytes header front behind : List ℕ) (at highest : ℕ) (first second : Stored) → IsPart bytes header 0 512 → IsPart bytes front 512 at → IsPart bytes behind at (length bytes) → first ≡ store_of (file_with header front 1 highest) → second ≡ store_of (file_with header behind 2 0) → (let files : RowFiles = record { first = first; second = Some second } in files ≡ split_files bytes at highest)
 split_is bytes header front behind at highest first second h f b is_first is_second = rw (is_first, is_second, h.is, f.is, b.is) refl
 
 module _ {S T : Type 0} where

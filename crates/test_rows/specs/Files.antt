@@ -2,7 +2,7 @@
 use Rattle.std.specs.Prelude.{◌≡◌, ℕ, ◌+◌, ◌*◌, ◌/◌, ◌%◌, List, [], ◌∷◌, ◌++◌, length, slice_range, Some, IsOk}
 use Rattle.ckd_track.specs.declared.geometries.Geometry.{Geometry}
 use Rattle.ckd_track.specs.Model.{heads_of}
-use Rattle.ckd_image.specs.Store.{Stored, overwritten}
+use Rattle.ckd_image.specs.Store.{Stored, store_of, overwritten}
 use Rattle.ckd_image.specs.Failing.{Failing}
 use Rattle.ckd_image.specs.Header.{mount_of}
 use Rattle.ckd_image.specs.Files.{each, slot_bytes}
@@ -38,8 +38,8 @@ cylinder_start g cylinder = 512 + cylinder * heads_of g.model * g.track_size
 -- the second has those behind it
 abbrev pub split_files : List ℕ → ℕ → ℕ → RowFiles
 split_files whole at highest = record {
-  first = record { content = file_with (slice_range whole 0 512) (slice_range whole 512 at) 1 highest; failures = 0 };
-  second = Some (record { content = file_with (slice_range whole 0 512) (slice_range whole at (length whole)) 2 0; failures = 0 });
+  first = store_of (file_with (slice_range whole 0 512) (slice_range whole 512 at) 1 highest);
+  second = Some (store_of (file_with (slice_range whole 0 512) (slice_range whole at (length whole)) 2 0));
 }
 
 -- these files have the slots of a volume that one file holds and that can be mounted

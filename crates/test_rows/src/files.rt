@@ -2,6 +2,7 @@
 
 ghost use Rattle.std.specs.Prelude.{◌≡◌, ◌+◌, ◌-◌, ◌<◌, ◌++◌, ◌∷◌, [], ◌↔◌, ◌≤◌, length, All, IsSome, IsTrue, Some, None, ℕ, IfSome, IfOk, OnOk, IfErr, OnErr};
 ghost use Rattle.arrayvec.specs.ArrayVec.{array_vec_len};
+ghost use Rattle.ckd_image.specs.Store.{store_of};
 ghost use Rattle.ckd_image.specs.Files.{each, slot_bytes};
 ghost use Rattle.ckd_image.specs.Image.{Holds, FilesRefused};
 ghost use Rattle.test_rows.specs.Files.{file_with, bytes_of, failures_of, content_of, failures_in, cylinder_start, split_files};
@@ -85,7 +86,7 @@ pub fn file_of(
 ) -> Result<MemoryStore>
     ensures fields { OnOk result (20 ≤ length header.now) }
     ensures file { IfOk result
-        (λ file. file ≡ record { content = file_with header.now slots.now sequence highest; failures = 0 }) }
+        (λ file. file ≡ store_of (file_with header.now slots.now sequence highest)) }
 {
     if header.len() < FIELDS_END {
         bail!("no header");

@@ -125,6 +125,8 @@ pub struct Recorder<S: ImageStore> {
 impl<S: ImageStore> ImageStore for Recorder<S> {
     ghost content = { λ r. S.content r.store };
 
+    ghost origin = { λ r. S.origin r.store };
+
     ghost failures = { λ r. S.failures r.store };
 
     fn len(&self) -> u64 {
@@ -136,6 +138,7 @@ impl<S: ImageStore> ImageStore for Recorder<S> {
         ensures read { OnOk result
             (into.new ≡ slice_range (S.content self.old.store) at (at + length into.old)) }
         ensures kept { S.content self.new.store ≡ S.content self.old.store }
+        ensures same { S.origin self.new.store ≡ S.origin self.old.store }
         ensures counted { Counts (S.failures self.old.store) (S.failures self.new.store) result }
         ensures reads { self.new.reads ≡ after_call self.old.reads at (length into.old) }
         ensures writes { self.new.writes ≡ self.old.writes }
@@ -150,6 +153,7 @@ impl<S: ImageStore> ImageStore for Recorder<S> {
             (S.content self.new.store ≡ overwritten (S.content self.old.store) at bytes.now) }
         ensures torn { OnErr result
             (Torn (S.content self.old.store) (S.content self.new.store) at (length bytes.now)) }
+        ensures same { S.origin self.new.store ≡ S.origin self.old.store }
         ensures counted { Counts (S.failures self.old.store) (S.failures self.new.store) result }
         ensures reads { self.new.reads ≡ self.old.reads }
         ensures writes { self.new.writes ≡ after_call self.old.writes at (length bytes.now) }

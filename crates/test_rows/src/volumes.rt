@@ -23,7 +23,7 @@ const HEADER: u64 = 512;
 /// Fails where the geometry is refused, and where memory runs out.
 pub fn new_volume(alloc: Global, geometry: Geometry) -> Result<MemoryStore>
     ensures { IfOk result
-        (λ file. HoldsImage (file.content ∷ []) (new_image geometry.model geometry.cylinders 0)) }
+        (λ file. HoldsImage (file.content ∷ []) (new_image geometry.model geometry.cylinders file.origin 0)) }
 {
     let Geometry {
         model,

@@ -60,6 +60,8 @@ pub struct WatchedStore<'a, S: ImageStore> {
 impl<S: ImageStore> ImageStore for WatchedStore<'_, S> {
     ghost content = { λ w. S.content w.store };
 
+    ghost origin = { λ w. S.origin w.store };
+
     ghost failures = { λ w. S.failures w.store };
 
     fn len(&self) -> u64 {

@@ -29,7 +29,7 @@ loop-left-preserved g c =
       fits = w.fits;
       no_check = λ q. w.no_check (i.no_check q);
       storage = record { size = e.storage.size ∙ i.storage.size; keys = e.storage.keys ∙ i.storage.keys };
-      calls = record { calls = omega (arith, w.some, w.few, i.within, e.calls.calls, i.calls.calls); header = e.calls.header ∙ i.calls.header; geometry = e.calls.geometry ∙ i.calls.geometry };
+      calls = record { calls = omega (arith, w.some, w.few, i.within, e.calls.calls, i.calls.calls); lasting = e.calls.lasting ∙ i.calls.lasting; geometry = e.calls.geometry ∙ i.calls.geometry };
       walked = subst (λ done. walk (units done) a.self.now.key (phase_in (run_of a.self.now) a.storage.now a.drive.now) ≡ StandsIn (phase_in (run_of c.step.new.self) c.step.new.storage c.step.new.drive)) fewer
           (more_units a.self.now.key l.self.key (phase_in (run_of a.self.now) a.storage.now a.drive.now) (phase_in (run_of l.self) l.storage l.drive) (phase_in (run_of c.step.new.self) c.step.new.storage c.step.new.drive) d n i.key i.walked w.goes);
       quiet = still_quiet a.self.now.key (phase_in (run_of a.self.now) a.storage.now a.drive.now) d (a.units - (l.left - n)) (run_of l.self) l.storage a.drive.now l.drive c.step.new.drive (omega (arith, w.some, w.few, i.within)) i.fits.stands i.walked i.quiet e.quiet;
