@@ -1,4 +1,4 @@
--- What a call does to the unit at a place in the order of attachment: the others stay.
+-- What a call does to the drive at a place in the order of attachment: the others stay.
 use Rattle.std.specs.Prelude.{◌≡◌, ◌*◌, ℕ, List, [], ◌∷◌, Bool, false, Option, Some, None, slice_get, slice_set}
 use Rattle.std.specs.List.{remove}
 use Rattle.s360_words.specs.Storage.{Storage}
@@ -14,27 +14,27 @@ use Rattle.s360_program.specs.declared.program.Ran.{Ran}
 use Rattle.s360_program.specs.declared.program.Start.{Start}
 use Rattle.s360_laws.specs.declared.arm.Arm.{Arm}
 use Rattle.s360_laws.specs.declared.arm.Arm.TheVariants.{AtRest}
-use Rattle.s360_channel.specs.Channel.{UnitState}
+use Rattle.s360_channel.specs.Channel.{AttachedState}
 
--- the drive at a place changed so, and nothing else of any unit
-pub record DriveChanges (place : ℕ) (How : DriveState → DriveState → Type 0) (old new : List UnitState) : Type 0 where
-  pub unit : UnitState
-  pub was : slice_get old place ≡ Some unit
+-- the drive at a place changed so, but neither its address nor its arm, nor another drive
+pub record DriveChanges (place : ℕ) (How : DriveState → DriveState → Type 0) (old new : List AttachedState) : Type 0 where
+  pub attached : AttachedState
+  pub was : slice_get old place ≡ Some attached
   pub drive : DriveState
-  pub becomes : new ≡ slice_set old place (record unit { drive = drive })
-  pub how : How unit.drive drive
+  pub becomes : new ≡ slice_set old place (record attached { drive = drive })
+  pub how : How attached.drive drive
 
--- the drive of a unit changed so, and nothing else of it
-pub record OnlyDrive (How : DriveState → DriveState → Type 0) (old new : UnitState) : Type 0 where
+-- an attached drive changed so, but neither its address nor its arm
+pub record OnlyDrive (How : DriveState → DriveState → Type 0) (old new : AttachedState) : Type 0 where
   pub same_device : new.device ≡ old.device
   pub same_arm : new.arm ≡ old.arm
   pub how : How old.drive new.drive
 
 -- the drive at a place is one of which this is so
-pub record DriveIs (place : ℕ) (Is : DriveState → Type 0) (units : List UnitState) : Type 0 where
-  pub unit : UnitState
-  pub is_there : slice_get units place ≡ Some unit
-  pub holds : Is unit.drive
+pub record DriveIs (place : ℕ) (Is : DriveState → Type 0) (drives : List AttachedState) : Type 0 where
+  pub attached : AttachedState
+  pub is_there : slice_get drives place ≡ Some attached
+  pub holds : Is attached.drive
 
 abbrev pub Starts : (caw : ℕ) → Storage → Start → DriveState → DriveState → Type 0
 Starts caw s answer old new =
@@ -51,44 +51,44 @@ pub record CutsAt (r : RunningState) (told : Csw × Bool × Option (ℕ × ℕ))
   pub calls : (s : Storage) → CallsStore false (has_written (phase_in r s old)) old new
   pub tells : CutTellsOf told old new
 
--- the arm of the unit at a place does this from now on
-pub record ArmChanges (place : ℕ) (arm : Arm) (old new : List UnitState) : Type 0 where
-  pub unit : UnitState
-  pub was : slice_get old place ≡ Some unit
-  pub becomes : new ≡ slice_set old place (record unit { arm = arm })
+-- the arm of the drive at a place does this from now on
+pub record ArmChanges (place : ℕ) (arm : Arm) (old new : List AttachedState) : Type 0 where
+  pub attached : AttachedState
+  pub was : slice_get old place ≡ Some attached
+  pub becomes : new ≡ slice_set old place (record attached { arm = arm })
 
--- The first unit is taken out, if there is one: its address and its image, which holds its drive's volume.
-abbrev pub TakesFirst : (old new : List UnitState) → Option (ℕ × ImageState) → Type 0
+-- The first drive is taken out, if there is one: its address and its image, which holds its volume.
+abbrev pub TakesFirst : (old new : List AttachedState) → Option (ℕ × ImageState) → Type 0
 TakesFirst [] new taken = (new ≡ []) × (taken ≡ None)
 TakesFirst (u ∷ us) new taken = (new ≡ us) × (taken ≡ Some (u.device, u.drive.image)) × (u.drive.image.slots ≡ u.drive.state.volume.slots)
 
--- The unit at a place is taken out; its image holds its drive's volume.
-pub record Removes (place : ℕ) (image : ImageState) (old new : List UnitState) : Type 0 where
-  pub unit : UnitState
-  pub was : slice_get old place ≡ Some unit
+-- The drive at a place is taken out; its image holds its volume.
+pub record Removes (place : ℕ) (image : ImageState) (old new : List AttachedState) : Type 0 where
+  pub attached : AttachedState
+  pub was : slice_get old place ≡ Some attached
   pub becomes : new ≡ remove old place
-  pub gives : image ≡ unit.drive.image
-  pub geometry : unit.drive.image.geometry ≡ unit.drive.state.volume.geometry
-  pub volume : unit.drive.image.slots ≡ unit.drive.state.volume.slots
+  pub gives : image ≡ attached.drive.image
+  pub geometry : attached.drive.image.geometry ≡ attached.drive.state.volume.geometry
+  pub volume : attached.drive.image.slots ≡ attached.drive.state.volume.slots
 
 -- The drive at a place has another image, and is new; the one that it had holds its volume.
-pub record ExchangesPack (place : ℕ) (image before : ImageState) (old new : List UnitState) : Type 0 where
-  pub unit : UnitState
-  pub was : slice_get old place ≡ Some unit
-  pub becomes : new ≡ slice_set old place (record unit { drive = new_drive image })
-  pub gives : before ≡ unit.drive.image
-  pub geometry : unit.drive.image.geometry ≡ unit.drive.state.volume.geometry
-  pub volume : unit.drive.image.slots ≡ unit.drive.state.volume.slots
+pub record ExchangesPack (place : ℕ) (image before : ImageState) (old new : List AttachedState) : Type 0 where
+  pub attached : AttachedState
+  pub was : slice_get old place ≡ Some attached
+  pub becomes : new ≡ slice_set old place (record attached { drive = new_drive image })
+  pub gives : before ≡ attached.drive.image
+  pub geometry : attached.drive.image.geometry ≡ attached.drive.state.volume.geometry
+  pub volume : attached.drive.image.slots ≡ attached.drive.state.volume.slots
 
 -- the drive at a place rests, and may have a pack with slots of this size
 abbrev pub MayExchange : (size : ℕ) → DriveState → Type 0
 MayExchange size d = Rests d × (size ≡ d.image.geometry.track_size)
 
--- as a reset leaves a unit
-abbrev pub at_rest_unit : UnitState → UnitState
-at_rest_unit u = record u { arm = AtRest; drive = record u.drive { state = without_sense u.drive.state } }
+-- as a reset leaves a drive
+abbrev pub at_rest_attached : AttachedState → AttachedState
+at_rest_attached u = record u { arm = AtRest; drive = record u.drive { state = without_sense u.drive.state } }
 
-pub record RestsAt (place : ℕ) (old new : List UnitState) : Type 0 where
-  pub unit : UnitState
-  pub was : slice_get old place ≡ Some unit
-  pub becomes : new ≡ slice_set old place (at_rest_unit unit)
+pub record RestsAt (place : ℕ) (old new : List AttachedState) : Type 0 where
+  pub attached : AttachedState
+  pub was : slice_get old place ≡ Some attached
+  pub becomes : new ≡ slice_set old place (at_rest_attached attached)

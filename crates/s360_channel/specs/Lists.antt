@@ -43,8 +43,8 @@ pub record Follows (m : Machine) (events : List Event) (answers : List Answer) (
   pub are_these : map (λ i. i.0) inputs ≡ events
   pub faults : failures_of new ≡ failures_of old + faults_in inputs
   pub met : AllMet inputs answers old new
-  pub headers : map (λ u. u.drive.image.header) new.units ≡ map (λ u. u.drive.image.header) old.units
-  pub geometries : map (λ u. u.drive.image.geometry) new.units ≡ map (λ u. u.drive.image.geometry) old.units
+  pub headers : map (λ u. u.drive.image.header) new.drives ≡ map (λ u. u.drive.image.header) old.drives
+  pub geometries : map (λ u. u.drive.image.geometry) new.drives ≡ map (λ u. u.drive.image.geometry) old.drives
   pub same_answers : answers ≡ machine.answers inputs m
   pub stands : StandsFor new (after_all inputs m)
   pub reported : AllReported inputs m
