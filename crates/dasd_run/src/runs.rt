@@ -110,8 +110,8 @@ pub fn finish<F: ImageFiles>(
         images,
         reset,
     } = channel.finish();
-    if let Some((unit, cylinder, head)) = reset.unsaved {
-        files.remark(&Remark::Unsaved(unit, cylinder, head));
+    if let Some((address, cylinder, head)) = reset.unsaved {
+        files.remark(&Remark::Unsaved(address, cylinder, head));
     }
     for (volume, image) in volumes.iter().zip(images) {
         if let Err(fault) = save(alloc, files, volume, image) {
