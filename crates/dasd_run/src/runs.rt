@@ -53,7 +53,7 @@ fn attach<F: ImageFiles>(
 {
     let image = match open(alloc, files, &volume.source) {
         Err(ProgramFault::Job(JobFault::InUse)) if is_attached(channel, volume.device) => {
-            return Err(ProgramFault::UnitTaken);
+            return Err(ProgramFault::AddressTaken);
         }
         opened => opened?,
     };

@@ -23,11 +23,11 @@ pub(crate) fn call(alloc: Global, channel: &mut Disks, line: &str) -> Result<Str
             let kept = channel.poke(address(at)?, bytes(alloc, body)?.as_slice());
             line_of(alloc, &Answer::Store(kept.is_ok()))
         }
-        words => line_of(alloc, &call_unit(channel, words)?),
+        words => line_of(alloc, &call_device(channel, words)?),
     }
 }
 
-fn call_unit(channel: &mut Disks, words: &[&str]) -> Result<Answer> {
+fn call_device(channel: &mut Disks, words: &[&str]) -> Result<Answer> {
     Ok(match words {
         ["sio", address] => {
             let address = device_address(address)?;
