@@ -60,7 +60,7 @@ only_channel channels =
 -- a storage of so many zero bytes, and the channel of this set, without drives
 pub record IsMade (s : Subsystem) (size channels : ℕ) : Type 0 where
   pub number : only_channel channels ≡ Some s.number
-  pub channel : s.channel ≡ record { number = s.number; storage = cleared size; subchannel = Idle; units = [] }
+  pub channel : s.channel ≡ record { number = s.number; storage = cleared size; subchannel = Idle; drives = [] }
 
 -- the first where a test holds, and otherwise the second
 abbrev pub Either : Bool → Type 0 → Type 0 → Type 0

@@ -30,7 +30,7 @@ number_of Three = pos 3
 -- An answer of the machine: the condition code, which is 1 where status was stored; whether an arm arrived, an interruption was taken,
 -- or a track could not be saved; whether storage kept what was stored.
 abbrev pub code_of : machine.Answer → ℤ
-code_of (machine.Condition c) = number_of c
+code_of (machine.WithCode c) = number_of c
 code_of (machine.StatusStored u c) = pos 1
 code_of (machine.CswStored csw) = pos 1
 code_of (machine.HasArrived true) = pos 1

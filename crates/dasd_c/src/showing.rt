@@ -214,8 +214,8 @@ fn as_state(channel: &Channel<VolumeFile>) -> State {
     let mut arms = [0; 8];
     let mut drives = 0;
     for place in 0..8usize {
-        if let Some((unit, arm)) = view.drives[place] {
-            units[place] = unit;
+        if let Some((address, arm)) = view.drives[place] {
+            units[place] = address;
             arms[place] = number_of_arm(arm);
             drives = place as u8 + 1;
         }

@@ -154,7 +154,7 @@ pub(crate) fn of_csw(condition: Condition<Csw>) -> i32
 
 /// The condition code of Test Channel.
 pub(crate) fn of_test(condition: Condition<()>) -> i32
-    ensures { result ≡ code_of (condition_seen (λ u. machine.Condition code.One) condition) }
+    ensures { result ≡ code_of (condition_seen (λ u. machine.WithCode code.One) condition) }
 {
     match condition {
         Condition::Zero => 0,

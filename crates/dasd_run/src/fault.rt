@@ -31,10 +31,10 @@ pub enum ProgramFault {
     ChannelNumber,
     /// Two volumes have one address.
     #[error("unit taken")]
-    UnitTaken,
+    AddressTaken,
     /// There are more than eight volumes.
     #[error("too many units")]
-    TooManyUnits,
+    TooManyDrives,
     /// The volume has no such track.
     #[error("no such track")]
     NoTrack,
@@ -102,8 +102,8 @@ pub(crate) fn of_channel(fault: NewFault) -> ProgramFault {
 /// What a fault of attaching is to the program.
 pub(crate) fn of_attach(fault: AttachFault) -> ProgramFault {
     match fault {
-        AttachFault::UnitTaken => ProgramFault::UnitTaken,
-        AttachFault::Full => ProgramFault::TooManyUnits,
+        AttachFault::UnitTaken => ProgramFault::AddressTaken,
+        AttachFault::Full => ProgramFault::TooManyDrives,
         AttachFault::OutOfMemory(_) => ProgramFault::OutOfMemory,
     }
 }

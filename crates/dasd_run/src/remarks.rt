@@ -41,10 +41,10 @@ impl fmt::Display for Remark<'_> {
                     "{device:02X}: its program still ran at the end of the deck, and was cut"
                 )
             }
-            Remark::Unsaved(unit, cylinder, head) => {
+            Remark::Unsaved(address, cylinder, head) => {
                 write!(
                     f,
-                    "{unit:03X}: the track {cylinder:04X} {head:04X} was not saved"
+                    "{address:03X}: the track {cylinder:04X} {head:04X} was not saved"
                 )
             }
         }

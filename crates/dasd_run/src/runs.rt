@@ -54,7 +54,7 @@ fn attach<F: ImageFiles>(
 {
     let image = match open(alloc, files, &volume.source) {
         Err(ProgramFault::Job(JobFault::InUse)) if is_attached(channel, volume.device) => {
-            return Err(ProgramFault::UnitTaken);
+            return Err(ProgramFault::AddressTaken);
         }
         opened => opened?,
     };
@@ -111,8 +111,8 @@ pub fn finish<F: ImageFiles>(
         images,
         reset,
     } = channel.finish();
-    if let Some((unit, cylinder, head)) = reset.unsaved {
-        files.remark(&Remark::Unsaved(unit, cylinder, head));
+    if let Some((address, cylinder, head)) = reset.unsaved {
+        files.remark(&Remark::Unsaved(address, cylinder, head));
     }
     for (volume, image) in volumes.iter().zip(images) {
         if let Err(fault) = save(alloc, files, volume, image) {

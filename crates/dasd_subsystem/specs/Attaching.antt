@@ -2,7 +2,7 @@
 use Rattle.std.specs.Prelude.{◌≡◌, ℕ, List, [], ◌∷◌, ◌++◌}
 use Rattle.ckd_track.specs.declared.model.DriveModel.{DriveModel}
 use Rattle.ckd_image.specs.Image.{ImageState, Holds, new_image}
-use Rattle.s360_channel.specs.Channel.{ChannelState, new_unit}
+use Rattle.s360_channel.specs.Channel.{ChannelState, new_attached}
 
 -- these files, in their order, hold the volume of an image
 abbrev pub IsImageOf : (files : List (List ℕ)) → ImageState → Type 0
@@ -12,8 +12,8 @@ IsImageOf files i = Holds files i.geometry i.slots
 pub record Attaches (device : ℕ) (files : List (List ℕ)) (old new : ChannelState) : Type 0 where
   pub image : ImageState
   pub of_files : IsImageOf files image
-  pub attached : new ≡ record old { units = old.units ++ new_unit device image ∷ [] }
+  pub attached : new ≡ record old { drives = old.drives ++ new_attached device image ∷ [] }
 
 -- A drive with a new volume of so many cylinders is.
 abbrev pub AttachesNew : (device : ℕ) → DriveModel → (cylinders : ℕ) → (old new : ChannelState) → Type 0
-AttachesNew device model cylinders old new = new ≡ record old { units = old.units ++ new_unit device (new_image model cylinders 0) ∷ [] }
+AttachesNew device model cylinders old new = new ≡ record old { drives = old.drives ++ new_attached device (new_image model cylinders 0) ∷ [] }

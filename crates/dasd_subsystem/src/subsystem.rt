@@ -3,7 +3,7 @@
 ghost use Rattle.std.specs.Prelude.{◌≡◌, ◌%◌, ◌++◌, ◌∷◌, [], map, OnOk, OnErr, IfOk};
 ghost use Rattle.s360_words.specs.Storage.{cleared};
 ghost use Rattle.s360_channel.specs.declared.subchannel.Subchannel.TheVariants.{Idle};
-ghost use Rattle.s360_channel.specs.Channel.{new_unit};
+ghost use Rattle.s360_channel.specs.Channel.{new_attached};
 ghost use Rattle.dasd_subsystem.specs.Attaching.{Attaches, AttachesNew};
 
 use crate::mounting::{formatted, mounted};
@@ -32,7 +32,7 @@ impl Subsystem {
     /// `BadNumber`, `BadSize` and `OutOfMemory`.
     pub fn new(alloc: Global, number: u8, size: u32) -> Result<Subsystem, Refusal>
         ensures number { IfOk result (λ s. s.number ≡ number) }
-        ensures channel { IfOk result (λ s. s.channel ≡ record { number = number; storage = cleared size; subchannel = Idle; units = [] }) }
+        ensures channel { IfOk result (λ s. s.channel ≡ record { number = number; storage = cleared size; subchannel = Idle; drives = [] }) }
     {
         if number > 6 {
             return Err(Refusal::BadNumber);
@@ -103,7 +103,7 @@ fn attach_image(
     device: u8,
     image: Image<VolumeFile>,
 ) -> Result<(), Refusal>
-    ensures attached { OnOk result (channel.new ≡ record channel.old { units = channel.old.units ++ new_unit device image ∷ [] }) }
+    ensures attached { OnOk result (channel.new ≡ record channel.old { drives = channel.old.drives ++ new_attached device image ∷ [] }) }
     ensures stays { OnErr result (channel.new ≡ channel.old) }
 {
     match channel.attach(alloc, device, image) {

@@ -16,15 +16,15 @@ use Rattle.s360_laws.specs.Soundness.{AreDistinct, IsSound, IsSoundIn, IsRunning
 use Rattle.s360_laws.specs.declared.arm.Arm.TheVariants.{AtRest}
 use Rattle.s360_program.specs.Advances.{Rests}
 use Rattle.s360_channel.specs.Attaches.{NotRefused}
-use Rattle.s360_channel.specs.Channel.{UnitState, ChannelState, device_of, machine_of, is_at, StandsFor, Shows, WorksFor, new_unit, attached}
+use Rattle.s360_channel.specs.Channel.{AttachedState, ChannelState, device_of, machine_of, is_at, StandsFor, Shows, WorksFor, new_attached, attached}
 use Rattle.s360_channel.specs.declared.subchannel.Subchannel.{Subchannel}
 use Rattle.s360_channel.specs.declared.subchannel.Subchannel.TheVariants.{Idle, Working, Pending}
 use Rattle.s360_channel.proofs.Places.{none_is_some, false_is_true, devices, changes, none_found, is_within, all_rest_push, others_rest_push, is_found}
 
 abbrev pub new_device : ℕ → ImageState → Device
-new_device device image = device_of (new_unit device image)
+new_device device image = device_of (new_attached device image)
 
-new_rests : (device : ℕ) (image : ImageState) → Rests (new_unit device image).drive
+new_rests : (device : ℕ) (image : ImageState) → Rests (new_attached device image).drive
 new_rests device image = record { idle = refl; unwritten = refl }
 
 -- Lists of devices.
@@ -72,47 +72,47 @@ get_push (w ∷ us) zero u v h = h
 get_push (w ∷ us) (suc place) u v h = get_push us place u v h
 
 abbrev pub with_new : ℕ → ImageState → ChannelState → ChannelState
-with_new device image c = record c { units = c.units ++ new_unit device image ∷ [] }
+with_new device image c = record c { drives = c.drives ++ new_attached device image ∷ [] }
 
 new_machine : (device : ℕ) (image : ImageState) (c : ChannelState) (s : machine.Subchannel) → attached device image (machine_of c s) ≡ machine_of (with_new device image c) s
-new_machine device image c s = ap (λ ds. record (machine_of c s) { devices = ds }) (sym (map-append device_of c.units (new_unit device image ∷ [])))
+new_machine device image c s = ap (λ ds. record (machine_of c s) { devices = ds }) (sym (map-append device_of c.drives (new_attached device image ∷ [])))
 
 pub record Pushed (device : ℕ) (image : ImageState) (c : ChannelState) (m : Machine) : Type 0 where
   pub none : find (λ o. o.device == device) m.devices ≡ None
   pub shows : Shows (with_new device image c) (attached device image m) c.subchannel
 
-pub works_push : (device : ℕ) (image : ImageState) (c : ChannelState) (place : ℕ) (r : _) (m : Machine) → find (λ o. o.device == device) (devices c.units) ≡ None → WorksFor c place r m → WorksFor (with_new device image c) place r (attached device image m)
+pub works_push : (device : ℕ) (image : ImageState) (c : ChannelState) (place : ℕ) (r : _) (m : Machine) → find (λ o. o.device == device) (devices c.drives) ≡ None → WorksFor c place r m → WorksFor (with_new device image c) place r (attached device image m)
 works_push device image c place r m none w = record {
-  unit = w.unit;
-  is_there = get_push c.units place w.unit (new_unit device image) w.is_there;
+  attached = w.attached;
+  is_there = get_push c.drives place w.attached (new_attached device image) w.is_there;
   storage = w.storage;
   drive = w.drive;
   script = w.script;
-  machine = ap (attached device image) w.machine ∙ ap (λ ds. record (machine_of c (machine.Working w.unit.device w.script)) { storage = w.storage; devices = ds }) same_devices;
+  machine = ap (attached device image) w.machine ∙ ap (λ ds. record (machine_of c (machine.Working w.attached.device w.script)) { storage = w.storage; devices = ds }) same_devices;
   runs = w.runs;
-  others = others_rest_push c.units place (new_unit device image) (is_within c.units place w.unit w.is_there) w.others (new_rests device image);
+  others = others_rest_push c.drives place (new_attached device image) (is_within c.drives place w.attached w.is_there) w.others (new_rests device image);
 }
   where
-    other : (device == w.unit.device) ≡ false
-    other = different device w.unit.device (λ e. false_is_true (sym (ap is_some none) ∙ (ap (λ n. is_some (find (λ o. o.device == n) (devices c.units))) e ∙ is_found c.units place w.unit w.is_there)))
+    other : (device == w.attached.device) ≡ false
+    other = different device w.attached.device (λ e. false_is_true (sym (ap is_some none) ∙ (ap (λ n. is_some (find (λ o. o.device == n) (devices c.drives))) e ∙ is_found c.drives place w.attached w.is_there)))
 
-    same_devices : map (changes w.unit.device (set_drive w.drive)) (devices c.units) ++ new_device device image ∷ [] ≡ map (changes w.unit.device (set_drive w.drive)) (devices (c.units ++ new_unit device image ∷ []))
+    same_devices : map (changes w.attached.device (set_drive w.drive)) (devices c.drives) ++ new_device device image ∷ [] ≡ map (changes w.attached.device (set_drive w.drive)) (devices (c.drives ++ new_attached device image ∷ []))
     same_devices =
-        ap (λ d. map (changes w.unit.device (set_drive w.drive)) (devices c.units) ++ d ∷ []) (sym (ap (λ b. cond b (set_drive w.drive (new_device device image)) (new_device device image)) other))
-        ∙ (sym (map-append (changes w.unit.device (set_drive w.drive)) (devices c.units) (new_device device image ∷ []))
-        ∙ ap (map (changes w.unit.device (set_drive w.drive))) (sym (map-append device_of c.units (new_unit device image ∷ []))))
+        ap (λ d. map (changes w.attached.device (set_drive w.drive)) (devices c.drives) ++ d ∷ []) (sym (ap (λ b. cond b (set_drive w.drive (new_device device image)) (new_device device image)) other))
+        ∙ (sym (map-append (changes w.attached.device (set_drive w.drive)) (devices c.drives) (new_device device image ∷ []))
+        ∙ ap (map (changes w.attached.device (set_drive w.drive))) (sym (map-append device_of c.drives (new_attached device image ∷ []))))
 
-pub pushed : (device : ℕ) (image : ImageState) (c : ChannelState) (m : Machine) → position (is_at device) c.units ≡ None → (s : Subchannel) → c.subchannel ≡ s → Shows c m s
+pub pushed : (device : ℕ) (image : ImageState) (c : ChannelState) (m : Machine) → position (is_at device) c.drives ≡ None → (s : Subchannel) → c.subchannel ≡ s → Shows c m s
     → (find (λ o. o.device == device) m.devices ≡ None) × Shows (with_new device image c) (attached device image m) s
-pushed device image c m p Idle e h = (ap (λ m. find (λ o. o.device == device) m.devices) h.0 ∙ none_found device c.units p, (ap (attached device image) h.0 ∙ new_machine device image c machine.Idle, all_rest_push c.units (new_unit device image) h.1 (new_rests device image)))
-pushed device image c m p (Working place r) e w = (ap (λ m. find (λ o. o.device == device) m.devices) w.machine ∙ (found_map (λ n. n == device) (changes w.unit.device (set_drive w.drive)) (keeps_one w.unit.device (set_drive w.drive) (λ d. refl)) (devices c.units) ∙ ap (option_map (changes w.unit.device (set_drive w.drive))) (none_found device c.units p)), works_push device image c place r m (none_found device c.units p) w)
-pushed device image c m p (Pending d csw) e h = (ap (λ m. find (λ o. o.device == device) m.devices) h.0 ∙ none_found device c.units p, (ap (attached device image) h.0 ∙ new_machine device image c (machine.Pending d csw), all_rest_push c.units (new_unit device image) h.1 (new_rests device image)))
+pushed device image c m p Idle e h = (ap (λ m. find (λ o. o.device == device) m.devices) h.0 ∙ none_found device c.drives p, (ap (attached device image) h.0 ∙ new_machine device image c machine.Idle, all_rest_push c.drives (new_attached device image) h.1 (new_rests device image)))
+pushed device image c m p (Working place r) e w = (ap (λ m. find (λ o. o.device == device) m.devices) w.machine ∙ (found_map (λ n. n == device) (changes w.attached.device (set_drive w.drive)) (keeps_one w.attached.device (set_drive w.drive) (λ d. refl)) (devices c.drives) ∙ ap (option_map (changes w.attached.device (set_drive w.drive))) (none_found device c.drives p)), works_push device image c place r m (none_found device c.drives p) w)
+pushed device image c m p (Pending d csw) e h = (ap (λ m. find (λ o. o.device == device) m.devices) h.0 ∙ none_found device c.drives p, (ap (attached device image) h.0 ∙ new_machine device image c (machine.Pending d csw), all_rest_push c.drives (new_attached device image) h.1 (new_rests device image)))
 
 pub stands_push : (device : ℕ) (image : ImageState) (c : ChannelState) (m : Machine) → NotRefused device c → StandsFor c m → StandsFor (with_new device image c) (attached device image m)
 stands_push device image c m n s =
-    let p = pushed device image c m (none (position (is_at device) c.units) n.0) c.subchannel refl s.shows in record {
+    let p = pushed device image c m (none (position (is_at device) c.drives) n.0) c.subchannel refl s.shows in record {
       number = s.number;
-      few = subst (λ k. k ≤ 8) (sym (length_push c.units (new_unit device image))) (below (length c.units) s.few (eqb-false (length c.units) 8 n.1));
+      few = subst (λ k. k ≤ 8) (sym (length_push c.drives (new_attached device image))) (below (length c.drives) s.few (eqb-false (length c.drives) 8 n.1));
       shows = p.1;
       sound = sound_push device image m s.sound p.0;
     }
@@ -129,17 +129,17 @@ stands_push device image c m n s =
         go false e = omega (arith, l, h)
 
 -- The channel's parts, after a drive was added.
-pub stands_attached : (device : ℕ) (image : ImageState) (c : ChannelState) (m : Machine) (units : List UnitState) → NotRefused device c
-    → units ≡ c.units ++ new_unit device image ∷ [] → StandsFor c m → StandsFor (record c { units = units }) (attached device image m)
-stands_attached device image c m units n e s =
-    subst (λ us. StandsFor (record c { units = us }) (attached device image m)) (sym e) (stands_push device image c m n s)
+pub stands_attached : (device : ℕ) (image : ImageState) (c : ChannelState) (m : Machine) (drives : List AttachedState) → NotRefused device c
+    → drives ≡ c.drives ++ new_attached device image ∷ [] → StandsFor c m → StandsFor (record c { drives = drives }) (attached device image m)
+stands_attached device image c m drives n e s =
+    subst (λ us. StandsFor (record c { drives = us }) (attached device image m)) (sym e) (stands_push device image c m n s)
 
 -- what the code asks of the place and the number
-pub may_attach : (device : ℕ) (c : ChannelState) (place : Option ℕ) (n : ℕ) → place ≡ position (is_at device) c.units → is_some place ≡ false → n ≡ length c.units → (n ≡ 8 → ⊥) → NotRefused device c
-may_attach device c place n e h l k = (sym (ap is_some e) ∙ h, different (length c.units) 8 (λ q. k (l ∙ q)))
+pub may_attach : (device : ℕ) (c : ChannelState) (place : Option ℕ) (n : ℕ) → place ≡ position (is_at device) c.drives → is_some place ≡ false → n ≡ length c.drives → (n ≡ 8 → ⊥) → NotRefused device c
+may_attach device c place n e h l k = (sym (ap is_some e) ∙ h, different (length c.drives) 8 (λ q. k (l ∙ q)))
 
-pub has_place : (c : ChannelState) (m : Machine) (n : ℕ) → n ≡ length c.units → (n ≡ 8 → ⊥) → StandsFor c m → length c.units < 8
-has_place c m n l k s = below n (length c.units) l k s.few
+pub has_place : (c : ChannelState) (m : Machine) (n : ℕ) → n ≡ length c.drives → (n ≡ 8 → ⊥) → StandsFor c m → length c.drives < 8
+has_place c m n l k s = below n (length c.drives) l k s.few
   where
     below : (n u : ℕ) → n ≡ u → (n ≡ 8 → ⊥) → u ≤ 8 → u < 8
     below n u e h l = go (u == 8) refl

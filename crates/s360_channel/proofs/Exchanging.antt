@@ -14,9 +14,9 @@ use Rattle.s360_laws.specs.Machine as machine
 use Rattle.s360_laws.specs.Machine.{Device, Machine, device_at, run_of, start_of, with_device}
 use Rattle.s360_laws.specs.Soundness.{AreDistinct, IsSound, IsSoundIn, IsRunning, device_owes}
 use Rattle.s360_laws.specs.declared.arm.Arm.TheVariants.{AtRest}
-use Rattle.s360_channel.specs.Channel.{UnitState, ChannelState, AllRest, OthersRest, Shows, StandsFor, device_of, machine_of, new_unit}
+use Rattle.s360_channel.specs.Channel.{AttachedState, ChannelState, AllRest, OthersRest, Shows, StandsFor, device_of, machine_of, new_attached}
 use Rattle.s360_channel.specs.Packs.{Exchanges, IsFree, fits_at, fits_drive, is_same_model, pends_for, runs_at, volume_in, with_pack, works_at}
-use Rattle.s360_channel.specs.UnitCalls.{DriveIs, ExchangesPack, MayExchange}
+use Rattle.s360_channel.specs.DriveCalls.{DriveIs, ExchangesPack, MayExchange}
 use Rattle.s360_channel.specs.declared.subchannel.Subchannel.{Subchannel}
 use Rattle.s360_channel.specs.declared.subchannel.Subchannel.TheVariants.{Idle, Working, Pending}
 use Rattle.s360_channel.proofs.Places.{all_set, changes, devices, devices_set, inside, none_is_some, same_number}
@@ -26,7 +26,7 @@ use Rattle.s360_channel.proofs.Removing as removing
 abbrev pub packed : ImageState → Device → Device
 packed image d = record d { arm = AtRest; drive = first_drive (volume_in image) }
 
-new_rests : (device : ℕ) (image : ImageState) → Rests (new_unit device image).drive
+new_rests : (device : ℕ) (image : ImageState) → Rests (new_attached device image).drive
 new_rests device image = record { idle = refl; unwritten = refl }
 
 -- Lists of devices in which one changes.
@@ -63,21 +63,21 @@ apart a b f g k l h (d ∷ ds) = ap (λ x. x ∷ map (changes a f) (map (changes
     go false true e i = ap (λ b. cond b (f (g d)) (g d)) (ap (λ n. n == a) (l d) ∙ e) ∙ sym (ap (λ b. cond b (g d) d) i)
     go false false e i = ap (λ b. cond b (f d) d) e ∙ sym (ap (λ b. cond b (g d) d) i)
 
--- Lists of units in which one changes.
+-- Lists of drives in which one changes.
 
-get_other : (us : List UnitState) (place p : ℕ) (v : UnitState) → (p ≡ place → ⊥) → slice_get (slice_set us place v) p ≡ slice_get us p
+get_other : (us : List AttachedState) (place p : ℕ) (v : AttachedState) → (p ≡ place → ⊥) → slice_get (slice_set us place v) p ≡ slice_get us p
 get_other [] place p v n = refl
 get_other (u ∷ us) zero zero v n = absurd (n refl)
 get_other (u ∷ us) zero (suc p) v n = refl
 get_other (u ∷ us) (suc place) zero v n = refl
 get_other (u ∷ us) (suc place) (suc p) v n = get_other us place p v (λ e. n (ap suc e))
 
-same_length : (us : List UnitState) (place : ℕ) (v : UnitState) → length (slice_set us place v) ≡ length us
+same_length : (us : List AttachedState) (place : ℕ) (v : AttachedState) → length (slice_set us place v) ≡ length us
 same_length [] place v = refl
 same_length (u ∷ us) zero v = refl
 same_length (u ∷ us) (suc place) v = ap suc (same_length us place v)
 
-others_set : (us : List UnitState) (place p : ℕ) (v : UnitState) → Rests v.drive → OthersRest p us → OthersRest p (slice_set us place v)
+others_set : (us : List AttachedState) (place p : ℕ) (v : AttachedState) → Rests v.drive → OthersRest p us → OthersRest p (slice_set us place v)
 others_set [] place p v h r = tt
 others_set (u ∷ us) zero zero v h r = r
 others_set (u ∷ us) zero (suc p) v h r = (h, r.1)
@@ -99,8 +99,8 @@ module _ (c : ChannelState) (m : Machine) (s : StandsFor c m) (device place : �
   quiet : pends_for device m.subchannel ≡ false
   quiet = removing.quiet c m s device place f
 
-  distinct : AreDistinct (devices c.units)
-  distinct = removing.distinct c m s device place f.unit (removing.unit c m s device place f)
+  distinct : AreDistinct (devices c.drives)
+  distinct = removing.distinct c m s device place f.attached (removing.attached c m s device place f)
 
   keeps : Keeps (packed image)
   keeps = λ d. refl
@@ -116,78 +116,78 @@ module _ (c : ChannelState) (m : Machine) (s : StandsFor c m) (device place : �
       )
       go (machine.Pending d csw) a b h = (h.0, ap (λ x. cond (tells csw.unit DEVICE_END) 1 0 + device_owes x) (found_other device d (packed image) keeps m.devices b) ∙ h.1)
 
-  abbrev pub units_now : List UnitState
-  units_now = slice_set c.units place (new_unit device image)
+  abbrev pub drives_now : List AttachedState
+  drives_now = slice_set c.drives place (new_attached device image)
 
-  now : devices units_now ≡ map (changes device (packed image)) (devices c.units)
-  now = devices_set c.units place f.unit (new_unit device image) (packed image) distinct f.is_there (ap (λ n. device_of (new_unit n image)) (sym f.same_device))
-      ∙ ap (λ n. map (changes n (packed image)) (devices c.units)) f.same_device
+  now : devices drives_now ≡ map (changes device (packed image)) (devices c.drives)
+  now = devices_set c.drives place f.attached (new_attached device image) (packed image) distinct f.is_there (ap (λ n. device_of (new_attached n image)) (sym f.same_device))
+      ∙ ap (λ n. map (changes n (packed image)) (devices c.drives)) f.same_device
 
-  shows_packed : (x : Subchannel) → Shows c m x → works_at place x ≡ false → Shows (record c { units = units_now }) (with_pack device image m) x
-  shows_packed Idle h o = (ap (with_pack device image) h.0 ∙ ap (λ ds. record (machine_of c machine.Idle) { devices = ds }) (sym now), all_set c.units place (new_unit device image) h.1 (new_rests device image))
-  shows_packed (Pending d csw) h o = (ap (with_pack device image) h.0 ∙ ap (λ ds. record (machine_of c (machine.Pending d csw)) { devices = ds }) (sym now), all_set c.units place (new_unit device image) h.1 (new_rests device image))
+  shows_packed : (x : Subchannel) → Shows c m x → works_at place x ≡ false → Shows (record c { drives = drives_now }) (with_pack device image m) x
+  shows_packed Idle h o = (ap (with_pack device image) h.0 ∙ ap (λ ds. record (machine_of c machine.Idle) { devices = ds }) (sym now), all_set c.drives place (new_attached device image) h.1 (new_rests device image))
+  shows_packed (Pending d csw) h o = (ap (with_pack device image) h.0 ∙ ap (λ ds. record (machine_of c (machine.Pending d csw)) { devices = ds }) (sym now), all_set c.drives place (new_attached device image) h.1 (new_rests device image))
   shows_packed (Working p r) w o = record {
-    unit = w.unit;
-    is_there = get_other c.units place p (new_unit device image) (eqb-false p place o) ∙ w.is_there;
+    attached = w.attached;
+    is_there = get_other c.drives place p (new_attached device image) (eqb-false p place o) ∙ w.is_there;
     storage = w.storage;
     drive = w.drive;
     script = w.script;
-    machine = ap (with_pack device image) w.machine ∙ ap (λ ds. record (machine_of c (machine.Working w.unit.device w.script)) { storage = w.storage; devices = ds })
-        (apart device w.unit.device (packed image) (set_drive w.drive) keeps (λ d. refl) others (devices c.units) ∙ ap (map (changes w.unit.device (set_drive w.drive))) (sym now));
+    machine = ap (with_pack device image) w.machine ∙ ap (λ ds. record (machine_of c (machine.Working w.attached.device w.script)) { storage = w.storage; devices = ds })
+        (apart device w.attached.device (packed image) (set_drive w.drive) keeps (λ d. refl) others (devices c.drives) ∙ ap (map (changes w.attached.device (set_drive w.drive))) (sym now));
     runs = w.runs;
-    others = others_set c.units place p (new_unit device image) (new_rests device image) w.others;
+    others = others_set c.drives place p (new_attached device image) (new_rests device image) w.others;
   }
     where
-      others : (device == w.unit.device) ≡ false
-      others = different device w.unit.device (λ e. eqb-false w.unit.device f.unit.device (removing.same_places c.units p place w.unit f.unit distinct w.is_there f.is_there ∙ o) (sym (f.same_device ∙ e)))
+      others : (device == w.attached.device) ≡ false
+      others = different device w.attached.device (λ e. eqb-false w.attached.device f.attached.device (removing.same_places c.drives p place w.attached f.attached distinct w.is_there f.is_there ∙ o) (sym (f.same_device ∙ e)))
 
-  pub stands_packed : StandsFor (record c { units = units_now }) (with_pack device image m)
+  pub stands_packed : StandsFor (record c { drives = drives_now }) (with_pack device image m)
   stands_packed = record {
     number = s.number;
-    few = subst (λ n. n ≤ 8) (sym (same_length c.units place (new_unit device image))) s.few;
+    few = subst (λ n. n ≤ 8) (sym (same_length c.drives place (new_attached device image))) s.few;
     shows = shows_packed c.subchannel s.shows f.runs;
     sound = sound_packed;
   }
 
   -- the drive may have the pack that fits
-  pub may_exchange : (geometry : Geometry) → geometry ≡ image.geometry → Some true ≡ option_map (λ (u : UnitState). fits_drive u.drive.image.geometry geometry) (slice_get c.units place)
-      → DriveIs place (MayExchange image.geometry.track_size) c.units
+  pub may_exchange : (geometry : Geometry) → geometry ≡ image.geometry → Some true ≡ option_map (λ (u : AttachedState). fits_drive u.drive.image.geometry geometry) (slice_get c.drives place)
+      → DriveIs place (MayExchange image.geometry.track_size) c.drives
   may_exchange geometry e h = record {
-    unit = f.unit;
+    attached = f.attached;
     is_there = f.is_there;
     holds = (
-      removing.rests_there c m s device place f.unit (removing.unit c m s device place f) f.runs,
+      removing.rests_there c m s device place f.attached (removing.attached c m s device place f) f.runs,
       ap (λ (g : Geometry). g.track_size) (sym e)
-          ∙ same_size f.unit.drive.image.geometry geometry (inside true _ (h ∙ ap (option_map (λ (u : UnitState). fits_drive u.drive.image.geometry geometry)) f.is_there)),
+          ∙ same_size f.attached.drive.image.geometry geometry (inside true _ (h ∙ ap (option_map (λ (u : AttachedState). fits_drive u.drive.image.geometry geometry)) f.is_there)),
     );
   }
 
-  -- whether the pack fits, by what the code asks of the unit
-  pub fits_is : (b : Bool) → Some b ≡ option_map (λ (u : UnitState). fits_drive u.drive.state.volume.geometry image.geometry) (slice_get c.units place) → fits_at device image m ≡ Some b
-  fits_is b h = ap (option_map (λ (d : Device). fits_drive d.drive.volume.geometry image.geometry)) (removing.device_there c m s device place f.unit (removing.unit c m s device place f) f.runs)
-      ∙ sym (h ∙ ap (option_map (λ (u : UnitState). fits_drive u.drive.state.volume.geometry image.geometry)) f.is_there)
+  -- whether the pack fits, by what the code asks of the drive
+  pub fits_is : (b : Bool) → Some b ≡ option_map (λ (u : AttachedState). fits_drive u.drive.state.volume.geometry image.geometry) (slice_get c.drives place) → fits_at device image m ≡ Some b
+  fits_is b h = ap (option_map (λ (d : Device). fits_drive d.drive.volume.geometry image.geometry)) (removing.device_there c m s device place f.attached (removing.attached c m s device place f) f.runs)
+      ∙ sym (h ∙ ap (option_map (λ (u : AttachedState). fits_drive u.drive.state.volume.geometry image.geometry)) f.is_there)
 
-  pub exchanges : (units : List UnitState) (before : ImageState) → Some true ≡ option_map (λ (u : UnitState). fits_drive u.drive.state.volume.geometry image.geometry) (slice_get c.units place)
-      → ExchangesPack place image before c.units units → Exchanges device m image before c (record c { units = units })
-  exchanges units before h r =
-      let same : r.unit ≡ f.unit = inside r.unit f.unit (sym r.was ∙ f.is_there) in
-      let now : units ≡ units_now =
-      r.becomes ∙ ap (λ (u : UnitState). slice_set c.units place (record u { drive = (new_unit device image).drive })) same
-      ∙ ap (λ n. slice_set c.units place (record (new_unit n image) { arm = f.unit.arm })) f.same_device
-      ∙ ap (λ a. slice_set c.units place (record (new_unit device image) { arm = a })) f.arm in
+  pub exchanges : (drives : List AttachedState) (before : ImageState) → Some true ≡ option_map (λ (u : AttachedState). fits_drive u.drive.state.volume.geometry image.geometry) (slice_get c.drives place)
+      → ExchangesPack place image before c.drives drives → Exchanges device m image before c (record c { drives = drives })
+  exchanges drives before h r =
+      let same : r.attached ≡ f.attached = inside r.attached f.attached (sym r.was ∙ f.is_there) in
+      let now : drives ≡ drives_now =
+      r.becomes ∙ ap (λ (u : AttachedState). slice_set c.drives place (record u { drive = (new_attached device image).drive })) same
+      ∙ ap (λ n. slice_set c.drives place (record (new_attached n image) { arm = f.attached.arm })) f.same_device
+      ∙ ap (λ a. slice_set c.drives place (record (new_attached device image) { arm = a })) f.arm in
       record {
         free = removing.is_free c m s device place f;
         fits = fits_is true h;
         place = place;
         is_free = f;
-        becomes = ap (λ us. record c { units = us }) now;
-        stands = subst (λ us. StandsFor (record c { units = us }) (with_pack device image m)) (sym now) stands_packed;
-        same_image = r.gives ∙ ap (λ (u : UnitState). u.drive.image) same;
+        becomes = ap (λ us. record c { drives = us }) now;
+        stands = subst (λ us. StandsFor (record c { drives = us }) (with_pack device image m)) (sym now) stands_packed;
+        same_image = r.gives ∙ ap (λ (u : AttachedState). u.drive.image) same;
         gives_back = removing.gives_back c m s device place f before (
             ap volume_in r.gives
-            ∙ (ap (λ (g : Geometry). volume g r.unit.drive.image.slots) r.geometry
-            ∙ (ap (λ (t : List (List ℕ)). volume r.unit.drive.state.volume.geometry t) r.volume
-            ∙ ap (λ (u : UnitState). u.drive.state.volume) same))
+            ∙ (ap (λ (g : Geometry). volume g r.attached.drive.image.slots) r.geometry
+            ∙ (ap (λ (t : List (List ℕ)). volume r.attached.drive.state.volume.geometry t) r.volume
+            ∙ ap (λ (u : AttachedState). u.drive.state.volume) same))
             );
       }
     where

@@ -24,8 +24,8 @@ size_in : (c : ChannelState) (m : Machine) (s : Subchannel) → Shows c m s → 
 size_in c m Idle h = ap (λ (m : Machine). length m.storage.bytes) (sym h.0)
 size_in c m (Pending device csw) h = ap (λ (m : Machine). length m.storage.bytes) (sym h.0)
 size_in c m (Working place r) w =
-    ap (λ s. length s.bytes) (sym (storage_seen r.key r.stage r.place c.storage w.unit.drive.state w.unit.drive.work))
-    ∙ subst (OutcomeKeepsSize m.storage) (seen (start_of m w.drive) w.script r c.storage w.unit.drive w.runs) (keeps_size (start_of m w.drive) w.script)
+    ap (λ s. length s.bytes) (sym (storage_seen r.key r.stage r.place c.storage w.attached.drive.state w.attached.drive.work))
+    ∙ subst (OutcomeKeepsSize m.storage) (seen (start_of m w.drive) w.script r c.storage w.attached.drive w.runs) (keeps_size (start_of m w.drive) w.script)
 
 within_size : (change : Change) (s t : Storage) → length s.bytes ≡ length t.bytes → is_within change s ≡ is_within change t
 within_size (Bytes at bytes) s t e = ap (λ n. (length bytes == 0) || nat_le (at + length bytes) n) e
@@ -43,13 +43,13 @@ shows_changed : (c : ChannelState) (m : Machine) (x : Change) (s : Subchannel) �
 shows_changed c m x Idle h = (ap (λ (m : Machine). change x m m.subchannel) h.0, h.1)
 shows_changed c m x (Pending device csw) h = (ap (λ (m : Machine). change x m m.subchannel) h.0, h.1)
 shows_changed c m x (Working place r) w = subst (λ s. WorksFor (with_storage c (changed x c.storage)) place r (change x m s)) (sym (subchannel_of c place r m w)) (record {
-  unit = w.unit;
+  attached = w.attached;
   is_there = w.is_there;
   storage = w.storage;
   drive = w.drive;
   script = w.script ++ Outside x ∷ [];
-  machine = ap (λ m. with_subchannel (machine.Working w.unit.device (w.script ++ Outside x ∷ [])) m) w.machine;
-  runs = after_change goes_by (start_of m w.drive) w.script r c.storage w.unit.drive x w.runs;
+  machine = ap (λ m. with_subchannel (machine.Working w.attached.device (w.script ++ Outside x ∷ [])) m) w.machine;
+  runs = after_change goes_by (start_of m w.drive) w.script r c.storage w.attached.drive x w.runs;
   others = w.others;
 })
 

@@ -1,6 +1,6 @@
 -- Lists of events at a channel, one event more at a time.
 use Rattle.std.proofs.Common.{◌≡◌, ◌<◌, ◌≤◌, zero, suc, take, drop, length, length-drop, get_or, ℕ, ◌+◌, List, [], ◌∷◌, ◌++◌, map, Option, Some, None, refl, sym, ap, ◌∙◌, subst, arith}
-use Rattle.s360_laws.specs.Events.{Event, Answer, Condition, StatusStored, CswStored, Stepped, HasArrived, Interrupted, WasReset, WasKept, Shown, FaultAfter, Input}
+use Rattle.s360_laws.specs.Events.{Event, Answer, WithCode, StatusStored, CswStored, Stepped, HasArrived, Interrupted, WasReset, WasKept, Shown, FaultAfter, Input}
 use Rattle.s360_laws.specs.Machine.{Machine, react, answers, after_all, plain}
 use Rattle.s360_laws.proofs.Headlines.{headline}
 use Rattle.std.proofs.lemmas.List.{map_more}
@@ -44,7 +44,7 @@ met (Some x) = 1
 met_counts : (x : Option FaultAfter) (a : Answer) (old new : ChannelState) → IsMet x a old new → failures_of new ≡ failures_of old + met x
 met_counts None a old new h = h ∙ plus_none (failures_of old)
 met_counts (Some x) (Stepped done) old new h = h.0
-met_counts (Some x) (Condition c) old new h = h
+met_counts (Some x) (WithCode c) old new h = h
 met_counts (Some x) (StatusStored u c) old new h = h
 met_counts (Some x) (CswStored c) old new h = h
 met_counts (Some x) (HasArrived a) old new h = h
@@ -88,14 +88,14 @@ met_one_more [] (b ∷ given) old mid new i a h k l = absurd h
 met_one_more (e ∷ es) [] old mid new i a h k l = absurd h
 met_one_more (e ∷ es) (b ∷ given) old mid new i a h k l = (h.0, h.1, h.2, met_one_more es given h.0 mid new i a h.3 k l)
 
-headers_along : (es : List Input) (given : List Answer) (old new : ChannelState) → AllMet es given old new → map (λ u. u.drive.image.header) new.units ≡ map (λ u. u.drive.image.header) old.units
-headers_along [] [] old new h = ap (λ (c : ChannelState). map (λ u. u.drive.image.header) c.units) h
-headers_along [] (b ∷ given) old new h = absurd h
-headers_along (e ∷ es) [] old new h = absurd h
-headers_along (e ∷ es) (b ∷ given) old new h = headers_along es given h.0 new h.3 ∙ h.2.headers
+lasting_along : (es : List Input) (given : List Answer) (old new : ChannelState) → AllMet es given old new → map (λ u. u.drive.image.lasting) new.drives ≡ map (λ u. u.drive.image.lasting) old.drives
+lasting_along [] [] old new h = ap (λ (c : ChannelState). map (λ u. u.drive.image.lasting) c.drives) h
+lasting_along [] (b ∷ given) old new h = absurd h
+lasting_along (e ∷ es) [] old new h = absurd h
+lasting_along (e ∷ es) (b ∷ given) old new h = lasting_along es given h.0 new h.3 ∙ h.2.lasting
 
-geometries_along : (es : List Input) (given : List Answer) (old new : ChannelState) → AllMet es given old new → map (λ u. u.drive.image.geometry) new.units ≡ map (λ u. u.drive.image.geometry) old.units
-geometries_along [] [] old new h = ap (λ (c : ChannelState). map (λ u. u.drive.image.geometry) c.units) h
+geometries_along : (es : List Input) (given : List Answer) (old new : ChannelState) → AllMet es given old new → map (λ u. u.drive.image.geometry) new.drives ≡ map (λ u. u.drive.image.geometry) old.drives
+geometries_along [] [] old new h = ap (λ (c : ChannelState). map (λ u. u.drive.image.geometry) c.drives) h
 geometries_along [] (b ∷ given) old new h = absurd h
 geometries_along (e ∷ es) [] old new h = absurd h
 geometries_along (e ∷ es) (b ∷ given) old new h = geometries_along es given h.0 new h.3 ∙ h.2.geometries
@@ -159,7 +159,7 @@ drove_follows m events given old new stands d = record {
   are_these = d.are_these;
   faults = d.faults;
   met = d.met;
-  headers = headers_along d.inputs given old new d.met;
+  lasting = lasting_along d.inputs given old new d.met;
   geometries = geometries_along d.inputs given old new d.met;
   same_answers = d.same_answers;
   stands = d.stands;

@@ -1,4 +1,4 @@
--- Units in which the drive and the arm of one of them changed, and a program that is over there.
+-- Drives in which the drive and the arm of one of them changed, and a program that is over there.
 use Rattle.std.proofs.Common.{◌≡◌, ℕ, ◌+◌, ◌≤◌, ◌⊎◌, inl, inr, refl, sym, ap, subst, ◌∙◌, arith, true, false, Bool, cond, ◌==◌, List, map, length, Option, Some}
 use Rattle.std.proofs.lemmas.List.{length-set}
 use Rattle.std.specs.Prelude.{find, option_map, slice_get, slice_set}
@@ -19,36 +19,36 @@ use Rattle.s360_laws.specs.Soundness.{IsSound}
 use Rattle.s360_laws.specs.Steps.{EndedByFault}
 use Rattle.s360_laws.proofs.FindDevices.{Keeps, found_map, keeps_one, Has, has_found, set_both, set_drive}
 use Rattle.s360_channel.specs.Calls.{CallsAtMost}
-use Rattle.s360_channel.specs.Channel.{ChannelState, UnitState, WorksFor, device_of, machine_of, AllRest, failures_of}
+use Rattle.s360_channel.specs.Channel.{ChannelState, AttachedState, WorksFor, device_of, machine_of, AllRest, failures_of}
 use Rattle.s360_channel.specs.Ends.{arm_told}
 use Rattle.s360_channel.specs.declared.subchannel.Subchannel.{Subchannel}
 use Rattle.s360_channel.specs.declared.subchannel.Subchannel.TheVariants.{Pending}
 use Rattle.s360_channel.proofs.Places.{map_same, sum_same, sum_more, sum_at_most, all_of_others, devices, changes, devices_set, changes_twice}
-use Rattle.s360_channel.proofs.Works.{channel_of, devices_of, distinct_units, device_there}
+use Rattle.s360_channel.proofs.Works.{channel_of, devices_of, distinct_drives, device_there}
 
--- A unit whose drive changed, and its arm.
+-- A drive that changed, and its arm.
 
-abbrev pub with_drive : UnitState → DriveState → UnitState
+abbrev pub with_drive : AttachedState → DriveState → AttachedState
 with_drive u d = record u { drive = d }
 
-abbrev pub with_both : UnitState → (motion : Bool) → DriveState → UnitState
+abbrev pub with_both : AttachedState → (motion : Bool) → DriveState → AttachedState
 with_both u motion d = record { device = u.device; arm = arm_told motion; drive = d }
 
--- a channel with this storage and subchannel, and another unit at a place
-abbrev pub channel_with : ChannelState → Storage → Subchannel → (place : ℕ) → UnitState → ChannelState
-channel_with c s subchannel place u = record { number = c.number; storage = s; subchannel = subchannel; units = slice_set c.units place u }
+-- a channel with this storage and subchannel, and another drive at a place
+abbrev pub channel_with : ChannelState → Storage → Subchannel → (place : ℕ) → AttachedState → ChannelState
+channel_with c s subchannel place u = record { number = c.number; storage = s; subchannel = subchannel; drives = slice_set c.drives place u }
 
 -- What the images count.
 
-module _ (c : ChannelState) (s : Storage) (subchannel : Subchannel) (place : ℕ) (u v : UnitState) (at : slice_get c.units place ≡ Some u) where
+module _ (c : ChannelState) (s : Storage) (subchannel : Subchannel) (place : ℕ) (u v : AttachedState) (at : slice_get c.drives place ≡ Some u) where
   pub same_failures : v.drive.image.failures ≡ u.drive.image.failures → failures_of (channel_with c s subchannel place v) ≡ failures_of c
-  same_failures h = sum_same (λ u. u.drive.image.failures) c.units place u v at h
+  same_failures h = sum_same (λ u. u.drive.image.failures) c.drives place u v at h
 
   pub one_failure : v.drive.image.failures ≡ u.drive.image.failures + 1 → failures_of (channel_with c s subchannel place v) ≡ failures_of c + 1
-  one_failure h = sum_more (λ u. u.drive.image.failures) c.units place u v 1 at h
+  one_failure h = sum_more (λ u. u.drive.image.failures) c.drives place u v 1 at h
 
-  pub few_units : length c.units ≤ 8 → length (slice_set c.units place v) ≤ 8
-  few_units h = subst (λ n. n ≤ 8) (sym (length-set c.units place v)) h
+  pub few_drives : length c.drives ≤ 8 → length (slice_set c.drives place v) ≤ 8
+  few_drives h = subst (λ n. n ≤ 8) (sym (length-set c.drives place v)) h
 
   failures_either : (v.drive.image.failures ≡ u.drive.image.failures) ⊎ (v.drive.image.failures ≡ u.drive.image.failures + 1)
       → (failures_of (channel_with c s subchannel place v) ≡ failures_of c) ⊎ (failures_of (channel_with c s subchannel place v) ≡ failures_of c + 1)
@@ -58,10 +58,10 @@ module _ (c : ChannelState) (s : Storage) (subchannel : Subchannel) (place : ℕ
   pub calls_at_most : (most : ℕ) → program.CallsAtMost most u.drive v.drive → (v.drive.image.failures ≡ u.drive.image.failures) ⊎ (v.drive.image.failures ≡ u.drive.image.failures + 1)
       → CallsAtMost most c (channel_with c s subchannel place v)
   calls_at_most most h f = record {
-    calls = sum_at_most (λ u. u.drive.image.loads + u.drive.image.saves) c.units place u v most at h.calls;
+    calls = sum_at_most (λ u. u.drive.image.loads + u.drive.image.saves) c.drives place u v most at h.calls;
     failures = failures_either f;
-    headers = map_same (λ u. u.drive.image.header) c.units place u v at h.header;
-    geometries = map_same (λ u. u.drive.image.geometry) c.units place u v at h.geometry;
+    lasting = map_same (λ u. u.drive.image.lasting) c.drives place u v at h.lasting;
+    geometries = map_same (λ u. u.drive.image.geometry) c.drives place u v at h.geometry;
   }
 
 pub failures_told : (told : Option (Csw × Bool)) (old new : DriveState) → TellsOf told old new → (new.image.failures ≡ old.image.failures) ⊎ (new.image.failures ≡ old.image.failures + 1)
@@ -84,7 +84,7 @@ fault_told told old new t rose = go t.failed
 
 -- a cut saves at most
 pub cut_calls : (written : Bool) (old new : DriveState) → CallsStore false written old new → program.CallsAtMost 1 old new
-cut_calls written old new h = record { calls = most _ _ _ _ _ (saved written) (loaded h.loads) h.saves; header = h.header; geometry = h.geometry }
+cut_calls written old new h = record { calls = most _ _ _ _ _ (saved written) (loaded h.loads) h.saves; lasting = h.lasting; geometry = h.geometry }
   where
     saved : (b : Bool) → cond b 1 0 ≤ 1
     saved true = omega arith
@@ -99,7 +99,7 @@ cut_calls written old new h = record { calls = most _ _ _ _ _ (saved written) (l
 
 -- A program that is over.
 
-abbrev pub over : ChannelState → (place : ℕ) → UnitState → Storage → Csw → (motion : Bool) → DriveState → ChannelState
+abbrev pub over : ChannelState → (place : ℕ) → AttachedState → Storage → Csw → (motion : Bool) → DriveState → ChannelState
 over c place u s csw motion new = channel_with c s (Pending u.device csw) place (with_both u motion new)
 
 device_after : (d : ℕ) (f : Device → Device) → Keeps f → (vs : List Device) (v : Device) → find (λ w. w.device == d) vs ≡ Some v
@@ -109,36 +109,36 @@ device_after d f k vs v at =
     ∙ ap (λ b. Some (cond b (f v) v)) (subst (Has (λ w. w.device == d)) at (has_found (λ w. w.device == d) vs))
 
 module _ (c : ChannelState) (place : ℕ) (r : RunningState) (m : Machine) (w : WorksFor c place r m) (sound : IsSound m) (s : Storage) (told : Csw × Bool) (new : DriveState) (e : Ending) (is : IsEnding e told new) where
-  told_device : device_of (with_both w.unit told.1 new) ≡ set_both (arm_after e) e.drive (device_of w.unit)
+  told_device : device_of (with_both w.attached told.1 new) ≡ set_both (arm_after e) e.drive (device_of w.attached)
   told_device =
-      ap (λ b. record { device = w.unit.device; arm = arm_told b; drive = drive_of new.state }) is.motion
-      ∙ ap (λ d. record { device = w.unit.device; arm = arm_after e; drive = d }) is.drive.drive
+      ap (λ b. record { device = w.attached.device; arm = arm_told b; drive = drive_of new.state }) is.motion
+      ∙ ap (λ d. record { device = w.attached.device; arm = arm_after e; drive = d }) is.drive.drive
 
-  over_devices : map (changes w.unit.device (set_both (arm_after e) e.drive)) m.devices ≡ devices (slice_set c.units place (with_both w.unit told.1 new))
+  over_devices : map (changes w.attached.device (set_both (arm_after e) e.drive)) m.devices ≡ devices (slice_set c.drives place (with_both w.attached told.1 new))
   over_devices =
-      ap (map (changes w.unit.device (set_both (arm_after e) e.drive))) (devices_of c place r m w)
-      ∙ changes_twice w.unit.device (set_drive w.drive) (set_both (arm_after e) e.drive) (λ d. refl) (devices c.units)
-      ∙ sym (devices_set c.units place w.unit (with_both w.unit told.1 new) (set_both (arm_after e) e.drive) (distinct_units c place r m w sound) w.is_there told_device)
+      ap (map (changes w.attached.device (set_both (arm_after e) e.drive))) (devices_of c place r m w)
+      ∙ changes_twice w.attached.device (set_drive w.drive) (set_both (arm_after e) e.drive) (λ d. refl) (devices c.drives)
+      ∙ sym (devices_set c.drives place w.attached (with_both w.attached told.1 new) (set_both (arm_after e) e.drive) (distinct_drives c place r m w sound) w.is_there told_device)
 
   -- the machine of the channel then
-  pub over_machine : ended w.unit.device s e m ≡ machine_of (over c place w.unit s told.0 told.1 new) (machine.Pending w.unit.device told.0)
+  pub over_machine : ended w.attached.device s e m ≡ machine_of (over c place w.attached s told.0 told.1 new) (machine.Pending w.attached.device told.0)
   over_machine =
-      ap (λ n. record { channel = n; storage = s; subchannel = machine.Pending w.unit.device e.csw; devices = map (changes w.unit.device (set_both (arm_after e) e.drive)) m.devices }) (channel_of c place r m w)
-      ∙ ap (λ ds. record { channel = c.number; storage = s; subchannel = machine.Pending w.unit.device e.csw; devices = ds }) over_devices
-      ∙ ap (λ csw. record { channel = c.number; storage = s; subchannel = machine.Pending w.unit.device csw; devices = devices (slice_set c.units place (with_both w.unit told.1 new)) }) (sym is.csw)
+      ap (λ n. record { channel = n; storage = s; subchannel = machine.Pending w.attached.device e.csw; devices = map (changes w.attached.device (set_both (arm_after e) e.drive)) m.devices }) (channel_of c place r m w)
+      ∙ ap (λ ds. record { channel = c.number; storage = s; subchannel = machine.Pending w.attached.device e.csw; devices = ds }) over_devices
+      ∙ ap (λ csw. record { channel = c.number; storage = s; subchannel = machine.Pending w.attached.device csw; devices = devices (slice_set c.drives place (with_both w.attached told.1 new)) }) (sym is.csw)
 
-  pub over_rest : AllRest (slice_set c.units place (with_both w.unit told.1 new))
-  over_rest = all_of_others c.units place (with_both w.unit told.1 new) w.others is.drive.rests
+  pub over_rest : AllRest (slice_set c.drives place (with_both w.attached told.1 new))
+  over_rest = all_of_others c.drives place (with_both w.attached told.1 new) w.others is.drive.rests
 
   -- a fault that was met is reported
-  pub over_fault : (answer : Answer) → program.TellsFault told.0 new → EndedByFault (answer, ended w.unit.device s e m) answer
+  pub over_fault : (answer : Answer) → program.TellsFault told.0 new → EndedByFault (answer, ended w.attached.device s e m) answer
   over_fault answer t = record {
     answers = refl;
-    device = w.unit.device;
+    device = w.attached.device;
     csw = e.csw;
     pends = refl;
     unit_check = ap (λ (csw : Csw). tells csw.unit UNIT_CHECK) (sym is.csw) ∙ t.unit_check;
-    drive = set_both (arm_after e) e.drive (record { device = w.unit.device; arm = w.unit.arm; drive = w.drive });
-    is_there = device_after w.unit.device (set_both (arm_after e) e.drive) (λ d. refl) m.devices _ (device_there c place r m w sound);
+    drive = set_both (arm_after e) e.drive (record { device = w.attached.device; arm = w.attached.arm; drive = w.drive });
+    is_there = device_after w.attached.device (set_both (arm_after e) e.drive) (λ d. refl) m.devices _ (device_there c place r m w sound);
     equipment_check = ap (λ (d : IdleDrive). tells_equipment_check d.sense) (sym is.drive.drive) ∙ t.equipment_check;
   }

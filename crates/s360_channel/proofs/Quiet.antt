@@ -5,32 +5,32 @@ use Rattle.s360_laws.specs.Events.{Event, Answer}
 use Rattle.s360_laws.specs.Machine.{Machine}
 use Rattle.s360_laws.proofs.Headlines.{headline}
 use Rattle.s360_channel.specs.Calls.{DoesQuietly, Does, CallsAtMost, CallsNoStore, most_calls}
-use Rattle.s360_channel.specs.Channel.{ChannelState, UnitState, StandsFor, failures_of, store_calls_of}
+use Rattle.s360_channel.specs.Channel.{ChannelState, AttachedState, StandsFor, failures_of, store_calls_of}
 
--- the failures of units are those of their images
-failures_by_images : (n : ℕ) (units : List UnitState) → fold (λ a u. a + u.drive.image.failures) n units ≡ fold (λ a i. a + i.failures) n (map (λ u. u.drive.image) units)
+-- the failures of drives are those of their images
+failures_by_images : (n : ℕ) (drives : List AttachedState) → fold (λ a u. a + u.drive.image.failures) n drives ≡ fold (λ a i. a + i.failures) n (map (λ u. u.drive.image) drives)
 failures_by_images n [] = refl
 failures_by_images n (u ∷ us) = failures_by_images (n + u.drive.image.failures) us
 
 pub none_fails : (old new : ChannelState) → CallsNoStore old new → failures_of new ≡ failures_of old
 none_fails old new same =
-    failures_by_images 0 new.units ∙ ap (λ (images : List ImageState). fold (λ a i. a + i.failures) 0 images) same ∙ sym (failures_by_images 0 old.units)
+    failures_by_images 0 new.drives ∙ ap (λ (images : List ImageState). fold (λ a i. a + i.failures) 0 images) same ∙ sym (failures_by_images 0 old.drives)
 
--- and so are their calls, headers and geometries
-calls_by_images : (n : ℕ) (units : List UnitState) → fold (λ a u. a + (u.drive.image.loads + u.drive.image.saves)) n units ≡ fold (λ a i. a + (i.loads + i.saves)) n (map (λ u. u.drive.image) units)
+-- and so are their calls, geometries, headers and stores
+calls_by_images : (n : ℕ) (drives : List AttachedState) → fold (λ a u. a + (u.drive.image.loads + u.drive.image.saves)) n drives ≡ fold (λ a i. a + (i.loads + i.saves)) n (map (λ u. u.drive.image) drives)
 calls_by_images n [] = refl
 calls_by_images n (u ∷ us) = calls_by_images (n + (u.drive.image.loads + u.drive.image.saves)) us
 
-parts_by_images : {A : Type 0} (f : ImageState → A) (units : List UnitState) → map (λ u. f u.drive.image) units ≡ map f (map (λ u. u.drive.image) units)
+parts_by_images : {A : Type 0} (f : ImageState → A) (drives : List AttachedState) → map (λ u. f u.drive.image) drives ≡ map f (map (λ u. u.drive.image) drives)
 parts_by_images f [] = refl
 parts_by_images f (u ∷ us) = ap (λ r. f u.drive.image ∷ r) (parts_by_images f us)
 
 pub none_calls : (most : ℕ) (old new : ChannelState) → CallsNoStore old new → CallsAtMost most old new
 none_calls most old new same = record {
-  calls = at_most (store_calls_of new) (store_calls_of old) most (calls_by_images 0 new.units ∙ ap (λ (images : List ImageState). fold (λ a i. a + (i.loads + i.saves)) 0 images) same ∙ sym (calls_by_images 0 old.units));
+  calls = at_most (store_calls_of new) (store_calls_of old) most (calls_by_images 0 new.drives ∙ ap (λ (images : List ImageState). fold (λ a i. a + (i.loads + i.saves)) 0 images) same ∙ sym (calls_by_images 0 old.drives));
   failures = inl (none_fails old new same);
-  headers = parts_by_images (λ i. i.header) new.units ∙ ap (map (λ (i : ImageState). i.header)) same ∙ sym (parts_by_images (λ i. i.header) old.units);
-  geometries = parts_by_images (λ i. i.geometry) new.units ∙ ap (map (λ (i : ImageState). i.geometry)) same ∙ sym (parts_by_images (λ i. i.geometry) old.units);
+  lasting = parts_by_images (λ i. i.lasting) new.drives ∙ ap (map (λ (i : ImageState). i.lasting)) same ∙ sym (parts_by_images (λ i. i.lasting) old.drives);
+  geometries = parts_by_images (λ i. i.geometry) new.drives ∙ ap (map (λ (i : ImageState). i.geometry)) same ∙ sym (parts_by_images (λ i. i.geometry) old.drives);
 }
   where
     at_most : (a b most : ℕ) → a ≡ b → a ≤ b + most

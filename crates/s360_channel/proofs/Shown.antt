@@ -8,7 +8,7 @@ use Rattle.s360_program.specs.Stands.{RunningState, phase_in}
 use Rattle.s360_laws.specs.Machine.{Machine, Device, asked_by}
 use Rattle.s360_laws.specs.declared.arm.Arm.{Arm}
 use Rattle.s360_laws.proofs.FindDevices.{set_drive}
-use Rattle.s360_channel.specs.Channel.{ChannelState, Shows, StandsFor, WorksFor, UnitState, device_of}
+use Rattle.s360_channel.specs.Channel.{ChannelState, Shows, StandsFor, WorksFor, AttachedState, device_of}
 use Rattle.s360_channel.specs.Views.{subchannel_seen, drives_seen, view_of}
 use Rattle.s360_channel.specs.declared.subchannel.Subchannel.{Subchannel}
 use Rattle.s360_channel.specs.declared.subchannel.Subchannel.TheVariants as code
@@ -27,12 +27,12 @@ pub pending_shown : (c : ChannelState) (m : Machine) (device : ℕ) (csw : Csw) 
 pending_shown c m device csw h e = let k = subst (Shows c m) e h.shows in ap (λ (m : Machine). subchannel_seen m m.subchannel) (sym k.0)
 
 pub working_shown : (c : ChannelState) (m : Machine) (place : ℕ) (r : RunningState) (device : ℕ) (asked : Bool) → (h : StandsFor c m) → c.subchannel ≡ code.Working place r
-    → Some device ≡ option_map (λ u. u.device) (slice_get c.units place)
-    → ((w : WorksFor c place r m) → asked ≡ is_some (standing_in r.key (phase_in r c.storage w.unit.drive)).interruption)
+    → Some device ≡ option_map (λ u. u.device) (slice_get c.drives place)
+    → ((w : WorksFor c place r m) → asked ≡ is_some (standing_in r.key (phase_in r c.storage w.attached.drive)).interruption)
     → shown.Working device asked ≡ subchannel_seen m m.subchannel
 working_shown c m place r device asked h e at told =
     ap (λ d. shown.Working d asked) (inside _ _ (at ∙ ap (option_map (λ u. u.device)) w.is_there))
-    ∙ ap (shown.Working w.unit.device) (told w ∙ ap (λ o. is_some (asked_by o)) (sym (seen_there c place r m w h.sound)))
+    ∙ ap (shown.Working w.attached.device) (told w ∙ ap (λ o. is_some (asked_by o)) (sym (seen_there c place r m w h.sound)))
     ∙ ap (subchannel_seen m) (sym (subchannel_of c place r m w))
   where
     w : WorksFor c place r m
@@ -55,32 +55,32 @@ map_length : (g : Device → Device) (ds : List Device) → length (map g ds) �
 map_length g [] = refl
 map_length g (d ∷ ds) = ap suc (map_length g ds)
 
-pub drives_shown : (c : ChannelState) (m : Machine) → StandsFor c m → drives_seen (map device_of c.units) ≡ drives_seen m.devices
+pub drives_shown : (c : ChannelState) (m : Machine) → StandsFor c m → drives_seen (map device_of c.drives) ≡ drives_seen m.devices
 drives_shown c m h = go c.subchannel h.shows
   where
-    go : (s : Subchannel) → Shows c m s → drives_seen (map device_of c.units) ≡ drives_seen m.devices
+    go : (s : Subchannel) → Shows c m s → drives_seen (map device_of c.drives) ≡ drives_seen m.devices
     go code.Idle k = ap (λ (m : Machine). drives_seen m.devices) (sym k.0)
     go (code.Pending device csw) k = ap (λ (m : Machine). drives_seen m.devices) (sym k.0)
     go (code.Working place r) w =
         sym (ap drives_seen (devices_of c place r m w)
-        ∙ ap (λ xs. xs ++ replicate (8 - length (map (λ d. cond (d.device == w.unit.device) (set_drive w.drive d) d) (map device_of c.units))) None) (same_seen w.unit.device w.drive (map device_of c.units))
-        ∙ ap (λ n. map one (map device_of c.units) ++ replicate (8 - n) None) (map_length (λ d. cond (d.device == w.unit.device) (set_drive w.drive d) d) (map device_of c.units)))
+        ∙ ap (λ xs. xs ++ replicate (8 - length (map (λ d. cond (d.device == w.attached.device) (set_drive w.drive d) d) (map device_of c.drives))) None) (same_seen w.attached.device w.drive (map device_of c.drives))
+        ∙ ap (λ n. map one (map device_of c.drives) ++ replicate (8 - n) None) (map_length (λ d. cond (d.device == w.attached.device) (set_drive w.drive d) d) (map device_of c.drives)))
 
-pub view_from : (c : ChannelState) (m : Machine) → StandsFor c m → (s : SubchannelView) (drives : List (Option (ℕ × Arm))) → s ≡ subchannel_seen m m.subchannel → drives ≡ drives_seen (map device_of c.units)
+pub view_from : (c : ChannelState) (m : Machine) → StandsFor c m → (s : SubchannelView) (drives : List (Option (ℕ × Arm))) → s ≡ subchannel_seen m m.subchannel → drives ≡ drives_seen (map device_of c.drives)
     → ◌≡◌ {A = View} (record { subchannel = s; drives = drives }) (view_of m)
 view_from c m h s drives e f =
     ap (λ s. record { subchannel = s; drives = drives }) e ∙ ap (λ (drives : List (Option (ℕ × Arm))). record { subchannel = subchannel_seen m m.subchannel; drives = drives }) (f ∙ drives_shown c m h)
 
--- the place of the unit that works
-pub place_there : (c : ChannelState) (m : Machine) (place : ℕ) (r : RunningState) → StandsFor c m → c.subchannel ≡ code.Working place r → place < length c.units
-place_there c m place r h e = let w = subst (Shows c m) e h.shows in is_within c.units place w.unit w.is_there
+-- the place of the drive that works
+pub place_there : (c : ChannelState) (m : Machine) (place : ℕ) (r : RunningState) → StandsFor c m → c.subchannel ≡ code.Working place r → place < length c.drives
+place_there c m place r h e = let w = subst (Shows c m) e h.shows in is_within c.drives place w.attached w.is_there
 
--- The places of the units.
+-- The places of the drives.
 
-abbrev pub at : List UnitState → ℕ → Option (ℕ × Arm)
-at us place = option_map (λ (u : UnitState). (u.device, u.arm)) (slice_get us place)
+abbrev pub at : List AttachedState → ℕ → Option (ℕ × Arm)
+at us place = option_map (λ (u : AttachedState). (u.device, u.arm)) (slice_get us place)
 
-pub all_places : (us : List UnitState) → length us ≤ 8 → at us 0 ∷ at us 1 ∷ at us 2 ∷ at us 3 ∷ at us 4 ∷ at us 5 ∷ at us 6 ∷ at us 7 ∷ [] ≡ drives_seen (map device_of us)
+pub all_places : (us : List AttachedState) → length us ≤ 8 → at us 0 ∷ at us 1 ∷ at us 2 ∷ at us 3 ∷ at us 4 ∷ at us 5 ∷ at us 6 ∷ at us 7 ∷ [] ≡ drives_seen (map device_of us)
 all_places [] l = refl
 all_places (a ∷ []) l = refl
 all_places (a ∷ b ∷ []) l = refl

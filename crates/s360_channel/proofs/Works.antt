@@ -26,37 +26,37 @@ use Rattle.s360_channel.proofs.Places.{distinct_before, found_at}
 -- The machine of a running program.
 
 module _ (c : ChannelState) (place : ℕ) (r : RunningState) (m : Machine) (w : WorksFor c place r m) where
-  pub subchannel_of : m.subchannel ≡ machine.Working w.unit.device w.script
+  pub subchannel_of : m.subchannel ≡ machine.Working w.attached.device w.script
   subchannel_of = ap (λ (m : Machine). m.subchannel) w.machine
 
   pub channel_of : m.channel ≡ c.number
   channel_of = ap (λ (m : Machine). m.channel) w.machine
 
-  pub devices_of : m.devices ≡ map (λ d. cond (d.device == w.unit.device) (set_drive w.drive d) d) (map device_of c.units)
+  pub devices_of : m.devices ≡ map (λ d. cond (d.device == w.attached.device) (set_drive w.drive d) d) (map device_of c.drives)
   devices_of = ap (λ (m : Machine). m.devices) w.machine
 
-  pub distinct_units : IsSound m → AreDistinct (map device_of c.units)
-  distinct_units sound = distinct_before _ (keeps_one w.unit.device (set_drive w.drive) (λ v. refl)) (map device_of c.units) (subst AreDistinct devices_of sound.0)
+  pub distinct_drives : IsSound m → AreDistinct (map device_of c.drives)
+  distinct_drives sound = distinct_before _ (keeps_one w.attached.device (set_drive w.drive) (λ v. refl)) (map device_of c.drives) (subst AreDistinct devices_of sound.0)
 
-  -- the device at its address has the arm of the unit, and the drive of the start
-  pub device_there : IsSound m → device_at m w.unit.device ≡ Some (record { device = w.unit.device; arm = w.unit.arm; drive = w.drive })
+  -- the device at its address has the arm of the drive, and the drive of the start
+  pub device_there : IsSound m → device_at m w.attached.device ≡ Some (record { device = w.attached.device; arm = w.attached.arm; drive = w.drive })
   device_there sound =
-      ap (find (λ v. v.device == w.unit.device)) devices_of
-      ∙ found_map (λ d. d == w.unit.device) _ (keeps_one w.unit.device (set_drive w.drive) (λ v. refl)) (map device_of c.units)
-      ∙ ap (option_map (λ d. cond (d.device == w.unit.device) (set_drive w.drive d) d)) (found_at c.units place w.unit (distinct_units sound) w.is_there)
-      ∙ ap (λ b. Some (cond b (set_drive w.drive (device_of w.unit)) (device_of w.unit))) (eq-eqb w.unit.device w.unit.device refl)
+      ap (find (λ v. v.device == w.attached.device)) devices_of
+      ∙ found_map (λ d. d == w.attached.device) _ (keeps_one w.attached.device (set_drive w.drive) (λ v. refl)) (map device_of c.drives)
+      ∙ ap (option_map (λ d. cond (d.device == w.attached.device) (set_drive w.drive d) d)) (found_at c.drives place w.attached (distinct_drives sound) w.is_there)
+      ∙ ap (λ b. Some (cond b (set_drive w.drive (device_of w.attached)) (device_of w.attached))) (eq-eqb w.attached.device w.attached.device refl)
 
-  pub run_at : IsSound m → (script : Script) → run_of m w.unit.device script ≡ Some (run script (start_of m w.drive))
+  pub run_at : IsSound m → (script : Script) → run_of m w.attached.device script ≡ Some (run script (start_of m w.drive))
   run_at sound script = ap (option_map (λ d. run script (start_of m d.drive))) (device_there sound)
 
-  pub seen_there : IsSound m → run_of m w.unit.device w.script ≡ Some (NotEnded (standing_in r.key (phase_in r c.storage w.unit.drive)))
-  seen_there sound = run_at sound w.script ∙ ap Some (seen (start_of m w.drive) w.script r c.storage w.unit.drive w.runs)
+  pub seen_there : IsSound m → run_of m w.attached.device w.script ≡ Some (NotEnded (standing_in r.key (phase_in r c.storage w.attached.drive)))
+  seen_there sound = run_at sound w.script ∙ ap Some (seen (start_of m w.drive) w.script r c.storage w.attached.drive w.runs)
 
-  sound_working : IsSound m → IsSoundIn m (machine.Working w.unit.device w.script)
+  sound_working : IsSound m → IsSoundIn m (machine.Working w.attached.device w.script)
   sound_working sound = subst (IsSoundIn m) subchannel_of sound.1
 
-  pub arm_rests : IsSound m → w.unit.arm ≡ AtRest
-  arm_rests sound = rests w.unit.arm (ap device_owes (sym (device_there sound)) ∙ (sound_working sound).1)
+  pub arm_rests : IsSound m → w.attached.arm ≡ AtRest
+  arm_rests sound = rests w.attached.arm (ap device_owes (sym (device_there sound)) ∙ (sound_working sound).1)
     where
       rests : (arm : Arm) → arm_owes arm ≡ 0 → arm ≡ AtRest
       rests AtRest h = refl
@@ -78,4 +78,4 @@ storage_seen key (stage.Moving ccw a) p s d (work.Passing o b left) = refl
 pub storage_there : (c : ChannelState) (place : ℕ) (r : RunningState) (m : Machine) → WorksFor c place r m → IsSound m → storage_of m m.subchannel ≡ c.storage
 storage_there c place r m w sound =
     ap (storage_of m) (subchannel_of c place r m w) ∙ ap (machine.storage_after m) (seen_there c place r m w sound)
-    ∙ storage_seen r.key r.stage r.place c.storage w.unit.drive.state w.unit.drive.work
+    ∙ storage_seen r.key r.stage r.place c.storage w.attached.drive.state w.attached.drive.work

@@ -5,10 +5,10 @@ use Rattle.s360_channel.specs.declared.faults.AttachFault.{AttachFault}
 use Rattle.s360_channel.specs.declared.faults.AttachFault.TheVariants.{UnitTaken, Full, OutOfMemory}
 
 abbrev pub is_taken : (device : ℕ) → ChannelState → Bool
-is_taken device c = is_some (position (is_at device) c.units)
+is_taken device c = is_some (position (is_at device) c.drives)
 
 abbrev pub is_full : ChannelState → Bool
-is_full c = length c.units == 8
+is_full c = length c.drives == 8
 
 abbrev pub NotRefused : (device : ℕ) → ChannelState → Type 0
 NotRefused device c = (is_taken device c ≡ false) × (is_full c ≡ false)

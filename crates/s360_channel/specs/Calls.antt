@@ -1,6 +1,6 @@
 -- What the calls of a channel do: each is an event of every machine that the channel stands for.
 use Rattle.std.specs.Prelude.{◌≡◌, ◌⊎◌, ℕ, suc, ◌+◌, ◌*◌, ◌≤◌, map, Option, Some, None}
-use Rattle.s360_laws.specs.Events.{Event, StepBy, Hio, Reset, Answer, Stepped, Condition, FaultAfter}
+use Rattle.s360_laws.specs.Events.{Event, StepBy, Hio, Reset, Answer, Stepped, WithCode, FaultAfter}
 use Rattle.s360_laws.specs.Machine.{Machine, react}
 use Rattle.s360_laws.specs.NothingTold.{NoneGainsCheck, TellsNoTrack}
 use Rattle.s360_laws.specs.Steps.{EndedByFault, ToldByReset}
@@ -22,7 +22,7 @@ IsMet (Some x) answer old new = failures_of new ≡ failures_of old + 1
 -- reset by its answer, which names the track that was not saved.
 abbrev pub IsReported : Event → Machine → FaultAfter → Type 0
 IsReported (StepBy k) m x = EndedByFault (react (StepBy k) (Some x) m) (Stepped (suc x.units))
-IsReported (Hio a) m x = EndedByFault (react (Hio a) (Some x) m) (Condition Two)
+IsReported (Hio a) m x = EndedByFault (react (Hio a) (Some x) m) (WithCode Two)
 IsReported Reset m x = ToldByReset m (react Reset (Some x) m)
 IsReported e m x = ⊥
 
@@ -43,7 +43,7 @@ pub record Does (e : Event) (m : Machine) (answer : Answer) (old new : ChannelSt
 
 -- none: all images stay as they are
 abbrev pub CallsNoStore : (old new : ChannelState) → Type 0
-CallsNoStore old new = map (λ u. u.drive.image) new.units ≡ map (λ u. u.drive.image) old.units
+CallsNoStore old new = map (λ u. u.drive.image) new.drives ≡ map (λ u. u.drive.image) old.drives
 
 -- how often an event may call a store, by its answer
 abbrev pub most_calls : Event → Answer → ℕ
@@ -52,9 +52,9 @@ most_calls (Hio a) answer = 1
 most_calls Reset answer = 1
 most_calls e answer = 0
 
--- at most so many loads and saves, one of which may fail; the images keep their headers and geometries
+-- at most so many loads and saves, one of which may fail; the images keep their geometries, and their files' headers and stores
 pub record CallsAtMost (most : ℕ) (old new : ChannelState) : Type 0 where
   pub calls : store_calls_of new ≤ store_calls_of old + most
   pub failures : (failures_of new ≡ failures_of old) ⊎ (failures_of new ≡ failures_of old + 1)
-  pub headers : map (λ u. u.drive.image.header) new.units ≡ map (λ u. u.drive.image.header) old.units
-  pub geometries : map (λ u. u.drive.image.geometry) new.units ≡ map (λ u. u.drive.image.geometry) old.units
+  pub lasting : map (λ u. u.drive.image.lasting) new.drives ≡ map (λ u. u.drive.image.lasting) old.drives
+  pub geometries : map (λ u. u.drive.image.geometry) new.drives ≡ map (λ u. u.drive.image.geometry) old.drives

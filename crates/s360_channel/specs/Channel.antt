@@ -16,62 +16,62 @@ use Rattle.s360_laws.specs.declared.arm.Arm.TheVariants.{AtRest}
 use Rattle.s360_channel.specs.declared.subchannel.Subchannel.{Subchannel}
 use Rattle.s360_channel.specs.declared.subchannel.Subchannel.TheVariants.{Idle, Working, Pending}
 
--- a drive at the channel: the low byte of its address, its arm, and the drive
-pub record UnitState : Type 0 where
+-- an attached drive: the low byte of its address, its arm, and the drive
+pub record AttachedState : Type 0 where
   pub device : ℕ
   pub arm : Arm
   pub drive : DriveState
 
--- The units are in the order in which they were attached. Where a program works the subchannel names its unit by the place
+-- The drives are in the order in which they were attached. Where a program works the subchannel names its drive by the place
 -- in this order.
 pub record ChannelState : Type 0 where
   pub number : ℕ
   pub storage : Storage
   pub subchannel : Subchannel
-  pub units : List UnitState
+  pub drives : List AttachedState
 
--- A unit between two programs is a device of the machine.
-abbrev pub device_of : UnitState → Device
+-- An attached drive between two programs is a device of the machine.
+abbrev pub device_of : AttachedState → Device
 device_of u = record { device = u.device; arm = u.arm; drive = drive_of u.drive.state }
 
 -- the machine that is read off a channel, but for a program that runs
 abbrev pub machine_of : ChannelState → machine.Subchannel → Machine
-machine_of c s = record { channel = c.number; storage = c.storage; subchannel = s; devices = map device_of c.units }
+machine_of c s = record { channel = c.number; storage = c.storage; subchannel = s; devices = map device_of c.drives }
 
 -- no command is open in these drives, and no written track waits to be saved
-abbrev pub AllRest : List UnitState → Type 0
+abbrev pub AllRest : List AttachedState → Type 0
 AllRest [] = Unit {0}
 AllRest (u ∷ us) = Rests u.drive × AllRest us
 
 -- in all but the one at a place
-abbrev pub OthersRest : (place : ℕ) → List UnitState → Type 0
+abbrev pub OthersRest : (place : ℕ) → List AttachedState → Type 0
 OthersRest place [] = Unit {0}
 OthersRest zero (u ∷ us) = AllRest us
 OthersRest (suc place) (u ∷ us) = Rests u.drive × OthersRest place us
 
--- A program that was accepted with this storage and this drive runs at the unit at a place: storage and the unit's drive
+-- A program that was accepted with this storage and this drive runs at the drive at a place: storage and that drive
 -- are by now where its run over a script has brought them.
 pub record WorksFor (c : ChannelState) (place : ℕ) (r : RunningState) (m : Machine) : Type 0 where
-  pub unit : UnitState
-  pub is_there : slice_get c.units place ≡ Some unit
+  pub attached : AttachedState
+  pub is_there : slice_get c.drives place ≡ Some attached
   pub storage : Storage
   pub drive : IdleDrive
   pub script : Script
-  pub machine : m ≡ with_device unit.device (λ d. record d { drive = drive })
-      (record (machine_of c (machine.Working unit.device script)) { storage = storage })
-  pub runs : StandsAtRun (start_of m drive) script r c.storage unit.drive
-  pub others : OthersRest place c.units
+  pub machine : m ≡ with_device attached.device (λ d. record d { drive = drive })
+      (record (machine_of c (machine.Working attached.device script)) { storage = storage })
+  pub runs : StandsAtRun (start_of m drive) script r c.storage attached.drive
+  pub others : OthersRest place c.drives
 
 -- Without a running program a channel shows exactly one machine.
 abbrev pub Shows : ChannelState → Machine → Subchannel → Type 0
-Shows c m Idle = (m ≡ machine_of c machine.Idle) × AllRest c.units
+Shows c m Idle = (m ≡ machine_of c machine.Idle) × AllRest c.drives
 Shows c m (Working place r) = WorksFor c place r m
-Shows c m (Pending device csw) = (m ≡ machine_of c (machine.Pending device csw)) × AllRest c.units
+Shows c m (Pending device csw) = (m ≡ machine_of c (machine.Pending device csw)) × AllRest c.drives
 
 -- A channel stands for a sound machine, and its number is one of the seven of a System/360.
 pub record StandsFor (c : ChannelState) (m : Machine) : Type 0 where
   pub number : c.number < 7
-  pub few : length c.units ≤ 8
+  pub few : length c.drives ≤ 8
   pub shows : Shows c m c.subchannel
   pub sound : IsSound m
 
@@ -81,8 +81,8 @@ pub record IsChannel (c : ChannelState) : Type 0 where
   pub stands : StandsFor c machine
 
 -- A drive that is attached is free, at cylinder 0, head 0, with zero sense bytes.
-abbrev pub new_unit : (device : ℕ) → ImageState → UnitState
-new_unit device image = record { device = device; arm = AtRest; drive = new_drive image }
+abbrev pub new_attached : (device : ℕ) → ImageState → AttachedState
+new_attached device image = record { device = device; arm = AtRest; drive = new_drive image }
 
 abbrev pub attached : (device : ℕ) → ImageState → Machine → Machine
 attached device image m = record m {
@@ -93,13 +93,13 @@ attached device image m = record m {
   } ∷ [];
 }
 
--- the place of the unit with an address, in the order in which they were attached
-abbrev pub is_at : (device : ℕ) → UnitState → Bool
+-- the place of the drive with an address, in the order in which they were attached
+abbrev pub is_at : (device : ℕ) → AttachedState → Bool
 is_at device u = u.device == device
 
 -- What the images count, all together.
 abbrev pub failures_of : ChannelState → ℕ
-failures_of c = sum_by (λ u. u.drive.image.failures) c.units
+failures_of c = sum_by (λ u. u.drive.image.failures) c.drives
 
 abbrev pub store_calls_of : ChannelState → ℕ
-store_calls_of c = sum_by (λ u. u.drive.image.loads + u.drive.image.saves) c.units
+store_calls_of c = sum_by (λ u. u.drive.image.loads + u.drive.image.saves) c.drives

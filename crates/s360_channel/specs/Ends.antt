@@ -1,4 +1,4 @@
--- What the end of a program leaves at the unit that it ran at, and in the subchannel.
+-- What the end of a program leaves at the drive that it ran at, and in the subchannel.
 use Rattle.std.specs.Prelude.{◌≡◌, ℕ, ◌+◌, ◌*◌, List, Bool, Option, Some, None, option_map, slice_get, slice_set, if◌then◌else◌}
 use Rattle.s360_words.specs.Storage.{Storage, changed, status_stored}
 use Rattle.s360_words.specs.declared.words.Csw.{Csw}
@@ -9,48 +9,48 @@ use Rattle.s360_laws.specs.declared.arm.Arm.TheVariants.{AtRest, InMotion}
 use Rattle.s360_events.specs.declared.conditions.Status.{Status}
 use Rattle.s360_events.specs.declared.conditions.Condition.{Condition}
 use Rattle.s360_events.specs.declared.conditions.Condition.TheVariants.{Stored, Three}
-use Rattle.s360_channel.specs.Channel.{UnitState}
-use Rattle.s360_channel.specs.UnitCalls.{DriveChanges, DriveIs, CutsAt}
+use Rattle.s360_channel.specs.Channel.{AttachedState}
+use Rattle.s360_channel.specs.DriveCalls.{DriveChanges, DriveIs, CutsAt}
 use Rattle.s360_channel.specs.declared.subchannel.Subchannel.{Subchannel}
 use Rattle.s360_channel.specs.declared.subchannel.Subchannel.TheVariants.{Working, Pending}
 
 abbrev pub arm_told : (motion : Bool) → Arm
 arm_told motion = if motion then InMotion else AtRest
 
--- its channel status word pends for the unit at a place, whose arm moves or rests as the drive reported
-pub record IsOver (place : ℕ) (csw : Csw) (motion : Bool) (old new : List UnitState) (subchannel : Subchannel) : Type 0 where
-  pub unit : UnitState
-  pub was : slice_get old place ≡ Some unit
-  pub becomes : new ≡ slice_set old place (record unit { arm = arm_told motion })
-  pub pends : subchannel ≡ Pending unit.device csw
+-- its channel status word pends for the drive at a place, whose arm moves or rests as the drive reported
+pub record IsOver (place : ℕ) (csw : Csw) (motion : Bool) (old new : List AttachedState) (subchannel : Subchannel) : Type 0 where
+  pub attached : AttachedState
+  pub was : slice_get old place ≡ Some attached
+  pub becomes : new ≡ slice_set old place (record attached { arm = arm_told motion })
+  pub pends : subchannel ≡ Pending attached.device csw
 
 -- A cut.
 
--- where a program runs, the unit is there and stands with it
-abbrev pub MayBeCut : Subchannel → List UnitState → Type 0
-MayBeCut (Working place r) units = DriveIs place (Stands r) units
-MayBeCut s units = Unit {0}
+-- where a program runs, the drive is there and stands with it
+abbrev pub MayBeCut : Subchannel → List AttachedState → Type 0
+MayBeCut (Working place r) drives = DriveIs place (Stands r) drives
+MayBeCut s drives = Unit {0}
 
 -- the drive is left as the cut of the program leaves it, which is then over
-pub record IsCut (place : ℕ) (r : RunningState) (old new : List UnitState) (subchannel : Subchannel) : Type 0 where
+pub record IsCut (place : ℕ) (r : RunningState) (old new : List AttachedState) (subchannel : Subchannel) : Type 0 where
   pub told : Csw × Bool × Option (ℕ × ℕ)
-  pub between : List UnitState
+  pub between : List AttachedState
   pub cut : DriveChanges place (CutsAt r told) old between
   pub over : IsOver place told.0 told.1 between new subchannel
 
-abbrev pub CutsProgram : Subchannel → (old new : List UnitState) → Subchannel → Type 0
+abbrev pub CutsProgram : Subchannel → (old new : List AttachedState) → Subchannel → Type 0
 CutsProgram (Working place r) old new subchannel = IsCut place r old new subchannel
 CutsProgram s old new subchannel = (new ≡ old) × (subchannel ≡ s)
 
 -- A cut whose channel status word is lost; a track that was not saved is reported with the address.
-pub record IsLost (place : ℕ) (r : RunningState) (number : ℕ) (old new : List UnitState) (unsaved : Option (ℕ × ℕ × ℕ)) : Type 0 where
+pub record IsLost (place : ℕ) (r : RunningState) (number : ℕ) (old new : List AttachedState) (unsaved : Option (ℕ × ℕ × ℕ)) : Type 0 where
   pub told : Csw × Bool × Option (ℕ × ℕ)
-  pub unit : UnitState
-  pub was : slice_get old place ≡ Some unit
+  pub attached : AttachedState
+  pub was : slice_get old place ≡ Some attached
   pub cut : DriveChanges place (CutsAt r told) old new
-  pub tells : unsaved ≡ option_map (λ t. (256 * number + unit.device, t.0, t.1)) told.2
+  pub tells : unsaved ≡ option_map (λ t. (256 * number + attached.device, t.0, t.1)) told.2
 
-abbrev pub LosesProgram : Subchannel → (number : ℕ) → (old new : List UnitState) → (unsaved : Option (ℕ × ℕ × ℕ)) → Type 0
+abbrev pub LosesProgram : Subchannel → (number : ℕ) → (old new : List AttachedState) → (unsaved : Option (ℕ × ℕ × ℕ)) → Type 0
 LosesProgram (Working place r) number old new unsaved = IsLost place r number old new unsaved
 LosesProgram s number old new unsaved = (new ≡ old) × (unsaved ≡ None)
 

@@ -5,10 +5,10 @@ use Rattle.s360_words.specs.Storage.{Storage}
 use Rattle.s360_laws.specs.Events.{Reset, WasReset}
 use Rattle.s360_laws.specs.Machine.{Machine}
 use Rattle.s360_channel.specs.Calls.{Does, CallsAtMost}
-use Rattle.s360_channel.specs.Channel.{ChannelState, UnitState}
+use Rattle.s360_channel.specs.Channel.{ChannelState, AttachedState}
 
-abbrev pub images_of : List UnitState → List (Option (ℕ × ImageState))
-images_of units = map (λ u. Some (u.device, u.drive.image)) units ++ replicate (8 - length units) None
+abbrev pub images_of : List AttachedState → List (Option (ℕ × ImageState))
+images_of drives = map (λ u. Some (u.device, u.drive.image)) drives ++ replicate (8 - length drives) None
 
 -- The channel is reset first; then all is given back, each image with the slots of its drive's volume.
 pub record Finishes (m : Machine) (old : ChannelState) (storage : Storage) (images : List (Option (ℕ × ImageState))) (unsaved : Option (ℕ × ℕ × ℕ)) : Type 0 where
@@ -16,5 +16,5 @@ pub record Finishes (m : Machine) (old : ChannelState) (storage : Storage) (imag
   pub reset : Does Reset m (WasReset unsaved) old last
   pub calls : CallsAtMost 1 old last
   pub same_storage : storage ≡ last.storage
-  pub same_images : images ≡ images_of last.units
-  pub volumes : map (λ u. u.drive.image.slots) last.units ≡ map (λ u. u.drive.state.volume.slots) last.units
+  pub same_images : images ≡ images_of last.drives
+  pub volumes : map (λ u. u.drive.image.slots) last.drives ≡ map (λ u. u.drive.state.volume.slots) last.drives

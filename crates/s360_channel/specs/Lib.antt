@@ -2,7 +2,7 @@ pub mod Channel
 pub mod Calls
 pub mod Lists
 pub mod Views
-pub mod UnitCalls
+pub mod DriveCalls
 pub mod Packs
 pub mod Shares
 pub mod Finishes

@@ -20,7 +20,7 @@ AllReported [] m = Unit {0}
 AllReported (e ∷ es) m = Reports e.0 m e.1 × AllReported es (react e.0 e.1 m).1
 
 -- Event by event: the channel goes through states between which its stores met the fault that the event comes with, and no
--- other; were called no more often than the event may; and kept each image's headers and geometry.
+-- other; were called no more often than the event may; and kept each image's geometry, and its files' headers and stores.
 abbrev pub AllMet : List Input → List Answer → (old new : ChannelState) → Type 0
 AllMet [] [] old new = new ≡ old
 AllMet [] (a ∷ rest) old new = ⊥
@@ -37,14 +37,14 @@ pub record WithoutFaults (m : Machine) (events : List Event) (answers : List Ans
       world_of (after_all (plain events) m) ≡ history (world_of m) (all_acts m (exchanges (plain events) m))
 
 -- What a list of events does at a channel that stands for a machine. Each event comes with the fault that it met, if it met
--- one; the images keep their headers and geometries; the headline holds of the list.
+-- one; the images keep their geometries, and their files' headers and stores; the headline holds of the list.
 pub record Follows (m : Machine) (events : List Event) (answers : List Answer) (old new : ChannelState) : Type 0 where
   pub inputs : List Input
   pub are_these : map (λ i. i.0) inputs ≡ events
   pub faults : failures_of new ≡ failures_of old + faults_in inputs
   pub met : AllMet inputs answers old new
-  pub headers : map (λ u. u.drive.image.header) new.units ≡ map (λ u. u.drive.image.header) old.units
-  pub geometries : map (λ u. u.drive.image.geometry) new.units ≡ map (λ u. u.drive.image.geometry) old.units
+  pub lasting : map (λ u. u.drive.image.lasting) new.drives ≡ map (λ u. u.drive.image.lasting) old.drives
+  pub geometries : map (λ u. u.drive.image.geometry) new.drives ≡ map (λ u. u.drive.image.geometry) old.drives
   pub same_answers : answers ≡ machine.answers inputs m
   pub stands : StandsFor new (after_all inputs m)
   pub reported : AllReported inputs m

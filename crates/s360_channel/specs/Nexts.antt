@@ -10,7 +10,7 @@ use Rattle.s360_laws.specs.Events.{Answer}
 use Rattle.s360_laws.specs.Machine as machine
 use Rattle.s360_laws.specs.Machine.{Machine}
 use Rattle.s360_laws.specs.Soundness.{AreDistinct}
-use Rattle.s360_channel.specs.Channel.{ChannelState, UnitState, Shows, AllRest, machine_of, device_of}
+use Rattle.s360_channel.specs.Channel.{ChannelState, AttachedState, Shows, AllRest, machine_of, device_of}
 use Rattle.s360_channel.specs.declared.subchannel.Subchannel.{Subchannel}
 use Rattle.s360_channel.specs.declared.subchannel.Subchannel.TheVariants.{Idle}
 
@@ -19,26 +19,26 @@ pub record ShowsNext (r : Answer × Machine) (answer : Answer) (new : ChannelSta
   pub answers : answer ≡ r.0
   pub shows : Shows new r.1 new.subchannel
 
-abbrev pub of_parts : (number : ℕ) → Storage → Subchannel → List UnitState → ChannelState
-of_parts number s sub us = record { number = number; storage = s; subchannel = sub; units = us }
+abbrev pub of_parts : (number : ℕ) → Storage → Subchannel → List AttachedState → ChannelState
+of_parts number s sub us = record { number = number; storage = s; subchannel = sub; drives = us }
 
 -- the machine of an available channel
-abbrev pub idle_machine : (number : ℕ) → Storage → List UnitState → Machine
+abbrev pub idle_machine : (number : ℕ) → Storage → List AttachedState → Machine
 idle_machine number s us = machine_of (of_parts number s Idle us) machine.Idle
 
 -- At an available channel of this number this is done.
-abbrev pub DoesOn : (number : ℕ) → (Machine → Answer × Machine) → Answer → Storage → List UnitState → (s' : Storage) (sub' : Subchannel) (us' : List UnitState) → Type 0
+abbrev pub DoesOn : (number : ℕ) → (Machine → Answer × Machine) → Answer → Storage → List AttachedState → (s' : Storage) (sub' : Subchannel) (us' : List AttachedState) → Type 0
 DoesOn number next answer s us s' sub' us' = AllRest us → AreDistinct (map device_of us)
     → ShowsNext (next (idle_machine number s us)) answer (of_parts number s' sub' us')
 
 -- This is done, whatever the number.
-abbrev pub DoesIdle : (Machine → Answer × Machine) → Answer → Storage → List UnitState → (s' : Storage) (sub' : Subchannel) (us' : List UnitState) → Type 0
+abbrev pub DoesIdle : (Machine → Answer × Machine) → Answer → Storage → List AttachedState → (s' : Storage) (sub' : Subchannel) (us' : List AttachedState) → Type 0
 DoesIdle next answer s us s' sub' us' = (number : ℕ) → DoesOn number next answer s us s' sub' us'
 
--- This is done for the unit at a place.
-abbrev pub DoesAt : (place : ℕ) → (UnitState → Machine → Answer × Machine) → Answer → Storage → List UnitState → (s' : Storage) (sub' : Subchannel) (us' : List UnitState) → Type 0
+-- This is done for the drive at a place.
+abbrev pub DoesAt : (place : ℕ) → (AttachedState → Machine → Answer × Machine) → Answer → Storage → List AttachedState → (s' : Storage) (sub' : Subchannel) (us' : List AttachedState) → Type 0
 DoesAt place next answer s us s' sub' us' =
-    (unit : UnitState) → slice_get us place ≡ Some unit → DoesIdle (next unit) answer s us s' sub' us'
+    (attached : AttachedState) → slice_get us place ≡ Some attached → DoesIdle (next attached) answer s us s' sub' us'
 
 -- storage after an interruption, if there was one
 abbrev pub storage_told : Option (ℕ × Csw) → Storage → Storage

@@ -10,7 +10,7 @@ use Rattle.s360_laws.specs.Machine as machine
 use Rattle.s360_laws.specs.Machine.{Machine, Device, device_at, with_device}
 use Rattle.s360_laws.specs.declared.arm.Arm.{Arm}
 use Rattle.s360_laws.specs.declared.arm.Arm.TheVariants.{AtRest}
-use Rattle.s360_channel.specs.Channel.{ChannelState, StandsFor, UnitState, new_unit}
+use Rattle.s360_channel.specs.Channel.{ChannelState, StandsFor, AttachedState, new_attached}
 use Rattle.s360_channel.specs.declared.faults.DetachFault.{DetachFault}
 use Rattle.s360_channel.specs.declared.faults.DetachFault.TheVariants.{NoDrive, ProgramRuns, EndingPends, DeviceEndOwed}
 use Rattle.s360_channel.specs.declared.faults.ExchangeFault.{ExchangeFault}
@@ -53,9 +53,9 @@ volume_in i = record { geometry = i.geometry; slots = i.slots }
 
 -- The image that is given back holds the volume of the machine's device.
 pub record GivesBack (device : ℕ) (image : ImageState) (m : Machine) : Type 0 where
-  pub unit : Device
-  pub is_there : device_at m device ≡ Some unit
-  pub volume : unit.drive.volume ≡ volume_in image
+  pub attached : Device
+  pub is_there : device_at m device ≡ Some attached
+  pub volume : attached.drive.volume ≡ volume_in image
 
 -- The channel's side.
 
@@ -65,7 +65,7 @@ moved_up place (Working p r) = Working (if nat_lt place p then p - 1 else p) r
 moved_up place s = s
 
 abbrev pub without_place : (place : ℕ) → ChannelState → ChannelState
-without_place place c = record c { subchannel = moved_up place c.subchannel; units = remove c.units place }
+without_place place c = record c { subchannel = moved_up place c.subchannel; drives = remove c.drives place }
 
 -- whether the program that runs is that of the drive at a place, and whether the word that pends is that of an address
 abbrev pub works_at : (place : ℕ) → Subchannel → Bool
@@ -78,12 +78,12 @@ waits_for device s = false
 
 -- the drive at a place has this address, and owes nothing
 pub record IsFree (device place : ℕ) (c : ChannelState) : Type 0 where
-  pub unit : UnitState
-  pub is_there : slice_get c.units place ≡ Some unit
-  pub same_device : unit.device ≡ device
+  pub attached : AttachedState
+  pub is_there : slice_get c.drives place ≡ Some attached
+  pub same_device : attached.device ≡ device
   pub runs : works_at place c.subchannel ≡ false
   pub pends : waits_for device c.subchannel ≡ false
-  pub arm : unit.arm ≡ AtRest
+  pub arm : attached.arm ≡ AtRest
 
 -- A drive is taken off: it was free, the machine has all that it had but the device, and the image is the drive's and holds its
 -- volume.
@@ -93,7 +93,7 @@ pub record Detaches (device : ℕ) (m : Machine) (image : ImageState) (old new :
   pub is_free : IsFree device place old
   pub becomes : new ≡ without_place place old
   pub stands : StandsFor new (without_device device m)
-  pub same_image : image ≡ is_free.unit.drive.image
+  pub same_image : image ≡ is_free.attached.drive.image
   pub gives_back : GivesBack device image m
 
 -- Packs that are changed.
@@ -126,7 +126,7 @@ pub record Exchanges (device : ℕ) (m : Machine) (image before : ImageState) (o
   pub fits : fits_at device image m ≡ Some true
   pub place : ℕ
   pub is_free : IsFree device place old
-  pub becomes : new ≡ record old { units = slice_set old.units place (new_unit device image) }
+  pub becomes : new ≡ record old { drives = slice_set old.drives place (new_attached device image) }
   pub stands : StandsFor new (with_pack device image m)
-  pub same_image : before ≡ is_free.unit.drive.image
+  pub same_image : before ≡ is_free.attached.drive.image
   pub gives_back : GivesBack device before m

@@ -7,7 +7,7 @@ use Rattle.ckd_sense.specs.SenseBytes.{sense_bytes}
 use Rattle.s360_laws.specs.Machine as machine
 use Rattle.s360_laws.specs.Machine.{Machine, Device, asked_by, device_at, react, run_of}
 use Rattle.s360_laws.specs.declared.arm.Arm.{Arm}
-use Rattle.s360_channel.specs.Channel.{UnitState, is_at}
+use Rattle.s360_channel.specs.Channel.{AttachedState, is_at}
 use Rattle.s360_channel.specs.Packs.{runs_at, volume_in}
 use Rattle.s360_channel.specs.declared.view.SubchannelView.{SubchannelView}
 use Rattle.s360_channel.specs.declared.view.SubchannelView.TheVariants.{Idle, Working, Pending}
@@ -30,13 +30,13 @@ drive_seen d = record {
   sense = sense_bytes d.drive.sense;
 }
 
--- the unit with this address, if there is one
-abbrev pub unit_in : Option ℕ → List UnitState → Option UnitState
-unit_in None us = None
-unit_in (Some place) us = slice_get us place
+-- the drive with this address, if there is one
+abbrev pub attached_in : Option ℕ → List AttachedState → Option AttachedState
+attached_in None us = None
+attached_in (Some place) us = slice_get us place
 
-abbrev pub unit_with : (device : ℕ) → List UnitState → Option UnitState
-unit_with device us = unit_in (position (is_at device) us) us
+abbrev pub attached_with : (device : ℕ) → List AttachedState → Option AttachedState
+attached_with device us = attached_in (position (is_at device) us) us
 
 -- A drive whose program does not run is shown as the machine has it, and its image holds its volume.
 abbrev pub ShowsDrive : (device : ℕ) → Machine → Option DriveView → Type 0

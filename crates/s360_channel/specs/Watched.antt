@@ -15,10 +15,10 @@ command_in (Between p) = None
 command_in (Looking o r) = Some o.opened
 command_in (Moving o t) = Some o.opened
 
--- the bytes that have passed in it
-abbrev pub passed_in : ProgramPhase → List ℕ
-passed_in (Moving o t) = t.bytes
-passed_in phase = []
+-- the bytes that have moved in it
+abbrev pub moved_in : ProgramPhase → List ℕ
+moved_in (Moving o t) = t.bytes
+moved_in phase = []
 
 -- The program of this device runs, and after its run so far stands in this phase, with this protection key.
 pub record StandsInPhase (m : Machine) (device key : ℕ) (phase : ProgramPhase) : Type 0 where
@@ -47,7 +47,7 @@ pub record SeesDrive (m : Machine) (d : DriveState) : Type 0 where
   pub stands : StandsInPhase m device key phase
   pub state : d.state ≡ state_in phase
   pub command : command_of d.work ≡ command_in phase
-  pub passed : passed_of d.work ≡ passed_in phase
+  pub moved : passed_of d.work ≡ moved_in phase
 
 abbrev pub ShowsDriveAtWork : Machine → Option DriveState → Type 0
 ShowsDriveAtWork m None = is_working m.subchannel ≡ false

@@ -5,7 +5,7 @@ ghost use Rattle.s360_laws.specs.Machine.{Machine, storage_of};
 ghost use Rattle.s360_channel.specs.Channel.{StandsFor, device_of};
 ghost use Rattle.s360_channel.specs.Calls.{CallsNoStore};
 ghost use Rattle.s360_channel.specs.Shares.{FindsAnother, finding, with_storage};
-ghost use Rattle.s360_channel.specs.Views.{ShowsDrive, ShowsVolume, drive_seen, interrupts, key_in, unit_with};
+ghost use Rattle.s360_channel.specs.Views.{ShowsDrive, ShowsVolume, drive_seen, interrupts, key_in, attached_with};
 
 use crate::channel::Channel;
 use crate::faults::OtherSize;
@@ -19,25 +19,25 @@ impl<S: ImageStore> Channel<S> {
     /// What is known of the drive with this low byte of an address, without a channel program. While its program runs that is
     /// where the arm is by now, and the sense so far; otherwise it is what the machine has.
     pub fn drive(&self, device: u8) -> Option<DriveView>
-        ensures drive { result ≡ option_map (λ u. drive_seen (device_of u)) (unit_with device self.now.units) }
+        ensures drive { result ≡ option_map (λ u. drive_seen (device_of u)) (attached_with device self.now.drives) }
         ensures shows { (m : Machine) → StandsFor self.now m → ShowsDrive device m result }
     {
-        let Some(place) = self.units.place_of(device) else {
+        let Some(place) = self.drives.place_of(device) else {
             return None;
         };
-        Some(self.units.seen(place))
+        Some(self.drives.seen(place))
     }
 
     /// The image of the drive with this low byte of an address, lent. While its program does not run it holds the drive's volume;
     /// a track that a running program wrote is in it once that is saved.
     pub fn image(&self, device: u8) -> Option<&Image<S>>
-        ensures image { option_map (λ i. i.now) result ≡ option_map (λ u. u.drive.image) (unit_with device self.now.units) }
+        ensures image { option_map (λ i. i.now) result ≡ option_map (λ u. u.drive.image) (attached_with device self.now.drives) }
         ensures shows { (m : Machine) → StandsFor self.now m → ShowsVolume device m (option_map (λ i. i.now) result) }
     {
-        let Some(place) = self.units.place_of(device) else {
+        let Some(place) = self.drives.place_of(device) else {
             return None;
         };
-        Some(self.units.drive(place).image())
+        Some(self.drives.drive(place).image())
     }
 
     /// Storage as it is now, also while a program runs, lent.
@@ -69,7 +69,7 @@ impl<S: ImageStore> Channel<S> {
         ensures { (m : Machine) → StandsFor self.now m → result ≡ interrupts m }
     {
         match &self.subchannel {
-            Subchannel::Idle => self.units.lowest_arrived().is_some(),
+            Subchannel::Idle => self.drives.lowest_arrived().is_some(),
             Subchannel::Working(_, running) => running.interruption_asked(),
             Subchannel::Pending(_, _) => true,
         }

@@ -2,7 +2,7 @@
 
 ghost use Rattle.std.specs.Prelude.{◌≡◌, ◌++◌, ◌∷◌, [], IfErr, OnOk, OnErr};
 ghost use Rattle.s360_laws.specs.Machine.{Machine};
-ghost use Rattle.s360_channel.specs.Channel.{StandsFor, new_unit, attached};
+ghost use Rattle.s360_channel.specs.Channel.{StandsFor, new_attached, attached};
 ghost use Rattle.s360_channel.specs.Attaches.{RefusedAs, NotRefused};
 
 use crate::channel::Channel;
@@ -26,20 +26,20 @@ impl<S: ImageStore> Channel<S> {
         device: u8,
         image: Image<S>,
     ) -> Result<(), (AttachFault, Image<S>)>
-        ensures attached { OnOk result (self.new ≡ record self.old { units = self.old.units ++ new_unit device image ∷ [] }) }
+        ensures attached { OnOk result (self.new ≡ record self.old { drives = self.old.drives ++ new_attached device image ∷ [] }) }
         ensures stands { OnOk result ((m : Machine) → StandsFor self.old m → StandsFor self.new (attached device image m)) }
         ensures refused { IfErr result (λ e. RefusedAs device self.old e.0) }
         ensures not_taken { OnOk result (NotRefused device self.old) }
         ensures stays { OnErr result (self.new ≡ self.old) }
         ensures handed_back { IfErr result (λ e. e.1 ≡ image) }
     {
-        if self.units.place_of(device).is_some() {
+        if self.drives.place_of(device).is_some() {
             return Err((AttachFault::UnitTaken, image));
         }
-        if self.units.len() == 8 {
+        if self.drives.len() == 8 {
             return Err((AttachFault::Full, image));
         }
-        let Err((fault, image)) = self.units.attach(alloc, device, image) else {
+        let Err((fault, image)) = self.drives.attach(alloc, device, image) else {
             return Ok(());
         };
         Err((AttachFault::OutOfMemory(fault), image))

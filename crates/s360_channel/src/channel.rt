@@ -6,9 +6,9 @@ ghost use Rattle.s360_channel.specs.declared.subchannel.Subchannel.TheVariants.{
 ghost use Rattle.s360_channel.specs.Channel.{StandsFor};
 ghost use Rattle.s360_channel.specs.Finishes.{Finishes};
 
+use crate::drives::Drives;
 use crate::faults::NewFault;
 use crate::subchannel::Subchannel;
-use crate::units::Units;
 use ckd_image::{Image, ImageStore};
 use s360_words::Storage;
 use std::marker::Model;
@@ -23,7 +23,7 @@ pub struct Channel<S: ImageStore> {
     pub(crate) number: u8,
     pub(crate) storage: Storage,
     pub(crate) subchannel: Subchannel,
-    pub(crate) units: Units<S>,
+    pub(crate) drives: Drives<S>,
 }
 
 impl<S: ImageStore> Model for Channel<S> {
@@ -31,9 +31,9 @@ impl<S: ImageStore> Model for Channel<S> {
 
     ghost Value = { ChannelState };
 
-    ghost view = { λ c. record { number = c.number; storage = c.storage; subchannel = c.subchannel; units = c.units } };
+    ghost view = { λ c. record { number = c.number; storage = c.storage; subchannel = c.subchannel; drives = c.drives } };
 
-    ghost invariant = { λ c. IsChannel (record { number = c.number; storage = c.storage; subchannel = c.subchannel; units = c.units }) };
+    ghost invariant = { λ c. IsChannel (record { number = c.number; storage = c.storage; subchannel = c.subchannel; drives = c.drives }) };
 }
 
 /// What a reset answers.
@@ -62,18 +62,18 @@ impl<S: ImageStore> Channel<S> {
     /// `BadNumber`, and the storage is handed back.
     pub fn new(number: u8, storage: Storage) -> Result<Channel<S>, (NewFault, Storage)>
         ensures variant { IsOk result ↔ (number < 7) }
-        ensures ok { IfOk result (λ c. c ≡ record { number = number; storage = storage; subchannel = Idle; units = [] }) }
+        ensures ok { IfOk result (λ c. c ≡ record { number = number; storage = storage; subchannel = Idle; drives = [] }) }
         ensures err { IfErr result (λ e. e.1 ≡ storage) }
     {
         if number > 6 {
             return Err((NewFault::BadNumber, storage));
         }
-        let units = Units::new(storage.allocator());
+        let drives = Drives::new(storage.allocator());
         Ok(Channel {
             number,
             storage,
             subchannel: Subchannel::Idle,
-            units,
+            drives,
         })
     }
 
@@ -89,11 +89,11 @@ impl<S: ImageStore> Channel<S> {
             number: _,
             storage,
             subchannel: _,
-            units,
+            drives,
         } = self;
         Finished {
             storage,
-            images: units.into_images(),
+            images: drives.into_images(),
             reset,
         }
     }

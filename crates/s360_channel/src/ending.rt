@@ -4,39 +4,39 @@ ghost use Rattle.std.specs.Prelude.{◌≡◌, ◌<◌, ◌+◌, ◌*◌, length
 ghost use Rattle.s360_channel.specs.Channel.{is_at};
 ghost use Rattle.s360_channel.specs.Ends.{IsOver, MayBeCut, CutsProgram, LosesProgram, halted_idle, storage_halted};
 
+use crate::drives::Drives;
 use crate::subchannel::Subchannel;
-use crate::units::Units;
 use ckd_image::ImageStore;
 use s360_events::{Condition, Status};
 use s360_laws::arm::Arm;
 use s360_words::{ChannelStatus, Csw, Storage, UnitStatus};
 use std::mem;
 
-/// The program of the unit at a place is over: its channel status word pends, and the arm moves or rests.
+/// The program of the drive at a place is over: its channel status word pends, and the arm moves or rests.
 pub(crate) fn end_program<S: ImageStore>(
     place: usize,
     csw: Csw,
     motion: bool,
     subchannel: &mut Subchannel,
-    units: &mut Units<S>,
+    drives: &mut Drives<S>,
 )
-    requires { place < length units.old }
-    ensures { IsOver place csw motion units.old units.new subchannel.new }
+    requires { place < length drives.old }
+    ensures { IsOver place csw motion drives.old drives.new subchannel.new }
 {
-    let device = units.device(place);
-    units.set_arm(place, if motion { Arm::InMotion } else { Arm::AtRest });
+    let device = drives.device(place);
+    drives.set_arm(place, if motion { Arm::InMotion } else { Arm::AtRest });
     *subchannel = Subchannel::Pending(device, csw);
 }
 
 /// The program that runs, if one does, is cut, and is over.
-pub(crate) fn cut_program<S: ImageStore>(subchannel: &mut Subchannel, units: &mut Units<S>)
-    requires { MayBeCut subchannel.old units.old }
-    ensures { CutsProgram subchannel.old units.old units.new subchannel.new }
+pub(crate) fn cut_program<S: ImageStore>(subchannel: &mut Subchannel, drives: &mut Drives<S>)
+    requires { MayBeCut subchannel.old drives.old }
+    ensures { CutsProgram subchannel.old drives.old drives.new subchannel.new }
 {
     match mem::replace(subchannel, Subchannel::Idle) {
         Subchannel::Working(place, running) => {
-            let (csw, motion, _) = units.cut(place, running);
-            end_program(place, csw, motion, subchannel, units);
+            let (csw, motion, _) = drives.cut(place, running);
+            end_program(place, csw, motion, subchannel, drives);
         }
         other => *subchannel = other,
     }
@@ -46,12 +46,12 @@ pub(crate) fn cut_program<S: ImageStore>(subchannel: &mut Subchannel, units: &mu
 pub(crate) fn halt_device<S: ImageStore>(
     device: u8,
     storage: &mut Storage,
-    units: &Units<S>,
+    drives: &Drives<S>,
 ) -> Condition<Status>
-    ensures answer { result ≡ halted_idle (is_some (position (is_at device) units.now)) }
-    ensures storage { storage.new ≡ storage_halted (is_some (position (is_at device) units.now)) storage.old }
+    ensures answer { result ≡ halted_idle (is_some (position (is_at device) drives.now)) }
+    ensures storage { storage.new ≡ storage_halted (is_some (position (is_at device) drives.now)) storage.old }
 {
-    if units.place_of(device).is_none() {
+    if drives.place_of(device).is_none() {
         return Condition::Three;
     }
     let (unit, channel) = (UnitStatus(0), ChannelStatus(0));
@@ -64,16 +64,16 @@ pub(crate) fn halt_device<S: ImageStore>(
 pub(crate) fn lose_program<S: ImageStore>(
     number: u8,
     subchannel: &mut Subchannel,
-    units: &mut Units<S>,
+    drives: &mut Drives<S>,
 ) -> Option<(u16, u16, u16)>
-    requires { MayBeCut subchannel.old units.old }
+    requires { MayBeCut subchannel.old drives.old }
     ensures idle { subchannel.new ≡ Subchannel.Idle }
-    ensures lost { LosesProgram subchannel.old number units.old units.new result }
+    ensures lost { LosesProgram subchannel.old number drives.old drives.new result }
 {
     match mem::replace(subchannel, Subchannel::Idle) {
         Subchannel::Working(place, running) => {
-            let device = units.device(place);
-            let (_, _, unsaved) = units.cut(place, running);
+            let device = drives.device(place);
+            let (_, _, unsaved) = drives.cut(place, running);
             unsaved_at(number, device, unsaved)
         }
         _ => None,

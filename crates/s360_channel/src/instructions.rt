@@ -30,7 +30,7 @@ impl<S: ImageStore> Channel<S> {
             self.number,
             &mut self.storage,
             &mut self.subchannel,
-            &mut self.units,
+            &mut self.drives,
         )
     }
 
@@ -45,7 +45,7 @@ impl<S: ImageStore> Channel<S> {
             self.number,
             &mut self.storage,
             &mut self.subchannel,
-            &mut self.units,
+            &mut self.drives,
         )
     }
 
@@ -60,9 +60,9 @@ impl<S: ImageStore> Channel<S> {
             return Condition::Three;
         }
         match self.subchannel {
-            Subchannel::Idle => halt_device((address % 256) as u8, &mut self.storage, &self.units),
+            Subchannel::Idle => halt_device((address % 256) as u8, &mut self.storage, &self.drives),
             Subchannel::Working(_, _) => {
-                cut_program(&mut self.subchannel, &mut self.units);
+                cut_program(&mut self.subchannel, &mut self.drives);
                 Condition::Two
             }
             Subchannel::Pending(_, _) => Condition::Zero,

@@ -10,9 +10,9 @@ ghost use Rattle.s360_channel.specs.Channel.{StandsFor, IsChannel};
 ghost use Rattle.s360_channel.specs.Calls.{DoesQuietly};
 ghost use Rattle.s360_channel.specs.Nexts.{DoesOn, TakesProgram, of_parts};
 
+use crate::drives::Drives;
 use crate::subchannel::Subchannel;
 use crate::testing::csw_of_unit;
-use crate::units::Units;
 use ckd_image::ImageStore;
 use s360_laws::arm::Arm;
 use s360_program::laws::{stands_after_change, stands_after_interruption};
@@ -20,19 +20,19 @@ use s360_program::program::Running;
 use s360_words::{Csw, Storage, UnitStatus};
 
 /// The arm of the drive at an input/output address arrives, if it moves.
-pub(crate) fn arrive<S: ImageStore>(address: u16, number: u8, units: &mut Units<S>) -> bool
-    ensures does { (s : StorageState) (sub : SubchannelState) (m : Machine) → StandsFor (of_parts number s sub units.old) m → DoesQuietly (machine.Arrive address) m (machine.HasArrived result) (of_parts number s sub units.new) }
-    ensures images { map (λ u. u.drive.image) units.new ≡ map (λ u. u.drive.image) units.old }
+pub(crate) fn arrive<S: ImageStore>(address: u16, number: u8, drives: &mut Drives<S>) -> bool
+    ensures does { (s : StorageState) (sub : SubchannelState) (m : Machine) → StandsFor (of_parts number s sub drives.old) m → DoesQuietly (machine.Arrive address) m (machine.HasArrived result) (of_parts number s sub drives.new) }
+    ensures images { map (λ u. u.drive.image) drives.new ≡ map (λ u. u.drive.image) drives.old }
 {
     if address / 256 != number as u16 {
         return false;
     }
-    let Some(place) = units.place_of((address % 256) as u8) else {
+    let Some(place) = drives.place_of((address % 256) as u8) else {
         return false;
     };
-    match units.arm(place) {
+    match drives.arm(place) {
         Arm::InMotion => {
-            units.set_arm(place, Arm::Arrived);
+            drives.set_arm(place, Arm::Arrived);
             true
         }
         Arm::AtRest => false,
@@ -45,18 +45,18 @@ pub(crate) fn interrupt<S: ImageStore>(
     number: u8,
     storage: &mut Storage,
     subchannel: &mut Subchannel,
-    units: &mut Units<S>,
+    drives: &mut Drives<S>,
 ) -> Option<(u16, Csw)>
-    requires { IsChannel (of_parts number storage.old subchannel.old units.old) }
-    ensures does { (m : Machine) → StandsFor (of_parts number storage.old subchannel.old units.old) m → DoesQuietly machine.Interrupt m (machine.Interrupted result) (of_parts number storage.new subchannel.new units.new) }
-    ensures images { map (λ u. u.drive.image) units.new ≡ map (λ u. u.drive.image) units.old }
+    requires { IsChannel (of_parts number storage.old subchannel.old drives.old) }
+    ensures does { (m : Machine) → StandsFor (of_parts number storage.old subchannel.old drives.old) m → DoesQuietly machine.Interrupt m (machine.Interrupted result) (of_parts number storage.new subchannel.new drives.new) }
+    ensures images { map (λ u. u.drive.image) drives.new ≡ map (λ u. u.drive.image) drives.old }
 {
     stands_after_interruption();
     stands_after_change();
     match subchannel {
-        Subchannel::Idle => interrupt_device(number, storage, units),
+        Subchannel::Idle => interrupt_device(number, storage, drives),
         Subchannel::Working(place, running) => {
-            let device = units.device(*place);
+            let device = drives.device(*place);
             interrupt_program(number, device, storage, running)
         }
         Subchannel::Pending(device, csw) => {
@@ -71,14 +71,14 @@ pub(crate) fn interrupt<S: ImageStore>(
 fn interrupt_device<S: ImageStore>(
     number: u8,
     storage: &mut Storage,
-    units: &mut Units<S>,
+    drives: &mut Drives<S>,
 ) -> Option<(u16, Csw)>
-    ensures does { DoesOn number (λ m. interrupt_device m (lowest (filter has_arrived m.devices))) (machine.Interrupted result) storage.old units.old storage.new Idle units.new }
-    ensures images { map (λ u. u.drive.image) units.new ≡ map (λ u. u.drive.image) units.old }
+    ensures does { DoesOn number (λ m. interrupt_device m (lowest (filter has_arrived m.devices))) (machine.Interrupted result) storage.old drives.old storage.new Idle drives.new }
+    ensures images { map (λ u. u.drive.image) drives.new ≡ map (λ u. u.drive.image) drives.old }
 {
-    let device = units.lowest_arrived()?;
-    let place = units.place_of(device)?;
-    units.set_arm(place, Arm::AtRest);
+    let device = drives.lowest_arrived()?;
+    let place = drives.place_of(device)?;
+    drives.set_arm(place, Arm::AtRest);
     let csw = csw_of_unit(UnitStatus::DEVICE_END);
     Some(interrupted(number, device, csw, storage))
 }

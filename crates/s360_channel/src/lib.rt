@@ -3,8 +3,10 @@
 #![tactic(auto)]
 
 mod asking;
+mod attached_drive;
 mod attaching;
 mod channel;
+mod drives;
 mod driving;
 mod ending;
 mod events_at;
@@ -17,8 +19,6 @@ mod starting;
 mod subchannel;
 mod testing;
 mod turns;
-mod unit;
-mod units;
 mod view;
 mod watching;
 

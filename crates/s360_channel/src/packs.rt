@@ -26,7 +26,7 @@ impl<S: ImageStore> Channel<S> {
     {
         let place = self.free_place(device)?;
         move_up(place, &mut self.subchannel);
-        Ok(self.units.remove(place))
+        Ok(self.drives.remove(place))
     }
 
     /// Changes the pack of the drive with this low byte of an address: it has this image from now on, and gives back the one that
@@ -51,10 +51,10 @@ impl<S: ImageStore> Channel<S> {
             Ok(place) => place,
             Err(fault) => return Err((ExchangeFault::Held(fault), image)),
         };
-        if !self.units.fits(place, image.geometry()) {
+        if !self.drives.fits(place, image.geometry()) {
             return Err((ExchangeFault::OtherPack, image));
         }
-        Ok(self.units.exchange(place, image))
+        Ok(self.drives.exchange(place, image))
     }
 
     // The place of the drive with this address, if nothing is owed of it.
@@ -62,7 +62,7 @@ impl<S: ImageStore> Channel<S> {
         ensures free { IfOk result (λ place. IsFree device place self.now) }
         ensures refused { (m : Machine) → StandsFor self.now m → IfErr result (λ e. why_stays device m ≡ Some e) }
     {
-        let Some(place) = self.units.place_of(device) else {
+        let Some(place) = self.drives.place_of(device) else {
             return Err(DetachFault::NoDrive);
         };
         if works_at(place, &self.subchannel) {
@@ -71,7 +71,7 @@ impl<S: ImageStore> Channel<S> {
         if waits_for(device, &self.subchannel) {
             return Err(DetachFault::EndingPends);
         }
-        match self.units.arm(place) {
+        match self.drives.arm(place) {
             Arm::AtRest => Ok(place),
             Arm::InMotion => Err(DetachFault::DeviceEndOwed),
             Arm::Arrived => Err(DetachFault::DeviceEndOwed),

@@ -61,7 +61,7 @@ impl<S: ImageStore> Channel<S> {
     {
         View {
             subchannel: self.subchannel_shown(),
-            drives: self.units.shown(),
+            drives: self.drives.shown(),
         }
     }
 
@@ -71,7 +71,7 @@ impl<S: ImageStore> Channel<S> {
         match &self.subchannel {
             Subchannel::Idle => SubchannelView::Idle,
             Subchannel::Working(place, running) => {
-                SubchannelView::Working(self.units.device(*place), running.interruption_asked())
+                SubchannelView::Working(self.drives.device(*place), running.interruption_asked())
             }
             Subchannel::Pending(device, csw) => SubchannelView::Pending(*device, *csw),
         }

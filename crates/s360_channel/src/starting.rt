@@ -15,11 +15,11 @@ ghost use Rattle.s360_program.specs.Advances.{Rests};
 ghost use Rattle.s360_channel.specs.Channel.{StandsFor, IsChannel, device_of};
 ghost use Rattle.s360_channel.specs.Calls.{DoesQuietly};
 ghost use Rattle.s360_channel.specs.Nexts.{DoesAt, of_parts};
-ghost use Rattle.s360_channel.specs.UnitCalls.{DriveIs};
+ghost use Rattle.s360_channel.specs.DriveCalls.{DriveIs};
 ghost use Rattle.s360_channel.specs.declared.subchannel.Subchannel.TheVariants.{Idle};
 
+use crate::drives::Drives;
 use crate::subchannel::Subchannel;
-use crate::units::Units;
 use ckd_image::ImageStore;
 use s360_events::{Condition, Status};
 use s360_laws::arm::Arm;
@@ -33,11 +33,11 @@ pub(crate) fn start_io<S: ImageStore>(
     number: u8,
     storage: &mut Storage,
     subchannel: &mut Subchannel,
-    units: &mut Units<S>,
+    drives: &mut Drives<S>,
 ) -> Condition<Status>
-    requires { IsChannel (of_parts number storage.old subchannel.old units.old) }
-    ensures does { (m : Machine) → StandsFor (of_parts number storage.old subchannel.old units.old) m → DoesQuietly (machine.Sio address) m (answer_seen (answer.Sio address result)) (of_parts number storage.new subchannel.new units.new) }
-    ensures images { map (λ u. u.drive.image) units.new ≡ map (λ u. u.drive.image) units.old }
+    requires { IsChannel (of_parts number storage.old subchannel.old drives.old) }
+    ensures does { (m : Machine) → StandsFor (of_parts number storage.old subchannel.old drives.old) m → DoesQuietly (machine.Sio address) m (answer_seen (answer.Sio address result)) (of_parts number storage.new subchannel.new drives.new) }
+    ensures images { map (λ u. u.drive.image) drives.new ≡ map (λ u. u.drive.image) drives.old }
 {
     if address / 256 != number as u16 {
         return Condition::Three;
@@ -46,10 +46,10 @@ pub(crate) fn start_io<S: ImageStore>(
         return Condition::Two;
     };
     let device = (address % 256) as u8;
-    let Some(place) = units.place_of(device) else {
+    let Some(place) = drives.place_of(device) else {
         return Condition::Three;
     };
-    start_device(place, storage, subchannel, units)
+    start_device(place, storage, subchannel, drives)
 }
 
 // The drive at a place is started, or its arm keeps it busy.
@@ -57,20 +57,20 @@ fn start_device<S: ImageStore>(
     place: usize,
     storage: &mut Storage,
     subchannel: &mut Subchannel,
-    units: &mut Units<S>,
+    drives: &mut Drives<S>,
 ) -> Condition<Status>
     requires idle { subchannel.old ≡ Idle }
-    requires rests { DriveIs place Rests units.old }
-    ensures does { DoesAt place (λ u m. start_device u.device m (Some (device_of u))) (condition_seen status_seen result) storage.old units.old storage.new subchannel.new units.new }
-    ensures images { map (λ u. u.drive.image) units.new ≡ map (λ u. u.drive.image) units.old }
+    requires rests { DriveIs place Rests drives.old }
+    ensures does { DoesAt place (λ u m. start_device u.device m (Some (device_of u))) (condition_seen status_seen result) storage.old drives.old storage.new subchannel.new drives.new }
+    ensures images { map (λ u. u.drive.image) drives.new ≡ map (λ u. u.drive.image) drives.old }
 {
-    match units.arm(place) {
+    match drives.arm(place) {
         Arm::InMotion => status_stored(UnitStatus::BUSY, ChannelStatus(0), storage),
         Arm::Arrived => {
-            units.set_arm(place, Arm::AtRest);
+            drives.set_arm(place, Arm::AtRest);
             status_stored(busy_device_end(), ChannelStatus(0), storage)
         }
-        Arm::AtRest => start_program(place, storage, subchannel, units),
+        Arm::AtRest => start_program(place, storage, subchannel, drives),
     }
 }
 
@@ -79,20 +79,20 @@ fn start_program<S: ImageStore>(
     place: usize,
     storage: &mut Storage,
     subchannel: &mut Subchannel,
-    units: &mut Units<S>,
+    drives: &mut Drives<S>,
 ) -> Condition<Status>
     requires idle { subchannel.old ≡ Idle }
-    requires rests { DriveIs place Rests units.old }
-    ensures does { DoesAt place (λ u m. started u.device m (first (start_of m (drive_of u.drive.state)))) (condition_seen status_seen result) storage.old units.old storage.new subchannel.new units.new }
-    ensures images { map (λ u. u.drive.image) units.new ≡ map (λ u. u.drive.image) units.old }
+    requires rests { DriveIs place Rests drives.old }
+    ensures does { DoesAt place (λ u m. started u.device m (first (start_of m (drive_of u.drive.state)))) (condition_seen status_seen result) storage.old drives.old storage.new subchannel.new drives.new }
+    ensures images { map (λ u. u.drive.image) drives.new ≡ map (λ u. u.drive.image) drives.old }
 {
     accepted_stands();
     let caw = storage.caw_word();
-    match units.start(place, caw, storage) {
+    match drives.start(place, caw, storage) {
         Start::Bad => status_stored(UnitStatus(0), ChannelStatus::PROGRAM_CHECK, storage),
         Start::Rejected => status_stored(UnitStatus::UNIT_CHECK, ChannelStatus(0), storage),
         Start::Immediate(told, asked) => {
-            units.set_arm(place, arm_after(told.motion));
+            drives.set_arm(place, arm_after(told.motion));
             status_stored(told.unit, interruption_told(asked), storage)
         }
         Start::Accepted(running) => {

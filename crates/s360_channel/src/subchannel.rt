@@ -9,7 +9,7 @@ use s360_words::Csw;
 pub enum Subchannel {
     /// Available.
     Idle,
-    /// A program runs at the unit with this place in the order of attachment.
+    /// A program runs at the drive with this place in the order of attachment.
     Working(usize, Running),
     /// The program of a device has ended, and its channel status word is not yet stored.
     Pending(u8, Csw),

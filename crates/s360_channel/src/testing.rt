@@ -12,8 +12,8 @@ ghost use Rattle.s360_channel.specs.Calls.{DoesQuietly};
 ghost use Rattle.s360_channel.specs.Nexts.{DoesIdle, of_parts};
 ghost use Rattle.s360_channel.specs.declared.subchannel.Subchannel.TheVariants.{Idle};
 
+use crate::drives::Drives;
 use crate::subchannel::Subchannel;
-use crate::units::Units;
 use ckd_image::ImageStore;
 use s360_events::Condition;
 use s360_laws::arm::Arm;
@@ -25,18 +25,18 @@ pub(crate) fn test_io<S: ImageStore>(
     number: u8,
     storage: &mut Storage,
     subchannel: &mut Subchannel,
-    units: &mut Units<S>,
+    drives: &mut Drives<S>,
 ) -> Condition<Csw>
-    requires { IsChannel (of_parts number storage.old subchannel.old units.old) }
-    ensures does { (m : Machine) → StandsFor (of_parts number storage.old subchannel.old units.old) m → DoesQuietly (machine.Tio address) m (answer_seen (answer.Tio address result)) (of_parts number storage.new subchannel.new units.new) }
-    ensures images { map (λ u. u.drive.image) units.new ≡ map (λ u. u.drive.image) units.old }
+    requires { IsChannel (of_parts number storage.old subchannel.old drives.old) }
+    ensures does { (m : Machine) → StandsFor (of_parts number storage.old subchannel.old drives.old) m → DoesQuietly (machine.Tio address) m (answer_seen (answer.Tio address result)) (of_parts number storage.new subchannel.new drives.new) }
+    ensures images { map (λ u. u.drive.image) drives.new ≡ map (λ u. u.drive.image) drives.old }
 {
     if address / 256 != number as u16 {
         return Condition::Three;
     }
     let device = (address % 256) as u8;
     match subchannel {
-        Subchannel::Idle => test_device(device, storage, units),
+        Subchannel::Idle => test_device(device, storage, drives),
         Subchannel::Working(_, _) => Condition::Two,
         Subchannel::Pending(pending, csw) => {
             if device != *pending {
@@ -53,18 +53,18 @@ pub(crate) fn test_io<S: ImageStore>(
 fn test_device<S: ImageStore>(
     device: u8,
     storage: &mut Storage,
-    units: &mut Units<S>,
+    drives: &mut Drives<S>,
 ) -> Condition<Csw>
-    ensures does { DoesIdle (λ m. test_device device m (device_at m device)) (condition_seen csw_seen result) storage.old units.old storage.new Idle units.new }
-    ensures images { map (λ u. u.drive.image) units.new ≡ map (λ u. u.drive.image) units.old }
+    ensures does { DoesIdle (λ m. test_device device m (device_at m device)) (condition_seen csw_seen result) storage.old drives.old storage.new Idle drives.new }
+    ensures images { map (λ u. u.drive.image) drives.new ≡ map (λ u. u.drive.image) drives.old }
 {
-    let Some(place) = units.place_of(device) else {
+    let Some(place) = drives.place_of(device) else {
         return Condition::Three;
     };
-    match units.arm(place) {
+    match drives.arm(place) {
         Arm::InMotion => csw_stored(csw_of_unit(UnitStatus::BUSY), storage),
         Arm::Arrived => {
-            units.set_arm(place, Arm::AtRest);
+            drives.set_arm(place, Arm::AtRest);
             csw_stored(csw_of_unit(UnitStatus::DEVICE_END), storage)
         }
         Arm::AtRest => Condition::Zero,

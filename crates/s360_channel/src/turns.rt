@@ -52,9 +52,11 @@ impl<S: ImageStore> Channel<S> {
             return 0;
         };
         let place = *place;
-        let advance = self.units.advance(place, running, units, &mut self.storage);
+        let advance = self
+            .drives
+            .advance(place, running, units, &mut self.storage);
         if let Some((csw, motion)) = advance.ending {
-            end_program(place, csw, motion, &mut self.subchannel, &mut self.units);
+            end_program(place, csw, motion, &mut self.subchannel, &mut self.drives);
         }
         advance.done
     }
@@ -65,7 +67,7 @@ impl<S: ImageStore> Channel<S> {
         ensures does { (m : Machine) → StandsFor self.old m → DoesQuietly (machine.Arrive address) m (machine.HasArrived result) self.new }
         ensures calls { CallsNoStore self.old self.new }
     {
-        arrive(address, self.number, &mut self.units)
+        arrive(address, self.number, &mut self.drives)
     }
 
     /// The processor takes an interruption: the address that interrupts, and the channel status word that is stored. While a
@@ -80,7 +82,7 @@ impl<S: ImageStore> Channel<S> {
             self.number,
             &mut self.storage,
             &mut self.subchannel,
-            &mut self.units,
+            &mut self.drives,
         )
     }
 
@@ -90,8 +92,8 @@ impl<S: ImageStore> Channel<S> {
         ensures does { (m : Machine) → StandsFor self.old m → Does machine.Reset m (machine.WasReset result.unsaved) self.old self.new }
         ensures calls { CallsAtMost 1 self.old self.new }
     {
-        let unsaved = lose_program(self.number, &mut self.subchannel, &mut self.units);
-        self.units.reset();
+        let unsaved = lose_program(self.number, &mut self.subchannel, &mut self.drives);
+        self.drives.reset();
         Reset { unsaved }
     }
 }

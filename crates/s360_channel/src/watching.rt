@@ -19,7 +19,7 @@ impl<S: ImageStore> Channel<S> {
     {
         match &self.subchannel {
             Subchannel::Working(place, running) => Some(Watched {
-                device: self.units.device(*place),
+                device: self.drives.device(*place),
                 program: running.view(),
             }),
             Subchannel::Idle | Subchannel::Pending(_, _) => None,
@@ -32,7 +32,7 @@ impl<S: ImageStore> Channel<S> {
         ensures { (m : Machine) → StandsFor self.now m → ShowsDriveAtWork m (option_map (λ d. d.now) result) }
     {
         match &self.subchannel {
-            Subchannel::Working(place, _) => Some(self.units.drive(*place)),
+            Subchannel::Working(place, _) => Some(self.drives.drive(*place)),
             Subchannel::Idle | Subchannel::Pending(_, _) => None,
         }
     }

@@ -6,7 +6,7 @@ use Rattle.s360_words.proofs.Overwriting.{length-overwritten}
 use Rattle.ckd_image.specs.Image.{ImageState}
 use Rattle.s360_laws.specs.Machine as machine
 use Rattle.s360_laws.specs.Machine.{Machine}
-use Rattle.s360_channel.specs.Channel.{ChannelState, StandsFor, attached, new_unit}
+use Rattle.s360_channel.specs.Channel.{ChannelState, StandsFor, attached, new_attached}
 use Rattle.s360_channels.specs.Channels.{Fits}
 use Rattle.s360_channels.specs.Adding.{new_channel}
 
@@ -22,7 +22,7 @@ new_fits number size h = record {
   as_large = length-replicate {A = ℕ} size 0;
 }
 
-pub attached_fits : (device : ℕ) (image : ImageState) (c c' : ChannelState) → c' ≡ record c { units = c.units ++ new_unit device image ∷ [] }
+pub attached_fits : (device : ℕ) (image : ImageState) (c c' : ChannelState) → c' ≡ record c { drives = c.drives ++ new_attached device image ∷ [] }
     → ((m : Machine) → StandsFor c m → StandsFor c' (attached device image m)) → (size : ℕ) → Fits size c → Fits size c'
 attached_fits device image c c' e h size f = record {
   is_channel = record { machine = attached device image f.is_channel.machine; stands = h f.is_channel.machine f.is_channel.stands };

@@ -1,7 +1,7 @@
 -- What Test Channel answers does not depend on the storage that the channel finds.
 use Rattle.std.proofs.Common.{◌≡◌, sym, ap, ◌∙◌}
 use Rattle.s360_words.specs.Storage.{Storage}
-use Rattle.s360_laws.specs.Events.{Answer, Condition, Tch}
+use Rattle.s360_laws.specs.Events.{Answer, WithCode, Tch}
 use Rattle.s360_laws.specs.Machine.{Machine, test_channel}
 use Rattle.s360_laws.specs.declared.condition.ConditionCode.{ConditionCode}
 use Rattle.s360_laws.specs.declared.condition.ConditionCode.TheVariants.{Zero, One, Two}
@@ -25,6 +25,6 @@ code_is c m (Pending device csw) h = ap (λ (m : Machine). test_channel m.subcha
 
 pub tests_over : (answer : Answer) (c : ChannelState) (s : Storage) → IsChannel c → ((m : Machine) → StandsFor c m → DoesQuietly Tch m answer c) → Tests answer s c
 tests_over answer c s k h m t = record {
-  answers = (h k.machine k.stands).answers ∙ ap Condition (code_is c k.machine c.subchannel k.stands.shows ∙ sym (code_is (with_storage c s) m c.subchannel t.shows));
+  answers = (h k.machine k.stands).answers ∙ ap WithCode (code_is c k.machine c.subchannel k.stands.shows ∙ sym (code_is (with_storage c s) m c.subchannel t.shows));
   stands = t;
 }

@@ -23,8 +23,8 @@ size_in : (c : ChannelState) (m : Machine) (s : Subchannel) → Shows c m s → 
 size_in c m Idle h = ap (λ (m : Machine). length m.storage.bytes) (sym h.0)
 size_in c m (Pending device csw) h = ap (λ (m : Machine). length m.storage.bytes) (sym h.0)
 size_in c m (Working place r) w =
-    ap (λ s. length s.bytes) (sym (storage_seen r.key r.stage r.place c.storage w.unit.drive.state w.unit.drive.work))
-    ∙ subst (OutcomeKeepsSize m.storage) (seen (start_of m w.drive) w.script r c.storage w.unit.drive w.runs) (keeps_size (start_of m w.drive) w.script)
+    ap (λ s. length s.bytes) (sym (storage_seen r.key r.stage r.place c.storage w.attached.drive.state w.attached.drive.work))
+    ∙ subst (OutcomeKeepsSize m.storage) (seen (start_of m w.drive) w.script r c.storage w.attached.drive w.runs) (keeps_size (start_of m w.drive) w.script)
 
 -- an event leaves storage as large as it was
 pub does_size : (e : Event) (answer : Answer) (m : Machine) (old new : ChannelState) → StandsFor old m → Does e m answer old new → length new.storage.bytes ≡ length old.storage.bytes

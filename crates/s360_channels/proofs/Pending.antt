@@ -42,5 +42,5 @@ pending_over b c s k h m t = h k.machine k.stands ∙ go c.subchannel refl
     go Idle e = sym (idle_interrupts c k.machine k.stands e) ∙ idle_interrupts (with_storage c s) m t e
     go (Pending device csw) e = sym (pending_interrupts c k.machine device csw k.stands e) ∙ pending_interrupts (with_storage c s) m device csw t e
     go (Working place r) e =
-        sym (working_interrupts c k.machine place r r.place.interruption k.stands e (λ w. asked_there r.key r.stage r.place c.storage w.unit.drive.state w.unit.drive.work))
-        ∙ working_interrupts (with_storage c s) m place r r.place.interruption t e (λ w. asked_there r.key r.stage r.place s w.unit.drive.state w.unit.drive.work)
+        sym (working_interrupts c k.machine place r r.place.interruption k.stands e (λ w. asked_there r.key r.stage r.place c.storage w.attached.drive.state w.attached.drive.work))
+        ∙ working_interrupts (with_storage c s) m place r r.place.interruption t e (λ w. asked_there r.key r.stage r.place s w.attached.drive.state w.attached.drive.work)

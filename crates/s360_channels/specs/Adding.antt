@@ -3,7 +3,7 @@ use Rattle.std.specs.Prelude.{◌≡◌, ◌++◌, ◌∷◌, [], ℕ, List, Opt
 use Rattle.s360_words.specs.Storage.{cleared}
 use Rattle.ckd_image.specs.Image.{ImageState}
 use Rattle.s360_channel.specs.Attaches as channel
-use Rattle.s360_channel.specs.Channel.{ChannelState, new_unit}
+use Rattle.s360_channel.specs.Channel.{ChannelState, new_attached}
 use Rattle.s360_channel.specs.declared.subchannel.Subchannel.TheVariants.{Idle}
 use Rattle.s360_channels.specs.declared.faults.AttachFault.{AttachFault}
 use Rattle.s360_channels.specs.declared.faults.AttachFault.TheVariants.{NoChannel, Refused}
@@ -12,7 +12,7 @@ use Rattle.s360_channels.specs.declared.faults.AddFault.TheVariants.{BadNumber, 
 
 -- a channel with no drives; the storage that it has between calls is zero, and as large as the shared one
 abbrev pub new_channel : (number size : ℕ) → ChannelState
-new_channel number size = record { number = number; storage = cleared size; subchannel = Idle; units = [] }
+new_channel number size = record { number = number; storage = cleared size; subchannel = Idle; drives = [] }
 
 abbrev pub is_taken : (number : ℕ) → List (Option ChannelState) → Bool
 is_taken number cs = is_some (slice_index_or cs number None)
@@ -30,7 +30,7 @@ RefusedAs number cs OutOfMemory = IsFree number cs
 abbrev pub AttachesTo : Option ChannelState → (number device : ℕ) → ImageState → (old new : List (Option ChannelState)) → Type 0
 AttachesTo None number device image old new = ⊥
 AttachesTo (Some c) number device image old new =
-    channel.NotRefused device c × (new ≡ slice_set old number (Some (record c { units = c.units ++ new_unit device image ∷ [] })))
+    channel.NotRefused device c × (new ≡ slice_set old number (Some (record c { drives = c.drives ++ new_attached device image ∷ [] })))
 
 abbrev pub AttachesAt : (number device : ℕ) → ImageState → (old new : List (Option ChannelState)) → Type 0
 AttachesAt number device image old new = AttachesTo (slice_index_or old number None) number device image old new

@@ -1,7 +1,7 @@
 -- What is asked of a channel over the shared storage: what Test Channel answers, and whether an interruption would be taken.
 use Rattle.std.specs.Prelude.{◌≡◌, Bool, false, Option, Some, None}
 use Rattle.s360_words.specs.Storage.{Storage}
-use Rattle.s360_laws.specs.Events.{Answer, Condition, Tch}
+use Rattle.s360_laws.specs.Events.{Answer, WithCode, Tch}
 use Rattle.s360_laws.specs.Machine.{Machine}
 use Rattle.s360_laws.specs.declared.condition.ConditionCode.TheVariants.{Three}
 use Rattle.s360_channel.specs.Calls.{DoesQuietly}
@@ -14,7 +14,7 @@ Tests answer s c = (m : Machine) → StandsFor (with_storage c s) m → DoesQuie
 
 -- and where there may be none
 abbrev pub TestsAt : Answer → Storage → Option ChannelState → Type 0
-TestsAt answer s None = answer ≡ Condition Three
+TestsAt answer s None = answer ≡ WithCode Three
 TestsAt answer s (Some c) = Tests answer s c
 
 abbrev pub Interrupts : Bool → Storage → ChannelState → Type 0

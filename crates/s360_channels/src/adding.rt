@@ -2,7 +2,7 @@
 
 ghost use Rattle.std.specs.Prelude.{◌≡◌, ◌<◌, ◌/◌, ◌%◌, ◌++◌, ◌∷◌, [], ℕ, length, Some, None, IfOk, OnOk, OnErr, IfErr, slice_set, slice_index_or};
 ghost use Rattle.s360_channel.specs.Attaches.{NotRefused};
-ghost use Rattle.s360_channel.specs.Channel.{new_unit};
+ghost use Rattle.s360_channel.specs.Channel.{new_attached};
 ghost use Rattle.s360_channels.specs.Channels.{AllFit, Fits};
 ghost use Rattle.s360_channels.specs.Adding.{AttachesAt, IsFree, RefusedAs, WhyNot, new_channel};
 
@@ -91,7 +91,7 @@ fn attach_at<S: ImageStore>(
     device: u8,
     image: Image<S>,
 ) -> Result<(), (AttachFault, Image<S>)>
-    ensures attached { OnOk result (channel.new ≡ record channel.old { units = channel.old.units ++ new_unit device image ∷ [] }) }
+    ensures attached { OnOk result (channel.new ≡ record channel.old { drives = channel.old.drives ++ new_attached device image ∷ [] }) }
     ensures not_refused { OnOk result (NotRefused device channel.old) }
     ensures refused { IfErr result (λ e. WhyNot (Some channel.old) device e.0) }
     ensures handed_back { IfErr result (λ e. e.1 ≡ image) }

@@ -12,7 +12,7 @@ use Rattle.s360_deck.specs.declared.spelling.EventName.{EventName}
 use Rattle.s360_deck.specs.declared.spelling.EventName.TheVariants as name
 use Rattle.s360_deck.specs.declared.spelling.LineFault.{LineFault}
 use Rattle.s360_deck.specs.declared.spelling.LineFault.TheVariants as line
-use Rattle.s360_deck.specs.Digits.{unit_address_of, storage_address_of, key_of, count_within, run_units_of, stored_bytes_of}
+use Rattle.s360_deck.specs.Digits.{device_address_of, storage_address_of, key_of, count_within, run_units_of, stored_bytes_of}
 
 -- Lines and words.
 
@@ -67,8 +67,8 @@ abbrev pub two_of : (List ℕ → List ℕ → Option Event) → List (List ℕ)
 two_of f (first ∷ second ∷ []) = f first second
 two_of f words = None
 
-abbrev pub unit_address_in : List (List ℕ) → Option ℕ
-unit_address_in words = option_and_then unit_address_of (only words)
+abbrev pub device_address_in : List (List ℕ) → Option ℕ
+device_address_in words = option_and_then device_address_of (only words)
 
 abbrev pub units_in : List (List ℕ) → Option ℕ
 units_in words = option_and_then (count_within 0 65535) (only words)
@@ -95,13 +95,13 @@ show_of address count = option_and_then (λ at. option_map (event.Show at) (coun
 
 -- the event of this name and these operands
 abbrev pub event_of : EventName → List (List ℕ) → Option Event
-event_of name.Sio words = option_map event.Sio (unit_address_in words)
-event_of name.Tio words = option_map event.Tio (unit_address_in words)
-event_of name.Hio words = option_map event.Hio (unit_address_in words)
+event_of name.Sio words = option_map event.Sio (device_address_in words)
+event_of name.Tio words = option_map event.Tio (device_address_in words)
+event_of name.Hio words = option_map event.Hio (device_address_in words)
 event_of name.Tch words = without_operand words event.Tch
 event_of name.Step words = option_map event.Step (units_in words)
 event_of name.Run words = option_map event.Run (run_units_in words)
-event_of name.Arrive words = option_map event.Arrive (unit_address_in words)
+event_of name.Arrive words = option_map event.Arrive (device_address_in words)
 event_of name.Int words = without_operand words event.Interrupt
 event_of name.Reset words = without_operand words event.Reset
 event_of name.Store words = store_of words

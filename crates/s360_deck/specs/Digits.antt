@@ -19,8 +19,8 @@ number_of base least most word =
     if nat_le least (length word) && nat_le (length word) most then number_behind 0 base word else None
 
 -- an input/output address: three hexadecimal digits
-abbrev pub unit_address_of : List ℕ → Option ℕ
-unit_address_of word = number_of 16 3 3 word
+abbrev pub device_address_of : List ℕ → Option ℕ
+device_address_of word = number_of 16 3 3 word
 
 -- a storage address: one to six hexadecimal digits
 abbrev pub storage_address_of : List ℕ → Option ℕ

@@ -1,14 +1,14 @@
 //! Numbers in digits. Letters are capitals.
 
 ghost use Rattle.std.specs.Prelude.{◌≡◌, ◌^◌, ◌≤◌, ◌<◌, option_map, length, IfSome};
-ghost use Rattle.s360_deck.specs.Digits.{digit_of, number_of, unit_address_of, storage_address_of, key_of, count_within, run_units_of, bytes_of};
+ghost use Rattle.s360_deck.specs.Digits.{digit_of, number_of, device_address_of, storage_address_of, key_of, count_within, run_units_of, bytes_of};
 
 use arrayvec::ArrayVec;
 use s360_events::{ShowCount, StorageKey};
 
 /// An input/output address: three hexadecimal digits.
-pub(crate) fn unit_address(word: &[u8]) -> Option<u16>
-    ensures { result ≡ unit_address_of word.now }
+pub(crate) fn device_address(word: &[u8]) -> Option<u16>
+    ensures { result ≡ device_address_of word.now }
 {
     let address = number(word, 16, 3, 3)?;
     Some(address as u16)

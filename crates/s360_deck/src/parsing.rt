@@ -3,10 +3,10 @@
 ghost use Rattle.std.specs.Prelude.{◌≡◌, ◌⊎◌, ◌==◌, map, option_map, length, Err, IfOk, OnOk, IfErr};
 ghost use Rattle.std.specs.List.{before_first, after_first, position};
 ghost use Rattle.s360_deck.specs.Digits.{stored_bytes_of};
-ghost use Rattle.s360_deck.specs.Deck.{without_return, is_blank, is_empty, words_of, name_of, only, two_of, unit_address_in, units_in, run_units_in, joined, store_of, set_key_of, show_of, event_of, is_comment, words_read, line_read, fault_at, appended, events_of, IsRead};
+ghost use Rattle.s360_deck.specs.Deck.{without_return, is_blank, is_empty, words_of, name_of, only, two_of, device_address_in, units_in, run_units_in, joined, store_of, set_key_of, show_of, event_of, is_comment, words_read, line_read, fault_at, appended, events_of, IsRead};
 
 use crate::digits::{
-    bytes_of_digits, count, run_units, show_count, storage_address, storage_key, unit_address,
+    bytes_of_digits, count, device_address, run_units, show_count, storage_address, storage_key,
 };
 use crate::fault::DeckFault;
 use crate::spelling::{EventName, LineFault};
@@ -190,13 +190,13 @@ fn event(name: EventName, operands: &[&[u8]]) -> Option<Event>
     ensures { result ≡ event_of name (map (λ w. w.now) operands.now) }
 {
     match name {
-        EventName::Sio => Some(Event::Sio(only_unit_address(operands)?)),
-        EventName::Tio => Some(Event::Tio(only_unit_address(operands)?)),
-        EventName::Hio => Some(Event::Hio(only_unit_address(operands)?)),
+        EventName::Sio => Some(Event::Sio(only_device_address(operands)?)),
+        EventName::Tio => Some(Event::Tio(only_device_address(operands)?)),
+        EventName::Hio => Some(Event::Hio(only_device_address(operands)?)),
         EventName::Tch => operands.is_empty().then_some(Event::Tch),
         EventName::Step => Some(Event::Step(only_units(operands)?)),
         EventName::Run => Some(Event::Run(most_units(operands)?)),
-        EventName::Arrive => Some(Event::Arrive(only_unit_address(operands)?)),
+        EventName::Arrive => Some(Event::Arrive(only_device_address(operands)?)),
         EventName::Int => operands.is_empty().then_some(Event::Interrupt),
         EventName::Reset => operands.is_empty().then_some(Event::Reset),
         EventName::Store => store(operands),
@@ -215,10 +215,10 @@ fn only_word<'a>(operands: &[&'a [u8]]) -> Option<&'a [u8]>
     }
 }
 
-fn only_unit_address(operands: &[&[u8]]) -> Option<u16>
-    ensures { result ≡ unit_address_in (map (λ w. w.now) operands.now) }
+fn only_device_address(operands: &[&[u8]]) -> Option<u16>
+    ensures { result ≡ device_address_in (map (λ w. w.now) operands.now) }
 {
-    unit_address(only_word(operands)?)
+    device_address(only_word(operands)?)
 }
 
 fn only_units(operands: &[&[u8]]) -> Option<u16>

@@ -27,10 +27,10 @@ event_seen (event.Show at count) = machine.Show at count
 
 -- a condition code, and what was stored under code 1
 abbrev pub condition_seen : {T : Type 0} → (T → machine.Answer) → Condition T → machine.Answer
-condition_seen stored Zero = machine.Condition code.Zero
+condition_seen stored Zero = machine.WithCode code.Zero
 condition_seen stored (Stored s) = stored s
-condition_seen stored Two = machine.Condition code.Two
-condition_seen stored Three = machine.Condition code.Three
+condition_seen stored Two = machine.WithCode code.Two
+condition_seen stored Three = machine.WithCode code.Three
 
 abbrev pub status_seen : Status → machine.Answer
 status_seen s = machine.StatusStored s.unit s.channel
@@ -42,7 +42,7 @@ abbrev pub answer_seen : Answer → machine.Answer
 answer_seen (answer.Sio address c) = condition_seen status_seen c
 answer_seen (answer.Tio address c) = condition_seen csw_seen c
 answer_seen (answer.Hio address c) = condition_seen status_seen c
-answer_seen (answer.Tch c) = condition_seen (λ u. machine.Condition code.One) c
+answer_seen (answer.Tch c) = condition_seen (λ u. machine.WithCode code.One) c
 answer_seen (answer.Step done) = machine.Stepped done
 answer_seen (answer.Run done) = machine.Stepped done
 answer_seen (answer.Arrive address arrived) = machine.HasArrived arrived

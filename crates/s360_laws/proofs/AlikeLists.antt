@@ -4,7 +4,7 @@ use Rattle.std.proofs.lemmas.Bool.{eqb-true}
 use Rattle.std.specs.Prelude.{replicate, filter}
 use Rattle.s360_words.specs.Storage.{Change, csw_stored, Bytes, KeyOf}
 use Rattle.s360_runs.specs.Scripts.{units, OneUnit, Script}
-use Rattle.s360_laws.specs.Events.{Exchange, Hio, Condition, Reset, Sio, StepBy, Stepped, Interrupt, Interrupted, Store, WasKept, SetKey, Tio, CswStored, StatusStored, Tch, Answer, HasArrived, Arrive, WasReset, Show, Shown, FaultAfter}
+use Rattle.s360_laws.specs.Events.{Exchange, Hio, WithCode, Reset, Sio, StepBy, Stepped, Interrupt, Interrupted, Store, WasKept, SetKey, Tio, CswStored, StatusStored, Tch, Answer, HasArrived, Arrive, WasReset, Show, Shown, FaultAfter}
 use Rattle.s360_laws.specs.History.{units_ahead, script_ahead, fate_ahead, acts, own_change, where_over, Changes, acts_of, Program, turns_of}
 use Rattle.s360_laws.specs.Machine.{units_with}
 use Rattle.s360_laws.specs.SerialLists.{changes_nothing, is_arrival, arrivals_last, steps_ahead, is_step, is_between, whole_step, steps_of, ArePlain, steps_joined, SameActs}
@@ -30,23 +30,23 @@ back p = record { ahead = sym p.ahead; script = sym p.script; ends = sym p.ends;
 -- behind an event.
 
 units_behind : (t : Exchange) (x y : List Exchange) → units_ahead x ≡ units_ahead y → units_ahead (t ∷ x) ≡ units_ahead (t ∷ y)
-units_behind (Hio a, m, Condition Two) x y h = refl
+units_behind (Hio a, m, WithCode Two) x y h = refl
 units_behind (Reset, m, r) x y h = refl
-units_behind (Sio a, m, Condition Zero) x y h = refl
+units_behind (Sio a, m, WithCode Zero) x y h = refl
 units_behind (StepBy k, m, Stepped d) x y h = ap (λ n. d + n) h
 units_behind t x y h = h
 
 fate_behind : (t : Exchange) (x y : List Exchange) → fate_ahead x ≡ fate_ahead y → fate_ahead (t ∷ x) ≡ fate_ahead (t ∷ y)
-fate_behind (Hio a, m, Condition Two) x y h = refl
+fate_behind (Hio a, m, WithCode Two) x y h = refl
 fate_behind (Reset, m, r) x y h = refl
-fate_behind (Sio a, m, Condition Zero) x y h = refl
+fate_behind (Sio a, m, WithCode Zero) x y h = refl
 fate_behind t x y h = h
 
 owns : (c : Change) (x y : List Exchange) → units_ahead x ≡ units_ahead y → own_change x c ≡ own_change y c
 owns c x y h = ap (λ n. where_over n (Changes c ∷ []) []) h
 
 act_behind : (t : Exchange) (x y : List Exchange) → Alike x y → acts_of t x ≡ acts_of t y
-act_behind (Sio a, m, Condition Zero) x y h = ap (λ s. Program (a % 256) (OneUnit None ∷ s) (fate_ahead x) ∷ []) h.script ∙ ap (λ f. Program (a % 256) (OneUnit None ∷ script_ahead y) f ∷ []) h.ends
+act_behind (Sio a, m, WithCode Zero) x y h = ap (λ s. Program (a % 256) (OneUnit None ∷ s) (fate_ahead x) ∷ []) h.script ∙ ap (λ f. Program (a % 256) (OneUnit None ∷ script_ahead y) f ∷ []) h.ends
 act_behind (Interrupt, m, Interrupted (Some i)) x y h = owns (csw_stored i.1) x y h.ahead
 act_behind (Store at bytes, m, WasKept true) x y h = owns (Bytes at bytes) x y h.ahead
 act_behind (SetKey at key, m, WasKept true) x y h = owns (KeyOf at key) x y h.ahead
@@ -80,17 +80,17 @@ gone x t u s f a = record {
 }
 
 left_out : (t : Exchange) (x : List Exchange) → changes_nothing t ≡ true → Alike (t ∷ x) x
-left_out (Sio a, m, Condition One) x h = gone x (Sio a, m, Condition One) refl refl refl refl
-left_out (Sio a, m, Condition Two) x h = gone x (Sio a, m, Condition Two) refl refl refl refl
-left_out (Sio a, m, Condition Three) x h = gone x (Sio a, m, Condition Three) refl refl refl refl
-left_out (Tio a, m, Condition n) x h = gone x (Tio a, m, Condition n) refl refl refl refl
-left_out (Hio a, m, Condition Zero) x h = gone x (Hio a, m, Condition Zero) refl refl refl refl
-left_out (Hio a, m, Condition One) x h = gone x (Hio a, m, Condition One) refl refl refl refl
-left_out (Hio a, m, Condition Three) x h = gone x (Hio a, m, Condition Three) refl refl refl refl
+left_out (Sio a, m, WithCode One) x h = gone x (Sio a, m, WithCode One) refl refl refl refl
+left_out (Sio a, m, WithCode Two) x h = gone x (Sio a, m, WithCode Two) refl refl refl refl
+left_out (Sio a, m, WithCode Three) x h = gone x (Sio a, m, WithCode Three) refl refl refl refl
+left_out (Tio a, m, WithCode n) x h = gone x (Tio a, m, WithCode n) refl refl refl refl
+left_out (Hio a, m, WithCode Zero) x h = gone x (Hio a, m, WithCode Zero) refl refl refl refl
+left_out (Hio a, m, WithCode One) x h = gone x (Hio a, m, WithCode One) refl refl refl refl
+left_out (Hio a, m, WithCode Three) x h = gone x (Hio a, m, WithCode Three) refl refl refl refl
 left_out (Tch, m, r) x h = go r
   where
     go : (r : Answer) → Alike ((Tch, m, r) ∷ x) x
-    go (Condition n) = gone x (Tch, m, Condition n) refl refl refl refl
+    go (WithCode n) = gone x (Tch, m, WithCode n) refl refl refl refl
     go (StatusStored a b) = gone x (Tch, m, StatusStored a b) refl refl refl refl
     go (CswStored c) = gone x (Tch, m, CswStored c) refl refl refl refl
     go (Stepped k) = gone x (Tch, m, Stepped k) refl refl refl refl
@@ -111,7 +111,7 @@ left_out (SetKey at key, m, WasKept false) x h = gone x (SetKey at key, m, WasKe
 left_out (Show at len, m, r) x h = go r
   where
     go : (r : Answer) → Alike ((Show at len, m, r) ∷ x) x
-    go (Condition n) = gone x (Show at len, m, Condition n) refl refl refl refl
+    go (WithCode n) = gone x (Show at len, m, WithCode n) refl refl refl refl
     go (StatusStored a b) = gone x (Show at len, m, StatusStored a b) refl refl refl refl
     go (CswStored c) = gone x (Show at len, m, CswStored c) refl refl refl refl
     go (Stepped k) = gone x (Show at len, m, Stepped k) refl refl refl refl
@@ -137,7 +137,7 @@ arrival_gone : (t : Exchange) (x : List Exchange) → is_arrival t ≡ true → 
 arrival_gone (Arrive a, m, r) x h = go r
   where
     go : (r : Answer) → Alike ((Arrive a, m, r) ∷ x) x
-    go (Condition n) = gone x (Arrive a, m, Condition n) refl refl refl refl
+    go (WithCode n) = gone x (Arrive a, m, WithCode n) refl refl refl refl
     go (StatusStored b c) = gone x (Arrive a, m, StatusStored b c) refl refl refl refl
     go (CswStored c) = gone x (Arrive a, m, CswStored c) refl refl refl refl
     go (Stepped k) = gone x (Arrive a, m, Stepped k) refl refl refl refl

@@ -12,16 +12,16 @@ use Rattle.s360_runs.specs.Starts.{First, BadStart, RejectedStart, ImmediateStar
 use Rattle.s360_runs.specs.Status.{tells, no_unit_status, no_channel_status}
 use Rattle.s360_runs.proofs.EndStatus.{AsksGood, good_run}
 use Rattle.s360_laws.specs.Arms.{arm_for, arrives, ends_owing, arm_next, ArmFollows, arm_along, ArmStays, ArrivedInterrupts, HaltOfPendingStays}
-use Rattle.s360_laws.specs.Events.{Answer, Event, Exchange, FaultAfter, Sio, Tio, Hio, Tch, StepBy, Arrive, Interrupt, Reset, Store, SetKey, Show, StatusStored, CswStored, Condition, HasArrived, Interrupted, WasReset, WasKept}
+use Rattle.s360_laws.specs.Events.{Answer, Event, Exchange, FaultAfter, Sio, Tio, Hio, Tch, StepBy, Arrive, Interrupt, Reset, Store, SetKey, Show, StatusStored, CswStored, WithCode, HasArrived, Interrupted, WasReset, WasKept}
 use Rattle.s360_laws.specs.Machine.{Device, Machine, Subchannel, Idle, Working, Pending, address_of, device_at, with_arm, at_rest, all_at_rest, arm_after, ended, cut, stepped, started, start_of, start_device, start_io, test_device, test_io, halt_io, arrive, is_in_motion, has_arrived, lowest, lower, csw_of_unit, interrupt_device, interrupt_program, asked_by, run_of, goes_on, react, units_with, fault_in, unsaved_at, with_change, with_status, with_csw, after_all, exchanges}
 use Rattle.s360_laws.specs.Soundness.{IsSoundIn, IsRunning, AreDistinct, arm_owes, device_for, device_owes}
 use Rattle.s360_laws.specs.declared.arm.Arm.{Arm}
 use Rattle.s360_laws.specs.declared.arm.Arm.TheVariants.{AtRest, InMotion, Arrived}
 use Rattle.s360_laws.specs.declared.condition.ConditionCode.TheVariants.{Two, Three, Zero}
-use Rattle.s360_laws.proofs.FindDevices.{no, found_map, unit_after, Keeps, at_device, device_of, set_arm, set_both, set_drive}
+use Rattle.s360_laws.proofs.FindDevices.{no, found_map, device_after, Keeps, at_device, device_of, set_arm, set_both, set_drive}
 use Rattle.s360_laws.proofs.LedgerIdle.{Lowest, lowest_found, whole}
 use Rattle.s360_laws.proofs.LedgerLists.{stays}
-use Rattle.s360_laws.proofs.LedgerWorking.{in_run, by_unit, asks_good}
+use Rattle.s360_laws.proofs.LedgerWorking.{in_run, by_device, asks_good}
 use Rattle.s360_laws.proofs.Owing.{Rest}
 use Rattle.s360_laws.proofs.Shapes.{idle, pending, working}
 
@@ -47,7 +47,7 @@ quiet_status false arm = refl
 arm_of_change : (m : Machine) (d u : ℕ) (f : Device → Device) → Keeps f
     → option_map (λ v. v.arm) (find (λ v. 256 * m.channel + v.device == u) (map (λ v. cond (v.device == d) (f v) v) m.devices))
     ≡ cond (address_of m d == u) (option_map (λ v. (f v).arm) (device_for m u)) (arm_for m u)
-arm_of_change m d u f k = ap (option_map (λ v. v.arm)) (unit_after m.channel d u f k m.devices) ∙ go (address_of m d == u) (device_for m u)
+arm_of_change m d u f k = ap (option_map (λ v. v.arm)) (device_after m.channel d u f k m.devices) ∙ go (address_of m d == u) (device_for m u)
   where
     go : (b : Bool) (y : Option Device) → option_map (λ v. v.arm) (cond b (option_map f y) y) ≡ cond b (option_map (λ v. (f v).arm) y) (option_map (λ v. v.arm) y)
     go true None = refl
@@ -145,7 +145,7 @@ is_there m u arm h = go (device_for m u) h
 
 still_there : (m : Machine) (d u : ℕ) (f : Device → Device) → Keeps f → is_some (device_for m u) ≡ true
     → is_some (find (λ v. 256 * m.channel + v.device == u) (map (λ v. cond (v.device == d) (f v) v) m.devices)) ≡ true
-still_there m d u f k h = ap is_some (unit_after m.channel d u f k m.devices) ∙ go (address_of m d == u) (device_for m u) h
+still_there m d u f k h = ap is_some (device_after m.channel d u f k m.devices) ∙ go (address_of m d == u) (device_for m u) h
   where
     go : (b : Bool) (y : Option Device) → is_some y ≡ true → is_some (cond b (option_map f y) y) ≡ true
     go b None h = no h
@@ -211,14 +211,14 @@ interrupt_arm m u arm x (Some d) k ds h =
     arm_of_change m d u (set_arm AtRest) (λ v. refl) ∙ told m (address_of m d) d u arm r.0 refl h r.1
 
 halt_idle_arm : (m : Machine) (a u : ℕ) (arm : Arm) (x : Option FaultAfter) (b : Bool) → Has_arm u arm m
-    → Keeps_arm u arm (Hio a) x (cond b (StatusStored no_unit_status no_channel_status, with_status no_unit_status no_channel_status (idle m)) (Condition Three, idle m))
+    → Keeps_arm u arm (Hio a) x (cond b (StatusStored no_unit_status no_channel_status, with_status no_unit_status no_channel_status (idle m)) (WithCode Three, idle m))
 halt_idle_arm m a u arm x true h = h
 halt_idle_arm m a u arm x false h = h
 
 idle_arm : (m : Machine) (e : Event) (x : Option FaultAfter) (u : ℕ) (arm : Arm) → AreDistinct m.devices → Has_arm u arm m → arm_owes arm ≡ 1 → Keeps_arm u arm e x (react e x (idle m))
-idle_arm m (Sio a) x u arm ds h o = either u arm (Sio a) x (a / 256 == m.channel) (start_io (a % 256) (idle m) Idle) (Condition Three, idle m) (λ k. start_arm m a (a % 256) u arm x (device_at m (a % 256)) (whole m.channel a k) refl h o) h
-idle_arm m (Tio a) x u arm ds h o = either u arm (Tio a) x (a / 256 == m.channel) (test_io (a % 256) (idle m) Idle) (Condition Three, idle m) (λ k. test_arm m a (a % 256) u arm x (device_at m (a % 256)) (whole m.channel a k) refl h) h
-idle_arm m (Hio a) x u arm ds h o = either u arm (Hio a) x (a / 256 == m.channel) (halt_io (fault_in x) (a % 256) (idle m) Idle) (Condition Three, idle m) (λ k. halt_idle_arm m a u arm x (is_some (device_at m (a % 256))) h) h
+idle_arm m (Sio a) x u arm ds h o = either u arm (Sio a) x (a / 256 == m.channel) (start_io (a % 256) (idle m) Idle) (WithCode Three, idle m) (λ k. start_arm m a (a % 256) u arm x (device_at m (a % 256)) (whole m.channel a k) refl h o) h
+idle_arm m (Tio a) x u arm ds h o = either u arm (Tio a) x (a / 256 == m.channel) (test_io (a % 256) (idle m) Idle) (WithCode Three, idle m) (λ k. test_arm m a (a % 256) u arm x (device_at m (a % 256)) (whole m.channel a k) refl h) h
+idle_arm m (Hio a) x u arm ds h o = either u arm (Hio a) x (a / 256 == m.channel) (halt_io (fault_in x) (a % 256) (idle m) Idle) (WithCode Three, idle m) (λ k. halt_idle_arm m a u arm x (is_some (device_at m (a % 256))) h) h
 idle_arm m Tch x u arm ds h o = h
 idle_arm m (StepBy k) x u arm ds h o = h
 idle_arm m (Arrive a) x u arm ds h o = either u arm (Arrive a) x (a / 256 == m.channel) (arrive (a % 256) (idle m) (device_at m (a % 256))) (HasArrived false, idle m) (λ k. arrive_arm m Idle a (a % 256) u arm x (device_at m (a % 256)) (whole m.channel a k) refl h) h
@@ -243,7 +243,7 @@ over_arm : (m : Machine) (d u : ℕ) (arm : Arm) (st : Storage) (e : Ending) →
 over_arm m d u arm st e h o z = arm_of_change m d u (set_both (arm_after e) e.drive) (λ v. refl) ∙ other m d u arm (λ v. arm_after e) h (not_here m d u arm h o z)
 
 cut_arm : (m : Machine) (d : ℕ) (s : Script) (a u : ℕ) (arm : Arm) (x : Option FaultAfter) (o : Option Outcome) → Has_arm u arm m → arm_owes arm ≡ 1 → device_owes (device_at m d) ≡ 0
-    → Keeps_arm u arm (Hio a) x (Condition Two, cut (fault_in x) d (working m d s) o)
+    → Keeps_arm u arm (Hio a) x (WithCode Two, cut (fault_in x) d (working m d s) o)
 cut_arm m d s a u arm x None h o z = h
 cut_arm m d s a u arm x (Some (Ended used st e)) h o z = over_arm m d u arm st e h o z
 cut_arm m d s a u arm x (Some (NotEnded st)) h o z = over_arm m d u arm st.storage (st.cut (fault_in x)) h o z
@@ -272,16 +272,16 @@ cut_channel m d s x (Some (NotEnded st)) = refl
 
 working_arm : (m : Machine) (d : ℕ) (s : Script) (e : Event) (x : Option FaultAfter) (u : ℕ) (arm : Arm) → IsRunning (run_of m d s) → device_owes (device_at m d) ≡ 0 → Has_arm u arm m → arm_owes arm ≡ 1
     → Keeps_arm u arm e x (react e x (working m d s))
-working_arm m d s (Sio a) x u arm r z h o = either u arm (Sio a) x (a / 256 == m.channel) (Condition Two, working m d s) (Condition Three, working m d s) (λ k. h) h
-working_arm m d s (Tio a) x u arm r z h o = either u arm (Tio a) x (a / 256 == m.channel) (Condition Two, working m d s) (Condition Three, working m d s) (λ k. h) h
+working_arm m d s (Sio a) x u arm r z h o = either u arm (Sio a) x (a / 256 == m.channel) (WithCode Two, working m d s) (WithCode Three, working m d s) (λ k. h) h
+working_arm m d s (Tio a) x u arm r z h o = either u arm (Tio a) x (a / 256 == m.channel) (WithCode Two, working m d s) (WithCode Three, working m d s) (λ k. h) h
 working_arm m d s (Hio a) x u arm r z h o =
-    either u arm (Hio a) x (a / 256 == m.channel) (Condition Two, cut (fault_in x) d (working m d s) (run_of m d s)) (Condition Three, working m d s) (λ k. cut_arm m d s a u arm x (run_of m d s) h o z) h
+    either u arm (Hio a) x (a / 256 == m.channel) (WithCode Two, cut (fault_in x) d (working m d s) (run_of m d s)) (WithCode Three, working m d s) (λ k. cut_arm m d s a u arm x (run_of m d s) h o z) h
 working_arm m d s Tch x u arm r z h o = h
 working_arm m d s (StepBy k) x u arm r z h o = step_arm m d s k u arm x (run_of m d (s ++ units_with k x)) h o z
 working_arm m d s (Arrive a) x u arm r z h o = either u arm (Arrive a) x (a / 256 == m.channel) (arrive (a % 256) (working m d s) (device_at m (a % 256))) (HasArrived false, working m d s) (λ k. arrive_arm m (Working d s) a (a % 256) u arm x (device_at m (a % 256)) (whole m.channel a k) refl h) h
 working_arm m d s Interrupt x u arm r z h o =
     let v = in_run m d s (device_at m d) refl r in
-    by_unit m d s v.0 (λ o. Keeps_arm u arm Interrupt x (interrupt_program d s (working m d s) (asked_by o))) v.1
+    by_device m d s v.0 (λ o. Keeps_arm u arm Interrupt x (interrupt_program d s (working m d s) (asked_by o))) v.1
     (asked_arm m d s u arm x (asked_by (Some (run s (start_of m v.0.drive)))) (asks_good (run s (start_of m v.0.drive)) (good_run (start_of m v.0.drive) s)) h)
 working_arm m d s Reset x u arm r z h o =
     reset_arm m (cut (fault_in x) d (working m d s) (run_of m d s)) u arm x (unsaved_at (256 * m.channel + d) (fault_in x) (run_of m d s)) (cut_channel m d s x (run_of m d s)) (cut_there m d s u x (run_of m d s) (is_there m u arm h))
@@ -317,15 +317,15 @@ told_csw_arm m p a u arm csw e r h o = go (a == u) (tells csw.unit DEVICE_END) (
     go false c k = refl
 
 pending_test_arm : (m : Machine) (p a u : ℕ) (arm : Arm) (csw : Csw) (x : Option FaultAfter) (b : Bool) → (a % 256 == p) ≡ b → address_of m (a % 256) ≡ a → Rest m (Pending p csw) → Has_arm u arm m → arm_owes arm ≡ 1
-    → Keeps_arm u arm (Tio a) x (cond b (CswStored csw, with_csw csw (idle m)) (Condition Two, pending m p csw))
+    → Keeps_arm u arm (Tio a) x (cond b (CswStored csw, with_csw csw (idle m)) (WithCode Two, pending m p csw))
 pending_test_arm m p a u arm csw x true k e r h o = h ∙ told_csw_arm m p a u arm csw (ap (address_of m) (sym (eqb-true _ _ k)) ∙ e) r h o
 pending_test_arm m p a u arm csw x false k e r h o = h
 
 pending_arm : (m : Machine) (p : ℕ) (csw : Csw) (e : Event) (x : Option FaultAfter) (u : ℕ) (arm : Arm) → Rest m (Pending p csw) → Has_arm u arm m → arm_owes arm ≡ 1
     → Keeps_arm u arm e x (react e x (pending m p csw))
-pending_arm m p csw (Sio a) x u arm r h o = either u arm (Sio a) x (a / 256 == m.channel) (Condition Two, pending m p csw) (Condition Three, pending m p csw) (λ k. h) h
-pending_arm m p csw (Tio a) x u arm r h o = either u arm (Tio a) x (a / 256 == m.channel) (test_io (a % 256) (pending m p csw) (Pending p csw)) (Condition Three, pending m p csw) (λ k. pending_test_arm m p a u arm csw x (a % 256 == p) refl (whole m.channel a k) r h o) h
-pending_arm m p csw (Hio a) x u arm r h o = either u arm (Hio a) x (a / 256 == m.channel) (Condition Zero, pending m p csw) (Condition Three, pending m p csw) (λ k. h) h
+pending_arm m p csw (Sio a) x u arm r h o = either u arm (Sio a) x (a / 256 == m.channel) (WithCode Two, pending m p csw) (WithCode Three, pending m p csw) (λ k. h) h
+pending_arm m p csw (Tio a) x u arm r h o = either u arm (Tio a) x (a / 256 == m.channel) (test_io (a % 256) (pending m p csw) (Pending p csw)) (WithCode Three, pending m p csw) (λ k. pending_test_arm m p a u arm csw x (a % 256 == p) refl (whole m.channel a k) r h o) h
+pending_arm m p csw (Hio a) x u arm r h o = either u arm (Hio a) x (a / 256 == m.channel) (WithCode Zero, pending m p csw) (WithCode Three, pending m p csw) (λ k. h) h
 pending_arm m p csw Tch x u arm r h o = h
 pending_arm m p csw (StepBy k) x u arm r h o = h
 pending_arm m p csw (Arrive a) x u arm r h o = either u arm (Arrive a) x (a / 256 == m.channel) (arrive (a % 256) (pending m p csw) (device_at m (a % 256))) (HasArrived false, pending m p csw) (λ k. arrive_arm m (Pending p csw) a (a % 256) u arm x (device_at m (a % 256)) (whole m.channel a k) refl h) h
@@ -460,7 +460,7 @@ arrived_interrupts m x device sound is_idle low = go m.subchannel is_idle (least
 pub halt_of_pending_stays : HaltOfPendingStays
 halt_of_pending_stays m a p csw x e h = go m.subchannel h (a / 256 == m.channel) (eq-eqb _ _ e)
   where
-    go : (c : Subchannel) → c ≡ Pending p csw → (b : Bool) → b ≡ true → cond b (halt_io (fault_in x) (a % 256) m c) (Condition Three, m) ≡ (Condition Zero, m)
+    go : (c : Subchannel) → c ≡ Pending p csw → (b : Bool) → b ≡ true → cond b (halt_io (fault_in x) (a % 256) m c) (WithCode Three, m) ≡ (WithCode Zero, m)
     go Idle h b k = absurd (differ h)
       where
         differ : Idle ≡ Pending p csw → ⊥

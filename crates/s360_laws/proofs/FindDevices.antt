@@ -29,7 +29,7 @@ add_same n x y = go (x == y) refl
 pub no : {P : Type 0} → false ≡ true → P
 no h = absurd (cc)
 
--- Finding units.
+-- Finding devices.
 
 abbrev pub Has : (Device → Bool) → Option Device → Type 0
 Has p None = Unit {0}
@@ -47,7 +47,7 @@ pub found_same : (n d : ℕ) (vs : List Device) → find (λ v. 256 * n + v.devi
 found_same n d [] = refl
 found_same n d (v ∷ vs) = ap (λ b. cond b (Some v) (find (λ v. 256 * n + v.device == 256 * n + d) vs)) (add_same n v.device d) ∙ ap (λ r. cond (v.device == d) (Some v) r) (found_same n d vs)
 
--- a change of units that keeps their devices
+-- a change of devices that keeps their addresses
 abbrev pub Keeps : (Device → Device) → Type 0
 Keeps g = (v : Device) → (g v).device ≡ v.device
 
@@ -80,11 +80,11 @@ keeps_one d f k v = go (v.device == d)
     go true = k v
     go false = refl
 
--- the unit of an address, after a change of one device
-pub unit_after : (n d u : ℕ) (f : Device → Device) → Keeps f → (vs : List Device)
+-- the device of an address, after a change of one device
+pub device_after : (n d u : ℕ) (f : Device → Device) → Keeps f → (vs : List Device)
     → find (λ v. 256 * n + v.device == u) (map (λ v. cond (v.device == d) (f v) v) vs)
     ≡ cond (256 * n + d == u) (option_map f (find (λ v. 256 * n + v.device == u) vs)) (find (λ v. 256 * n + v.device == u) vs)
-unit_after n d u f k vs = found_map (λ d. 256 * n + d == u) _ (keeps_one d f k) vs ∙ go (find (λ v. 256 * n + v.device == u) vs) (has_found (λ v. 256 * n + v.device == u) vs)
+device_after n d u f k vs = found_map (λ d. 256 * n + d == u) _ (keeps_one d f k) vs ∙ go (find (λ v. 256 * n + v.device == u) vs) (has_found (λ v. 256 * n + v.device == u) vs)
   where
     same_test : (v : Device) → (256 * n + v.device == u) ≡ true → (v.device == d) ≡ (256 * n + d == u)
     same_test v h = sym (add_same n v.device d) ∙ ap (λ k. k == 256 * n + d) (eqb-true _ _ h) ∙ turn u (256 * n + d)
@@ -108,7 +108,7 @@ unit_after n d u f k vs = found_map (λ d. 256 * n + d == u) _ (keeps_one d f k)
     go None h = none (256 * n + d == u)
     go (Some v) h = ap (λ b. Some (cond b (f v) v)) (same_test v h) ∙ both (256 * n + d == u) (f v) v
 
--- the unit at an address, by its device
+-- the device at an address, by the low byte of it
 pub at_device : (m : Machine) (d u : ℕ) (y : Option Device) → address_of m d ≡ u → device_at m d ≡ y → device_for m u ≡ y
 at_device m d u y e h = ap (device_for m) (sym e) ∙ found_same m.channel d m.devices ∙ h
 

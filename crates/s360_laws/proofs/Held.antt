@@ -5,7 +5,7 @@ use Rattle.s360_words.specs.Storage.{Change, Bytes, is_within, KeyOf}
 use Rattle.s360_words.specs.declared.flags.TheConstants.UnitStatus.{CHANNEL_END}
 use Rattle.s360_words.specs.declared.words.Csw.{Csw}
 use Rattle.s360_runs.specs.Status.{tells}
-use Rattle.s360_laws.specs.Events.{Answer, Event, FaultAfter, Sio, Condition, Tio, CswStored, Store, Hio, Tch, StepBy, Arrive, Interrupt, Reset, SetKey, Show, HasArrived, WasKept, Input}
+use Rattle.s360_laws.specs.Events.{Answer, Event, FaultAfter, Sio, WithCode, Tio, CswStored, Store, Hio, Tch, StepBy, Arrive, Interrupt, Reset, SetKey, Show, HasArrived, WasKept, Input}
 use Rattle.s360_laws.specs.Ledger.{HeldAnswer, ends_holding, HeldAnswers, HeldUntilStored}
 use Rattle.s360_laws.specs.Machine.{Machine, react, test_io, Pending, with_csw, arrive, Device, is_in_motion, with_arm, with_change, device_at, exchanges}
 use Rattle.s360_laws.specs.Soundness.{IsSoundIn}
@@ -25,9 +25,9 @@ on_other false y z h = refl
 
 -- each answer is that of an ending that pends
 held_answer : (m : Machine) (p : ℕ) (csw : Csw) (e : Event) (x : Option FaultAfter) → HeldAnswer m.channel p csw (e, x, (react e x (pending m p csw)).0)
-held_answer m p csw (Sio a) x = λ e. on_this (a / 256 == m.channel) (Condition Two, pending m p csw) (Condition Three, pending m p csw) (eq-eqb _ _ e)
-held_answer m p csw (Tio a) x = λ e other. on_this (a / 256 == m.channel) (test_io (a % 256) (pending m p csw) (Pending p csw)) (Condition Three, pending m p csw) (eq-eqb _ _ e)
-    ∙ on_other (a % 256 == p) (CswStored csw, with_csw csw (idle m)) (Condition Two, pending m p csw) (different _ _ other)
+held_answer m p csw (Sio a) x = λ e. on_this (a / 256 == m.channel) (WithCode Two, pending m p csw) (WithCode Three, pending m p csw) (eq-eqb _ _ e)
+held_answer m p csw (Tio a) x = λ e other. on_this (a / 256 == m.channel) (test_io (a % 256) (pending m p csw) (Pending p csw)) (WithCode Three, pending m p csw) (eq-eqb _ _ e)
+    ∙ on_other (a % 256 == p) (CswStored csw, with_csw csw (idle m)) (WithCode Two, pending m p csw) (different _ _ other)
 held_answer m p csw (Hio a) x = tt
 held_answer m p csw Tch x = refl
 held_answer m p csw (StepBy k) x = tt
@@ -70,13 +70,13 @@ kept_next m p csw c true = (with_change c m, refl, refl)
 kept_next m p csw c false = same m p csw
 
 held_next : (m : Machine) (p : ℕ) (csw : Csw) (e : Event) (x : Option FaultAfter) → tells csw.unit CHANNEL_END ≡ true → HeldNext m p csw e x (react e x (pending m p csw))
-held_next m p csw (Sio a) x c = either_next m p csw (Sio a) x (a / 256 == m.channel) (Condition Two, pending m p csw) (Condition Three, pending m p csw) (λ e h. same m p csw) (λ h. same m p csw)
+held_next m p csw (Sio a) x c = either_next m p csw (Sio a) x (a / 256 == m.channel) (WithCode Two, pending m p csw) (WithCode Three, pending m p csw) (λ e h. same m p csw) (λ h. same m p csw)
 held_next m p csw (Tio a) x c =
-    either_next m p csw (Tio a) x (a / 256 == m.channel) (test_io (a % 256) (pending m p csw) (Pending p csw)) (Condition Three, pending m p csw)
-    (λ e. either_next m p csw (Tio a) x (a % 256 == p) (CswStored csw, with_csw csw (idle m)) (Condition Two, pending m p csw)
+    either_next m p csw (Tio a) x (a / 256 == m.channel) (test_io (a % 256) (pending m p csw) (Pending p csw)) (WithCode Three, pending m p csw)
+    (λ e. either_next m p csw (Tio a) x (a % 256 == p) (CswStored csw, with_csw csw (idle m)) (WithCode Two, pending m p csw)
     (λ f h. no (sym h ∙ stored_now (a == 256 * m.channel + p) (tells csw.unit CHANNEL_END) (eq-eqb _ _ (sym (whole m.channel a e) ∙ ap (λ n. 256 * m.channel + n) (eqb-true _ _ f))) c)) (λ h. same m p csw))
     (λ h. same m p csw)
-held_next m p csw (Hio a) x c = either_next m p csw (Hio a) x (a / 256 == m.channel) (Condition Zero, pending m p csw) (Condition Three, pending m p csw) (λ e h. same m p csw) (λ h. same m p csw)
+held_next m p csw (Hio a) x c = either_next m p csw (Hio a) x (a / 256 == m.channel) (WithCode Zero, pending m p csw) (WithCode Three, pending m p csw) (λ e h. same m p csw) (λ h. same m p csw)
 held_next m p csw Tch x c = λ h. same m p csw
 held_next m p csw (StepBy k) x c = λ h. same m p csw
 held_next m p csw (Arrive a) x c = either_next m p csw (Arrive a) x (a / 256 == m.channel) (arrive (a % 256) (pending m p csw) (device_at m (a % 256))) (HasArrived false, pending m p csw) (λ e. arrive_next m p csw a (a % 256) x (device_at m (a % 256))) (λ h. same m p csw)

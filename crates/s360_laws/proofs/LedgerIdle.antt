@@ -15,13 +15,13 @@ use Rattle.s360_runs.specs.Starts.{first, First, ImmediateStart, BadStart, Rejec
 use Rattle.s360_runs.specs.Status.{normal_end, tells, no_unit_status, no_channel_status}
 use Rattle.s360_runs.proofs.EndStatus.{IsGood, RunGood, good_run}
 use Rattle.s360_runs.proofs.FirstUnits.{first_is_unit}
-use Rattle.s360_laws.specs.Events.{FaultAfter, Reset, WasReset, Sio, StatusStored, Store, Arrive, Tio, Interrupt, Hio, Condition, WasKept, SetKey, Event, Tch, StepBy, HasArrived, Show}
+use Rattle.s360_laws.specs.Events.{FaultAfter, Reset, WasReset, Sio, StatusStored, Store, Arrive, Tio, Interrupt, Hio, WithCode, WasKept, SetKey, Event, Tch, StepBy, HasArrived, Show}
 use Rattle.s360_laws.specs.Machine.{Device, at_rest, Machine, all_at_rest, address_of, device_at, with_device, arm_after, start_of, started, start_device, test_device, lowest, has_arrived, arrive, lower, interrupt_device, with_status, with_change, react, start_io, Idle, test_io, halt_io, fault_in}
 use Rattle.s360_laws.specs.Soundness.{device_for, device_owes, AreDistinct, arm_owes}
 use Rattle.s360_laws.specs.declared.arm.Arm.{Arm}
 use Rattle.s360_laws.specs.declared.arm.Arm.TheVariants.{AtRest, InMotion, Arrived}
 use Rattle.s360_laws.specs.declared.condition.ConditionCode.TheVariants.{Three}
-use Rattle.s360_laws.proofs.FindDevices.{found_map, distinct_map, no, at_device, set_both, unit_after, keeps_one, set_drive}
+use Rattle.s360_laws.proofs.FindDevices.{found_map, distinct_map, no, at_device, set_both, device_after, keeps_one, set_drive}
 use Rattle.s360_laws.proofs.Owing.{Fine, Balance, silent, same_owed, nothing, distinct_arm, device_end_told, either_fine, arrive_fine}
 use Rattle.s360_laws.proofs.Shapes.{idle}
 
@@ -39,14 +39,14 @@ reset_fine m w x unsaved ds = (distinct_map at_rest (λ v. refl) w.devices ds, t
 
 -- A start.
 
-pub sound_unit : (m : Machine) (a d u : ℕ) (v : Device) → address_of m d ≡ a → device_at m d ≡ Some v → (a == u) ≡ true → device_for m u ≡ Some v
-sound_unit m a d u v e at h = at_device m d u (Some v) (e ∙ eqb-true a u h) at
+pub sound_device : (m : Machine) (a d u : ℕ) (v : Device) → address_of m d ≡ a → device_at m d ≡ Some v → (a == u) ≡ true → device_for m u ≡ Some v
+sound_device m a d u v e at h = at_device m d u (Some v) (e ∙ eqb-true a u h) at
 
 pub tested : (m : Machine) (a d u : ℕ) → address_of m d ≡ a → (address_of m d == u) ≡ (a == u)
 tested m a d u e = ap (λ k. k == u) e
 
 pub end_set : (m : Machine) (arm : Arm) (w : IdleDrive) (d a u : ℕ) (s : Storage) → address_of m d ≡ a → device_for (record (with_device d (set_both arm w) m) { storage = s }) u ≡ cond (a == u) (option_map (set_both arm w) (device_for m u)) (device_for m u)
-end_set m arm w d a u s e = unit_after m.channel d u (set_both arm w) (λ v. refl) m.devices ∙ ap (λ b. cond b (option_map (set_both arm w) (device_for m u)) (device_for m u)) (tested m a d u e)
+end_set m arm w d a u s e = device_after m.channel d u (set_both arm w) (λ v. refl) m.devices ∙ ap (λ b. cond b (option_map (set_both arm w) (device_for m u)) (device_for m u)) (tested m a d u e)
 
 -- a program ended at (units 1): its channel end, and its device end or its motion
 pub first_owes : (b c : Bool) (arm : Arm) (w : IdleDrive) (y : Option Device) → cond c 1 0 + arm_owes arm ≡ 1 → (b ≡ true → (v : Device) × (y ≡ Some v))
@@ -59,21 +59,21 @@ due_one true = refl
 due_one false = refl
 
 pub free_due : (m : Machine) (a d u : ℕ) (v : Device) → address_of m d ≡ a → device_at m d ≡ Some v → v.arm ≡ AtRest → (a == u) ≡ true → ◌≡◌ {A = ℕ} 0 0 × (0 + device_owes (device_for m u) ≡ 0)
-free_due m a d u v e at free h = (refl, zero-add _ ∙ ap device_owes (sound_unit m a d u v e at h) ∙ ap arm_owes free)
+free_due m a d u v e at free h = (refl, zero-add _ ∙ ap device_owes (sound_device m a d u v e at h) ∙ ap arm_owes free)
 
 pub at_once_balance : (m : Machine) (a d u : ℕ) (unit : UnitStatus) (channel : ChannelStatus) (x : Option FaultAfter) (v : Device) (e : Ending) (s : Storage) → address_of m d ≡ a → device_at m d ≡ Some v → v.arm ≡ AtRest → IsGood e
     → e.csw.unit ≡ unit → ((unit ≡ CHANNEL_END) ⊎ (unit ≡ normal_end))
     → Balance u (Sio a, x, StatusStored unit channel) (idle m) (record (with_device d (set_both (arm_after e) e.drive) (idle m)) { storage = s })
 at_once_balance m a d u unit channel x v e s at_a at free g h (inl k) =
     subst (λ unit. Balance u (Sio a, x, StatusStored unit channel) (idle m) (record (with_device d (set_both (arm_after e) e.drive) (idle m)) { storage = s })) (sym k)
-    (due_one (a == u), ap (λ y. cond ((a == u) && false) 1 0 + (0 + device_owes y)) (end_set m (arm_after e) e.drive d a u s at_a) ∙ first_owes (a == u) false (arm_after e) e.drive (device_for m u) (moves e.motion (sym (ap (λ n. tells n DEVICE_END) (h ∙ k)) ∙ g.device_end)) (λ b. (v, sound_unit m a d u v at_a at b)), free_due m a d u v at_a at free)
+    (due_one (a == u), ap (λ y. cond ((a == u) && false) 1 0 + (0 + device_owes y)) (end_set m (arm_after e) e.drive d a u s at_a) ∙ first_owes (a == u) false (arm_after e) e.drive (device_for m u) (moves e.motion (sym (ap (λ n. tells n DEVICE_END) (h ∙ k)) ∙ g.device_end)) (λ b. (v, sound_device m a d u v at_a at b)), free_due m a d u v at_a at free)
   where
     moves : (motion : Bool) → false ≡ not motion → 0 + arm_owes (cond motion InMotion AtRest) ≡ 1
     moves true q = refl
     moves false q = no q
 at_once_balance m a d u unit channel x v e s at_a at free g h (inr k) =
     subst (λ unit. Balance u (Sio a, x, StatusStored unit channel) (idle m) (record (with_device d (set_both (arm_after e) e.drive) (idle m)) { storage = s })) (sym k)
-    (due_one (a == u), ap (λ y. cond ((a == u) && true) 1 0 + (0 + device_owes y)) (end_set m (arm_after e) e.drive d a u s at_a) ∙ first_owes (a == u) true (arm_after e) e.drive (device_for m u) (rests e.motion (sym (ap (λ n. tells n DEVICE_END) (h ∙ k)) ∙ g.device_end)) (λ b. (v, sound_unit m a d u v at_a at b)), free_due m a d u v at_a at free)
+    (due_one (a == u), ap (λ y. cond ((a == u) && true) 1 0 + (0 + device_owes y)) (end_set m (arm_after e) e.drive d a u s at_a) ∙ first_owes (a == u) true (arm_after e) e.drive (device_for m u) (rests e.motion (sym (ap (λ n. tells n DEVICE_END) (h ∙ k)) ∙ g.device_end)) (λ b. (v, sound_device m a d u v at_a at b)), free_due m a d u v at_a at free)
   where
     rests : (motion : Bool) → true ≡ not motion → 1 + arm_owes (cond motion InMotion AtRest) ≡ 1
     rests true q = no (sym q)
@@ -100,7 +100,7 @@ begin_fine m a d x v (RejectedStart w) e at free ds g = (
   tt,
   λ u. (
     silent (a == u) 0,
-    silent (a == u) _ ∙ ap (λ n. 0 + n) (ap device_owes (unit_after m.channel d u (set_drive w) (λ v. refl) m.devices) ∙ same_owed (set_drive w) (address_of m d == u) (device_for m u) (λ b. same (device_for m u))),
+    silent (a == u) _ ∙ ap (λ n. 0 + n) (ap device_owes (device_after m.channel d u (set_drive w) (λ v. refl) m.devices) ∙ same_owed (set_drive w) (address_of m d == u) (device_for m u) (λ b. same (device_for m u))),
     λ b. no b,
   ),
 )
@@ -113,7 +113,7 @@ begin_fine m a d x v AcceptedStart e at free ds g = (
   ap device_owes at ∙ ap arm_owes free,
   λ u. (
     zero-add _ ∙ ap (λ b. cond b 1 0) (tested m a d u e),
-    zero-add _ ∙ ap (λ b. cond b 1 0 + device_owes (device_for m u)) (tested m a d u e) ∙ takes (a == u) (device_owes (device_for m u)) (λ b. ap device_owes (sound_unit m a d u v e at b) ∙ ap arm_owes free),
+    zero-add _ ∙ ap (λ b. cond b 1 0 + device_owes (device_for m u)) (tested m a d u e) ∙ takes (a == u) (device_owes (device_for m u)) (λ b. ap device_owes (sound_device m a d u v e at b) ∙ ap arm_owes free),
     free_due m a d u v e at free,
   ),
 )
@@ -199,7 +199,7 @@ interrupt_fine m x (Some d) h ds =
 pub whole : (n a : ℕ) → (a / 256 == n) ≡ true → 256 * n + a % 256 ≡ a
 whole n a h = let e : a / 256 ≡ n = eqb-true _ _ h in omega arith
 
-pub idle_halt : (m : Machine) (a : ℕ) (x : Option FaultAfter) (b : Bool) → AreDistinct m.devices → Fine (idle m) (Hio a) x (cond b (StatusStored no_unit_status no_channel_status, with_status no_unit_status no_channel_status (idle m)) (Condition Three, idle m))
+pub idle_halt : (m : Machine) (a : ℕ) (x : Option FaultAfter) (b : Bool) → AreDistinct m.devices → Fine (idle m) (Hio a) x (cond b (StatusStored no_unit_status no_channel_status, with_status no_unit_status no_channel_status (idle m)) (WithCode Three, idle m))
 idle_halt m a x true ds = (ds, tt, λ u. nothing _ _)
 idle_halt m a x false ds = (ds, tt, λ u. nothing _ _)
 
@@ -210,9 +210,9 @@ idle_keep m c x true ds = (λ at bytes. (ds, tt, λ u. nothing _ _), λ at key. 
 idle_keep m c x false ds = (λ at bytes. (ds, tt, λ u. nothing _ _), λ at key. (ds, tt, λ u. nothing _ _))
 
 pub idle_fine : (m : Machine) (e : Event) (x : Option FaultAfter) → AreDistinct m.devices → Fine (idle m) e x (react e x (idle m))
-idle_fine m (Sio a) x ds = either_fine (idle m) (Sio a) x (a / 256 == m.channel) (start_io (a % 256) (idle m) Idle) (Condition Three, idle m) (λ h. start_fine m a (a % 256) x (device_at m (a % 256)) (whole m.channel a h) refl ds) (ds, tt, λ u. nothing _ _)
-idle_fine m (Tio a) x ds = either_fine (idle m) (Tio a) x (a / 256 == m.channel) (test_io (a % 256) (idle m) Idle) (Condition Three, idle m) (λ h. test_fine m a (a % 256) x (device_at m (a % 256)) (whole m.channel a h) refl ds) (ds, tt, λ u. nothing _ _)
-idle_fine m (Hio a) x ds = either_fine (idle m) (Hio a) x (a / 256 == m.channel) (halt_io (fault_in x) (a % 256) (idle m) Idle) (Condition Three, idle m) (λ h. idle_halt m a x (is_some (device_at m (a % 256))) ds) (ds, tt, λ u. nothing _ _)
+idle_fine m (Sio a) x ds = either_fine (idle m) (Sio a) x (a / 256 == m.channel) (start_io (a % 256) (idle m) Idle) (WithCode Three, idle m) (λ h. start_fine m a (a % 256) x (device_at m (a % 256)) (whole m.channel a h) refl ds) (ds, tt, λ u. nothing _ _)
+idle_fine m (Tio a) x ds = either_fine (idle m) (Tio a) x (a / 256 == m.channel) (test_io (a % 256) (idle m) Idle) (WithCode Three, idle m) (λ h. test_fine m a (a % 256) x (device_at m (a % 256)) (whole m.channel a h) refl ds) (ds, tt, λ u. nothing _ _)
+idle_fine m (Hio a) x ds = either_fine (idle m) (Hio a) x (a / 256 == m.channel) (halt_io (fault_in x) (a % 256) (idle m) Idle) (WithCode Three, idle m) (λ h. idle_halt m a x (is_some (device_at m (a % 256))) ds) (ds, tt, λ u. nothing _ _)
 idle_fine m Tch x ds = (ds, tt, λ u. nothing _ _)
 idle_fine m (StepBy k) x ds = (ds, tt, λ u. nothing _ _)
 idle_fine m (Arrive a) x ds = either_fine (idle m) (Arrive a) x (a / 256 == m.channel) (arrive (a % 256) (idle m) (device_at m (a % 256))) (HasArrived false, idle m) (λ h. arrive_fine m Idle a (a % 256) x (device_at m (a % 256)) refl ds tt) (ds, tt, λ u. nothing _ _)

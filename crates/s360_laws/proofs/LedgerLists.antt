@@ -87,7 +87,7 @@ arm_most (Some v) = go v.arm
     go InMotion = omega arith
     go Arrived = omega arith
 
--- the owed channel end and device end of a unit
+-- the owed channel end and device end of a device
 pub owed : (m : Machine) (c : Subchannel) (u : ℕ) → Rest m c
     → (channel_owes CHANNEL_END u m c ≤ channel_owes DEVICE_END u m c + device_owes (device_for m u)) × (channel_owes DEVICE_END u m c + device_owes (device_for m u) ≤ 1)
 owed m Idle u h = let k = arm_most (device_for m u) in (omega arith, omega arith)

@@ -5,7 +5,7 @@ use Rattle.s360_words.specs.Storage.{Change, Bytes, is_within, KeyOf}
 use Rattle.s360_words.specs.declared.flags.TheConstants.UnitStatus.{CHANNEL_END, DEVICE_END}
 use Rattle.s360_words.specs.declared.words.Csw.{Csw}
 use Rattle.s360_runs.specs.Status.{tells}
-use Rattle.s360_laws.specs.Events.{FaultAfter, Tio, CswStored, Store, Condition, WasKept, SetKey, Event, Sio, Hio, Tch, StepBy, Arrive, HasArrived, Interrupt, Reset, Show}
+use Rattle.s360_laws.specs.Events.{FaultAfter, Tio, CswStored, Store, WithCode, WasKept, SetKey, Event, Sio, Hio, Tch, StepBy, Arrive, HasArrived, Interrupt, Reset, Show}
 use Rattle.s360_laws.specs.Machine.{Machine, address_of, Pending, with_csw, with_change, react, test_io, arrive, device_at}
 use Rattle.s360_laws.specs.Soundness.{device_for, device_owes, AreDistinct}
 use Rattle.s360_laws.specs.declared.condition.ConditionCode.TheVariants.{Two, Three, Zero}
@@ -25,7 +25,7 @@ told_csw m p a u csw e = (
 )
 
 pub pending_test : (m : Machine) (p a : ℕ) (csw : Csw) (x : Option FaultAfter) (b : Bool) → (a % 256 == p) ≡ b → address_of m (a % 256) ≡ a → AreDistinct m.devices → Rest m (Pending p csw)
-    → Fine (pending m p csw) (Tio a) x (cond b (CswStored csw, with_csw csw (idle m)) (Condition Two, pending m p csw))
+    → Fine (pending m p csw) (Tio a) x (cond b (CswStored csw, with_csw csw (idle m)) (WithCode Two, pending m p csw))
 pending_test m p a csw x true h e ds r = (ds, tt, λ u. let t = told_csw m p a u csw (ap (address_of m) (sym (eqb-true _ _ h)) ∙ e) in (t.0, t.1, λ b. no b))
 pending_test m p a csw x false h e ds r = (ds, r, λ u. nothing _ _)
 
@@ -36,9 +36,9 @@ pending_keep m p csw c x true ds r = (λ at bytes. (ds, r, λ u. nothing _ _), �
 pending_keep m p csw c x false ds r = (λ at bytes. (ds, r, λ u. nothing _ _), λ at key. (ds, r, λ u. nothing _ _))
 
 pub pending_fine : (m : Machine) (p : ℕ) (csw : Csw) (e : Event) (x : Option FaultAfter) → AreDistinct m.devices → Rest m (Pending p csw) → Fine (pending m p csw) e x (react e x (pending m p csw))
-pending_fine m p csw (Sio a) x ds r = either_fine (pending m p csw) (Sio a) x (a / 256 == m.channel) (Condition Two, pending m p csw) (Condition Three, pending m p csw) (λ h. (ds, r, λ u. nothing _ _)) (ds, r, λ u. nothing _ _)
-pending_fine m p csw (Tio a) x ds r = either_fine (pending m p csw) (Tio a) x (a / 256 == m.channel) (test_io (a % 256) (pending m p csw) (Pending p csw)) (Condition Three, pending m p csw) (λ h. pending_test m p a csw x (a % 256 == p) refl (whole m.channel a h) ds r) (ds, r, λ u. nothing _ _)
-pending_fine m p csw (Hio a) x ds r = either_fine (pending m p csw) (Hio a) x (a / 256 == m.channel) (Condition Zero, pending m p csw) (Condition Three, pending m p csw) (λ h. (ds, r, λ u. nothing _ _)) (ds, r, λ u. nothing _ _)
+pending_fine m p csw (Sio a) x ds r = either_fine (pending m p csw) (Sio a) x (a / 256 == m.channel) (WithCode Two, pending m p csw) (WithCode Three, pending m p csw) (λ h. (ds, r, λ u. nothing _ _)) (ds, r, λ u. nothing _ _)
+pending_fine m p csw (Tio a) x ds r = either_fine (pending m p csw) (Tio a) x (a / 256 == m.channel) (test_io (a % 256) (pending m p csw) (Pending p csw)) (WithCode Three, pending m p csw) (λ h. pending_test m p a csw x (a % 256 == p) refl (whole m.channel a h) ds r) (ds, r, λ u. nothing _ _)
+pending_fine m p csw (Hio a) x ds r = either_fine (pending m p csw) (Hio a) x (a / 256 == m.channel) (WithCode Zero, pending m p csw) (WithCode Three, pending m p csw) (λ h. (ds, r, λ u. nothing _ _)) (ds, r, λ u. nothing _ _)
 pending_fine m p csw Tch x ds r = (ds, r, λ u. nothing _ _)
 pending_fine m p csw (StepBy k) x ds r = (ds, r, λ u. nothing _ _)
 pending_fine m p csw (Arrive a) x ds r = either_fine (pending m p csw) (Arrive a) x (a / 256 == m.channel) (arrive (a % 256) (pending m p csw) (device_at m (a % 256))) (HasArrived false, pending m p csw) (λ h. arrive_fine m (Pending p csw) a (a % 256) x (device_at m (a % 256)) refl ds r) (ds, r, λ u. nothing _ _)

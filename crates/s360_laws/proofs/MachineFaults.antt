@@ -11,7 +11,7 @@ use Rattle.s360_runs.specs.Units.{unit, ProgramPhase, StandsAt, Next, standing_i
 use Rattle.s360_runs.proofs.FaultsMet.{same_outcome, fault_or_not, fault_ends_cut}
 use Rattle.s360_runs.proofs.Standing.{goes_by}
 use Rattle.s360_runs.proofs.Walks.{units_in_two}
-use Rattle.s360_laws.specs.Events.{Answer, FaultAfter, Stepped, StepBy, Condition, Hio, WasReset, Reset, Sio, Tio, Tch, Arrive, Interrupt, Store, SetKey, Show}
+use Rattle.s360_laws.specs.Events.{Answer, FaultAfter, Stepped, StepBy, WithCode, Hio, WasReset, Reset, Sio, Tio, Tch, Arrive, Interrupt, Store, SetKey, Show}
 use Rattle.s360_laws.specs.History.{Runs}
 use Rattle.s360_laws.specs.Machine.{cut, ended, units_failing, Device, Machine, device_at, arm_after, stepped, start_of, react, Subchannel, Idle, Pending, Working, run_of, unsaved_at, address_of, all_at_rest, at_rest}
 use Rattle.s360_laws.specs.Soundness.{IsRunning}
@@ -20,7 +20,7 @@ use Rattle.s360_laws.specs.declared.condition.ConditionCode.TheVariants.{Two, Th
 use Rattle.s360_laws.proofs.FindDevices.{Keeps, found_map, keeps_one, Has, has_found, set_both, no}
 use Rattle.s360_laws.proofs.SeenDevices.{seen}
 use Rattle.s360_laws.proofs.Shapes.{working}
-use Rattle.s360_laws.proofs.StepLaws.{run_at, the_unit}
+use Rattle.s360_laws.proofs.StepLaws.{run_at, working_device}
 use Rattle.s360_laws.proofs.StepUnits.{units_count, stood}
 
 -- The units of a step in which a fault stands.
@@ -143,7 +143,7 @@ fault_ends_step m k x r = go m.subchannel r
     go : (c : Subchannel) → Runs m c → FaultOr (λ r. EndedByFault r (Stepped (suc x.units))) (react (StepBy k) (Some x) (record m { subchannel = c })) (react (StepBy k) None (record m { subchannel = c }))
     go Idle r = inl refl
     go (Pending p csw) r = inl refl
-    go (Working d s) r = let v = the_unit m d s (device_at m d) refl r in step_faults m d s k x v.0 v.1 v.2
+    go (Working d s) r = let v = working_device m d s (device_at m d) refl r in step_faults m d s k x v.0 v.1 v.2
 
 -- Cuts.
 
@@ -168,31 +168,31 @@ seen_in m d s v at r = go (run s (start_of m v.drive)) refl r
     go (NotEnded seen) h r = (seen, h, run_at m d v s at ∙ ap Some h)
 
 abbrev halted : Option Fault → Machine → ℕ → Option Outcome → Answer × Machine
-halted f m d o = (Condition Two, cut f d m o)
+halted f m d o = (WithCode Two, cut f d m o)
 
 halt_faults : (m : Machine) (d : ℕ) (s : Script) (f : Fault) (v : Device) → device_at m d ≡ Some v → IsRunning (Some (run s (start_of m v.drive)))
-    → FaultOr (λ r. EndedByFault r (Condition Two)) (halted (Some f) (working m d s) d (run_of m d s)) (halted None (working m d s) d (run_of m d s))
+    → FaultOr (λ r. EndedByFault r (WithCode Two)) (halted (Some f) (working m d s) d (run_of m d s)) (halted None (working m d s) d (run_of m d s))
 halt_faults m d s f v at r =
     let y = seen_in m d s v at r in
-    subst (λ o. FaultOr (λ r. EndedByFault r (Condition Two)) (halted (Some f) (working m d s) d o) (halted None (working m d s) d o)) (sym y.2) (go y.0 (cut_or (start_of m v.drive) s y.0 f y.1))
+    subst (λ o. FaultOr (λ r. EndedByFault r (WithCode Two)) (halted (Some f) (working m d s) d o) (halted None (working m d s) d o)) (sym y.2) (go y.0 (cut_or (start_of m v.drive) s y.0 f y.1))
   where
-    go : (seen : Standing) → CutOr seen f → FaultOr (λ r. EndedByFault r (Condition Two)) (halted (Some f) (working m d s) d (Some (NotEnded seen))) (halted None (working m d s) d (Some (NotEnded seen)))
-    go seen (inl same) = inl (ap (λ e. (Condition Two, ended d seen.storage e m)) same)
-    go seen (inr met) = inr (ended_by_fault m d seen.storage (seen.cut (Some f)) v (Condition Two) f (seen.cut None).drive at met.2)
+    go : (seen : Standing) → CutOr seen f → FaultOr (λ r. EndedByFault r (WithCode Two)) (halted (Some f) (working m d s) d (Some (NotEnded seen))) (halted None (working m d s) d (Some (NotEnded seen)))
+    go seen (inl same) = inl (ap (λ e. (WithCode Two, ended d seen.storage e m)) same)
+    go seen (inr met) = inr (ended_by_fault m d seen.storage (seen.cut (Some f)) v (WithCode Two) f (seen.cut None).drive at met.2)
 
-either_halt : (b : Bool) (m : Machine) (y z : Answer × Machine) → FaultOr (λ r. EndedByFault r (Condition Two)) y z
-    → FaultOr (λ r. EndedByFault r (Condition Two)) (cond b y (Condition Three, m)) (cond b z (Condition Three, m))
+either_halt : (b : Bool) (m : Machine) (y z : Answer × Machine) → FaultOr (λ r. EndedByFault r (WithCode Two)) y z
+    → FaultOr (λ r. EndedByFault r (WithCode Two)) (cond b y (WithCode Three, m)) (cond b z (WithCode Three, m))
 either_halt true m y z h = h
 either_halt false m y z h = inl refl
 
 pub fault_ends_halt : FaultEndsHalt
 fault_ends_halt m a x r = go m.subchannel r
   where
-    go : (c : Subchannel) → Runs m c → FaultOr (λ r. EndedByFault r (Condition Two)) (react (Hio a) (Some x) (record m { subchannel = c })) (react (Hio a) None (record m { subchannel = c }))
+    go : (c : Subchannel) → Runs m c → FaultOr (λ r. EndedByFault r (WithCode Two)) (react (Hio a) (Some x) (record m { subchannel = c })) (react (Hio a) None (record m { subchannel = c }))
     go Idle r = inl refl
     go (Pending p csw) r = inl refl
     go (Working d s) r =
-        let v = the_unit m d s (device_at m d) refl r in
+        let v = working_device m d s (device_at m d) refl r in
         either_halt (a / 256 == m.channel) (working m d s) (halted (Some x.fault) (working m d s) d (run_of m d s)) (halted None (working m d s) d (run_of m d s)) (halt_faults m d s x.fault v.0 v.1 v.2)
 
 -- Resets.
@@ -227,7 +227,7 @@ fault_told_by_reset m x r = go m.subchannel r
     go Idle r = inl refl
     go (Pending p csw) r = inl refl
     go (Working d s) r =
-        let v = the_unit m d s (device_at m d) refl r in
+        let v = working_device m d s (device_at m d) refl r in
         let y = seen_in m d s v.0 v.1 v.2 in
         subst (λ o. FaultOr (ToldByReset (working m d s)) (reset_by (Some x.fault) (working m d s) d o) (reset_by None (working m d s) d o)) (sym y.2) (either d s y.0 v.0 v.1 (cut_or (start_of m v.0.drive) s y.0 x.fault y.1))
 

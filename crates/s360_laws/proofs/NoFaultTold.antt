@@ -17,7 +17,7 @@ use Rattle.s360_runs.specs.Unsaved.{GainsNoCheck, TellsNoFault, OutcomeTellsNoFa
 use Rattle.s360_runs.proofs.FaultsMet.{goes_on_without_faults}
 use Rattle.s360_runs.proofs.UnsavedTracks.{no_fault_nothing_told, unsaved_was_written}
 use Rattle.s360_runs.proofs.Walks.{run_walk}
-use Rattle.s360_laws.specs.Events.{Answer, Event, StepBy, Condition, Hio, WasReset, Reset, Sio, Tio, Tch, Arrive, HasArrived, Interrupt, Store, WasKept, SetKey, Show}
+use Rattle.s360_laws.specs.Events.{Answer, Event, StepBy, WithCode, Hio, WasReset, Reset, Sio, Tio, Tch, Arrive, HasArrived, Interrupt, Store, WasKept, SetKey, Show}
 use Rattle.s360_laws.specs.History.{Runs}
 use Rattle.s360_laws.specs.Machine.{cut, Device, Machine, device_at, arm_after, started, start_device, test_device, test_io, tested, with_arm, with_ending, stepped, start_of, react, Subchannel, Idle, Pending, Working, run_of, unsaved_at, address_of, all_at_rest, at_rest, arrive, is_in_motion, has_arrived, lowest, interrupt_device, interrupt_program, asked_by, change, keep, fault_in, halt_io}
 use Rattle.s360_laws.specs.NothingTold.{TellsNoTrack, NoneGainsCheck, NoFaultNoneTold, HadWritten, ResetTellsWritten}
@@ -27,7 +27,7 @@ use Rattle.s360_laws.specs.declared.arm.Arm.TheVariants.{AtRest, InMotion, Arriv
 use Rattle.s360_laws.specs.declared.condition.ConditionCode.TheVariants.{Zero, Two, Three}
 use Rattle.s360_laws.proofs.FindDevices.{Keeps, found_map, keeps_one, Has, has_found, set_arm, set_both, set_drive}
 use Rattle.s360_laws.proofs.Shapes.{working}
-use Rattle.s360_laws.proofs.StepLaws.{run_at, the_unit}
+use Rattle.s360_laws.proofs.StepLaws.{run_at, working_device}
 
 -- Changes of devices.
 
@@ -122,8 +122,8 @@ either : (m : Machine) (b : Bool) (y z : Answer × Machine) → Calm m y → Cal
 either m true y z h k = h
 either m false y z h k = k
 
-on_this : (m : Machine) (a : ℕ) (r : Answer × Machine) → Calm m r → Calm m (cond (a / 256 == m.channel) r (Condition Three, m))
-on_this m a r h = either m (a / 256 == m.channel) r (Condition Three, m) h (tt, none_changed m)
+on_this : (m : Machine) (a : ℕ) (r : Answer × Machine) → Calm m r → Calm m (cond (a / 256 == m.channel) r (WithCode Three, m))
+on_this m a r h = either m (a / 256 == m.channel) r (WithCode Three, m) h (tt, none_changed m)
 
 -- the program that runs
 abbrev OutcomeFor : IdleDrive → Option Outcome → Type 0
@@ -188,27 +188,27 @@ with_sub m c = record m { subchannel = c }
 
 by_event : (m : Machine) (e : Event) (c : Subchannel) → Runs m c → Calm (with_sub m c) (react e None (with_sub m c))
 by_event m (Sio a) Idle r = on_this (with_sub m Idle) a (start_device (a % 256) (with_sub m Idle) (device_at m (a % 256))) (start_calm (with_sub m Idle) (a % 256) (device_at m (a % 256)) refl)
-by_event m (Sio a) (Working d s) r = on_this (working m d s) a (Condition Two, working m d s) (tt, none_changed (working m d s))
-by_event m (Sio a) (Pending p csw) r = on_this (with_sub m (Pending p csw)) a (Condition Two, with_sub m (Pending p csw)) (tt, none_changed m)
+by_event m (Sio a) (Working d s) r = on_this (working m d s) a (WithCode Two, working m d s) (tt, none_changed (working m d s))
+by_event m (Sio a) (Pending p csw) r = on_this (with_sub m (Pending p csw)) a (WithCode Two, with_sub m (Pending p csw)) (tt, none_changed m)
 by_event m (Tio a) Idle r = on_this (with_sub m Idle) a (test_device (a % 256) (with_sub m Idle) (device_at m (a % 256))) (test_calm (with_sub m Idle) (a % 256) (device_at m (a % 256)))
-by_event m (Tio a) (Working d s) r = on_this (working m d s) a (Condition Two, working m d s) (tt, none_changed m)
+by_event m (Tio a) (Working d s) r = on_this (working m d s) a (WithCode Two, working m d s) (tt, none_changed m)
 by_event m (Tio a) (Pending p csw) r = on_this (with_sub m (Pending p csw)) a (test_io (a % 256) (with_sub m (Pending p csw)) (Pending p csw))
-    (either (with_sub m (Pending p csw)) (a % 256 == p) (tested csw (with_sub m Idle)) (Condition Two, with_sub m (Pending p csw)) (tt, none_changed m) (tt, none_changed m))
-by_event m (Hio a) Idle r = on_this (with_sub m Idle) a (halt_io None (a % 256) (with_sub m Idle) Idle) (either (with_sub m Idle) (is_some (device_at m (a % 256))) _ (Condition Three, with_sub m Idle) (tt, none_changed m) (tt, none_changed m))
+    (either (with_sub m (Pending p csw)) (a % 256 == p) (tested csw (with_sub m Idle)) (WithCode Two, with_sub m (Pending p csw)) (tt, none_changed m) (tt, none_changed m))
+by_event m (Hio a) Idle r = on_this (with_sub m Idle) a (halt_io None (a % 256) (with_sub m Idle) Idle) (either (with_sub m Idle) (is_some (device_at m (a % 256))) _ (WithCode Three, with_sub m Idle) (tt, none_changed m) (tt, none_changed m))
 by_event m (Hio a) (Working d s) r =
-    let v = the_unit m d s (device_at m d) refl r in
+    let v = working_device m d s (device_at m d) refl r in
     on_this (working m d s) a (halt_io None (a % 256) (working m d s) (Working d s)) (tt, cut_calm (working m d s) d v.0 v.1 (run_of m d s) (stand_calm m d s v.0 v.1 v.2))
-by_event m (Hio a) (Pending p csw) r = on_this (with_sub m (Pending p csw)) a (Condition Zero, with_sub m (Pending p csw)) (tt, none_changed m)
+by_event m (Hio a) (Pending p csw) r = on_this (with_sub m (Pending p csw)) a (WithCode Zero, with_sub m (Pending p csw)) (tt, none_changed m)
 by_event m Tch c r = (tt, none_changed m)
 by_event m (StepBy k) Idle r = (tt, none_changed m)
-by_event m (StepBy k) (Working d s) r = let v = the_unit m d s (device_at m d) refl r in step_calm (working m d s) d s k v.0 v.1 (run_of m d (s ++ units k)) (run_calm m d s k v.0 v.1 v.2)
+by_event m (StepBy k) (Working d s) r = let v = working_device m d s (device_at m d) refl r in step_calm (working m d s) d s k v.0 v.1 (run_of m d (s ++ units k)) (run_calm m d s k v.0 v.1 v.2)
 by_event m (StepBy k) (Pending p csw) r = (tt, none_changed m)
 by_event m (Arrive a) c r = either (with_sub m c) (a / 256 == m.channel) (arrive (a % 256) (with_sub m c) (device_at m (a % 256))) (HasArrived false, with_sub m c) (arrive_calm (with_sub m c) (a % 256) (device_at m (a % 256))) (tt, none_changed m)
 by_event m Interrupt Idle r = interrupts_calm (with_sub m Idle) (lowest (filter has_arrived m.devices))
 by_event m Interrupt (Working d s) r = asks_calm (working m d s) d s (asked_by (run_of m d s))
 by_event m Interrupt (Pending p csw) r = (tt, none_changed m)
 by_event m Reset Idle r = (refl, rests_calm m (with_sub m Idle))
-by_event m Reset (Working d s) r = let v = the_unit m d s (device_at m d) refl r in (told_calm m d v.0 (run_of m d s) (stand_calm m d s v.0 v.1 v.2), rests_calm m (cut None d (working m d s) (run_of m d s)))
+by_event m Reset (Working d s) r = let v = working_device m d s (device_at m d) refl r in (told_calm m d v.0 (run_of m d s) (stand_calm m d s v.0 v.1 v.2), rests_calm m (cut None d (working m d s) (run_of m d s)))
 by_event m Reset (Pending p csw) r = (refl, rests_calm m (with_sub m (Pending p csw)))
 by_event m (Store at bytes) c r = kept_calm (with_sub m c) (Bytes at bytes)
 by_event m (SetKey at key) c r = kept_calm (with_sub m c) (KeyOf at key)

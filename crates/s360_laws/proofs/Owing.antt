@@ -10,7 +10,7 @@ use Rattle.s360_laws.specs.Machine.{Machine, Subchannel, Idle, Working, address_
 use Rattle.s360_laws.specs.Soundness.{device_owes, device_for, owes_channel_end, owes_device_end, AreDistinct, arm_owes}
 use Rattle.s360_laws.specs.declared.arm.Arm.{Arm}
 use Rattle.s360_laws.specs.declared.arm.Arm.TheVariants.{AtRest, Arrived, InMotion}
-use Rattle.s360_laws.proofs.FindDevices.{no, set_arm, unit_after, distinct_map, keeps_one, at_device, device_of}
+use Rattle.s360_laws.proofs.FindDevices.{no, set_arm, device_after, distinct_map, keeps_one, at_device, device_of}
 
 -- What each event owes.
 
@@ -50,18 +50,18 @@ clears true None h = let e = h refl in omega arith
 clears true (Some v) h = let e = h refl in omega arith
 clears false x h = omega arith
 
--- a change of one unit that owes the same
+-- a change of one device that owes the same
 pub same_owed : (f : Device → Device) (b : Bool) (x : Option Device) → (b ≡ true → device_owes (option_map f x) ≡ device_owes x) → device_owes (cond b (option_map f x) x) ≡ device_owes x
 same_owed f true x h = h refl
 same_owed f false x h = refl
 
 pub arm_set : (m : Machine) (arm : Arm) (d u : ℕ) → device_for (with_arm arm d m) u ≡ cond (address_of m d == u) (option_map (set_arm arm) (device_for m u)) (device_for m u)
-arm_set m arm d u = unit_after m.channel d u (set_arm arm) (λ v. refl) m.devices
+arm_set m arm d u = device_after m.channel d u (set_arm arm) (λ v. refl) m.devices
 
 pub distinct_arm : (m : Machine) (arm : Arm) (d : ℕ) → AreDistinct m.devices → AreDistinct (with_arm arm d m).devices
 distinct_arm m arm d h = distinct_map _ (keeps_one d (set_arm arm) (λ v. refl)) m.devices h
 
--- the device end of unit d is list, to address a
+-- the device end of device d is told, to address a
 pub device_end_told : (m : Machine) (d a u : ℕ) (v : Device) → device_at m d ≡ Some v → v.arm ≡ Arrived → address_of m d ≡ a
     → cond ((a == u) && true) 1 0 + (0 + device_owes (device_for (with_arm AtRest d m) u)) ≡ 0 + device_owes (device_for m u)
 device_end_told m d a u v at arm e =

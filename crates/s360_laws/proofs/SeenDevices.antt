@@ -8,7 +8,7 @@ use Rattle.s360_laws.specs.History.{with_drive, units_ahead, history, world_of, 
 use Rattle.s360_laws.specs.Machine.{Device, at_rest, Machine, is_working}
 use Rattle.s360_laws.specs.declared.arm.Arm.{Arm}
 
--- Units as the history sees them.
+-- Devices as the history sees them.
 
 abbrev pub seen : Device → ℕ × IdleDrive
 seen u = (u.device, u.drive)

@@ -5,7 +5,7 @@ use Rattle.s360_words.specs.Storage.{Bytes, is_within, KeyOf}
 use Rattle.s360_words.specs.declared.words.Csw.{Csw}
 use Rattle.s360_runs.specs.Starts.{first, First, BadStart, RejectedStart, ImmediateStart, AcceptedStart}
 use Rattle.s360_runs.specs.Status.{no_unit_status, no_channel_status}
-use Rattle.s360_laws.specs.Events.{Event, FaultAfter, Answer, Exchange, Sio, Arrive, Tio, Hio, StatusStored, Store, Condition, HasArrived, Interrupt, WasKept, SetKey, Tch, StepBy, Reset, Show, CswStored, Input}
+use Rattle.s360_laws.specs.Events.{Event, FaultAfter, Answer, Exchange, Sio, Arrive, Tio, Hio, StatusStored, Store, WithCode, HasArrived, Interrupt, WasKept, SetKey, Tch, StepBy, Reset, Show, CswStored, Input}
 use Rattle.s360_laws.specs.History.{Runs, units_ahead, world_of, history, begun_act, IsSerial}
 use Rattle.s360_laws.specs.Machine.{Machine, Subchannel, react, Idle, Working, Pending, is_working, started, Device, start_device, start_of, test_device, with_status, arrive, is_in_motion, with_arm, interrupt_device, start_io, device_at, test_io, halt_io, fault_in, lowest, has_arrived, with_change, with_csw, exchanges}
 use Rattle.s360_laws.specs.declared.arm.Arm.{Arm}
@@ -55,7 +55,7 @@ calm_test a device x m (Some u) = go u.arm
     go Arrived = λ rest h. h refl
     go AtRest = λ rest h. h refl
 
-calm_halt : (a : ℕ) (x : Option FaultAfter) (m : Machine) (b : Bool) → Calm (Hio a) x (cond b (StatusStored no_unit_status no_channel_status, with_status no_unit_status no_channel_status (idle m)) (Condition Three, idle m))
+calm_halt : (a : ℕ) (x : Option FaultAfter) (m : Machine) (b : Bool) → Calm (Hio a) x (cond b (StatusStored no_unit_status no_channel_status, with_status no_unit_status no_channel_status (idle m)) (WithCode Three, idle m))
 calm_halt a x m true = λ rest h. h refl
 calm_halt a x m false = λ rest h. h refl
 
@@ -80,9 +80,9 @@ calm_key at key x m n true v w = λ rest h. h w
 calm_key at key x m n false v w = λ rest h. h v
 
 calm_idle : (m : Machine) (e : Event) (x : Option FaultAfter) → Calm e x (react e x (idle m))
-calm_idle m (Sio a) x = either_calm (Sio a) x (a / 256 == m.channel) (start_io (a % 256) (idle m) Idle) (Condition Three, idle m) (calm_start a (a % 256) x m (device_at m (a % 256))) (λ rest h. h refl)
-calm_idle m (Tio a) x = either_calm (Tio a) x (a / 256 == m.channel) (test_io (a % 256) (idle m) Idle) (Condition Three, idle m) (calm_test a (a % 256) x m (device_at m (a % 256))) (λ rest h. h refl)
-calm_idle m (Hio a) x = either_calm (Hio a) x (a / 256 == m.channel) (halt_io (fault_in x) (a % 256) (idle m) Idle) (Condition Three, idle m) (calm_halt a x m (is_some (device_at m (a % 256)))) (λ rest h. h refl)
+calm_idle m (Sio a) x = either_calm (Sio a) x (a / 256 == m.channel) (start_io (a % 256) (idle m) Idle) (WithCode Three, idle m) (calm_start a (a % 256) x m (device_at m (a % 256))) (λ rest h. h refl)
+calm_idle m (Tio a) x = either_calm (Tio a) x (a / 256 == m.channel) (test_io (a % 256) (idle m) Idle) (WithCode Three, idle m) (calm_test a (a % 256) x m (device_at m (a % 256))) (λ rest h. h refl)
+calm_idle m (Hio a) x = either_calm (Hio a) x (a / 256 == m.channel) (halt_io (fault_in x) (a % 256) (idle m) Idle) (WithCode Three, idle m) (calm_halt a x m (is_some (device_at m (a % 256)))) (λ rest h. h refl)
 calm_idle m Tch x = λ rest h. h refl
 calm_idle m (StepBy k) x = λ rest h. zero-add (units_ahead rest) ∙ h refl
 calm_idle m (Arrive a) x = either_calm (Arrive a) x (a / 256 == m.channel) (arrive (a % 256) (idle m) (device_at m (a % 256))) (HasArrived false, idle m) (calm_arrive a (a % 256) x (idle m) (device_at m (a % 256)) refl) (λ rest h. h refl)
@@ -93,10 +93,10 @@ calm_idle m (SetKey at key) x = calm_key at key x (idle m) (with_change (KeyOf a
 calm_idle m (Show at len) x = λ rest h. h refl
 
 calm_pending : (m : Machine) (p : ℕ) (csw : Csw) (e : Event) (x : Option FaultAfter) → Calm e x (react e x (pending m p csw))
-calm_pending m p csw (Sio a) x = either_calm (Sio a) x (a / 256 == m.channel) (Condition Two, pending m p csw) (Condition Three, pending m p csw) (λ rest h. h refl) (λ rest h. h refl)
-calm_pending m p csw (Tio a) x = either_calm (Tio a) x (a / 256 == m.channel) (test_io (a % 256) (pending m p csw) (Pending p csw)) (Condition Three, pending m p csw)
-    (either_calm (Tio a) x (a % 256 == p) (CswStored csw, with_csw csw (idle m)) (Condition Two, pending m p csw) (λ rest h. h refl) (λ rest h. h refl)) (λ rest h. h refl)
-calm_pending m p csw (Hio a) x = either_calm (Hio a) x (a / 256 == m.channel) (Condition Zero, pending m p csw) (Condition Three, pending m p csw) (λ rest h. h refl) (λ rest h. h refl)
+calm_pending m p csw (Sio a) x = either_calm (Sio a) x (a / 256 == m.channel) (WithCode Two, pending m p csw) (WithCode Three, pending m p csw) (λ rest h. h refl) (λ rest h. h refl)
+calm_pending m p csw (Tio a) x = either_calm (Tio a) x (a / 256 == m.channel) (test_io (a % 256) (pending m p csw) (Pending p csw)) (WithCode Three, pending m p csw)
+    (either_calm (Tio a) x (a % 256 == p) (CswStored csw, with_csw csw (idle m)) (WithCode Two, pending m p csw) (λ rest h. h refl) (λ rest h. h refl)) (λ rest h. h refl)
+calm_pending m p csw (Hio a) x = either_calm (Hio a) x (a / 256 == m.channel) (WithCode Zero, pending m p csw) (WithCode Three, pending m p csw) (λ rest h. h refl) (λ rest h. h refl)
 calm_pending m p csw Tch x = λ rest h. h refl
 calm_pending m p csw (StepBy k) x = λ rest h. zero-add (units_ahead rest) ∙ h refl
 calm_pending m p csw (Arrive a) x = either_calm (Arrive a) x (a / 256 == m.channel) (arrive (a % 256) (pending m p csw) (device_at m (a % 256))) (HasArrived false, pending m p csw) (calm_arrive a (a % 256) x (pending m p csw) (device_at m (a % 256)) refl) (λ rest h. h refl)

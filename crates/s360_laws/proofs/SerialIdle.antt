@@ -10,7 +10,7 @@ use Rattle.s360_runs.specs.Scripts.{units}
 use Rattle.s360_runs.specs.Starts.{First, first, BadStart, AcceptedStart, RejectedStart, ImmediateStart}
 use Rattle.s360_runs.specs.Status.{no_unit_status, no_channel_status, normal_end, busy_device_end}
 use Rattle.s360_runs.proofs.FirstUnits.{first_is_unit}
-use Rattle.s360_laws.specs.Events.{FaultAfter, Tio, Arrive, Hio, StatusStored, Store, Condition, HasArrived, Sio, WasKept, SetKey, Interrupt, Exchange, Event, Tch, StepBy, Reset, Show}
+use Rattle.s360_laws.specs.Events.{FaultAfter, Tio, Arrive, Hio, StatusStored, Store, WithCode, HasArrived, Sio, WasKept, SetKey, Interrupt, Exchange, Event, Tch, StepBy, Reset, Show}
 use Rattle.s360_laws.specs.History.{history, world_of, acts, drive_in, does, after_first, Changes, after_rejection, Program, ByItself, after_run, after_program, start_acts, ClearsSense}
 use Rattle.s360_laws.specs.Machine.{Machine, Device, test_device, with_csw, csw_of_unit, with_status, arrive, is_in_motion, with_arm, device_at, start_of, started, with_ending, arm_after, start_device, with_change, interrupt_device, at_rest, react, start_io, Idle, test_io, halt_io, fault_in, lowest, has_arrived}
 use Rattle.s360_laws.specs.Soundness.{IsRunning}
@@ -31,7 +31,7 @@ idle_test a device x m (Some u) = go u.arm
     go InMotion = (tt, λ ahead q. refl)
     go Arrived = (tt, λ ahead q. ap (λ ds. history (with_world (world_of (with_csw (csw_of_unit DEVICE_END) (idle m))) ds) (acts ahead)) (arms AtRest device m.devices))
 
-pub idle_halt : (a : ℕ) (x : Option FaultAfter) (m : Machine) (b : Bool) → Good (idle m) (Hio a) x (cond b (StatusStored no_unit_status no_channel_status, with_status no_unit_status no_channel_status (idle m)) (Condition Three, idle m))
+pub idle_halt : (a : ℕ) (x : Option FaultAfter) (m : Machine) (b : Bool) → Good (idle m) (Hio a) x (cond b (StatusStored no_unit_status no_channel_status, with_status no_unit_status no_channel_status (idle m)) (WithCode Three, idle m))
 idle_halt a x m true = (tt, λ ahead q. refl)
 idle_halt a x m false = (tt, λ ahead q. refl)
 
@@ -84,7 +84,7 @@ start_good a x m (Some u) at = go u.arm refl
 
 -- Any event while Idle.
 
-pub idle_other : (a : ℕ) (x : Option FaultAfter) (m : Machine) → Good (idle m) (Sio a) x (Condition Three, idle m) × Good (idle m) (Tio a) x (Condition Three, idle m) × Good (idle m) (Hio a) x (Condition Three, idle m) × Good (idle m) (Arrive a) x (HasArrived false, idle m)
+pub idle_other : (a : ℕ) (x : Option FaultAfter) (m : Machine) → Good (idle m) (Sio a) x (WithCode Three, idle m) × Good (idle m) (Tio a) x (WithCode Three, idle m) × Good (idle m) (Hio a) x (WithCode Three, idle m) × Good (idle m) (Arrive a) x (HasArrived false, idle m)
 idle_other a x m = ((tt, λ ahead q. refl), (tt, λ ahead q. refl), (tt, λ ahead q. refl), (tt, λ ahead q. refl))
 
 pub idle_store : (x : Option FaultAfter) (m : Machine) (at : ℕ) (bytes : List ℕ) (b : Bool) → Good (idle m) (Store at bytes) x (cond b (WasKept true, with_change (Bytes at bytes) (idle m)) (WasKept false, idle m))
@@ -111,9 +111,9 @@ pub clear : (m : Machine) (ahead : List Exchange) → history (record (world_of 
 clear m ahead = ap (λ ds. history (record (world_of m) { drives = ds }) (acts ahead)) (rests m.devices)
 
 pub idle_good : (m : Machine) (e : Event) (x : Option FaultAfter) → Good (idle m) e x (react e x (idle m))
-idle_good m (Sio a) x = either_good (idle m) (Sio a) x (a / 256 == m.channel) (start_io (a % 256) (idle m) Idle) (Condition Three, idle m) (start_good a x m (device_at m (a % 256)) refl) (idle_other a x m).0
-idle_good m (Tio a) x = either_good (idle m) (Tio a) x (a / 256 == m.channel) (test_io (a % 256) (idle m) Idle) (Condition Three, idle m) (idle_test a (a % 256) x m (device_at m (a % 256))) (idle_other a x m).1
-idle_good m (Hio a) x = either_good (idle m) (Hio a) x (a / 256 == m.channel) (halt_io (fault_in x) (a % 256) (idle m) Idle) (Condition Three, idle m) (idle_halt a x m (is_some (device_at m (a % 256)))) (idle_other a x m).2
+idle_good m (Sio a) x = either_good (idle m) (Sio a) x (a / 256 == m.channel) (start_io (a % 256) (idle m) Idle) (WithCode Three, idle m) (start_good a x m (device_at m (a % 256)) refl) (idle_other a x m).0
+idle_good m (Tio a) x = either_good (idle m) (Tio a) x (a / 256 == m.channel) (test_io (a % 256) (idle m) Idle) (WithCode Three, idle m) (idle_test a (a % 256) x m (device_at m (a % 256))) (idle_other a x m).1
+idle_good m (Hio a) x = either_good (idle m) (Hio a) x (a / 256 == m.channel) (halt_io (fault_in x) (a % 256) (idle m) Idle) (WithCode Three, idle m) (idle_halt a x m (is_some (device_at m (a % 256)))) (idle_other a x m).2
 idle_good m Tch x = (tt, λ ahead q. refl)
 idle_good m (StepBy k) x = (tt, λ ahead q. refl)
 idle_good m (Arrive a) x = either_good (idle m) (Arrive a) x (a / 256 == m.channel) (arrive (a % 256) (idle m) (device_at m (a % 256))) (HasArrived false, idle m) (arrival a (a % 256) x m (device_at m (a % 256))) (idle_other a x m).3

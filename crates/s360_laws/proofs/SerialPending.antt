@@ -2,7 +2,7 @@
 use Rattle.std.proofs.Common.{ℕ, ◌/◌, ◌%◌, refl, ap, true, false, Bool, cond, ◌==◌, List, Option, Some, None}
 use Rattle.s360_words.specs.Storage.{Bytes, KeyOf, csw_stored, is_within}
 use Rattle.s360_words.specs.declared.words.Csw.{Csw}
-use Rattle.s360_laws.specs.Events.{Event, FaultAfter, Answer, Tio, CswStored, Store, Condition, Sio, Hio, Arrive, HasArrived, WasKept, SetKey, Tch, StepBy, Interrupt, Reset, Show}
+use Rattle.s360_laws.specs.Events.{Event, FaultAfter, Answer, Tio, CswStored, Store, WithCode, Sio, Hio, Arrive, HasArrived, WasKept, SetKey, Tch, StepBy, Interrupt, Reset, Show}
 use Rattle.s360_laws.specs.History.{history, world_of, acts}
 use Rattle.s360_laws.specs.Machine.{Machine, with_csw, arrive, Device, is_in_motion, with_arm, with_change, react, device_at}
 use Rattle.s360_laws.specs.declared.arm.Arm.TheVariants.{Arrived}
@@ -16,19 +16,19 @@ use Rattle.s360_laws.proofs.Shapes.{pending, idle}
 abbrev PendingGood : Machine → ℕ → Csw → Event → Option FaultAfter → Answer × Machine → Type 0
 PendingGood m p csw e x r = Good (pending m p csw) e x r
 
-pub pending_test : (a : ℕ) (x : Option FaultAfter) (m : Machine) (p : ℕ) (csw : Csw) (b : Bool) → PendingGood m p csw (Tio a) x (cond b (CswStored csw, with_csw csw (idle m)) (Condition Two, pending m p csw))
+pub pending_test : (a : ℕ) (x : Option FaultAfter) (m : Machine) (p : ℕ) (csw : Csw) (b : Bool) → PendingGood m p csw (Tio a) x (cond b (CswStored csw, with_csw csw (idle m)) (WithCode Two, pending m p csw))
 pending_test a x m p csw true = (tt, λ ahead q. refl)
 pending_test a x m p csw false = (tt, λ ahead q. refl)
 
-pub pending_sio : (a : ℕ) (x : Option FaultAfter) (m : Machine) (p : ℕ) (csw : Csw) (b : Bool) → PendingGood m p csw (Sio a) x (cond b (Condition Two, pending m p csw) (Condition Three, pending m p csw))
+pub pending_sio : (a : ℕ) (x : Option FaultAfter) (m : Machine) (p : ℕ) (csw : Csw) (b : Bool) → PendingGood m p csw (Sio a) x (cond b (WithCode Two, pending m p csw) (WithCode Three, pending m p csw))
 pending_sio a x m p csw true = (tt, λ ahead q. refl)
 pending_sio a x m p csw false = (tt, λ ahead q. refl)
 
-pub pending_tio : (a : ℕ) (x : Option FaultAfter) (m : Machine) (p : ℕ) (csw : Csw) (b c : Bool) → PendingGood m p csw (Tio a) x (cond b (cond c (CswStored csw, with_csw csw (idle m)) (Condition Two, pending m p csw)) (Condition Three, pending m p csw))
+pub pending_tio : (a : ℕ) (x : Option FaultAfter) (m : Machine) (p : ℕ) (csw : Csw) (b c : Bool) → PendingGood m p csw (Tio a) x (cond b (cond c (CswStored csw, with_csw csw (idle m)) (WithCode Two, pending m p csw)) (WithCode Three, pending m p csw))
 pending_tio a x m p csw true c = pending_test a x m p csw c
 pending_tio a x m p csw false c = (tt, λ ahead q. refl)
 
-pub pending_hio : (a : ℕ) (x : Option FaultAfter) (m : Machine) (p : ℕ) (csw : Csw) (b : Bool) → PendingGood m p csw (Hio a) x (cond b (Condition Zero, pending m p csw) (Condition Three, pending m p csw))
+pub pending_hio : (a : ℕ) (x : Option FaultAfter) (m : Machine) (p : ℕ) (csw : Csw) (b : Bool) → PendingGood m p csw (Hio a) x (cond b (WithCode Zero, pending m p csw) (WithCode Three, pending m p csw))
 pending_hio a x m p csw true = (tt, λ ahead q. refl)
 pending_hio a x m p csw false = (tt, λ ahead q. refl)
 

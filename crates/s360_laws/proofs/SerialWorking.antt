@@ -9,7 +9,7 @@ use Rattle.s360_runs.specs.Runs.{run}
 use Rattle.s360_runs.specs.Scripts.{Script, units, units_in, Outside, TakesInterruption}
 use Rattle.s360_runs.specs.Units.{ProgramPhase, walk, StandsIn, standing_in, Between, phase_past, Looking, Moving, StandsAt}
 use Rattle.s360_runs.proofs.Standing.{seen_there, goes_by}
-use Rattle.s360_laws.specs.Events.{Exchange, FaultAfter, Hio, Condition, Reset, WasReset, StepBy, Interrupt, Sio, Tio, Event, Answer, Arrive, HasArrived, Store, WasKept, SetKey, Tch, Show}
+use Rattle.s360_laws.specs.Events.{Exchange, FaultAfter, Hio, WithCode, Reset, WasReset, StepBy, Interrupt, Sio, Tio, Event, Answer, Arrive, HasArrived, Store, WasKept, SetKey, Tch, Show}
 use Rattle.s360_laws.specs.History.{Fate, does, world_of, Program, after_run, after_program, after_end, World, history, script_ahead, fate_ahead, acts, where_over, units_ahead, IsCut, ClearsSense, Changes, ByItself, own_change}
 use Rattle.s360_laws.specs.Ledger.{later}
 use Rattle.s360_laws.specs.Machine.{Machine, Device, device_at, start_of, with_ending, arm_after, run_of, cut, fault_in, reset, unsaved_at, all_at_rest, units_with, stepped, with_arm, arrive, is_in_motion, Working, goes_on, interrupt_program, react, asked_by}
@@ -40,7 +40,7 @@ pub still : (m : Machine) (d : ℕ) (s : Script) (ahead : List Exchange) (w : Wo
 still m d s ahead w = ap (λ l. history w (Program d (s ++ l) (fate_ahead ahead) ∷ acts ahead)) (same_script ahead)
 
 pub cut_good : (a : ℕ) (x : Option FaultAfter) (m : Machine) (d : ℕ) (s : Script) (u : Device) (o : Outcome) → device_at m d ≡ Some u → run s (start_of m u.drive) ≡ o → IsRunning (Some o)
-    → Good (working m d s) (Hio a) x (Condition Two, cut (fault_in x) d (working m d s) (Some o))
+    → Good (working m d s) (Hio a) x (WithCode Two, cut (fault_in x) d (working m d s) (Some o))
 cut_good a x m d s u (Ended used st e) at h r = absurd r
 cut_good a x m d s u (NotEnded st) at h r = (
   tt,
@@ -119,28 +119,28 @@ between_good m d s more c u at r later =
         ∙ changed_run (world_of m) d (fate_ahead ahead) c (standing_in y.0 y.1) (standing_in y.0 l.0) l.2 l.3
         ∙ ap (λ w. does w (Changes c)) (sym (program_world m d (s ++ []) (fate_ahead ahead) u (NotEnded (standing_in y.0 y.1)) at (ap (λ x. run x (start_of m u.drive)) (append-nil s) ∙ seen_there (start_of m u.drive) s y.0 y.1 y.2))))
 
-pub working_sio : (a : ℕ) (x : Option FaultAfter) (m : Machine) (d : ℕ) (s : Script) (b : Bool) → IsRunning (run_of m d s) → Good (working m d s) (Sio a) x (cond b (Condition Two, working m d s) (Condition Three, working m d s))
+pub working_sio : (a : ℕ) (x : Option FaultAfter) (m : Machine) (d : ℕ) (s : Script) (b : Bool) → IsRunning (run_of m d s) → Good (working m d s) (Sio a) x (cond b (WithCode Two, working m d s) (WithCode Three, working m d s))
 working_sio a x m d s true r = (r, λ ahead q. still m d s ahead (world_of m))
 working_sio a x m d s false r = (r, λ ahead q. still m d s ahead (world_of m))
 
-pub working_tio : (a : ℕ) (x : Option FaultAfter) (m : Machine) (d : ℕ) (s : Script) (b : Bool) → IsRunning (run_of m d s) → Good (working m d s) (Tio a) x (cond b (Condition Two, working m d s) (Condition Three, working m d s))
+pub working_tio : (a : ℕ) (x : Option FaultAfter) (m : Machine) (d : ℕ) (s : Script) (b : Bool) → IsRunning (run_of m d s) → Good (working m d s) (Tio a) x (cond b (WithCode Two, working m d s) (WithCode Three, working m d s))
 working_tio a x m d s true r = (r, λ ahead q. still m d s ahead (world_of m))
 working_tio a x m d s false r = (r, λ ahead q. still m d s ahead (world_of m))
 
--- the unit that works, and its run so far
+-- the device that works, and its run so far
 pub in_run : (m : Machine) (d : ℕ) (s : Script) (x : Option Device) → device_at m d ≡ x → IsRunning (option_map (λ u. run s (start_of m u.drive)) x)
     → (u : Device) × (device_at m d ≡ Some u) × IsRunning (Some (run s (start_of m u.drive)))
 in_run m d s None at r = absurd r
 in_run m d s (Some u) at r = (u, at, r)
 
-pub with_unit : (m : Machine) (e : Event) (x : Option FaultAfter) (f : Option Outcome → Answer × Machine) (d : ℕ) (s : Script) (u : Device) → device_at m d ≡ Some u → (w : Machine)
+pub on_device : (m : Machine) (e : Event) (x : Option FaultAfter) (f : Option Outcome → Answer × Machine) (d : ℕ) (s : Script) (u : Device) → device_at m d ≡ Some u → (w : Machine)
     → Good w e x (f (Some (run s (start_of m u.drive)))) → Good w e x (f (run_of m d s))
-with_unit m e x f d s u at w g = subst (λ y. Good w e x (f (option_map (λ u. run s (start_of m u.drive)) y))) (sym at) g
+on_device m e x f d s u at w g = subst (λ y. Good w e x (f (option_map (λ u. run s (start_of m u.drive)) y))) (sym at) g
 
-pub working_hio : (a : ℕ) (x : Option FaultAfter) (m : Machine) (d : ℕ) (s : Script) (b : Bool) → IsRunning (run_of m d s) → Good (working m d s) (Hio a) x (cond b (Condition Two, cut (fault_in x) d (working m d s) (run_of m d s)) (Condition Three, working m d s))
+pub working_hio : (a : ℕ) (x : Option FaultAfter) (m : Machine) (d : ℕ) (s : Script) (b : Bool) → IsRunning (run_of m d s) → Good (working m d s) (Hio a) x (cond b (WithCode Two, cut (fault_in x) d (working m d s) (run_of m d s)) (WithCode Three, working m d s))
 working_hio a x m d s true r =
     let y = in_run m d s (device_at m d) refl r in
-    with_unit m (Hio a) x (λ o. (Condition Two, cut (fault_in x) d (working m d s) o)) d s y.0 y.1 (working m d s) (cut_good a x m d s y.0 (run s (start_of m y.0.drive)) y.1 refl y.2)
+    on_device m (Hio a) x (λ o. (WithCode Two, cut (fault_in x) d (working m d s) o)) d s y.0 y.1 (working m d s) (cut_good a x m d s y.0 (run s (start_of m y.0.drive)) y.1 refl y.2)
 working_hio a x m d s false r = (r, λ ahead q. still m d s ahead (world_of m))
 
 pub still_runs : (m : Machine) (arm : Arm) (device d : ℕ) (s : Script) → IsRunning (run_of m d s) → IsRunning (run_of (with_arm arm device m) d s)
@@ -165,12 +165,12 @@ working_arrive a device x m d s (Some u) r = go (is_in_motion u.arm)
 pub working_step : (x : Option FaultAfter) (m : Machine) (d : ℕ) (s : Script) (k : ℕ) → IsRunning (run_of m d s) → Good (working m d s) (StepBy k) x (stepped d s k (working m d s) (run_of m d (s ++ units_with k x)))
 working_step x m d s k r =
     let y = in_run m d s (device_at m d) refl r in
-    with_unit m (StepBy k) x (stepped d s k (working m d s)) d (s ++ units_with k x) y.0 y.1 (working m d s) (step_good x m d s k y.0 (run (s ++ units_with k x) (start_of m y.0.drive)) y.1 y.2 refl)
+    on_device m (StepBy k) x (stepped d s k (working m d s)) d (s ++ units_with k x) y.0 y.1 (working m d s) (step_good x m d s k y.0 (run (s ++ units_with k x) (start_of m y.0.drive)) y.1 y.2 refl)
 
 pub working_reset : (x : Option FaultAfter) (m : Machine) (d : ℕ) (s : Script) → IsRunning (run_of m d s) → Good (working m d s) Reset x (reset (fault_in x) (working m d s) (Working d s))
 working_reset x m d s r =
     let y = in_run m d s (device_at m d) refl r in
-    with_unit m Reset x (λ o. (WasReset (unsaved_at (256 * m.channel + d) (fault_in x) o), all_at_rest (cut (fault_in x) d (working m d s) o))) d s y.0 y.1 (working m d s) (reset_good x m d s y.0 (run s (start_of m y.0.drive)) y.1 refl y.2)
+    on_device m Reset x (λ o. (WasReset (unsaved_at (256 * m.channel + d) (fault_in x) o), all_at_rest (cut (fault_in x) d (working m d s) o))) d s y.0 y.1 (working m d s) (reset_good x m d s y.0 (run s (start_of m y.0.drive)) y.1 refl y.2)
 
 pub working_store : (x : Option FaultAfter) (m : Machine) (d : ℕ) (s : Script) (at : ℕ) (bytes : List ℕ) (b : Bool) → IsRunning (run_of m d s)
     → Good (working m d s) (Store at bytes) x (cond b (WasKept true, goes_on d s (Outside (Bytes at bytes) ∷ []) (working m d s)) (WasKept false, working m d s))

@@ -1,7 +1,7 @@
 -- When a start is accepted.
 use Rattle.std.proofs.Common.{◌≡◌, ℕ, ◌+◌, ◌/◌, ◌%◌, refl, sym, ap, ◌∙◌, arith, true, false, Bool, cond, ◌==◌, Option}
 use Rattle.s360_words.specs.declared.flags.TheConstants.UnitStatus.{CHANNEL_END}
-use Rattle.s360_laws.specs.Events.{Answer, Condition, Sio, FaultAfter, Event, Tio, Hio, Tch, StepBy, Arrive, Interrupt, Reset, Store, SetKey, Show}
+use Rattle.s360_laws.specs.Events.{Answer, WithCode, Sio, FaultAfter, Event, Tio, Hio, Tch, StepBy, Arrive, Interrupt, Reset, Store, SetKey, Show}
 use Rattle.s360_laws.specs.Ledger.{NoStartWhileWorking, is_accepted, StartsAfterChannelEnd}
 use Rattle.s360_laws.specs.Soundness.{channel_owes}
 use Rattle.s360_laws.specs.Machine.{Machine, Working, Subchannel, is_working, react, Idle, Pending, start_io, after_all}
@@ -10,27 +10,27 @@ use Rattle.s360_laws.proofs.FindDevices.{no}
 use Rattle.s360_laws.proofs.LedgerLists.{ends_pend, exactly}
 use Rattle.s360_laws.proofs.Shapes.{working}
 
-no_start : (b : Bool) (m : Machine) → ◌≡◌ {A = Answer × Machine} (cond b (Condition Two, m) (Condition Three, m)) (Condition (cond b Two Three), m)
+no_start : (b : Bool) (m : Machine) → ◌≡◌ {A = Answer × Machine} (cond b (WithCode Two, m) (WithCode Three, m)) (WithCode (cond b Two Three), m)
 no_start true m = refl
 no_start false m = refl
 
 pub no_start_while_working : NoStartWhileWorking
 no_start_while_working m h a x = go m.subchannel h
   where
-    go : (c : Subchannel) → is_working c ≡ true → ◌≡◌ {A = Answer × Machine} (react (Sio a) x (record m { subchannel = c })) (Condition (cond (a / 256 == m.channel) Two Three), record m { subchannel = c })
+    go : (c : Subchannel) → is_working c ≡ true → ◌≡◌ {A = Answer × Machine} (react (Sio a) x (record m { subchannel = c })) (WithCode (cond (a / 256 == m.channel) Two Three), record m { subchannel = c })
     go Idle h = no h
     go (Working d s) h = no_start (a / 256 == m.channel) (working m d s)
     go (Pending p csw) h = no h
 
 -- where the channel is not idle, no start is accepted
-not_accepted : (a v : ℕ) (x : Option FaultAfter) (b : Bool) (m : Machine) → is_accepted v (Sio a, x, (cond {A = Answer × Machine} b (Condition Two, m) (Condition Three, m)).0) ≡ false
+not_accepted : (a v : ℕ) (x : Option FaultAfter) (b : Bool) (m : Machine) → is_accepted v (Sio a, x, (cond {A = Answer × Machine} b (WithCode Two, m) (WithCode Three, m)).0) ≡ false
 not_accepted a v x true m = refl
 not_accepted a v x false m = refl
 
 -- and no other event accepts one
-refused : (e : Event) (x : Option FaultAfter) (v : ℕ) (m : Machine) (c : Subchannel) → ((a : ℕ) → ◌≡◌ {A = Answer × Machine} (start_io (a % 256) (record m { subchannel = c }) c) (Condition Two, record m { subchannel = c }))
+refused : (e : Event) (x : Option FaultAfter) (v : ℕ) (m : Machine) (c : Subchannel) → ((a : ℕ) → ◌≡◌ {A = Answer × Machine} (start_io (a % 256) (record m { subchannel = c }) c) (WithCode Two, record m { subchannel = c }))
     → is_accepted v (e, x, (react e x (record m { subchannel = c })).0) ≡ false
-refused (Sio a) x v m c h = ap (λ r. is_accepted v (Sio a, x, (cond {A = Answer × Machine} (a / 256 == m.channel) r (Condition Three, record m { subchannel = c })).0)) (h a) ∙ not_accepted a v x (a / 256 == m.channel) (record m { subchannel = c })
+refused (Sio a) x v m c h = ap (λ r. is_accepted v (Sio a, x, (cond {A = Answer × Machine} (a / 256 == m.channel) r (WithCode Three, record m { subchannel = c })).0)) (h a) ∙ not_accepted a v x (a / 256 == m.channel) (record m { subchannel = c })
 refused (Tio a) x v m c h = refl
 refused (Hio a) x v m c h = refl
 refused Tch x v m c h = refl

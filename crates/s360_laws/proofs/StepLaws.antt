@@ -41,9 +41,9 @@ Joined m j k x a =
 together : (m : Machine) (d : ℕ) (s : Script) (j k : ℕ) (x : Option FaultAfter) → run_of m d ((s ++ units j) ++ units_with k x) ≡ run_of m d (s ++ units_with (j + k) (after_units j x))
 together m d s j k x = ap (run_of m d) (append_assoc s (units j) (units_with k x) ∙ ap (λ l. s ++ l) (units_two j k x))
 
-pub the_unit : (m : Machine) (d : ℕ) (s : Script) (y : Option Device) → device_at m d ≡ y → IsRunning (option_map (λ v. run s (start_of m v.drive)) y) → (v : Device) × (device_at m d ≡ Some v) × IsRunning (Some (run s (start_of m v.drive)))
-the_unit m d s None at r = absurd r
-the_unit m d s (Some v) at r = (v, at, r)
+pub working_device : (m : Machine) (d : ℕ) (s : Script) (y : Option Device) → device_at m d ≡ y → IsRunning (option_map (λ v. run s (start_of m v.drive)) y) → (v : Device) × (device_at m d ≡ Some v) × IsRunning (Some (run s (start_of m v.drive)))
+working_device m d s None at r = absurd r
+working_device m d s (Some v) at r = (v, at, r)
 
 pub run_at : (m : Machine) (d : ℕ) (v : Device) (s : Script) → device_at m d ≡ Some v → run_of m d s ≡ Some (run s (start_of m v.drive))
 run_at m d v s at = ap (option_map (λ v. run s (start_of m v.drive))) at
@@ -92,7 +92,7 @@ joined_first m d s j k x v at (Some (NotEnded st)) h =
 joined : (m : Machine) (c : Subchannel) (j k : ℕ) (x : Option FaultAfter) → Runs m c → Joined (record m { subchannel = c }) j k x (react (StepBy j) None (record m { subchannel = c }))
 joined m Idle j k x r = (refl, refl)
 joined m (Pending p csw) j k x r = (refl, refl)
-joined m (Working d s) j k x r = let v = the_unit m d s (device_at m d) refl r in joined_first m d s j k x v.0 v.1 (run_of m d (s ++ units j)) refl
+joined m (Working d s) j k x r = let v = working_device m d s (device_at m d) refl r in joined_first m d s j k x v.0 v.1 (run_of m d (s ++ units j)) refl
 
 pub joins : StepsJoin
 joins m j k x r = joined m m.subchannel j k x r
@@ -159,6 +159,6 @@ steps_at_most m k x r = go m.subchannel r
     go Idle r = (omega arith, λ w. no w)
     go (Pending p csw) r = (omega arith, λ w. no w)
     go (Working d s) r =
-        let v = the_unit m d s (device_at m d) refl r in
+        let v = working_device m d s (device_at m d) refl r in
         subst (λ o. AtMost k (stepped d s k (working m d s) o)) (sym (run_at m d v.0 (s ++ units_with k x) v.1))
         (most_stepped m d s k x v.0 v.2 (run (s ++ units_with k x) (start_of m v.0.drive)) refl)

@@ -3,7 +3,7 @@
 use Rattle.std.specs.Prelude.{◌≡◌, ◌≤◌, ℕ, ◌/◌, List, [], ◌∷◌, Bool, true, false, ◌||◌, ◌==◌, Option, Some, None, option_map, if◌then◌else◌}
 use Rattle.s360_words.specs.declared.flags.TheConstants.UnitStatus.{DEVICE_END}
 use Rattle.s360_words.specs.declared.words.Csw.{Csw}
-use Rattle.s360_laws.specs.Events.{Exchange, Arrive, HasArrived, Input, Interrupt, Interrupted, Hio, Condition, FaultAfter}
+use Rattle.s360_laws.specs.Events.{Exchange, Arrive, HasArrived, Input, Interrupt, Interrupted, Hio, WithCode, FaultAfter}
 use Rattle.s360_laws.specs.Ledger.{is_reset, stores_end}
 use Rattle.s360_laws.specs.Machine.{Machine, Idle, Pending, address_of, after_all, csw_of_unit, device_at, exchanges, react}
 use Rattle.s360_laws.specs.Soundness.{IsSound, arm_owes, device_for}
@@ -57,4 +57,4 @@ ArrivedInterrupts = (m : Machine) (x : Option FaultAfter) (device : ℕ) → IsS
 -- Halt I/O on a channel status word that pends changes nothing at all.
 abbrev pub HaltOfPendingStays : Type 0
 HaltOfPendingStays = (m : Machine) (a device : ℕ) (csw : Csw) (x : Option FaultAfter) → a / 256 ≡ m.channel → m.subchannel ≡ Pending device csw
-    → react (Hio a) x m ≡ (Condition Zero, m)
+    → react (Hio a) x m ≡ (WithCode Zero, m)

@@ -28,7 +28,7 @@ pub data Event : Type 0 where
 -- what a channel answers to an event
 pub data Answer : Type 0 where
   -- a condition code, where nothing is stored
-  Condition : ConditionCode → Answer
+  WithCode : ConditionCode → Answer
   -- condition code 1, where unit and channel status are stored, or the whole CSW
   StatusStored : UnitStatus → ChannelStatus → Answer
   CswStored : Csw → Answer

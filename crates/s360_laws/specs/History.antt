@@ -9,7 +9,7 @@ use Rattle.s360_runs.specs.Runs.{run, Start}
 use Rattle.s360_runs.specs.Scripts.{Script, units, Outside, TakesInterruption, OneUnit}
 use Rattle.s360_runs.specs.Starts.{first, First, RejectedStart}
 use Rattle.s360_runs.specs.Status.{tells}
-use Rattle.s360_laws.specs.Events.{Exchange, StepBy, Stepped, Hio, Condition, Reset, Sio, Store, WasKept, SetKey, Interrupt, Interrupted, StatusStored, Tio, CswStored, Input}
+use Rattle.s360_laws.specs.Events.{Exchange, StepBy, Stepped, Hio, WithCode, Reset, Sio, Store, WasKept, SetKey, Interrupt, Interrupted, StatusStored, Tio, CswStored, Input}
 use Rattle.s360_laws.specs.Machine.{units_with, fault_in, Subchannel, Working, Machine, run_of, is_working, after_all, exchanges}
 use Rattle.s360_laws.specs.Soundness.{IsRunning}
 use Rattle.s360_laws.specs.declared.condition.ConditionCode.TheVariants.{Two, Zero}
@@ -33,9 +33,9 @@ pub data Act : Type 0 where
 abbrev pub units_ahead : List Exchange → ℕ
 units_ahead [] = 0
 units_ahead ((StepBy k, x, Stepped done) ∷ rest) = done + units_ahead rest
-units_ahead ((Hio a, x, Condition Two) ∷ rest) = 0
+units_ahead ((Hio a, x, WithCode Two) ∷ rest) = 0
 units_ahead ((Reset, x, answer) ∷ rest) = 0
-units_ahead ((Sio a, x, Condition Zero) ∷ rest) = 0
+units_ahead ((Sio a, x, WithCode Zero) ∷ rest) = 0
 units_ahead (t ∷ rest) = units_ahead rest
 
 -- one thing where no unit is ahead, and else another
@@ -59,9 +59,9 @@ script_ahead (t ∷ rest) = where_over (units_ahead (t ∷ rest)) [] (turns_of t
 -- how the program that runs comes to its end, by what comes next
 abbrev pub fate_ahead : List Exchange → Fate
 fate_ahead [] = ByItself
-fate_ahead ((Hio a, x, Condition Two) ∷ rest) = IsCut (fault_in x)
+fate_ahead ((Hio a, x, WithCode Two) ∷ rest) = IsCut (fault_in x)
 fate_ahead ((Reset, x, answer) ∷ rest) = IsCut (fault_in x)
-fate_ahead ((Sio a, x, Condition Zero) ∷ rest) = ByItself
+fate_ahead ((Sio a, x, WithCode Zero) ∷ rest) = ByItself
 fate_ahead (t ∷ rest) = fate_ahead rest
 
 -- a change of storage is an act of its own, but before a further unit of a program it belongs to that program's script
@@ -77,7 +77,7 @@ start_acts device unit =
 
 -- the acts of one exchange and of what comes behind it
 abbrev pub acts_of : Exchange → List Exchange → List Act
-acts_of (Sio a, x, Condition Zero) rest = Program (a % 256) (OneUnit None ∷ script_ahead rest) (fate_ahead rest) ∷ []
+acts_of (Sio a, x, WithCode Zero) rest = Program (a % 256) (OneUnit None ∷ script_ahead rest) (fate_ahead rest) ∷ []
 acts_of (Sio a, x, StatusStored unit channel) rest =
     start_acts (a % 256) unit ++ Changes (status_stored unit.0 channel.0) ∷ []
 acts_of (Hio a, x, StatusStored unit channel) rest = Changes (status_stored unit.0 channel.0) ∷ []

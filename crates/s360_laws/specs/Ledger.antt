@@ -4,14 +4,14 @@ use Rattle.s360_words.specs.declared.flags.TheConstants.UnitStatus.{CHANNEL_END,
 use Rattle.s360_words.specs.declared.flags.UnitStatus.{UnitStatus}
 use Rattle.s360_words.specs.declared.words.Csw.{Csw}
 use Rattle.s360_runs.specs.Status.{tells}
-use Rattle.s360_laws.specs.Events.{Exchange, Sio, Condition, StatusStored, Reset, Tio, CswStored, Interrupt, Interrupted, Input, FaultAfter, Tch}
+use Rattle.s360_laws.specs.Events.{Exchange, Sio, WithCode, StatusStored, Reset, Tio, CswStored, Interrupt, Interrupted, Input, FaultAfter, Tch}
 use Rattle.s360_laws.specs.Machine.{exchanges, Machine, react, after_all, is_working, Pending}
 use Rattle.s360_laws.specs.Soundness.{IsSound, owes_channel_end, owes_device_end}
 use Rattle.s360_laws.specs.declared.condition.ConditionCode.TheVariants.{Zero, Two, Three, One}
 
 -- the address whose start was accepted: it runs, or it was over at once
 abbrev pub accepted : Exchange → Option ℕ
-accepted (Sio a, x, Condition Zero) = Some a
+accepted (Sio a, x, WithCode Zero) = Some a
 accepted (Sio a, x, StatusStored unit channel) =
     if tells unit CHANNEL_END && not (tells unit BUSY) then Some a else None
 accepted _ = None
@@ -116,7 +116,7 @@ StartsAfterChannelEnd = (m : Machine) (es : List Input) (e : Input) (u v : ℕ) 
 
 -- While a program runs, Start I/O at the channel answers 2, at any other channel 3, and changes nothing.
 abbrev pub RefusesStarts : Machine → Type 0
-RefusesStarts m = (a : ℕ) (x : Option FaultAfter) → react (Sio a) x m ≡ (Condition (if a / 256 == m.channel then Two else Three), m)
+RefusesStarts m = (a : ℕ) (x : Option FaultAfter) → react (Sio a) x m ≡ (WithCode (if a / 256 == m.channel then Two else Three), m)
 
 -- starts are refused so whenever a program runs
 abbrev pub NoStartWhileWorking : Type 0
@@ -126,9 +126,9 @@ NoStartWhileWorking = (m : Machine) → is_working m.subchannel ≡ true → Ref
 
 -- what each exchange answers while this CSW is held
 abbrev pub HeldAnswer : (channel device : ℕ) → Csw → Exchange → Type 0
-HeldAnswer channel device csw (Sio a, x, answer) = a / 256 ≡ channel → answer ≡ Condition Two
-HeldAnswer channel device csw (Tio a, x, answer) = a / 256 ≡ channel → (a % 256 ≡ device → ⊥) → answer ≡ Condition Two
-HeldAnswer channel device csw (Tch, x, answer) = answer ≡ Condition One
+HeldAnswer channel device csw (Sio a, x, answer) = a / 256 ≡ channel → answer ≡ WithCode Two
+HeldAnswer channel device csw (Tio a, x, answer) = a / 256 ≡ channel → (a % 256 ≡ device → ⊥) → answer ≡ WithCode Two
+HeldAnswer channel device csw (Tch, x, answer) = answer ≡ WithCode One
 HeldAnswer channel device csw (Interrupt, x, answer) = answer ≡ Interrupted (Some (256 * channel + device, csw))
 HeldAnswer channel device csw _ = Unit {0}
 

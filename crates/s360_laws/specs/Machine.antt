@@ -14,7 +14,7 @@ use Rattle.s360_runs.specs.Runs.{Start, run}
 use Rattle.s360_runs.specs.Scripts.{Script, units, OneUnit, units_in, TakesInterruption, Outside}
 use Rattle.s360_runs.specs.Starts.{First, BadStart, RejectedStart, ImmediateStart, AcceptedStart, first}
 use Rattle.s360_runs.specs.Status.{no_channel_status, no_unit_status, busy_device_end}
-use Rattle.s360_laws.specs.Events.{Answer, StatusStored, Store, Condition, Arrive, CswStored, FaultAfter, Stepped, HasArrived, Interrupt, Interrupted, WasReset, Reset, WasKept, Event, Sio, Tio, Hio, Tch, StepBy, SetKey, Show, Shown, Input, Exchange}
+use Rattle.s360_laws.specs.Events.{Answer, StatusStored, Store, WithCode, Arrive, CswStored, FaultAfter, Stepped, HasArrived, Interrupt, Interrupted, WasReset, Reset, WasKept, Event, Sio, Tio, Hio, Tch, StepBy, SetKey, Show, Shown, Input, Exchange}
 use Rattle.s360_laws.specs.declared.arm.Arm.{Arm}
 use Rattle.s360_laws.specs.declared.arm.Arm.TheVariants.{InMotion, AtRest, Arrived}
 use Rattle.s360_laws.specs.declared.condition.ConditionCode.{ConditionCode}
@@ -118,7 +118,7 @@ started device m (RejectedStart drive) = (
 )
 started device m (ImmediateStart e) =
     (StatusStored e.csw.unit e.csw.channel, with_status e.csw.unit e.csw.channel (with_ending device m.storage e m))
-started device m AcceptedStart = (Condition Zero, with_subchannel (Working device (units 1)) m)
+started device m AcceptedStart = (WithCode Zero, with_subchannel (Working device (units 1)) m)
 
 -- Start I/O stores this status and starts nothing
 abbrev pub refused : UnitStatus → Machine → Answer × Machine
@@ -126,7 +126,7 @@ refused unit m = (StatusStored unit no_channel_status, with_status unit no_chann
 
 -- a drive whose arm moves is busy; where it has arrived, its device end is reported with busy
 abbrev pub start_device : (device : ℕ) → Machine → Option Device → Answer × Machine
-start_device device m None = (Condition Three, m)
+start_device device m None = (WithCode Three, m)
 start_device device m (Some d) = elim d.arm [
   | InMotion ↦ refused BUSY m
   | Arrived ↦ refused busy_device_end (with_arm AtRest device m)
@@ -136,7 +136,7 @@ start_device device m (Some d) = elim d.arm [
 -- Start I/O, with the channel free or not
 abbrev pub start_io : (device : ℕ) → Machine → Subchannel → Answer × Machine
 start_io device m Idle = start_device device m (device_at m device)
-start_io device m busy = (Condition Two, m)
+start_io device m busy = (WithCode Two, m)
 
 -- Test I/O and Test Channel ('Test I/O', 'Test Channel').
 
@@ -146,19 +146,19 @@ tested csw m = (CswStored csw, with_csw csw m)
 
 -- Test I/O at a device, by its arm
 abbrev pub test_device : (device : ℕ) → Machine → Option Device → Answer × Machine
-test_device device m None = (Condition Three, m)
+test_device device m None = (WithCode Three, m)
 test_device device m (Some d) = elim d.arm [
   | InMotion ↦ tested (csw_of_unit BUSY) m
   | Arrived ↦ tested (csw_of_unit DEVICE_END) (with_arm AtRest device m)
-  | AtRest ↦ (Condition Zero, m)
+  | AtRest ↦ (WithCode Zero, m)
 ]
 
 -- Test I/O, with the channel free or not
 abbrev pub test_io : (device : ℕ) → Machine → Subchannel → Answer × Machine
 test_io device m Idle = test_device device m (device_at m device)
-test_io device m (Working p script) = (Condition Two, m)
+test_io device m (Working p script) = (WithCode Two, m)
 test_io device m (Pending p csw) =
-    if device == p then tested csw (with_subchannel Idle m) else (Condition Two, m)
+    if device == p then tested csw (with_subchannel Idle m) else (WithCode Two, m)
 
 -- the condition code of Test Channel
 abbrev pub test_channel : Subchannel → ConditionCode
@@ -173,9 +173,9 @@ abbrev pub halt_io : Option Fault → (device : ℕ) → Machine → Subchannel 
 halt_io fault device m Idle =
     if is_some (device_at m device)
     then (StatusStored no_unit_status no_channel_status, with_status no_unit_status no_channel_status m)
-    else (Condition Three, m)
-halt_io fault device m (Working p script) = (Condition Two, cut fault p m (run_of m p script))
-halt_io fault device m (Pending p csw) = (Condition Zero, m)
+    else (WithCode Three, m)
+halt_io fault device m (Working p script) = (WithCode Two, cut fault p m (run_of m p script))
+halt_io fault device m (Pending p csw) = (WithCode Zero, m)
 
 -- Units.
 
@@ -316,7 +316,7 @@ keep c m = if is_within c m.storage then (WasKept true, change c m m.subchannel)
 
 -- an address of another channel is that of no device
 abbrev pub on_channel : (address : ℕ) → Machine → Answer × Machine → Answer × Machine
-on_channel address m reaction = if address / 256 == m.channel then reaction else (Condition Three, m)
+on_channel address m reaction = if address / 256 == m.channel then reaction else (WithCode Three, m)
 
 -- the fault that an event may meet
 abbrev pub fault_in : Option FaultAfter → Option Fault
@@ -327,7 +327,7 @@ abbrev pub react : Event → Option FaultAfter → Machine → Answer × Machine
 react (Sio a) x m = on_channel a m (start_io (a % 256) m m.subchannel)
 react (Tio a) x m = on_channel a m (test_io (a % 256) m m.subchannel)
 react (Hio a) x m = on_channel a m (halt_io (fault_in x) (a % 256) m m.subchannel)
-react Tch x m = (Condition (test_channel m.subchannel), m)
+react Tch x m = (WithCode (test_channel m.subchannel), m)
 react (StepBy k) x m = step k x m m.subchannel
 react (Arrive a) x m =
     if a / 256 == m.channel then arrive (a % 256) m (device_at m (a % 256)) else (HasArrived false, m)

@@ -1,7 +1,7 @@
 -- The serial list of a list of events with their answers: the same programs, with nothing left between their units but
 -- what changed storage.
 use Rattle.std.specs.Prelude.{◌≡◌, ℕ, zero, ◌+◌, ◌/◌, ◌%◌, List, [], ◌∷◌, ◌++◌, Bool, true, false, not, ◌&&◌, ◌||◌, ◌==◌, None, replicate, if◌then◌else◌, filter}
-use Rattle.s360_laws.specs.Events.{Exchange, Sio, Condition, Tio, Hio, Tch, StepBy, Stepped, Arrive, HasArrived, Interrupt, Interrupted, Store, WasKept, SetKey, Show, Reset}
+use Rattle.s360_laws.specs.Events.{Exchange, Sio, WithCode, Tio, Hio, Tch, StepBy, Stepped, Arrive, HasArrived, Interrupt, Interrupted, Store, WasKept, SetKey, Show, Reset}
 use Rattle.s360_laws.specs.History.{acts}
 use Rattle.s360_laws.specs.declared.condition.ConditionCode.TheVariants.{Zero, Two}
 
@@ -9,11 +9,11 @@ use Rattle.s360_laws.specs.declared.condition.ConditionCode.TheVariants.{Zero, T
 
 -- whether the answer of an exchange shows that it changed nothing
 abbrev pub changes_nothing : Exchange → Bool
-changes_nothing (Sio a, x, Condition Zero) = false
-changes_nothing (Sio a, x, Condition code) = true
-changes_nothing (Tio a, x, Condition code) = true
-changes_nothing (Hio a, x, Condition Two) = false
-changes_nothing (Hio a, x, Condition code) = true
+changes_nothing (Sio a, x, WithCode Zero) = false
+changes_nothing (Sio a, x, WithCode code) = true
+changes_nothing (Tio a, x, WithCode code) = true
+changes_nothing (Hio a, x, WithCode Two) = false
+changes_nothing (Hio a, x, WithCode code) = true
 changes_nothing (Tch, x, r) = true
 changes_nothing (StepBy k, x, Stepped zero) = true
 changes_nothing (Arrive a, x, HasArrived false) = true

@@ -5,7 +5,7 @@ use Rattle.s360_words.specs.declared.words.Csw.{Csw}
 use Rattle.ckd_command.specs.Drive.{tells_equipment_check}
 use Rattle.s360_runs.specs.Scripts.{Script}
 use Rattle.s360_runs.specs.Status.{tells}
-use Rattle.s360_laws.specs.Events.{Answer, Stepped, FaultAfter, StepBy, Input, Hio, Condition, Reset, WasReset, Event}
+use Rattle.s360_laws.specs.Events.{Answer, Stepped, FaultAfter, StepBy, Input, Hio, WithCode, Reset, WasReset, Event}
 use Rattle.s360_laws.specs.History.{Runs}
 use Rattle.s360_laws.specs.Machine.{Machine, react, is_working, after_all, answers, Pending, Device, device_at, Working, address_of}
 use Rattle.s360_laws.specs.declared.condition.ConditionCode.TheVariants.{Two}
@@ -71,7 +71,7 @@ FaultEndsStep = (m : Machine) (k : ℕ) (x : FaultAfter) → Runs m m.subchannel
 -- Halt I/O meets it as it ends the program; or it is Halt I/O without the fault.
 abbrev pub FaultEndsHalt : Type 0
 FaultEndsHalt = (m : Machine) (a : ℕ) (x : FaultAfter) → Runs m m.subchannel →
-    (react (Hio a) (Some x) m ≡ react (Hio a) None m) ⊎ EndedByFault (react (Hio a) (Some x) m) (Condition Two)
+    (react (Hio a) (Some x) m ≡ react (Hio a) None m) ⊎ EndedByFault (react (Hio a) (Some x) m) (WithCode Two)
 
 -- A reset that meets it reports the address of the drive that works, and the cylinder and head of its track.
 pub record ToldByReset (m : Machine) (r : Answer × Machine) : Type 0 where
@@ -105,6 +105,6 @@ FaultDoes m (StepBy k) x =
     (react (StepBy k) (Some x) m ≡ react (StepBy k) None m)
     ⊎ EndedByFault (react (StepBy k) (Some x) m) (Stepped (suc x.units))
 FaultDoes m (Hio a) x =
-    (react (Hio a) (Some x) m ≡ react (Hio a) None m) ⊎ EndedByFault (react (Hio a) (Some x) m) (Condition Two)
+    (react (Hio a) (Some x) m ≡ react (Hio a) None m) ⊎ EndedByFault (react (Hio a) (Some x) m) (WithCode Two)
 FaultDoes m Reset x = (react Reset (Some x) m ≡ react Reset None m) ⊎ ToldByReset m (react Reset (Some x) m)
 FaultDoes m e x = react e (Some x) m ≡ react e None m

@@ -16,7 +16,7 @@ use Rattle.s360_runs.specs.Status.{no_channel_status}
 use Rattle.s360_runs.specs.Units.{Next, standing_in}
 use Rattle.s360_runs.specs.Unsaved.{has_written}
 use Rattle.s360_program.specs.Stands.{StageFits, phase_by}
-use Rattle.s360_program.specs.Steps.{EndsBy, has_passed}
+use Rattle.s360_program.specs.Steps.{EndsBy, has_moved}
 use Rattle.s360_program.specs.Stage.{Stage}
 use Rattle.s360_program.specs.Stage as stage
 use Rattle.s360_program.proofs.Meeting.{met_none, untouched as image_untouched, loads_none}
@@ -29,7 +29,7 @@ same_ends next later told s d0 d1 e h = record { fault = h.fault; met = h.met; e
 
 -- What a cut closes.
 
-pub cut_untouched : (key : ℕ) (g : Stage) (p : Place) (s : Storage) (d : DriveState) (w : Work) (f : Option Fault) → has_passed w ≡ false
+pub cut_untouched : (key : ℕ) (g : Stage) (p : Place) (s : Storage) (d : DriveState) (w : Work) (f : Option Fault) → has_moved w ≡ false
     → (standing_in key (phase_by g p s d.state w)).cut f ≡ ending f key p (untouched d.state) no_channel_status
 cut_untouched key stage.Between p s d w f h = refl
 cut_untouched key (stage.Looking ccw) p s d Idle f h = refl
@@ -42,7 +42,7 @@ cut_untouched key (stage.Moving ccw a) p s d (Looking o) f h = refl
 cut_untouched key (stage.Moving ccw a) p s d (Passing o [] l) f h = refl
 cut_untouched key (stage.Moving ccw a) p s d (Passing o (x ∷ b) l) f h = never (sym h)
 
-pub cut_touched : (key : ℕ) (g : Stage) (p : Place) (s : Storage) (d : DriveState) (w : Work) (f : Option Fault) → StageFits g d.state w → has_passed w ≡ true
+pub cut_touched : (key : ℕ) (g : Stage) (p : Place) (s : Storage) (d : DriveState) (w : Work) (f : Option Fault) → StageFits g d.state w → has_moved w ≡ true
     → (standing_in key (phase_by g p s d.state w)).cut f ≡ ending f key p (closed_of f d w) no_channel_status
 cut_touched key g p s d Idle f fits h = never h
 cut_touched key g p s d (Over x) f fits h = never h
@@ -66,7 +66,7 @@ joins true b h = refl
 joins false true h = never (h refl)
 joins false false h = refl
 
-pub untouched_written : (g : Stage) (p : Place) (s : Storage) (st : State) (w : Work) → has_passed w ≡ false → is_written st ≡ has_written (phase_by g p s st w)
+pub untouched_written : (g : Stage) (p : Place) (s : Storage) (st : State) (w : Work) → has_moved w ≡ false → is_written st ≡ has_written (phase_by g p s st w)
 untouched_written stage.Between p s st w h = refl
 untouched_written (stage.Looking ccw) p s st Idle h = refl
 untouched_written (stage.Looking ccw) p s st (Over x) h = refl
@@ -100,10 +100,10 @@ end_moved d0 d1 state h = ap (λ (d : DriveState). is_written d.state) state ∙
     go (Looking o) h = never h
     go (Passing o b l) h = close_moved (fault_met d0 d1) (record { opened = o; state = d0.state }) b (right (is_written d0.state) _ h)
 
-pub touched_written : (g : Stage) (p : Place) (s : Storage) (d0 d1 : DriveState) → StageFits g d0.state d0.work → has_passed d0.work ≡ true
+pub touched_written : (g : Stage) (p : Place) (s : Storage) (d0 d1 : DriveState) → StageFits g d0.state d0.work → has_moved d0.work ≡ true
     → d1 ≡ with_image (after_end (fault_met d0 d1) d0) d1.image → CallsStore false (end_saves d0) d0 d1
     → (end_saves d0 || is_written d1.state) ≡ has_written (phase_by g p s d0.state d0.work)
-touched_written g p s d0 d1 fits passed state calls = by_saves (end_saves d0) refl
+touched_written g p s d0 d1 fits moved state calls = by_saves (end_saves d0) refl
   where
     left : (a b : Bool) → (a && b) ≡ true → a ≡ true
     left true b h = refl
@@ -121,7 +121,7 @@ touched_written g p s d0 d1 fits passed state calls = by_saves (end_saves d0) re
     not_moved (Passing o b l) e h =
         stays_written d0.state (closing d0.state.volume.geometry (track_under d0.state) o d0.state.registers b) _ (sym (ap (λ a. a && (closing d0.state.volume.geometry (track_under d0.state) o d0.state.registers b).moves_off) h) ∙ e) h
 
-    written_first : (w : Work) → StageFits g d0.state w → has_passed w ≡ true → end_saves_of d0 w ≡ true → has_written (phase_by g p s d0.state w) ≡ true
+    written_first : (w : Work) → StageFits g d0.state w → has_moved w ≡ true → end_saves_of d0 w ≡ true → has_written (phase_by g p s d0.state w) ≡ true
     written_first Idle f h e = never h
     written_first (Over x) f h e = never h
     written_first (Looking o) f h e = never h
@@ -136,7 +136,7 @@ touched_written g p s d0 d1 fits passed state calls = by_saves (end_saves d0) re
         in_stage (stage.Looking ccw) f = absurd f
         in_stage (stage.Moving ccw a) f = ap (λ c. c || is_written (close None (record { opened = o; state = d0.state }) (x ∷ b)).state) first
 
-    written_then : (w : Work) → StageFits g d0.state w → has_passed w ≡ true → (is_written d0.state ≡ true → is_written (closed_of None d0 w).state ≡ true) → is_written (closed_of None d0 w).state ≡ has_written (phase_by g p s d0.state w)
+    written_then : (w : Work) → StageFits g d0.state w → has_moved w ≡ true → (is_written d0.state ≡ true → is_written (closed_of None d0 w).state ≡ true) → is_written (closed_of None d0 w).state ≡ has_written (phase_by g p s d0.state w)
     written_then Idle f h k = never h
     written_then (Over x) f h k = never h
     written_then (Looking o) f h k = never h
@@ -153,8 +153,8 @@ touched_written g p s d0 d1 fits passed state calls = by_saves (end_saves d0) re
         in_stage (stage.Moving ccw a) f = absorbed (is_written d0.state) (is_written (close None (record { opened = o; state = d0.state }) (x ∷ b)).state) k
 
     by_saves : (m : Bool) → end_saves d0 ≡ m → (end_saves d0 || is_written d1.state) ≡ has_written (phase_by g p s d0.state d0.work)
-    by_saves true e = ap (λ m. m || is_written d1.state) e ∙ sym (written_first d0.work fits passed e)
-    by_saves false e = ap (λ m. m || is_written d1.state) e ∙ at_end e ∙ written_then d0.work fits passed (not_moved d0.work e)
+    by_saves true e = ap (λ m. m || is_written d1.state) e ∙ sym (written_first d0.work fits moved e)
+    by_saves false e = ap (λ m. m || is_written d1.state) e ∙ at_end e ∙ written_then d0.work fits moved (not_moved d0.work e)
 
 -- two calls of which at most one saves
 pub saves_together : (m w : Bool) (d0 d1 d2 : DriveState) → (m ≡ true → w ≡ false) → CallsStore false m d0 d1 → CallsStore false w d1 d2 → CallsStore false (m || w) d0 d2

@@ -1,6 +1,6 @@
 pub mod Ties
 pub mod Fetches
-pub mod Passing
+pub mod MovingBytes
 pub mod Meeting
 pub mod Ends
 pub mod Begins

@@ -20,7 +20,7 @@ use Rattle.s360_runs.specs.Transfers.{Transfer, Moves, Stops, Completes, chained
 use Rattle.s360_runs.specs.Units.{ProgramPhase, Moving, Next, EndsIn, unit, next_chosen, next_moved, walk, on_next, StandsIn}
 use Rattle.s360_program.specs.Place.{place_of}
 use Rattle.s360_program.specs.Stands.{StageFits, StageWithin, phase_by, phase_in}
-use Rattle.s360_program.specs.Steps.{run_of, Fits, ComesBy, Steps, WalksBy, Flows, FlowsBy, with_left, Passes, PassesBy, PassesAs, status_of, condition_for, differs}
+use Rattle.s360_program.specs.Steps.{run_of, Fits, ComesBy, Steps, WalksBy, Flows, FlowsBy, with_left, MovesBytes, MovesBytesBy, MovesBytesAs, status_of, condition_for, differs}
 use Rattle.s360_program.specs.declared.conditions.Condition.{Condition}
 use Rattle.s360_program.specs.declared.conditions.Condition.TheVariants as condition
 use Rattle.s360_program.specs.declared.moving.Flow.{Flow}
@@ -129,7 +129,7 @@ module _ (key : ℕ) (ccw : Ccw) (a : ℕ) (p : Place) (s : Storage) (d0 d1 : Dr
 
   -- a check stops it
   checks_by : (check : Condition) (most : ℕ) (s2 : Storage) (d2 : DriveState) (w : Work) → FlowsBy flow d0.state w → (p.residual == 0 && chains_data ccw) ≡ false → (p.residual == 0 || flow.left == 0) ≡ false
-      → PassesBy key ccw a most (Err check) s s2 (record d0 { work = with_left flow.left w }) d2 (with_left flow.left w)
+      → MovesBytesBy key ccw a most (Err check) s s2 (record d0 { work = with_left flow.left w }) d2 (with_left flow.left w)
       → (s2 ≡ s) × (d2.image ≡ d0.image) × (d2.state ≡ d0.state)
       × ((f : Option Fault) → unit f key (phase_by (stage.Moving ccw a) p s d0.state w) ≡ EndsIn s2 (ending f key p (closed_of f d2 d2.work) (status_of check)))
   checks_by check most s2 d2 Idle told needs spent h = absurd told
@@ -150,27 +150,27 @@ module _ (key : ℕ) (ccw : Ccw) (a : ℕ) (p : Place) (s : Storage) (d0 d1 : Dr
           ∙ ap (λ (d : DriveState). EndsIn s2 (ending f key p (closed_of f d d.work) (status_of check))) (sym q.1)
 
   pub checks : (check : Condition) (most : ℕ) (s2 : Storage) (d2 : DriveState) → Flows flow d0 d1 → (p.residual == 0 && chains_data ccw) ≡ false → (p.residual == 0 || flow.left == 0) ≡ false
-      → Passes key ccw a most s d1 (Err check) s2 d2
+      → MovesBytes key ccw a most s d1 (Err check) s2 d2
       → (s2 ≡ s) × (d2.image ≡ d0.image) × (d2.state ≡ d0.state)
       × ((f : Option Fault) → unit f key (phase_by (stage.Moving ccw a) p s d0.state d0.work) ≡ EndsIn s2 (ending f key p (closed_of f d2 d2.work) (status_of check)))
   checks check most s2 d2 flows needs spent h =
-      checks_by check most s2 d2 d0.work flows.told needs spent (subst (λ (d : DriveState). PassesBy key ccw a most (Err check) s s2 d d2 d.work) flows.drive h)
+      checks_by check most s2 d2 d0.work flows.told needs spent (subst (λ (d : DriveState). MovesBytesBy key ccw a most (Err check) s s2 d d2 d.work) flows.drive h)
 
 -- Bytes.
 
--- so many bytes pass at once
+-- so many bytes move at once
 module _ (key : ℕ) (ccw : Ccw) (a most m : ℕ) (p : Place) (s s2 : Storage) (d0 d2 : DriveState) (flow : Flow) where
-  abbrev IsPassed : Work → Type 0
-  IsPassed w =
+  abbrev IsMoved : Work → Type 0
+  IsMoved w =
       (walk (units m) key (phase_by (stage.Moving ccw a) p s d0.state w) ≡ StandsIn (phase_by (stage.Moving ccw (a + m)) (record p { residual = p.residual - m }) s2 d2.state d2.work))
       × StageFits (stage.Moving ccw (a + m)) d2.state d2.work × (d2.image ≡ d0.image) × (d2.state ≡ d0.state) × (0 < m) × (m ≤ most)
 
-  passed_by : (w : Work) → FlowsBy flow d0.state w → most ≤ flow.left → most ≤ p.residual
-      → PassesBy key ccw a most (Ok m) s s2 (record d0 { work = with_left flow.left w }) d2 (with_left flow.left w) → IsPassed w
-  passed_by Idle told ml mr q = absurd told
-  passed_by (Over x) told ml mr q = absurd told
-  passed_by (Looking o) told ml mr q = absurd told
-  passed_by (Passing o b l) told ml mr q = (
+  moved_by : (w : Work) → FlowsBy flow d0.state w → most ≤ flow.left → most ≤ p.residual
+      → MovesBytesBy key ccw a most (Ok m) s s2 (record d0 { work = with_left flow.left w }) d2 (with_left flow.left w) → IsMoved w
+  moved_by Idle told ml mr q = absurd told
+  moved_by (Over x) told ml mr q = absurd told
+  moved_by (Looking o) told ml mr q = absurd told
+  moved_by (Passing o b l) told ml mr q = (
     steps,
     subst (λ (d : DriveState). StageFits (stage.Moving ccw (a + m)) d.state d.work) (sym k.drive) (within, exact, told_on),
     ap (λ (d : DriveState). d.image) k.drive,
@@ -191,7 +191,7 @@ module _ (key : ℕ) (ccw : Ccw) (a most m : ℕ) (p : Place) (s s2 : Storage) (
       t : Transfer
       t = record { storage = s; ccw = ccw; place = p; address = a; bytes = b }
 
-      k : PassesAs m key O t (Passing o b flow.left) s2 (record d0 { work = Passing o b flow.left }) d2
+      k : MovesBytesAs m key O t (Passing o b flow.left) s2 (record d0 { work = Passing o b flow.left }) d2
       k = q.2 p (both m most p.residual q.1 mr)
 
       within : length (b ++ next_bytes m O t) + (flow.left - length (next_bytes m O t)) ≤ length_of O (b ++ next_bytes m O t)
@@ -231,10 +231,10 @@ module _ (key : ℕ) (ccw : Ccw) (a most m : ℕ) (p : Place) (s s2 : Storage) (
           ∙ ap (λ x. StandsIn (phase_by (stage.Moving ccw (a + m)) (record p { residual = p.residual - m }) x d0.state (moved_on (next_bytes m O t) (Passing o b flow.left)))) (sym k.storage)
           ∙ ap (λ (d : DriveState). StandsIn (phase_by (stage.Moving ccw (a + m)) (record p { residual = p.residual - m }) s2 d.state d.work)) (sym k.drive)
 
-pub passes_on : (r : Run) (most few m n : ℕ) (s s2 : Storage) (d0 d1 d2 : DriveState) (flow : Flow) → Fits r d0 → r.comes ≡ comes.Bytes → Flows flow d0 d1
-    → few ≤ most → few ≤ r.place.residual → few ≤ flow.left → Passes r.key r.ccw r.address few s d1 (Ok m) s2 d2 → n ≡ m
+pub moves_on : (r : Run) (most few m n : ℕ) (s s2 : Storage) (d0 d1 d2 : DriveState) (flow : Flow) → Fits r d0 → r.comes ≡ comes.Bytes → Flows flow d0 d1
+    → few ≤ most → few ≤ r.place.residual → few ≤ flow.left → MovesBytes r.key r.ccw r.address few s d1 (Ok m) s2 d2 → n ≡ m
     → WalksBy r.key (phase_in (run_of r) s d0) most m (record r { place = record r.place { residual = r.place.residual - m }; address = r.address + n }) s2 d0 d2
-passes_on r most few m n s s2 d0 d1 d2 flow fits at flows fm fr fl h e =
+moves_on r most few m n s s2 d0 d1 d2 flow fits at flows fm fr fl h e =
     subst (λ n. WalksBy r.key (phase_in (run_of r) s d0) most m (record r { place = record r.place { residual = r.place.residual - m }; address = r.address + n }) s2 d0 d2) (sym e)
     (subst (λ c. WalksBy r.key (phase_in (run_of r) s d0) most m (record r { place = record r.place { residual = r.place.residual - m }; comes = c; address = r.address + m }) s2 d0 d2) (sym at) (record {
       some = x.4;
@@ -249,8 +249,8 @@ passes_on r most few m n s s2 d0 d1 d2 flow fits at flows fm fr fl h e =
       no_check = λ q. ap (λ (s : State). tells_equipment_check (drive_of s).sense) x.3 ∙ q;
     }))
   where
-    x : IsPassed r.key r.ccw r.address few m (place_of r.place) s s2 d0 d2 flow d0.work
-    x = passed_by r.key r.ccw r.address few m (place_of r.place) s s2 d0 d2 flow d0.work flows.told fl fr (subst (λ (d : DriveState). PassesBy r.key r.ccw r.address few (Ok m) s s2 d d2 d.work) flows.drive h)
+    x : IsMoved r.key r.ccw r.address few m (place_of r.place) s s2 d0 d2 flow d0.work
+    x = moved_by r.key r.ccw r.address few m (place_of r.place) s s2 d0 d2 flow d0.work flows.told fl fr (subst (λ (d : DriveState). MovesBytesBy r.key r.ccw r.address few (Ok m) s s2 d d2 d.work) flows.drive h)
 
     narrow : StageWithin (stage.Moving r.ccw r.address) (place_of r.place)
     narrow = subst (λ c. StageWithin (stage_by c r.ccw r.address) (place_of r.place)) at fits.within.stage

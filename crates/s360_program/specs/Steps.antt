@@ -14,7 +14,7 @@ use Rattle.ckd_command.specs.Tables.{action_of, is_giving}
 use Rattle.ckd_drive.specs.Work.{DriveState, Work, Passing, passed_of, moved_on, closed_of, look_loads}
 use Rattle.s360_runs.specs.Commands.{Point}
 use Rattle.s360_runs.specs.Endings.{Ending, csw_at}
-use Rattle.s360_runs.specs.Laws.{MayPass}
+use Rattle.s360_runs.specs.Laws.{MayMove}
 use Rattle.s360_runs.specs.Places.{Place}
 use Rattle.s360_runs.specs.Scripts.{units}
 use Rattle.s360_runs.specs.Status.{tells, no_channel_status, is_clear, stops_chaining}
@@ -169,7 +169,7 @@ FlowsBy flow s (Passing o b left) =
     × (is_giving (action_of o.command) ≡ true → length b + flow.left ≡ all) × ((length b + flow.left ≡ 8 → ⊥) → length b + flow.left ≡ all)
 FlowsBy flow s w = ⊥
 
--- a command of which this many bytes more may pass
+-- a command of which this many bytes more may move
 abbrev pub with_left : ℕ → Work → Work
 with_left left (Passing o b l) = Passing o b left
 with_left left w = w
@@ -183,26 +183,26 @@ pub record Flows (flow : Flow) (old new : DriveState) : Type 0 where
 abbrev pub transfer_by : Ccw → (address : ℕ) → Storage → Place → Work → Transfer
 transfer_by ccw address s p w = record { storage = s; ccw = ccw; place = p; address = address; bytes = passed_of w }
 
--- so many bytes may pass, and storage and the drive are those behind them
-pub record PassesAs (m key : ℕ) (o : Open) (t : Transfer) (w : Work) (s_new : Storage) (d d_new : DriveState) : Type 0 where
-  pub may : MayPass m key o t
+-- so many bytes may move, and storage and the drive are those behind them
+pub record MovesBytesAs (m key : ℕ) (o : Open) (t : Transfer) (w : Work) (s_new : Storage) (d d_new : DriveState) : Type 0 where
+  pub may : MayMove m key o t
   pub count : length (next_bytes m o t) ≡ m
   pub storage : s_new ≡ storage_after m o t
   pub drive : d_new ≡ record d { work = moved_on (next_bytes m o t) w }
 
--- bytes of an open command pass, or the first of them may not, for this reason
-abbrev pub PassesBy : (key : ℕ) → Ccw → (address most : ℕ) → Result ℕ Condition → (s s_new : Storage) → (d d_new : DriveState) → Work → Type 0
-PassesBy key ccw address most (Ok m) s s_new d d_new (Passing o b left) =
+-- bytes of an open command move, or the first of them may not, for this reason
+abbrev pub MovesBytesBy : (key : ℕ) → Ccw → (address most : ℕ) → Result ℕ Condition → (s s_new : Storage) → (d d_new : DriveState) → Work → Type 0
+MovesBytesBy key ccw address most (Ok m) s s_new d d_new (Passing o b left) =
     (0 < m) × (m ≤ most) × ((p : Place) → m ≤ p.residual →
-    PassesAs m key (record { opened = o; state = d.state }) (transfer_by ccw address s p (Passing o b left)) (Passing o b left) s_new d d_new)
-PassesBy key ccw address most (Err c) s s_new d d_new (Passing o b left) =
+    MovesBytesAs m key (record { opened = o; state = d.state }) (transfer_by ccw address s p (Passing o b left)) (Passing o b left) s_new d d_new)
+MovesBytesBy key ccw address most (Err c) s s_new d d_new (Passing o b left) =
     (s_new ≡ s) × (d_new ≡ d) × (is_clear (status_of c) ≡ false)
     × ((p : Place) → check_of key (record { opened = o; state = d.state }) (transfer_by ccw address s p (Passing o b left)) ≡ status_of c)
-PassesBy key ccw address most r s s_new d d_new w = ⊥
+MovesBytesBy key ccw address most r s s_new d d_new w = ⊥
 
--- bytes pass at once, at least one; or the first may not
-abbrev pub Passes : (key : ℕ) → Ccw → (address most : ℕ) → Storage → DriveState → Result ℕ Condition → Storage → DriveState → Type 0
-Passes key ccw address most s d r s_new d_new = PassesBy key ccw address most r s s_new d d_new d.work
+-- bytes move at once, at least one; or the first may not
+abbrev pub MovesBytes : (key : ℕ) → Ccw → (address most : ℕ) → Storage → DriveState → Result ℕ Condition → Storage → DriveState → Type 0
+MovesBytes key ccw address most s d r s_new d_new = MovesBytesBy key ccw address most r s s_new d d_new d.work
 
 -- whether the count is spent, and the next word has a further area of the same command
 abbrev pub chains_by : Stage → Bool
@@ -223,8 +223,8 @@ differs residual left = (not (residual == 0) && left == 0) || (residual == 0 && 
 abbrev pub goes_on : Ran → Bool
 goes_on a = is_none a.ending
 
--- whether a byte of a command has passed
-abbrev pub has_passed : Work → Bool
-has_passed (Passing o [] left) = false
-has_passed (Passing o (byte ∷ b) left) = true
-has_passed w = false
+-- whether a byte of a command has moved
+abbrev pub has_moved : Work → Bool
+has_moved (Passing o [] left) = false
+has_moved (Passing o (byte ∷ b) left) = true
+has_moved w = false

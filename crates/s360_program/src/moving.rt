@@ -4,7 +4,7 @@
 ghost use Rattle.std.specs.Prelude.{◌≡◌, ◌<◌, ◌≤◌, ◌+◌, ◌^◌, true, false, length, slice_range, ◌||◌, ◌==◌};
 ghost use Rattle.ckd_drive.specs.Work.{left_of, gives_now, takes_now, given_now, passed_of, moved_on};
 ghost use Rattle.s360_program.specs.Advances.{KeepsStorage};
-ghost use Rattle.s360_program.specs.Steps.{Flows, HasFound, IsMoving, Passes};
+ghost use Rattle.s360_program.specs.Steps.{Flows, HasFound, IsMoving, MovesBytes};
 
 use crate::conditions::Condition;
 use ckd_drive::{Drive, Look, Phase};
@@ -43,9 +43,9 @@ pub fn flow_of<S: ImageStore>(drive: &mut Drive<S>) -> Flow
     Flow { gives: false, left }
 }
 
-/// Passes so many bytes at once at most, and at least one, or says why the first may not pass.
+/// Moves so many bytes at once at most, and at least one, or says why the first may not move.
 #[inline(always)]
-pub fn pass<S: ImageStore>(
+pub fn move_bytes<S: ImageStore>(
     gives: bool,
     key: u8,
     ccw: Ccw,
@@ -60,7 +60,7 @@ pub fn pass<S: ImageStore>(
     requires moving { IsMoving drive.old }
     requires narrow { address < 2 ^ 25 }
     requires key { key < 16 }
-    ensures passes { Passes key ccw address most storage.old drive.old result storage.new drive.new }
+    ensures moves { MovesBytes key ccw address most storage.old drive.old result storage.new drive.new }
     ensures storage { KeepsStorage storage.old storage.new }
     ensures image { drive.new.image ≡ drive.old.image }
 {
@@ -86,7 +86,7 @@ fn write<S: ImageStore>(
     requires left { most ≤ left_of drive.old.work }
     requires moving { IsMoving drive.old }
     requires narrow { address < 2 ^ 25 }
-    ensures passes { Passes _key _ccw address most storage.now drive.old result storage.now drive.new }
+    ensures moves { MovesBytes _key _ccw address most storage.now drive.old result storage.now drive.new }
     ensures image { drive.new.image ≡ drive.old.image }
 {
     let bytes = storage.bytes_from(address, usize::from(most));
@@ -113,7 +113,7 @@ fn read<S: ImageStore>(
     requires moving { IsMoving drive.old }
     requires narrow { address < 2 ^ 25 }
     requires key { key < 16 }
-    ensures passes { Passes key ccw address most storage.old drive.old result storage.new drive.new }
+    ensures moves { MovesBytes key ccw address most storage.old drive.old result storage.new drive.new }
     ensures storage { KeepsStorage storage.old storage.new }
     ensures image { drive.new.image ≡ drive.old.image }
 {

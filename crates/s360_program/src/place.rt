@@ -83,8 +83,8 @@ impl Place {
         Fetched::GoodCcw(ccw)
     }
 
-    /// Goes behind a good word.
-    pub fn pass(&mut self, ccw: Ccw)
+    /// Goes by a good word.
+    pub fn go_by(&mut self, ccw: Ccw)
         requires { self.old.next + 8 ≤ 2 ^ 24 }
         ensures { place_of self.new ≡ past_ccw (place_of self.old) ccw }
     {

@@ -91,7 +91,7 @@ impl Running {
             return Start::Bad;
         };
         drive.begin_program();
-        place.pass(ccw);
+        place.go_by(ccw);
         match first_command(caw.key, place, ccw, storage, drive) {
             First::Rejected => Start::Rejected,
             First::Immediate(ending, asked) => Start::Immediate(ending, asked),

@@ -11,11 +11,11 @@ ghost use Rattle.s360_words.specs.Storage.{Storage as StorageState};
 ghost use Rattle.ckd_drive.specs.Work.{is_idle, may_end, closed_of, CallsStore};
 ghost use Rattle.s360_program.specs.Advances.{RunsOn, CallsAtMost, KeepsStorage, NeedNoStore, TellsOf};
 ghost use Rattle.s360_program.specs.Stands.{phase_in, Within};
-ghost use Rattle.s360_program.specs.Steps.{run_of, Fits, IsQuiet, ComesBy, EndsBy, Steps, has_passed, goes_on, point_at, request_at, status_of, condition_for, differs, needs_area as wants_area};
+ghost use Rattle.s360_program.specs.Steps.{run_of, Fits, IsQuiet, ComesBy, EndsBy, Steps, has_moved, goes_on, point_at, request_at, status_of, condition_for, differs, needs_area as wants_area};
 
 use crate::conditions::{Condition, chains};
 use crate::endings::{FAILED, UNTOUCHED, end_program, told};
-use crate::moving::{flow_of, pass};
+use crate::moving::{flow_of, move_bytes};
 use crate::place::Fetched;
 use crate::program::Ran;
 use crate::run::{Comes, Run, Step};
@@ -65,7 +65,7 @@ impl Run {
         ensures calls { (s : StorageState) → CallsStore false (has_written (phase_in (run_of self.old) s drive.old)) drive.old drive.new }
         ensures lost { (drive.new.image.failures ≡ drive.old.image.failures) ⊎ (is_some (unsaved drive.new.state) ≡ true) }
     {
-        if !has_passed(drive) {
+        if !has_moved(drive) {
             end_program(self, UNTOUCHED, Condition::Clear, drive);
             return told(self);
         }
@@ -74,7 +74,7 @@ impl Run {
         told(self)
     }
 
-    /// Does one unit, or more where bytes pass together, and at most as many as are asked for.
+    /// Does one unit, or more where bytes move together, and at most as many as are asked for.
     pub fn step<S: ImageStore>(
         &mut self,
         most: u32,
@@ -116,7 +116,7 @@ impl Run {
             }
             Fetched::GoodCcw(ccw) => ccw,
         };
-        self.place.pass(ccw);
+        self.place.go_by(ccw);
         match drive.begin(ccw.code) {
             Begun::Rejected => {
                 end_program(self, FAILED, Condition::Clear, drive);
@@ -238,7 +238,7 @@ impl Run {
         }
         let most = least(most, residual, flow.left);
         let (key, ccw, address) = (self.key, self.ccw, self.address);
-        match pass(flow.gives, key, ccw, address, most, storage, drive) {
+        match move_bytes(flow.gives, key, ccw, address, most, storage, drive) {
             Ok(m) => {
                 self.place.residual -= m;
                 self.address += u32::from(m);
@@ -288,7 +288,7 @@ impl Run {
                 Step::Units(1)
             }
             Fetched::GoodCcw(ccw) => {
-                self.place.pass(ccw);
+                self.place.go_by(ccw);
                 self.keep(ccw);
                 self.address = ccw.address;
                 Step::Units(1)
@@ -297,9 +297,9 @@ impl Run {
     }
 }
 
-// Whether a byte of the open command has passed.
-fn has_passed<S: ImageStore>(drive: &Drive<S>) -> bool
-    ensures { result ≡ has_passed drive.now.work }
+// Whether a byte of the open command has moved.
+fn has_moved<S: ImageStore>(drive: &Drive<S>) -> bool
+    ensures { result ≡ has_moved drive.now.work }
 {
     match drive.phase() {
         Phase::Gives { passed, left: _ } | Phase::Takes { passed, left: _ } => passed > 0,

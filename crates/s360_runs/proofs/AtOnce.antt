@@ -1,4 +1,4 @@
--- Bytes that may pass one after another pass at once.
+-- Bytes that may move one after another move at once.
 use Rattle.std.proofs.Common.{◌≡◌, ℕ, zero, suc, ◌+◌, ◌-◌, refl, sym, ap, ◌∙◌, arith, true, false, Bool, cond, not, ◌&&◌, List, [], ◌∷◌, ◌++◌, length, take, drop}
 use Rattle.std.proofs.Math.Seq.{take-add}
 use Rattle.std.proofs.lemmas.List.{drop-drop, append_assoc, append-nil, length-append}
@@ -6,7 +6,7 @@ use Rattle.std.specs.Prelude.{None}
 use Rattle.s360_words.specs.Storage.{overwritten, Storage, stored}
 use Rattle.s360_words.specs.Words.{skips}
 use Rattle.ckd_command.specs.Drive.{given, Open, gives}
-use Rattle.s360_runs.specs.Laws.{PassAtOnce}
+use Rattle.s360_runs.specs.Laws.{MoveAtOnce}
 use Rattle.s360_runs.specs.Scripts.{Script, units}
 use Rattle.s360_runs.specs.Transfers.{Transfer, next_bytes, after_bytes, TransferUnit, Moves, transfer_unit}
 use Rattle.s360_runs.specs.Units.{on_next, next_moved, walk, Moving}
@@ -22,7 +22,7 @@ written_in_two [] a x ys = refl
 written_in_two (c ∷ b) zero x ys = ap (λ r. x ∷ overwritten r zero ys) (nothing_written b zero)
 written_in_two (c ∷ b) (suc a) x ys = ap (λ r. c ∷ r) (written_in_two b a x ys)
 
--- What passes, by its parts: whether the drive gives, whether it stores, the bytes given, those so far, the address and storage.
+-- What moves, by its parts: whether the drive gives, whether it stores, the bytes given, those so far, the address and storage.
 
 abbrev nexts : Bool → ℕ → List ℕ → List ℕ → ℕ → List ℕ → List ℕ
 nexts g m given bytes a storage = cond g (take m (drop (length bytes) given)) (take m (drop a storage))
@@ -71,17 +71,17 @@ stored_in_two true s a new more h =
 abbrev made : Transfer → Storage → ℕ → ℕ → List ℕ → Transfer
 made p s left a bytes = record { storage = s; ccw = p.ccw; place = record p.place { residual = left }; address = a; bytes = bytes }
 
-same_passage : (p : Transfer) (s s_two : Storage) (left left_two a a_two : ℕ) (b b_two : List ℕ) → s ≡ s_two → left ≡ left_two → a ≡ a_two → b ≡ b_two → made p s left a b ≡ made p s_two left_two a_two b_two
-same_passage p s s_two left left_two a a_two b b_two es el ea eb =
+same_move : (p : Transfer) (s s_two : Storage) (left left_two a a_two : ℕ) (b b_two : List ℕ) → s ≡ s_two → left ≡ left_two → a ≡ a_two → b ≡ b_two → made p s left a b ≡ made p s_two left_two a_two b_two
+same_move p s s_two left left_two a a_two b b_two es el ea eb =
     ap (λ x. made p x left a b) es ∙ ap (λ x. made p s_two x a b) el ∙ ap (λ x. made p s_two left_two x b) ea ∙ ap (λ x. made p s_two left_two a_two x) eb
 
-passed_in_two : (m : ℕ) (o : Open) (p : Transfer) → 1 ≡ length (next_bytes 1 o p) → after_bytes m o (after_bytes 1 o p) ≡ after_bytes (suc m) o p
-passed_in_two m o p h =
+moved_in_two : (m : ℕ) (o : Open) (p : Transfer) → 1 ≡ length (next_bytes 1 o p) → after_bytes m o (after_bytes 1 o p) ≡ after_bytes (suc m) o p
+moved_in_two m o p h =
     let g = gives o in
     let k = not (skips p.ccw) in
     let new = next_bytes 1 o p in
     let two = nexts_in_two g k m (given o) p.bytes p.address p.storage new refl h in
-    same_passage p _ _ _ _ _ _ _ _
+    same_move p _ _ _ _ _ _ _ _
     (stored_in_two (g && k) p.storage p.address new _ h ∙ ap (after (g && k) p.storage p.address) (sym two))
     (less p.place.residual m) (more p.address m) (append_assoc p.bytes new _ ∙ ap (λ r. p.bytes ++ r) (sym two))
   where
@@ -99,11 +99,11 @@ none_stored : (w : Bool) (s : Storage) (a : ℕ) → after w s a [] ≡ s
 none_stored true s a = ap (λ b. record s { bytes = b }) (nothing_written s.bytes a)
 none_stored false s a = refl
 
-passed_none : (o : Open) (p : Transfer) → after_bytes 0 o p ≡ p
-passed_none o p =
+moved_none : (o : Open) (p : Transfer) → after_bytes 0 o p ≡ p
+moved_none o p =
     let g = gives o in
     let w = g && not (skips p.ccw) in
-    same_passage p _ _ _ _ _ _ _ _
+    same_move p _ _ _ _ _ _ _ _
     (ap (after w p.storage p.address) (none_next g) ∙ none_stored w p.storage p.address)
     (less p.place.residual) (more p.address) (ap (λ r. p.bytes ++ r) (none_next g) ∙ append-nil p.bytes)
   where
@@ -116,10 +116,10 @@ passed_none o p =
 on_moves : (rest : Script) (key : ℕ) (o : Open) (p q : Transfer) (u : TransferUnit) → u ≡ Moves q → on_next rest (next_moved None key o p u) (walk rest key) ≡ walk rest key (Moving o q)
 on_moves rest key o p q u e = ap (λ u. on_next rest (next_moved None key o p u) (walk rest key)) e
 
--- m bytes that may pass one after another pass at once
-pub at_once : PassAtOnce
-at_once zero key rest o p h = ap (λ q. walk rest key (Moving o q)) (sym (passed_none o p))
+-- m bytes that may move one after another move at once
+pub at_once : MoveAtOnce
+at_once zero key rest o p h = ap (λ q. walk rest key (Moving o q)) (sym (moved_none o p))
 at_once (suc m) key rest o p h =
     on_moves (units m ++ rest) key o p (after_bytes 1 o p) (transfer_unit key o p) h.0
     ∙ at_once m key rest o (after_bytes 1 o p) h.2
-    ∙ ap (λ q. walk rest key (Moving o q)) (passed_in_two m o p (sym h.1))
+    ∙ ap (λ q. walk rest key (Moving o q)) (moved_in_two m o p (sym h.1))

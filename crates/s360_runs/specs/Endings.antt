@@ -55,7 +55,7 @@ abbrev pub immediate : State → (motion : Bool) → Closed
 immediate s motion = record { state = s; unit = if motion then CHANNEL_END else normal_end; motion = motion }
 
 -- a cut, by Halt I/O or a reset, closes the open command by the bytes that passed ('Halt I/O')
-abbrev pub closed_by_cut : Option Fault → Open → (passed : List ℕ) → Closed
+abbrev pub closed_by_cut : Option Fault → Open → (moved : List ℕ) → Closed
 closed_by_cut fault o [] = untouched (state_of o)
 closed_by_cut fault o (byte ∷ bytes) = close fault o (byte ∷ bytes)
 

@@ -112,13 +112,13 @@ CutIsEnd = (s : Start) (script : Script) (seen : Standing) (fault : Option Fault
 
 -- Bytes.
 
--- m bytes may pass, one after another
-abbrev pub MayPass : ℕ → (key : ℕ) → Open → Transfer → Type 0
-MayPass zero key o t = Unit {0}
-MayPass (suc m) key o t =
-    (transfer_unit key o t ≡ Moves (after_bytes 1 o t)) × (length (next_bytes 1 o t) ≡ 1) × MayPass m key o (after_bytes 1 o t)
+-- m bytes may move, one after another
+abbrev pub MayMove : ℕ → (key : ℕ) → Open → Transfer → Type 0
+MayMove zero key o t = Unit {0}
+MayMove (suc m) key o t =
+    (transfer_unit key o t ≡ Moves (after_bytes 1 o t)) × (length (next_bytes 1 o t) ≡ 1) × MayMove m key o (after_bytes 1 o t)
 
--- m bytes that may pass one after another pass at once, where nothing comes between their units
-abbrev pub PassAtOnce : Type 0
-PassAtOnce = (m key : ℕ) (rest : Script) (o : Open) (t : Transfer) → MayPass m key o t
+-- m bytes that may move one after another move at once, where nothing comes between their units
+abbrev pub MoveAtOnce : Type 0
+MoveAtOnce = (m key : ℕ) (rest : Script) (o : Open) (t : Transfer) → MayMove m key o t
     → walk (units m ++ rest) key (Moving o t) ≡ walk rest key (Moving o (after_bytes m o t))

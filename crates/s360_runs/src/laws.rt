@@ -1,7 +1,7 @@
 //! The laws of channel programs. Each function here does nothing: what it ensures is a law of the definitions in
 //! `specs/`, which speak of every start, every script and every fault of the store.
 
-ghost use Rattle.s360_runs.specs.Laws.{RunIsWalk, WalkGoesOn, WalkEndsAtUnit, EndedStays, StandsAtStart, StandsSomewhere, StandsAfterWalk, EndsAfterWalk, EndingIsEnd, CutIsEnd, FirstIsUnit, PassAtOnce};
+ghost use Rattle.s360_runs.specs.Laws.{RunIsWalk, WalkGoesOn, WalkEndsAtUnit, EndedStays, StandsAtStart, StandsSomewhere, StandsAfterWalk, EndsAfterWalk, EndingIsEnd, CutIsEnd, FirstIsUnit, MoveAtOnce};
 ghost use Rattle.s360_runs.specs.Unsaved.{WritesByCommands, UnsavedWasWritten, NoFaultNothingTold};
 ghost use Rattle.s360_runs.specs.Writes.{WritesUnderArm, RunKeeps, MarkIsOfScript, KeepsSize};
 ghost use Rattle.s360_runs.specs.Faults.{FaultEndsUnit, FailedLoad, FaultEndsPhase, FaultEndsProgram, FaultEndsCut, GoesOnWithoutFaults};
@@ -56,9 +56,9 @@ pub fn cut_is_end()
     ensures { CutIsEnd }
 {}
 
-/// Bytes that may pass one after another pass at once, where nothing comes between their units.
-pub fn bytes_pass_at_once()
-    ensures { PassAtOnce }
+/// Bytes that may move one after another move at once, where nothing comes between their units.
+pub fn bytes_move_at_once()
+    ensures { MoveAtOnce }
 {}
 
 /// A fault of the store that a unit meets ends the program in that unit.

@@ -11,7 +11,7 @@ use Rattle.s360_laws.specs.History.{Runs}
 use Rattle.s360_laws.specs.Machine.{Machine, Device, Subchannel, Idle, Working, Pending, react, is_working, units_with, units_failing, device_at, start_of, stepped}
 use Rattle.s360_laws.specs.Soundness.{IsSound}
 use Rattle.s360_laws.specs.Steps.{after_units, units_of, EndedByFault}
-use Rattle.s360_laws.proofs.StepLaws.{joins, splits, steps_at_most, plain_two, the_unit, run_at}
+use Rattle.s360_laws.proofs.StepLaws.{joins, splits, steps_at_most, plain_two, working_device, run_at}
 use Rattle.s360_laws.proofs.NoFaultTold.{no_fault_none_told}
 use Rattle.s360_channel.specs.Calls.{CallsAtMost, Does, IsMet, Reports}
 use Rattle.s360_channel.specs.Channel.{ChannelState, StandsFor, failures_of}
@@ -86,7 +86,7 @@ calls_both : (a b : ℕ) (old mid new : ChannelState) → failures_of mid ≡ fa
 calls_both a b old mid new p c d = record {
   calls = adds _ _ _ a b c.calls d.calls;
   failures = subst (λ n. (failures_of new ≡ n) ⊎ (failures_of new ≡ n + 1)) p d.failures;
-  headers = d.headers ∙ c.headers;
+  lasting = d.lasting ∙ c.lasting;
   geometries = d.geometries ∙ c.geometries;
 }
   where
@@ -153,7 +153,7 @@ longer : (m : Machine) (c : Subchannel) (k n : ℕ) (x : FaultAfter) (device : �
 longer m Idle k n x device csw r less p = refl
 longer m (Pending d w) k n x device csw r less p = refl
 longer m (Working d s) k n x device csw r less p =
-    let v = the_unit m d s (device_at m d) refl r in
+    let v = working_device m d s (device_at m d) refl r in
     let w = record m { subchannel = Working d s } in
     ap (stepped d s (k + n) w) (run_at m d v.0 (s ++ units_with (k + n) (Some x)) v.1)
     ∙ over m d s k n x v.0 device csw less (run (s ++ units_with k (Some x)) (start_of m v.0.drive)) refl
@@ -208,7 +208,7 @@ none_yet m c stands =
         stands = subst (StandsFor c) y.0 stands;
         reports = no_fault_none_told m (StepBy 0) (runs_of m stands.sound);
       };
-      calls = record { calls = more _; failures = inl refl; headers = refl; geometries = refl };
+      calls = record { calls = more _; failures = inl refl; lasting = refl; geometries = refl };
     }
   where
     more : (n : ℕ) → n ≤ n + 2 * 0

@@ -5,7 +5,7 @@
 ghost use Rattle.std.specs.Prelude.{◌≡◌, replicate, [], ◌∷◌, Some, None, true, false};
 ghost use Rattle.s360_words.specs.Storage.{stored};
 ghost use Rattle.s360_words.specs.declared.flags.TheConstants.UnitStatus.{CHANNEL_END, DEVICE_END};
-ghost use Rattle.s360_laws.specs.Events.{Condition, StatusStored, CswStored, Stepped, HasArrived, Interrupted, Shown, WasReset};
+ghost use Rattle.s360_laws.specs.Events.{WithCode, StatusStored, CswStored, Stepped, HasArrived, Interrupted, Shown, WasReset};
 ghost use Rattle.s360_laws.specs.Ledger.{since, times_stored, SinceAcceptance, SinceReset};
 ghost use Rattle.s360_laws.specs.Machine.{answers, exchanges};
 ghost use Rattle.s360_laws.specs.declared.condition.ConditionCode.TheVariants.{Zero, One, Two, Three};
@@ -17,13 +17,13 @@ ghost use Rattle.s360_worked.specs.Small.{halted_in_motion, asked_pending, parts
 /// No device answers at an address that is not attached, nor at one of another channel. A device that is attached is available;
 /// Halt I/O to it stores a status of zero.
 pub fn idle_channel()
-    ensures { answers asked_idle (channel (program (ccw 0x06 0x600 0 4)) small_drive) ≡ Condition Three ∷ Condition Three ∷ Condition Three ∷ Condition Three ∷ Condition Three ∷ Condition Three ∷ Condition Zero ∷ Condition Zero ∷ StatusStored (record { 0 = 0 }) (record { 0 = 0 }) ∷ Stepped 0 ∷ Interrupted None ∷ [] }
+    ensures { answers asked_idle (channel (program (ccw 0x06 0x600 0 4)) small_drive) ≡ WithCode Three ∷ WithCode Three ∷ WithCode Three ∷ WithCode Three ∷ WithCode Three ∷ WithCode Three ∷ WithCode Zero ∷ WithCode Zero ∷ StatusStored (record { 0 = 0 }) (record { 0 = 0 }) ∷ Stepped 0 ∷ Interrupted None ∷ [] }
 {}
 
 /// While a program runs storage is seen as it is by then, and the channel is busy to every instruction, but that another channel's address
 /// is none of its devices. Halt I/O ends the program, whatever device it names.
 pub fn busy_channel()
-    ensures { answers asked_running (channel (program (ccw 0x06 0x600 0 4)) small_drive) ≡ Condition Zero ∷ Stepped 2 ∷ Shown (Some (0xC1 ∷ 0xC1 ∷ 0 ∷ [])) ∷ Condition Two ∷ Condition Three ∷ Condition Two ∷ Condition Two ∷ Condition Two ∷ Condition Two ∷ Condition One ∷ CswStored (csw 0x408 0x0C 0 2) ∷ [] }
+    ensures { answers asked_running (channel (program (ccw 0x06 0x600 0 4)) small_drive) ≡ WithCode Zero ∷ Stepped 2 ∷ Shown (Some (0xC1 ∷ 0xC1 ∷ 0 ∷ [])) ∷ WithCode Two ∷ WithCode Three ∷ WithCode Two ∷ WithCode Two ∷ WithCode Two ∷ WithCode Two ∷ WithCode One ∷ CswStored (csw 0x408 0x0C 0 2) ∷ [] }
 {}
 
 /// An arm arrives once, and only at its own address. Of two that have arrived the lower interrupts first, and Test I/O takes the
@@ -59,7 +59,7 @@ pub fn halt_of_an_arm()
 
 /// While an ending pends, Test I/O and Start I/O to another device find the channel busy, Halt I/O says that an interruption pends, and the ending is still there.
 pub fn other_device_while_an_ending_pends()
-    ensures { answers asked_pending (channel_with (program (ccw 0x06 0x600 0 4)) (device_with 0x90 small_drive ∷ device_with 0x91 small_drive ∷ [])) ≡ Condition Zero ∷ Stepped 5 ∷ Condition Two ∷ Condition Zero ∷ Condition Two ∷ Condition One ∷ CswStored (csw 0x408 0x0C 0 0) ∷ Condition Zero ∷ [] }
+    ensures { answers asked_pending (channel_with (program (ccw 0x06 0x600 0 4)) (device_with 0x90 small_drive ∷ device_with 0x91 small_drive ∷ [])) ≡ WithCode Zero ∷ Stepped 5 ∷ WithCode Two ∷ WithCode Zero ∷ WithCode Two ∷ WithCode One ∷ CswStored (csw 0x408 0x0C 0 0) ∷ WithCode Zero ∷ [] }
 {}
 
 /// Start I/O and Halt I/O that store status replace the two status bytes of the channel status word and nothing else.
@@ -70,5 +70,5 @@ pub fn status_alone_is_stored()
 /// A reset takes away the device end of an arm in motion, and an ending that pends.
 pub fn reset_of_what_is_owed()
     ensures motion { answers reset_in_motion (channel recalibrate small_drive) ≡ StatusStored (record { 0 = 0x08 }) (record { 0 = 0 }) ∷ WasReset None ∷ HasArrived false ∷ Interrupted None ∷ StatusStored (record { 0 = 0x08 }) (record { 0 = 0 }) ∷ [] }
-    ensures ending { answers reset_while_pending (channel (program (ccw 0x06 0x600 0 4)) small_drive) ≡ Condition Zero ∷ Stepped 5 ∷ WasReset None ∷ Interrupted None ∷ Condition Zero ∷ [] }
+    ensures ending { answers reset_while_pending (channel (program (ccw 0x06 0x600 0 4)) small_drive) ≡ WithCode Zero ∷ Stepped 5 ∷ WasReset None ∷ Interrupted None ∷ WithCode Zero ∷ [] }
 {}

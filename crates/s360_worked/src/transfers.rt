@@ -3,7 +3,7 @@
 //! 'Program-Controlled Interruption'.
 
 ghost use Rattle.std.specs.Prelude.{◌≡◌, replicate, [], ◌∷◌, ◌++◌, Some, Ok};
-ghost use Rattle.s360_laws.specs.Events.{Hio, Condition, Stepped, Interrupted};
+ghost use Rattle.s360_laws.specs.Events.{Hio, WithCode, Stepped, Interrupted};
 ghost use Rattle.s360_laws.specs.Machine.{answers};
 ghost use Rattle.s360_laws.specs.declared.condition.ConditionCode.TheVariants.{Zero, Two};
 ghost use Rattle.s360_words.specs.Storage.{with_key};
@@ -50,7 +50,7 @@ pub fn count_too_short()
 pub fn interruption_that_waits()
     ensures chained { seen 0 0 (run (units 9) (start small_drive interruption_before_fetch)) ≡ saw 2 (csw 0x410 0x0C 0x80 1) (sense_of 0x00 0x00) [] }
     ensures in_data { seen 0 0 (run (units 9) (start small_drive interruption_in_data)) ≡ saw 7 (csw 0x410 0x0C 0x80 0) (sense_of 0x00 0x00) [] }
-    ensures halted { answers (steps_and 1 (Hio 0x190)) (channel (program (ccw 0x06 0x600 0x08 4)) small_drive) ≡ Condition Zero ∷ Stepped 1 ∷ Condition Two ∷ Interrupted (Some (0x190, csw 0x408 0x0C 0x80 3)) ∷ [] }
+    ensures halted { answers (steps_and 1 (Hio 0x190)) (channel (program (ccw 0x06 0x600 0x08 4)) small_drive) ≡ WithCode Zero ∷ Stepped 1 ∷ WithCode Two ∷ Interrupted (Some (0x190, csw 0x408 0x0C 0x80 3)) ∷ [] }
 {}
 
 /// The high bytes of a seek address count: cylinder 256, bin 1 and head 256 are not there.

@@ -1,7 +1,7 @@
 //! Calls of a channel that a deck has no words for: any address of 16 bits, any place in storage, and what the channel shows.
 
 use crate::stage::Disks;
-use crate::words::unit_address;
+use crate::words::device_address;
 use anyhow::{Result, bail};
 use s360_channel::{SubchannelView, View};
 use s360_deck::AnswerLine;
@@ -23,22 +23,22 @@ pub(crate) fn call(alloc: Global, channel: &mut Disks, line: &str) -> Result<Str
             let kept = channel.poke(address(at)?, bytes(alloc, body)?.as_slice());
             line_of(alloc, &Answer::Store(kept.is_ok()))
         }
-        words => line_of(alloc, &call_unit(channel, words)?),
+        words => line_of(alloc, &call_device(channel, words)?),
     }
 }
 
-fn call_unit(channel: &mut Disks, words: &[&str]) -> Result<Answer> {
+fn call_device(channel: &mut Disks, words: &[&str]) -> Result<Answer> {
     Ok(match words {
         ["sio", address] => {
-            let address = unit_address(address)?;
+            let address = device_address(address)?;
             Answer::Sio(address, channel.sio(address))
         }
         ["tio", address] => {
-            let address = unit_address(address)?;
+            let address = device_address(address)?;
             Answer::Tio(address, channel.tio(address))
         }
         ["hio", address] => {
-            let address = unit_address(address)?;
+            let address = device_address(address)?;
             Answer::Hio(address, channel.hio(address))
         }
         ["key", at, key] => {
@@ -47,7 +47,7 @@ fn call_unit(channel: &mut Disks, words: &[&str]) -> Result<Answer> {
         }
         ["tch"] => Answer::Tch(channel.tch()),
         ["arrive", address] => {
-            let address = unit_address(address)?;
+            let address = device_address(address)?;
             Answer::Arrive(address, channel.arrive(address))
         }
         ["step", units] => Answer::Step(channel.step(units.parse::<u16>()?)),

@@ -2,7 +2,7 @@
 
 use crate::stage::Disks;
 use crate::volume::Volumes;
-use crate::words::unit_address;
+use crate::words::device_address;
 use anyhow::{Result, bail};
 use ckd_image::Image;
 use s360_words::Storage;
@@ -109,9 +109,9 @@ impl Left {
             ["holds", at, body] => self.holds(address(at)?, bytes(alloc, body)?.as_slice()),
             ["unsaved", address, cylinder, head] => {
                 let track = (
-                    unit_address(address)?,
-                    unit_address(cylinder)?,
-                    unit_address(head)?,
+                    device_address(address)?,
+                    device_address(cylinder)?,
+                    device_address(head)?,
                 );
                 Ok(self.unsaved == Some(track))
             }

@@ -1,7 +1,7 @@
 //! A channel and its drives, as the lines of a row make them.
 
 use crate::volume::Volumes;
-use crate::words::unit_address;
+use crate::words::device_address;
 use anyhow::{Context, Result, bail};
 use ckd_image::Image;
 use s360_channel::{AttachFault, Channel};
@@ -147,7 +147,7 @@ impl Stage {
     /// Whether a Sense at an input/output address starts, runs to its end, and gives these bytes. It has its word at 700, and
     /// leaves the channel address word there.
     pub(crate) fn senses(&mut self, alloc: Global, address: &str, wanted: &str) -> Result<bool> {
-        let address = unit_address(address)?;
+        let address = device_address(address)?;
         let wanted = bytes(alloc, wanted)?;
         if !start_sense(&mut self.channel, address) {
             return Ok(false);

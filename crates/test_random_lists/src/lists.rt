@@ -69,7 +69,7 @@ fn add_turn(chance: &mut Chance, drives: u32, events: &mut Vec<Event>) -> Result
 
 // A start, other events between its steps, and its ends.
 fn add_program(chance: &mut Chance, drives: u32, events: &mut Vec<Event>) -> Result<()> {
-    let address = unit_address(chance, drives);
+    let address = device_address(chance, drives);
     events.push(store_address_word(chance))?;
     events.push(Event::Sio(address))?;
     let between = chance.below(4);
@@ -89,7 +89,7 @@ fn add_program(chance: &mut Chance, drives: u32, events: &mut Vec<Event>) -> Res
 
 // An arm is sent on its way, and arrives, while the program of a drive runs and others are tested.
 fn add_moving_arm(chance: &mut Chance, drives: u32, events: &mut Vec<Event>) -> Result<()> {
-    let moving = unit_address(chance, drives);
+    let moving = device_address(chance, drives);
     events.push(Event::Interrupt)?;
     events.push(stored(CHAINS, &MOVE))?;
     let [_, a0, a1, a2] = CHAINS.to_be_bytes();
@@ -97,13 +97,13 @@ fn add_moving_arm(chance: &mut Chance, drives: u32, events: &mut Vec<Event>) -> 
     events.push(Event::Sio(moving))?;
     events.push(store_chain(chance, 1))?;
     events.push(store_address_word(chance))?;
-    events.push(Event::Sio(unit_address(chance, drives)))?;
+    events.push(Event::Sio(device_address(chance, drives)))?;
     for _ in 0..chance.below(4) {
         events.push(Event::Step(chance.below(4).min(65_535) as u16))?;
         events.push(match chance.below(3) {
             0 => Event::Arrive(moving),
             1 => Event::Tio(moving),
-            _ => Event::Tio(unit_address(chance, drives)),
+            _ => Event::Tio(device_address(chance, drives)),
         })?;
     }
     Ok(())
@@ -112,12 +112,12 @@ fn add_moving_arm(chance: &mut Chance, drives: u32, events: &mut Vec<Event>) -> 
 // An event, of those that programs need most of all.
 fn random_event(chance: &mut Chance, drives: u32) -> Event {
     match chance.below(100) {
-        0..=21 => Event::Sio(unit_address(chance, drives)),
+        0..=21 => Event::Sio(device_address(chance, drives)),
         22..=43 => Event::Step(units(chance)),
         44..=58 => Event::Interrupt,
-        59..=68 => Event::Arrive(unit_address(chance, drives)),
-        69..=74 => Event::Tio(unit_address(chance, drives)),
-        75..=79 => Event::Hio(unit_address(chance, drives)),
+        59..=68 => Event::Arrive(device_address(chance, drives)),
+        69..=74 => Event::Tio(device_address(chance, drives)),
+        75..=79 => Event::Hio(device_address(chance, drives)),
         80..=82 => Event::Tch,
         83 => Event::Reset,
         84..=86 => show(chance),
@@ -132,7 +132,7 @@ fn random_event(chance: &mut Chance, drives: u32) -> Event {
 }
 
 // Mostly that of one of the drives.
-fn unit_address(chance: &mut Chance, drives: u32) -> u16 {
+fn device_address(chance: &mut Chance, drives: u32) -> u16 {
     let device = chance.below(drives).min(255) as u16;
     match chance.below(30) {
         0 => device.saturating_add(0x290),

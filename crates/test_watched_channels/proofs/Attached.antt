@@ -5,19 +5,19 @@ use Rattle.s360_words.specs.Storage.{Storage, cleared}
 use Rattle.s360_channel.specs.Channel.{ChannelState}
 use Rattle.s360_channel.specs.declared.subchannel.Subchannel.TheVariants.{Idle}
 use Rattle.test_watched_channels.specs.declared.disks.Disk.{Disk}
-use Rattle.test_watched_channels.specs.Disks.{devices_of, units_at}
+use Rattle.test_watched_channels.specs.Disks.{devices_of, devices_at}
 
--- channel 1 over a storage of zeros is idle, with units at these addresses
-abbrev pub HasUnits : ChannelState → List ℕ → Type 0
-HasUnits c devices =
-    (c.number ≡ 1) × (c.storage ≡ cleared 8192) × (c.subchannel ≡ Idle) × (units_at c.units ≡ devices)
+-- channel 1 over a storage of zeros is idle, with drives at these addresses
+abbrev pub HasDevices : ChannelState → List ℕ → Type 0
+HasDevices c devices =
+    (c.number ≡ 1) × (c.storage ≡ cleared 8192) × (c.subchannel ≡ Idle) × (devices_at c.drives ≡ devices)
 
-pub none_attached : (c : ChannelState) (storage : Storage) → c ≡ record { number = 1; storage = storage; subchannel = Idle; units = [] } → storage ≡ cleared 8192 → HasUnits c []
+pub none_attached : (c : ChannelState) (storage : Storage) → c ≡ record { number = 1; storage = storage; subchannel = Idle; drives = [] } → storage ≡ cleared 8192 → HasDevices c []
 none_attached c storage is made = (
   ap (λ (v : ChannelState). v.number) is,
   ap (λ (v : ChannelState). v.storage) is ∙ made,
   ap (λ (v : ChannelState). v.subchannel) is,
-  ap (λ (v : ChannelState). units_at v.units) is,
+  ap (λ (v : ChannelState). devices_at v.drives) is,
 )
 
 next_device : (disks : List Disk) (n : ℕ) (d : Disk) → n < length disks → d ≡ get_or disks n d → devices_of (take (n + 1) disks) ≡ devices_of (take n disks) ++ d.device ∷ []
@@ -25,7 +25,7 @@ next_device disks n d there is =
     ap devices_of (take_more disks n d there ∙ ap (λ (x : Disk). take n disks ++ x ∷ []) (sym is))
     ∙ map-append (λ (x : Disk). x.device) (take n disks) (d ∷ [])
 
-pub one_attached : (old new : ChannelState) (disks : List Disk) (n : ℕ) (d : Disk) → n < length disks → d ≡ get_or disks n d → HasUnits old (devices_of (take n disks)) → units_at new.units ≡ units_at old.units ++ d.device ∷ [] → new ≡ record old { units = new.units } → HasUnits new (devices_of (take (n + 1) disks))
+pub one_attached : (old new : ChannelState) (disks : List Disk) (n : ℕ) (d : Disk) → n < length disks → d ≡ get_or disks n d → HasDevices old (devices_of (take n disks)) → devices_at new.drives ≡ devices_at old.drives ++ d.device ∷ [] → new ≡ record old { drives = new.drives } → HasDevices new (devices_of (take (n + 1) disks))
 one_attached old new disks n d there is before devices others = (
   ap (λ (v : ChannelState). v.number) others ∙ before.0,
   ap (λ (v : ChannelState). v.storage) others ∙ before.1,

@@ -4,7 +4,7 @@ ghost use Rattle.std.specs.Prelude.{◌≡◌, ◌++◌, ◌∷◌, [], ◌↔�
 ghost use Rattle.ckd_image.specs.Header.{head_of};
 ghost use Rattle.s360_words.specs.Storage.{cleared};
 ghost use Rattle.s360_channel.specs.declared.subchannel.Subchannel.TheVariants.{Idle};
-ghost use Rattle.test_watched_channels.specs.Disks.{devices_of, units_at};
+ghost use Rattle.test_watched_channels.specs.Disks.{devices_of, devices_at};
 
 use crate::watched::{Watch, WatchedStore};
 use anyhow::{Result, bail};
@@ -113,7 +113,7 @@ pub fn channel_over<'a>(
     ensures number { IfOk result (λ channel. channel.number ≡ 1) }
     ensures storage { IfOk result (λ channel. channel.storage ≡ cleared 8192) }
     ensures idle { IfOk result (λ channel. channel.subchannel ≡ Idle) }
-    ensures devices { IfOk result (λ channel. units_at channel.units ≡ devices_of disks.now) }
+    ensures devices { IfOk result (λ channel. devices_at channel.drives ≡ devices_of disks.now) }
 {
     let storage = Storage::new(alloc, STORAGE)?;
     let mut channel = match Channel::new(1, storage) {
@@ -133,8 +133,8 @@ fn attach<'a>(
     disk: &Disk,
     failure: Failure,
 ) -> Result<()>
-    ensures devices { OnOk result (units_at channel.new.units ≡ units_at channel.old.units ++ disk.now.device ∷ []) }
-    ensures others { channel.new ≡ record channel.old { units = channel.new.units } }
+    ensures devices { OnOk result (devices_at channel.new.drives ≡ devices_at channel.old.drives ++ disk.now.device ∷ []) }
+    ensures others { channel.new ≡ record channel.old { drives = channel.new.drives } }
 {
     let at = if failure.device == disk.device {
         failure.at

@@ -12,20 +12,42 @@ pub(crate) struct Answered<'a>(pub(crate) &'a Answer);
 impl fmt::Display for Answered<'_> {
     fn fmt<W: fmt::Write>(&self, f: &mut fmt::Formatter<W>) -> fmt::Result {
         match self.0 {
-            Answer::Sio(unit, condition) => write!(f, "SIO {unit:03X} {}", Started(*condition)),
-            Answer::Tio(unit, condition) => write!(f, "TIO {unit:03X} {}", Tested(*condition)),
-            Answer::Hio(unit, condition) => write!(f, "HIO {unit:03X} {}", Halted(*condition)),
+            Answer::Sio(address, condition) => write!(
+                f,
+                "SIO {address:03X} {}",
+                Started(*condition)
+            ),
+            Answer::Tio(address, condition) => write!(
+                f,
+                "TIO {address:03X} {}",
+                Tested(*condition)
+            ),
+            Answer::Hio(address, condition) => write!(
+                f,
+                "HIO {address:03X} {}",
+                Halted(*condition)
+            ),
             Answer::Tch(condition) => write!(f, "TCH {}", TestedChannel(*condition)),
             Answer::Step(done) => write!(f, "STEP {done}"),
             Answer::Run(done) => write!(f, "RUN {done}"),
-            Answer::Arrive(unit, true) => write!(f, "ARRIVE {unit:03X}: the arm has come to rest"),
-            Answer::Arrive(unit, false) => write!(f, "ARRIVE {unit:03X}: no arm was in motion"),
-            Answer::Interrupt(None) => write!(f, "INT none"),
-            Answer::Interrupt(Some((unit, csw))) => write!(f, "INT {unit:03X} {}", Word(*csw)),
-            Answer::Reset(None) => write!(f, "RESET"),
-            Answer::Reset(Some((unit, cylinder, head))) => write!(
+            Answer::Arrive(address, true) => write!(
                 f,
-                "RESET; {unit:03X} has lost the track of cylinder {cylinder} head {head}"
+                "ARRIVE {address:03X}: the arm has come to rest"
+            ),
+            Answer::Arrive(address, false) => write!(
+                f,
+                "ARRIVE {address:03X}: no arm was in motion"
+            ),
+            Answer::Interrupt(None) => write!(f, "INT none"),
+            Answer::Interrupt(Some((address, csw))) => write!(
+                f,
+                "INT {address:03X} {}",
+                Word(*csw)
+            ),
+            Answer::Reset(None) => write!(f, "RESET"),
+            Answer::Reset(Some((address, cylinder, head))) => write!(
+                f,
+                "RESET; {address:03X} has lost the track of cylinder {cylinder} head {head}"
             ),
             Answer::Store(true) => write!(f, "STORE"),
             Answer::Store(false) => write!(f, "STORE outside storage"),

@@ -17,7 +17,7 @@ impl<W: Write + Drop> Tracer<W> {
     /// What came of a start.
     pub(crate) fn started<S: ImageStore>(
         &mut self,
-        unit: u16,
+        address: u16,
         condition: Condition<Status>,
         channel: &Channel<S>,
     ) {
@@ -31,7 +31,7 @@ impl<W: Write + Drop> Tracer<W> {
                 }
             }
             Condition::Stored(status) if !reasons::is_busy(status.unit) => {
-                self.stored((unit % 256) as u8, status, channel);
+                self.stored((address % 256) as u8, status, channel);
             }
             _ => {}
         }

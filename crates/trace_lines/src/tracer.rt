@@ -95,8 +95,8 @@ impl<W: Write + Drop> Tracer<W> {
             _ => {}
         }
         self.put(&Answered(answer));
-        if let Answer::Sio(unit, condition) = answer {
-            self.started(*unit, *condition, channel);
+        if let Answer::Sio(address, condition) = answer {
+            self.started(*address, *condition, channel);
         }
         self.note(channel);
     }

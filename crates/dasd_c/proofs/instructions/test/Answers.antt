@@ -1,7 +1,7 @@
 use Rattle.std.proofs.Common.{rules, ◌∙◌, w32}
 use Rattle.std.proofs.lemmas.Int.{to_z-of_z}
 use Rattle.s360_events.specs.Seen.{condition_seen}
-use Rattle.s360_laws.specs.Events.{Condition}
+use Rattle.s360_laws.specs.Events.{WithCode}
 use Rattle.s360_laws.specs.declared.condition.ConditionCode.TheVariants.{One}
 use Rattle.dasd_c.specs.Calls.{Tells}
 use Rattle.dasd_c.proofs.instructions.test.Goals as goal
@@ -10,7 +10,7 @@ use Rattle.dasd_c.proofs.instructions.test.Goals as goal
 pub returns : goal.returns
 unfolding Tells
 returns c = λ m stands. record {
-  answer = condition_seen (λ u. Condition One) c.tch.result;
+  answer = condition_seen (λ u. WithCode One) c.tch.result;
   told = to_z-of_z w32 c.of_test.result (search rules) ∙ c.of_test.ensures;
   does = c.tch.ensures m stands;
 }

@@ -3,24 +3,24 @@ use Rattle.s360_channel.proofs.Asked.{start_other, start_busy, start_none, start
 use Rattle.s360_channel.proofs.starting.start_io.Goals as goal
 
 pub returns-then-address-number-clause-does : goal.returns-then-address-number-clause-does
-returns-then-address-number-clause-does g c = λ m st. start_other c.args.address c.args.number c.args.storage.now c.args.subchannel.now c.args.units.now m st c.if-address-number.true
+returns-then-address-number-clause-does g c = λ m st. start_other c.args.address c.args.number c.args.storage.now c.args.subchannel.now c.args.drives.now m st c.if-address-number.true
 
 pub returns-in_default : goal.returns-in_default
 returns-in_default g c = record {
-  does = λ m st. start_busy c.args.address c.args.number c.args.storage.now c.args.subchannel.now c.args.units.now m st c.if-address-number.false c.in_default.not-Idle;
+  does = λ m st. start_busy c.args.address c.args.number c.args.storage.now c.args.subchannel.now c.args.drives.now m st c.if-address-number.false c.in_default.not-Idle;
   images = refl;
 }
 
 pub returns-in_default-place_of-clause-does : goal.returns-in_default-place_of-clause-does
 returns-in_default-place_of-clause-does g c = λ m st.
-    does_as _ m _ c.args.number c.args.storage.now c.args.units.now c.args.subchannel.now _ c.in-Idle.is
-    (start_none c.args.address c.args.number c.args.storage.now c.args.units.now m (stands_as c.args.number c.args.storage.now c.args.units.now m c.args.subchannel.now _ c.in-Idle.is st) c.if-address-number.false (sym c.place_of.ensures ∙ c.in_default-place_of.is))
+    does_as _ m _ c.args.number c.args.storage.now c.args.drives.now c.args.subchannel.now _ c.in-Idle.is
+    (start_none c.args.address c.args.number c.args.storage.now c.args.drives.now m (stands_as c.args.number c.args.storage.now c.args.drives.now m c.args.subchannel.now _ c.in-Idle.is st) c.if-address-number.false (sym c.place_of.ensures ∙ c.in_default-place_of.is))
 
 pub start_device-requires : goal.start_device-requires
-start_device-requires g c = record { idle = c.in-Idle.is; rests = rests_there _ c.args.number c.args.storage.now c.args.units.now c.in-Some.place (is_as c.args.number c.args.storage.now c.args.units.now c.args.subchannel.now _ c.in-Idle.is c.requires) (sym c.in-Some.ensures) }
+start_device-requires g c = record { idle = c.in-Idle.is; rests = rests_there _ c.args.number c.args.storage.now c.args.drives.now c.in-Some.place (is_as c.args.number c.args.storage.now c.args.drives.now c.args.subchannel.now _ c.in-Idle.is c.requires) (sym c.in-Some.ensures) }
 
 pub returns-clause-does : goal.returns-clause-does
 returns-clause-does g c = λ m st.
     let k = c.start_device in
-    start_at c.args.address c.args.number c.args.storage.now c.args.units.now m (stands_as c.args.number c.args.storage.now c.args.units.now m c.args.subchannel.now _ c.in-Idle.is st) c.if-address-number.false c.in-Some.place _ k.new.storage k.new.subchannel k.new.units
+    start_at c.args.address c.args.number c.args.storage.now c.args.drives.now m (stands_as c.args.number c.args.storage.now c.args.drives.now m c.args.subchannel.now _ c.in-Idle.is st) c.if-address-number.false c.in-Some.place _ k.new.storage k.new.subchannel k.new.drives
     (sym c.in-Some.ensures) k.ensures.does k.ensures.images

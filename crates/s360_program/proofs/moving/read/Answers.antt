@@ -4,13 +4,13 @@ use Rattle.s360_words.specs.Storage.{Storage, stored, may_store}
 use Rattle.s360_words.specs.Words.{skips}
 use Rattle.ckd_drive.specs.Work.{given_now, passed_of}
 use Rattle.s360_program.specs.Advances.{KeepsStorage}
-use Rattle.s360_program.specs.Steps.{PassesBy}
+use Rattle.s360_program.specs.Steps.{MovesBytesBy}
 use Rattle.s360_program.specs.declared.conditions.Condition.TheVariants.{ProgramCheck, ProtectionCheck}
-use Rattle.s360_program.proofs.Passing.{gives_so, gives_not, may_be, outside, protected, lends, lends_first, stores_none, keeps_put}
+use Rattle.s360_program.proofs.MovingBytes.{gives_so, gives_not, may_be, outside, protected, lends, lends_first, stores_none, keeps_put}
 use Rattle.s360_program.proofs.moving.read.Goals as goal
 
-pub returns-then-skips-clause-passes : goal.returns-then-skips-clause-passes
-returns-then-skips-clause-passes g c =
+pub returns-then-skips-clause-moves : goal.returns-then-skips-clause-moves
+returns-then-skips-clause-moves g c =
     let a = c.args in
     let k = sym c.skips.ensures ∙ c.if-skips.true in
     gives_so a.most a.key a.ccw a.address a.most a.storage.now a.storage.now a.drive.now c.pass.new.self a.drive.now.work c.requires.moving c.requires.gives c.requires.some (omega arith) c.requires.left
@@ -22,12 +22,12 @@ slice_bounds-given-end g c =
     let d = c.args.drive.now in
     c.from-2.ensures ∙ sym (lends d d.work c.args.most c.from-2.result c.next_bytes.result.now c.requires.moving c.requires.gives c.requires.left c.from-2.ensures c.next_bytes.ensures.bytes).1
 
-pub returns-then-address-size-clause-passes : goal.returns-then-address-size-clause-passes
-returns-then-address-size-clause-passes g c =
+pub returns-then-address-size-clause-moves : goal.returns-then-address-size-clause-moves
+returns-then-address-size-clause-moves g c =
     let a = c.args in
     let n : c.store-n.result ≡ 0 = omega arith in
     let same = stores_none a.storage.now c.store-n.new.self a.address c.store-n.result (take c.from-2.result c.next_bytes.result.now) n c.store-n.ensures.change in
-    subst (λ (s : Storage). PassesBy a.key a.ccw a.address a.most (Err ProgramCheck) a.storage.now s a.drive.now a.drive.now a.drive.now.work) (sym same)
+    subst (λ (s : Storage). MovesBytesBy a.key a.ccw a.address a.most (Err ProgramCheck) a.storage.now s a.drive.now a.drive.now a.drive.now.work) (sym same)
     (gives_not ProgramCheck a.key a.ccw a.address a.most a.storage.now a.drive.now a.drive.now.work c.requires.moving c.requires.gives refl
     (outside a.storage.now a.key a.address (skips a.ccw) (sym c.skips.ensures ∙ c.if-skips.false) (omega (arith, c.size.ensures.size, ap (λ (s : Storage). length s.bytes) same))))
 
@@ -41,14 +41,14 @@ at_zero s key a n e h = sym (ap (λ n. may_store s key (a + n)) e ∙ ap (may_st
     none : (a : ℕ) → a + 0 ≡ a
     none a = omega arith
 
-pub returns-else-address-size-clause-passes : goal.returns-else-address-size-clause-passes
-returns-else-address-size-clause-passes g c =
+pub returns-else-address-size-clause-moves : goal.returns-else-address-size-clause-moves
+returns-else-address-size-clause-moves g c =
     let a = c.args in
     let d = a.drive.now in
     let n : c.store-n.result ≡ 0 = omega arith in
     let same = stores_none a.storage.now c.store-n.new.self a.address c.store-n.result (take c.from-2.result c.next_bytes.result.now) n c.store-n.ensures.change in
     let long = (lends d d.work a.most c.from-2.result c.next_bytes.result.now c.requires.moving c.requires.gives c.requires.left c.from-2.ensures c.next_bytes.ensures.bytes).1 in
-    subst (λ (s : Storage). PassesBy a.key a.ccw a.address a.most (Err ProtectionCheck) a.storage.now s d d d.work) (sym same)
+    subst (λ (s : Storage). MovesBytesBy a.key a.ccw a.address a.most (Err ProtectionCheck) a.storage.now s d d d.work) (sym same)
     (gives_not ProtectionCheck a.key a.ccw a.address a.most a.storage.now d d.work c.requires.moving c.requires.gives refl
     (protected a.storage.now a.key a.address (skips a.ccw) (sym c.skips.ensures ∙ c.if-skips.false) (omega (arith, c.size.ensures.size, ap (λ (s : Storage). length s.bytes) same))
     (at_zero a.storage.now a.key a.address c.store-n.result n (c.store-n.ensures.next (omega (arith, n, long, c.requires.some))))))
@@ -57,8 +57,8 @@ pub returns-else-address-size-clause-storage : goal.returns-else-address-size-cl
 returns-else-address-size-clause-storage g c =
     subst (KeepsStorage c.args.storage.now) (sym c.store-n.ensures.change) (keeps_put c.args.storage.now c.args.address (take c.store-n.result (take c.from-2.result c.next_bytes.result.now)))
 
-pub returns-clause-passes : goal.returns-clause-passes
-returns-clause-passes g c =
+pub returns-clause-moves : goal.returns-clause-moves
+returns-clause-moves g c =
     let a = c.args in
     let d = a.drive.now in
     let n = c.store-n in

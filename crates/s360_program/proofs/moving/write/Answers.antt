@@ -1,10 +1,10 @@
 use Rattle.std.proofs.Common.{arith, ◌+◌, ◌≤◌, ◌<◌, length}
 use Rattle.std.proofs.lemmas.Bool.Decides.{nat_tests}
-use Rattle.s360_program.proofs.Passing.{takes_so}
+use Rattle.s360_program.proofs.MovingBytes.{takes_so}
 use Rattle.s360_program.proofs.moving.write.Goals as goal
 
-pub returns-clause-passes : goal.returns-clause-passes
-returns-clause-passes g c =
+pub returns-clause-moves : goal.returns-clause-moves
+returns-clause-moves g c =
     let a = c.args in
     let b = c.bytes_from-bytes in
     let some : 0 < length b.result.now = grind (arith, nat_tests) in

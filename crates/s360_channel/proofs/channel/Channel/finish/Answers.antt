@@ -9,7 +9,7 @@ pub into_images-requires : goal.into_images-requires
 into_images-requires g c =
     let m = c.self.invariant.machine in
     let d = c.reset-reset.ensures.does m (subst (λ (o : ChannelState). StandsFor o m) c.self.view_is c.self.invariant.stands) in
-    (search (last_but_one_fits), subst (λ (o : ChannelState). AllRest o.units) (sym c.self-2.view_is) (rests_after_reset c.reset-reset.new.self d.fault m d.stands))
+    (search (last_but_one_fits), subst (λ (o : ChannelState). AllRest o.drives) (sym c.self-2.view_is) (rests_after_reset c.reset-reset.new.self d.fault m d.stands))
 
 pub returns : goal.returns
 returns g c = λ m s. record {
@@ -17,6 +17,6 @@ returns g c = λ m s. record {
   reset = c.reset-reset.ensures.does m s;
   calls = c.reset-reset.ensures.calls;
   same_storage = ap (λ (o : ChannelState). o.storage) c.self-2.view_is;
-  same_images = c.into_images.ensures.images ∙ ap (λ (o : ChannelState). images_of o.units) c.self-2.view_is;
-  volumes = subst (λ (o : ChannelState). map (λ u. u.drive.image.slots) o.units ≡ map (λ u. u.drive.state.volume.slots) o.units) c.self-2.view_is c.into_images.ensures.volumes;
+  same_images = c.into_images.ensures.images ∙ ap (λ (o : ChannelState). images_of o.drives) c.self-2.view_is;
+  volumes = subst (λ (o : ChannelState). map (λ u. u.drive.image.slots) o.drives ≡ map (λ u. u.drive.state.volume.slots) o.drives) c.self-2.view_is c.into_images.ensures.volumes;
 }

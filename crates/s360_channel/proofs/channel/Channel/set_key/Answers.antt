@@ -9,12 +9,12 @@ use Rattle.s360_channel.proofs.channel.Channel.set_key.Goals.{then-set_key, else
 -- src/processor.rt
 pub invariant_of-self : goal.invariant_of-self
 invariant_of-self g c =
-    channel_kept (SetKey c.args.at c.args.key) (KeyOf c.args.at c.args.key) (λ m. refl) (record { number = c.self.inside.number; storage = c.self.inside.storage; subchannel = c.self.inside.subchannel; units = c.self.inside.units }) c.set_key.new.self c.set_key.result c.set_key.result c.set_key.ensures.answer c.set_key.ensures.change refl c.self.invariant
+    channel_kept (SetKey c.args.at c.args.key) (KeyOf c.args.at c.args.key) (λ m. refl) (record { number = c.self.inside.number; storage = c.self.inside.storage; subchannel = c.self.inside.subchannel; drives = c.self.inside.drives }) c.set_key.new.self c.set_key.result c.set_key.result c.set_key.ensures.answer c.set_key.ensures.change refl c.self.invariant
 
 -- src/processor.rt
 pub returns-clause-does : goal.returns-clause-does
 returns-clause-does g c m h =
-    does_kept (SetKey c.args.at c.args.key) (KeyOf c.args.at c.args.key) (λ m. refl) (record { number = c.self.inside.number; storage = c.self.inside.storage; subchannel = c.self.inside.subchannel; units = c.self.inside.units }) c.set_key.new.self c.set_key.result (is_ok c.if-set_key.result) c.set_key.ensures.answer c.set_key.ensures.change told m (subst (λ x. StandsFor x m) (sym c.self.view_is) h)
+    does_kept (SetKey c.args.at c.args.key) (KeyOf c.args.at c.args.key) (λ m. refl) (record { number = c.self.inside.number; storage = c.self.inside.storage; subchannel = c.self.inside.subchannel; drives = c.self.inside.drives }) c.set_key.new.self c.set_key.result (is_ok c.if-set_key.result) c.set_key.ensures.answer c.set_key.ensures.change told m (subst (λ x. StandsFor x m) (sym c.self.view_is) h)
   where
     told : is_ok c.if-set_key.result ≡ c.set_key.result
     told = elim c.if-set_key.branch [

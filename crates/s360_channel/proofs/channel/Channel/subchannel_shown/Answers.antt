@@ -6,10 +6,10 @@ use Rattle.s360_channel.proofs.channel.Channel.subchannel_shown.Goals as goal
 -- src/processor.rt
 pub device-requires : goal.device-requires
 device-requires g c =
-    place_there (record { number = c.self.inside.number; storage = c.self.inside.storage; subchannel = c.self.inside.subchannel; units = c.self.inside.units }) c.self.invariant.machine c.in-Working.place c.in-Working.running c.self.invariant.stands c.in-Working.is
+    place_there (record { number = c.self.inside.number; storage = c.self.inside.storage; subchannel = c.self.inside.subchannel; drives = c.self.inside.drives }) c.self.invariant.machine c.in-Working.place c.in-Working.running c.self.invariant.stands c.in-Working.is
 
 -- src/processor.rt
 pub returns-in-Working : goal.returns-in-Working
 returns-in-Working g c m h =
-    working_shown (record { number = c.self.inside.number; storage = c.self.inside.storage; subchannel = c.self.inside.subchannel; units = c.self.inside.units }) m c.in-Working.place c.in-Working.running c.device.result c.interruption_asked.result
-    (subst (λ x. StandsFor x m) (sym c.self.view_is) h) c.in-Working.is c.device.ensures (λ w. c.interruption_asked.ensures c.self.inside.storage w.unit.drive)
+    working_shown (record { number = c.self.inside.number; storage = c.self.inside.storage; subchannel = c.self.inside.subchannel; drives = c.self.inside.drives }) m c.in-Working.place c.in-Working.running c.device.result c.interruption_asked.result
+    (subst (λ x. StandsFor x m) (sym c.self.view_is) h) c.in-Working.is c.device.ensures (λ w. c.interruption_asked.ensures c.self.inside.storage w.attached.drive)

@@ -16,7 +16,7 @@ returns-in-Rejected-clause-comes g c =
     let b = c.in-Rejected.ensures in
     let p = c.end_program-in-Rejected in
     rejects a.self.now.key (place_of a.self.now.place) a.storage.now c.in-GoodCcw.ccw a.drive.now c.begin.new.self c.in-GoodCcw.ensures.fetched c.requires.fits.stands.saved b.state
-    _ _ p.new.drive b.answer b.calls b.reported p.ensures.calls p.ensures.reported (place_of c.pass.new.self) c.pass.ensures p.ensures.ending
+    _ _ p.new.drive b.answer b.calls b.reported p.ensures.calls p.ensures.reported (place_of c.go_by.new.self) c.go_by.ensures p.ensures.ending
 
 pub returns-in-Immediate-clause-comes : goal.returns-in-Immediate-clause-comes
 returns-in-Immediate-clause-comes g c =
@@ -24,7 +24,7 @@ returns-in-Immediate-clause-comes g c =
     let b = c.in-Immediate.ensures in
     let e = c.conclude in
     immediately a.self.now.key (place_of a.self.now.place) a.storage.now c.in-GoodCcw.ccw a.drive.now c.begin.new.self c.in-GoodCcw.ensures.fetched c.requires.fits.stands.saved b.state
-    e.new.self e.result e.new.drive b.answer b.reported e.ensures.loads e.ensures.unwritten (place_of c.pass.new.self) c.pass.ensures e.ensures.comes
+    e.new.self e.result e.new.drive b.answer b.reported e.ensures.loads e.ensures.unwritten (place_of c.go_by.new.self) c.go_by.ensures e.ensures.comes
 
 pub returns-in-Immediate-clause-quiet : goal.returns-in-Immediate-clause-quiet
 returns-in-Immediate-clause-quiet g c =

@@ -8,7 +8,7 @@ use Rattle.s360_program.specs.Place.{place_of}
 use Rattle.s360_program.specs.Stands.{phase_by}
 use Rattle.s360_program.specs.Steps.{Steps, status_of, condition_for, differs}
 use Rattle.s360_program.specs.Stage as stage
-use Rattle.s360_program.proofs.Transferring.{bytes_come, completes, checks, passes_on, unit_comes, unit_steps, is_counted, no_more, some_more}
+use Rattle.s360_program.proofs.Transferring.{bytes_come, completes, checks, moves_on, unit_comes, unit_steps, is_counted, no_more, some_more}
 use Rattle.s360_program.proofs.run.Run.transfer.Goals as goal
 
 pub returns-then-flow-eq0-clause-steps : goal.returns-then-flow-eq0-clause-steps
@@ -34,8 +34,8 @@ pub returns-in-Ok-clause-steps : goal.returns-in-Ok-clause-steps
 returns-in-Ok-clause-steps g c =
     let a = c.args in
     let l = c.least-most in
-    passes_on a.self.now a.most l.result c.in-Ok.m c.from.result a.storage.now c.pass.new.storage a.drive.now c.flow_of-flow.new.drive c.pass.new.drive c.flow_of-flow.result c.requires.fits c.requires.stage c.flow_of-flow.ensures
-    l.ensures.most l.ensures.residual l.ensures.left c.in-Ok.ensures.passes c.from.ensures
+    moves_on a.self.now a.most l.result c.in-Ok.m c.from.result a.storage.now c.move_bytes.new.storage a.drive.now c.flow_of-flow.new.drive c.move_bytes.new.drive c.flow_of-flow.result c.requires.fits c.requires.stage c.flow_of-flow.ensures
+    l.ensures.most l.ensures.residual l.ensures.left c.in-Ok.ensures.moves c.from.ensures
 
 pub returns-in-Err-clause-steps : goal.returns-in-Err-clause-steps
 returns-in-Err-clause-steps g c =
@@ -43,12 +43,12 @@ returns-in-Err-clause-steps g c =
     let r = a.self.now in
     let d0 = a.drive.now in
     let f = c.flow_of-flow in
-    let p = c.pass in
+    let p = c.move_bytes in
     let e = c.stop in
     let some : 0 < r.place.residual = omega arith in
     let more : 0 < f.result.left = omega arith in
     let k = checks r.key r.ccw r.address (place_of r.place) a.storage.now d0 f.new.drive f.result c.in-Err.condition c.least-most.result p.new.storage p.new.drive f.ensures
-    (is_counted r.place.residual _ some) (some_more r.place.residual f.result.left some more) c.in-Err.ensures.passes in
+    (is_counted r.place.residual _ some) (some_more r.place.residual f.result.left some more) c.in-Err.ensures.moves in
     subst (λ g. Steps r.key (phase_by g (place_of r.place) a.storage.now d0.state d0.work) a.most e.result e.new.self p.new.storage d0 e.new.drive) (sym (bytes_come r c.requires.stage))
     (unit_steps r.key (phase_by (stage.Moving r.ccw r.address) (place_of r.place) a.storage.now d0.state d0.work) a.most e.new.self p.new.storage e.result d0 e.new.drive c.requires.some
     (unit_comes (λ x. unit x r.key (phase_by (stage.Moving r.ccw r.address) (place_of r.place) a.storage.now d0.state d0.work))

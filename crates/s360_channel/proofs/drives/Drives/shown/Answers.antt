@@ -1,6 +1,6 @@
 use Rattle.std.proofs.Common.{◌≤◌, ◌∙◌, subst}
 use Rattle.s360_channel.proofs.Shown.{all_places, eight_places}
-use Rattle.s360_channel.proofs.units.Units.shown.Goals as goal
+use Rattle.s360_channel.proofs.drives.Drives.shown.Goals as goal
 
 pub returns : goal.returns
 returns g c =

@@ -5,13 +5,13 @@ ghost use Rattle.ckd_drive.specs.Work.{new_drive};
 ghost use Rattle.s360_program.specs.Advances.{Rests};
 ghost use Rattle.s360_program.specs.Stands.{Stands};
 ghost use Rattle.s360_laws.specs.Machine.{lowest, lower, has_arrived};
-ghost use Rattle.s360_channel.specs.Channel.{is_at, device_of, new_unit, AllRest};
+ghost use Rattle.s360_channel.specs.Channel.{is_at, device_of, new_attached, AllRest};
 ghost use Rattle.s360_channel.specs.Finishes.{images_of};
-ghost use Rattle.s360_channel.specs.UnitCalls.{DriveChanges, DriveIs, Starts, AdvancesAt, CutsAt, ArmChanges, OnlyDrive, TakesFirst, Removes, ExchangesPack, MayExchange, RestsAt, at_rest_unit};
+ghost use Rattle.s360_channel.specs.DriveCalls.{DriveChanges, DriveIs, Starts, AdvancesAt, CutsAt, ArmChanges, OnlyDrive, TakesFirst, Removes, ExchangesPack, MayExchange, RestsAt, at_rest_attached};
 ghost use Rattle.s360_channel.specs.Packs.{fits_drive, is_same_model};
 ghost use Rattle.s360_channel.specs.Views.{drives_seen, drive_seen};
 
-use crate::unit::Unit;
+use crate::attached_drive::AttachedDrive;
 use crate::view::DriveView;
 use ckd_drive::Drive;
 use ckd_image::{Image, ImageStore};
@@ -24,27 +24,27 @@ use std::marker::Model;
 
 /// Up to eight drives, named by their places in the order of attachment.
 #[derive(Drop)]
-pub(crate) struct Units<S: ImageStore> {
-    list: Vec<Unit<S>>,
+pub(crate) struct Drives<S: ImageStore> {
+    list: Vec<AttachedDrive<S>>,
 }
 
-impl<S: ImageStore> Model for Units<S> {
+impl<S: ImageStore> Model for Drives<S> {
     ghost use Rattle.std.specs.Prelude.{List, length, ◌≤◌};
-    ghost use Rattle.s360_channel.specs.Channel.{UnitState};
+    ghost use Rattle.s360_channel.specs.Channel.{AttachedState};
 
-    ghost Value = { List UnitState };
+    ghost Value = { List AttachedState };
 
     ghost view = { λ u. u.list.items };
 
     ghost invariant = { λ u. length u.list.items ≤ 8 };
 }
 
-impl<S: ImageStore> Units<S> {
+impl<S: ImageStore> Drives<S> {
     /// No drives. It takes no memory.
-    pub(crate) fn new(alloc: Global) -> Units<S>
+    pub(crate) fn new(alloc: Global) -> Drives<S>
         ensures { result ≡ [] }
     {
-        Units {
+        Drives {
             list: Vec::new(alloc),
         }
     }
@@ -65,7 +65,7 @@ impl<S: ImageStore> Units<S> {
         image: Image<S>,
     ) -> Result<(), (AllocError, Image<S>)>
         requires { length self.old < 8 }
-        ensures attached { OnOk result (self.new ≡ self.old ++ new_unit device image ∷ []) }
+        ensures attached { OnOk result (self.new ≡ self.old ++ new_attached device image ∷ []) }
         ensures stays { OnErr result (self.new ≡ self.old) }
         ensures handed_back { IfErr result (λ e. e.1 ≡ image) }
     {
@@ -75,7 +75,7 @@ impl<S: ImageStore> Units<S> {
         let drive = drive_of(alloc, image)?;
         push(
             &mut self.list,
-            Unit {
+            AttachedDrive {
                 device,
                 arm: Arm::AtRest,
                 drive,
@@ -114,7 +114,9 @@ impl<S: ImageStore> Units<S> {
     pub(crate) fn place_of(&self, device: u8) -> Option<usize>
         ensures { result ≡ position (is_at device) self.now }
     {
-        self.list.iter().position(|unit| unit.device == device)
+        self.list
+            .iter()
+            .position(|attached| attached.device == device)
     }
 
     /// The low byte of the address of the drive at a place.
@@ -146,15 +148,15 @@ impl<S: ImageStore> Units<S> {
         requires { place < length self.now }
         ensures { Some result ≡ option_map (λ u. drive_seen (device_of u)) (slice_get self.now place) }
     {
-        let unit = &self.list[place];
-        let geometry = unit.drive.geometry();
+        let attached = &self.list[place];
+        let geometry = attached.drive.geometry();
         DriveView {
             model: geometry.model,
             cylinders: geometry.cylinders,
-            arm: unit.arm,
-            cylinder: unit.drive.cylinder(),
-            head: unit.drive.head(),
-            sense: unit.drive.sense(),
+            arm: attached.arm,
+            cylinder: attached.drive.cylinder(),
+            head: attached.drive.head(),
+            sense: attached.drive.sense(),
         }
     }
 
@@ -206,7 +208,7 @@ impl<S: ImageStore> Units<S> {
     /// All arms are at rest, and all sense bytes zero.
     pub(crate) fn reset(&mut self)
         requires { AllRest self.old }
-        ensures { self.new ≡ map at_rest_unit self.old }
+        ensures { self.new ≡ map at_rest_attached self.old }
     {
         reset_all(self.list.as_mut_slice());
     }
@@ -237,8 +239,8 @@ impl<S: ImageStore> Units<S> {
         if place >= self.list.len() {
             return None;
         }
-        let unit = &self.list[place];
-        Some((unit.device, unit.arm))
+        let attached = &self.list[place];
+        Some((attached.device, attached.arm))
     }
 
     /// The image of each, with the low byte of its address.
@@ -247,7 +249,7 @@ impl<S: ImageStore> Units<S> {
         ensures images { result ≡ images_of self }
         ensures volumes { map (λ u. u.drive.image.slots) self ≡ map (λ u. u.drive.state.volume.slots) self }
     {
-        let Units { mut list } = self;
+        let Drives { mut list } = self;
         [
             take_first(&mut list),
             take_first(&mut list),
@@ -287,22 +289,22 @@ fn is_same_model(held: DriveModel, other: DriveModel) -> bool
 }
 
 // One drive more, for which there is room.
-fn push<S: ImageStore>(list: &mut Vec<Unit<S>>, unit: Unit<S>)
+fn push<S: ImageStore>(list: &mut Vec<AttachedDrive<S>>, attached: AttachedDrive<S>)
     requires { vec_len list.old < vec_capacity list.old }
-    ensures { list.new.items ≡ list.old.items ++ unit ∷ [] }
+    ensures { list.new.items ≡ list.old.items ++ attached ∷ [] }
 {
-    list.push(unit).unwrap();
+    list.push(attached).unwrap();
 }
 
 // Takes the first drive out, if there is one: its address and its image.
-fn take_first<S: ImageStore>(list: &mut Vec<Unit<S>>) -> Option<(u8, Image<S>)>
+fn take_first<S: ImageStore>(list: &mut Vec<AttachedDrive<S>>) -> Option<(u8, Image<S>)>
     requires { AllRest list.old.items }
     ensures { TakesFirst list.old.items list.new.items result }
 {
     if list.is_empty() {
         return None;
     }
-    let Unit {
+    let AttachedDrive {
         device,
         arm: _,
         drive,
@@ -311,65 +313,68 @@ fn take_first<S: ImageStore>(list: &mut Vec<Unit<S>>) -> Option<(u8, Image<S>)>
 }
 
 // A drive does the first unit of a program.
-fn start<S: ImageStore>(unit: &mut Unit<S>, caw: u32, storage: &Storage) -> Start
-    requires { Rests unit.old.drive }
-    ensures { OnlyDrive (Starts caw storage.now result) unit.old unit.new }
+fn start<S: ImageStore>(attached: &mut AttachedDrive<S>, caw: u32, storage: &Storage) -> Start
+    requires { Rests attached.old.drive }
+    ensures { OnlyDrive (Starts caw storage.now result) attached.old attached.new }
 {
-    Running::start(caw, storage, &mut *unit.drive)
+    Running::start(caw, storage, &mut *attached.drive)
 }
 
 // The program that runs at a drive does so many units, unless it ends before.
 fn advance<S: ImageStore>(
-    unit: &mut Unit<S>,
+    attached: &mut AttachedDrive<S>,
     running: &mut Running,
     units: u32,
     storage: &mut Storage,
 ) -> Ran
-    requires { Stands running.old unit.old.drive }
-    ensures { OnlyDrive (AdvancesAt running.old storage.old units result running.new storage.new) unit.old unit.new }
+    requires { Stands running.old attached.old.drive }
+    ensures { OnlyDrive (AdvancesAt running.old storage.old units result running.new storage.new) attached.old attached.new }
 {
-    running.run_on(units, storage, &mut *unit.drive)
+    running.run_on(units, storage, &mut *attached.drive)
 }
 
 // The program that runs at a drive is cut.
-fn cut<S: ImageStore>(unit: &mut Unit<S>, running: Running) -> (Csw, bool, Option<(u16, u16)>)
-    requires { Stands running unit.old.drive }
-    ensures { OnlyDrive (CutsAt running result) unit.old unit.new }
+fn cut<S: ImageStore>(
+    attached: &mut AttachedDrive<S>,
+    running: Running,
+) -> (Csw, bool, Option<(u16, u16)>)
+    requires { Stands running attached.old.drive }
+    ensures { OnlyDrive (CutsAt running result) attached.old attached.new }
 {
-    running.cut(&mut *unit.drive)
+    running.cut(&mut *attached.drive)
 }
 
 // The arms are at rest, and all sense bytes zero.
 #[tactic(auto, using(crate::proofs::Fronts::front_length, crate::proofs::Fronts::front_all))]
-fn reset_all<S: ImageStore>(units: &mut [Unit<S>])
-    requires { AllRest units.old }
-    ensures { units.new ≡ map at_rest_unit units.old }
+fn reset_all<S: ImageStore>(drives: &mut [AttachedDrive<S>])
+    requires { AllRest drives.old }
+    ensures { drives.new ≡ map at_rest_attached drives.old }
 {
-    for place in 0..units.len() {
-        reset_at(units, place);
+    for place in 0..drives.len() {
+        reset_at(drives, place);
     }
 }
 
 // The same of the one at a place.
-fn reset_at<S: ImageStore>(units: &mut [Unit<S>], place: usize)
-    requires { DriveIs place Rests units.old }
-    ensures { RestsAt place units.old units.new }
+fn reset_at<S: ImageStore>(drives: &mut [AttachedDrive<S>], place: usize)
+    requires { DriveIs place Rests drives.old }
+    ensures { RestsAt place drives.old drives.new }
 {
-    let unit = &mut units[place];
-    unit.arm = Arm::AtRest;
-    unit.drive.clear_sense();
+    let attached = &mut drives[place];
+    attached.arm = Arm::AtRest;
+    attached.drive.clear_sense();
 }
 
 // The lowest address of a drive whose arm has arrived.
-fn lowest_arrived<S: ImageStore>(units: &[Unit<S>]) -> Option<u8>
-    ensures { result ≡ lowest (filter has_arrived (map device_of units.now)) }
+fn lowest_arrived<S: ImageStore>(drives: &[AttachedDrive<S>]) -> Option<u8>
+    ensures { result ≡ lowest (filter has_arrived (map device_of drives.now)) }
 {
-    let [unit, others @ ..] = units else {
+    let [attached, others @ ..] = drives else {
         return None;
     };
     let behind = lowest_arrived(others);
-    match unit.arm {
-        Arm::Arrived => Some(lower(unit.device, behind)),
+    match attached.arm {
+        Arm::Arrived => Some(lower(attached.device, behind)),
         Arm::AtRest | Arm::InMotion => behind,
     }
 }

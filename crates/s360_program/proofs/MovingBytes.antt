@@ -1,4 +1,4 @@
--- Bytes that may pass one after another.
+-- Bytes that may move one after another.
 use Rattle.std.proofs.Common.{◌≡◌, ◌⊎◌, inl, inr, ℕ, zero, suc, ◌+◌, ◌-◌, ◌<◌, ◌≤◌, ◌/◌, refl, sym, ap, subst, ◌∙◌, arith, true, false, Bool, not, ◌&&◌, List, [], ◌∷◌, ◌++◌, nat_lt, length, take, drop, length-append, length-drop, length-take-le}
 use Rattle.std.specs.Prelude.{if◌then◌else◌, ◌==◌, is_some, slice_get, slice_index, slice_range, Ok, Err, IsTrue}
 use Rattle.std.proofs.lemmas.Bool.Decides.{nat_tests}
@@ -12,13 +12,13 @@ use Rattle.s360_words.proofs.Overwriting.{length-overwritten, overwritten-none}
 use Rattle.ckd_command.specs.Drive.{Open, gives, given, length_of}
 use Rattle.ckd_command.specs.Tables.{is_giving, action_of}
 use Rattle.ckd_command.proofs.Lengths.{length_grows, gives_length}
-use Rattle.s360_runs.specs.Laws.{MayPass}
+use Rattle.s360_runs.specs.Laws.{MayMove}
 use Rattle.s360_runs.specs.Places.{Place, fetch}
 use Rattle.s360_runs.specs.Status.{no_channel_status, is_clear}
 use Rattle.s360_runs.specs.Transfers.{Transfer, Moves, Completes, transfer_unit, chained_data, byte_or_check, check_of, needs_byte, after_bytes, next_bytes, storage_after}
 use Rattle.ckd_drive.specs.Work.{DriveState, Work, Idle, Over, Looking, Passing, takes_now, gives_now, given_now, passed_of, left_of, moved_on}
 use Rattle.s360_program.specs.Advances.{KeepsStorage}
-use Rattle.s360_program.specs.Steps.{MovesBy, PassesBy, transfer_by, status_of}
+use Rattle.s360_program.specs.Steps.{MovesBy, MovesBytesBy, transfer_by, status_of}
 use Rattle.s360_program.specs.declared.conditions.Condition.{Condition}
 
 taken_one : (xs : List ℕ) (i : ℕ) → i < length xs → length (take 1 (drop i xs)) ≡ 1
@@ -37,7 +37,7 @@ some_below (x ∷ xs) (suc i) h = some_below xs i (less (length xs) h)
     less : (n : ℕ) → suc i < suc n → i < n
     less n h = omega arith
 
--- a unit in which a byte passes
+-- a unit in which a byte moves
 moves_byte : (key : ℕ) (o : Open) (t : Transfer) → 0 < t.place.residual → length t.bytes < length_of o t.bytes → check_of key o t ≡ no_channel_status → transfer_unit key o t ≡ Moves (after_bytes 1 o t)
 moves_byte key o t r l c =
     ap (λ b. if b && chains_data t.ccw then chained_data t (fetch t.storage t.place false) else (if needs_byte o t then byte_or_check o t (check_of key o t) else Completes)) (positive t.place.residual r)
@@ -60,7 +60,7 @@ unchecked key o t g h =
     ap (λ g. if g && skips t.ccw then no_channel_status else (if not (is_some (slice_get t.storage.bytes t.address)) then PROGRAM_CHECK else (if g && not (admits (key_at t.storage t.address) key) then PROTECTION_CHECK else no_channel_status))) g
     ∙ ap (λ b. if not b then PROGRAM_CHECK else no_channel_status) (some_below t.storage.bytes t.address h)
 
-pub may_take : (m key : ℕ) (o : Open) (t : Transfer) → gives o ≡ false → m ≤ t.place.residual → length t.bytes + m ≤ length_of o t.bytes → t.address + m ≤ length t.storage.bytes → MayPass m key o t
+pub may_take : (m key : ℕ) (o : Open) (t : Transfer) → gives o ≡ false → m ≤ t.place.residual → length t.bytes + m ≤ length_of o t.bytes → t.address + m ≤ length t.storage.bytes → MayMove m key o t
 may_take zero key o t g r l a = tt
 may_take (suc m) key o t g r l a =
     (moves_byte key o t (omega arith) (omega arith) (unchecked key o t g (omega arith)), one, may_take m key o (after_bytes 1 o t) g (fewer t.place.residual r) long inside)
@@ -112,7 +112,7 @@ free_checked key o t g h =
         ∙ either (skips t.ccw)
 
 pub may_give : (m key : ℕ) (o : Open) (t : Transfer) → gives o ≡ true → length (given o) ≡ length_of o t.bytes → ((b : List ℕ) → length_of o b ≡ length (given o)) → m ≤ t.place.residual → length t.bytes + m ≤ length (given o)
-    → ((i : ℕ) → i < m → IsFree key t i) → MayPass m key o t
+    → ((i : ℕ) → i < m → IsFree key t i) → MayMove m key o t
 may_give zero key o t g e all r l free = tt
 may_give (suc m) key o t g e all r l free = (
   moves_byte key o t (omega arith) (subst (λ n. length t.bytes < n) e (omega arith)) (free_checked key o t g first),
@@ -159,11 +159,11 @@ may_give (suc m) key o t g e all r l free = (
     rest : (i : ℕ) → i < m → IsFree key (after_bytes 1 o t) i
     rest i h = moved (gives o && not (skips t.ccw)) i (free (suc i) (omega arith))
 
--- What passes.
+-- What moves.
 
 pub takes_so : (m key : ℕ) (ccw : Ccw) (a most : ℕ) (s : Storage) (d d2 : DriveState) (w : Work) (bytes : List ℕ) → MovesBy d.state w → takes_now w ≡ true → 0 < m → m ≤ most → most ≤ left_of w
     → a + m ≤ length s.bytes → bytes ≡ slice_range s.bytes a (a + m) → d2 ≡ record d { work = moved_on bytes w }
-    → PassesBy key ccw a most (Ok m) s s d d2 w
+    → MovesBytesBy key ccw a most (Ok m) s s d d2 w
 takes_so m key ccw a most s d d2 Idle bytes f t p le ml h is e = absurd f
 takes_so m key ccw a most s d d2 (Over x) bytes f t p le ml h is e = absurd f
 takes_so m key ccw a most s d d2 (Looking o) bytes f t p le ml h is e = absurd f
@@ -207,7 +207,7 @@ pub gives_so : (m key : ℕ) (ccw : Ccw) (a most : ℕ) (s s2 : Storage) (d d2 :
     → ((i : ℕ) → i < m → (skips ccw ≡ true) ⊎ ((a + i < length s.bytes) × (admits (key_at s (a + i)) key ≡ true)))
     → d2 ≡ record d { work = moved_on (slice_range (given_now d w) (length (passed_of w)) (length (passed_of w) + m)) w }
     → s2 ≡ (if not (skips ccw) then stored s a (slice_range (given_now d w) (length (passed_of w)) (length (passed_of w) + m)) else s)
-    → PassesBy key ccw a most (Ok m) s s2 d d2 w
+    → MovesBytesBy key ccw a most (Ok m) s s2 d d2 w
 gives_so m key ccw a most s s2 d d2 Idle f t p le ml free e es = absurd f
 gives_so m key ccw a most s s2 d d2 (Over x) f t p le ml free e es = absurd f
 gives_so m key ccw a most s s2 d d2 (Looking o) f t p le ml free e es = absurd f
@@ -244,10 +244,10 @@ gives_so m key ccw a most s s2 d d2 (Passing o b left) f g p le ml free e es = (
     counted : length (take m (drop (length b) (given (record { opened = o; state = d.state })))) ≡ m
     counted = omega (arith, length-take-le m (drop (length b) (given (record { opened = o; state = d.state }))) (omega (arith, length-drop (length b) (given (record { opened = o; state = d.state })), long)))
 
--- a check says why the first byte may not pass
+-- a check says why the first byte may not move
 pub gives_not : (check : Condition) (key : ℕ) (ccw : Ccw) (a most : ℕ) (s : Storage) (d : DriveState) (w : Work) → MovesBy d.state w → gives_now w ≡ true → is_clear (status_of check) ≡ false
     → (if skips ccw then no_channel_status else (if not (is_some (slice_get s.bytes a)) then PROGRAM_CHECK else (if not (admits (key_at s a) key) then PROTECTION_CHECK else no_channel_status))) ≡ status_of check
-    → PassesBy key ccw a most (Err check) s s d d w
+    → MovesBytesBy key ccw a most (Err check) s s d d w
 gives_not check key ccw a most s d Idle f g c e = absurd f
 gives_not check key ccw a most s d (Over x) f g c e = absurd f
 gives_not check key ccw a most s d (Looking o) f g c e = absurd f

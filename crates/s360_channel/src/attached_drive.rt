@@ -1,4 +1,4 @@
-//! A drive at the channel.
+//! An attached drive.
 
 ghost use Rattle.std.specs.Prelude.{◌≡◌};
 
@@ -11,16 +11,16 @@ use std::marker::Model;
 ///
 /// The drive stands on the heap, so that what is proved of a list of them speaks of its parts alone.
 #[derive(Drop)]
-pub(crate) struct Unit<S: ImageStore> {
+pub(crate) struct AttachedDrive<S: ImageStore> {
     pub(crate) device: u8,
     pub(crate) arm: Arm,
     pub(crate) drive: Box<Drive<S>>,
 }
 
-impl<S: ImageStore> Model for Unit<S> {
-    ghost use Rattle.s360_channel.specs.Channel.{UnitState};
+impl<S: ImageStore> Model for AttachedDrive<S> {
+    ghost use Rattle.s360_channel.specs.Channel.{AttachedState};
 
-    ghost Value = { UnitState };
+    ghost Value = { AttachedState };
 
     ghost view = { λ u. record { device = u.device; arm = u.arm; drive = u.drive.value } };
 }
