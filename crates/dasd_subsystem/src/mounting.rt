@@ -3,8 +3,7 @@
 ghost use Rattle.std.specs.Prelude.{◌≡◌, ◌+◌, ◌<◌, ◌≤◌, ◌∷◌, ◌++◌, [], length, map, IfOk, OnOk, All, IsSome};
 ghost use Rattle.arrayvec.specs.ArrayVec.{array_vec_len};
 ghost use Rattle.ckd_image.specs.Files.{each};
-ghost use Rattle.ckd_image.specs.Image.{new_image};
-ghost use Rattle.dasd_subsystem.specs.Attaching.{IsImageOf};
+ghost use Rattle.dasd_subsystem.specs.Attaching.{IsImageOf, new_volume};
 
 use crate::refusal::Refusal;
 use arrayvec::ArrayVec;
@@ -74,7 +73,7 @@ pub(crate) fn formatted(
     model: DriveModel,
     cylinders: u16,
 ) -> Result<Image<VolumeFile>, Refusal>
-    ensures { IfOk result (λ i. i ≡ new_image model cylinders 0) }
+    ensures { IfOk result (λ i. i ≡ new_volume model cylinders) }
 {
     if cylinders == 0 {
         return Err(Refusal::NoCylinders);
