@@ -4,11 +4,11 @@ ghost use Rattle.std.specs.Prelude.{◌≡◌, ◌≤◌, length};
 ghost use Rattle.ckd_command.specs.declared.registers.Registers.{Registers};
 ghost use Rattle.ckd_command.specs.declared.begin.Opened.{Opened};
 ghost use Rattle.ckd_command.specs.Tables.{action_of};
-ghost use Rattle.ckd_command.specs.Commands.{command_end, whole_field, at_end as ends_behind, fails};
+ghost use Rattle.ckd_command.specs.Commands.{command_end, whole_field, at_end, fails};
 ghost use Rattle.ckd_command.specs.Answers.{closed_as, ClosedStays};
 ghost use Rattle.ckd_sense.specs.declared.sense_bytes.TheConstants.Sense.{WRONG_HOME_ADDRESS};
-ghost use Rattle.ckd_drive.specs.Work.{settled_mark as mark_settled, owed_mark as mark_owed};
-ghost use Rattle.ckd_drive.specs.Invariant.{field_ends as field_closes, command_end_at, MovedInField, mark_left as mark_left_by, field_size as size_of_field};
+ghost use Rattle.ckd_drive.specs.Work.{settled_mark, owed_mark};
+ghost use Rattle.ckd_drive.specs.Invariant.{field_ends, command_end_at, MovedInField, mark_left, field_size};
 ghost use Rattle.ckd_drive.specs.Fields.{place_seen, closes_by};
 
 use crate::transfer::{Transfer, Written};
@@ -41,7 +41,7 @@ pub(crate) const FAILED: DriveEnding = DriveEnding {
 /// The mark of a track that a command leaves whose arm stays.
 #[inline(always)]
 pub(crate) fn mark_left(place: &Transfer, mark: Mark) -> Mark
-    ensures { (o : Opened) (r : Registers) → result ≡ mark_left_by (place_seen r o place.now) mark }
+    ensures { (o : Opened) (r : Registers) → result ≡ mark_left (place_seen r o place.now) mark }
 {
     match place {
         Transfer::Filled(_, _) => Mark::Written,
@@ -51,7 +51,7 @@ pub(crate) fn mark_left(place: &Transfer, mark: Mark) -> Mark
 
 /// The mark of a track that is saved, if it was written.
 pub(crate) fn settled_mark(mark: Mark) -> Mark
-    ensures { result ≡ mark_settled mark }
+    ensures { result ≡ settled_mark mark }
 {
     match mark {
         Mark::Written => Mark::Saved,
@@ -61,7 +61,7 @@ pub(crate) fn settled_mark(mark: Mark) -> Mark
 
 /// The mark of the track as a program begins: one that is written stays to be saved.
 pub(crate) fn owed_mark(mark: Mark) -> Mark
-    ensures { result ≡ mark_owed mark }
+    ensures { result ≡ owed_mark mark }
 {
     match mark {
         Mark::Written => Mark::Written,
@@ -71,7 +71,7 @@ pub(crate) fn owed_mark(mark: Mark) -> Mark
 
 // How Write Home Address closes where the track is as it was.
 fn home_address_ends(opened: &Opened, registers: &mut Registers, bytes: &[u8]) -> Closed
-    ensures closes { closed_as result registers.new ≡ command_end (whole_field (ends_behind opened.now registers.old) bytes.now 5 (fails (ends_behind opened.now registers.old) WRONG_HOME_ADDRESS)) }
+    ensures closes { closed_as result registers.new ≡ command_end (whole_field (at_end opened.now registers.old) bytes.now 5 (fails (at_end opened.now registers.old) WRONG_HOME_ADDRESS)) }
     ensures stays { ClosedStays result registers.old registers.new }
 {
     end_at_area(opened, registers);
@@ -91,8 +91,8 @@ fn field_ends(
     registers: &mut Registers,
     bytes: &[u8],
 ) -> Closed
-    requires { length bytes.now ≤ size_of_field (action_of opened.now.command) }
-    ensures closes { closed_as result registers.new ≡ command_end (field_closes (action_of opened.now.command) geometry opened.now registers.old bytes.now) }
+    requires { length bytes.now ≤ field_size (action_of opened.now.command) }
+    ensures closes { closed_as result registers.new ≡ command_end (field_ends (action_of opened.now.command) geometry opened.now registers.old bytes.now) }
     ensures stays { ClosedStays result registers.old registers.new }
 {
     match tables::action_of(opened.command) {

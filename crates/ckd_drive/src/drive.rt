@@ -3,7 +3,7 @@
 ghost use Rattle.std.specs.Prelude.{◌≡◌, ◌≤◌, ◌<◌, ◌+◌, ◌-◌, ◌^◌, ◌++◌, Some, None, true, false, [], length, slice_range, IfOk, IfErr, OnOk, OnErr, Option};
 ghost use Rattle.ckd_sense.specs.SenseBytes.{sense_bytes};
 ghost use Rattle.ckd_image.specs.Store.{Counts};
-ghost use Rattle.ckd_command.specs.Drive.{unsaved as unsaved_track, begin as begin_of, is_written as is_track_written};
+ghost use Rattle.ckd_command.specs.Drive.{unsaved, begin, is_written};
 ghost use Rattle.ckd_drive.specs.declared.answers.Begun.TheVariants as begun;
 ghost use Rattle.ckd_drive.specs.Work.{DriveState, Over, CallsStore, Reports, fault_met, begin_saves, look_loads, look_saves, end_saves, failed_ending, after_begin, after_look, moved_on, left_of, gives_now, takes_now, given_now, passed_of, closed_of, after_end, ending_of, is_idle, is_working, may_end, passes_now, after_settle, begun_program, answer_of_begin, answer_of_look, with_image, new_drive, without_sense, phase_of, Allows};
 
@@ -96,7 +96,7 @@ impl<S: ImageStore> Drive<S> {
     pub fn begin(&mut self, code: u8) -> Begun
         requires { is_idle self.old.work ≡ true }
         ensures state { self.new ≡ with_image (after_begin (fault_met self.old self.new) code self.old) self.new.image }
-        ensures answer { result ≡ answer_of_begin (begin_of (fault_met self.old self.new) code self.old.state) }
+        ensures answer { result ≡ answer_of_begin (begin (fault_met self.old self.new) code self.old.state) }
         ensures calls { CallsStore false (begin_saves code self.old) self.old self.new }
         ensures reported { Reports (result ≡ begun.Rejected) self.old self.new }
     {
@@ -346,8 +346,8 @@ impl<S: ImageStore> Drive<S> {
         ensures state { self.new ≡ with_image (after_settle (fault_met self.old self.new) self.old) self.new.image }
         ensures saved { self.new.image.slots ≡ self.new.state.volume.slots }
         ensures counted { Counts self.old.image.failures self.new.image.failures result }
-        ensures calls { CallsStore false (is_track_written self.old.state) self.old self.new }
-        ensures reported { Reports (unsaved_track self.new.state ≡ Some (self.old.state.registers.cylinder, self.old.state.registers.head)) self.old self.new }
+        ensures calls { CallsStore false (is_written self.old.state) self.old self.new }
+        ensures reported { Reports (unsaved self.new.state ≡ Some (self.old.state.registers.cylinder, self.old.state.registers.head)) self.old self.new }
     {
         self.stage = Stage::Idle;
         match self.cache.save() {
@@ -398,7 +398,7 @@ impl<S: ImageStore> Drive<S> {
 
     /// Whether the track under the arm was written, and is not saved.
     pub fn is_written(&self) -> bool
-        ensures { result ≡ is_track_written self.now.state }
+        ensures { result ≡ is_written self.now.state }
     {
         matches!(self.mark, Mark::Written)
     }
@@ -437,7 +437,7 @@ impl<S: ImageStore> Drive<S> {
     pub fn image(&self) -> &Image<S>
         ensures image { result.now ≡ self.now.image }
         ensures geometry { self.now.image.geometry ≡ self.now.state.volume.geometry }
-        ensures volume { is_idle self.now.work ≡ true → is_track_written self.now.state ≡ false → self.now.image.slots ≡ self.now.state.volume.slots }
+        ensures volume { is_idle self.now.work ≡ true → is_written self.now.state ≡ false → self.now.image.slots ≡ self.now.state.volume.slots }
     {
         self.cache.image()
     }
@@ -446,7 +446,7 @@ impl<S: ImageStore> Drive<S> {
     /// holds the drive's volume. It takes no memory.
     pub fn exchange(&mut self, image: Image<S>) -> Image<S>
         requires idle { is_idle self.old.work ≡ true }
-        requires saved { is_track_written self.old.state ≡ false }
+        requires saved { is_written self.old.state ≡ false }
         requires size { image.geometry.track_size ≡ self.old.image.geometry.track_size }
         ensures now { self.new ≡ new_drive image }
         ensures before { result ≡ self.old.image }
@@ -472,7 +472,7 @@ impl<S: ImageStore> Drive<S> {
 
     /// Cylinder and head of a track that could not be saved, until the arm leaves it or the next program begins.
     pub fn unsaved(&self) -> Option<(u16, u16)>
-        ensures { result ≡ unsaved_track self.now.state }
+        ensures { result ≡ unsaved self.now.state }
     {
         match self.mark {
             Mark::Lost => Some((self.registers.cylinder, self.registers.head)),
@@ -484,7 +484,7 @@ impl<S: ImageStore> Drive<S> {
     /// saved since.
     pub fn into_image(self) -> Image<S>
         requires idle { is_idle self.work ≡ true }
-        requires saved { is_track_written self.state ≡ false }
+        requires saved { is_written self.state ≡ false }
         ensures image { result ≡ self.image }
         ensures geometry { result.geometry ≡ self.state.volume.geometry }
         ensures volume { result.slots ≡ self.state.volume.slots }

@@ -2,15 +2,15 @@
 
 ghost use Rattle.std.specs.Prelude.{◌≡◌, Some, ◌<◌, List, ℕ};
 ghost use Rattle.ckd_command.specs.declared.tables.Aim.TheVariants.{Next, NoArea};
-ghost use Rattle.ckd_command.specs.Tables.{aim as aim_of, action_of};
-ghost use Rattle.ckd_drive.specs.Invariant.{Stands, kept, track_under, remaining as remaining_by, AreaIsThere, AreaOf, IsFirstPlace, ReadsWhole};
+ghost use Rattle.ckd_command.specs.Tables.{aim, action_of};
+ghost use Rattle.ckd_drive.specs.Invariant.{Stands, kept, track_under, remaining, AreaIsThere, AreaOf, IsFirstPlace, ReadsWhole};
 ghost use Rattle.ckd_drive.specs.Fields.{stage_seen, IsLookedHeld, place_seen, IsReady};
 ghost use Rattle.ckd_drive.specs.Calls.{Looks, looked_at, looking_drive};
 ghost use Rattle.ckd_command.specs.declared.registers.Registers.{Registers};
 ghost use Rattle.ckd_command.specs.declared.begin.Opened.{Opened};
 ghost use Rattle.ckd_track.specs.Model.{heads_of};
 ghost use Rattle.ckd_track.specs.Track.{track_of};
-ghost use Rattle.ckd_command.specs.Commands.{sight as sight_of_track};
+ghost use Rattle.ckd_command.specs.Commands.{sight};
 ghost use Rattle.ckd_command.specs.Answers.{seen_as, SeenStays};
 ghost use Rattle.ckd_command.specs.declared.tables.Action.TheVariants.{NoTransfer};
 
@@ -45,7 +45,7 @@ fn ready(action: Action, progress: &mut Progress, place: Transfer) -> Stage
 
 /// All the bytes may pass that are known to be left.
 pub(crate) fn make_ready(action: Action, progress: &mut Progress)
-    ensures { (o : Opened) (r : Registers) → progress.new ≡ record progress.old { left = remaining_by action (place_seen r o progress.old.place) progress.old.moved } }
+    ensures { (o : Opened) (r : Registers) → progress.new ≡ record progress.old { left = remaining action (place_seen r o progress.old.place) progress.old.moved } }
 {
     progress.left = transfer::remaining(action, &progress.place, progress.moved);
 }
@@ -76,8 +76,8 @@ fn look_at(
 ) -> Seen
     requires head { registers.old.head < heads_of geometry.model }
     requires command { command ≡ opened.now.command }
-    requires kind { aim_of opened.now.command ≡ Next kind }
-    ensures sight { seen_as result opened.now registers.new ≡ sight_of_track geometry (track_of buffer.now) opened.now registers.old }
+    requires kind { aim opened.now.command ≡ Next kind }
+    ensures sight { seen_as result opened.now registers.new ≡ sight geometry (track_of buffer.now) opened.now registers.old }
     ensures there { AreaIsThere (track_of buffer.now) opened.now (seen_as result opened.now registers.new) }
     ensures stays { SeenStays result registers.old registers.new }
 {
@@ -99,7 +99,7 @@ fn place_without_area(
     progress: &mut Progress,
 ) -> Stage
     requires command { command ≡ opened.now.command }
-    requires aim { aim_of opened.now.command ≡ NoArea }
+    requires aim { aim opened.now.command ≡ NoArea }
     requires transfers { action_of opened.now.command ≡ NoTransfer → ⊥ }
     ensures first { (slot : List ℕ) → IsFirstPlace slot opened.now registers.now (place_seen registers.now opened.now progress.new.place) }
     ensures ready { IsReady registers.now opened.now progress.new result }
@@ -122,7 +122,7 @@ fn place_on(
     progress: &mut Progress,
 ) -> Stage
     requires command { command ≡ opened.now.command }
-    requires aim { aim_of opened.now.command ≡ NoArea → ⊥ }
+    requires aim { aim opened.now.command ≡ NoArea → ⊥ }
     requires readable { ReadsWhole (action_of opened.now.command) (track_of buffer.now) }
     requires there { AreaOf (track_of buffer.now) opened.now }
     ensures first { (r : Registers) → IsFirstPlace buffer.now opened.now r (place_seen r opened.now progress.new.place) }
@@ -158,7 +158,7 @@ fn look_at_hand<S: ImageStore>(
 ) -> Stage
     requires stands { Stands (looking_drive (kept cache.old registers.old mark.old) opened.old) }
     requires command { command ≡ opened.old.command }
-    requires aim { aim_of opened.old.command ≡ Next kind }
+    requires aim { aim opened.old.command ≡ Next kind }
     requires held { cache.old.held ≡ Some (track_under cache.old.image.geometry registers.old) }
     ensures stage { Looks (kept cache.old registers.old mark.old) (kept cache.new registers.new mark.new) opened.old (stage_seen registers.new opened.new progress.new result) }
     ensures looked { IsLookedHeld result }
@@ -195,7 +195,7 @@ fn look_for_next<S: ImageStore>(
 ) -> Stage
     requires stands { Stands (looking_drive (kept cache.old registers.old mark.old) opened.old) }
     requires command { command ≡ opened.old.command }
-    requires aim { aim_of opened.old.command ≡ Next kind }
+    requires aim { aim opened.old.command ≡ Next kind }
     ensures stage { Looks (kept cache.old registers.old mark.old) (kept cache.new registers.new mark.new) opened.old (stage_seen registers.new opened.new progress.new result) }
     ensures looked { IsLookedHeld result }
 {

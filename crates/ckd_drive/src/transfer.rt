@@ -1,8 +1,8 @@
 //! The bytes of a command that pass: where they stand, and what becomes of those that it takes.
 
 ghost use Rattle.std.specs.Prelude.{◌≡◌, ◌≤◌, ◌<◌, ◌+◌, length, ◌-◌, ◌^◌, slice_range};
-ghost use Rattle.ckd_drive.specs.Transfers as place;
-ghost use Rattle.ckd_drive.specs.Invariant.{MayTake, Absorbs, whole_of, remaining as remaining_by, field_size as size_of_field, given_on as place_given};
+ghost use Rattle.ckd_drive.specs.Transfers as transfers;
+ghost use Rattle.ckd_drive.specs.Invariant.{MayTake, Absorbs, whole_of, remaining, field_size, given_on};
 ghost use Rattle.ckd_drive.specs.Fields.{closes_by, place_seen, half_done, IsNoSearch, MayGiveHeld};
 ghost use Rattle.ckd_command.specs.Commands.{command_end, area_ends, own_home_address};
 ghost use Rattle.std.specs.Ordering.{nat_cmp, ordering_then};
@@ -73,7 +73,7 @@ pub struct Progress {
 
 /// How many bytes a field has that must come whole.
 pub(crate) fn field_size(action: Action) -> usize
-    ensures { result ≡ size_of_field action }
+    ensures { result ≡ field_size action }
 {
     match action {
         Action::SeekCylinderAndHead | Action::SeekHead => 6,
@@ -87,7 +87,7 @@ pub(crate) fn field_size(action: Action) -> usize
 
 /// How many bytes are still to pass, as far as that is known.
 pub(crate) fn remaining(action: Action, place: &Transfer, moved: usize) -> usize
-    ensures { (o : Opened) (r : Registers) → result ≡ remaining_by action (place_seen r o place.now) moved }
+    ensures { (o : Opened) (r : Registers) → result ≡ remaining action (place_seen r o place.now) moved }
 {
     match place {
         Transfer::Sense(_) => 6usize.saturating_sub(moved),
@@ -114,7 +114,7 @@ fn behind(window: Window, n: usize) -> Window
 /// So many more bytes of this place are given.
 pub(crate) fn give_on(place: &mut Transfer, n: usize)
     requires { MayGiveHeld place.old n }
-    ensures { (o : Opened) (r : Registers) → place_seen r o place.new ≡ place_given (place_seen r o place.old) n }
+    ensures { (o : Opened) (r : Registers) → place_seen r o place.new ≡ given_on (place_seen r o place.old) n }
 {
     if let Transfer::Read(window, _) = place {
         *window = behind(*window, n);
@@ -159,7 +159,7 @@ fn search<S: ImageStore>(
     so_far: Ordering,
 )
     requires may { MayTake (half_done cache.now registers.now before.now.bytes passed.now.bytes opened.now p.old) bytes.now }
-    requires at { place_seen registers.now opened.now p.old.place ≡ place.Search window so_far }
+    requires at { place_seen registers.now opened.now p.old.place ≡ transfers.Search window so_far }
     ensures absorbs { Absorbs (half_done cache.now registers.now before.now.bytes passed.now.bytes opened.now p.old) bytes.now cache.now before.now.bytes (place_seen registers.now opened.now p.new.place) }
     ensures stays { p.new ≡ record p.old { place = p.new.place } }
 {
@@ -215,7 +215,7 @@ fn collect<S: ImageStore>(
     field: [u8; 8],
 )
     requires may { MayTake (half_done cache.old registers.now before.old.bytes passed.now.bytes opened.now p.old) bytes.now }
-    requires at { place_seen registers.now opened.now p.old.place ≡ place.Field field }
+    requires at { place_seen registers.now opened.now p.old.place ≡ transfers.Field field }
     ensures absorbs { Absorbs (half_done cache.old registers.now before.old.bytes passed.now.bytes opened.now p.old) bytes.now cache.new before.new.bytes (place_seen registers.now opened.now p.new.place) }
     ensures stays { p.new ≡ record p.old { place = p.new.place } }
 {
@@ -252,7 +252,7 @@ fn fill<S: ImageStore>(
     no_data: bool,
 )
     requires may { MayTake (half_done cache.old registers.now before.old.bytes passed.now.bytes opened.now p.old) bytes.now }
-    requires at { place_seen registers.now opened.now p.old.place ≡ place.Fill window (command_end (area_ends opened.now registers.now no_data)) }
+    requires at { place_seen registers.now opened.now p.old.place ≡ transfers.Fill window (command_end (area_ends opened.now registers.now no_data)) }
     ensures absorbs { Absorbs (half_done cache.old registers.now before.old.bytes passed.now.bytes opened.now p.old) bytes.now cache.new before.new.bytes (place_seen registers.now opened.now p.new.place) }
     ensures stays { p.new ≡ record p.old { place = p.new.place } }
 {
@@ -283,7 +283,7 @@ fn fill_on<S: ImageStore>(
     written: Written,
 )
     requires may { MayTake (half_done cache.old registers.now before.now.bytes passed.now.bytes opened.now p.old) bytes.now }
-    requires at { place_seen registers.now opened.now p.old.place ≡ place.Filled window (closes_by registers.now opened.now written) }
+    requires at { place_seen registers.now opened.now p.old.place ≡ transfers.Filled window (closes_by registers.now opened.now written) }
     ensures absorbs { Absorbs (half_done cache.old registers.now before.now.bytes passed.now.bytes opened.now p.old) bytes.now cache.new before.now.bytes (place_seen registers.now opened.now p.new.place) }
     ensures stays { p.new ≡ record p.old { place = p.new.place } }
 {

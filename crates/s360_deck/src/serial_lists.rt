@@ -2,7 +2,7 @@
 
 ghost use Rattle.std.specs.Prelude.{◌≡◌, ◌+◌, ◌*◌, ◌<◌, ◌^◌, false, ◌++◌, ◌∷◌, [], ℕ, None, map, length, IfOk, OnOk};
 ghost use Rattle.s360_laws.specs.Events as machine;
-ghost use Rattle.s360_laws.specs.SerialLists.{changes_nothing as nothing_changed, that_change, is_step as does_units, is_arrival as arrives, is_between as stands_between, steps_ahead as has_steps_ahead, arrivals_last as with_arrivals_last, steps_of, steps_joined, serial_list};
+ghost use Rattle.s360_laws.specs.SerialLists.{changes_nothing, that_change, is_step, is_arrival, is_between, steps_ahead, arrivals_last, steps_of, steps_joined, serial_list};
 ghost use Rattle.s360_laws.specs.History.{acts};
 ghost use Rattle.s360_events.specs.Seen.{event_seen, condition_seen, status_seen, csw_seen};
 ghost use Rattle.s360_deck.specs.Serial.{exchange_seen, exchanges_seen, exchanges_of, events_in, serial_events, Fits, AllFit, Places, Joins};
@@ -72,7 +72,7 @@ fn keep_change<'a>(list: &mut Vec<Exchange<'a>>, exchange: Exchange<'a>) -> Resu
 // Whether the answer shows that the event changed nothing.
 fn changes_nothing(exchange: Exchange) -> bool
     requires { Fits exchange.event.now exchange.answer.now }
-    ensures { result ≡ nothing_changed (exchange_seen exchange.entry) }
+    ensures { result ≡ changes_nothing (exchange_seen exchange.entry) }
 {
     match (exchange.event, exchange.answer) {
         (Event::Sio(_), Answer::Sio(_, condition)) => is_refused_start(condition),
@@ -92,33 +92,33 @@ fn changes_nothing(exchange: Exchange) -> bool
 
 // A start that was not accepted, and stored nothing.
 fn is_refused_start(condition: &Condition<Status>) -> bool
-    ensures { (a : ℕ) → result ≡ nothing_changed (machine.Sio a, None, condition_seen status_seen condition.now) }
+    ensures { (a : ℕ) → result ≡ changes_nothing (machine.Sio a, None, condition_seen status_seen condition.now) }
 {
     matches!(condition, Condition::Two | Condition::Three)
 }
 
 // A test that stored no channel status word.
 fn stores_no_csw(condition: &Condition<Csw>) -> bool
-    ensures { (a : ℕ) → result ≡ nothing_changed (machine.Tio a, None, condition_seen csw_seen condition.now) }
+    ensures { (a : ℕ) → result ≡ changes_nothing (machine.Tio a, None, condition_seen csw_seen condition.now) }
 {
     !matches!(condition, Condition::Stored(_))
 }
 
 // A halt that halted no program, and stored nothing.
 fn halts_nothing(condition: &Condition<Status>) -> bool
-    ensures { (a : ℕ) → result ≡ nothing_changed (machine.Hio a, None, condition_seen status_seen condition.now) }
+    ensures { (a : ℕ) → result ≡ changes_nothing (machine.Hio a, None, condition_seen status_seen condition.now) }
 {
     matches!(condition, Condition::Zero | Condition::Three)
 }
 
 impl Exchange<'_> {
     ghost use Rattle.std.specs.Prelude.{◌≡◌};
-    ghost use Rattle.s360_laws.specs.SerialLists.{is_step as does_units, is_arrival as arrives, is_between as stands_between};
+    ghost use Rattle.s360_laws.specs.SerialLists.{is_step, is_arrival, is_between};
     ghost use Rattle.s360_deck.specs.Serial.{exchange_seen, units_done};
 
     // Whether it is a step.
     fn is_step(&self) -> bool
-        ensures { result ≡ does_units (exchange_seen self.now) }
+        ensures { result ≡ is_step (exchange_seen self.now) }
     {
         matches!(self.event, Event::Step(_) | Event::Run(_))
     }
@@ -139,14 +139,14 @@ impl Exchange<'_> {
 
     // Whether it is an arrival.
     fn is_arrival(&self) -> bool
-        ensures { result ≡ arrives (exchange_seen self.now) }
+        ensures { result ≡ is_arrival (exchange_seen self.now) }
     {
         matches!(self.event, Event::Arrive(_))
     }
 
     // Whether it stands between the steps of two programs.
     fn is_between(&self) -> bool
-        ensures { result ≡ stands_between (exchange_seen self.now) }
+        ensures { result ≡ is_between (exchange_seen self.now) }
     {
         matches!(self.event, Event::Sio(_) | Event::Hio(_) | Event::Reset)
     }
@@ -154,7 +154,7 @@ impl Exchange<'_> {
 
 // Whether there is a further step of the program.
 fn steps_ahead(list: &[Exchange]) -> bool
-    ensures { result ≡ has_steps_ahead (exchanges_seen list.now) }
+    ensures { result ≡ steps_ahead (exchanges_seen list.now) }
 {
     let mut rest = list;
     while let [exchange, behind @ ..] = rest {
@@ -171,7 +171,7 @@ fn steps_ahead(list: &[Exchange]) -> bool
 
 // Arrivals between the steps of a program stand behind the last of them.
 fn arrivals_last<'a>(alloc: Global, list: &[Exchange<'a>]) -> Result<Vec<Exchange<'a>>, AllocError>
-    ensures { IfOk result (λ ordered. exchanges_seen ordered.items ≡ with_arrivals_last false [] (exchanges_seen list.now)) }
+    ensures { IfOk result (λ ordered. exchanges_seen ordered.items ≡ arrivals_last false [] (exchanges_seen list.now)) }
 {
     let mut ordered = Vec::new(alloc);
     let mut held = Vec::new(alloc);
