@@ -2,8 +2,8 @@
 //! commands).
 
 ghost use Rattle.std.specs.Prelude.{◌≡◌};
-ghost use Rattle.ckd_command.specs.Drive.{first_registers as at_first};
-ghost use Rattle.ckd_command.specs.Commands.{beginning, cleared, refusal as refusal_of, is_out_of_sequence as out_of_sequence, with_cause, program_start as start_of_program, at_index, sense_after_begin, started as started_by};
+ghost use Rattle.ckd_command.specs.Drive.{first_registers};
+ghost use Rattle.ckd_command.specs.Commands.{beginning, cleared, refusal, is_out_of_sequence, with_cause, program_start, at_index, sense_after_begin, started};
 ghost use Rattle.ckd_command.specs.Answers.{Rejected, moved_to, begun_as};
 ghost use Rattle.ckd_command.specs.declared.registers.Registers.{Registers};
 
@@ -64,7 +64,7 @@ pub fn move_to(registers: &mut Registers, cylinder: u16, head: u16)
 
 /// What a drive remembers at first.
 pub fn first_registers() -> Registers
-    ensures { result ≡ at_first }
+    ensures { result ≡ first_registers }
 {
     Registers {
         cylinder: 0,
@@ -80,7 +80,7 @@ pub fn first_registers() -> Registers
 
 /// A channel program begins.
 pub fn start_program(registers: &mut Registers)
-    ensures { registers.new ≡ start_of_program registers.old }
+    ensures { registers.new ≡ program_start registers.old }
 {
     to_index(registers);
     registers.file_mask = FileMask::from_byte(0x00);
@@ -114,7 +114,7 @@ fn clear(command: Command, registers: &mut Registers)
 
 #[inline(always)]
 fn is_out_of_sequence(command: Command, registers: &Registers) -> bool
-    ensures { result ≡ out_of_sequence command registers.now }
+    ensures { result ≡ is_out_of_sequence command registers.now }
 {
     match tables::aim_of(command) {
         Aim::Credited => tables::credited(command, registers.credit).is_none(),
@@ -125,7 +125,7 @@ fn is_out_of_sequence(command: Command, registers: &Registers) -> bool
 // Why a command is not begun.
 #[inline(always)]
 fn refusal(command: Command, registers: &Registers) -> Option<Sense>
-    ensures { result ≡ refusal_of command registers.now }
+    ensures { result ≡ refusal command registers.now }
 {
     match registers.file_mask.permits(command) {
         Permit::NoWrite => Some(Sense::WRITE_NOT_ALLOWED),
@@ -145,7 +145,7 @@ fn rejected(command: Command, registers: &mut Registers, cause: Sense) -> Start
 
 #[inline(always)]
 fn started(command: Command, opened: Opened) -> Start
-    ensures { (r : Registers) → begun_as result r ≡ started_by command r opened }
+    ensures { (r : Registers) → begun_as result r ≡ started command r opened }
 {
     match command {
         Command::NoOperation => Start::Immediate,

@@ -2,7 +2,7 @@
 //! of the commands).
 
 ghost use Rattle.std.specs.Prelude.{◌≡◌, ◌+◌, ◌≤◌, length, slice_range};
-ghost use Rattle.ckd_command.specs.Commands.{command_end, fails as fails_by, at_end as registers_at_end, search_ends as search_closes, area_ends as area_closes, format_ends as format_closes, home_address_ends as home_address_closes, set_file_mask as mask_closes, seek_head as seek_head_closes, seek_cylinder_and_head as seek_closes, own_home_address as address_of, number as number_of};
+ghost use Rattle.ckd_command.specs.Commands.{command_end, fails, at_end, search_ends, area_ends, format_ends, home_address_ends, set_file_mask, seek_head, seek_cylinder_and_head, own_home_address, number};
 ghost use Rattle.ckd_command.specs.Answers.{closed_as, ClosedStays};
 
 use crate::begin::{Opened, add_cause};
@@ -46,7 +46,7 @@ pub const CHANNEL_END_ALONE: UnitStatus = UnitStatus(0x08);
 
 /// The command ends in unit check, for this cause.
 pub fn close_in_unit_check(registers: &mut Registers, cause: Sense) -> Closed
-    ensures closes { closed_as result registers.new ≡ command_end (fails_by registers.old cause) }
+    ensures closes { closed_as result registers.new ≡ command_end (fails registers.old cause) }
     ensures stays { ClosedStays result registers.old registers.new }
 {
     add_cause(registers, cause);
@@ -55,7 +55,7 @@ pub fn close_in_unit_check(registers: &mut Registers, cause: Sense) -> Closed
 
 /// The registers where a command ends on its area.
 pub fn end_at_area(opened: &Opened, registers: &mut Registers)
-    ensures { registers.new ≡ registers_at_end opened.now registers.old }
+    ensures { registers.new ≡ at_end opened.now registers.old }
 {
     if let Some(area) = opened.area {
         registers.position = Position::At(tables::area_left(tables::extent(opened.command), area));
@@ -70,7 +70,7 @@ pub fn close_search(
     satisfied: bool,
     whole: bool,
 ) -> Closed
-    ensures closes { closed_as result registers.new ≡ command_end (search_closes opened.now registers.old satisfied whole) }
+    ensures closes { closed_as result registers.new ≡ command_end (search_ends opened.now registers.old satisfied whole) }
     ensures stays { ClosedStays result registers.old registers.new }
 {
     end_at_area(opened, registers);
@@ -88,7 +88,7 @@ pub fn close_search(
 /// A read or an update closes, or a command that works on no area.
 #[inline(always)]
 pub fn close_area(opened: &Opened, registers: &mut Registers, no_data: bool) -> Closed
-    ensures closes { closed_as result registers.new ≡ command_end (area_closes opened.now registers.old no_data) }
+    ensures closes { closed_as result registers.new ≡ command_end (area_ends opened.now registers.old no_data) }
     ensures stays { ClosedStays result registers.old registers.new }
 {
     end_at_area(opened, registers);
@@ -101,7 +101,7 @@ pub fn close_area(opened: &Opened, registers: &mut Registers, no_data: bool) -> 
 
 /// A formatting write closes that made this record.
 pub fn close_format(registers: &mut Registers, new: usize) -> Closed
-    ensures closes { closed_as result registers.new ≡ command_end (format_closes registers.old new) }
+    ensures closes { closed_as result registers.new ≡ command_end (format_ends registers.old new) }
     ensures stays { ClosedStays result registers.old registers.new }
 {
     registers.position = Position::At(Area::Of(Part::Data, new));
@@ -111,7 +111,7 @@ pub fn close_format(registers: &mut Registers, new: usize) -> Closed
 
 /// Write Home Address closes that changed the track.
 pub fn close_home_address(opened: &Opened, registers: &mut Registers) -> Closed
-    ensures closes { closed_as result registers.new ≡ command_end (home_address_closes opened.now registers.old) }
+    ensures closes { closed_as result registers.new ≡ command_end (home_address_ends opened.now registers.old) }
     ensures stays { ClosedStays result registers.old registers.new }
 {
     end_at_area(opened, registers);
@@ -121,7 +121,7 @@ pub fn close_home_address(opened: &Opened, registers: &mut Registers) -> Closed
 
 /// Set File Mask closes with these bytes, one or none.
 pub fn close_set_file_mask(registers: &mut Registers, bytes: &[u8]) -> Closed
-    ensures closes { closed_as result registers.new ≡ command_end (mask_closes registers.old bytes.now) }
+    ensures closes { closed_as result registers.new ≡ command_end (set_file_mask registers.old bytes.now) }
     ensures stays { ClosedStays result registers.old registers.new }
 {
     let Some(byte) = bytes.first() else {
@@ -135,7 +135,7 @@ pub fn close_set_file_mask(registers: &mut Registers, bytes: &[u8]) -> Closed
 // A big-endian number of two bytes at this place.
 fn number_at(bytes: &[u8], at: usize) -> u16
     requires { at + 2 ≤ length bytes.now }
-    ensures { result ≡ number_of (slice_range bytes.now at (at + 2)) }
+    ensures { result ≡ number (slice_range bytes.now at (at + 2)) }
 {
     let pair = &bytes[at..at + 2];
     u16::from_be_bytes([pair[0], pair[1]])
@@ -144,7 +144,7 @@ fn number_at(bytes: &[u8], at: usize) -> u16
 /// Seek and Seek Cylinder close with a whole address.
 pub fn close_seek(geometry: Geometry, registers: &mut Registers, address: &[u8]) -> Closed
     requires { length address.now ≡ 6 }
-    ensures closes { closed_as result registers.new ≡ command_end (seek_closes geometry registers.old address.now) }
+    ensures closes { closed_as result registers.new ≡ command_end (seek_cylinder_and_head geometry registers.old address.now) }
     ensures stays { ClosedStays result registers.old registers.new }
 {
     let cylinder = number_at(address, 2);
@@ -168,7 +168,7 @@ pub fn close_seek(geometry: Geometry, registers: &mut Registers, address: &[u8])
 /// Seek Head closes with a whole address.
 pub fn close_seek_head(geometry: Geometry, registers: &mut Registers, address: &[u8]) -> Closed
     requires { length address.now ≡ 6 }
-    ensures closes { closed_as result registers.new ≡ command_end (seek_head_closes geometry registers.old address.now) }
+    ensures closes { closed_as result registers.new ≡ command_end (seek_head geometry registers.old address.now) }
     ensures stays { ClosedStays result registers.old registers.new }
 {
     let head = number_at(address, 4);
@@ -187,7 +187,7 @@ pub fn close_seek_head(geometry: Geometry, registers: &mut Registers, address: &
 
 /// The home address of the track under the arm, as Write Home Address must give it.
 pub fn own_home_address(registers: Registers) -> [u8; 5]
-    ensures { result ≡ address_of registers }
+    ensures { result ≡ own_home_address registers }
 {
     let [cylinder_high, cylinder_low] = registers.cylinder.to_be_bytes();
     let [head_high, head_low] = registers.head.to_be_bytes();

@@ -3,7 +3,7 @@
 
 ghost use Rattle.std.specs.Prelude.{◌≡◌, ◌<◌};
 ghost use Rattle.ckd_track.specs.Model.{heads_of};
-ghost use Rattle.ckd_command.specs.Commands.{turned as turned_by, next_head as at_next_head, sight_of as sight_by, at_index, with_cause};
+ghost use Rattle.ckd_command.specs.Commands.{turned, next_head, sight_of, at_index, with_cause};
 ghost use Rattle.ckd_command.specs.Answers.{Missed, seen_as, SeenStays};
 ghost use Rattle.ckd_command.specs.declared.begin.Opened.{Opened};
 
@@ -39,7 +39,7 @@ fn missed(registers: &mut Registers, cause: Sense) -> Seen
 // The index passes on the same track.
 fn turned(registers: &mut Registers) -> Seen
     ensures stays { SeenStays result registers.old registers.new }
-    ensures seen { (o : Opened) → seen_as result o registers.new ≡ turned_by registers.old registers.old.lap }
+    ensures seen { (o : Opened) → seen_as result o registers.new ≡ turned registers.old registers.old.lap }
 {
     match registers.lap {
         Lap::First => {
@@ -54,7 +54,7 @@ fn turned(registers: &mut Registers) -> Seen
 // The index passes, and a command with the multi-track bit goes on at the next head.
 fn next_head(geometry: Geometry, registers: &mut Registers) -> Seen
     requires { registers.old.head < heads_of geometry.model }
-    ensures seen { (o : Opened) → seen_as result o registers.new ≡ at_next_head geometry registers.old }
+    ensures seen { (o : Opened) → seen_as result o registers.new ≡ next_head geometry registers.old }
     ensures stays { SeenStays result registers.old registers.new }
 {
     if !registers.file_mask.head_change() {
@@ -70,7 +70,7 @@ fn next_head(geometry: Geometry, registers: &mut Registers) -> Seen
 #[inline(always)]
 pub fn sight_of(geometry: Geometry, opened: &Opened, registers: &mut Registers, next: Next) -> Seen
     requires { registers.old.head < heads_of geometry.model }
-    ensures seen { seen_as result opened.now registers.new ≡ sight_by geometry opened.now registers.old next }
+    ensures seen { seen_as result opened.now registers.new ≡ sight_of geometry opened.now registers.old next }
     ensures stays { SeenStays result registers.old registers.new }
 {
     match next {

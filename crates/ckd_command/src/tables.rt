@@ -1,7 +1,7 @@
 //! The commands as tables (component descriptions of the 2841 and the 2314, the sections of the commands).
 
 ghost use Rattle.std.specs.Prelude.{◌≡◌};
-ghost use Rattle.ckd_command.specs.Tables.{aim as aim_by, credited as credited_area, credit_of_search as credit_left, action_of as action_by, extent_of, is_search as searches, comparison as comparison_of, area_left as left_area, ends_with_data as tells_of_data, is_giving as gives};
+ghost use Rattle.ckd_command.specs.Tables.{aim, credited, credit_of_search, action_of, extent_of, is_search, comparison, area_left, ends_with_data, is_giving};
 
 use crate::registers::Credit;
 use ckd_position::{Area, Compare, Extent, Kind, Part};
@@ -46,7 +46,7 @@ pub enum Action {
 /// What a command works on.
 #[inline(always)]
 pub fn aim_of(command: Command) -> Aim
-    ensures { result ≡ aim_by command }
+    ensures { result ≡ aim command }
 {
     match command {
         Command::SearchHomeAddressEqual | Command::ReadHomeAddress | Command::WriteHomeAddress => {
@@ -79,7 +79,7 @@ pub fn aim_of(command: Command) -> Aim
 /// What a command does with the bytes that pass.
 #[inline(always)]
 pub fn action_of(command: Command) -> Action
-    ensures { result ≡ action_by command }
+    ensures { result ≡ action_of command }
 {
     match command {
         Command::NoOperation | Command::Recalibrate => Action::NoTransfer,
@@ -130,7 +130,7 @@ pub fn extent(command: Command) -> Extent
 /// The area behind which a command with this credit makes its record, or which it writes.
 #[inline(always)]
 pub fn credited(command: Command, credit: Option<Credit>) -> Option<Area>
-    ensures { result ≡ credited_area command credit }
+    ensures { result ≡ credited command credit }
 {
     match (command, credit) {
         (Command::WriteR0, Some(Credit::EqualHomeAddress)) => Some(Area::HomeAddress),
@@ -151,7 +151,7 @@ pub fn credited(command: Command, credit: Option<Credit>) -> Option<Area>
 /// The credit that a search leaves which found its whole area equal.
 #[inline(always)]
 pub fn credit_of_search(command: Command, area: Option<Area>) -> Option<Credit>
-    ensures { result ≡ credit_left command area }
+    ensures { result ≡ credit_of_search command area }
 {
     match (command, area) {
         (Command::SearchHomeAddressEqual, Some(Area::HomeAddress)) => Some(
@@ -166,7 +166,7 @@ pub fn credit_of_search(command: Command, area: Option<Area>) -> Option<Credit>
 /// Whether a command is a search.
 #[inline(always)]
 pub fn is_search(action: Action) -> bool
-    ensures { result ≡ searches action }
+    ensures { result ≡ is_search action }
 {
     matches!(action, Action::Search)
 }
@@ -174,7 +174,7 @@ pub fn is_search(action: Action) -> bool
 /// What a search asks of its area.
 #[inline(always)]
 pub fn comparison(command: Command) -> Compare
-    ensures { result ≡ comparison_of command }
+    ensures { result ≡ comparison command }
 {
     match command {
         Command::SearchIdHigh | Command::SearchKeyHigh => Compare::High,
@@ -186,7 +186,7 @@ pub fn comparison(command: Command) -> Compare
 /// The area at which the position is left by a command that worked on this one.
 #[inline(always)]
 pub fn area_left(extent: Extent, area: Area) -> Area
-    ensures { result ≡ left_area extent area }
+    ensures { result ≡ area_left extent area }
 {
     match (extent, area) {
         (Extent::CountKeyAndData, Area::Of(_, i)) => Area::Of(Part::Data, i),
@@ -197,7 +197,7 @@ pub fn area_left(extent: Extent, area: Area) -> Area
 /// Whether the bytes end with a record's data.
 #[inline(always)]
 pub fn ends_with_data(extent: Extent) -> bool
-    ensures { result ≡ tells_of_data extent }
+    ensures { result ≡ ends_with_data extent }
 {
     matches!(
         extent,
@@ -208,7 +208,7 @@ pub fn ends_with_data(extent: Extent) -> bool
 /// Whether the drive gives the bytes.
 #[inline(always)]
 pub fn is_giving(action: Action) -> bool
-    ensures { result ≡ gives action }
+    ensures { result ≡ is_giving action }
 {
     matches!(action, Action::GiveSense | Action::Read)
 }
