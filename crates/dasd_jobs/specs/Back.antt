@@ -16,6 +16,10 @@ changed_file path (Some f) = if nat_lt 0 f.changes then record { path = path; by
 abbrev pub changed_files : (paths : List (List ℕ)) → (stores : List (Option FileState)) → ℕ → List Replaced
 changed_files paths stores n = of_each (λ k. changed_file (slice_index_or paths k []) (file_at stores k)) n
 
+-- each store holds what it was made of
+abbrev pub AreAsMade : List (Option FileState) → Type 0
+AreAsMade stores = each (λ f. f.content) stores ≡ each (λ f. f.origin) stores
+
 -- a file that was not changed holds what was read of it
 abbrev pub IsKept : Option FileState → Type 0
 IsKept None = Unit {0}

@@ -1,9 +1,12 @@
 //! Images in memory, and the files that hold them.
 
-ghost use Rattle.std.specs.Prelude.{◌≡◌, ◌+◌, ◌<◌, ◌≤◌, [], length, map, All, IsSome, IfOk, OnOk};
+ghost use Rattle.std.specs.Prelude.{◌≡◌, ◌+◌, ◌<◌, ◌≤◌, [], length, map, replicate, All, IsSome, IfOk, OnOk};
 ghost use Rattle.arrayvec.specs.ArrayVec.{array_vec_len};
 ghost use Rattle.dasd_jobs.specs.Written.{WritesFile};
-ghost use Rattle.dasd_jobs.specs.Back.{WritesBack, WritesStores, WritesChanged};
+ghost use Rattle.ckd_track.specs.Geometry.{new_geometry};
+ghost use Rattle.ckd_image.specs.Layout.{image_length};
+ghost use Rattle.ckd_image.specs.Image.{HoldsImage, new_image};
+ghost use Rattle.dasd_jobs.specs.Back.{AreAsMade, WritesBack, WritesStores, WritesChanged};
 
 use crate::faults::{JobFault, of_read, of_write};
 use crate::files::{FileFault, ImageFiles, OpenedFile};
@@ -19,7 +22,8 @@ use std::alloc::Global;
 /// How many bytes of a file are read at once.
 const PIECE: usize = 65_536;
 
-/// The image that these files hold, in their order, read into memory. Each of them is locked, from before it is read.
+/// The image that these files hold, in their order, read into memory. Each of them is locked, from before it is read. Its stores
+/// hold what was read, and are known by it.
 ///
 /// # Errors
 ///
@@ -29,7 +33,8 @@ pub fn read_image<F: ImageFiles>(
     files: &mut F,
     paths: &[&str],
 ) -> Result<Image<VolumeFile>, JobFault>
-    ensures { F.written files.new ≡ F.written files.old }
+    ensures kept { F.written files.new ≡ F.written files.old }
+    ensures as_read { IfOk result (λ i. HoldsImage i.lasting.origins i) }
 {
     if paths.len() > MOST_FILES {
         return Err(JobFault::Mount(MountFault::Split));
@@ -51,6 +56,7 @@ fn append(stores: &mut ArrayVec<Option<VolumeFile>, MOST_FILES>, store: VolumeFi
     requires there { All IsSome stores.old.items }
     ensures there { All IsSome stores.new.items }
     ensures count { array_vec_len stores.new ≡ array_vec_len stores.old + 1 }
+    ensures as_made { AreAsMade stores.old.items → store.content ≡ store.origin → AreAsMade stores.new.items }
 {
     stores.push(Some(store));
 }
@@ -65,6 +71,7 @@ fn read_files<F: ImageFiles>(
     requires { length paths.now ≤ 8 }
     ensures kept { F.written files.new ≡ F.written files.old }
     ensures there { IfOk result (λ stores. All IsSome stores.items) }
+    ensures as_made { IfOk result (λ stores. AreAsMade stores.items) }
 {
     let mut stores = ArrayVec::new();
     for path in paths {
@@ -85,7 +92,8 @@ fn read_file<F: ImageFiles>(
     is_first: bool,
     heads: &mut Vec<Head>,
 ) -> Result<VolumeFile, JobFault>
-    ensures { F.written files.new ≡ F.written files.old }
+    ensures kept { F.written files.new ≡ F.written files.old }
+    ensures as_made { IfOk result (λ store. store.content ≡ store.origin) }
 {
     let mut file = match files.lock(alloc, path) {
         Ok(file) => file,
@@ -132,7 +140,9 @@ pub fn new_image(
     alloc: Global,
     model: DriveModel,
     cylinders: u16,
-) -> Result<Image<VolumeFile>, JobFault> {
+) -> Result<Image<VolumeFile>, JobFault>
+    ensures { IfOk result (λ i. i ≡ new_image model cylinders (replicate (image_length (new_geometry model cylinders)) 0) 0) }
+{
     let length = image_len(model, cylinders) as usize;
     let bytes = vec![in alloc; 0u8; length].map_err(|_| JobFault::OutOfMemory)?;
     match Image::format(VolumeFile::new(bytes), model, cylinders) {

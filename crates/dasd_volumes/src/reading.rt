@@ -32,7 +32,7 @@ pub trait SlotReader {
 impl<S: ImageStore> SlotReader for Image<S> {
     ghost use Rattle.std.specs.Prelude.{Some};
 
-    ghost volume = { λ i. record { geometry = i.geometry; slots = Some i.slots; header = i.header; saves = i.saves } };
+    ghost volume = { λ i. record { geometry = i.geometry; slots = Some i.slots; header = i.lasting.header; saves = i.saves } };
 
     ghost failures = { λ i. i.failures };
 
