@@ -1,13 +1,13 @@
 //! The slot of one track at hand, with a table of where its records stand.
 
 ghost use Rattle.std.specs.Prelude.{◌≡◌, ◌≤◌, ◌<◌, ◌+◌, ◌-◌, ◌/◌, ◌^◌, ◌==◌, length, drop, false, slice_index_or, IfOk, OnOk, OnErr, Ok, Some, [], true};
-ghost use Rattle.ckd_track.specs.Track.{track_of, track_in, track_or_none, no_track, slot_of, key_length as key_length_of, data_length as data_length_of};
+ghost use Rattle.ckd_track.specs.Track.{track_of, track_in, track_or_none, no_track, slot_of, key_length, data_length};
 ghost use Rattle.ckd_track.specs.Geometry.{tracks_of};
 ghost use Rattle.ckd_position.specs.Areas.{next_of_kind, IsOnTrack, IfFound};
 ghost use Rattle.ckd_track.specs.Changes.{overwritten, bare_track, kept_records};
 ghost use Rattle.ckd_track.specs.Model.{capacity_of};
 ghost use Rattle.std.specs.Option.{ForSome};
-ghost use Rattle.ckd_position.specs.Contents.{bytes_of, is_readable as reads, has_no_data as lacks_data, with_record_changed, replaced, kept as kept_on, record_before as before_of};
+ghost use Rattle.ckd_position.specs.Contents.{bytes_of, is_readable, has_no_data, with_record_changed, replaced, kept, record_before};
 ghost use Rattle.ckd_slot.specs.Buffer.{Lies, HasBytes, IsPlaceOf, StandsThere, home_address_place, record_place, IsRead, end_of_records, number_up_to, IsRecordOf, SameRecords, FitsSlot, IsUpdate, Formats};
 
 use crate::charges::Charged;
@@ -68,7 +68,7 @@ fn records_up_to(before: Option<usize>) -> usize
 
 // The record behind which a formatting write makes its own.
 fn record_before(after: Option<Area>) -> Option<usize>
-    ensures { result ≡ before_of after }
+    ensures { result ≡ record_before after }
 {
     match after {
         Some(Area::Of(_, i)) => Some(i),
@@ -108,7 +108,7 @@ fn home_address_window(extent: Extent) -> Window
 fn record_window(slot: &[u8], at: usize, extent: Extent) -> Window
     requires room { at + 8 ≤ length slot.now }
     requires size { length slot.now < 2 ^ 32 }
-    ensures { result ≡ record_place extent at (key_length_of (drop at slot.now)) (data_length_of (drop at slot.now)) }
+    ensures { result ≡ record_place extent at (key_length (drop at slot.now)) (data_length (drop at slot.now)) }
 {
     let count = &slot[at..];
     let key = key_length(count);
@@ -130,8 +130,8 @@ fn record_window(slot: &[u8], at: usize, extent: Extent) -> Window
 fn record_part(slot: &[u8], at: usize, extent: Extent) -> (Window, bool)
     requires room { at + 8 ≤ length slot.now }
     requires size { length slot.now < 2 ^ 32 }
-    ensures place { result.0 ≡ record_place extent at (key_length_of (drop at slot.now)) (data_length_of (drop at slot.now)) }
-    ensures no_data { result.1 ≡ (data_length_of (drop at slot.now) == 0) }
+    ensures place { result.0 ≡ record_place extent at (key_length (drop at slot.now)) (data_length (drop at slot.now)) }
+    ensures no_data { result.1 ≡ (data_length (drop at slot.now) == 0) }
 {
     (
         record_window(slot, at, extent),
@@ -196,7 +196,7 @@ impl TrackBuffer {
 
     /// Whether the slot reads whole.
     pub fn is_readable(&self) -> bool
-        ensures { result ≡ reads (track_of self.now) }
+        ensures { result ≡ is_readable (track_of self.now) }
     {
         self.records.is_some()
     }
@@ -215,7 +215,7 @@ impl TrackBuffer {
 
     /// Where these bytes of an area stand; an empty part where there are none.
     pub fn window(&self, extent: Extent, area: Area) -> Window
-        requires readable { reads (track_of self.now) ≡ true }
+        requires readable { is_readable (track_of self.now) ≡ true }
         requires on_track { HasBytes extent (track_of self.now) area }
         ensures lies { Lies self.now result (bytes_of extent (track_of self.now) area) }
         ensures place { IsPlaceOf extent (track_in self.now) area result }
@@ -225,8 +225,8 @@ impl TrackBuffer {
 
     /// Whether the area's record has no data, or is not there.
     pub fn has_no_data(&self, area: Area) -> bool
-        requires { reads (track_of self.now) ≡ true }
-        ensures { result ≡ lacks_data (track_of self.now) (Some area) }
+        requires { is_readable (track_of self.now) ≡ true }
+        ensures { result ≡ has_no_data (track_of self.now) (Some area) }
     {
         self.part(Extent::Nothing, area).1
     }
@@ -235,11 +235,11 @@ impl TrackBuffer {
     /// not there.
     #[inline(always)]
     pub fn part(&self, extent: Extent, area: Area) -> (Window, bool)
-        requires readable { reads (track_of self.now) ≡ true }
+        requires readable { is_readable (track_of self.now) ≡ true }
         requires on_track { HasBytes extent (track_of self.now) area }
         ensures lies { Lies self.now result.0 (bytes_of extent (track_of self.now) area) }
         ensures place { IsPlaceOf extent (track_in self.now) area result.0 }
-        ensures no_data { result.1 ≡ lacks_data (track_of self.now) (Some area) }
+        ensures no_data { result.1 ≡ has_no_data (track_of self.now) (Some area) }
     {
         match area {
             Area::HomeAddress => (home_address_window(extent), false),
@@ -252,7 +252,7 @@ impl TrackBuffer {
 
     // Where record `i` stands, if it is there.
     fn offset_of(&self, i: usize) -> Option<usize>
-        requires { reads (track_of self.now) ≡ true }
+        requires { is_readable (track_of self.now) ≡ true }
         ensures { StandsThere self.now i result }
     {
         let Some(n) = self.records else {
@@ -266,7 +266,7 @@ impl TrackBuffer {
 
     // Where the first records end, so many of them.
     fn end_of(&self, records: usize) -> usize
-        requires readable { reads (track_of self.now) ≡ true }
+        requires readable { is_readable (track_of self.now) ≡ true }
         requires there { records ≤ length (track_in self.now).records }
         ensures place { result ≡ end_of_records (track_in self.now) records }
         ensures room { result + 8 ≤ length self.now }
@@ -284,8 +284,8 @@ impl TrackBuffer {
 
     // The record behind which a formatting write makes its own, as far as the track has it.
     fn before(&self, after: Option<Area>) -> Option<usize>
-        requires { reads (track_of self.now) ≡ true }
-        ensures kept { kept_records result (track_in self.now) ≡ kept_on (track_of self.now) after }
+        requires { is_readable (track_of self.now) ≡ true }
+        ensures kept { kept_records result (track_in self.now) ≡ kept (track_of self.now) after }
         ensures there { ForSome result (λ i. i < length (track_in self.now).records) }
     {
         let Some(i) = record_before(after) else {
@@ -319,7 +319,7 @@ impl TrackBuffer {
         after: Option<Area>,
         count: [u8; 8],
     ) -> Option<(usize, Window)>
-        requires readable { reads (track_of self.old) ≡ true }
+        requires readable { is_readable (track_of self.old) ≡ true }
         requires size { capacity_of model + 37 ≤ length self.old }
         ensures formats { Formats model after count self.old self.new result }
         ensures size { length self.new ≡ length self.old }
@@ -342,7 +342,7 @@ impl TrackBuffer {
 
     /// Puts zeros in the place of the bytes of a record's area, and behind the end mark.
     pub fn clear(&mut self, extent: Extent, area: Area)
-        requires readable { reads (track_of self.old) ≡ true }
+        requires readable { is_readable (track_of self.old) ≡ true }
         requires update { IsUpdate extent }
         requires there { IsRecordOf (track_in self.old) area }
         ensures slot { self.new ≡ slot_of (length self.old) (with_record_changed (replaced extent []) area (track_in self.old)) }
