@@ -2,7 +2,7 @@
 
 ghost use Rattle.std.specs.Prelude.{◌≡◌, false, [], Some};
 ghost use Rattle.ckd_command.specs.Drive.{is_written, unsaved};
-ghost use Rattle.s360_runs.specs.Endings.{ending as ending_with};
+ghost use Rattle.s360_runs.specs.Endings.{ending};
 ghost use Rattle.ckd_drive.specs.Work.{passed_of, fault_met, CallsStore, Reports};
 ghost use Rattle.s360_program.specs.Advances.{IsEnding};
 ghost use Rattle.s360_program.specs.Place.{place_of};
@@ -32,24 +32,24 @@ pub const FAILED: DriveEnding = DriveEnding {
 #[inline(never)]
 pub fn end_program<S: ImageStore>(
     run: &mut Run,
-    ending: DriveEnding,
+    drive_ending: DriveEnding,
     condition: Condition,
     drive: &mut Drive<S>,
 )
     requires { passed_of drive.old.work ≡ [] }
-    ensures ending { IsEnding (ending_with (fault_met drive.old drive.new) run.old.key (place_of run.old.place) (closed_with drive.old.state ending) (status_of condition)) (told_of run.new) drive.new }
+    ensures ending { IsEnding (ending (fault_met drive.old drive.new) run.old.key (place_of run.old.place) (closed_with drive.old.state drive_ending) (status_of condition)) (told_of run.new) drive.new }
     ensures calls { CallsStore false (is_written drive.old.state) drive.old drive.new }
     ensures reported { Reports (unsaved drive.new.state ≡ Some (drive.old.state.registers.cylinder, drive.old.state.registers.head)) drive.old drive.new }
 {
     let unit = match drive.settle() {
-        Ok(()) => ending.unit,
-        Err(_) => UnitStatus(ending.unit.0 | UnitStatus::UNIT_CHECK.0),
+        Ok(()) => drive_ending.unit,
+        Err(_) => UnitStatus(drive_ending.unit.0 | UnitStatus::UNIT_CHECK.0),
     };
     let channel = with_interruption(run.place.interruption, condition.beside(unit));
     run.ended = Ended {
         unit,
         channel,
-        motion: ending.motion,
+        motion: drive_ending.motion,
     };
 }
 

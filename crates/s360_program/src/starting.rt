@@ -2,7 +2,7 @@
 
 ghost use Rattle.std.specs.Prelude.{Bool, ◌≡◌, ◌<◌, ◌≤◌, ◌^◌, true, false, None};
 ghost use Rattle.ckd_command.specs.Drive.{is_written, unsaved};
-ghost use Rattle.ckd_drive.specs.Work.{is_idle, may_end, immediate_ending, Over as IsOver};
+ghost use Rattle.ckd_drive.specs.Work.{is_idle, may_end, immediate_ending, Over};
 ghost use Rattle.s360_program.specs.Starting.{FirstBegun, ImmediateDone, StartsQuietly};
 
 use crate::place::Place;
@@ -63,7 +63,7 @@ fn immediate<S: ImageStore>(key: u8, place: Place, ccw: Ccw, drive: &mut Drive<S
     requires key { key < 16 }
     requires next { place.next ≤ 2 ^ 24 }
     requires last { place.last ≤ 2 ^ 24 }
-    ensures { (motion : Bool) → drive.old.work ≡ IsOver (immediate_ending motion) → ImmediateDone key ccw place motion result drive.old drive.new }
+    ensures { (motion : Bool) → drive.old.work ≡ Over (immediate_ending motion) → ImmediateDone key ccw place motion result drive.old drive.new }
 {
     let ending = drive.end();
     if ccw.chains_command() {

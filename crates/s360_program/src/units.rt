@@ -4,14 +4,14 @@ ghost use Rattle.std.specs.Prelude.{◌≡◌, ◌⊎◌, ◌<◌, ◌≤◌, �
 ghost use Rattle.s360_words.specs.Words.{suppresses_length};
 ghost use Rattle.ckd_command.specs.Drive.{is_written, unsaved};
 ghost use Rattle.s360_runs.specs.Commands.{choice};
-ghost use Rattle.s360_runs.specs.Endings.{ending as ending_with};
+ghost use Rattle.s360_runs.specs.Endings.{ending};
 ghost use Rattle.s360_runs.specs.Units.{unit, next_chosen, Between, EndsIn, standing_in};
 ghost use Rattle.s360_runs.specs.Unsaved.{has_written};
 ghost use Rattle.s360_words.specs.Storage.{Storage as StorageState};
 ghost use Rattle.ckd_drive.specs.Work.{is_idle, may_end, closed_of, CallsStore};
 ghost use Rattle.s360_program.specs.Advances.{RunsOn, CallsAtMost, KeepsStorage, NeedNoStore, TellsOf};
 ghost use Rattle.s360_program.specs.Stands.{phase_in, Within};
-ghost use Rattle.s360_program.specs.Steps.{run_of, Fits, IsQuiet, ComesBy, EndsBy, Steps, has_passed, goes_on, point_at, request_at, status_of, condition_for, differs, needs_area as wants_area};
+ghost use Rattle.s360_program.specs.Steps.{run_of, Fits, IsQuiet, ComesBy, EndsBy, Steps, has_passed, goes_on, point_at, request_at, status_of, condition_for, differs, needs_area};
 
 use crate::conditions::{Condition, chains};
 use crate::endings::{FAILED, UNTOUCHED, end_program, told};
@@ -171,7 +171,7 @@ impl Run {
     ) -> Step
         requires may { may_end drive.old.work ≡ true }
         requires saved { unsaved drive.old.state ≡ None }
-        ensures comes { ComesBy self.old.key (λ f. EndsIn _storage.now (ending_with f self.old.key (run_of self.old).place (closed_of f drive.old drive.old.work) (status_of condition))) result self.new _storage.now drive.old drive.new }
+        ensures comes { ComesBy self.old.key (λ f. EndsIn _storage.now (ending f self.old.key (run_of self.old).place (closed_of f drive.old drive.old.work) (status_of condition))) result self.new _storage.now drive.old drive.new }
         ensures loads { drive.new.image.loads ≡ drive.old.image.loads }
         ensures calls { CallsAtMost 1 drive.old drive.new }
         ensures quiet { IsQuiet drive.old → drive.new.image ≡ drive.old.image }
@@ -272,7 +272,7 @@ impl Run {
     fn next_area<S: ImageStore>(&mut self, storage: &Storage, drive: &mut Drive<S>) -> Step
         requires fits { Fits self.old drive.old }
         requires stage { self.old.comes ≡ Comes.Bytes }
-        requires needs { wants_area (run_of self.old) ≡ true }
+        requires needs { needs_area (run_of self.old) ≡ true }
         ensures comes { ComesBy self.old.key (λ f. unit f self.old.key (phase_in (run_of self.old) storage.now drive.old)) result self.new storage.now drive.old drive.new }
         ensures loads { drive.new.image.loads ≡ drive.old.image.loads }
         ensures calls { CallsAtMost 1 drive.old drive.new }
