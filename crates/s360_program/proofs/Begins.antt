@@ -17,7 +17,7 @@ use Rattle.ckd_drive.specs.Work.{DriveState, Over, fault_met, with_image, CallsS
 use Rattle.s360_program.specs.Advances.{IsEnding}
 use Rattle.s360_program.specs.Steps.{EndsBy, ComesBy, status_of, condition_for}
 use Rattle.ckd_drive.specs.declared.answers.Begun.TheVariants as begun
-use Rattle.s360_program.specs.declared.conditions.Condition.TheVariants as condition
+use Rattle.s360_program.specs.declared.conditions.ChannelCondition.TheVariants as condition
 use Rattle.s360_program.specs.declared.run.Run.{Run}
 use Rattle.s360_program.specs.declared.run.Step.{Step}
 use Rattle.s360_program.proofs.Ends.{calm_before}

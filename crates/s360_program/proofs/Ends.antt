@@ -21,7 +21,7 @@ use Rattle.s360_program.specs.Advances.{IsEnding}
 use Rattle.s360_program.specs.Place.{place_of, modified_place}
 use Rattle.s360_program.specs.Stands.{StageFits, StageWithin, PlaceWithin, phase_by}
 use Rattle.s360_program.specs.Steps.{EndsBy, GoesBy, closed_with, request_at, status_of, condition_for, chains_after}
-use Rattle.s360_program.specs.declared.conditions.Condition.{Condition}
+use Rattle.s360_program.specs.declared.conditions.ChannelCondition.{ChannelCondition}
 use Rattle.s360_program.specs.declared.run.Run.{Run}
 use Rattle.s360_program.specs.Stage.{stage_of}
 use Rattle.s360_program.specs.Stage as stage
@@ -54,7 +54,7 @@ failed_tells e h = ap (λ (e : DriveEnding). tells e.unit UNIT_CHECK) h
 
 -- The program ends with the command.
 
-module _ (key : ℕ) (p : Place) (k : Condition) (s : Storage) (told : Csw × Bool) (So : Type 0) (d0 d1 d2 : DriveState) (e : DriveEnding)
+module _ (key : ℕ) (p : Place) (k : ChannelCondition) (s : Storage) (told : Csw × Bool) (So : Type 0) (d0 d1 d2 : DriveState) (e : DriveEnding)
     (saved : unsaved d0.state ≡ None)
     (state : d1 ≡ with_image (after_end (fault_met d0 d1) d0) d1.image) (ended : e ≡ ending_of (closed_of (fault_met d0 d1) d0 d0.work))
     (calls : CallsStore false (end_saves d0) d0 d1) (reports : Reports (e ≡ failed_ending) d0 d1)
@@ -84,21 +84,21 @@ module _ (key : ℕ) (p : Place) (k : Condition) (s : Storage) (told : Csw × Bo
 never : {P : Type 0} → ◌≡◌ {A = Bool} false true → P
 never h = absurd (cc)
 
-not_failed : (ccw : Ccw) (e : DriveEnding) (k : Condition) → chains_after ccw e.unit k ≡ true → e ≡ failed_ending → ⊥
+not_failed : (ccw : Ccw) (e : DriveEnding) (k : ChannelCondition) → chains_after ccw e.unit k ≡ true → e ≡ failed_ending → ⊥
 not_failed ccw e k h is = go (chains_command ccw) (is_clear (status_of k)) (subst (λ (e : DriveEnding). chains_after ccw e.unit k ≡ true) is h)
   where
     go : (b c : Bool) → ((b && false) && c) ≡ true → ⊥
     go true c h = never h
     go false c h = never h
 
-pub good_end : (ccw : Ccw) (k : Condition) (d0 d1 : DriveState) (e : DriveEnding) → Reports (e ≡ failed_ending) d0 d1 → chains_after ccw e.unit k ≡ true → d1.image.failures ≡ d0.image.failures
+pub good_end : (ccw : Ccw) (k : ChannelCondition) (d0 d1 : DriveState) (e : DriveEnding) → Reports (e ≡ failed_ending) d0 d1 → chains_after ccw e.unit k ≡ true → d1.image.failures ≡ d0.image.failures
 good_end ccw k d0 d1 e reports chains = go reports.failed
   where
     go : (d1.image.failures ≡ d0.image.failures) ⊎ ((e ≡ failed_ending) × (tells_equipment_check d1.state.registers.sense ≡ true) × (is_written d1.state ≡ false)) → d1.image.failures ≡ d0.image.failures
     go (inl h) = h
     go (inr h) = absurd (not_failed ccw e k chains h.0)
 
-pub chains_on : (r q : Run) (s : Storage) (ccw : Ccw) (incorrect : Bool) (k : Condition) (d0 d1 : DriveState) (e : DriveEnding) → unsaved d0.state ≡ None
+pub chains_on : (r q : Run) (s : Storage) (ccw : Ccw) (incorrect : Bool) (k : ChannelCondition) (d0 d1 : DriveState) (e : DriveEnding) → unsaved d0.state ≡ None
     → d1 ≡ with_image (after_end (fault_met d0 d1) d0) d1.image → e ≡ ending_of (closed_of (fault_met d0 d1) d0 d0.work)
     → Reports (e ≡ failed_ending) d0 d1 → k ≡ condition_for incorrect e.unit → chains_after ccw e.unit k ≡ true
     → r.key < 16 → q.key ≡ r.key → stage_of q ≡ stage.Between → place_of q.place ≡ modified_place (place_of r.place) e.unit → PlaceWithin (place_of q.place)

@@ -18,7 +18,7 @@ use Rattle.s360_program.specs.Advances.{IsEnding}
 use Rattle.s360_program.specs.Place.{place_of}
 use Rattle.s360_program.specs.Stands.{StageFits, StageWithin, phase_by, phase_in}
 use Rattle.s360_program.specs.Steps.{run_of, Fits, EndsBy, Steps, WalksBy, told_of}
-use Rattle.s360_program.specs.declared.conditions.Condition.TheVariants as condition
+use Rattle.s360_program.specs.declared.conditions.ChannelCondition.TheVariants as condition
 use Rattle.s360_program.specs.declared.run.Run.{Run}
 use Rattle.s360_program.specs.Stage.{stage_by, stage_of}
 use Rattle.s360_program.specs.Stage as stage

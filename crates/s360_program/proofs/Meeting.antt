@@ -22,8 +22,8 @@ use Rattle.s360_runs.specs.Unsaved.{GainsNoCheck}
 use Rattle.ckd_drive.specs.Work.{DriveState, fault_met, CallsStore, Reports}
 use Rattle.s360_program.specs.Advances.{IsEnding, TellsFault, CallsAtMost}
 use Rattle.s360_program.specs.Steps.{IsMetBy, ToldOf, EndsBy, ComesBy, told_of, status_of}
-use Rattle.s360_program.specs.declared.conditions.Condition.{Condition}
-use Rattle.s360_program.specs.declared.conditions.Condition.TheVariants as condition
+use Rattle.s360_program.specs.declared.conditions.ChannelCondition.{ChannelCondition}
+use Rattle.s360_program.specs.declared.conditions.ChannelCondition.TheVariants as condition
 use Rattle.s360_program.specs.declared.run.Run.{Run}
 use Rattle.s360_program.specs.declared.run.Step.{Step}
 use Rattle.s360_program.specs.declared.run.Step.TheVariants as step
@@ -116,18 +116,18 @@ settled_failed left c h = go c.state.mark h
     go Lost k = never k
     go Written k = ap (λ n. not (n == 0)) (and_or_self 0x02 c.unit.0)
 
-ending_unwritten : (f g : Option Fault) (key : ℕ) (p : Place) (c : Closed) (k : Condition) → is_written c.state ≡ false → ending f key p c (status_of k) ≡ ending g key p c (status_of k)
+ending_unwritten : (f g : Option Fault) (key : ℕ) (p : Place) (c : Closed) (k : ChannelCondition) → is_written c.state ≡ false → ending f key p c (status_of k) ≡ ending g key p c (status_of k)
 ending_unwritten f g key p c k h =
     ap (λ c. settled_ending key p c (status_of k)) (settled_unwritten f c h) ∙ sym (ap (λ c. settled_ending key p c (status_of k)) (settled_unwritten g c h))
 
 -- incorrect length is not reported beside unit check
-length_untold : (asked : Bool) (unit : UnitStatus) (k : Condition) → tells unit UNIT_CHECK ≡ true → has (with_interruption asked (beside unit (status_of k))).0 INCORRECT_LENGTH.0 ≡ false
+length_untold : (asked : Bool) (unit : UnitStatus) (k : ChannelCondition) → tells unit UNIT_CHECK ≡ true → has (with_interruption asked (beside unit (status_of k))).0 INCORRECT_LENGTH.0 ≡ false
 length_untold asked unit k h = ap (λ b. has (with_interruption asked (if b && is_length k then record { 0 = 0 } else status_of k)).0 INCORRECT_LENGTH.0) h ∙ go asked k
   where
-    is_length : Condition → Bool
+    is_length : ChannelCondition → Bool
     is_length k = (status_of k).0 == INCORRECT_LENGTH.0
 
-    go : (asked : Bool) (k : Condition) → has (with_interruption asked (if is_length k then record { 0 = 0 } else status_of k)).0 INCORRECT_LENGTH.0 ≡ false
+    go : (asked : Bool) (k : ChannelCondition) → has (with_interruption asked (if is_length k then record { 0 = 0 } else status_of k)).0 INCORRECT_LENGTH.0 ≡ false
     go true condition.Clear = refl
     go true condition.IncorrectLength = refl
     go true condition.ProgramCheck = refl
@@ -137,7 +137,7 @@ length_untold asked unit k h = ap (λ b. has (with_interruption asked (if b && i
     go false condition.ProgramCheck = refl
     go false condition.ProtectionCheck = refl
 
-tells_fault : (f : Option Fault) (key : ℕ) (p : Place) (c : Closed) (k : Condition) (told : Csw × Bool) (d : DriveState) → tells (settled f c).unit UNIT_CHECK ≡ true
+tells_fault : (f : Option Fault) (key : ℕ) (p : Place) (c : Closed) (k : ChannelCondition) (told : Csw × Bool) (d : DriveState) → tells (settled f c).unit UNIT_CHECK ≡ true
     → tells_equipment_check d.state.registers.sense ≡ true → IsEnding (ending f key p c (status_of k)) told d → TellsFault told.0 d
 tells_fault f key p c k told d unit sense is = record {
   unit_check = ap (λ (w : Csw). tells w.unit UNIT_CHECK) is.csw ∙ unit;
@@ -147,7 +147,7 @@ tells_fault f key p c k told d unit sense is = record {
 
 -- A call of the drive, and then the end of the program: together they meet the fault of the one that failed. `At f` says that with
 -- the fault f the call comes to what it came to.
-pub ends_after : (At : Option Fault → Type 0) (Failed So : Type 0) (next : Option Fault → Next) (c : Closed) (key : ℕ) (p : Place) (k : Condition) (s : Storage) (told : Csw × Bool) (l m : Bool) (d0 d1 d2 : DriveState)
+pub ends_after : (At : Option Fault → Type 0) (Failed So : Type 0) (next : Option Fault → Next) (c : Closed) (key : ℕ) (p : Place) (k : ChannelCondition) (s : Storage) (told : Csw × Bool) (l m : Bool) (d0 d1 d2 : DriveState)
     → ((f : Option Fault) → At f → next f ≡ EndsIn s (ending f key p c (status_of k)))
     → (At None → (left : List ℕ) → is_written c.state ≡ true → At (Some (SaveFails left)))
     → (At None → Calm (tells_equipment_check (drive_of d0.state).sense ≡ false) c.state)
@@ -237,7 +237,7 @@ ends_after At Failed So next c key p k s told l m d0 d1 d2 nexts stable calm fai
     by_count (inr h) = by_report h.0 reports.failed
 
 -- The program ends by one call of the drive, its last.
-pub ends_now : (next : Option Fault → Next) (c : Closed) (key : ℕ) (p : Place) (k : Condition) (s : Storage) (told : Csw × Bool) (So : Type 0) (d0 d2 : DriveState)
+pub ends_now : (next : Option Fault → Next) (c : Closed) (key : ℕ) (p : Place) (k : ChannelCondition) (s : Storage) (told : Csw × Bool) (So : Type 0) (d0 d2 : DriveState)
     → ((f : Option Fault) → next f ≡ EndsIn s (ending f key p c (status_of k))) → c.state ≡ d0.state → unsaved d0.state ≡ None
     → CallsStore false (is_written d0.state) d0 d2 → Reports So d0 d2
     → IsEnding (ending (fault_met d0 d2) key p c (status_of k)) told d2 → EndsBy next told s d0 d2

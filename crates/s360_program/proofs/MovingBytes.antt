@@ -19,7 +19,7 @@ use Rattle.s360_runs.specs.Transfers.{Transfer, Moves, Completes, transfer_unit,
 use Rattle.ckd_drive.specs.Work.{DriveState, Work, Idle, Over, Looking, Passing, takes_now, gives_now, given_now, passed_of, left_of, moved_on}
 use Rattle.s360_program.specs.Advances.{KeepsStorage}
 use Rattle.s360_program.specs.Steps.{MovesBy, MovesBytesBy, transfer_by, status_of}
-use Rattle.s360_program.specs.declared.conditions.Condition.{Condition}
+use Rattle.s360_program.specs.declared.conditions.ChannelCondition.{ChannelCondition}
 
 taken_one : (xs : List ℕ) (i : ℕ) → i < length xs → length (take 1 (drop i xs)) ≡ 1
 taken_one [] i h = absurd (omega arith)
@@ -245,7 +245,7 @@ gives_so m key ccw a most s s2 d d2 (Passing o b left) f g p le ml free e es = (
     counted = omega (arith, length-take-le m (drop (length b) (given (record { opened = o; state = d.state }))) (omega (arith, length-drop (length b) (given (record { opened = o; state = d.state })), long)))
 
 -- a check says why the first byte may not move
-pub gives_not : (check : Condition) (key : ℕ) (ccw : Ccw) (a most : ℕ) (s : Storage) (d : DriveState) (w : Work) → MovesBy d.state w → gives_now w ≡ true → is_clear (status_of check) ≡ false
+pub gives_not : (check : ChannelCondition) (key : ℕ) (ccw : Ccw) (a most : ℕ) (s : Storage) (d : DriveState) (w : Work) → MovesBy d.state w → gives_now w ≡ true → is_clear (status_of check) ≡ false
     → (if skips ccw then no_channel_status else (if not (is_some (slice_get s.bytes a)) then PROGRAM_CHECK else (if not (admits (key_at s a) key) then PROTECTION_CHECK else no_channel_status))) ≡ status_of check
     → MovesBytesBy key ccw a most (Err check) s s d d w
 gives_not check key ccw a most s d Idle f g c e = absurd f

@@ -21,8 +21,8 @@ use Rattle.s360_runs.specs.Units.{ProgramPhase, Moving, Next, EndsIn, unit, next
 use Rattle.s360_program.specs.Place.{place_of}
 use Rattle.s360_program.specs.Stands.{StageFits, StageWithin, phase_by, phase_in}
 use Rattle.s360_program.specs.Steps.{run_of, Fits, ComesBy, Steps, WalksBy, Flows, FlowsBy, with_left, MovesBytes, MovesBytesBy, MovesBytesAs, status_of, condition_for, differs}
-use Rattle.s360_program.specs.declared.conditions.Condition.{Condition}
-use Rattle.s360_program.specs.declared.conditions.Condition.TheVariants as condition
+use Rattle.s360_program.specs.declared.conditions.ChannelCondition.{ChannelCondition}
+use Rattle.s360_program.specs.declared.conditions.ChannelCondition.TheVariants as condition
 use Rattle.s360_program.specs.declared.moving.Flow.{Flow}
 use Rattle.s360_program.specs.declared.run.Run.{Run}
 use Rattle.s360_program.specs.Stage.{stage_by, stage_of}
@@ -128,7 +128,7 @@ module _ (key : ℕ) (ccw : Ccw) (a : ℕ) (p : Place) (s : Storage) (d0 d1 : Dr
   completes f incorrect flows needs spent i = completes_by f incorrect d0.work flows.told needs spent flows.drive i
 
   -- a check stops it
-  checks_by : (check : Condition) (most : ℕ) (s2 : Storage) (d2 : DriveState) (w : Work) → FlowsBy flow d0.state w → (p.residual == 0 && chains_data ccw) ≡ false → (p.residual == 0 || flow.left == 0) ≡ false
+  checks_by : (check : ChannelCondition) (most : ℕ) (s2 : Storage) (d2 : DriveState) (w : Work) → FlowsBy flow d0.state w → (p.residual == 0 && chains_data ccw) ≡ false → (p.residual == 0 || flow.left == 0) ≡ false
       → MovesBytesBy key ccw a most (Err check) s s2 (record d0 { work = with_left flow.left w }) d2 (with_left flow.left w)
       → (s2 ≡ s) × (d2.image ≡ d0.image) × (d2.state ≡ d0.state)
       × ((f : Option Fault) → unit f key (phase_by (stage.Moving ccw a) p s d0.state w) ≡ EndsIn s2 (ending f key p (closed_of f d2 d2.work) (status_of check)))
@@ -149,7 +149,7 @@ module _ (key : ℕ) (ccw : Ccw) (a : ℕ) (p : Place) (s : Storage) (d0 d1 : Dr
           ∙ ap (λ s. EndsIn s (ending f key p (close f O b) (status_of check))) (sym q.0)
           ∙ ap (λ (d : DriveState). EndsIn s2 (ending f key p (closed_of f d d.work) (status_of check))) (sym q.1)
 
-  pub checks : (check : Condition) (most : ℕ) (s2 : Storage) (d2 : DriveState) → Flows flow d0 d1 → (p.residual == 0 && chains_data ccw) ≡ false → (p.residual == 0 || flow.left == 0) ≡ false
+  pub checks : (check : ChannelCondition) (most : ℕ) (s2 : Storage) (d2 : DriveState) → Flows flow d0 d1 → (p.residual == 0 && chains_data ccw) ≡ false → (p.residual == 0 || flow.left == 0) ≡ false
       → MovesBytes key ccw a most s d1 (Err check) s2 d2
       → (s2 ≡ s) × (d2.image ≡ d0.image) × (d2.state ≡ d0.state)
       × ((f : Option Fault) → unit f key (phase_by (stage.Moving ccw a) p s d0.state d0.work) ≡ EndsIn s2 (ending f key p (closed_of f d2 d2.work) (status_of check)))

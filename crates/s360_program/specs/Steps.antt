@@ -24,8 +24,8 @@ use Rattle.s360_runs.specs.Unsaved.{GainsNoCheck}
 use Rattle.s360_program.specs.Advances.{IsEnding, TellsFault, TellsNoFault}
 use Rattle.s360_program.specs.Place.{place_of}
 use Rattle.s360_program.specs.Stands.{RunningState, LeftFits, Stands, Within, phase_in}
-use Rattle.s360_program.specs.declared.conditions.Condition.{Condition}
-use Rattle.s360_program.specs.declared.conditions.Condition.TheVariants as condition
+use Rattle.s360_program.specs.declared.conditions.ChannelCondition.{ChannelCondition}
+use Rattle.s360_program.specs.declared.conditions.ChannelCondition.TheVariants as condition
 use Rattle.s360_program.specs.declared.moving.Flow.{Flow}
 use Rattle.s360_program.specs.declared.program.Ran.{Ran}
 use Rattle.s360_program.specs.declared.run.Run.{Run}
@@ -48,18 +48,18 @@ pub record Fits (r : Run) (d : DriveState) : Type 0 where
 -- Channel status.
 
 -- channel status, by what the code keeps of it
-abbrev pub status_of : Condition → ChannelStatus
+abbrev pub status_of : ChannelCondition → ChannelStatus
 status_of condition.Clear = no_channel_status
 status_of condition.IncorrectLength = INCORRECT_LENGTH
 status_of condition.ProgramCheck = PROGRAM_CHECK
 status_of condition.ProtectionCheck = PROTECTION_CHECK
 
 -- incorrect length is not reported beside unit check
-abbrev pub condition_for : (incorrect : Bool) → UnitStatus → Condition
+abbrev pub condition_for : (incorrect : Bool) → UnitStatus → ChannelCondition
 condition_for incorrect unit = if incorrect && not (tells unit UNIT_CHECK) then condition.IncorrectLength else condition.Clear
 
 -- whether a command chains to the next: chain command is on, and nothing stops it
-abbrev pub chains_after : Ccw → UnitStatus → Condition → Bool
+abbrev pub chains_after : Ccw → UnitStatus → ChannelCondition → Bool
 chains_after ccw unit c = chains_command ccw && not (stops_chaining unit) && is_clear (status_of c)
 
 -- Faults.
@@ -191,7 +191,7 @@ pub record MovesBytesAs (m key : ℕ) (o : Open) (t : Transfer) (w : Work) (s_ne
   pub drive : d_new ≡ record d { work = moved_on (next_bytes m o t) w }
 
 -- bytes of an open command move, or the first of them may not, for this reason
-abbrev pub MovesBytesBy : (key : ℕ) → Ccw → (address most : ℕ) → Result ℕ Condition → (s s_new : Storage) → (d d_new : DriveState) → Work → Type 0
+abbrev pub MovesBytesBy : (key : ℕ) → Ccw → (address most : ℕ) → Result ℕ ChannelCondition → (s s_new : Storage) → (d d_new : DriveState) → Work → Type 0
 MovesBytesBy key ccw address most (Ok m) s s_new d d_new (Passing o b left) =
     (0 < m) × (m ≤ most) × ((p : Place) → m ≤ p.residual →
     MovesBytesAs m key (record { opened = o; state = d.state }) (transfer_by ccw address s p (Passing o b left)) (Passing o b left) s_new d d_new)
@@ -201,7 +201,7 @@ MovesBytesBy key ccw address most (Err c) s s_new d d_new (Passing o b left) =
 MovesBytesBy key ccw address most r s s_new d d_new w = ⊥
 
 -- bytes move at once, at least one; or the first may not
-abbrev pub MovesBytes : (key : ℕ) → Ccw → (address most : ℕ) → Storage → DriveState → Result ℕ Condition → Storage → DriveState → Type 0
+abbrev pub MovesBytes : (key : ℕ) → Ccw → (address most : ℕ) → Storage → DriveState → Result ℕ ChannelCondition → Storage → DriveState → Type 0
 MovesBytes key ccw address most s d r s_new d_new = MovesBytesBy key ccw address most r s s_new d d_new d.work
 
 -- whether the count is spent, and the next word has a further area of the same command

@@ -13,7 +13,7 @@ use s360_words::{Ccw, ChannelStatus, Csw, UnitStatus};
 
 /// What the channel itself has to report.
 #[derive(Clone, Copy, Debug, PartialEq, Eq)]
-pub enum Condition {
+pub enum ChannelCondition {
     /// Nothing.
     Clear,
     /// The count and the drive's length differ.
@@ -24,15 +24,15 @@ pub enum Condition {
     ProtectionCheck,
 }
 
-impl Condition {
+impl ChannelCondition {
     /// How the length of a command is reported: incorrect length is not reported beside unit check.
-    pub fn of_length(incorrect: bool, unit: UnitStatus) -> Condition
+    pub fn of_length(incorrect: bool, unit: UnitStatus) -> ChannelCondition
         ensures { result ≡ condition_for incorrect unit }
     {
         if incorrect && !unit.intersects(UnitStatus::UNIT_CHECK) {
-            Condition::IncorrectLength
+            ChannelCondition::IncorrectLength
         } else {
-            Condition::Clear
+            ChannelCondition::Clear
         }
     }
 
@@ -41,10 +41,10 @@ impl Condition {
         ensures { result ≡ status_of self }
     {
         match self {
-            Condition::Clear => ChannelStatus(0),
-            Condition::IncorrectLength => ChannelStatus::INCORRECT_LENGTH,
-            Condition::ProgramCheck => ChannelStatus::PROGRAM_CHECK,
-            Condition::ProtectionCheck => ChannelStatus::PROTECTION_CHECK,
+            ChannelCondition::Clear => ChannelStatus(0),
+            ChannelCondition::IncorrectLength => ChannelStatus::INCORRECT_LENGTH,
+            ChannelCondition::ProgramCheck => ChannelStatus::PROGRAM_CHECK,
+            ChannelCondition::ProtectionCheck => ChannelStatus::PROTECTION_CHECK,
         }
     }
 
@@ -52,7 +52,7 @@ impl Condition {
     pub fn beside(self, unit: UnitStatus) -> ChannelStatus
         ensures { result ≡ beside unit (status_of self) }
     {
-        if unit.intersects(UnitStatus::UNIT_CHECK) && self == Condition::IncorrectLength {
+        if unit.intersects(UnitStatus::UNIT_CHECK) && self == ChannelCondition::IncorrectLength {
             ChannelStatus(0)
         } else {
             self.status()
@@ -61,12 +61,12 @@ impl Condition {
 }
 
 /// Whether the next command follows: the word asks for it, and neither the unit status nor the channel's condition stops it.
-pub fn chains(ccw: Ccw, unit: UnitStatus, condition: Condition) -> bool
+pub fn chains(ccw: Ccw, unit: UnitStatus, condition: ChannelCondition) -> bool
     ensures { result ≡ chains_after ccw unit condition }
 {
     ccw.chains_command()
         && !(unit.intersects(UnitStatus::UNIT_CHECK) || unit.intersects(UnitStatus::UNIT_EXCEPTION))
-        && condition == Condition::Clear
+        && condition == ChannelCondition::Clear
 }
 
 /// An interruption that was asked for and not taken is reported with the ending.

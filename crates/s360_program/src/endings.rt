@@ -8,7 +8,7 @@ ghost use Rattle.s360_program.specs.Advances.{IsEnding};
 ghost use Rattle.s360_program.specs.Place.{place_of};
 ghost use Rattle.s360_program.specs.Steps.{status_of, closed_with, told_of};
 
-use crate::conditions::{Condition, csw_at, with_interruption};
+use crate::conditions::{ChannelCondition, csw_at, with_interruption};
 use crate::run::{Ended, Run};
 use ckd_command::DriveEnding;
 use ckd_drive::Drive;
@@ -33,7 +33,7 @@ pub const FAILED: DriveEnding = DriveEnding {
 pub fn end_program<S: ImageStore>(
     run: &mut Run,
     drive_ending: DriveEnding,
-    condition: Condition,
+    condition: ChannelCondition,
     drive: &mut Drive<S>,
 )
     requires { passed_of drive.old.work ≡ [] }

@@ -6,7 +6,7 @@ ghost use Rattle.ckd_drive.specs.Work.{left_of, gives_now, takes_now, given_now,
 ghost use Rattle.s360_program.specs.Advances.{KeepsStorage};
 ghost use Rattle.s360_program.specs.Steps.{Flows, HasFound, IsMoving, MovesBytes};
 
-use crate::conditions::Condition;
+use crate::conditions::ChannelCondition;
 use ckd_drive::{Drive, Look, Phase};
 use ckd_image::ImageStore;
 use s360_words::{Ccw, Storage};
@@ -53,7 +53,7 @@ pub fn move_bytes<S: ImageStore>(
     most: u16,
     storage: &mut Storage,
     drive: &mut Drive<S>,
-) -> Result<u16, Condition>
+) -> Result<u16, ChannelCondition>
     requires gives { gives ≡ gives_now drive.old.work }
     requires some { 0 < most }
     requires left { most ≤ left_of drive.old.work }
@@ -80,7 +80,7 @@ fn write<S: ImageStore>(
     most: u16,
     storage: &Storage,
     drive: &mut Drive<S>,
-) -> Result<u16, Condition>
+) -> Result<u16, ChannelCondition>
     requires takes { takes_now drive.old.work ≡ true }
     requires some { 0 < most }
     requires left { most ≤ left_of drive.old.work }
@@ -91,7 +91,7 @@ fn write<S: ImageStore>(
 {
     let bytes = storage.bytes_from(address, usize::from(most));
     if bytes.is_empty() {
-        return Err(Condition::ProgramCheck);
+        return Err(ChannelCondition::ProgramCheck);
     }
     drive.take(bytes);
     Ok(bytes.len() as u16)
@@ -106,7 +106,7 @@ fn read<S: ImageStore>(
     most: u16,
     storage: &mut Storage,
     drive: &mut Drive<S>,
-) -> Result<u16, Condition>
+) -> Result<u16, ChannelCondition>
     requires gives { gives_now drive.old.work ≡ true }
     requires some { 0 < most }
     requires left { most ≤ left_of drive.old.work }
@@ -125,9 +125,9 @@ fn read<S: ImageStore>(
     let n = storage.store(address, given, key);
     if n == 0 {
         return Err(if address >= storage.size() {
-            Condition::ProgramCheck
+            ChannelCondition::ProgramCheck
         } else {
-            Condition::ProtectionCheck
+            ChannelCondition::ProtectionCheck
         });
     }
     drive.pass(n);

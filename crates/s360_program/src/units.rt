@@ -13,7 +13,7 @@ ghost use Rattle.s360_program.specs.Advances.{RunsOn, CallsAtMost, KeepsStorage,
 ghost use Rattle.s360_program.specs.Stands.{phase_in, Within};
 ghost use Rattle.s360_program.specs.Steps.{run_of, Fits, IsQuiet, ComesBy, EndsBy, Steps, has_moved, goes_on, point_at, request_at, status_of, condition_for, differs, needs_area};
 
-use crate::conditions::{Condition, chains};
+use crate::conditions::{ChannelCondition, chains};
 use crate::endings::{FAILED, UNTOUCHED, end_program, told};
 use crate::moving::{flow_of, move_bytes};
 use crate::place::Fetched;
@@ -66,11 +66,11 @@ impl Run {
         ensures lost { (drive.new.image.failures ≡ drive.old.image.failures) ⊎ (is_some (unsaved drive.new.state) ≡ true) }
     {
         if !has_moved(drive) {
-            end_program(self, UNTOUCHED, Condition::Clear, drive);
+            end_program(self, UNTOUCHED, ChannelCondition::Clear, drive);
             return told(self);
         }
         let ending = drive.end();
-        end_program(self, ending, Condition::Clear, drive);
+        end_program(self, ending, ChannelCondition::Clear, drive);
         told(self)
     }
 
@@ -107,7 +107,7 @@ impl Run {
         let ccw = match self.place.fetch(storage, true) {
             Fetched::NoCcw => {
                 self.place.miss();
-                end_program(self, UNTOUCHED, Condition::ProgramCheck, drive);
+                end_program(self, UNTOUCHED, ChannelCondition::ProgramCheck, drive);
                 return Step::Over;
             }
             Fetched::TransferTo(address) => {
@@ -119,7 +119,7 @@ impl Run {
         self.place.go_by(ccw);
         match drive.begin(ccw.code) {
             Begun::Rejected => {
-                end_program(self, FAILED, Condition::Clear, drive);
+                end_program(self, FAILED, ChannelCondition::Clear, drive);
                 Step::Over
             }
             Begun::Immediate => self.conclude(ccw, false, storage, drive),
@@ -151,7 +151,7 @@ impl Run {
         ensures unwritten { is_written drive.old.state ≡ false → is_written (closed_of None drive.old drive.old.work).state ≡ false → drive.new.image ≡ drive.old.image }
     {
         let ending = drive.end();
-        let condition = Condition::of_length(incorrect, ending.unit);
+        let condition = ChannelCondition::of_length(incorrect, ending.unit);
         if !chains(ccw, ending.unit, condition) {
             end_program(self, ending, condition, drive);
             return Step::Over;
@@ -165,7 +165,7 @@ impl Run {
     #[inline(never)]
     fn stop<S: ImageStore>(
         &mut self,
-        condition: Condition,
+        condition: ChannelCondition,
         _storage: &Storage,
         drive: &mut Drive<S>,
     ) -> Step
@@ -198,7 +198,7 @@ impl Run {
     {
         match drive.look() {
             Look::Failed => {
-                end_program(self, FAILED, Condition::Clear, drive);
+                end_program(self, FAILED, ChannelCondition::Clear, drive);
                 Step::Over
             }
             Look::Passed => Step::Units(1),
@@ -281,7 +281,7 @@ impl Run {
         match self.place.fetch(storage, false) {
             Fetched::NoCcw => {
                 self.place.miss();
-                self.stop(Condition::ProgramCheck, storage, drive)
+                self.stop(ChannelCondition::ProgramCheck, storage, drive)
             }
             Fetched::TransferTo(address) => {
                 self.place.transfer(address);

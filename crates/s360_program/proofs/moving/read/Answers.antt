@@ -5,7 +5,7 @@ use Rattle.s360_words.specs.Words.{skips}
 use Rattle.ckd_drive.specs.Work.{given_now, passed_of}
 use Rattle.s360_program.specs.Advances.{KeepsStorage}
 use Rattle.s360_program.specs.Steps.{MovesBytesBy}
-use Rattle.s360_program.specs.declared.conditions.Condition.TheVariants.{ProgramCheck, ProtectionCheck}
+use Rattle.s360_program.specs.declared.conditions.ChannelCondition.TheVariants.{ProgramCheck, ProtectionCheck}
 use Rattle.s360_program.proofs.MovingBytes.{gives_so, gives_not, may_be, outside, protected, lends, lends_first, stores_none, keeps_put}
 use Rattle.s360_program.proofs.moving.read.Goals as goal
 
