@@ -24,8 +24,8 @@ loop-i-preserved g c =
           let at = w.index-stores-i.is ∙ same_at stores i _ None w.if-i-stores.true in
           record {
             written = next (rw (w.files-is) (w.in_ok-write_changed.ensures.0
-            ∙ ap (λ s. g.F.ImageFiles.written c.loop-i.files ++ changed_file (slice_index_or c.args.paths.now i no_path).now s) at
-            ∙ ap (λ p. g.F.ImageFiles.written c.loop-i.files ++ changed_file p (file_at stores i)) (sym (get_or-map (λ (p : Bor (List ℕ)). p.now) c.args.paths.now i no_path))));
+                ∙ ap (λ s. g.F.ImageFiles.written c.loop-i.files ++ changed_file (slice_index_or c.args.paths.now i no_path).now s) at
+                ∙ ap (λ p. g.F.ImageFiles.written c.loop-i.files ++ changed_file p (file_at stores i)) (sym (get_or-map (λ (p : Bor (List ℕ)). p.now) c.args.paths.now i no_path))));
             kept = and_kept (subst IsKept at w.in_ok-write_changed.ensures.1);
           }
       | else-i-stores w ↦
