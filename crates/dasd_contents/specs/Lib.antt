@@ -4,3 +4,4 @@ pub mod Contents
 pub mod Chains
 pub mod Sets
 pub mod Claims
+pub mod Words

@@ -1,5 +1,9 @@
 //! The words in which labels, control blocks and findings are printed.
 
+ghost use Rattle.std.specs.Prelude.{◌≡◌, ◌≤◌, Some, length};
+ghost use Rattle.std.specs.Fmt.{WritesOnOk};
+ghost use Rattle.dasd_contents.specs.Words.{track_text, place_text, extent_text, piece_text, in_text, text_of, is_date, day_text, organisation_of, unmovable, organisation_text, form_of, where_set, format_text, chain_text, problem_text, kind_text};
+
 use crate::chains::ChainFault;
 use crate::findings::Problem;
 use dasd_volumes::{Reason, TrackAddress as Address};
@@ -11,6 +15,8 @@ use volume_labels::{Date, Extent, FreeTracks, RecordAddress, TrackAddress, shown
 pub(crate) struct Track(pub(crate) TrackAddress);
 
 impl fmt::Display for Track {
+    ghost output = { λ t. Some (track_text t.0) };
+
     fn fmt<W: fmt::Write>(&self, f: &mut fmt::Formatter<W>) -> fmt::Result {
         let TrackAddress { cylinder, head } = self.0;
         write!(f, "{}", Address { cylinder, head })
@@ -22,6 +28,8 @@ impl fmt::Display for Track {
 pub(crate) struct Place(pub(crate) RecordAddress);
 
 impl fmt::Display for Place {
+    ghost output = { λ p. Some (place_text p.0) };
+
     fn fmt<W: fmt::Write>(&self, f: &mut fmt::Formatter<W>) -> fmt::Result {
         let track = Track(self.0.track);
         let number = self.0.number;
@@ -41,16 +49,29 @@ pub(crate) struct Text<'a> {
 }
 
 impl fmt::Display for Text<'_> {
+    ghost output = { λ t. Some (text_of t.quoted t.bytes.now) };
+
     fn fmt<W: fmt::Write>(&self, f: &mut fmt::Formatter<W>) -> fmt::Result {
         for byte in self.bytes {
-            let character = shown_character(*byte);
-            if self.quoted && (character == b'"' || character == b'\\') {
-                f.write_char('\\')?;
-            }
-            f.write_char(char::from(character))?;
+            write_character(f, self.quoted, shown_character(*byte))?;
         }
         Ok(())
     }
+}
+
+// A character, behind a backslash where quoted text needs one.
+fn write_character<W: fmt::Write>(
+    f: &mut fmt::Formatter<W>,
+    quoted: bool,
+    character: u8,
+) -> fmt::Result
+    ensures { WritesOnOk W.write_str_gives f.old result (in_text quoted character) f.new }
+{
+    if quoted && (character == b'"' || character == b'\\') {
+        f.write_char('\\')?;
+        return f.write_char(char::from(character));
+    }
+    f.write_char(char::from(character))
 }
 
 /// A date as a year and the day of it, or a hyphen. It is eight characters wide where it is `wide`.
@@ -61,11 +82,15 @@ pub(crate) struct Day {
 }
 
 /// Whether there is a date.
-pub(crate) fn is_date(date: Date) -> bool {
+pub(crate) fn is_date(date: Date) -> bool
+    ensures { result ≡ is_date date }
+{
     date.year != 0 || date.day != 0
 }
 
 impl fmt::Display for Day {
+    ghost output = { λ d. Some (day_text d.wide d.date) };
+
     fn fmt<W: fmt::Write>(&self, f: &mut fmt::Formatter<W>) -> fmt::Result {
         if !is_date(self.date) {
             return f.write_str(if self.wide { "-       " } else { "-" });
@@ -85,21 +110,36 @@ pub(crate) struct Organisation {
 }
 
 impl fmt::Display for Organisation {
+    ghost output = { λ o. Some (organisation_text o.wide o.bits) };
+
     fn fmt<W: fmt::Write>(&self, f: &mut fmt::Formatter<W>) -> fmt::Result {
-        let letters = match self.bits & 0xFEFF {
-            0x8000 => "IS",
-            0x4000 => "PS",
-            0x2000 => "DA",
-            0x0200 => "PO",
-            0x0008 => "VS",
-            _ => "??",
-        };
-        f.write_str(letters)?;
-        if self.bits & 0x0100 != 0 {
-            return f.write_str("U");
-        }
-        f.write_str(if self.wide { " " } else { "" })
+        f.write_str(letters_of(self.bits & 0xFEFF))?;
+        f.write_str(unmovable(self.bits, self.wide))
     }
+}
+
+// The two letters of an organisation.
+fn letters_of(bits: u16) -> &'static str
+    ensures { result.now ≡ organisation_of bits }
+{
+    match bits {
+        0x8000 => "IS",
+        0x4000 => "PS",
+        0x2000 => "DA",
+        0x0200 => "PO",
+        0x0008 => "VS",
+        _ => "??",
+    }
+}
+
+// What is said of whether a data set can be moved.
+fn unmovable(bits: u16, wide: bool) -> &'static str
+    ensures { result.now ≡ unmovable wide bits }
+{
+    if bits & 0x0100 != 0 {
+        return "U";
+    }
+    if wide { " " } else { "" }
 }
 
 /// A record format in letters, as job control has them.
@@ -107,33 +147,49 @@ impl fmt::Display for Organisation {
 pub(crate) struct Format(pub(crate) u8);
 
 impl fmt::Display for Format {
+    ghost output = { λ f. Some (format_text f.0) };
+
     fn fmt<W: fmt::Write>(&self, f: &mut fmt::Formatter<W>) -> fmt::Result {
-        let form = match self.0 & 0xC0 {
-            0x80 => "F",
-            0x40 => "V",
-            0xC0 => "U",
-            _ => "?",
-        };
-        f.write_str(form)?;
-        let flags = [
-            (0x10u8, "B"),
-            (0x08, "S"),
-            (0x20, "T"),
-            (0x04, "A"),
-            (0x02, "M"),
-        ];
-        for (flag, letter) in flags {
-            if self.0 & flag != 0 {
-                f.write_str(letter)?;
-            }
-        }
-        Ok(())
+        let format = self.0;
+        f.write_str(form_of(format & 0xC0))?;
+        f.write_str(where_set(format, 0x10, "B"))?;
+        f.write_str(where_set(format, 0x08, "S"))?;
+        f.write_str(where_set(format, 0x20, "T"))?;
+        f.write_str(where_set(format, 0x04, "A"))?;
+        f.write_str(where_set(format, 0x02, "M"))
     }
 }
 
+// The letter of the form of records.
+fn form_of(bits: u8) -> &'static str
+    ensures { result.now ≡ form_of bits }
+{
+    match bits {
+        0x80 => "F",
+        0x40 => "V",
+        0xC0 => "U",
+        _ => "?",
+    }
+}
+
+// The letter of a flag that a record format has, and else none.
+fn where_set(format: u8, flag: u8, letter: &'static str) -> &'static str
+    ensures { result.now ≡ where_set format flag letter.now }
+{
+    if format & flag != 0 { letter } else { "" }
+}
+
 /// How many letters a record format has.
-pub(crate) fn format_width(format: u8) -> usize {
-    1 + (format & 0x3E).count_ones() as usize
+pub(crate) fn format_width(format: u8) -> usize
+    ensures value { result ≡ length (format_text format) }
+    ensures few { result ≤ 6 }
+{
+    form_of(format & 0xC0).len()
+        + where_set(format, 0x10, "B").len()
+        + where_set(format, 0x08, "S").len()
+        + where_set(format, 0x20, "T").len()
+        + where_set(format, 0x04, "A").len()
+        + where_set(format, 0x02, "M").len()
 }
 
 /// The first and the last track of an extent.
@@ -141,6 +197,8 @@ pub(crate) fn format_width(format: u8) -> usize {
 pub(crate) struct Bounds(pub(crate) Extent);
 
 impl fmt::Display for Bounds {
+    ghost output = { λ b. Some (extent_text b.0) };
+
     fn fmt<W: fmt::Write>(&self, f: &mut fmt::Formatter<W>) -> fmt::Result {
         write!(f, "{} .. {}", Track(self.0.first), Track(self.0.last))
     }
@@ -151,6 +209,8 @@ impl fmt::Display for Bounds {
 struct Piece(FreeTracks);
 
 impl fmt::Display for Piece {
+    ghost output = { λ p. Some (piece_text p.0) };
+
     fn fmt<W: fmt::Write>(&self, f: &mut fmt::Formatter<W>) -> fmt::Result {
         let FreeTracks {
             first,
@@ -165,6 +225,8 @@ impl fmt::Display for Piece {
 }
 
 impl fmt::Display for ChainFault {
+    ghost output = { λ c. Some (chain_text c) };
+
     fn fmt<W: fmt::Write>(&self, f: &mut fmt::Formatter<W>) -> fmt::Result {
         match self {
             ChainFault::Missing(at) => write!(f, "next control block {} is none", Place(*at)),
@@ -183,29 +245,35 @@ impl fmt::Display for ChainFault {
 pub(crate) struct Kind(pub(crate) Problem);
 
 impl fmt::Display for Kind {
+    ghost output = { λ k. Some (kind_text k.0) };
+
     fn fmt<W: fmt::Write>(&self, f: &mut fmt::Formatter<W>) -> fmt::Result {
-        f.write_str(match self.0 {
-            Problem::NoLabel => "no volume label",
-            Problem::NoContents(_) => "no volume table of contents",
-            Problem::BadContents(_) => "bad extent of the volume table of contents",
-            Problem::Unreadable(_) => "unreadable",
-            Problem::NoBlock => "no control block",
-            Problem::UnknownFormat(_) => "unknown format",
-            Problem::OtherKey => "other key",
-            Problem::Chain(ChainFault::Missing(_)) => "next block missing",
-            Problem::Chain(ChainFault::OtherFormat(_)) => "next block of another format",
-            Problem::Chain(ChainFault::Endless(_)) => "endless chain",
-            Problem::OtherNumber(_, _) => "other number of extents",
-            Problem::BadExtent(_) => "bad extent",
-            Problem::ExtentOutside(_) => "extent outside",
-            Problem::Overlap(_, _) => "overlap",
-            Problem::FreeOutside(_) => "free tracks outside",
-            Problem::FreeInUse(_, _) => "free tracks in use",
-        })
+        match self.0 {
+            Problem::NoLabel => f.write_str("no volume label"),
+            Problem::NoContents(_) => f.write_str("no volume table of contents"),
+            Problem::BadContents(_) => f.write_str("bad extent of the volume table of contents"),
+            Problem::Unreadable(_) => f.write_str("unreadable"),
+            Problem::NoBlock => f.write_str("no control block"),
+            Problem::UnknownFormat(_) => f.write_str("unknown format"),
+            Problem::OtherKey => f.write_str("other key"),
+            Problem::Chain(ChainFault::Missing(_)) => f.write_str("next block missing"),
+            Problem::Chain(ChainFault::OtherFormat(_)) => f.write_str(
+                "next block of another format",
+            ),
+            Problem::Chain(ChainFault::Endless(_)) => f.write_str("endless chain"),
+            Problem::OtherNumber(_, _) => f.write_str("other number of extents"),
+            Problem::BadExtent(_) => f.write_str("bad extent"),
+            Problem::ExtentOutside(_) => f.write_str("extent outside"),
+            Problem::Overlap(_, _) => f.write_str("overlap"),
+            Problem::FreeOutside(_) => f.write_str("free tracks outside"),
+            Problem::FreeInUse(_, _) => f.write_str("free tracks in use"),
+        }
     }
 }
 
 impl fmt::Display for Problem {
+    ghost output = { λ p. Some (problem_text p) };
+
     fn fmt<W: fmt::Write>(&self, f: &mut fmt::Formatter<W>) -> fmt::Result {
         match self {
             Problem::NoLabel => f.write_str("no volume label"),
