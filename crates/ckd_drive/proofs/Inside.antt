@@ -9,11 +9,11 @@ use Rattle.ckd_drive.specs.Work.{DriveState, passes_now}
 use Rattle.ckd_drive.proofs.Standing.{at_passing}
 
 abbrev pub parts_in : {S : Type 0} → Inside S → Parts
-parts_in i = parts_held i.cache i.registers i.mark i.stage i.opened i.progress i.before.bytes i.passed.bytes
+parts_in i = parts_held i.job i.mark i.stage
 
 abbrev pub progress_in : {S : Type 0} → Inside S → Progress
-progress_in i = progress_seen i.registers i.opened i.progress
+progress_in i = progress_seen i.job.registers i.job.opened i.job.progress
 
 -- the stage of a drive whose bytes pass
 pub passing_in : {S : Type 0} (i : Inside S) (now : DriveState) → state_of (parts_in i) ≡ now → passes_now now.work ≡ true → (parts_in i).stage ≡ Passing (progress_in i)
-passing_in i now is e = at_passing (kept i.cache i.registers i.mark) i.opened i.progress i.stage i.before.bytes i.passed.bytes now is e
+passing_in i now is e = at_passing (kept i.job.cache i.job.registers i.mark) i.job.opened i.job.progress i.stage i.job.before.bytes i.job.passed.bytes now is e

@@ -9,6 +9,7 @@ ghost use Rattle.ckd_drive.specs.Work.{DriveState, Over, CallsStore, Reports, fa
 
 use crate::answers::{Begun, Look, Phase, Stage};
 use crate::close::{ENDED, FAILED, IN_MOTION};
+use crate::job::Job;
 use crate::transfer::{Progress, Transfer};
 use crate::{begin, close, look, transfer};
 use ckd_cache::TrackCache;
@@ -25,18 +26,9 @@ use std::marker::Model;
 /// One drive over an image.
 #[derive(Drop)]
 pub struct Drive<S: ImageStore> {
-    pub(crate) cache: TrackCache<S>,
-    pub(crate) registers: Registers,
+    pub(crate) job: Job<S>,
     pub(crate) mark: Mark,
     pub(crate) stage: Stage,
-    /// The command that works, if one does.
-    pub(crate) opened: Opened,
-    /// How far its bytes are, if they pass.
-    pub(crate) progress: Progress,
-    /// The slot under the arm as it was before the command wrote to it.
-    before: Trace,
-    /// The bytes that passed in the command.
-    passed: Trace,
 }
 
 impl<S: ImageStore> Model for Drive<S> {
@@ -46,9 +38,9 @@ impl<S: ImageStore> Model for Drive<S> {
 
     ghost Value = { DriveState };
 
-    ghost view = { λ d. state_of (parts_held d.cache d.registers d.mark d.stage d.opened d.progress d.before.bytes d.passed.bytes) };
+    ghost view = { λ d. state_of (parts_held d.job d.mark d.stage) };
 
-    ghost invariant = { λ d. Stands (parts_held d.cache d.registers d.mark d.stage d.opened d.progress d.before.bytes d.passed.bytes) };
+    ghost invariant = { λ d. Stands (parts_held d.job d.mark d.stage) };
 }
 
 impl<S: ImageStore> Drive<S> {
@@ -66,11 +58,9 @@ impl<S: ImageStore> Drive<S> {
         let cache = TrackCache::new(alloc, image)?;
         // the geometry is that of an image, so that there is a first track
         let _geometry = cache.geometry();
-        Ok(Drive {
+        let job = Job {
             cache,
             registers: first_registers(),
-            mark: Mark::Saved,
-            stage: Stage::Idle,
             opened: Opened {
                 command: Command::NoOperation,
                 multi_track: false,
@@ -83,6 +73,11 @@ impl<S: ImageStore> Drive<S> {
             },
             before: Trace::new(),
             passed: Trace::new(),
+        };
+        Ok(Drive {
+            job,
+            mark: Mark::Saved,
+            stage: Stage::Idle,
         })
     }
 
@@ -101,10 +96,10 @@ impl<S: ImageStore> Drive<S> {
         ensures reported { Reports (result ≡ begun.Rejected) self.old self.new }
     {
         self.stage = begin::start(
-            &mut self.cache,
-            &mut self.registers,
+            &mut self.job.cache,
+            &mut self.job.registers,
             &mut self.mark,
-            &mut self.opened,
+            &mut self.job.opened,
             code,
         );
         begin::begun(self.stage)
@@ -127,20 +122,23 @@ impl<S: ImageStore> Drive<S> {
         match self.stage {
             Stage::Idle | Stage::Ended | Stage::InMotion | Stage::Failed => unreachable!(),
             Stage::Passing => {
-                look::make_ready(tables::action_of(self.opened.command), &mut self.progress);
-                return Look::Ready(self.progress.left);
+                look::make_ready(
+                    tables::action_of(self.job.opened.command),
+                    &mut self.job.progress,
+                );
+                return Look::Ready(self.job.progress.left);
             }
             Stage::Looking => {}
         }
-        self.passed = Trace::new();
+        self.job.passed = Trace::new();
         self.stage = look::look(
-            &mut self.cache,
-            &mut self.registers,
+            &mut self.job.cache,
+            &mut self.job.registers,
             &mut self.mark,
-            &mut self.opened,
-            &mut self.progress,
+            &mut self.job.opened,
+            &mut self.job.progress,
         );
-        look::looked(self.stage, self.progress.left)
+        look::looked(self.stage, self.job.progress.left)
     }
 
     /// Gives the next bytes of a read or of Sense: as many as are asked for, and no more than the last look allows less
@@ -152,21 +150,21 @@ impl<S: ImageStore> Drive<S> {
         ensures moved { self.new ≡ record self.old { work = moved_on into.new self.old.work } }
     {
         let n = into.len();
-        let passed = self.passed.and(&self.next_bytes()[..n]);
+        let passed = self.job.passed.and(&self.next_bytes()[..n]);
         let Stage::Passing = self.stage else {
             unreachable!();
         };
-        let Transfer::Read(window, _) = self.progress.place else {
+        let Transfer::Read(window, _) = self.job.progress.place else {
             into.copy_from_slice(&self.next_bytes()[..n]);
             self.pass(n);
             return;
         };
         // noted first, so that the copy is the last that is done
-        self.passed = passed;
-        transfer::give_on(&mut self.progress.place, n);
-        self.progress.moved += n;
-        self.progress.left -= n;
-        into.copy_from_slice(&self.cache.buffer().bytes()[window.start..window.start + n]);
+        self.job.passed = passed;
+        transfer::give_on(&mut self.job.progress.place, n);
+        self.job.progress.moved += n;
+        self.job.progress.left -= n;
+        into.copy_from_slice(&self.job.cache.buffer().bytes()[window.start..window.start + n]);
     }
 
     /// The next bytes of a read or of Sense, lent as they stand: all that may be given now.
@@ -178,11 +176,11 @@ impl<S: ImageStore> Drive<S> {
         let Stage::Passing = self.stage else {
             unreachable!();
         };
-        let p = &self.progress;
+        let p = &self.job.progress;
         match &p.place {
             Transfer::Sense(bytes) => &bytes[p.moved..p.moved + p.left],
             Transfer::Read(window, _) => {
-                &self.cache.buffer().bytes()[window.start..window.start + p.left]
+                &self.job.cache.buffer().bytes()[window.start..window.start + p.left]
             }
             _ => unreachable!(),
         }
@@ -194,14 +192,14 @@ impl<S: ImageStore> Drive<S> {
         requires room { n ≤ left_of self.old.work }
         ensures { self.new ≡ record self.old { work = moved_on (slice_range (given_now self.old self.old.work) (length (passed_of self.old.work)) (length (passed_of self.old.work) + n)) self.old.work } }
     {
-        let passed = self.passed.and(&self.next_bytes()[..n]);
-        self.passed = passed;
+        let passed = self.job.passed.and(&self.next_bytes()[..n]);
+        self.job.passed = passed;
         let Stage::Passing = self.stage else {
             unreachable!();
         };
-        transfer::give_on(&mut self.progress.place, n);
-        self.progress.moved += n;
-        self.progress.left -= n;
+        transfer::give_on(&mut self.job.progress.place, n);
+        self.job.progress.moved += n;
+        self.job.progress.left -= n;
     }
 
     /// Takes the next bytes of any other command: no more than the last look allows less what has passed since. What is
@@ -216,18 +214,10 @@ impl<S: ImageStore> Drive<S> {
         let Stage::Passing = self.stage else {
             unreachable!();
         };
-        transfer::absorb(
-            &mut self.cache,
-            &self.registers,
-            &mut self.before,
-            &self.passed,
-            &self.opened,
-            &mut self.progress,
-            bytes,
-        );
-        self.passed = self.passed.and(bytes);
-        self.progress.moved += bytes.len();
-        self.progress.left -= bytes.len();
+        self.job.absorb(bytes);
+        self.job.passed = self.job.passed.and(bytes);
+        self.job.progress.moved += bytes.len();
+        self.job.progress.left -= bytes.len();
     }
 
     /// Ends the command by the bytes that have passed, however few they are; it is over, or its area is found. Answers the
@@ -245,7 +235,7 @@ impl<S: ImageStore> Drive<S> {
     {
         // the commands by themselves that end at an area, and so leave the arm where it is
         if let Stage::Passing = self.stage {
-            match self.progress.place {
+            match self.job.progress.place {
                 Transfer::Read(_, _) => return self.end_here(),
                 Transfer::Search(_, _) => return self.end_here(),
                 Transfer::Filled(_, _) => return self.end_here(),
@@ -304,16 +294,16 @@ impl<S: ImageStore> Drive<S> {
         ensures reported { Reports (result ≡ failed_ending) self.old self.new }
     {
         let closed = close::close(
-            self.cache.geometry(),
-            &self.opened,
-            &mut self.registers,
-            self.progress.moved,
-            &self.progress.place,
+            self.job.cache.geometry(),
+            &self.job.opened,
+            &mut self.job.registers,
+            self.job.progress.moved,
+            &self.job.progress.place,
         );
         self.stage = Stage::Idle;
         match closed {
             Closed::Stays(unit) => {
-                self.mark = close::mark_left(&self.progress.place, self.mark);
+                self.mark = close::mark_left(&self.job.progress.place, self.mark);
                 DriveEnding {
                     unit,
                     motion: false,
@@ -321,8 +311,8 @@ impl<S: ImageStore> Drive<S> {
             }
             Closed::Moves(cylinder, head, ending) => {
                 let left = begin::leave(
-                    &mut self.cache,
-                    &mut self.registers,
+                    &mut self.job.cache,
+                    &mut self.job.registers,
                     &mut self.mark,
                     cylinder,
                     head,
@@ -350,13 +340,13 @@ impl<S: ImageStore> Drive<S> {
         ensures reported { Reports (unsaved self.new.state ≡ Some (self.old.state.registers.cylinder, self.old.state.registers.head)) self.old self.new }
     {
         self.stage = Stage::Idle;
-        match self.cache.save() {
+        match self.job.cache.save() {
             Ok(()) => {
                 self.mark = close::settled_mark(self.mark);
                 Ok(())
             }
             Err(fault) => {
-                begin::lose(&mut self.registers);
+                begin::lose(&mut self.job.registers);
                 self.mark = Mark::Lost;
                 Err(fault)
             }
@@ -369,7 +359,7 @@ impl<S: ImageStore> Drive<S> {
         requires { is_idle self.old.work ≡ true }
         ensures { self.new ≡ record self.old { state = begun_program self.old.state } }
     {
-        start_program(&mut self.registers);
+        start_program(&mut self.job.registers);
         self.mark = close::owed_mark(self.mark);
     }
 
@@ -378,12 +368,12 @@ impl<S: ImageStore> Drive<S> {
         ensures phase { result ≡ phase_of self.now.work }
         ensures allows { Allows result self.now.work }
     {
-        let p = &self.progress;
+        let p = &self.job.progress;
         match self.stage {
             Stage::Idle => Phase::Idle,
             Stage::Ended | Stage::InMotion | Stage::Failed => Phase::Over,
             Stage::Looking => Phase::Looking,
-            Stage::Passing if tables::is_giving(tables::action_of(self.opened.command)) => {
+            Stage::Passing if tables::is_giving(tables::action_of(self.job.opened.command)) => {
                 Phase::Gives {
                     passed: p.moved,
                     left: p.left,
@@ -407,7 +397,7 @@ impl<S: ImageStore> Drive<S> {
     pub fn sense(&self) -> [u8; 6]
         ensures { result ≡ sense_bytes self.now.state.registers.sense }
     {
-        self.registers.sense.to_bytes()
+        self.job.registers.sense.to_bytes()
     }
 
     /// The model, the cylinders and the track size of the volume.
@@ -415,21 +405,21 @@ impl<S: ImageStore> Drive<S> {
         ensures image { result ≡ self.now.image.geometry }
         ensures volume { result ≡ self.now.state.volume.geometry }
     {
-        self.cache.geometry()
+        self.job.cache.geometry()
     }
 
     /// The cylinder of the arm.
     pub fn cylinder(&self) -> u16
         ensures { result ≡ self.now.state.registers.cylinder }
     {
-        self.registers.cylinder
+        self.job.registers.cylinder
     }
 
     /// The head.
     pub fn head(&self) -> u16
         ensures { result ≡ self.now.state.registers.head }
     {
-        self.registers.head
+        self.job.registers.head
     }
 
     /// The image, lent. Where no command is open, and the track under the arm is not written or was saved since, it holds the
@@ -439,7 +429,7 @@ impl<S: ImageStore> Drive<S> {
         ensures geometry { self.now.image.geometry ≡ self.now.state.volume.geometry }
         ensures volume { is_idle self.now.work ≡ true → is_written self.now.state ≡ false → self.now.image.slots ≡ self.now.state.volume.slots }
     {
-        self.cache.image()
+        self.job.cache.image()
     }
 
     /// Takes another image, whose slots are as large, and becomes a new drive over it. Gives back the one that was here, which
@@ -453,12 +443,12 @@ impl<S: ImageStore> Drive<S> {
         ensures geometry { result.geometry ≡ self.old.state.volume.geometry }
         ensures volume { result.slots ≡ self.old.state.volume.slots }
     {
-        self.registers = first_registers();
+        self.job.registers = first_registers();
         self.mark = Mark::Saved;
         self.stage = Stage::Idle;
-        let before = self.cache.exchange(image);
+        let before = self.job.cache.exchange(image);
         // the geometry is that of an image, so that there is a first track
-        let _geometry = self.cache.geometry();
+        let _geometry = self.job.cache.geometry();
         before
     }
 
@@ -467,7 +457,7 @@ impl<S: ImageStore> Drive<S> {
         requires { is_idle self.old.work ≡ true }
         ensures { self.new ≡ record self.old { state = without_sense self.old.state } }
     {
-        self.registers.sense = Sense::ZERO;
+        self.job.registers.sense = Sense::ZERO;
     }
 
     /// Cylinder and head of a track that could not be saved, until the arm leaves it or the next program begins.
@@ -475,7 +465,7 @@ impl<S: ImageStore> Drive<S> {
         ensures { result ≡ unsaved self.now.state }
     {
         match self.mark {
-            Mark::Lost => Some((self.registers.cylinder, self.registers.head)),
+            Mark::Lost => Some((self.job.registers.cylinder, self.job.registers.head)),
             Mark::Saved | Mark::Written => None,
         }
     }
@@ -490,15 +480,18 @@ impl<S: ImageStore> Drive<S> {
         ensures volume { result.slots ≡ self.state.volume.slots }
     {
         let Drive {
-            cache,
-            registers: _,
+            job,
             mark: _,
             stage: _,
+        } = self;
+        let Job {
+            cache,
+            registers: _,
             opened: _,
             progress: _,
             before: _,
             passed: _,
-        } = self;
+        } = job;
         cache.into_image()
     }
 }

@@ -6,6 +6,7 @@ mod answers;
 mod begin;
 mod close;
 mod drive;
+mod job;
 mod laws;
 mod look;
 mod transfer;

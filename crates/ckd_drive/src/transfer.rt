@@ -1,10 +1,9 @@
 //! The bytes of a command that pass: where they stand, and what becomes of those that it takes.
 
 ghost use Rattle.std.specs.Prelude.{◌≡◌, ◌≤◌, ◌<◌, ◌+◌, length, ◌-◌, ◌^◌, slice_range};
-ghost use Rattle.ckd_drive.specs.Transfers as transfers;
-ghost use Rattle.ckd_drive.specs.Invariant.{MayTake, Absorbs, whole_of, remaining, field_size, given_on};
-ghost use Rattle.ckd_drive.specs.Fields.{closes_by, place_seen, half_done, IsNoSearch, MayGiveHeld};
-ghost use Rattle.ckd_command.specs.Commands.{command_end, area_ends, own_home_address};
+ghost use Rattle.ckd_drive.specs.Invariant.{MayTake, whole_of, remaining, field_size, given_on};
+ghost use Rattle.ckd_drive.specs.Fields.{place_seen, half_done, Takes, IsNoSearch, MayGiveHeld};
+ghost use Rattle.ckd_command.specs.Commands.{own_home_address};
 ghost use Rattle.std.specs.Ordering.{nat_cmp, ordering_then};
 ghost use Rattle.std.specs.Cmp.Lexicographic.{slice_cmp};
 ghost use Rattle.ckd_command.specs.declared.registers.Registers.{Registers};
@@ -13,7 +12,7 @@ ghost use Rattle.ckd_command.specs.Tables.{action_of};
 ghost use Rattle.ckd_track.specs.Changes.{overwritten};
 ghost use Rattle.ckd_drive.specs.declared.transfer.Transfer.TheVariants as held;
 
-use ckd_cache::TrackCache;
+use crate::job::Job;
 use ckd_command::{Action, Opened, Registers, own_home_address, tables};
 use ckd_image::ImageStore;
 use ckd_sense::Sense;
@@ -145,28 +144,6 @@ fn search_on(place: &mut Transfer, rest: Window, order: Ordering)
     }
 }
 
-// A search compares the bytes.
-#[inline(always)]
-fn search<S: ImageStore>(
-    cache: &TrackCache<S>,
-    registers: &Registers,
-    before: &Trace,
-    passed: &Trace,
-    opened: &Opened,
-    p: &mut Progress,
-    bytes: &[u8],
-    window: Window,
-    so_far: Ordering,
-)
-    requires may { MayTake (half_done cache.now registers.now before.now.bytes passed.now.bytes opened.now p.old) bytes.now }
-    requires at { place_seen registers.now opened.now p.old.place ≡ transfers.Search window so_far }
-    ensures absorbs { Absorbs (half_done cache.now registers.now before.now.bytes passed.now.bytes opened.now p.old) bytes.now cache.now before.now.bytes (place_seen registers.now opened.now p.new.place) }
-    ensures stays { p.new ≡ record p.old { place = p.new.place } }
-{
-    let so_far = compared(so_far, cache.buffer().bytes(), window, bytes);
-    search_on(&mut p.place, behind(window, bytes.len()), so_far);
-}
-
 // The field once these bytes came too.
 fn collected(field: [u8; 8], at: usize, bytes: &[u8]) -> [u8; 8]
     requires { at + length bytes.now ≤ 8 }
@@ -203,145 +180,108 @@ fn whole_field(opened: &Opened, registers: &Registers, moved: usize, field: [u8;
     }
 }
 
-// A field is collected, and once it came whole the track is changed where that is allowed.
-fn collect<S: ImageStore>(
-    cache: &mut TrackCache<S>,
-    registers: &Registers,
-    before: &mut Trace,
-    passed: &Trace,
-    opened: &Opened,
-    p: &mut Progress,
-    bytes: &[u8],
-    field: [u8; 8],
-)
-    requires may { MayTake (half_done cache.old registers.now before.old.bytes passed.now.bytes opened.now p.old) bytes.now }
-    requires at { place_seen registers.now opened.now p.old.place ≡ transfers.Field field }
-    ensures absorbs { Absorbs (half_done cache.old registers.now before.old.bytes passed.now.bytes opened.now p.old) bytes.now cache.new before.new.bytes (place_seen registers.now opened.now p.new.place) }
-    ensures stays { p.new ≡ record p.old { place = p.new.place } }
-{
-    let field = collected(field, p.moved, bytes);
-    match whole_field(opened, registers, p.moved + bytes.len(), field) {
-        Whole::No => p.place = Transfer::Field(field),
-        Whole::HomeAddress(home_address) => {
-            *before = Trace::of(cache.buffer().bytes());
-            cache.write_home_address(home_address);
-            p.place = Transfer::Filled(Window { start: 5, len: 0 }, Written::HomeAddress);
+impl<S: ImageStore> Job<S> {
+    // A search compares the bytes.
+    #[inline(always)]
+    fn search(&mut self, bytes: &[u8], window: Window, so_far: Ordering)
+        requires may { MayTake (half_done self.old) bytes.now }
+        requires at { self.old.progress.place ≡ held.Search window so_far }
+        ensures { Takes self.old bytes.now self.new }
+    {
+        let so_far = compared(so_far, self.cache.buffer().bytes(), window, bytes);
+        search_on(
+            &mut self.progress.place,
+            behind(window, bytes.len()),
+            so_far,
+        );
+    }
+
+    // A field is collected, and once it came whole the track is changed where that is allowed.
+    fn collect(&mut self, bytes: &[u8], field: [u8; 8])
+        requires may { MayTake (half_done self.old) bytes.now }
+        requires at { self.old.progress.place ≡ held.Field field }
+        ensures { Takes self.old bytes.now self.new }
+    {
+        let field = collected(field, self.progress.moved, bytes);
+        let moved = self.progress.moved + bytes.len();
+        match whole_field(&self.opened, &self.registers, moved, field) {
+            Whole::No => self.progress.place = Transfer::Field(field),
+            Whole::HomeAddress(home_address) => {
+                self.before = Trace::of(self.cache.buffer().bytes());
+                self.cache.write_home_address(home_address);
+                self.progress.place = Transfer::Filled(
+                    Window { start: 5, len: 0 },
+                    Written::HomeAddress,
+                );
+            }
+            Whole::Count(count) => {
+                let was = Trace::of(self.cache.buffer().bytes());
+                let Some((number, rest)) = self.cache.format(self.opened.area, count) else {
+                    self.progress.place = Transfer::Field(field);
+                    return;
+                };
+                self.before = was;
+                self.progress.place = Transfer::Filled(rest, Written::Record(number));
+            }
         }
-        Whole::Count(count) => {
-            let was = Trace::of(cache.buffer().bytes());
-            let Some((number, rest)) = cache.format(opened.area, count) else {
-                p.place = Transfer::Field(field);
-                return;
-            };
-            *before = was;
-            p.place = Transfer::Filled(rest, Written::Record(number));
+    }
+
+    // The bytes of an area are replaced: those that came by their own, the others by zeros.
+    fn fill(&mut self, bytes: &[u8], window: Window, no_data: bool)
+        requires may { MayTake (half_done self.old) bytes.now }
+        requires at { self.old.progress.place ≡ held.Fill window no_data }
+        ensures { Takes self.old bytes.now self.new }
+    {
+        if bytes.is_empty() {
+            self.progress.place = Transfer::Fill(window, no_data);
+            return;
+        }
+        let Some(area) = self.opened.area else {
+            self.progress.place = Transfer::Fill(window, no_data);
+            return;
+        };
+        self.before = Trace::of(self.cache.buffer().bytes());
+        self.cache.clear(tables::extent(self.opened.command), area);
+        self.cache.put(window.start, bytes);
+        self.progress.place = Transfer::Filled(behind(window, bytes.len()), Written::Area(no_data));
+    }
+
+    // More bytes of an area that is being written.
+    fn fill_on(&mut self, bytes: &[u8], window: Window, written: Written)
+        requires may { MayTake (half_done self.old) bytes.now }
+        requires at { self.old.progress.place ≡ held.Filled window written }
+        ensures { Takes self.old bytes.now self.new }
+    {
+        // noted first, so that the copy is the last that is done
+        self.progress.place = Transfer::Filled(behind(window, bytes.len()), written);
+        self.cache.put(window.start, bytes);
+    }
+
+    // A command that has found its area, and is no search, takes these bytes.
+    #[inline(never)]
+    fn absorb_elsewhere(&mut self, bytes: &[u8])
+        requires may { MayTake (half_done self.old) bytes.now }
+        requires elsewhere { IsNoSearch self.old.progress.place }
+        ensures { Takes self.old bytes.now self.new }
+    {
+        match self.progress.place {
+            Transfer::Field(field) => self.collect(bytes, field),
+            Transfer::Fill(window, no_data) => self.fill(bytes, window, no_data),
+            Transfer::Filled(window, written) => self.fill_on(bytes, window, written),
+            Transfer::Search(_, _) | Transfer::Sense(_) | Transfer::Read(_, _) => unreachable!(),
         }
     }
-}
 
-// The bytes of an area are replaced: those that came by their own, the others by zeros.
-fn fill<S: ImageStore>(
-    cache: &mut TrackCache<S>,
-    registers: &Registers,
-    before: &mut Trace,
-    passed: &Trace,
-    opened: &Opened,
-    p: &mut Progress,
-    bytes: &[u8],
-    window: Window,
-    no_data: bool,
-)
-    requires may { MayTake (half_done cache.old registers.now before.old.bytes passed.now.bytes opened.now p.old) bytes.now }
-    requires at { place_seen registers.now opened.now p.old.place ≡ transfers.Fill window (command_end (area_ends opened.now registers.now no_data)) }
-    ensures absorbs { Absorbs (half_done cache.old registers.now before.old.bytes passed.now.bytes opened.now p.old) bytes.now cache.new before.new.bytes (place_seen registers.now opened.now p.new.place) }
-    ensures stays { p.new ≡ record p.old { place = p.new.place } }
-{
-    if bytes.is_empty() {
-        p.place = Transfer::Fill(window, no_data);
-        return;
-    }
-    let Some(area) = opened.area else {
-        p.place = Transfer::Fill(window, no_data);
-        return;
-    };
-    *before = Trace::of(cache.buffer().bytes());
-    cache.clear(tables::extent(opened.command), area);
-    cache.put(window.start, bytes);
-    p.place = Transfer::Filled(behind(window, bytes.len()), Written::Area(no_data));
-}
-
-// More bytes of an area that is being written.
-fn fill_on<S: ImageStore>(
-    cache: &mut TrackCache<S>,
-    registers: &Registers,
-    before: &Trace,
-    passed: &Trace,
-    opened: &Opened,
-    p: &mut Progress,
-    bytes: &[u8],
-    window: Window,
-    written: Written,
-)
-    requires may { MayTake (half_done cache.old registers.now before.now.bytes passed.now.bytes opened.now p.old) bytes.now }
-    requires at { place_seen registers.now opened.now p.old.place ≡ transfers.Filled window (closes_by registers.now opened.now written) }
-    ensures absorbs { Absorbs (half_done cache.old registers.now before.now.bytes passed.now.bytes opened.now p.old) bytes.now cache.new before.now.bytes (place_seen registers.now opened.now p.new.place) }
-    ensures stays { p.new ≡ record p.old { place = p.new.place } }
-{
-    // noted first, so that the copy is the last that is done
-    p.place = Transfer::Filled(behind(window, bytes.len()), written);
-    cache.put(window.start, bytes);
-}
-
-// A command that has found its area, and is no search, takes these bytes.
-#[inline(never)]
-fn absorb_elsewhere<S: ImageStore>(
-    cache: &mut TrackCache<S>,
-    registers: &Registers,
-    before: &mut Trace,
-    passed: &Trace,
-    opened: &Opened,
-    p: &mut Progress,
-    bytes: &[u8],
-)
-    requires may { MayTake (half_done cache.old registers.now before.old.bytes passed.now.bytes opened.now p.old) bytes.now }
-    requires elsewhere { IsNoSearch p.old.place }
-    ensures absorbs { Absorbs (half_done cache.old registers.now before.old.bytes passed.now.bytes opened.now p.old) bytes.now cache.new before.new.bytes (place_seen registers.now opened.now p.new.place) }
-    ensures stays { p.new ≡ record p.old { place = p.new.place } }
-{
-    match p.place {
-        Transfer::Field(field) => collect(
-            cache, registers, before, passed, opened, p, bytes, field,
-        ),
-        Transfer::Fill(window, no_data) => fill(
-            cache, registers, before, passed, opened, p, bytes, window, no_data,
-        ),
-        Transfer::Filled(window, written) => fill_on(
-            cache, registers, before, passed, opened, p, bytes, window, written,
-        ),
-        Transfer::Search(_, _) | Transfer::Sense(_) | Transfer::Read(_, _) => unreachable!(),
-    }
-}
-
-/// A command that has found its area takes these bytes, and the rest have the place that is left.
-// A search by itself, since fewer commands write.
-#[inline(always)]
-pub(crate) fn absorb<S: ImageStore>(
-    cache: &mut TrackCache<S>,
-    registers: &Registers,
-    before: &mut Trace,
-    passed: &Trace,
-    opened: &Opened,
-    p: &mut Progress,
-    bytes: &[u8],
-)
-    requires may { MayTake (half_done cache.old registers.now before.old.bytes passed.now.bytes opened.now p.old) bytes.now }
-    ensures absorbs { Absorbs (half_done cache.old registers.now before.old.bytes passed.now.bytes opened.now p.old) bytes.now cache.new before.new.bytes (place_seen registers.now opened.now p.new.place) }
-    ensures stays { p.new ≡ record p.old { place = p.new.place } }
-{
-    match p.place {
-        Transfer::Search(window, so_far) => search(
-            cache, registers, before, passed, opened, p, bytes, window, so_far,
-        ),
-        _ => absorb_elsewhere(cache, registers, before, passed, opened, p, bytes),
+    /// A command that has found its area takes these bytes, and the rest have the place that is left.
+    // A search by itself, since fewer commands write.
+    #[inline(always)]
+    pub(crate) fn absorb(&mut self, bytes: &[u8])
+        requires may { MayTake (half_done self.old) bytes.now }
+        ensures { Takes self.old bytes.now self.new }
+    {
+        match self.progress.place {
+            Transfer::Search(window, so_far) => self.search(bytes, window, so_far),
+            _ => self.absorb_elsewhere(bytes),
+        }
     }
 }

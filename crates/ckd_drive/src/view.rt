@@ -15,7 +15,7 @@ impl<S: ImageStore> Drive<S> {
     pub fn registers(&self) -> &Registers
         ensures { result.now ≡ self.now.state.registers }
     {
-        &self.registers
+        &self.job.registers
     }
 
     /// The command that works, lent, with the area that it found, once it has found it; none where no command works.
@@ -23,7 +23,7 @@ impl<S: ImageStore> Drive<S> {
         ensures { option_map (λ o. o.now) result ≡ command_of self.now.work }
     {
         match self.stage {
-            Stage::Looking | Stage::Passing => Some(&self.opened),
+            Stage::Looking | Stage::Passing => Some(&self.job.opened),
             Stage::Idle | Stage::Ended | Stage::InMotion | Stage::Failed => None,
         }
     }
@@ -36,9 +36,9 @@ impl<S: ImageStore> Drive<S> {
         if let Phase::Takes { .. } = self.phase() {
             return None;
         }
-        let r = &self.registers;
-        let track = self.cache.geometry().track_at(r.cylinder, r.head);
-        let Some(buffer) = self.cache.at_hand(track) else {
+        let r = &self.job.registers;
+        let track = self.job.cache.geometry().track_at(r.cylinder, r.head);
+        let Some(buffer) = self.job.cache.at_hand(track) else {
             return None;
         };
         Some(buffer.bytes())

@@ -10,11 +10,11 @@ pub invariant_of-self-2 : goal.invariant_of-self-2
 invariant_of-self-2 g c =
     let i = c.self.inside in
     let l = c.look-self-inside in
-    (has_looked (parts_in i) (kept l.new.cache l.new.registers l.new.mark) (stage_seen l.new.registers l.new.opened l.new.progress l.result) i.opened c.new-self-inside.result.bytes c.args.self.now (rw c.in-Looking.is refl) c.self.view_is c.new-self-inside.ensures l.ensures.stage).comes.stands
+    (has_looked (parts_in i) (kept l.new.cache l.new.registers l.new.mark) (stage_seen l.new.registers l.new.opened l.new.progress l.result) i.job.opened c.new-self-inside.result.bytes c.args.self.now (rw c.in-Looking.is refl) c.self.view_is c.new-self-inside.ensures l.ensures.stage).comes.stands
 
 pub returns : goal.returns
 returns g c =
     let i = c.self.inside in
     let l = c.look-self-inside in
-    let x = has_looked (parts_in i) (kept l.new.cache l.new.registers l.new.mark) (stage_seen l.new.registers l.new.opened l.new.progress l.result) i.opened c.new-self-inside.result.bytes c.args.self.now (rw c.in-Looking.is refl) c.self.view_is c.new-self-inside.ensures l.ensures.stage in
+    let x = has_looked (parts_in i) (kept l.new.cache l.new.registers l.new.mark) (stage_seen l.new.registers l.new.opened l.new.progress l.result) i.job.opened c.new-self-inside.result.bytes c.args.self.now (rw c.in-Looking.is refl) c.self.view_is c.new-self-inside.ensures l.ensures.stage in
     record { state = x.comes.state; answer = c.looked.ensures l.new.opened l.new.registers l.new.progress refl ∙ x.answer; calls = x.comes.calls; reported = look_reports c.args.self.now _ x.comes.state x.comes.calls x.comes.at_hand }

@@ -17,7 +17,7 @@ returns-in-Ok-clause-state g c =
 pub returns-in-Err-clause-state : goal.returns-in-Err-clause-state
 returns-in-Err-clause-state g c =
     let i = c.self.inside in
-    let left : List ℕ = slice_index_or c.save.new.self.image.slots (unwrap_or i.cache.held 0) [] in
+    let left : List ℕ = slice_index_or c.save.new.self.image.slots (unwrap_or i.job.cache.held 0) [] in
     rw c.lose.ensures
     (unsettled_state (parts_in i) c.save.new.self left c.args.self.now c.self.invariant c.self.view_is c.requires c.in-Err.ensures.fails c.in-Err.ensures.err refl c.in-Err.ensures.size)
 
@@ -25,7 +25,7 @@ pub returns-in-Ok-clause-calls : goal.returns-in-Ok-clause-calls
 returns-in-Ok-clause-calls g c =
     let i = c.self.inside in
     let f = unfilled (parts_in i) c.args.self.now c.self.invariant c.self.view_is c.requires in
-    calls_of_save _ _ i.cache c.args.self.now _ (ap (λ (d : DriveState). d.image) (sym c.self.view_is)) (ap (λ (d : CacheState). d.image) c.in-Ok.ensures.ok)
+    calls_of_save _ _ i.job.cache c.args.self.now _ (ap (λ (d : DriveState). d.image) (sym c.self.view_is)) (ap (λ (d : CacheState). d.image) c.in-Ok.ensures.ok)
     (changed_is (parts_in i) c.self.invariant f ∙ ap (λ (d : DriveState). is_written d.state) c.self.view_is)
 
 pub returns-in-Ok-clause-reported : goal.returns-in-Ok-clause-reported
@@ -34,9 +34,9 @@ returns-in-Ok-clause-reported g c = settle_reports c.args.self.now _ (returns-in
 pub returns-in-Err-clause-calls : goal.returns-in-Err-clause-calls
 returns-in-Err-clause-calls g c =
     let i = c.self.inside in
-    let left : List ℕ = slice_index_or c.save.new.self.image.slots (unwrap_or i.cache.held 0) [] in
+    let left : List ℕ = slice_index_or c.save.new.self.image.slots (unwrap_or i.job.cache.held 0) [] in
     let f = unfilled (parts_in i) c.args.self.now c.self.invariant c.self.view_is c.requires in
-    calls_of_failed_save _ _ i.cache left c.args.self.now _ (ap (λ (d : DriveState). d.image) (sym c.self.view_is)) (ap (λ (d : CacheState). d.image) c.in-Err.ensures.err)
+    calls_of_failed_save _ _ i.job.cache left c.args.self.now _ (ap (λ (d : DriveState). d.image) (sym c.self.view_is)) (ap (λ (d : CacheState). d.image) c.in-Err.ensures.err)
     (changed_is (parts_in i) c.self.invariant f ∙ ap (λ (d : DriveState). is_written d.state) c.self.view_is) c.in-Err.ensures.fails
 
 pub returns-in-Err-clause-reported : goal.returns-in-Err-clause-reported
