@@ -206,11 +206,11 @@ pub record HasLooked (parts : Parts) (now : DriveState) : Type 0 where
   pub answer : looked_at parts.stage ≡ answer_of_look (work_of parts.stage parts.passed)
 
 -- for its area
-pub has_looked : (parts : Parts) (came : Kept) (s' : Stage) (o : Opened) (passed' : List ℕ) (now : DriveState)
-    → parts.stage ≡ Looking o → state_of parts ≡ now → passed' ≡ [] → Looks (kept parts.cache parts.registers parts.mark) came o s' → HasLooked (parts_of came s' parts.before passed') now
-has_looked parts came s' o passed' now is now_is nothing l =
+pub has_looked : (parts : Parts) (came : Kept) (s' : Stage) (o : Opened) (before' passed' : List ℕ) (now : DriveState)
+    → parts.stage ≡ Looking o → state_of parts ≡ now → passed' ≡ [] → Looks (kept parts.cache parts.registers parts.mark) came o s' → HasLooked (parts_of came s' before' passed') now
+has_looked parts came s' o before' passed' now is now_is nothing l =
     let now_at : now ≡ state_of (looking_drive (kept parts.cache parts.registers parts.mark) o) = sym now_is ∙ rw is refl in
-    rw (now_at, nothing) (record { comes = l parts.before; answer = looked_work s' [] })
+    rw (now_at, nothing) (record { comes = l before'; answer = looked_work s' [] })
 
 -- and again
 pub has_looked_again : (parts : Parts) (s' : Stage) (p : Progress) (now : DriveState)

@@ -4,7 +4,8 @@ use Rattle.ckd_drive.specs.declared.drive.Drive.TheInside.{Inside}
 use Rattle.ckd_drive.specs.Invariant.{Parts, kept, state_of}
 use Rattle.ckd_drive.specs.Transfers.{Progress}
 use Rattle.ckd_drive.specs.Stage.{Passing}
-use Rattle.ckd_drive.specs.Fields.{progress_seen, parts_held}
+use Rattle.ckd_drive.specs.Fields.{progress_seen}
+use Rattle.ckd_drive.specs.Jobs.{parts_held}
 use Rattle.ckd_drive.specs.Work.{DriveState, passes_now}
 use Rattle.ckd_drive.proofs.Standing.{at_passing}
 

@@ -98,13 +98,13 @@ pub record HasBegun (parts : Parts) (now : DriveState) (code : ℕ) : Type 0 whe
   pub comes : Comes false (begin_saves code now) now (λ f. after_begin f code now) parts
   pub answer : begun_at parts.stage ≡ answer_of_begin (begin (fault_met now (state_of parts)) code now.state)
 
-pub has_begun : (parts : Parts) (came : Kept) (s' : Stage) (now : DriveState) (code : ℕ) (b : Beginning)
-    → state_of parts ≡ now → is_idle now.work ≡ true → b ≡ beginning code parts.registers → Begins (kept parts.cache parts.registers parts.mark) came b s' → HasBegun (parts_of came s' parts.before parts.passed) now code
-has_begun parts came s' now code b now_is idle is l =
+pub has_begun : (parts : Parts) (came : Kept) (s' : Stage) (before' passed' : List ℕ) (now : DriveState) (code : ℕ)
+    → state_of parts ≡ now → is_idle now.work ≡ true → Begins (kept parts.cache parts.registers parts.mark) came (beginning code parts.registers) s' → HasBegun (parts_of came s' before' passed') now code
+has_begun parts came s' before' passed' now code now_is idle l =
     let was = kept parts.cache parts.registers parts.mark in
     let at_rest : parts.stage ≡ Idle = idle_stage parts.stage parts.passed (ap (λ (d : DriveState). is_idle d.work) now_is ∙ idle) in
     let now_at : now ≡ state_of (idle_drive was) = sym now_is ∙ rw at_rest refl in
     let old = state_of (idle_drive was) in
-    let x = (rw is at l) parts.before parts.passed in
-    let new = state_of (parts_of came s' parts.before parts.passed) in
-    rw now_at (record { comes = x; answer = begun_work (begin (fault_met old new) code old.state) old s' parts.passed refl (ap (λ (d : DriveState). d.work) x.state) })
+    let x = l before' passed' in
+    let new = state_of (parts_of came s' before' passed') in
+    rw now_at (record { comes = x; answer = begun_work (begin (fault_met old new) code old.state) old s' passed' refl (ap (λ (d : DriveState). d.work) x.state) })

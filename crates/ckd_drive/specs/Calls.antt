@@ -4,6 +4,7 @@ use Rattle.ckd_sense.specs.declared.sense_bytes.TheConstants.Sense.{STORE_FAULT}
 use Rattle.ckd_command.specs.declared.registers.Registers.{Registers}
 use Rattle.ckd_command.specs.declared.registers.Mark.TheVariants.{Saved, Lost}
 use Rattle.ckd_command.specs.declared.begin.Opened.{Opened}
+use Rattle.ckd_command.specs.declared.close.DriveEnding.{DriveEnding}
 use Rattle.ckd_command.specs.Answers.{Beginning}
 use Rattle.ckd_drive.specs.Stage.{Stage, Idle, Over, Looking, Passing}
 use Rattle.ckd_drive.specs.declared.answers.Begun.{Begun}
@@ -14,7 +15,7 @@ use Rattle.ckd_command.specs.Commands.{with_cause}
 use Rattle.ckd_command.specs.Drive.{Fault, is_written, is_written_by}
 use Rattle.ckd_command.specs.Drive as drive
 use Rattle.ckd_cache.specs.Cache.{CacheState, after_save, after_failed_save}
-use Rattle.ckd_drive.specs.Work.{DriveState, CallsStore, fault_met, with_image, after_begun, after_look, goes_to_cylinder_zero, look_loads, look_saves}
+use Rattle.ckd_drive.specs.Work.{DriveState, CallsStore, Reports, fault_met, with_image, after_begun, after_look, after_end, closed_of, ending_of, end_saves, failed_ending, goes_to_cylinder_zero, look_loads, look_saves}
 use Rattle.ckd_drive.specs.Invariant.{Kept, Parts, parts_of, Stands, state_of}
 
 -- what a begin answers, by the stage that it came to
@@ -70,3 +71,10 @@ Begins old new b s = (before passed : List ℕ)
 abbrev pub Looks : (old new : Kept) → Opened → Stage → Type 0
 Looks old new o s = (before : List ℕ)
     → Comes (look_loads (state_of (looking_drive old o))) (look_saves (state_of (looking_drive old o))) (state_of (looking_drive old o)) (λ f. after_look f (state_of (looking_drive old o))) (parts_of new s before [])
+
+-- a drive ends its command so, and with this ending
+pub record Ends (old new : DriveState) (ending : DriveEnding) : Type 0 where
+  pub state : new ≡ with_image (after_end (fault_met old new) old) new.image
+  pub ends : ending ≡ ending_of (closed_of (fault_met old new) old old.work)
+  pub calls : CallsStore false (end_saves old) old new
+  pub reported : Reports (ending ≡ failed_ending) old new

@@ -1,7 +1,6 @@
 -- How a drive holds a command, in fields that are changed in place, and what is seen of it.
-use Rattle.std.specs.Prelude.{◌≡◌, ◌≤◌, ◌<◌, ◌+◌, ◌^◌, ℕ, List, true, false}
+use Rattle.std.specs.Prelude.{◌≡◌, ◌≤◌, ◌<◌, ◌+◌, ◌^◌, ℕ, true, false}
 use Rattle.ckd_command.specs.declared.registers.Registers.{Registers}
-use Rattle.ckd_command.specs.declared.registers.Mark.{Mark}
 use Rattle.ckd_command.specs.declared.begin.Opened.{Opened}
 use Rattle.ckd_command.specs.Commands.{area_ends, home_address_ends, format_ends, command_end}
 use Rattle.ckd_command.specs.Tables.{action_of}
@@ -11,13 +10,12 @@ use Rattle.ckd_drive.specs.declared.transfer.Written.TheVariants as written
 use Rattle.ckd_drive.specs.declared.transfer.Transfer.{Transfer as TransferHeld}
 use Rattle.ckd_drive.specs.declared.transfer.Transfer.TheVariants as held
 use Rattle.ckd_drive.specs.declared.transfer.Progress.{Progress as ProgressHeld}
-use Rattle.ckd_drive.specs.declared.job.Job.{Job}
 use Rattle.ckd_drive.specs.declared.answers.Stage.{Stage as StageHeld}
 use Rattle.ckd_drive.specs.declared.answers.Stage.TheVariants as now
 use Rattle.ckd_drive.specs.Transfers.{Transfer, Sense, Field, Read, Search, Fill, Filled, Progress}
 use Rattle.ckd_drive.specs.Stage.{Stage, Idle, Over, Looking, Passing}
 use Rattle.ckd_drive.specs.Work.{immediate_ending, failed_ending}
-use Rattle.ckd_drive.specs.Invariant.{HalfDone, Absorbs, Parts, kept, parts_of, remaining}
+use Rattle.ckd_drive.specs.Invariant.{remaining}
 
 -- how a command closes that has written
 abbrev pub closes_by : Registers → Opened → Written → CommandEnd
@@ -38,20 +36,6 @@ place_seen r o (held.Filled w what) = Filled w (closes_by r o what)
 abbrev pub progress_seen : Registers → Opened → ProgressHeld → Progress
 progress_seen r o p = record { opened = o; moved = p.moved; left = p.left; place = place_seen r o p.place }
 
--- where the bytes of a job stand that are still to pass
-abbrev pub place_of : {S : Type 0} → Job S → Transfer
-place_of j = place_seen j.registers j.opened j.progress.place
-
--- the command half done that a job holds
-abbrev pub half_done : {S : Type 0} → Job S → HalfDone
-half_done j = record { cache = j.cache; registers = j.registers; before = j.before.bytes; passed = j.passed.bytes; progress = progress_seen j.registers j.opened j.progress }
-
--- A job takes these bytes, into its cache where the command writes; the rest have the place that is left, and nothing else
--- changes.
-pub record Takes {S : Type 0} (old : Job S) (more : List ℕ) (new : Job S) : Type 0 where
-  pub absorbs : Absorbs (half_done old) more new.cache new.before.bytes (place_of new)
-  pub stays : new ≡ record old { cache = new.cache; before = new.before; progress = record old.progress { place = new.progress.place } }
-
 -- what the drive does, by what the fields hold
 abbrev pub stage_seen : Registers → Opened → ProgressHeld → StageHeld → Stage
 stage_seen r o p now.Idle = Idle
@@ -60,10 +44,6 @@ stage_seen r o p now.InMotion = Over (immediate_ending true)
 stage_seen r o p now.Failed = Over failed_ending
 stage_seen r o p now.Looking = Looking o
 stage_seen r o p now.Passing = Passing (progress_seen r o p)
-
--- what a drive of this job is made of
-abbrev pub parts_held : {S : Type 0} → Job S → Mark → StageHeld → Parts
-parts_held j m s = parts_of (kept j.cache j.registers m) (stage_seen j.registers j.opened j.progress s) j.before.bytes j.passed.bytes
 
 -- a command that has just found the place of its bytes: none passed, and all that are known of may
 abbrev pub IsReady : Registers → Opened → ProgressHeld → StageHeld → Type 0

@@ -8,15 +8,18 @@ ghost use Rattle.ckd_command.specs.Commands.{command_end, whole_field, at_end, f
 ghost use Rattle.ckd_command.specs.Answers.{closed_as, ClosedStays};
 ghost use Rattle.ckd_sense.specs.declared.sense_bytes.TheConstants.Sense.{WRONG_HOME_ADDRESS};
 ghost use Rattle.ckd_drive.specs.Work.{settled_mark, owed_mark};
-ghost use Rattle.ckd_drive.specs.Invariant.{field_ends, command_end_at, MovedInField, mark_left, field_size};
+ghost use Rattle.ckd_drive.specs.Invariant.{field_ends, MovedInField, mark_left, field_size};
 ghost use Rattle.ckd_drive.specs.Fields.{place_seen, closes_by};
+ghost use Rattle.ckd_drive.specs.Jobs.{place_of, ClosesTo};
 
+use crate::job::Job;
 use crate::transfer::{Transfer, Written};
 use ckd_command::{
     Action, CHANNEL_AND_DEVICE_END, CHANNEL_END_ALONE, Closed, DriveEnding, END_WITH_UNIT_CHECK,
     Mark, Opened, Registers, close_area, close_format, close_home_address, close_in_unit_check,
     close_search, close_seek, close_seek_head, close_set_file_mask, end_at_area, tables,
 };
+use ckd_image::ImageStore;
 use ckd_sense::Sense;
 use ckd_track::Geometry;
 
@@ -122,29 +125,28 @@ fn written_ends(opened: &Opened, registers: &mut Registers, written: Written) ->
     }
 }
 
-/// How a command closes, as far as it is known by the place of its bytes, so many of which have passed.
-#[inline(always)]
-pub(crate) fn close(
-    geometry: Geometry,
-    opened: &Opened,
-    registers: &mut Registers,
-    moved: usize,
-    place: &Transfer,
-) -> Closed
-    requires { MovedInField (action_of opened.now.command) moved (place_seen registers.old opened.now place.now) }
-    ensures closes { closed_as result registers.new ≡ command_end_at geometry registers.old opened.now moved (place_seen registers.old opened.now place.now) }
-    ensures stays { ClosedStays result registers.old registers.new }
-{
-    match place {
-        Transfer::Sense(_) => close_area(opened, registers, false),
-        Transfer::Read(_, no_data) | Transfer::Fill(_, no_data) => close_area(
-            opened, registers, *no_data,
-        ),
-        Transfer::Filled(_, written) => written_ends(opened, registers, *written),
-        Transfer::Search(window, so_far) => {
-            let satisfied = moved > 0 && tables::comparison(opened.command).accepts(*so_far);
-            close_search(opened, registers, satisfied, window.len == 0)
+impl<S: ImageStore> Job<S> {
+    /// How the command closes, as far as it is known by the place of its bytes and by how many have passed.
+    #[inline(always)]
+    pub(crate) fn close(&mut self) -> Closed
+        requires { MovedInField (action_of self.old.opened.command) self.old.progress.moved (place_of self.old) }
+        ensures { ClosesTo self.old result self.new }
+    {
+        let geometry = self.cache.geometry();
+        let moved = self.progress.moved;
+        let opened = &self.opened;
+        let registers = &mut self.registers;
+        match &self.progress.place {
+            Transfer::Sense(_) => close_area(opened, registers, false),
+            Transfer::Read(_, no_data) | Transfer::Fill(_, no_data) => close_area(
+                opened, registers, *no_data,
+            ),
+            Transfer::Filled(_, written) => written_ends(opened, registers, *written),
+            Transfer::Search(window, so_far) => {
+                let satisfied = moved > 0 && tables::comparison(opened.command).accepts(*so_far);
+                close_search(opened, registers, satisfied, window.len == 0)
+            }
+            Transfer::Field(field) => field_ends(geometry, opened, registers, &field[..moved]),
         }
-        Transfer::Field(field) => field_ends(geometry, opened, registers, &field[..moved]),
     }
 }

@@ -5,6 +5,7 @@ ghost use Rattle.ckd_sense.specs.SenseBytes.{sense_bytes};
 ghost use Rattle.ckd_image.specs.Store.{Counts};
 ghost use Rattle.ckd_command.specs.Drive.{unsaved, begin, is_written};
 ghost use Rattle.ckd_drive.specs.declared.answers.Begun.TheVariants as begun;
+ghost use Rattle.ckd_drive.specs.Calls.{Ends};
 ghost use Rattle.ckd_drive.specs.Work.{DriveState, Over, CallsStore, Reports, fault_met, begin_saves, look_loads, look_saves, end_saves, failed_ending, after_begin, after_look, moved_on, left_of, gives_now, takes_now, given_now, passed_of, closed_of, after_end, ending_of, is_idle, is_working, may_end, passes_now, after_settle, begun_program, answer_of_begin, answer_of_look, with_image, new_drive, without_sense, phase_of, Allows};
 
 use crate::answers::{Begun, Look, Phase, Stage};
@@ -34,7 +35,7 @@ pub struct Drive<S: ImageStore> {
 impl<S: ImageStore> Model for Drive<S> {
     ghost use Rattle.ckd_drive.specs.Work.{DriveState};
     ghost use Rattle.ckd_drive.specs.Invariant.{state_of, Stands};
-    ghost use Rattle.ckd_drive.specs.Fields.{parts_held};
+    ghost use Rattle.ckd_drive.specs.Jobs.{parts_held};
 
     ghost Value = { DriveState };
 
@@ -95,13 +96,7 @@ impl<S: ImageStore> Drive<S> {
         ensures calls { CallsStore false (begin_saves code self.old) self.old self.new }
         ensures reported { Reports (result ≡ begun.Rejected) self.old self.new }
     {
-        self.stage = begin::start(
-            &mut self.job.cache,
-            &mut self.job.registers,
-            &mut self.mark,
-            &mut self.job.opened,
-            code,
-        );
+        self.stage = self.job.start(&mut self.mark, code);
         begin::begun(self.stage)
     }
 
@@ -130,14 +125,8 @@ impl<S: ImageStore> Drive<S> {
             }
             Stage::Looking => {}
         }
+        self.stage = self.job.look(&mut self.mark);
         self.job.passed = Trace::new();
-        self.stage = look::look(
-            &mut self.job.cache,
-            &mut self.job.registers,
-            &mut self.mark,
-            &mut self.job.opened,
-            &mut self.job.progress,
-        );
         look::looked(self.stage, self.job.progress.left)
     }
 
@@ -249,10 +238,7 @@ impl<S: ImageStore> Drive<S> {
     #[inline(never)]
     fn end_elsewhere(&mut self) -> DriveEnding
         requires { may_end self.old.work ≡ true }
-        ensures state { self.new ≡ with_image (after_end (fault_met self.old self.new) self.old) self.new.image }
-        ensures ending { result ≡ ending_of (closed_of (fault_met self.old self.new) self.old self.old.work) }
-        ensures calls { CallsStore false (end_saves self.old) self.old self.new }
-        ensures reported { Reports (result ≡ failed_ending) self.old self.new }
+        ensures { Ends self.old self.new result }
     {
         self.end_here()
     }
@@ -261,10 +247,7 @@ impl<S: ImageStore> Drive<S> {
     #[inline(always)]
     fn end_here(&mut self) -> DriveEnding
         requires { may_end self.old.work ≡ true }
-        ensures state { self.new ≡ with_image (after_end (fault_met self.old self.new) self.old) self.new.image }
-        ensures ending { result ≡ ending_of (closed_of (fault_met self.old self.new) self.old self.old.work) }
-        ensures calls { CallsStore false (end_saves self.old) self.old self.new }
-        ensures reported { Reports (result ≡ failed_ending) self.old self.new }
+        ensures { Ends self.old self.new result }
     {
         match self.stage {
             Stage::Idle | Stage::Looking => unreachable!(),
@@ -288,18 +271,9 @@ impl<S: ImageStore> Drive<S> {
     #[inline(always)]
     fn end_passing(&mut self) -> DriveEnding
         requires passing { passes_now self.old.work ≡ true }
-        ensures state { self.new ≡ with_image (after_end (fault_met self.old self.new) self.old) self.new.image }
-        ensures ending { result ≡ ending_of (closed_of (fault_met self.old self.new) self.old self.old.work) }
-        ensures calls { CallsStore false (end_saves self.old) self.old self.new }
-        ensures reported { Reports (result ≡ failed_ending) self.old self.new }
+        ensures { Ends self.old self.new result }
     {
-        let closed = close::close(
-            self.job.cache.geometry(),
-            &self.job.opened,
-            &mut self.job.registers,
-            self.job.progress.moved,
-            &self.job.progress.place,
-        );
+        let closed = self.job.close();
         self.stage = Stage::Idle;
         match closed {
             Closed::Stays(unit) => {
@@ -310,14 +284,7 @@ impl<S: ImageStore> Drive<S> {
                 }
             }
             Closed::Moves(cylinder, head, ending) => {
-                let left = begin::leave(
-                    &mut self.job.cache,
-                    &mut self.job.registers,
-                    &mut self.mark,
-                    cylinder,
-                    head,
-                );
-                if left.is_err() {
+                if self.job.leave(&mut self.mark, cylinder, head).is_err() {
                     return FAILED;
                 }
                 ending

@@ -3,22 +3,20 @@
 ghost use Rattle.std.specs.Prelude.{◌≡◌, Some, ◌<◌, List, ℕ};
 ghost use Rattle.ckd_command.specs.declared.tables.Aim.TheVariants.{Next, NoArea};
 ghost use Rattle.ckd_command.specs.Tables.{aim, action_of};
-ghost use Rattle.ckd_drive.specs.Invariant.{Stands, kept, track_under, remaining, AreaIsThere, AreaOf, IsFirstPlace, ReadsWhole};
+ghost use Rattle.ckd_drive.specs.Invariant.{Stands, own_track, remaining, AreaOf, IsFirstPlace, ReadsWhole};
 ghost use Rattle.ckd_drive.specs.Fields.{stage_seen, IsLookedHeld, place_seen, IsReady};
-ghost use Rattle.ckd_drive.specs.Calls.{Looks, looked_at, looking_drive};
+ghost use Rattle.ckd_drive.specs.Jobs.{half_done, kept_in, Sees, LooksTo};
+ghost use Rattle.ckd_drive.specs.Calls.{looked_at, looking_drive};
 ghost use Rattle.ckd_command.specs.declared.registers.Registers.{Registers};
 ghost use Rattle.ckd_command.specs.declared.begin.Opened.{Opened};
 ghost use Rattle.ckd_track.specs.Model.{heads_of};
 ghost use Rattle.ckd_track.specs.Track.{track_of};
-ghost use Rattle.ckd_command.specs.Commands.{sight};
-ghost use Rattle.ckd_command.specs.Answers.{seen_as, SeenStays};
 ghost use Rattle.ckd_command.specs.declared.tables.Action.TheVariants.{NoTransfer};
 
 use crate::answers::{Look, Stage};
-use crate::begin::leave;
+use crate::job::Job;
 use crate::transfer;
 use crate::transfer::{Progress, Transfer};
-use ckd_cache::TrackCache;
 use ckd_command::{Action, Aim, Mark, Opened, Registers, Seen, add_cause, sight_of, tables};
 use ckd_image::ImageStore;
 use ckd_position::Kind;
@@ -27,7 +25,6 @@ use ckd_sense::Command::{
 };
 use ckd_sense::{Command, Sense};
 use ckd_slot::{TrackBuffer, Window};
-use ckd_track::Geometry;
 use std::cmp::Ordering;
 
 // A command of this action has just found the place of its bytes.
@@ -61,33 +58,6 @@ pub(crate) fn looked(stage: Stage, left: usize) -> Look
         Stage::Looking => Look::Passed,
         Stage::Passing => Look::Ready(left),
     }
-}
-
-// A look at a track for the next area of this kind.
-#[tactic(auto, unfolding(ckd_command::specs::Commands::sight))]
-#[inline(always)]
-fn look_at(
-    buffer: &TrackBuffer,
-    geometry: Geometry,
-    opened: &Opened,
-    registers: &mut Registers,
-    command: Command,
-    kind: Kind,
-) -> Seen
-    requires head { registers.old.head < heads_of geometry.model }
-    requires command { command ≡ opened.now.command }
-    requires kind { aim opened.now.command ≡ Next kind }
-    ensures sight { seen_as result opened.now registers.new ≡ sight geometry (track_of buffer.now) opened.now registers.old }
-    ensures there { AreaIsThere (track_of buffer.now) opened.now (seen_as result opened.now registers.new) }
-    ensures stays { SeenStays result registers.old registers.new }
-{
-    let reads_whole = tables::action_of(command) != Action::WriteHomeAddress;
-    if reads_whole && !buffer.is_readable() {
-        add_cause(registers, Sense::UNREADABLE_TRACK);
-        return Seen::Missed;
-    }
-    let next = buffer.next_area(registers.position, kind);
-    sight_of(geometry, opened, registers, next)
 }
 
 // The place of a command that works on no area.
@@ -145,144 +115,128 @@ fn place_on(
     ready(action, progress, place)
 }
 
-// The look of this command at the track under the arm, which is at hand.
-#[inline(always)]
-fn look_at_hand<S: ImageStore>(
-    cache: &mut TrackCache<S>,
-    registers: &mut Registers,
-    mark: &mut Mark,
-    opened: &mut Opened,
-    progress: &mut Progress,
-    command: Command,
-    kind: Kind,
-) -> Stage
-    requires stands { Stands (looking_drive (kept cache.old registers.old mark.old) opened.old) }
-    requires command { command ≡ opened.old.command }
-    requires aim { aim opened.old.command ≡ Next kind }
-    requires held { cache.old.held ≡ Some (track_under cache.old.image.geometry registers.old) }
-    ensures stage { Looks (kept cache.old registers.old mark.old) (kept cache.new registers.new mark.new) opened.old (stage_seen registers.new opened.new progress.new result) }
-    ensures looked { IsLookedHeld result }
-    ensures loads { cache.new.image.loads ≡ cache.old.image.loads }
-{
-    let geometry = cache.geometry();
-    match look_at(cache.buffer(), geometry, opened, registers, command, kind) {
-        Seen::Found(area) => {
-            opened.area = Some(area);
-            place_on(cache.buffer(), opened, command, progress)
+impl<S: ImageStore> Job<S> {
+    // The command looks at the track under the arm, which is at hand, for the next area of this kind.
+    #[tactic(auto, unfolding(ckd_command::specs::Commands::sight))]
+    #[inline(always)]
+    fn look_at(&mut self, command: Command, kind: Kind) -> Seen
+        requires head { self.old.registers.head < heads_of self.old.cache.image.geometry.model }
+        requires command { command ≡ self.old.opened.command }
+        requires aim { aim self.old.opened.command ≡ Next kind }
+        requires held { self.old.cache.held ≡ Some (own_track (half_done self.old)) }
+        ensures { Sees self.old result self.new }
+    {
+        let geometry = self.cache.geometry();
+        let buffer = self.cache.buffer();
+        let reads_whole = tables::action_of(command) != Action::WriteHomeAddress;
+        if reads_whole && !buffer.is_readable() {
+            add_cause(&mut self.registers, Sense::UNREADABLE_TRACK);
+            return Seen::Missed;
         }
-        Seen::IndexPassed => Stage::Looking,
-        Seen::NextHead => {
-            let (cylinder, head) = (registers.cylinder, registers.head + 1);
-            if leave(cache, registers, mark, cylinder, head).is_err() {
-                return Stage::Failed;
+        let next = buffer.next_area(self.registers.position, kind);
+        sight_of(geometry, &self.opened, &mut self.registers, next)
+    }
+
+    // The look of this command at the track under the arm, which is at hand.
+    #[inline(always)]
+    fn look_at_hand(&mut self, mark: &mut Mark, command: Command, kind: Kind) -> Stage
+        requires stands { Stands (looking_drive (kept_in self.old mark.old) self.old.opened) }
+        requires command { command ≡ self.old.opened.command }
+        requires aim { aim self.old.opened.command ≡ Next kind }
+        requires held { self.old.cache.held ≡ Some (own_track (half_done self.old)) }
+        ensures looks { LooksTo self.old mark.old self.new mark.new result }
+        ensures loads { self.new.cache.image.loads ≡ self.old.cache.image.loads }
+    {
+        match self.look_at(command, kind) {
+            Seen::Found(area) => {
+                self.opened.area = Some(area);
+                place_on(
+                    self.cache.buffer(),
+                    &self.opened,
+                    command,
+                    &mut self.progress,
+                )
             }
-            Stage::Looking
+            Seen::IndexPassed => Stage::Looking,
+            Seen::NextHead => {
+                let (cylinder, head) = (self.registers.cylinder, self.registers.head + 1);
+                if self.leave(mark, cylinder, head).is_err() {
+                    return Stage::Failed;
+                }
+                Stage::Looking
+            }
+            Seen::Missed => Stage::Failed,
         }
-        Seen::Missed => Stage::Failed,
     }
-}
 
-// The look for the next area of this kind, which loads the track under the arm where it is not at hand.
-#[inline(always)]
-fn look_for_next<S: ImageStore>(
-    cache: &mut TrackCache<S>,
-    registers: &mut Registers,
-    mark: &mut Mark,
-    opened: &mut Opened,
-    progress: &mut Progress,
-    command: Command,
-    kind: Kind,
-) -> Stage
-    requires stands { Stands (looking_drive (kept cache.old registers.old mark.old) opened.old) }
-    requires command { command ≡ opened.old.command }
-    requires aim { aim opened.old.command ≡ Next kind }
-    ensures stage { Looks (kept cache.old registers.old mark.old) (kept cache.new registers.new mark.new) opened.old (stage_seen registers.new opened.new progress.new result) }
-    ensures looked { IsLookedHeld result }
-{
-    let track = cache
-        .geometry()
-        .track_at(registers.cylinder, registers.head);
-    if cache.hold(track).is_err() {
-        add_cause(registers, Sense::STORE_FAULT);
-        return Stage::Failed;
+    // The look for the next area of this kind, which loads the track under the arm where it is not at hand.
+    #[inline(always)]
+    fn look_for_next(&mut self, mark: &mut Mark, command: Command, kind: Kind) -> Stage
+        requires stands { Stands (looking_drive (kept_in self.old mark.old) self.old.opened) }
+        requires command { command ≡ self.old.opened.command }
+        requires aim { aim self.old.opened.command ≡ Next kind }
+        ensures { LooksTo self.old mark.old self.new mark.new result }
+    {
+        let track = self
+            .cache
+            .geometry()
+            .track_at(self.registers.cylinder, self.registers.head);
+        if self.cache.hold(track).is_err() {
+            add_cause(&mut self.registers, Sense::STORE_FAULT);
+            return Stage::Failed;
+        }
+        self.look_at_hand(mark, command, kind)
     }
-    look_at_hand(cache, registers, mark, opened, progress, command, kind)
-}
 
-// A command that has not looked yet looks.
-#[inline(always)]
-fn look_here<S: ImageStore>(
-    cache: &mut TrackCache<S>,
-    registers: &mut Registers,
-    mark: &mut Mark,
-    opened: &mut Opened,
-    progress: &mut Progress,
-    command: Command,
-) -> Stage
-    requires stands { Stands (looking_drive (kept cache.old registers.old mark.old) opened.old) }
-    requires command { command ≡ opened.old.command }
-    ensures stage { Looks (kept cache.old registers.old mark.old) (kept cache.new registers.new mark.new) opened.old (stage_seen registers.new opened.new progress.new result) }
-    ensures looked { IsLookedHeld result }
-{
-    match tables::aim_of(command) {
-        Aim::NoArea => place_without_area(opened, registers, command, progress),
-        Aim::Credited => place_on(cache.buffer(), opened, command, progress),
-        Aim::Next(kind) => look_for_next(cache, registers, mark, opened, progress, command, kind),
+    // A command that has not looked yet looks.
+    #[inline(always)]
+    fn look_here(&mut self, mark: &mut Mark, command: Command) -> Stage
+        requires stands { Stands (looking_drive (kept_in self.old mark.old) self.old.opened) }
+        requires command { command ≡ self.old.opened.command }
+        ensures { LooksTo self.old mark.old self.new mark.new result }
+    {
+        match tables::aim_of(command) {
+            Aim::NoArea => place_without_area(
+                &self.opened,
+                &self.registers,
+                command,
+                &mut self.progress,
+            ),
+            Aim::Credited => place_on(
+                self.cache.buffer(),
+                &self.opened,
+                command,
+                &mut self.progress,
+            ),
+            Aim::Next(kind) => self.look_for_next(mark, command, kind),
+        }
     }
-}
 
-// The same, of a command that is not a common one.
-#[inline(never)]
-fn look_elsewhere<S: ImageStore>(
-    cache: &mut TrackCache<S>,
-    registers: &mut Registers,
-    mark: &mut Mark,
-    opened: &mut Opened,
-    progress: &mut Progress,
-) -> Stage
-    requires { Stands (looking_drive (kept cache.old registers.old mark.old) opened.old) }
-    ensures stage { Looks (kept cache.old registers.old mark.old) (kept cache.new registers.new mark.new) opened.old (stage_seen registers.new opened.new progress.new result) }
-    ensures looked { IsLookedHeld result }
-{
-    let command = opened.command;
-    look_here(cache, registers, mark, opened, progress, command)
-}
+    // The same, of a command that is not a common one.
+    #[inline(never)]
+    fn look_elsewhere(&mut self, mark: &mut Mark) -> Stage
+        requires { Stands (looking_drive (kept_in self.old mark.old) self.old.opened) }
+        ensures { LooksTo self.old mark.old self.new mark.new result }
+    {
+        let command = self.opened.command;
+        self.look_here(mark, command)
+    }
 
-/// A command that has not looked yet looks, and this is the stage that it comes to.
-// The commonest commands by themselves: what they look for is then known as the crate is compiled.
-#[inline(always)]
-pub(crate) fn look<S: ImageStore>(
-    cache: &mut TrackCache<S>,
-    registers: &mut Registers,
-    mark: &mut Mark,
-    opened: &mut Opened,
-    progress: &mut Progress,
-) -> Stage
-    requires { Stands (looking_drive (kept cache.old registers.old mark.old) opened.old) }
-    ensures stage { Looks (kept cache.old registers.old mark.old) (kept cache.new registers.new mark.new) opened.old (stage_seen registers.new opened.new progress.new result) }
-    ensures looked { IsLookedHeld result }
-{
-    match opened.command {
-        SearchIdEqual => look_here(cache, registers, mark, opened, progress, SearchIdEqual),
-        ReadData => look_here(cache, registers, mark, opened, progress, ReadData),
-        ReadCountKeyAndData => look_here(
-            cache,
-            registers,
-            mark,
-            opened,
-            progress,
-            ReadCountKeyAndData,
-        ),
-        WriteCountKeyAndData => look_here(
-            cache,
-            registers,
-            mark,
-            opened,
-            progress,
-            WriteCountKeyAndData,
-        ),
-        WriteData => look_here(cache, registers, mark, opened, progress, WriteData),
-        Seek => look_here(cache, registers, mark, opened, progress, Seek),
-        _ => look_elsewhere(cache, registers, mark, opened, progress),
+    /// A command that has not looked yet looks, and this is the stage that it comes to.
+    // The commonest commands by themselves: what they look for is then known as the crate is compiled.
+    #[inline(always)]
+    pub(crate) fn look(&mut self, mark: &mut Mark) -> Stage
+        requires { Stands (looking_drive (kept_in self.old mark.old) self.old.opened) }
+        ensures { LooksTo self.old mark.old self.new mark.new result }
+    {
+        match self.opened.command {
+            SearchIdEqual => self.look_here(mark, SearchIdEqual),
+            ReadData => self.look_here(mark, ReadData),
+            ReadCountKeyAndData => self.look_here(mark, ReadCountKeyAndData),
+            WriteCountKeyAndData => self.look_here(mark, WriteCountKeyAndData),
+            WriteData => self.look_here(mark, WriteData),
+            Seek => self.look_here(mark, Seek),
+            _ => self.look_elsewhere(mark),
+        }
     }
 }

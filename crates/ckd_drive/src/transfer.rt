@@ -2,7 +2,8 @@
 
 ghost use Rattle.std.specs.Prelude.{◌≡◌, ◌≤◌, ◌<◌, ◌+◌, length, ◌-◌, ◌^◌, slice_range};
 ghost use Rattle.ckd_drive.specs.Invariant.{MayTake, whole_of, remaining, field_size, given_on};
-ghost use Rattle.ckd_drive.specs.Fields.{place_seen, half_done, Takes, IsNoSearch, MayGiveHeld};
+ghost use Rattle.ckd_drive.specs.Fields.{place_seen, IsNoSearch, MayGiveHeld};
+ghost use Rattle.ckd_drive.specs.Jobs.{half_done, Takes};
 ghost use Rattle.ckd_command.specs.Commands.{own_home_address};
 ghost use Rattle.std.specs.Ordering.{nat_cmp, ordering_then};
 ghost use Rattle.std.specs.Cmp.Lexicographic.{slice_cmp};

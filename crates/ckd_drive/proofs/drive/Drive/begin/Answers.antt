@@ -1,7 +1,6 @@
 use Rattle.std.proofs.Common.{◌∙◌, refl}
 use Rattle.ckd_command.specs.Commands.{beginning}
-use Rattle.ckd_drive.specs.Invariant.{kept}
-use Rattle.ckd_drive.specs.Fields.{stage_seen}
+use Rattle.ckd_drive.specs.Jobs.{kept_in, stage_of}
 use Rattle.ckd_drive.proofs.Reported.{begin_reports}
 use Rattle.ckd_drive.proofs.Standing.{well_begun}
 use Rattle.ckd_drive.proofs.Starts.{has_begun}
@@ -15,32 +14,14 @@ start-self-inside-requires-clause-well g c =
 
 pub invariant_of-self : goal.invariant_of-self
 invariant_of-self g c =
-    let i = c.self.inside in
     let s = c.start-self-inside in
-    (has_begun (parts_in i) (kept s.new.cache s.new.registers s.new.mark) (stage_seen s.new.registers s.new.opened i.job.progress s.result) c.args.self.now c.args.code (beginning c.args.code i.job.registers) c.self.view_is c.requires refl (s.ensures.state i.job.progress)).comes.stands
+    let j = s.new.self in
+    (has_begun (parts_in c.self.inside) (kept_in j s.new.mark) (stage_of j s.result) j.before.bytes j.passed.bytes c.args.self.now c.args.code c.self.view_is c.requires s.ensures.state).comes.stands
 
-pub returns-clause-state : goal.returns-clause-state
-returns-clause-state g c =
-    let i = c.self.inside in
+pub returns : goal.returns
+returns g c =
     let s = c.start-self-inside in
-    (has_begun (parts_in i) (kept s.new.cache s.new.registers s.new.mark) (stage_seen s.new.registers s.new.opened i.job.progress s.result) c.args.self.now c.args.code (beginning c.args.code i.job.registers) c.self.view_is c.requires refl (s.ensures.state i.job.progress)).comes.state
-
-pub returns-clause-answer : goal.returns-clause-answer
-returns-clause-answer g c =
-    let i = c.self.inside in
-    let s = c.start-self-inside in
-    c.begun.ensures s.new.opened s.new.registers i.job.progress
-    ∙ (has_begun (parts_in i) (kept s.new.cache s.new.registers s.new.mark) (stage_seen s.new.registers s.new.opened i.job.progress s.result) c.args.self.now c.args.code (beginning c.args.code i.job.registers) c.self.view_is c.requires refl (s.ensures.state i.job.progress)).answer
-
-pub returns-clause-calls : goal.returns-clause-calls
-returns-clause-calls g c =
-    let i = c.self.inside in
-    let s = c.start-self-inside in
-    (has_begun (parts_in i) (kept s.new.cache s.new.registers s.new.mark) (stage_seen s.new.registers s.new.opened i.job.progress s.result) c.args.self.now c.args.code (beginning c.args.code i.job.registers) c.self.view_is c.requires refl (s.ensures.state i.job.progress)).comes.calls
-
-pub returns-clause-reported : goal.returns-clause-reported
-returns-clause-reported g c =
-    let i = c.self.inside in
-    let s = c.start-self-inside in
-    let x = has_begun (parts_in i) (kept s.new.cache s.new.registers s.new.mark) (stage_seen s.new.registers s.new.opened i.job.progress s.result) c.args.self.now c.args.code (beginning c.args.code i.job.registers) c.self.view_is c.requires refl (s.ensures.state i.job.progress) in
-    begin_reports c.args.self.now _ c.args.code _ x.comes.state (c.begun.ensures s.new.opened s.new.registers i.job.progress ∙ x.answer) x.comes.calls
+    let j = s.new.self in
+    let x = has_begun (parts_in c.self.inside) (kept_in j s.new.mark) (stage_of j s.result) j.before.bytes j.passed.bytes c.args.self.now c.args.code c.self.view_is c.requires s.ensures.state in
+    let answer = c.begun.ensures j.opened j.registers j.progress ∙ x.answer in
+    record { state = x.comes.state; answer = answer; calls = x.comes.calls; reported = begin_reports c.args.self.now _ c.args.code _ x.comes.state answer x.comes.calls }

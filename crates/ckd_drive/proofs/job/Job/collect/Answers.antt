@@ -1,7 +1,7 @@
 use Rattle.std.proofs.Common.{◌≡◌, ◌∙◌, sym, refl, rules}
 use Rattle.ckd_drive.specs.Transfers.{Field}
 use Rattle.ckd_drive.specs.Invariant.{own_track, own_slot}
-use Rattle.ckd_drive.specs.Fields.{half_done}
+use Rattle.ckd_drive.specs.Jobs.{half_done}
 use Rattle.ckd_drive.proofs.Looks.{slot_is}
 use Rattle.ckd_drive.proofs.News.{field_stays, home_absorbs, home_held}
 use Rattle.ckd_drive.proofs.Formats.{format_goes, format_stays, format_absorbs}

@@ -8,7 +8,7 @@ use Rattle.ckd_cache.specs.Cache.{CacheState, slot_held, with_held}
 use Rattle.ckd_command.specs.Commands.{command_end, area_ends}
 use Rattle.ckd_drive.specs.Transfers.{Fill}
 use Rattle.ckd_drive.specs.Invariant.{own_track, own_slot}
-use Rattle.ckd_drive.specs.Fields.{half_done}
+use Rattle.ckd_drive.specs.Jobs.{half_done}
 use Rattle.ckd_drive.proofs.Fills.{there}
 use Rattle.ckd_drive.proofs.Looks.{slot_is}
 use Rattle.ckd_drive.proofs.Replaces.{no_area, fill_goes, fill_absorbs, held_slot, held_now, held_twice, cleared_slot, some_of}

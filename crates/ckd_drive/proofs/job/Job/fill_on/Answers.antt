@@ -2,7 +2,8 @@ use Rattle.std.proofs.Common.{◌≡◌, refl}
 use Rattle.ckd_cache.specs.Cache.{slot_held}
 use Rattle.ckd_drive.specs.Transfers.{Filled}
 use Rattle.ckd_drive.specs.Invariant.{own_track, own_slot}
-use Rattle.ckd_drive.specs.Fields.{closes_by, half_done}
+use Rattle.ckd_drive.specs.Fields.{closes_by}
+use Rattle.ckd_drive.specs.Jobs.{half_done}
 use Rattle.ckd_drive.proofs.Looks.{slot_is}
 use Rattle.ckd_drive.proofs.Fills.{filled_absorbs}
 use Rattle.ckd_drive.proofs.job.Job.fill_on.Goals as goal
