@@ -1,11 +1,11 @@
 -- Bytes that are written piece by piece.
-use Rattle.std.proofs.Common.{◌≡◌, ◌+◌, ◌-◌, ℕ, List, [], ◌++◌, Option, None, Some, take, drop, length, refl, sym, ap, ◌∙◌, subst, append_assoc, append-nil, take-append-drop, length-drop, if◌then◌else◌, arith}
+use Rattle.std.proofs.Common.{◌≡◌, ◌+◌, ◌-◌, ℕ, List, [], ◌++◌, Option, None, Some, Result, Ok, Err, take, drop, length, refl, sym, ap, ◌∙◌, subst, append_assoc, append-nil, take-append-drop, length-drop, if◌then◌else◌, arith}
 use Rattle.std.proofs.Math.Seq.{take-length}
 use Rattle.std.proofs.lemmas.Bool.Decides.{nat_tests}
 use Rattle.std.specs.Io.KnownBytes.{Appends, Keeps}
 use Rattle.std.proofs.KnownBytes.{Appends-trans, Appends-nil, Appends-kept}
 use Rattle.counted_io.specs.Calls.{takes_none}
-use Rattle.counted_io.specs.Streams.{Stream, Takes, TakesFront}
+use Rattle.counted_io.specs.Streams.{Stream, Takes, TakesFront, NoneFailed, WritesWhole}
 
 -- the first bytes were taken, and these are left
 pub record AreLeft (before after : Stream) (bytes rest : List ℕ) : Type 0 where
@@ -68,3 +68,23 @@ took_some before now count bytes some h = grind (arith, nat_tests)
 -- a write that took none of some is one
 pub took_none_of_some : (before now count : ℕ) (bytes : List ℕ) → count ≡ 0 → (length bytes ≡ 0 → ⊥) → now ≡ (if takes_none count bytes then before + 1 else before) → now ≡ before + 1
 took_none_of_some before now count bytes none some h = grind (arith, nat_tests)
+
+-- a flush that was answered, and one that failed, with the bytes that were written before it
+pub flushed : (a b : Stream) → Keeps a.known b.known → b.passed ≡ a.passed → Takes a b []
+flushed a b k same = takes_then_keeps a a b [] (takes_nothing a) k same
+
+pub flush_failed : (a b : Stream) → Keeps a.known b.known → b.passed ≡ a.passed → TakesFront a b []
+flush_failed a b k same = record { front = []; rest = []; whole = refl; taken = flushed a b k same }
+
+-- bytes were written, and then none
+pub written_then : {E : Type 0} (result : Result (Unit {0}) E) (a b c : Stream) (bytes : List ℕ) → Takes a b bytes × NoneFailed a b → WritesWhole result b c [] → WritesWhole result a c bytes
+written_then (Ok done) a b c bytes h w = (subst (Takes a c) (append-nil bytes) (takes_more a b c bytes [] h.0 w.0), w.1 ∙ h.1)
+written_then (Err fault) a b c bytes h w = (
+  record {
+    front = bytes ++ w.0.front;
+    rest = w.0.rest;
+    whole = sym (append-nil bytes) ∙ ap (λ l. bytes ++ l) w.0.whole ∙ sym (append_assoc bytes w.0.front w.0.rest);
+    taken = takes_more a b c bytes w.0.front h.0 w.0.taken;
+  },
+  w.1 ∙ ap (λ n. n + 1) h.1,
+)

@@ -5,4 +5,4 @@ mod counted;
 mod writing;
 
 pub use crate::counted::Counted;
-pub use crate::writing::{WriteFault, write_whole};
+pub use crate::writing::{WriteFault, flush_all, write_flushed, write_whole};

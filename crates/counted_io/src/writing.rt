@@ -1,12 +1,13 @@
 //! Bytes are written whole.
 
+ghost use Rattle.std.specs.Prelude.{[]};
 ghost use Rattle.counted_io.specs.Streams.{seen_by, WritesWhole};
 
 use crate::counted::Counted;
 use std::io::Write;
 use thiserror::Error;
 
-/// A write failed, or took no byte.
+/// A write failed, or took no byte; or a flush failed.
 #[derive(Clone, Copy, Debug, PartialEq, Eq, Error)]
 #[error("write fault")]
 pub struct WriteFault;
@@ -30,4 +31,32 @@ pub fn write_whole<W: Write>(writer: &mut Counted<W>, bytes: &[u8]) -> Result<()
         rest = &rest[count..];
     }
     Ok(())
+}
+
+/// Flushes what was written; no byte more is.
+///
+/// # Errors
+///
+/// The flush failed.
+pub fn flush_all<W: Write>(writer: &mut Counted<W>) -> Result<(), WriteFault>
+    ensures { WritesWhole result (seen_by W.contents writer.old) (seen_by W.contents writer.new) [] }
+{
+    match writer.flush() {
+        Ok(()) => Ok(()),
+        Err(_) => Err(WriteFault),
+    }
+}
+
+/// Writes all these bytes, and flushes them.
+///
+/// # Errors
+///
+/// A write failed, or took no byte, or the flush failed: it is the last call, and the first bytes may be written.
+pub fn write_flushed<W: Write>(writer: &mut Counted<W>, bytes: &[u8]) -> Result<(), WriteFault>
+    ensures { WritesWhole result (seen_by W.contents writer.old) (seen_by W.contents writer.new) bytes.now }
+{
+    match write_whole(writer, bytes) {
+        Ok(()) => flush_all(writer),
+        Err(fault) => Err(fault),
+    }
 }

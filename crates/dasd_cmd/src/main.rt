@@ -9,6 +9,7 @@ mod traces;
 
 use crate::host::HostFiles;
 use crate::terminal::{HostOutput, TerminalLine};
+use counted_io::Counted;
 use dasd_jobs::JobFault;
 use dasd_run::{Ending, ProgramFault, obey};
 use std::env;
@@ -31,11 +32,12 @@ const STORED_RUN: [&str; 3] = ["dasd", "run", "90=new:2311:1"];
 
 fn main(rt: HostRuntime) -> ExitCode {
     let mut files = HostFiles::new(&rt);
-    let Ok(mut writer) = BufWriter::new(rt.alloc(), HostOutput::new(&rt)) else {
+    let Ok(writer) = BufWriter::new(rt.alloc(), HostOutput::new(&rt)) else {
         return conclude(&rt, &files, Err(ProgramFault::OutOfMemory));
     };
+    let mut writer = Counted::new(writer);
     match answer(&rt, &mut files, &mut writer) {
-        Err(ProgramFault::Job(JobFault::Write)) if writer.get_ref().is_broken() => {
+        Err(ProgramFault::Job(JobFault::Write)) if writer.inner.get_ref().is_broken() => {
             ExitCode::FAILURE
         }
         ended => conclude(&rt, &files, ended),
@@ -72,7 +74,7 @@ fn conclude(rt: &HostRuntime, files: &HostFiles, ended: Result<Ending, ProgramFa
 fn answer(
     rt: &HostRuntime,
     files: &mut HostFiles,
-    writer: &mut BufWriter<HostOutput>,
+    writer: &mut Counted<BufWriter<HostOutput>>,
 ) -> Result<Ending, ProgramFault> {
     let alloc = rt.alloc();
     let words = host_words(rt)?;

@@ -1,4 +1,6 @@
--- Which fault of a job comes of which fault of a file.
+-- Which fault of a job comes of which fault of a file or a volume.
+use Rattle.dasd_volumes.specs.declared.fault.VolumeFault.{VolumeFault}
+use Rattle.dasd_volumes.specs.declared.fault.VolumeFault.TheVariants as volume
 use Rattle.dasd_jobs.specs.declared.files.FileFault.{FileFault}
 use Rattle.dasd_jobs.specs.declared.files.FileFault.TheVariants as file
 use Rattle.dasd_jobs.specs.declared.faults.JobFault.{JobFault}
@@ -19,3 +21,9 @@ writing_fault file.Refused = job.Write
 writing_fault file.InUse = job.InUse
 writing_fault file.Twice = job.InUse
 writing_fault file.Exists = job.Exists
+
+-- of a volume whose files are read
+abbrev pub volume_fault : VolumeFault → JobFault
+volume_fault volume.OutOfMemory = job.OutOfMemory
+volume_fault volume.Store = job.Read
+volume_fault volume.Write = job.Write

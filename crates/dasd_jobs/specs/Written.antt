@@ -1,8 +1,10 @@
 -- Files that were written.
 use Rattle.std.specs.Prelude.{◌≡◌, ◌⊎◌, ℕ, List, [], ◌∷◌, ◌++◌, Result, Ok, Err}
+use Rattle.counted_io.specs.Streams.{Stream, Takes, TakesFront, NoneFailed, OneFailed}
 use Rattle.ckd_track.specs.declared.model.DriveModel.{DriveModel}
 use Rattle.ckd_track.specs.Geometry.{new_geometry}
 use Rattle.ckd_image.specs.Image.{new_file}
+use Rattle.dasd_jobs.specs.Lines.{formatted_line}
 use Rattle.dasd_jobs.specs.declared.faults.JobFault.{JobFault}
 use Rattle.dasd_jobs.specs.declared.faults.JobFault.TheVariants.{Write}
 
@@ -24,11 +26,14 @@ abbrev pub WritesNew : {A : Type 0} → Result A JobFault → (path : List ℕ) 
 WritesNew (Ok _) path model cylinders before now = now ≡ with_new before path model cylinders
 WritesNew (Err _) path model cylinders before now = now ≡ before
 
--- a format is done where the new image is at its path; with a write fault it may be, where only the line was not written; with
--- every other fault nothing is
-abbrev pub Formats : {A : Type 0} → Result A JobFault → (path : List ℕ) → DriveModel → (cylinders : ℕ) → (before now : List Replaced) → Type 0
-Formats (Ok _) path model cylinders before now = now ≡ with_new before path model cylinders
-Formats (Err fault) path model cylinders before now = (now ≡ before) ⊎ ((fault ≡ Write) × (now ≡ with_new before path model cylinders))
+-- A format is done where the new image is at its path and its line is written. With a write fault the image may be there and a write
+-- of the line has failed; with every other fault nothing is there, and nothing is printed.
+abbrev pub Formats : {A : Type 0} → Result A JobFault → (path : List ℕ) → DriveModel → (cylinders : ℕ) → (before now : List Replaced) → (printed_before printed : Stream) → Type 0
+Formats (Ok _) path model cylinders before now printed_before printed =
+    (now ≡ with_new before path model cylinders) × Takes printed_before printed (formatted_line model cylinders) × NoneFailed printed_before printed
+Formats (Err fault) path model cylinders before now printed_before printed =
+    ((now ≡ before) × (printed ≡ printed_before))
+    ⊎ ((fault ≡ Write) × (now ≡ with_new before path model cylinders) × TakesFront printed_before printed (formatted_line model cylinders) × OneFailed printed_before printed)
 
 -- a file of these bytes was put at a path, or nothing was
 abbrev pub WritesFile : {A : Type 0} → Result A JobFault → (path bytes : List ℕ) → (before now : List Replaced) → Type 0

@@ -1,21 +1,25 @@
 //! Formatting, listing and checking.
 
-ghost use Rattle.std.specs.Prelude.{◌≡◌, [], false, IfOk, OnOk};
-ghost use Rattle.std.specs.Io.KnownBytes.{Appends};
+ghost use Rattle.std.specs.Prelude.{◌≡◌, [], false, IfOk, IfErr, OnOk};
+ghost use Rattle.counted_io.specs.Streams.{seen_by, WritesWhole};
 ghost use Rattle.ckd_track.specs.Model.{slot_size_of};
 ghost use Rattle.ckd_image.specs.Image.{new_file};
-ghost use Rattle.dasd_jobs.specs.Lines.{formatted_line};
+ghost use Rattle.dasd_jobs.specs.Causes.{volume_fault};
+ghost use Rattle.dasd_jobs.specs.Lines.{formatted_line, model_digits};
+ghost use Rattle.dasd_jobs.specs.Printed.{CountsLines};
 ghost use Rattle.dasd_jobs.specs.Written.{WritesNew, Formats};
 
 use crate::faults::{JobFault, of_write};
 use crate::files::ImageFiles;
 use crate::opened::open_volume;
+use arrayvec::ArrayString;
 use ckd_image::{ImageStore, StoreFault, write_new_volume};
 use ckd_track::{DriveModel, Geometry};
+use counted_io::{Counted, WriteFault, write_flushed};
 use dasd_volumes::{Progress, Stage, VolumeFault, is_large};
 use std::alloc::Global;
-use std::io;
 use std::io::Write;
+use text_lines::put_decimal;
 
 /// What is formatted: a new volume, and whether it may take the place of a file.
 #[derive(Clone, Copy, Debug, PartialEq, Eq)]
@@ -35,17 +39,17 @@ pub struct NewVolume<'a> {
 ///
 /// # Errors
 ///
-/// No memory for the path; the file can't be written, which then holds what it held; or the line can't be written.
+/// No memory for the path, or the file can't be written: it then holds what it held, and nothing is printed. Or a write of the line
+/// failed, or its flush, which is a write fault: the image is at its path.
 pub fn format_file<F: ImageFiles, W: Write, P: Progress>(
     alloc: Global,
     files: &mut F,
-    writer: &mut W,
+    writer: &mut Counted<W>,
     progress: &mut P,
     volume: NewVolume,
 ) -> Result<(), JobFault>
-    ensures written { Formats result volume.entry.path.now volume.entry.model volume.entry.cylinders (F.written files.old) (F.written files.new) }
-    ensures line { OnOk result (Appends (W.contents writer.old) (W.contents writer.new)
-        (formatted_line volume.entry.model volume.entry.cylinders)) }
+    ensures formats { Formats result volume.entry.path.now volume.entry.model volume.entry.cylinders (F.written files.old) (F.written files.new)
+        (seen_by W.contents writer.old) (seen_by W.contents writer.new) }
     ensures cleared { P.is_shown progress.new ≡ false }
 {
     let written = write_shown(alloc, files, progress, volume);
@@ -55,27 +59,36 @@ pub fn format_file<F: ImageFiles, W: Write, P: Progress>(
     }
     match write_formatted(writer, progress, volume) {
         Ok(()) => Ok(()),
-        Err(_) => Err(JobFault::Write),
+        Err(WriteFault) => Err(JobFault::Write),
     }
 }
 
 // The line that says what was formatted. Nothing is shown meanwhile.
 fn write_formatted<W: Write, P: Progress>(
-    writer: &mut W,
+    writer: &mut Counted<W>,
     _progress: &P,
     volume: NewVolume,
-) -> io::Result<()>
+) -> Result<(), WriteFault>
     requires { P.is_shown _progress.now ≡ false }
-    ensures { OnOk result (Appends (W.contents writer.old) (W.contents writer.new)
-        (formatted_line volume.entry.model volume.entry.cylinders)) }
+    ensures { WritesWhole result (seen_by W.contents writer.old) (seen_by W.contents writer.new) (formatted_line volume.entry.model volume.entry.cylinders) }
 {
-    let model = match volume.model {
+    let mut line: ArrayString<40> = ArrayString::new();
+    line.push_str("formatted ");
+    line.push_str(model_number(volume.model));
+    line.push_str(" ");
+    put_decimal(&mut line, u32::from(volume.cylinders));
+    line.push_str(" cylinders\n");
+    write_flushed(writer, line.as_bytes())
+}
+
+// The number of a drive's model.
+fn model_number(model: DriveModel) -> &'static str
+    ensures { result.now ≡ model_digits model }
+{
+    match model {
         DriveModel::D2311 => "2311",
         DriveModel::D2314 => "2314",
-    };
-    let cylinders = volume.cylinders;
-    writeln!(writer, "formatted {model} {cylinders} cylinders")?;
-    writer.flush()
+    }
 }
 
 // Writes a new image to a path, and shows so of a large volume.
@@ -145,18 +158,28 @@ fn write_volume<D: ImageStore>(draft: &mut D, geometry: Geometry) -> Result<(), 
 ///
 /// # Errors
 ///
-/// The first file that can't be read, or why the files hold no image, before a line is printed; or what stopped the
-/// listing, behind the lines that are printed.
+/// The first file that can't be read, or why the files hold no image, or no memory, before a line is printed; or what stopped the
+/// listing, behind the lines that are printed. A write fault comes exactly where a write failed, or the last flush.
 pub fn list_files<F: ImageFiles, W: Write>(
     alloc: Global,
     files: &mut F,
-    writer: &mut W,
+    writer: &mut Counted<W>,
     paths: &[&str],
 ) -> Result<(), JobFault>
-    ensures { F.written files.new ≡ F.written files.old }
+    ensures kept { F.written files.new ≡ F.written files.old }
+    ensures writes { CountsLines result (seen_by W.contents writer.old) (seen_by W.contents writer.new) }
+    ensures none { IfErr result (λ e. e ≡ JobFault.OutOfMemory → writer.new ≡ writer.old) }
 {
-    let mut volume = open_volume(alloc, files, paths)?;
-    dasd_volumes::list(alloc, &mut volume, writer).map_err(|fault| of_file(fault))
+    match open_volume(alloc, files, paths) {
+        Ok(volume) => {
+            let mut volume = volume;
+            match dasd_volumes::list(alloc, &mut volume, writer) {
+                Ok(()) => Ok(()),
+                Err(fault) => Err(of_volume(fault)),
+            }
+        }
+        Err(fault) => Err(fault),
+    }
 }
 
 /// Prints the tracks of the image that these files hold which can't be read, and answers how many there are. The image is read
@@ -164,24 +187,37 @@ pub fn list_files<F: ImageFiles, W: Write>(
 ///
 /// # Errors
 ///
-/// As `list_files`.
+/// As `list_files`; of the flushes each may fail.
 pub fn check_files<F: ImageFiles, W: Write, P: Progress>(
     alloc: Global,
     files: &mut F,
-    writer: &mut W,
+    writer: &mut Counted<W>,
     progress: &mut P,
     paths: &[&str],
 ) -> Result<u32, JobFault>
-    ensures { F.written files.new ≡ F.written files.old }
+    ensures kept { F.written files.new ≡ F.written files.old }
+    ensures writes { CountsLines result (seen_by W.contents writer.old) (seen_by W.contents writer.new) }
+    ensures none { IfErr result (λ e. e ≡ JobFault.OutOfMemory → writer.new ≡ writer.old) }
 {
-    let mut volume = open_volume(alloc, files, paths)?;
-    dasd_volumes::check(alloc, &mut volume, writer, progress).map_err(|fault| of_file(fault))
+    match open_volume(alloc, files, paths) {
+        Ok(volume) => {
+            let mut volume = volume;
+            match dasd_volumes::check(alloc, &mut volume, writer, progress) {
+                Ok(findings) => Ok(findings),
+                Err(fault) => Err(of_volume(fault)),
+            }
+        }
+        Err(fault) => Err(fault),
+    }
 }
 
 // What a fault over the files of a volume is to a job: a slot that can't be read is a file that can't be.
-fn of_file(fault: VolumeFault) -> JobFault {
+fn of_volume(fault: VolumeFault) -> JobFault
+    ensures { result ≡ volume_fault fault }
+{
     match fault {
+        VolumeFault::OutOfMemory => JobFault::OutOfMemory,
         VolumeFault::Store => JobFault::Read,
-        fault => JobFault::from(fault),
+        VolumeFault::Write => JobFault::Write,
     }
 }

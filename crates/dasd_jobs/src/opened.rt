@@ -1,6 +1,6 @@
 //! The volume in files that are read in place.
 
-ghost use Rattle.std.specs.Prelude.{◌≡◌, ◌+◌, ◌<◌, length, All, IsSome, [], None, IfOk};
+ghost use Rattle.std.specs.Prelude.{◌≡◌, ◌≢◌, ◌+◌, ◌<◌, length, All, IsSome, [], None, IfOk, IfErr};
 ghost use Rattle.arrayvec.specs.ArrayVec.{array_vec_len};
 ghost use Rattle.ckd_track.specs.Geometry.{IsGeometry};
 
@@ -82,7 +82,8 @@ pub fn open_volume<F: ImageFiles>(
     files: &mut F,
     paths: &[&str],
 ) -> Result<OpenedVolume<F::Opened>, JobFault>
-    ensures { F.written files.new ≡ F.written files.old }
+    ensures kept { F.written files.new ≡ F.written files.old }
+    ensures fault { IfErr result (λ e. e ≢ JobFault.Write) }
 {
     if paths.len() > MOST_FILES {
         return Err(JobFault::Mount(MountFault::Split));
@@ -105,7 +106,9 @@ pub fn open_volume<F: ImageFiles>(
 }
 
 // One more at the end of a list.
-fn push<T: Drop>(list: &mut Vec<T>, item: T) -> Result<(), JobFault> {
+fn push<T: Drop>(list: &mut Vec<T>, item: T) -> Result<(), JobFault>
+    ensures { IfErr result (λ e. e ≡ JobFault.OutOfMemory) }
+{
     match list.push(item) {
         Ok(()) => Ok(()),
         Err(_) => Err(JobFault::OutOfMemory),
@@ -117,7 +120,9 @@ fn push<T: Drop>(list: &mut Vec<T>, item: T) -> Result<(), JobFault> {
 /// # Errors
 ///
 /// The header can't be read.
-pub(crate) fn read_head<O: OpenedFile>(file: &mut O) -> Result<Head, JobFault> {
+pub(crate) fn read_head<O: OpenedFile>(file: &mut O) -> Result<Head, JobFault>
+    ensures { IfErr result (λ e. e ≡ JobFault.Read) }
+{
     let mut head = Head {
         header: [0; HEADER],
         len: file.len(),

@@ -34,9 +34,3 @@ pub record_is : (id key_length data_length : List ℕ)
     → (((((codes "  " ++ id) ++ codes " KL ") ++ key_length) ++ codes " DL ") ++ data_length) ++ line_feed
     ≡ concat (codes "  " ∷ id ∷ codes " KL " ∷ key_length ∷ codes " DL " ∷ data_length ∷ line_feed ∷ [])
 record_is id key_length data_length = simp (append_assoc)
-
--- and those of a track's
-pub track_is : (cylinder head home_address records used : List ℕ)
-    → ((((((((cylinder ++ codes " ") ++ head) ++ codes " HA ") ++ home_address) ++ codes " records ") ++ records) ++ codes " used ") ++ used) ++ line_feed
-    ≡ concat ((cylinder ++ (codes " " ++ head)) ∷ codes " HA " ∷ home_address ∷ codes " records " ∷ records ∷ codes " used " ∷ used ∷ line_feed ∷ [])
-track_is cylinder head home_address records used = simp (append_assoc)

@@ -1,4 +1,5 @@
 pub mod Sizes
 pub mod Lines
 pub mod Reading
+pub mod Printing
 pub mod Volumes

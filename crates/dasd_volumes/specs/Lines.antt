@@ -53,7 +53,11 @@ abbrev pub record_line : Record → List ℕ
 record_line r = concat (
     codes "  " ∷ bytes_text r.id ∷ codes " KL " ∷ decimal (length r.key_area) ∷ codes " DL " ∷ decimal (length r.data_area) ∷ line_feed ∷ [])
 
+-- a track that can't be read, with why
+abbrev pub unreadable_line : (cylinder head : ℕ) → SlotFault → List ℕ
+unreadable_line cylinder head fault = concat (address_text cylinder head ∷ codes " unreadable " ∷ fault_text fault ∷ line_feed ∷ [])
+
 -- what a list prints of the track that a slot spells, or of one that can't be read
 abbrev pub track_lines : DriveModel → (cylinder head : ℕ) → Result Track SlotFault → List ℕ
 track_lines model cylinder head (Ok t) = track_line model cylinder head t ++ flat_map record_line t.records
-track_lines model cylinder head (Err fault) = concat (address_text cylinder head ∷ codes " unreadable " ∷ fault_text fault ∷ line_feed ∷ [])
+track_lines model cylinder head (Err fault) = unreadable_line cylinder head fault

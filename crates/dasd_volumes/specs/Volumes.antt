@@ -59,9 +59,13 @@ lines_on cylinder g slots = finding_lines (findings_on g slots cylinder)
 abbrev pub lines_in : Geometry → (slots : List (List ℕ)) → List ℕ
 lines_in g slots = finding_lines (findings_in g slots)
 
+-- the last line of a check: how many findings there are
+abbrev pub number_line : (number : ℕ) → List ℕ
+number_line number = concat (decimal number ∷ codes " findings" ∷ line_feed ∷ [])
+
 -- what a check prints: a line for each finding, and how many there are
 abbrev pub findings_text : List Finding → List ℕ
-findings_text findings = finding_lines findings ++ concat (decimal (length findings) ∷ codes " findings" ∷ line_feed ∷ [])
+findings_text findings = finding_lines findings ++ number_line (length findings)
 
 abbrev pub check_text : Geometry → (slots : List (List ℕ)) → List ℕ
 check_text g slots = findings_text (findings_in g slots)

@@ -1,38 +1,41 @@
 //! The tracks of a volume that can't be read.
 
-ghost use Rattle.std.specs.Prelude.{◌≡◌, ◌≢◌, ◌<◌, ◌≤◌, ◌∷◌, [], false, length, codes, IfOk, OnOk, IfErr};
-ghost use Rattle.std.specs.List.{concat};
-ghost use Rattle.std.specs.Fmt.{decimal};
-ghost use Rattle.std.specs.Io.KnownBytes.{Appends, Keeps};
+ghost use Rattle.std.specs.Prelude.{◌≡◌, ◌≢◌, ◌<◌, ◌≤◌, false, length, IfOk, IfErr};
+ghost use Rattle.counted_io.specs.Streams.{seen_by, WritesWhole};
 ghost use Rattle.ckd_track.specs.Track.{track_of};
-ghost use Rattle.dasd_volumes.specs.Lines.{line_feed};
-ghost use Rattle.dasd_volumes.specs.Reading.{Prints, IsRead};
-ghost use Rattle.dasd_volumes.specs.Volumes.{findings_at, finding_lines, finding_line, lines_on, lines_in, check_text, NumberOn, NumberIn};
+ghost use Rattle.dasd_volumes.specs.Printing.{PrintsText, CountsWrites, CountsFindings};
+ghost use Rattle.dasd_volumes.specs.Reading.{IsRead};
+ghost use Rattle.dasd_volumes.specs.Volumes.{findings_at, finding_line, number_line, lines_on, lines_in, check_text, NumberOn, NumberIn};
 
 use crate::fault::VolumeFault;
+use crate::pieces::{LINE, put_address, put_fault};
 use crate::progress::{Progress, Stage, is_large};
 use crate::reading::SlotReader;
-use crate::text::{Reason, TrackAddress};
+use crate::text::TrackAddress;
+use arrayvec::ArrayString;
 use ckd_track::{Geometry, SlotFault, read_slot};
+use counted_io::{Counted, WriteFault, write_flushed};
 use std::alloc::Global;
 use std::io::Write;
+use text_lines::put_decimal;
 
 /// Prints each track of a volume that can't be read, with why, and then how many there are, which it answers. Of a
 /// large volume it shows each cylinder. Nothing is shown while a line is written, nor behind the call.
 ///
 /// # Errors
 ///
-/// There is no memory for a slot, before anything is printed; or a read or a write fails: what was printed before stays.
+/// There is no memory for a slot, before anything is printed; a read of the volume failed; or a write failed, or a flush, and exactly
+/// then it is a write fault. What was printed are the first bytes of the text.
 pub fn check<V: SlotReader, W: Write, P: Progress>(
     alloc: Global,
     volume: &mut V,
-    writer: &mut W,
+    writer: &mut Counted<W>,
     progress: &mut P,
 ) -> Result<u32, VolumeFault>
     ensures number { IfOk result (NumberIn (V.volume volume.old)) }
-    ensures lines { OnOk result
-        (Prints check_text (V.volume volume.old) (W.contents writer.old) (W.contents writer.new)) }
-    ensures none { IfErr result (λ e. e ≡ VolumeFault.OutOfMemory → Keeps (W.contents writer.old) (W.contents writer.new)) }
+    ensures lines { PrintsText result check_text (V.volume volume.old) (seen_by W.contents writer.old) (seen_by W.contents writer.new) }
+    ensures writes { CountsWrites result (seen_by W.contents writer.old) (seen_by W.contents writer.new) }
+    ensures none { IfErr result (λ e. e ≡ VolumeFault.OutOfMemory → writer.new ≡ writer.old) }
     ensures volume { IsRead result (V.volume volume.old) (V.volume volume.new) (V.failures volume.old) (V.failures volume.new) }
     ensures cleared { P.is_shown progress.new ≡ false }
 {
@@ -45,7 +48,7 @@ pub fn check<V: SlotReader, W: Write, P: Progress>(
     match checked {
         Ok(findings) => match write_number(writer, progress, findings) {
             Ok(()) => Ok(findings),
-            Err(_) => Err(VolumeFault::Write),
+            Err(WriteFault) => Err(VolumeFault::Write),
         },
         Err(fault) => Err(fault),
     }
@@ -54,14 +57,14 @@ pub fn check<V: SlotReader, W: Write, P: Progress>(
 // The lines of the tracks that can't be read, each of which is loaded into the slot; and how many they are.
 fn check_cylinders<V: SlotReader, W: Write, P: Progress>(
     volume: &mut V,
-    writer: &mut W,
+    writer: &mut Counted<W>,
     progress: &mut P,
     slot: &mut [u8],
 ) -> Result<u32, VolumeFault>
     requires size { length slot.old ≡ (V.volume volume.old).geometry.track_size }
     ensures number { IfOk result (NumberIn (V.volume volume.old)) }
-    ensures lines { OnOk result
-        (Prints lines_in (V.volume volume.old) (W.contents writer.old) (W.contents writer.new)) }
+    ensures lines { PrintsText result lines_in (V.volume volume.old) (seen_by W.contents writer.old) (seen_by W.contents writer.new) }
+    ensures writes { CountsWrites result (seen_by W.contents writer.old) (seen_by W.contents writer.new) }
     ensures memory { IfErr result (λ e. e ≢ VolumeFault.OutOfMemory) }
     ensures volume { IsRead result (V.volume volume.old) (V.volume volume.new) (V.failures volume.old) (V.failures volume.new) }
 {
@@ -89,7 +92,7 @@ fn show_cylinder<P: Progress>(progress: &mut P, geometry: Geometry, cylinder: u1
 // The lines of one cylinder's tracks that can't be read, each of which is loaded into the slot; and how many they are.
 fn check_cylinder<V: SlotReader, W: Write, P: Progress>(
     volume: &mut V,
-    writer: &mut W,
+    writer: &mut Counted<W>,
     progress: &mut P,
     slot: &mut [u8],
     cylinder: u16,
@@ -98,8 +101,8 @@ fn check_cylinder<V: SlotReader, W: Write, P: Progress>(
     requires size { length slot.old ≡ (V.volume volume.old).geometry.track_size }
     ensures number { IfOk result (NumberOn cylinder (V.volume volume.old)) }
     ensures few { IfOk result (λ n. n ≤ 20) }
-    ensures lines { OnOk result
-        (Prints (lines_on cylinder) (V.volume volume.old) (W.contents writer.old) (W.contents writer.new)) }
+    ensures lines { PrintsText result (lines_on cylinder) (V.volume volume.old) (seen_by W.contents writer.old) (seen_by W.contents writer.new) }
+    ensures writes { CountsWrites result (seen_by W.contents writer.old) (seen_by W.contents writer.new) }
     ensures memory { IfErr result (λ e. e ≢ VolumeFault.OutOfMemory) }
     ensures volume { IsRead result (V.volume volume.old) (V.volume volume.new) (V.failures volume.old) (V.failures volume.new) }
     ensures size { length slot.new ≡ length slot.old }
@@ -115,7 +118,7 @@ fn check_cylinder<V: SlotReader, W: Write, P: Progress>(
         }
         match check_track(writer, progress, TrackAddress { cylinder, head }, slot) {
             Ok(found) => findings += found,
-            Err(_) => return Err(VolumeFault::Write),
+            Err(WriteFault) => return Err(VolumeFault::Write),
         }
     }
     Ok(findings)
@@ -123,15 +126,14 @@ fn check_cylinder<V: SlotReader, W: Write, P: Progress>(
 
 // The line of a track that can't be read; and whether it is one.
 fn check_track<W: Write, P: Progress>(
-    writer: &mut W,
+    writer: &mut Counted<W>,
     progress: &mut P,
     address: TrackAddress,
     slot: &[u8],
-) -> std::io::Result<u32>
+) -> Result<u32, WriteFault>
     ensures number { IfOk result (λ n. n ≡ length (findings_at address.cylinder address.head (track_of slot.now))) }
     ensures few { IfOk result (λ n. n ≤ 1) }
-    ensures lines { OnOk result (Appends (W.contents writer.old) (W.contents writer.new)
-        (finding_lines (findings_at address.cylinder address.head (track_of slot.now)))) }
+    ensures lines { CountsFindings result (seen_by W.contents writer.old) (seen_by W.contents writer.new) (findings_at address.cylinder address.head (track_of slot.now)) }
 {
     let Err(fault) = read_slot(slot) else {
         return Ok(0);
@@ -145,29 +147,34 @@ fn check_track<W: Write, P: Progress>(
 
 // The line of a track that can't be read, which is seen at once. Nothing is shown meanwhile.
 fn write_finding<W: Write, P: Progress>(
-    writer: &mut W,
+    writer: &mut Counted<W>,
     _progress: &P,
     address: TrackAddress,
     fault: SlotFault,
-) -> std::io::Result<()>
+) -> Result<(), WriteFault>
     requires { P.is_shown _progress.now ≡ false }
-    ensures { OnOk result (Appends (W.contents writer.old) (W.contents writer.new)
-        (finding_line (record { cylinder = address.cylinder; head = address.head; fault = fault }))) }
+    ensures { WritesWhole result (seen_by W.contents writer.old) (seen_by W.contents writer.new)
+        (finding_line (record { cylinder = address.cylinder; head = address.head; fault = fault })) }
 {
-    writeln!(writer, "{address} {}", Reason(fault))?;
-    writer.flush()
+    let mut line: ArrayString<LINE> = ArrayString::new();
+    put_address(&mut line, address);
+    line.push_str(" ");
+    put_fault(&mut line, fault);
+    line.push_str("\n");
+    write_flushed(writer, line.as_bytes())
 }
 
 // The last line of a check. Nothing is shown meanwhile.
 fn write_number<W: Write, P: Progress>(
-    writer: &mut W,
+    writer: &mut Counted<W>,
     _progress: &P,
     findings: u32,
-) -> std::io::Result<()>
+) -> Result<(), WriteFault>
     requires { P.is_shown _progress.now ≡ false }
-    ensures { OnOk result (Appends (W.contents writer.old) (W.contents writer.new)
-        (concat (decimal findings ∷ codes " findings" ∷ line_feed ∷ []))) }
+    ensures { WritesWhole result (seen_by W.contents writer.old) (seen_by W.contents writer.new) (number_line findings) }
 {
-    writeln!(writer, "{findings} findings")?;
-    writer.flush()
+    let mut line: ArrayString<LINE> = ArrayString::new();
+    put_decimal(&mut line, findings);
+    line.push_str(" findings\n");
+    write_flushed(writer, line.as_bytes())
 }

@@ -5,6 +5,7 @@
 mod checks;
 mod fault;
 mod lists;
+mod pieces;
 mod progress;
 mod reading;
 mod text;

@@ -1,39 +1,45 @@
 //! A deck is run as ever, and watched.
 
-ghost use Rattle.s360_deck.specs.Runs.{Runs, StaysUnlessRun};
+ghost use Rattle.counted_io.specs.Streams.{seen_by};
+ghost use Rattle.s360_deck.specs.CountedRuns.{CountedRuns};
+ghost use Rattle.s360_deck.specs.Runs.{StaysUnlessRun};
 
+use crate::counted_reading::read_counted;
+use crate::counted_writing::write_counted;
 use crate::fault::DeckFault;
-use crate::reading::read_deck;
 use crate::runs::{RunFault, read_events};
-use crate::writing::write_answers;
 use ckd_image::ImageStore;
+use counted_io::{Counted, WriteFault};
 use s360_channel::Channel;
 use s360_trace::{Watcher, drive};
 use std::alloc::Global;
 use std::io::{Read, Write};
 
-/// Runs a deck as `run` does, with the same promise; the watcher looks at the channel before and behind each event, and behind
-/// each unit of a program.
+/// Runs a deck as `run_counted` does, with the same promise; the watcher looks at the channel before and behind each event, and
+/// behind each unit of a program.
 ///
 /// # Errors
 ///
-/// Those of `run`.
+/// Those of `run_counted`.
 pub fn run_watched<R: Read, W: Write, S: ImageStore, V: Watcher>(
     alloc: Global,
-    reader: &mut R,
-    writer: &mut W,
+    reader: &mut Counted<R>,
+    writer: &mut Counted<W>,
     channel: &mut Channel<S>,
     watcher: &mut V,
 ) -> Result<(), RunFault>
-    ensures runs { Runs result (R.remaining reader.old) (R.remaining reader.new) channel.old channel.new
-        (W.contents writer.old) (W.contents writer.new) }
+    ensures runs { CountedRuns result (seen_by R.remaining reader.old) (seen_by R.remaining reader.new) channel.old channel.new
+        (seen_by W.contents writer.old) (seen_by W.contents writer.new) }
     ensures no_event { StaysUnlessRun result channel.old channel.new }
     ensures nothing_written { StaysUnlessRun result writer.old writer.new }
 {
-    let text = read_deck(alloc, reader)?;
+    let text = read_counted(alloc, reader)?;
     let events = read_events(alloc, text.as_slice())?;
     let Ok(answers) = drive(alloc, channel, events.as_slice(), watcher) else {
         return Err(RunFault::Deck(DeckFault::OutOfMemory));
     };
-    write_answers(writer, answers.as_slice())
+    match write_counted(writer, answers.as_slice()) {
+        Ok(()) => Ok(()),
+        Err(WriteFault) => Err(RunFault::Write),
+    }
 }

@@ -4,6 +4,7 @@ use crate::ends::{LineWriter, ShownLines};
 use anyhow::{Result, bail};
 use ckd_image::{FailingStore, Image};
 use ckd_track::{DriveModel, Geometry};
+use counted_io::Counted;
 use dasd_jobs::JobFault;
 use dasd_run::ProgramFault;
 use dasd_volumes::{VolumeFault, check, list};
@@ -16,7 +17,7 @@ pub(crate) fn over_failing(
     alloc: Global,
     job: &str,
     read: u32,
-    writer: &mut LineWriter,
+    writer: &mut Counted<LineWriter>,
 ) -> Result<Option<ProgramFault>> {
     let mut image = failing_image(alloc, read)?;
     Ok(match do_job(alloc, job, &mut image, writer)? {
@@ -30,7 +31,7 @@ fn do_job(
     alloc: Global,
     job: &str,
     image: &mut Image<FailingStore>,
-    writer: &mut LineWriter,
+    writer: &mut Counted<LineWriter>,
 ) -> Result<std::result::Result<(), VolumeFault>> {
     match job {
         "list" => Ok(list(alloc, image, writer)),

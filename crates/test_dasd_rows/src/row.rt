@@ -4,6 +4,7 @@ use crate::ends::{LineWriter, ShownLines};
 use crate::failing::over_failing;
 use crate::files::MemoryFiles;
 use anyhow::{Context, Result, bail};
+use counted_io::Counted;
 use dasd_run::{Ending, ProgramFault, obey};
 use std::alloc::Global;
 use test_rows::{DeckReader, bytes, number};
@@ -116,8 +117,8 @@ fn command(alloc: Global, stage: &mut Stage, line: &str) -> Result<bool> {
         return Ok(false);
     }
     let words: Vec<&str> = line.split(' ').collect(alloc)?;
-    let mut writer = LineWriter::new(alloc, stage.room);
-    writer.flush_fails = stage.flush_fails;
+    let mut writer = Counted::new(LineWriter::new(alloc, stage.room));
+    writer.inner.flush_fails = stage.flush_fails;
     let mut progress = ShownLines::new(alloc);
     (stage.status, stage.told) = ending_of(
         alloc,
@@ -127,7 +128,7 @@ fn command(alloc: Global, stage: &mut Stage, line: &str) -> Result<bool> {
         &mut progress,
     )?;
     stage.shown = progress.into_lines()?;
-    keep(alloc, stage, writer.printed.as_slice())?;
+    keep(alloc, stage, writer.inner.printed.as_slice())?;
     stage.deck.clear();
     stage.deck_fails = false;
     stage.room = None;
@@ -141,7 +142,7 @@ fn ending_of(
     alloc: Global,
     stage: &mut Stage,
     words: &[&str],
-    writer: &mut LineWriter,
+    writer: &mut Counted<LineWriter>,
     progress: &mut ShownLines,
 ) -> Result<(u8, String)> {
     let mut reader = DeckReader {
@@ -166,7 +167,7 @@ fn ending_of(
 // Lists or checks a volume whose store fails.
 fn failing(alloc: Global, stage: &mut Stage, words: &str) -> Result<bool> {
     let (job, read) = words.split_once(' ').context("which read?")?;
-    let mut writer = LineWriter::new(alloc, stage.room);
+    let mut writer = Counted::new(LineWriter::new(alloc, stage.room));
     (stage.status, stage.told) = match over_failing(
         alloc,
         job,
@@ -177,7 +178,7 @@ fn failing(alloc: Global, stage: &mut Stage, words: &str) -> Result<bool> {
         Some(fault) => status_of(alloc, fault)?,
     };
     stage.shown = String::new(alloc);
-    keep(alloc, stage, writer.printed.as_slice())?;
+    keep(alloc, stage, writer.inner.printed.as_slice())?;
     Ok(true)
 }
 

@@ -8,6 +8,7 @@ use anyhow::{Result, bail};
 use arrayvec::ArrayVec;
 use ckd_image::{Image, ImageStore, MemoryStore, image_len};
 use ckd_track::{DriveModel, Geometry};
+use counted_io::Counted;
 use s360_channel::Channel;
 use s360_deck::{RunFault, run, run_watched};
 use s360_words::Storage;
@@ -81,8 +82,8 @@ fn answers_differ(
     vector: &Vector,
     traced: bool,
 ) -> Result<Option<Difference>> {
-    let mut output = Vec::new(alloc);
-    let mut deck = vector.deck.as_slice();
+    let mut output = Counted::new(Vec::new(alloc));
+    let mut deck = Counted::new(vector.deck.as_slice());
     let ran = if traced {
         let mut tracer = Tracer::new(Vec::new(alloc));
         run_watched(alloc, &mut deck, &mut output, channel, &mut tracer)
@@ -93,7 +94,7 @@ fn answers_differ(
         return Ok(Some(Difference::Fault));
     }
     Ok(
-        match first_difference(output.as_slice(), vector.answers.as_bytes()) {
+        match first_difference(output.inner.as_slice(), vector.answers.as_bytes()) {
             Some(line) => Some(Difference::Answer(line)),
             None => None,
         },

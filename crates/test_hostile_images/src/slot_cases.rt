@@ -7,6 +7,7 @@ use crate::volumes::{HEADER_LENGTH, file_with};
 use anyhow::{Result, bail};
 use ckd_image::{Image, MemoryStore};
 use ckd_track::read_slot;
+use counted_io::Counted;
 use dasd_volumes::{Progress, Stage, check};
 use std::alloc::Global;
 use test_rows::Tally;
@@ -108,13 +109,13 @@ impl Progress for Unseen {
 // Whether a check of the volume reports the first track's fault, and no other.
 fn is_checked(alloc: Global, file: &[u8], spelled: &Spelled) -> Result<bool> {
     let mut image = mounted(alloc, file)?;
-    let mut printed = Vec::new(alloc);
+    let mut printed = Counted::new(Vec::new(alloc));
     let findings = check(alloc, &mut image, &mut printed, &mut Unseen)?;
     let (wanted, text) = match spelled.fault {
         Some(fault) => (1, format!(in alloc; "0000 0000 {fault}\n1 findings\n")?),
         None => (0, format!(in alloc; "0 findings\n")?),
     };
-    Ok(findings == wanted && printed.as_slice() == text.as_bytes())
+    Ok(findings == wanted && printed.inner.as_slice() == text.as_bytes())
 }
 
 /// The first bytes of a file's first slot.

@@ -16,6 +16,7 @@
 #![tactic(auto)]
 
 use anyhow::{Result, bail};
+use counted_io::Counted;
 use s360_channel::Channel;
 use s360_deck::run_watched;
 use s360_words::Storage;
@@ -74,12 +75,11 @@ fn lines_behind(alloc: Global, row: &str, word: &str) -> Result<String> {
 fn trace_of(alloc: Global, volume: &str, row: &str) -> Result<String> {
     let mut channel = channel_of(alloc, volume, row)?;
     let deck = lines_behind(alloc, row, "> ")?;
-    let mut answers = Vec::new(alloc);
     let mut tracer = Tracer::new(Vec::new(alloc));
     run_watched(
         alloc,
-        &mut deck.as_str().as_bytes(),
-        &mut answers,
+        &mut Counted::new(deck.as_str().as_bytes()),
+        &mut Counted::new(Vec::new(alloc)),
         &mut channel,
         &mut tracer,
     )?;

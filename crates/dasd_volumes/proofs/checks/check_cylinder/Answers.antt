@@ -1,5 +1,6 @@
 use Rattle.std.proofs.Common.{rules, tests, refl}
-use Rattle.dasd_volumes.proofs.Appended.{no_lines, no_number, more_lines, more_number}
+use Rattle.dasd_volumes.proofs.Appended.{no_number, more_number}
+use Rattle.dasd_volumes.proofs.Fronts.{no_lines, more_lines, front_of_lines, lines_so_far}
 use Rattle.dasd_volumes.specs.Volumes.{finding_line}
 use Rattle.dasd_volumes.proofs.checks.check_cylinder.Goals as goal
 
@@ -8,6 +9,7 @@ loop-head-init g c = record {
   number = λ slots known. no_number _;
   few = search (rules, tests);
   lines = λ slots known. no_lines _ _ _;
+  sound = refl;
   volume = refl;
   failures = refl;
   size = search (rules, tests);
@@ -18,10 +20,20 @@ loop-head-preserved g c = record {
   number = λ slots known. more_number _ c.loop-head.head _ _ (c.loop-head.invariant.number slots known) (search (rules, tests));
   few = search (rules, tests);
   lines = λ slots known. more_lines finding_line _ _ _ _ c.loop-head.head (c.loop-head.invariant.lines slots known) (search (rules, tests));
+  sound = search (rules, tests);
   volume = search (rules, tests);
   failures = search (rules, tests);
   size = search (rules, tests);
 }
+
+-- a slot could not be read
+pub returns-then-is_err-clause-lines : goal.returns-then-is_err-clause-lines
+returns-then-is_err-clause-lines g c = λ slots known. lines_so_far finding_line _ _ _ c.loop-head.head _ (search (rules, tests)) (c.loop-head.invariant.lines slots known)
+
+-- a line could not be written
+pub returns-in-Err-clause-lines : goal.returns-in-Err-clause-lines
+returns-in-Err-clause-lines g c =
+    λ slots known. front_of_lines finding_line _ _ _ _ c.loop-head.head _ (search (rules, tests)) (c.loop-head.invariant.lines slots known) (search (rules, tests))
 
 -- each head is passed
 pub returns-clause-number : goal.returns-clause-number

@@ -1,12 +1,12 @@
-use Rattle.std.proofs.Common.{◌≡◌, ◌∙◌, subst, OnOk}
-use Rattle.std.specs.Io.KnownBytes.{Appends}
+use Rattle.std.proofs.Common.{◌≡◌, ◌∙◌, subst}
+use Rattle.counted_io.specs.Streams.{seen_by, WritesWhole}
 use Rattle.ckd_track.specs.Track.{record_in}
 use Rattle.dasd_volumes.specs.Lines.{record_line}
 use Rattle.dasd_volumes.proofs.Formats.{identifier_is, record_is}
 use Rattle.dasd_volumes.proofs.lists.list_record.Goals as goal
 
 pub returns : goal.returns
-returns g c = subst (λ t. OnOk c.write_all.result (Appends (g.W.Write.contents c.args.writer.now) (g.W.Write.contents c.write_all.new.self) t)) text c.write_all.ensures.bytes
+returns g c = subst (λ t. WritesWhole c.write_whole.result (seen_by g.W.Write.contents c.args.writer.now) (seen_by g.W.Write.contents c.write_whole.new.writer) t) text c.write_whole.ensures
   where
     line : c.push_str-4.new.self.bytes ≡ record_line (record_in c.args.track.now c.args.i)
     line =
