@@ -5,3 +5,5 @@ pub mod Chains
 pub mod Sets
 pub mod Claims
 pub mod Words
+pub mod Lines
+pub mod Objects

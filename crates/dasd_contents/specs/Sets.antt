@@ -1,6 +1,8 @@
 -- Data sets and free tracks, by the control blocks that say them.
-use Rattle.std.specs.Prelude.{◌≡◌, ℕ, ◌==◌, Bool, true, false, ◌&&◌, if◌then◌else◌, List, [], ◌∷◌, ◌++◌, length, Option, Some, None, bytes_eq}
+use Rattle.std.specs.Prelude.{◌≡◌, ℕ, ◌+◌, ◌*◌, ◌==◌, Bool, true, false, ◌&&◌, if◌then◌else◌, List, [], ◌∷◌, ◌++◌, length, Option, Some, None, bytes_eq}
 use Rattle.std.specs.List.{position, flat_map}
+use Rattle.ckd_track.specs.declared.geometries.Geometry.{Geometry}
+use Rattle.ckd_track.specs.Model.{heads_of}
 use Rattle.volume_labels.specs.declared.fields.Extent.{Extent}
 use Rattle.volume_labels.specs.declared.fields.FreeTracks.{FreeTracks}
 use Rattle.volume_labels.specs.declared.fields.RecordAddress.{RecordAddress}
@@ -39,10 +41,14 @@ first_extents d = used_extents (d.first_extent ∷ d.second_extent ∷ d.third_e
 abbrev pub behind_block : List Block → Block → Links
 behind_block blocks b = links_from 21 false blocks (data_set_block_of b.key b.bytes).next
 
+-- the extents of a data set: those of its format 1 block, and those of format 3 behind it
+abbrev pub extents_behind : List Block → Block → List Extent
+extents_behind blocks b = first_extents (data_set_block_of b.key b.bytes) ++ flat_map extents_in (behind_block blocks b).links
+
 pub record DataSetOf (blocks : List Block) (b : Block) (d : set.DataSet) : Type 0 where
   pub address : d.address ≡ b.address
   pub block : d.block ≡ data_set_block_of b.key b.bytes
-  pub extents : d.extents.items ≡ first_extents (data_set_block_of b.key b.bytes) ++ flat_map extents_in (behind_block blocks b).links
+  pub extents : d.extents.items ≡ extents_behind blocks b
   pub fault : d.fault ≡ (behind_block blocks b).fault
 
 -- a format 1 block has this name, whatever blanks stand behind it
@@ -84,11 +90,18 @@ free_links blocks (Some i) = links_from (length blocks) true blocks (block_in bl
 abbrev pub free_chain : List Block → Links
 free_chain blocks = free_links blocks (position (λ b. is_free_space b.kind) blocks)
 
+abbrev pub pieces_behind : List Block → List FreeTracks
+pieces_behind blocks = flat_map pieces_in (free_chain blocks).links
+
+-- how many tracks a piece has
+abbrev pub number_of_free : Geometry → FreeTracks → ℕ
+number_of_free g f = f.cylinders * heads_of g.model + f.tracks
+
 abbrev pub address_found : List Block → Option ℕ → Option RecordAddress
 address_found blocks None = None
 address_found blocks (Some i) = Some (block_in blocks i).address
 
 pub record FreeSpaceOf (blocks : List Block) (f : space.FreeSpace) : Type 0 where
   pub address : f.address ≡ address_found blocks (position (λ b. is_free_space b.kind) blocks)
-  pub pieces : f.pieces.items ≡ flat_map pieces_in (free_chain blocks).links
+  pub pieces : f.pieces.items ≡ pieces_behind blocks
   pub fault : f.fault ≡ (free_chain blocks).fault

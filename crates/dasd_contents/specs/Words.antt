@@ -1,5 +1,5 @@
 -- The words in which labels, control blocks and findings are printed.
-use Rattle.std.specs.Prelude.{ℕ, ◌+◌, ◌-◌, ◌==◌, Bool, ◌&&◌, ◌||◌, not, if◌then◌else◌, List, [], ◌∷◌, ◌++◌, length, replicate, bit_and, codes, encode_utf8}
+use Rattle.std.specs.Prelude.{ℕ, ◌+◌, ◌-◌, ◌==◌, Bool, false, ◌&&◌, ◌||◌, not, if◌then◌else◌, List, [], ◌∷◌, ◌++◌, length, replicate, bit_and, codes, encode_utf8}
 use Rattle.std.specs.List.{concat, flat_map}
 use Rattle.std.specs.Fmt.{decimal}
 use Rattle.volume_labels.specs.declared.fields.TrackAddress.{TrackAddress}
@@ -8,6 +8,7 @@ use Rattle.volume_labels.specs.declared.fields.Extent.{Extent}
 use Rattle.volume_labels.specs.declared.fields.FreeTracks.{FreeTracks}
 use Rattle.volume_labels.specs.declared.fields.Date.{Date}
 use Rattle.volume_labels.specs.Ebcdic.{shown}
+use Rattle.data_sets.specs.Lines.{without_blanks}
 use Rattle.dasd_volumes.specs.Lines.{address_text, fault_text, hexadecimal}
 use Rattle.dasd_contents.specs.declared.chains.ChainFault.{ChainFault}
 use Rattle.dasd_contents.specs.declared.chains.ChainFault.TheVariants.{Missing, OtherFormat, Endless}
@@ -42,6 +43,10 @@ in_text quoted character = if quoted && is_escaped character then 92 ∷ encode_
 
 abbrev pub text_of : (quoted : Bool) → List ℕ → List ℕ
 text_of quoted bytes = flat_map (λ b. in_text quoted (shown b)) bytes
+
+-- A volume's owner: the name without the blanks behind it, or a hyphen.
+abbrev pub owner_text : List ℕ → List ℕ
+owner_text owner = if length (without_blanks owner) == 0 then codes "-" else text_of false (without_blanks owner)
 
 -- Dates: the year and the day of it in three digits, or a hyphen where there is none.
 

@@ -2,6 +2,7 @@
 
 ghost use Rattle.std.specs.Prelude.{◌≡◌, ◌<◌, length};
 ghost use Rattle.ckd_track.specs.Geometry.{tracks_of};
+ghost use Rattle.dasd_contents.specs.Sets.{number_of_free};
 
 use crate::blocks::{Block, add_finding};
 use crate::claims::{claim, claim_extent};
@@ -146,7 +147,8 @@ fn claim_free(marks: &mut [u8], geometry: Geometry, piece: FreeTracks) -> Option
 
 /// How many tracks a piece of free tracks has.
 pub(crate) fn number_of_free(geometry: Geometry, piece: FreeTracks) -> u32
-    ensures { result < 16777216 }
+    ensures value { result ≡ number_of_free geometry piece }
+    ensures few { result < 16777216 }
 {
     piece.cylinders as u32 * geometry.model.heads() as u32 + piece.tracks as u32
 }

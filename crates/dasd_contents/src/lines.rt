@@ -1,18 +1,27 @@
 //! What a volume holds, in lines for people.
 
+ghost use Rattle.std.specs.Prelude.{◌≡◌, ◌≢◌, ◌≤◌, ◌-◌, ◌^◌, ◌++◌, false, min, sum_by, length, replicate, OnOk, IfOk, IfErr};
+ghost use Rattle.std.specs.List.{flat_map};
+ghost use Rattle.std.specs.Io.KnownBytes.{Appends};
+ghost use Rattle.dasd_contents.specs.Sets.{is_data_set, number_of_free};
+ghost use Rattle.dasd_contents.specs.Words.{format_text};
+ghost use Rattle.dasd_contents.specs.Lines.{tracks_in, tracks_owned, tracks_used, tracks_free, at_left, label_line, heading, name_columns, number_columns, set_line, block_line, free_line, finding_line, volume_lines, contents_lines};
+
 use crate::blocks::Block;
 use crate::checks::number_of_free;
+use crate::findings::Finding;
 use crate::reading::Contents;
 use crate::runs::{is_on, number_of};
 use crate::sets::{DataSet, data_set_of, free_tracks};
-use crate::words::{Bounds, Day, Format, Organisation, Place, Text, format_width};
+use crate::words::{Bounds, Day, Format, Organisation, Owner, Place, Text, format_width};
 use ckd_track::Geometry;
 use dasd_volumes::VolumeFault;
-use data_sets::without_blanks;
 use std::alloc::Global;
 use std::io;
 use std::io::Write;
-use volume_labels::{BlockKind, ContentsBlock, Extent, RelativeAddress, VolumeLabel};
+use volume_labels::{
+    BlockKind, ContentsBlock, DataSetBlock, Extent, FreeTracks, RelativeAddress, VolumeLabel,
+};
 
 /// The type of an extent for user labels, whose tracks are none of the data set's.
 const USER_LABELS: u8 = 0x40;
@@ -30,39 +39,66 @@ pub fn write_lines<W: Write>(
     writer: &mut W,
     geometry: Geometry,
     contents: &Contents,
-) -> Result<(), VolumeFault> {
-    if let (Some(label), Some(table)) = (contents.label, contents.table) {
-        written(write_label(writer, &label, &table))?;
-        let blocks = contents.found.blocks.as_slice();
-        write_sets(alloc, writer, geometry, blocks)?;
-        let free = tracks_free(alloc, geometry, blocks)?;
-        written(write_free(writer, free, table.free_blocks))?;
-    }
-    written(write_findings(writer, contents))
-}
-
-// What a failed write is.
-fn written(write: io::Result<()>) -> Result<(), VolumeFault> {
-    match write {
+) -> Result<(), VolumeFault>
+    ensures lines { OnOk result (Appends (W.contents writer.old) (W.contents writer.new) (contents_lines geometry contents.now)) }
+    ensures fault { IfErr result (λ e. e ≢ VolumeFault.Store) }
+{
+    write_volume(alloc, writer, geometry, contents)?;
+    let Ok(()) = write_findings(writer, contents.found.findings.as_slice()) else {
+        return Err(VolumeFault::Write);
+    };
+    match writer.flush() {
         Ok(()) => Ok(()),
         Err(_) => Err(VolumeFault::Write),
     }
 }
 
-// The first two lines.
+// The lines of a volume that has a label and a table.
+fn write_volume<W: Write>(
+    alloc: Global,
+    writer: &mut W,
+    geometry: Geometry,
+    contents: &Contents,
+) -> Result<(), VolumeFault>
+    ensures lines { OnOk result (Appends (W.contents writer.old) (W.contents writer.new)
+        (volume_lines geometry contents.now.found.blocks.items contents.now.label contents.now.table)) }
+    ensures fault { IfErr result (λ e. e ≢ VolumeFault.Store) }
+{
+    let Some(label) = contents.label else {
+        return Ok(());
+    };
+    let Some(table) = contents.table else {
+        return Ok(());
+    };
+    let blocks = contents.found.blocks.as_slice();
+    let Ok(()) = write_label(writer, &label, &table) else {
+        return Err(VolumeFault::Write);
+    };
+    let Ok(()) = write_heading(writer) else {
+        return Err(VolumeFault::Write);
+    };
+    write_sets(alloc, writer, geometry, blocks)?;
+    write_free(alloc, writer, geometry, blocks, &table)
+}
+
+// The line of the label.
 fn write_label<W: Write>(
     writer: &mut W,
     label: &VolumeLabel,
     table: &ContentsBlock,
-) -> io::Result<()> {
+) -> io::Result<()>
+    ensures { OnOk result (Appends (W.contents writer.old) (W.contents writer.new) (label_line label.now table.now)) }
+{
     let serial = text(&label.serial);
+    let owner = Owner(&label.owner);
     let extent = Bounds(table.extent);
-    let owner = without_blanks(&label.owner);
-    if owner.is_empty() {
-        writeln!(writer, "{serial}  owner -  VTOC {extent}")?;
-    } else {
-        writeln!(writer, "{serial}  owner {}  VTOC {extent}", text(owner))?;
-    }
+    writeln!(writer, "{serial}  owner {owner}  VTOC {extent}")
+}
+
+// The line above the columns.
+fn write_heading<W: Write>(writer: &mut W) -> io::Result<()>
+    ensures { OnOk result (Appends (W.contents writer.old) (W.contents writer.new) heading) }
+{
     writeln!(
         writer,
         "Data set                                     Created  Expires  Org Recfm Lrecl Blksz Tracks   Used Extents"
@@ -70,7 +106,10 @@ fn write_label<W: Write>(
 }
 
 // Text in EBCDIC for people.
-fn text(bytes: &[u8]) -> Text<'_> {
+fn text(bytes: &[u8]) -> Text<'_>
+    ensures bytes { result.bytes.now ≡ bytes.now }
+    ensures plain { result.quoted ≡ false }
+{
     Text {
         bytes,
         quoted: false,
@@ -83,21 +122,59 @@ fn write_sets<W: Write>(
     writer: &mut W,
     geometry: Geometry,
     blocks: &[Block],
-) -> Result<(), VolumeFault> {
+) -> Result<(), VolumeFault>
+    ensures lines { OnOk result (Appends (W.contents writer.old) (W.contents writer.new) (flat_map (block_line geometry blocks.now) blocks.now)) }
+    ensures fault { IfErr result (λ e. e ≢ VolumeFault.Store) }
+{
     for block in blocks {
-        if block.kind == BlockKind::DataSet {
-            let Ok(set) = data_set_of(alloc, blocks, block) else {
-                return Err(VolumeFault::OutOfMemory);
-            };
-            written(write_set(writer, geometry, &set))?;
-        }
+        write_block(alloc, writer, geometry, blocks, block)?;
     }
     Ok(())
 }
 
+// The line of the data set whose block this is, if it is one's.
+fn write_block<W: Write>(
+    alloc: Global,
+    writer: &mut W,
+    geometry: Geometry,
+    blocks: &[Block],
+    block: &Block,
+) -> Result<(), VolumeFault>
+    ensures lines { OnOk result (Appends (W.contents writer.old) (W.contents writer.new) (block_line geometry blocks.now block.now)) }
+    ensures fault { IfErr result (λ e. e ≢ VolumeFault.Store) }
+{
+    if !is_data_set(block.kind) {
+        return Ok(());
+    }
+    let Ok(set) = data_set_of(alloc, blocks, block) else {
+        return Err(VolumeFault::OutOfMemory);
+    };
+    match write_set(writer, geometry, &set) {
+        Ok(()) => Ok(()),
+        Err(_) => Err(VolumeFault::Write),
+    }
+}
+
+/// Whether a control block is one of format 1.
+pub(crate) fn is_data_set(kind: BlockKind) -> bool
+    ensures { result ≡ is_data_set kind }
+{
+    kind == BlockKind::DataSet
+}
+
 // The line of a data set.
-fn write_set<W: Write>(writer: &mut W, geometry: Geometry, set: &DataSet) -> io::Result<()> {
-    let block = &set.block;
+fn write_set<W: Write>(writer: &mut W, geometry: Geometry, set: &DataSet) -> io::Result<()>
+    ensures { OnOk result (Appends (W.contents writer.old) (W.contents writer.new) (set_line geometry set.now.block set.now.extents.items)) }
+{
+    write_names(writer, &set.block)?;
+    write_format(writer, set.block.format)?;
+    write_numbers(writer, geometry, set)
+}
+
+// A data set's name, its dates and its organisation.
+fn write_names<W: Write>(writer: &mut W, block: &DataSetBlock) -> io::Result<()>
+    ensures { OnOk result (Appends (W.contents writer.old) (W.contents writer.new) (name_columns block.now)) }
+{
     let name = text(&block.name);
     let created = Day {
         date: block.created,
@@ -111,46 +188,74 @@ fn write_set<W: Write>(writer: &mut W, geometry: Geometry, set: &DataSet) -> io:
         bits: block.organisation,
         wide: true,
     };
-    let format = Format(block.format);
-    write!(writer, "{name} {created} {expires} {organisation} {format}")?;
-    for _ in format_width(block.format)..FORMAT_WIDTH {
-        writer.write_all(b" ")?;
-    }
-    let record = block.record_length;
-    let length = block.block_length;
-    let tracks = tracks_of(geometry, set);
-    let used = tracks_used(block.last);
-    let extents = set.extents.len();
+    write!(writer, "{name} {created} {expires} {organisation} ")
+}
+
+// A record format, and blanks up to the width of its column.
+fn write_format<W: Write>(writer: &mut W, format: u8) -> io::Result<()>
+    ensures { OnOk result (Appends (W.contents writer.old) (W.contents writer.new) (at_left 5 (format_text format))) }
+{
+    let letters = Format(format);
+    write!(writer, "{letters}")?;
+    write_blanks(writer, FORMAT_WIDTH.saturating_sub(format_width(format)))
+}
+
+// So many blanks.
+fn write_blanks<W: Write>(writer: &mut W, number: usize) -> io::Result<()>
+    requires { number ≤ 5 }
+    ensures { OnOk result (Appends (W.contents writer.old) (W.contents writer.new) (replicate number 32)) }
+{
+    let blanks = [b' '; FORMAT_WIDTH];
+    writer.write_all(&blanks[..number])
+}
+
+// The numbers of a data set.
+fn write_numbers<W: Write>(writer: &mut W, geometry: Geometry, set: &DataSet) -> io::Result<()>
+    ensures { OnOk result (Appends (W.contents writer.old) (W.contents writer.new) (number_columns geometry set.now.block set.now.extents.items)) }
+{
+    let record = set.block.record_length;
+    let length = set.block.block_length;
+    let extents = set.extents.as_slice();
+    let tracks = tracks_owned(geometry, extents);
+    let used = tracks_used(set.block.last);
+    let number = extents.len();
     writeln!(
         writer,
-        " {record:>5} {length:>5} {tracks:>6} {used:>6} {extents:>7}"
+        " {record:>5} {length:>5} {tracks:>6} {used:>6} {number:>7}"
     )
 }
 
-/// How many tracks the extents of a data set have that are on the volume, without those for user labels.
-pub(crate) fn tracks_of(geometry: Geometry, set: &DataSet) -> u64 {
+/// How many tracks these extents of a data set have that are on the volume, without those for user labels.
+pub(crate) fn tracks_owned(geometry: Geometry, extents: &[Extent]) -> u64
+    ensures { result ≡ tracks_owned geometry extents.now }
+{
     let mut tracks: u64 = 0;
-    for extent in set.extents.iter() {
-        if extent.kind != USER_LABELS && is_on(geometry, *extent) {
-            tracks = tracks.saturating_add(tracks_in(geometry, extent));
-        }
+    for extent in extents {
+        tracks = tracks.saturating_add(tracks_in(geometry, *extent));
     }
     tracks
 }
 
-// How many tracks there are from the first of an extent up to its last.
-fn tracks_in(geometry: Geometry, extent: &Extent) -> u64 {
+// How many tracks of an extent are its data set's.
+fn tracks_in(geometry: Geometry, extent: Extent) -> u64
+    ensures { result ≡ tracks_in geometry extent }
+{
+    if extent.kind == USER_LABELS || !is_on(geometry, extent) {
+        return 0;
+    }
     let first = number_of(geometry, extent.first);
     let last = number_of(geometry, extent.last);
-    u64::from(last.saturating_sub(first)).saturating_add(1)
+    u64::from(last + 1 - first)
 }
 
 /// How many tracks of a data set are used, by the address of its last block.
-pub(crate) fn tracks_used(last: RelativeAddress) -> u32 {
+pub(crate) fn tracks_used(last: RelativeAddress) -> u32
+    ensures { result ≡ tracks_used last }
+{
     if last.track == 0 && last.number == 0 {
         return 0;
     }
-    u32::from(last.track).saturating_add(1)
+    u32::from(last.track) + 1
 }
 
 /// How many tracks the control blocks say are free.
@@ -162,31 +267,61 @@ pub(crate) fn tracks_free(
     alloc: Global,
     geometry: Geometry,
     blocks: &[Block],
-) -> Result<u64, VolumeFault> {
+) -> Result<u64, VolumeFault>
+    ensures value { IfOk result (λ tracks. tracks ≡ tracks_free geometry blocks.now) }
+    ensures fault { IfErr result (λ e. e ≡ VolumeFault.OutOfMemory) }
+{
     let Ok(free) = free_tracks(alloc, blocks) else {
         return Err(VolumeFault::OutOfMemory);
     };
+    Ok(tracks_of_pieces(geometry, free.pieces.as_slice()))
+}
+
+// How many tracks some pieces of free tracks have.
+fn tracks_of_pieces(geometry: Geometry, pieces: &[FreeTracks]) -> u64
+    ensures { result ≡ min (sum_by (number_of_free geometry) pieces.now) (2 ^ 64 - 1) }
+{
     let mut tracks: u64 = 0;
-    for piece in free.pieces.iter() {
+    for piece in pieces {
         tracks = tracks.saturating_add(u64::from(number_of_free(geometry, *piece)));
     }
-    Ok(tracks)
+    tracks
 }
 
 // The line of free tracks.
-fn write_free<W: Write>(writer: &mut W, tracks: u64, blocks: u16) -> io::Result<()> {
-    writeln!(writer, "free {tracks} tracks, {blocks} control blocks")
+fn write_free<W: Write>(
+    alloc: Global,
+    writer: &mut W,
+    geometry: Geometry,
+    blocks: &[Block],
+    table: &ContentsBlock,
+) -> Result<(), VolumeFault>
+    ensures lines { OnOk result (Appends (W.contents writer.old) (W.contents writer.new) (free_line geometry blocks.now table.now)) }
+    ensures fault { IfErr result (λ e. e ≢ VolumeFault.Store) }
+{
+    let tracks = tracks_free(alloc, geometry, blocks)?;
+    let free_blocks = table.free_blocks;
+    match writeln!(writer, "free {tracks} tracks, {free_blocks} control blocks") {
+        Ok(()) => Ok(()),
+        Err(_) => Err(VolumeFault::Write),
+    }
 }
 
 // The lines of what is wrong.
-fn write_findings<W: Write>(writer: &mut W, contents: &Contents) -> io::Result<()> {
-    for finding in contents.found.findings.iter() {
-        writeln!(
-            writer,
-            "finding {} {}",
-            Place(finding.place),
-            finding.problem
-        )?;
+fn write_findings<W: Write>(writer: &mut W, findings: &[Finding]) -> io::Result<()>
+    ensures { OnOk result (Appends (W.contents writer.old) (W.contents writer.new) (flat_map finding_line findings.now)) }
+{
+    for finding in findings {
+        write_finding(writer, finding)?;
     }
-    writer.flush()
+    Ok(())
+}
+
+// The line of a finding.
+fn write_finding<W: Write>(writer: &mut W, finding: &Finding) -> io::Result<()>
+    ensures { OnOk result (Appends (W.contents writer.old) (W.contents writer.new) (finding_line finding.now)) }
+{
+    let place = Place(finding.place);
+    let problem = finding.problem;
+    writeln!(writer, "finding {place} {problem}")
 }

@@ -1,8 +1,13 @@
 //! What a volume holds, as objects of JSON, one a line.
 
+ghost use Rattle.std.specs.Prelude.{◌≡◌, ◌≢◌, ◌<◌, ◌++◌, Some, length, OnOk, IfErr};
+ghost use Rattle.std.specs.List.{flat_map};
+ghost use Rattle.std.specs.Io.KnownBytes.{Appends};
+ghost use Rattle.dasd_contents.specs.Objects.{quoted_text, four_text, day_or_null, path_text, label_members, volume_object, name_members, number_members, comma_before, listed_extent, extents_text, set_object, block_object, finding_members, finding_object, volume_objects, contents_objects};
+
 use crate::blocks::Block;
 use crate::findings::Finding;
-use crate::lines::{tracks_free, tracks_of, tracks_used};
+use crate::lines::{is_data_set, tracks_free, tracks_owned, tracks_used};
 use crate::reading::Contents;
 use crate::sets::{DataSet, data_set_of};
 use crate::words::{Day, Format, Kind, Organisation, Text, is_date};
@@ -12,7 +17,7 @@ use data_sets::without_blanks;
 use std::alloc::Global;
 use std::io::Write;
 use std::{fmt, io};
-use volume_labels::{BlockKind, ContentsBlock, Date, Extent, VolumeLabel};
+use volume_labels::{ContentsBlock, DataSetBlock, Date, Extent, VolumeLabel};
 
 /// Prints the volume label, each data set, the free tracks, and what is wrong, each as an object of JSON with the volume's
 /// path, which is a string of JSON with its quotes.
@@ -26,29 +31,39 @@ pub fn write_objects<W: Write>(
     path: &str,
     geometry: Geometry,
     contents: &Contents,
-) -> Result<(), VolumeFault> {
-    if let (Some(label), Some(table)) = (contents.label, contents.table) {
-        let blocks = contents.found.blocks.as_slice();
-        let free = tracks_free(alloc, geometry, blocks)?;
-        written(write_volume(writer, path, &label, &table, free))?;
-        write_sets(alloc, writer, path, geometry, blocks)?;
-    }
-    written(write_findings(writer, path, contents))
-}
-
-// What a failed write is.
-fn written(write: io::Result<()>) -> Result<(), VolumeFault> {
-    match write {
+) -> Result<(), VolumeFault>
+    ensures lines { OnOk result (Appends (W.contents writer.old) (W.contents writer.new) (contents_objects path.now geometry contents.now)) }
+    ensures fault { IfErr result (λ e. e ≢ VolumeFault.Store) }
+{
+    let volume = Volume { path, geometry };
+    write_known(alloc, writer, volume, contents)?;
+    let Ok(()) = write_findings(writer, path, contents.found.findings.as_slice()) else {
+        return Err(VolumeFault::Write);
+    };
+    match writer.flush() {
         Ok(()) => Ok(()),
         Err(_) => Err(VolumeFault::Write),
     }
 }
 
-// Text in EBCDIC, without the blanks at its end.
-fn text(bytes: &[u8]) -> Text<'_> {
-    Text {
-        bytes: without_blanks(bytes),
-        quoted: true,
+// The volume that objects are of: its path, which is a string of JSON with its quotes, and its geometry.
+#[derive(Clone, Copy)]
+struct Volume<'a> {
+    path: &'a str,
+    geometry: Geometry,
+}
+
+// Text within quotes, without the blanks at its end.
+#[derive(Clone, Copy)]
+struct Quoted<'a>(&'a [u8]);
+
+impl fmt::Display for Quoted<'_> {
+    ghost output = { λ q. Some (quoted_text q.0.now) };
+
+    fn fmt<W: fmt::Write>(&self, f: &mut fmt::Formatter<W>) -> fmt::Result {
+        let bytes = without_blanks(self.0);
+        let quoted = true;
+        write!(f, "{}", Text { bytes, quoted })
     }
 }
 
@@ -57,6 +72,8 @@ fn text(bytes: &[u8]) -> Text<'_> {
 struct Four(Extent);
 
 impl fmt::Display for Four {
+    ghost output = { λ e. Some (four_text e.0) };
+
     fn fmt<W: fmt::Write>(&self, f: &mut fmt::Formatter<W>) -> fmt::Result {
         let Extent { first, last, .. } = self.0;
         write!(
@@ -72,6 +89,8 @@ impl fmt::Display for Four {
 struct DayOrNull(Date);
 
 impl fmt::Display for DayOrNull {
+    ghost output = { λ d. Some (day_or_null d.0) };
+
     fn fmt<W: fmt::Write>(&self, f: &mut fmt::Formatter<W>) -> fmt::Result {
         if !is_date(self.0) {
             return f.write_str("null");
@@ -84,6 +103,38 @@ impl fmt::Display for DayOrNull {
     }
 }
 
+// The objects of a volume that has a label and a table.
+fn write_known<W: Write>(
+    alloc: Global,
+    writer: &mut W,
+    volume: Volume,
+    contents: &Contents,
+) -> Result<(), VolumeFault>
+    ensures lines { OnOk result (Appends (W.contents writer.old) (W.contents writer.new)
+        (volume_objects volume.entry.path.now volume.entry.geometry contents.now.found.blocks.items contents.now.label contents.now.table)) }
+    ensures fault { IfErr result (λ e. e ≢ VolumeFault.Store) }
+{
+    let Some(label) = contents.label else {
+        return Ok(());
+    };
+    let Some(table) = contents.table else {
+        return Ok(());
+    };
+    let blocks = contents.found.blocks.as_slice();
+    let free = tracks_free(alloc, volume.geometry, blocks)?;
+    let Ok(()) = write_volume(writer, volume.path, &label, &table, free) else {
+        return Err(VolumeFault::Write);
+    };
+    write_sets(alloc, writer, volume, blocks)
+}
+
+// How each object begins.
+fn write_path<W: Write>(writer: &mut W, path: &str) -> io::Result<()>
+    ensures { OnOk result (Appends (W.contents writer.old) (W.contents writer.new) (path_text path.now)) }
+{
+    write!(writer, "{{\"path\":{path}")
+}
+
 // The object of the volume.
 fn write_volume<W: Write>(
     writer: &mut W,
@@ -91,12 +142,27 @@ fn write_volume<W: Write>(
     label: &VolumeLabel,
     table: &ContentsBlock,
     free: u64,
-) -> io::Result<()> {
+) -> io::Result<()>
+    ensures { OnOk result (Appends (W.contents writer.old) (W.contents writer.new) (volume_object path.now label.now table.now free)) }
+{
+    write_path(writer, path)?;
+    write_contents(writer, label, table, free)
+}
+
+// What a label says, where the table is, and what is free.
+fn write_contents<W: Write>(
+    writer: &mut W,
+    label: &VolumeLabel,
+    table: &ContentsBlock,
+    free: u64,
+) -> io::Result<()>
+    ensures { OnOk result (Appends (W.contents writer.old) (W.contents writer.new) (label_members label.now table.now free)) }
+{
     writeln!(
         writer,
-        "{{\"path\":{path},\"serial\":\"{}\",\"owner\":\"{}\",\"contents\":{},\"free_tracks\":{free},\"free_blocks\":{}}}",
-        text(&label.serial),
-        text(&label.owner),
+        ",\"serial\":\"{}\",\"owner\":\"{}\",\"contents\":{},\"free_tracks\":{free},\"free_blocks\":{}}}",
+        Quoted(&label.serial),
+        Quoted(&label.owner),
         Four(table.extent),
         table.free_blocks
     )
@@ -106,33 +172,64 @@ fn write_volume<W: Write>(
 fn write_sets<W: Write>(
     alloc: Global,
     writer: &mut W,
-    path: &str,
-    geometry: Geometry,
+    volume: Volume,
     blocks: &[Block],
-) -> Result<(), VolumeFault> {
+) -> Result<(), VolumeFault>
+    ensures lines { OnOk result (Appends (W.contents writer.old) (W.contents writer.new)
+        (flat_map (block_object volume.entry.path.now volume.entry.geometry blocks.now) blocks.now)) }
+    ensures fault { IfErr result (λ e. e ≢ VolumeFault.Store) }
+{
     for block in blocks {
-        if block.kind == BlockKind::DataSet {
-            let Ok(set) = data_set_of(alloc, blocks, block) else {
-                return Err(VolumeFault::OutOfMemory);
-            };
-            written(write_set(writer, path, geometry, &set))?;
-        }
+        write_block(alloc, writer, volume, blocks, block)?;
     }
     Ok(())
 }
 
-// The object of a data set.
-fn write_set<W: Write>(
+// The object of the data set whose block this is, if it is one's.
+fn write_block<W: Write>(
+    alloc: Global,
     writer: &mut W,
-    path: &str,
-    geometry: Geometry,
-    set: &DataSet,
-) -> io::Result<()> {
-    let block = &set.block;
+    volume: Volume,
+    blocks: &[Block],
+    block: &Block,
+) -> Result<(), VolumeFault>
+    ensures lines { OnOk result (Appends (W.contents writer.old) (W.contents writer.new)
+        (block_object volume.entry.path.now volume.entry.geometry blocks.now block.now)) }
+    ensures fault { IfErr result (λ e. e ≢ VolumeFault.Store) }
+{
+    if !is_data_set(block.kind) {
+        return Ok(());
+    }
+    let Ok(set) = data_set_of(alloc, blocks, block) else {
+        return Err(VolumeFault::OutOfMemory);
+    };
+    match write_set(writer, volume, &set) {
+        Ok(()) => Ok(()),
+        Err(_) => Err(VolumeFault::Write),
+    }
+}
+
+// The object of a data set.
+fn write_set<W: Write>(writer: &mut W, volume: Volume, set: &DataSet) -> io::Result<()>
+    ensures { OnOk result (Appends (W.contents writer.old) (W.contents writer.new)
+        (set_object volume.entry.path.now volume.entry.geometry set.now.block set.now.extents.items)) }
+{
+    let extents = set.extents.as_slice();
+    write_path(writer, volume.path)?;
+    write_names(writer, &set.block)?;
+    write_numbers(writer, volume.geometry, &set.block, extents)?;
+    write_extents(writer, extents)?;
+    writer.write_all(b"]}\n")
+}
+
+// A data set's name, its dates, its organisation and its format.
+fn write_names<W: Write>(writer: &mut W, block: &DataSetBlock) -> io::Result<()>
+    ensures { OnOk result (Appends (W.contents writer.old) (W.contents writer.new) (name_members block.now)) }
+{
     write!(
         writer,
-        "{{\"path\":{path},\"name\":\"{}\",\"created\":{},\"expires\":{},\"organisation\":\"{}\",\"format\":\"{}\"",
-        text(&block.name),
+        ",\"name\":\"{}\",\"created\":{},\"expires\":{},\"organisation\":\"{}\",\"format\":\"{}\"",
+        Quoted(&block.name),
         DayOrNull(block.created),
         DayOrNull(block.expires),
         Organisation {
@@ -140,39 +237,82 @@ fn write_set<W: Write>(
             wide: false
         },
         Format(block.format)
-    )?;
+    )
+}
+
+// A data set's lengths and its numbers of tracks.
+fn write_numbers<W: Write>(
+    writer: &mut W,
+    geometry: Geometry,
+    block: &DataSetBlock,
+    extents: &[Extent],
+) -> io::Result<()>
+    ensures { OnOk result (Appends (W.contents writer.old) (W.contents writer.new) (number_members geometry block.now extents.now)) }
+{
+    let tracks = tracks_owned(geometry, extents);
+    let used = tracks_used(block.last);
     write!(
         writer,
-        ",\"record_length\":{},\"block_length\":{},\"key_length\":{},\"tracks\":{},\"used\":{},\"extents\":[",
-        block.record_length,
-        block.block_length,
-        block.key_length,
-        tracks_of(geometry, set),
-        tracks_used(block.last)
-    )?;
-    for (i, extent) in set.extents.iter().enumerate() {
-        if i > 0 {
-            writer.write_all(b",")?;
-        }
-        write!(writer, "{}", Four(*extent))?;
+        ",\"record_length\":{},\"block_length\":{},\"key_length\":{},\"tracks\":{tracks},\"used\":{used},\"extents\":[",
+        block.record_length, block.block_length, block.key_length
+    )
+}
+
+// Extents, with commas between them.
+fn write_extents<W: Write>(writer: &mut W, extents: &[Extent]) -> io::Result<()>
+    ensures { OnOk result (Appends (W.contents writer.old) (W.contents writer.new) (extents_text extents.now)) }
+{
+    for i in 0..extents.len() {
+        write_extent(writer, extents, i)?;
     }
-    writeln!(writer, "]}}")
+    Ok(())
+}
+
+// An extent, behind a comma where it is not the first.
+fn write_extent<W: Write>(writer: &mut W, extents: &[Extent], i: usize) -> io::Result<()>
+    requires { i < length extents.now }
+    ensures { OnOk result (Appends (W.contents writer.old) (W.contents writer.new) (listed_extent extents.now i)) }
+{
+    write_comma(writer, i)?;
+    write!(writer, "{}", Four(extents[i]))
+}
+
+// The comma before a part of a list that is not the first.
+fn write_comma<W: Write>(writer: &mut W, i: usize) -> io::Result<()>
+    ensures { OnOk result (Appends (W.contents writer.old) (W.contents writer.new) (comma_before i)) }
+{
+    if i == 0 {
+        return Ok(());
+    }
+    writer.write_all(b",")
 }
 
 // The objects of what is wrong.
-fn write_findings<W: Write>(writer: &mut W, path: &str, contents: &Contents) -> io::Result<()> {
-    for finding in contents.found.findings.iter() {
+fn write_findings<W: Write>(writer: &mut W, path: &str, findings: &[Finding]) -> io::Result<()>
+    ensures { OnOk result (Appends (W.contents writer.old) (W.contents writer.new) (flat_map (finding_object path.now) findings.now)) }
+{
+    for finding in findings {
         write_finding(writer, path, finding)?;
     }
-    writer.flush()
+    Ok(())
 }
 
 // The object of a finding.
-fn write_finding<W: Write>(writer: &mut W, path: &str, finding: &Finding) -> io::Result<()> {
+fn write_finding<W: Write>(writer: &mut W, path: &str, finding: &Finding) -> io::Result<()>
+    ensures { OnOk result (Appends (W.contents writer.old) (W.contents writer.new) (finding_object path.now finding.now)) }
+{
+    write_path(writer, path)?;
+    write_problem(writer, finding)
+}
+
+// Where something is wrong, and what.
+fn write_problem<W: Write>(writer: &mut W, finding: &Finding) -> io::Result<()>
+    ensures { OnOk result (Appends (W.contents writer.old) (W.contents writer.new) (finding_members finding.now)) }
+{
     let place = finding.place;
     writeln!(
         writer,
-        "{{\"path\":{path},\"cylinder\":{},\"head\":{},\"record\":{},\"kind\":\"{}\",\"text\":\"{}\"}}",
+        ",\"cylinder\":{},\"head\":{},\"record\":{},\"kind\":\"{}\",\"text\":\"{}\"}}",
         place.track.cylinder,
         place.track.head,
         place.number,

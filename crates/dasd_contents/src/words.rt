@@ -2,11 +2,12 @@
 
 ghost use Rattle.std.specs.Prelude.{◌≡◌, ◌≤◌, Some, length};
 ghost use Rattle.std.specs.Fmt.{WritesOnOk};
-ghost use Rattle.dasd_contents.specs.Words.{track_text, place_text, extent_text, piece_text, in_text, text_of, is_date, day_text, organisation_of, unmovable, organisation_text, form_of, where_set, format_text, chain_text, problem_text, kind_text};
+ghost use Rattle.dasd_contents.specs.Words.{owner_text, track_text, place_text, extent_text, piece_text, in_text, text_of, is_date, day_text, organisation_of, unmovable, organisation_text, form_of, where_set, format_text, chain_text, problem_text, kind_text};
 
 use crate::chains::ChainFault;
 use crate::findings::Problem;
 use dasd_volumes::{Reason, TrackAddress as Address};
+use data_sets::without_blanks;
 use std::fmt;
 use volume_labels::{Date, Extent, FreeTracks, RecordAddress, TrackAddress, shown_character};
 
@@ -72,6 +73,23 @@ fn write_character<W: fmt::Write>(
         return f.write_char(char::from(character));
     }
     f.write_char(char::from(character))
+}
+
+/// A volume's owner, or a hyphen where there are but blanks.
+#[derive(Clone, Copy)]
+pub(crate) struct Owner<'a>(pub(crate) &'a [u8]);
+
+impl fmt::Display for Owner<'_> {
+    ghost output = { λ o. Some (owner_text o.0.now) };
+
+    fn fmt<W: fmt::Write>(&self, f: &mut fmt::Formatter<W>) -> fmt::Result {
+        let bytes = without_blanks(self.0);
+        if bytes.is_empty() {
+            return f.write_str("-");
+        }
+        let quoted = false;
+        write!(f, "{}", Text { bytes, quoted })
+    }
 }
 
 /// A date as a year and the day of it, or a hyphen. It is eight characters wide where it is `wide`.

@@ -1,0 +1,12 @@
+use Rattle.std.proofs.Common.{rules, tests, []}
+use Rattle.dasd_volumes.proofs.Appended.{one_more_text, all_texts}
+use Rattle.dasd_contents.specs.Objects.{finding_object}
+use Rattle.dasd_contents.proofs.objects.write_findings.Goals as goal
+
+pub loop-finding-preserved : goal.loop-finding-preserved
+loop-finding-preserved g c = one_more_text _ _ _ (finding_object c.args.path.now) [] c.args.findings.now c.loop-finding.finding-index _ (search (rules, tests))
+    c.loop-finding.invariant c.in_ok-write_finding.ensures
+
+pub returns : goal.returns
+returns g c =
+    all_texts _ _ (finding_object c.args.path.now) [] c.args.findings.now c.loop-finding.finding-index (search (rules, tests)) c.loop-finding.invariant

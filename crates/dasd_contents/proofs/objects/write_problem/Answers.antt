@@ -1,0 +1,6 @@
+use Rattle.dasd_contents.specs.Objects.{finding_members}
+use Rattle.dasd_contents.proofs.objects.write_problem.Goals as goal
+
+pub returns : goal.returns
+unfolding finding_members
+returns g c = c.writeln.ensures.bytes
