@@ -7,6 +7,10 @@ mod reading;
 mod terminal;
 mod traces;
 
+ghost use Rattle.std.specs.Prelude.{◌≡◌};
+ghost use Rattle.std.specs.Process.{exit_status};
+ghost use Rattle.dasd_cmd.specs.Ends.{ended_status};
+
 use crate::host::HostFiles;
 use crate::terminal::{HostOutput, TerminalLine};
 use counted_io::Counted;
@@ -45,7 +49,9 @@ fn main(rt: HostRuntime) -> ExitCode {
 }
 
 // The status of what was done, behind what is said of it on standard error; help goes to standard output.
-fn conclude(rt: &HostRuntime, files: &HostFiles, ended: Result<Ending, ProgramFault>) -> ExitCode {
+fn conclude(rt: &HostRuntime, files: &HostFiles, ended: Result<Ending, ProgramFault>) -> ExitCode
+    ensures { exit_status result ≡ ended_status ended }
+{
     let status = match &ended {
         Ok(Ending::Done) => 0,
         Ok(Ending::Findings) => 1,

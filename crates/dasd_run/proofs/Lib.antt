@@ -1,0 +1,3 @@
+mod Built
+pub mod Saving
+mod Told

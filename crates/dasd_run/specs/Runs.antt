@@ -1,9 +1,59 @@
--- A deck that was run from its text.
-use Rattle.std.specs.Prelude.{List, ℕ, Option, Some, Result}
-use Rattle.s360_channel.specs.Channel.{ChannelState}
+-- A deck that is run over volumes.
+use Rattle.std.specs.Prelude.{◌≡◌, ◌⊎◌, ◌++◌, List, ℕ, ◌∷◌, [], replicate, Option, Some, Result, Ok, IsErr, IfErr}
+use Rattle.std.specs.List.{AllZip}
+use Rattle.std.specs.Result.{result_and}
+use Rattle.ckd_track.specs.Geometry.{new_geometry}
+use Rattle.ckd_image.specs.Layout.{image_length}
+use Rattle.ckd_image.specs.Image.{ImageState, HoldsImage, new_image}
+use Rattle.s360_channel.specs.Channel.{ChannelState, AttachedState, new_attached}
 use Rattle.s360_deck.specs.declared.runs.RunFault.{RunFault}
-use Rattle.s360_deck.specs.Runs.{Runs}
+use Rattle.s360_deck.specs.Runs.{Runs, StaysUnlessRun}
+use Rattle.dasd_words.specs.declared.volumes.Volume.{Volume}
+use Rattle.dasd_words.specs.declared.volumes.VolumeSource.{VolumeSource}
+use Rattle.dasd_words.specs.declared.volumes.VolumeSource.TheVariants.{Files, New}
+use Rattle.dasd_jobs.specs.Written.{Replaced}
+use Rattle.dasd_run.specs.declared.commands.Ending.{Ending}
+use Rattle.dasd_run.specs.declared.commands.Ending.TheVariants.{Done}
+use Rattle.dasd_run.specs.declared.fault.ProgramFault.{ProgramFault}
+use Rattle.dasd_run.specs.declared.fault.ProgramFault.TheVariants as fault
+use Rattle.dasd_run.specs.Saves.{Concludes}
 
 -- what a deck leaves that was read of this text, whatever of it was left unread
 abbrev pub RunsText : Result (Unit {0}) RunFault → (text : List ℕ) → (old new : ChannelState) → (written_before written : Option (List ℕ)) → Type 0
 RunsText result text old new written_before written = (rest : Option (List ℕ)) × Runs result (Some text) rest old new written_before written
+
+-- the image of a volume before a run: what was read of its files, or a new one in memory
+abbrev pub Opens : VolumeSource → ImageState → Type 0
+Opens (Files paths) image = HoldsImage image.lasting.origins image
+Opens (New model cylinders) image =
+    image ≡ new_image model cylinders (replicate (image_length (new_geometry model cylinders)) 0) 0
+
+-- a volume's drive before a run: it is new, at the volume's address, and holds its image
+abbrev pub IsDriveOf : Volume → AttachedState → Type 0
+IsDriveOf v u = (image : ImageState) × Opens v.source image × (u ≡ new_attached v.device image)
+
+-- a channel has one drive more, a volume's, behind the others
+abbrev pub AttachesOne : Volume → (old new : ChannelState) → Type 0
+AttachesOne v old new = (u : AttachedState) × IsDriveOf v u × (new.drives ≡ old.drives ++ u ∷ [])
+
+-- A deck of this text was run, or refused, at a channel that has a drive for each volume, in their order; its trace was ended, and
+-- the files of the volumes were written back. Their fault is told before that of the trace.
+pub record RunsVolumes (result : Result Ending ProgramFault) (volumes : List Volume) (before now : List Replaced) (printed_before printed : Option (List ℕ)) : Type 0 where
+  pub built : ChannelState
+  pub drives : AllZip IsDriveOf volumes built.drives
+  pub text : List ℕ
+  pub run : Result (Unit {0}) RunFault
+  pub last : ChannelState
+  pub runs : RunsText run text built last printed_before printed
+  pub unless_run : StaysUnlessRun run printed_before printed
+  pub concluded : Result (Unit {0}) ProgramFault
+  pub concludes : Concludes run concluded volumes last before now
+  pub traced : Result (Unit {0}) ProgramFault
+  pub no_other : IfErr traced (λ e. e ≡ fault.TraceWrite)
+  pub told : result ≡ result_and concluded (result_and traced (Ok Done))
+
+-- or the run did not come to its deck, has a fault, and wrote and printed nothing
+abbrev pub RunsOrStops : Result Ending ProgramFault → List Volume → (before now : List Replaced) → (printed_before printed : Option (List ℕ)) → Type 0
+RunsOrStops result volumes before now printed_before printed =
+    RunsVolumes result volumes before now printed_before printed
+    ⊎ (IsErr result × (now ≡ before) × (printed ≡ printed_before))

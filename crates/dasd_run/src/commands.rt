@@ -1,7 +1,10 @@
 //! The commands of `dasd`.
 
-ghost use Rattle.std.specs.Prelude.{◌≡◌, true, IfErr};
+ghost use Rattle.std.specs.Prelude.{◌≡◌, true, IfOk, IfErr};
+ghost use Rattle.std.specs.Io.KnownBytes.{Appends};
 ghost use Rattle.dasd_run.specs.Faults.{keeps_files};
+ghost use Rattle.dasd_run.specs.Runs.{RunsOrStops};
+ghost use Rattle.dasd_run.specs.Saves.{Concludes};
 
 use crate::archive::{Lines, check_strictly, compare_both, dump_part};
 use crate::decks::{read_deck, run_text, tell_fault};
@@ -127,7 +130,9 @@ fn run_volumes<F: Traces, R: Read, W: Write>(
     writer: &mut W,
     asked: DeckRun,
 ) -> Result<Ending, ProgramFault>
-    ensures { IfErr result (λ e. keeps_files e ≡ true → F.written files.new ≡ F.written files.old) }
+    ensures keeps { IfErr result (λ e. keeps_files e ≡ true → F.written files.new ≡ F.written files.old) }
+    ensures runs { RunsOrStops result asked.entry.volumes.items (F.written files.old) (F.written files.new)
+        (W.contents writer.old) (W.contents writer.new) }
 {
     let volumes = asked.volumes.as_slice();
     let mut tracer = begin_trace(alloc, files, &asked)?;
@@ -158,8 +163,11 @@ fn check_volume<F: ImageFiles, W: Write, P: Progress>(
     }
 }
 
-// Prints a text.
-fn tell<W: Write>(writer: &mut W, text: &str) -> Result<Ending, ProgramFault> {
+// Prints a text, and leaves none of it held back.
+fn tell<W: Write>(writer: &mut W, text: &str) -> Result<Ending, ProgramFault>
+    ensures printed { IfOk result (λ ending. (ending ≡ Ending.Done) × Appends (W.contents writer.old) (W.contents writer.new) text.now) }
+    ensures fault { IfErr result (λ e. e ≡ ProgramFault.Job JobFault.Write) }
+{
     match write!(writer, "{text}") {
         Ok(()) => match writer.flush() {
             Ok(()) => Ok(Ending::Done),
@@ -177,7 +185,8 @@ fn conclude<F: ImageFiles>(
     channel: Disks,
     run: Result<(), RunFault>,
 ) -> Result<(), ProgramFault>
-    ensures { IfErr result (λ e. keeps_files e ≡ true → F.written files.new ≡ F.written files.old) }
+    ensures keeps { IfErr result (λ e. keeps_files e ≡ true → F.written files.new ≡ F.written files.old) }
+    ensures concludes { Concludes run result volumes.now channel (F.written files.old) (F.written files.new) }
 {
     match run {
         Ok(()) => finish(alloc, files, volumes, channel),

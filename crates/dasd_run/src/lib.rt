@@ -10,6 +10,7 @@ mod fault;
 mod list;
 mod remarks;
 mod runs;
+mod saves;
 mod traces;
 mod unload;
 mod vtoc;

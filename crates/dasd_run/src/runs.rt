@@ -1,13 +1,17 @@
 //! A channel over the volumes that words name, and what becomes of their files.
 
-ghost use Rattle.std.specs.Prelude.{◌≡◌, false, IfErr};
+ghost use Rattle.std.specs.Prelude.{◌≡◌, false, IfOk, IfErr, OnOk};
+ghost use Rattle.std.specs.List.{AllZip};
 ghost use Rattle.dasd_run.specs.Faults.{keeps_files};
+ghost use Rattle.dasd_run.specs.Runs.{Opens, IsDriveOf, AttachesOne};
+ghost use Rattle.dasd_run.specs.Saves.{SavesRun};
 
 use crate::fault::{ProgramFault, of_attach, of_channel, of_storage};
 use crate::remarks::Remark;
+use crate::saves::save_all;
 use ckd_image::Image;
 use dasd_files::VolumeFile;
-use dasd_jobs::{ImageFiles, JobFault, new_image, read_image, write_back};
+use dasd_jobs::{ImageFiles, JobFault, new_image, read_image};
 use dasd_words::{Volume, VolumeSource};
 use s360_channel::{Channel, Finished, SubchannelView};
 use s360_words::Storage;
@@ -30,7 +34,8 @@ pub fn build<F: ImageFiles>(
     number: u8,
     volumes: &[Volume],
 ) -> Result<Disks, ProgramFault>
-    ensures { F.written files.new ≡ F.written files.old }
+    ensures kept { F.written files.new ≡ F.written files.old }
+    ensures drives { IfOk result (λ c. AllZip IsDriveOf volumes.now c.drives) }
 {
     let storage = Storage::new(alloc, storage).map_err(|fault| of_storage(fault))?;
     let mut channel = match Channel::new(number, storage) {
@@ -50,7 +55,8 @@ fn attach<F: ImageFiles>(
     channel: &mut Disks,
     volume: &Volume,
 ) -> Result<(), ProgramFault>
-    ensures { F.written files.new ≡ F.written files.old }
+    ensures kept { F.written files.new ≡ F.written files.old }
+    ensures drive { OnOk result (AttachesOne volume.now channel.old channel.new) }
 {
     let image = match open(alloc, files, &volume.source) {
         Err(ProgramFault::Job(JobFault::InUse)) if is_attached(channel, volume.device) => {
@@ -77,7 +83,8 @@ fn open<F: ImageFiles>(
     files: &mut F,
     source: &VolumeSource,
 ) -> Result<Image<VolumeFile>, ProgramFault>
-    ensures { F.written files.new ≡ F.written files.old }
+    ensures kept { F.written files.new ≡ F.written files.old }
+    ensures opens { IfOk result (λ image. Opens source.now image) }
 {
     match source {
         VolumeSource::Files(paths) => read_image(alloc, files, paths.as_slice()).map_err(
@@ -101,38 +108,19 @@ pub fn finish<F: ImageFiles>(
     volumes: &[Volume],
     channel: Disks,
 ) -> Result<(), ProgramFault>
-    ensures { IfErr result (λ e. keeps_files e ≡ false) }
+    ensures saves { SavesRun result volumes.now channel (F.written files.old) (F.written files.new) }
+    ensures fault { IfErr result (λ e. keeps_files e ≡ false) }
 {
     if let SubchannelView::Working(device, _) = channel.state().subchannel {
         files.remark(&Remark::StillRan(device));
     }
     let Finished {
         storage: _,
-        images,
+        mut images,
         reset,
     } = channel.finish();
     if let Some((address, cylinder, head)) = reset.unsaved {
         files.remark(&Remark::Unsaved(address, cylinder, head));
     }
-    for (volume, image) in volumes.iter().zip(images) {
-        if let Err(fault) = save(alloc, files, volume, image) {
-            return Err(ProgramFault::Job(fault));
-        }
-    }
-    Ok(())
-}
-
-// Writes the files of one volume that were changed.
-fn save<F: ImageFiles>(
-    alloc: Global,
-    files: &mut F,
-    volume: &Volume,
-    image: Option<(u8, Image<VolumeFile>)>,
-) -> Result<(), JobFault> {
-    match (&volume.source, image) {
-        (VolumeSource::Files(paths), Some((_, image))) => {
-            write_back(alloc, files, paths.as_slice(), image)
-        }
-        _ => Ok(()),
-    }
+    save_all(alloc, files, volumes, &mut images)
 }

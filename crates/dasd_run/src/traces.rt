@@ -95,7 +95,8 @@ pub(crate) fn end_trace<T: Write + Drop>(
     tracer: Option<Tracer<T>>,
     run: Result<(), RunFault>,
 ) -> Result<(), ProgramFault>
-    ensures { IfErr result (λ e. keeps_files e ≡ false) }
+    ensures kept { IfErr result (λ e. keeps_files e ≡ false) }
+    ensures fault { IfErr result (λ e. e ≡ ProgramFault.TraceWrite) }
 {
     match (tracer, run) {
         (Some(tracer), Ok(()) | Err(RunFault::Write)) => match tracer.into_writer() {

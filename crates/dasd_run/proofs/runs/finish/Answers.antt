@@ -1,0 +1,33 @@
+use Rattle.std.proofs.Common.{◌≡◌, ◌∙◌, List, ap, subst}
+use Rattle.std.specs.List.{zip}
+use Rattle.dasd_jobs.specs.Written.{Replaced}
+use Rattle.dasd_run.specs.Saves.{SavesAll}
+use Rattle.dasd_run.proofs.Saving.{fault_of_files}
+use Rattle.dasd_run.proofs.runs.finish.Goals.{in-Working, in_default, in-Some, in_default-unsaved}
+use Rattle.dasd_run.proofs.runs.finish.Goals as goal
+
+-- the channel is finished; what is told beside writes no file
+pub returns-clause-saves : goal.returns-clause-saves
+returns-clause-saves g c =
+    let written = g.F.ImageFiles.written in
+    let images = c.finish-images.result.images in
+    let told : written c.match-state.files ≡ written c.args.files.now = elim c.match-state.branch [
+      | in-Working w ↦ ap written w.files-is ∙ w.remark.ensures
+      | in_default w ↦ ap written w.files-is
+    ] in
+    let told_too : written c.match-reset.files ≡ written c.match-state.files = elim c.match-reset.branch [
+      | in-Some w ↦ ap written w.files-is ∙ w.remark-in-Some.ensures
+      | in_default-unsaved w ↦ ap written w.files-is
+    ] in
+    record {
+      storage = c.finish-images.result.storage;
+      images = images;
+      unsaved = c.finish-images.result.reset.unsaved;
+      finishes = c.finish-images.ensures;
+      saves = subst (λ (before : List Replaced). SavesAll c.save_all.result (zip c.args.volumes.now images) before (written c.save_all.new.files)) (told_too ∙ told) c.save_all.ensures;
+    }
+
+pub returns-clause-fault : goal.returns-clause-fault
+returns-clause-fault g c =
+    let written = g.F.ImageFiles.written in
+    fault_of_files c.save_all.result (zip c.args.volumes.now c.finish-images.result.images) (written c.match-reset.files) (written c.save_all.new.files) c.save_all.ensures

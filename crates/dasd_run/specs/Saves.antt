@@ -1,0 +1,52 @@
+-- What a run writes back at its end.
+use Rattle.std.specs.Prelude.{◌≡◌, ◌⊎◌, ℕ, List, [], ◌∷◌, map, zip, Option, Some, None, Result, Ok, Err, IsOk}
+use Rattle.std.specs.Result.{result_and}
+use Rattle.ckd_image.specs.Image.{ImageState}
+use Rattle.s360_words.specs.Storage.{Storage}
+use Rattle.s360_laws.specs.Machine.{Machine}
+use Rattle.s360_channel.specs.Channel.{ChannelState, StandsFor}
+use Rattle.s360_channel.specs.Finishes.{Finishes}
+use Rattle.s360_deck.specs.declared.runs.RunFault.{RunFault}
+use Rattle.s360_deck.specs.declared.runs.RunFault.TheVariants as run
+use Rattle.dasd_words.specs.declared.volumes.Volume.{Volume}
+use Rattle.dasd_words.specs.declared.volumes.VolumeSource.{VolumeSource}
+use Rattle.dasd_words.specs.declared.volumes.VolumeSource.TheVariants.{Files, New}
+use Rattle.dasd_jobs.specs.Back.{WritesBack}
+use Rattle.dasd_jobs.specs.Written.{Replaced}
+use Rattle.dasd_jobs.specs.declared.faults.JobFault.{JobFault}
+use Rattle.dasd_run.specs.declared.fault.ProgramFault.{ProgramFault}
+use Rattle.dasd_run.specs.declared.fault.ProgramFault.TheVariants as fault
+
+-- the paths of the files that a volume was read from: none, of a new one in memory
+abbrev pub paths_of : VolumeSource → List (List ℕ)
+paths_of (Files paths) = map (λ path. path.now) paths.items
+paths_of (New model cylinders) = []
+
+-- what is written back of a volume from this image: every file of it that was changed, or those before one that can't be written
+abbrev pub SavesVolume : Result (Unit {0}) JobFault → Volume → ImageState → (before now : List Replaced) → Type 0
+SavesVolume result v image before now = WritesBack result (paths_of v.source) image before now
+
+-- Volumes are saved one after another, each from the image that stands beside it: the first of them is, and then the others; or it
+-- can't be, this is the fault that is told, and nothing is written behind it. Where no image stands there is nothing to save.
+abbrev pub SavesAll : Result (Unit {0}) ProgramFault → List (Volume × Option (ℕ × ImageState)) → (before now : List Replaced) → Type 0
+SavesAll result [] before now = IsOk result × (now ≡ before)
+SavesAll result ((v, None) ∷ rest) before now = SavesAll result rest before now
+SavesAll result ((v, Some given) ∷ rest) before now =
+    ((between : List Replaced) × SavesVolume (Ok tt) v given.1 before between × SavesAll result rest between now)
+    ⊎ ((f : JobFault) × (result ≡ Err (fault.Job f)) × SavesVolume (Err f) v given.1 before now)
+
+-- The channel is finished, and then the volumes are saved, in the order of the words, from the images of its drives in theirs.
+pub record SavesRun (result : Result (Unit {0}) ProgramFault) (volumes : List Volume) (channel : ChannelState) (before now : List Replaced) : Type 0 where
+  pub storage : Storage
+  pub images : List (Option (ℕ × ImageState))
+  pub unsaved : Option (ℕ × ℕ × ℕ)
+  pub finishes : (m : Machine) → StandsFor channel m → Finishes m channel storage images unsaved
+  pub saves : SavesAll result (zip volumes images) before now
+
+-- What becomes of the files behind a deck: of one that was run the volumes are saved, and that its answers can't be written is told
+-- where no file's fault is; of one that was not run no file is written, and its fault is told.
+abbrev pub Concludes : (run : Result (Unit {0}) RunFault) → (result : Result (Unit {0}) ProgramFault) → List Volume → ChannelState → (before now : List Replaced) → Type 0
+Concludes (Ok done) result volumes channel before now = SavesRun result volumes channel before now
+Concludes (Err run.Write) result volumes channel before now =
+    (saved : Result (Unit {0}) ProgramFault) × SavesRun saved volumes channel before now × (result ≡ result_and saved (Err (fault.Run run.Write)))
+Concludes (Err f) result volumes channel before now = (result ≡ Err (fault.Run f)) × (now ≡ before)
