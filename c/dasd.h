@@ -1,7 +1,7 @@
-/* dasd.h - a selector channel with IBM 2311 and 2314 drives, for emulators of the System/360.
+/* dasd.h - selector channels with IBM 2311 and 2314 drives, for emulators of the System/360.
  *
- * A `dasd` is a handle of 16 bytes that the caller owns. It holds main storage, with its keys, and a selector channel with up to eight
- * drives, whose volumes are uncompressed CKD_P370 images in memory:
+ * A `dasd` is a handle of 16 bytes that the caller owns. It holds main storage, with its keys, and one to seven selector channels over
+ * it, each with up to eight drives, whose volumes are uncompressed CKD_P370 images in memory:
  *
  *     dasd d = DASD_NOTHING;
  *     if (dasd_new(&d, 65536, DASD_CHANNEL(1)) < 0) ...
@@ -28,8 +28,12 @@
  *
  * AN ADDRESS is that of the System/360: the channel's number is the high byte, and the low byte is the drive's (190 is drive 90 of
  * channel 1). A SET OF CHANNELS is the first byte of a program status word, the system mask: bit 0, the highest, is channel 0, and
- * bit 6 channel 6; DASD_CHANNEL makes a bit of a number. A handle holds one channel in this version. A UNIT is a step of a channel program: a channel command word that is
+ * bit 6 channel 6; DASD_CHANNEL makes a bit of a number. A UNIT is a step of a channel program: a channel command word that is
  * fetched, an index that passes, a byte that moves, an end.
+ *
+ * SEVERAL CHANNELS share main storage, and nothing else. A call for an address or a number is made at that channel, which finds
+ * storage as it is and leaves in it what it stored; every other channel stays. So to the program of one channel, what the others
+ * store is a change from outside between two of its units, as what the processor stores is.
  *
  * Rules that come from a manual name it: 'PoO' is IBM System/360 Principles of Operation, A22-6821. */
 #ifndef DASD_H
@@ -100,8 +104,8 @@ uint32_t dasd_interface(void);
 
 /* --- Making and freeing --- */
 
-/* Makes main storage of so many bytes, all zero and with keys 0, and the channel of this set, without drives. The set has one channel:
- * storage that several channels share is not in this version of the library.
+/* Makes main storage of so many bytes, all zero and with keys 0, and the channels of this set over it, without drives. The set has one
+ * to seven of the channels 0 to 6, and not bit 7, which is no channel's. Each channel takes as much memory again as main storage.
  * DASD_IN_USE, DASD_BAD_CHANNELS, DASD_BAD_SIZE, DASD_NO_MEMORY. It does not answer DASD_NOTHING_HELD. */
 int32_t dasd_new(dasd *d, uint32_t storage_bytes, uint8_t channels);
 
@@ -142,7 +146,7 @@ typedef struct dasd_file {
 } dasd_file;
 
 /* Shows a file of a drive's volume, 0 for its first, where no program runs on the drive's channel. The bytes stand there, and are the
- * volume's, until the next dasd_step, dasd_run_on, dasd_hio, dasd_reset, dasd_detach or dasd_free.
+ * volume's, until the next dasd_step, dasd_run_on, dasd_hio or dasd_reset of that channel, dasd_detach or dasd_free.
  * DASD_NO_CHANNEL, DASD_PROGRAM_RUNS, DASD_NO_DRIVE, DASD_NO_FILE. */
 int32_t dasd_show_file(dasd *d, uint16_t address, uint8_t file, dasd_file *shown);
 
@@ -209,8 +213,8 @@ int32_t dasd_arrive(dasd *d, uint16_t address);
 int32_t dasd_is_pending(dasd *d, uint8_t channels);
 
 /* The processor takes an interruption from a channel of this set: 1, its address is answered, and its channel status word is stored; 0,
- * there is none, and `address` stays. For the set, give the system mask of the program status word
- * (PoO, 'Input/Output Interruption'). */
+ * there is none, and `address` stays. Of several channels that have one it is the channel with the lowest number; the others keep
+ * theirs. For the set, give the system mask of the program status word (PoO, 'Input/Output Interruption'). */
 int32_t dasd_interrupt(dasd *d, uint8_t channels, uint16_t *address);
 
 /* A track that was written and could not be saved. */
@@ -218,9 +222,9 @@ typedef struct dasd_track {
     uint16_t address, cylinder, head;
 } dasd_track;
 
-/* Resets a channel and its drives: a program that runs is cut, what pends is lost, arms are at rest, sense bytes are zero. 1, where a
- * track that the program had written could not be saved, which `unsaved` names; else 0, and `unsaved` stays. No file in memory refuses
- * to be written. DASD_NO_CHANNEL. */
+/* Resets a channel and its drives, and no other channel: a program that runs is cut, what pends is lost, arms are at rest, sense bytes
+ * are zero. 1, where a track that the program had written could not be saved, which `unsaved` names; else 0, and `unsaved` stays. No
+ * file in memory refuses to be written. DASD_NO_CHANNEL. */
 int32_t dasd_reset(dasd *d, uint8_t channel, dasd_track *unsaved);
 
 /* A channel, as it is shown. */

@@ -1,4 +1,4 @@
-"""A selector channel with IBM 2311 and 2314 drives, by the library libdasd and ctypes.
+"""Selector channels with IBM 2311 and 2314 drives, by the library libdasd and ctypes.
 
     import dasd
 
@@ -13,7 +13,7 @@
 
 The library is looked for as the system's loader does, or where DASD_LIBRARY names it. Each call is that of `dasd.h`, which says what it
 asks and leaves; where the library refuses, a Fault is raised, and nothing has changed. An address is that of the System/360: 0x190 is
-drive 90 of channel 1.
+drive 90 of channel 1. Several channels share main storage, dasd.Subsystem(65536, 1, 2), and are reached by their addresses and numbers.
 """
 import ctypes
 import enum
@@ -140,21 +140,28 @@ def library_version():
     return n >> 16, n >> 8 & 255, n & 255
 
 
+def channel_set(*channels):
+    """The set of these channels, 0 to 6, in the form of a system mask: what is_pending and interrupt take."""
+    if not all(0 <= it <= 6 for it in channels):
+        raise Fault(-6)
+    return sum({0x80 >> it for it in channels})
+
+
 def check(*files):
     """Raises a Fault where these files, in their order, are no image."""
     _done(_library.dasd_check(*_pairs(files)))
 
 
 class Subsystem:
-    """Main storage of so many bytes, and a channel of this number, 0 to 6. It is freed by close, or by the end of a `with`.
+    """Main storage of so many bytes, and channels of these numbers, 0 to 6, over it. It is freed by close, or by the end of a `with`.
 
     Between two calls `storage` is main storage itself, without a copy: what is stored there the processor stores. An object is used by
     one thread at a time.
     """
 
-    def __init__(self, storage_bytes, channel):
+    def __init__(self, storage_bytes, *channels):
         self._handle = _Handle()
-        self._call("new", storage_bytes, 0x80 >> channel if 0 <= channel <= 6 else 0)
+        self._call("new", storage_bytes, channel_set(*channels))
         place = _Storage()
         self._call("show_storage", ctypes.byref(place))
         self._storage = memoryview((ctypes.c_uint8 * place.len).from_address(place.at)).cast("B")
@@ -259,12 +266,12 @@ class Subsystem:
         return self._call("is_pending", mask) == 1
 
     def interrupt(self, mask=0xFE):
-        """Takes an interruption from a channel of a system mask: its address, or None."""
+        """Takes an interruption from the first channel, by number, of a system mask that has one: its address, or None."""
         address = _U16()
         return address.value if self._call("interrupt", mask, ctypes.byref(address)) else None
 
     def reset(self, channel):
-        """Resets a channel and its drives; address, cylinder and head of a track that could not be saved, or None."""
+        """Resets a channel and its drives, and no other; address, cylinder and head of a track that could not be saved, or None."""
         track = _Track()
         return (track.address, track.cylinder, track.head) if self._call("reset", channel, ctypes.byref(track)) else None
 

@@ -86,6 +86,25 @@ class Calls(unittest.TestCase):
         disks.close()
         self.refused("BAD_SIZE", dasd.Subsystem, 1000, 1)
         self.refused("BAD_CHANNELS", dasd.Subsystem, 4096, 7)
+        self.refused("BAD_CHANNELS", dasd.Subsystem, 4096)
+
+    def test_several_channels(self):
+        with dasd.Subsystem(65536, 1, 2) as disks:
+            disks.attach_new(0x190, 2314, 2)
+            disks.attach_new(0x290, 2311, 1)
+            self.refused("NO_CHANNEL", disks.attach_new, 0x390, 2311, 1)
+            disks.storage[0x48:0x4C] = bytes.fromhex("00000100")
+            disks.storage[0x100:0x108] = READ_R0
+            self.assertEqual((disks.sio(0x290), disks.sio(0x190), disks.tch(0x200), disks.tch(0x300)), (0, 0, 2, 3))
+            disks.run_on(2, 1000)
+            self.assertEqual((disks.tch(0x100), disks.tch(0x200), disks.is_pending(dasd.channel_set(1))), (2, 1, False))
+            self.assertIsNone(disks.interrupt(dasd.channel_set(0, 1, 3)))
+            disks.run_on(1, 1000)
+            self.assertEqual([disks.interrupt(), disks.interrupt(), disks.interrupt()], [0x190, 0x290, None])
+            disks.sio(0x190)
+            disks.sio(0x290)
+            self.assertIsNone(disks.reset(1))
+            self.assertEqual((disks.tch(0x100), disks.tch(0x200)), (0, 2))
 
     def test_two_threads(self):
         def reads(bad):

@@ -278,7 +278,7 @@ USE(make_odd, dasd_new(d, 4097, DASD_CHANNEL(1)))
 USE(make_large, dasd_new(d, 16779264, DASD_CHANNEL(1)))
 USE(make_none, dasd_new(d, 65536, 0))
 USE(make_eighth, dasd_new(d, 65536, 0x01))
-USE(make_two, dasd_new(d, 65536, DASD_CHANNEL(1) | DASD_CHANNEL(2)))
+USE(make_with_eighth, dasd_new(d, 65536, DASD_CHANNEL(1) | 0x01))
 USE(use_free, dasd_free(d))
 USE(attach_none, dasd_attach(d, 0x191, &good, 0))
 USE(attach_nine, dasd_attach(d, 0x191, nine, 9))
@@ -404,7 +404,7 @@ static use *const uses[] = {use_free, use_attach, use_new_volume, use_detach, us
 static const struct {
     use *call;
     int32_t code;
-} bad_makes[] = {{make_small, DASD_BAD_SIZE}, {make_odd, DASD_BAD_SIZE}, {make_large, DASD_BAD_SIZE}, {make_none, DASD_BAD_CHANNELS}, {make_eighth, DASD_BAD_CHANNELS}, {make_two, DASD_BAD_CHANNELS}};
+} bad_makes[] = {{make_small, DASD_BAD_SIZE}, {make_odd, DASD_BAD_SIZE}, {make_large, DASD_BAD_SIZE}, {make_none, DASD_BAD_CHANNELS}, {make_eighth, DASD_BAD_CHANNELS}, {make_with_eighth, DASD_BAD_CHANNELS}};
 
 static int is_untouched(const uint8_t *out, size_t n) {
     for (size_t i = 0; i < n; i++)
@@ -464,7 +464,7 @@ static void memory(void) {
         dasd d = DASD_NOTHING;
         uint8_t b;
         heap_refuse_at = n;
-        AGAIN(dasd_new(&d, 4096, DASD_CHANNEL(1)));
+        AGAIN(dasd_new(&d, 4096, DASD_CHANNEL(1) | DASD_CHANNEL(6)));
         AGAIN(dasd_check(&file, 1));
         AGAIN(dasd_attach_new(&d, 0x191, 2311, 1));
         AGAIN(dasd_attach(&d, 0x192, &file, 1));

@@ -1,10 +1,17 @@
 -- What C is told by numbers. They are those of dasd.h.
 use Rattle.std.specs.Prelude.{ℤ, pos, neg_ℤ, ℕ, true, false, Some}
+use Rattle.ckd_image.specs.declared.fault.MountFault.{MountFault}
+use Rattle.ckd_image.specs.declared.fault.MountFault.TheVariants as mount
 use Rattle.s360_laws.specs.Events as machine
 use Rattle.s360_laws.specs.declared.condition.ConditionCode.{ConditionCode}
 use Rattle.s360_laws.specs.declared.condition.ConditionCode.TheVariants.{Zero, One, Two, Three}
+use Rattle.s360_channel.specs.declared.faults.DetachFault.TheVariants as why
+use Rattle.s360_channels.specs.declared.faults.DetachFault.{DetachFault}
+use Rattle.s360_channels.specs.declared.faults.DetachFault.TheVariants as detach
+use Rattle.dasd_subsystem.specs.declared.refusal.Refusal.{Refusal}
+use Rattle.dasd_subsystem.specs.declared.refusal.Refusal.TheVariants as refusal
 
--- DASD_NOTHING_HELD, DASD_IN_USE, DASD_OUTSIDE_STORAGE, DASD_BAD_KEY, DASD_NO_CHANNEL
+-- DASD_NOTHING_HELD, DASD_IN_USE, DASD_OUTSIDE_STORAGE, DASD_BAD_KEY, DASD_BAD_MODEL, DASD_NO_CHANNEL, DASD_NO_DRIVE
 abbrev pub nothing_held : ℤ
 nothing_held = neg_ℤ (pos 1)
 
@@ -17,8 +24,14 @@ outside_storage = neg_ℤ (pos 4)
 abbrev pub bad_key : ℤ
 bad_key = neg_ℤ (pos 7)
 
+abbrev pub bad_model : ℤ
+bad_model = neg_ℤ (pos 8)
+
 abbrev pub no_channel : ℤ
 no_channel = neg_ℤ (pos 10)
+
+abbrev pub no_drive : ℤ
+no_drive = neg_ℤ (pos 11)
 
 -- a condition code
 abbrev pub number_of : ConditionCode → ℤ
@@ -43,3 +56,35 @@ code_of answer = pos 0
 abbrev pub address_from : machine.Answer → ℕ → ℕ
 address_from (machine.Interrupted (Some i)) before = i.0
 address_from answer before = before
+
+-- why files are no image
+abbrev pub mount_code : MountFault → ℤ
+mount_code mount.NotCkdP370 = neg_ℤ (pos 32)
+mount_code mount.Compressed = neg_ℤ (pos 33)
+mount_code mount.DeviceType = neg_ℤ (pos 34)
+mount_code mount.Heads = neg_ℤ (pos 35)
+mount_code mount.TrackSize = neg_ℤ (pos 36)
+mount_code mount.Split = neg_ℤ (pos 37)
+mount_code mount.Length = neg_ℤ (pos 38)
+mount_code mount.StoreFault = neg_ℤ (pos 39)
+
+-- why something was not made or attached
+abbrev pub refusal_code : Refusal → ℤ
+refusal_code refusal.OutOfMemory = neg_ℤ (pos 3)
+refusal_code refusal.BadSize = neg_ℤ (pos 5)
+refusal_code refusal.BadChannels = neg_ℤ (pos 6)
+refusal_code refusal.NoCylinders = neg_ℤ (pos 9)
+refusal_code refusal.NoChannel = no_channel
+refusal_code refusal.AddressTaken = neg_ℤ (pos 12)
+refusal_code refusal.Full = neg_ℤ (pos 13)
+refusal_code refusal.NoFiles = neg_ℤ (pos 14)
+refusal_code refusal.TooManyFiles = neg_ℤ (pos 15)
+refusal_code (refusal.Mount fault) = mount_code fault
+
+-- why a drive was not taken off
+abbrev pub detach_code : DetachFault → ℤ
+detach_code detach.NoChannel = no_channel
+detach_code (detach.Refused why.NoDrive) = no_drive
+detach_code (detach.Refused why.ProgramRuns) = neg_ℤ (pos 17)
+detach_code (detach.Refused why.EndingPends) = neg_ℤ (pos 18)
+detach_code (detach.Refused why.DeviceEndOwed) = neg_ℤ (pos 19)

@@ -1,4 +1,5 @@
 pub mod Slot
 pub mod Codes
+pub mod Shown
 pub mod Calls
 pub mod Attaching

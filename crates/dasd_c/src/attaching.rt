@@ -1,20 +1,30 @@
 //! Drives are attached and detached.
 
-ghost use Rattle.std.specs.Prelude.{◌≡◌, ◌%◌, map};
-ghost use Rattle.dasd_subsystem.specs.Attaching.{Attaches};
+ghost use Rattle.std.specs.Prelude.{◌≡◌, ◌/◌, ◌%◌, map, pos};
+ghost use Rattle.s360_channels.specs.Channels.{channel_at};
+ghost use Rattle.dasd_subsystem.specs.Attaching.{AreImage, Attaches, NotAttached, NotMounted};
+ghost use Rattle.dasd_c.specs.Attaching.{AttachesOf, Detached, DoneOrRefused, RefusesDetach, RefusesOf, TellsWhy, model_of};
 ghost use Rattle.dasd_c.specs.Calls.{Calls};
-ghost use Rattle.dasd_c.specs.Attaching.{AttachesModel, Detached, DoneOrRefused};
+ghost use Rattle.dasd_c.specs.Codes.{refusal_code};
 
 use crate::handle::{Handle, put, take};
-use crate::tell::{BAD_MODEL, DONE, NO_CHANNEL, NOTHING_HELD, of_detach, of_done};
+use crate::tell::{BAD_MODEL, DONE, NOTHING_HELD, of_detach, of_refusal};
 use ckd_track::DriveModel;
+use dasd_files::VolumeFile;
 use dasd_subsystem::{Subsystem, check};
+use s360_channels::Channels;
 use std::alloc::Global;
 
 /// Whether these files, in their order, are an image.
 #[unsafe(no_mangle)]
-pub extern "C" fn dasd_check(alloc: Global, files: &[&[u8]]) -> i32 {
-    of_done(check(alloc, files))
+pub extern "C" fn dasd_check(alloc: Global, files: &[&[u8]]) -> i32
+    ensures image { result ≡ pos 0 → AreImage (map (λ file. file.now) files.now) }
+    ensures refused { (result ≡ pos 0 → ⊥) → TellsWhy refusal_code (NotMounted (map (λ file. file.now) files.now)) result }
+{
+    match check(alloc, files) {
+        Ok(()) => DONE,
+        Err(refusal) => of_refusal(refusal),
+    }
 }
 
 /// Attaches a drive under an address, with the image that copies of these files are.
@@ -25,7 +35,8 @@ pub extern "C" fn dasd_attach(
     address: u16,
     files: &[&[u8]],
 ) -> i32
-    ensures { Calls handle.old.slot.held handle.new.slot.held result (λ old new. DoneOrRefused result old new (Attaches (address % 256) (map (λ file. file.now) files.now) old.channel new.channel)) }
+    ensures { Calls handle.old.slot.held handle.new.slot.held result (λ old new. DoneOrRefused result old new (Attaches address (map (λ file. file.now) files.now) old new)
+        (TellsWhy refusal_code (NotAttached (channel_at (address / 256) old) (address % 256) (map (λ file. file.now) files.now)) result)) }
 {
     let Some(mut subsystem) = take(handle, alloc) else {
         return NOTHING_HELD;
@@ -36,10 +47,13 @@ pub extern "C" fn dasd_attach(
 }
 
 fn attach(subsystem: &mut Subsystem, alloc: Global, address: u16, files: &[&[u8]]) -> i32
-    ensures number { subsystem.new.number ≡ subsystem.old.number }
-    ensures attached { DoneOrRefused result subsystem.old subsystem.new (Attaches (address % 256) (map (λ file. file.now) files.now) subsystem.old.channel subsystem.new.channel) }
+    ensures { DoneOrRefused result subsystem.old.channels subsystem.new.channels (Attaches address (map (λ file. file.now) files.now) subsystem.old.channels subsystem.new.channels)
+        (TellsWhy refusal_code (NotAttached (channel_at (address / 256) subsystem.old.channels) (address % 256) (map (λ file. file.now) files.now)) result) }
 {
-    of_done(subsystem.attach(alloc, address, files))
+    match subsystem.attach(alloc, address, files) {
+        Ok(()) => DONE,
+        Err(refusal) => of_refusal(refusal),
+    }
 }
 
 /// Attaches a drive of this model, 2311 or 2314, with a new volume of so many cylinders.
@@ -51,7 +65,8 @@ pub extern "C" fn dasd_attach_new(
     model: u16,
     cylinders: u16,
 ) -> i32
-    ensures { Calls handle.old.slot.held handle.new.slot.held result (λ old new. DoneOrRefused result old new (AttachesModel (address % 256) model cylinders old.channel new.channel)) }
+    ensures { Calls handle.old.slot.held handle.new.slot.held result (λ old new. DoneOrRefused result old new (AttachesOf (model_of model) address cylinders old new)
+        (RefusesOf (model_of model) address cylinders result old)) }
 {
     let Some(mut subsystem) = take(handle, alloc) else {
         return NOTHING_HELD;
@@ -68,41 +83,49 @@ fn attach_new(
     model: u16,
     cylinders: u16,
 ) -> i32
-    ensures number { subsystem.new.number ≡ subsystem.old.number }
-    ensures attached { DoneOrRefused result subsystem.old subsystem.new (AttachesModel (address % 256) model cylinders subsystem.old.channel subsystem.new.channel) }
+    ensures { DoneOrRefused result subsystem.old.channels subsystem.new.channels (AttachesOf (model_of model) address cylinders subsystem.old.channels subsystem.new.channels)
+        (RefusesOf (model_of model) address cylinders result subsystem.old.channels) }
 {
-    match model {
-        2311 => of_done(subsystem.attach_new(alloc, address, DriveModel::D2311, cylinders)),
-        2314 => of_done(subsystem.attach_new(alloc, address, DriveModel::D2314, cylinders)),
-        _ => BAD_MODEL,
+    let Some(model) = model_of(model) else {
+        return BAD_MODEL;
+    };
+    match subsystem.attach_new(alloc, address, model, cylinders) {
+        Ok(()) => DONE,
+        Err(refusal) => of_refusal(refusal),
+    }
+}
+
+fn model_of(number: u16) -> Option<DriveModel>
+    ensures { result ≡ model_of number }
+{
+    match number {
+        2311 => Some(DriveModel::D2311),
+        2314 => Some(DriveModel::D2314),
+        _ => None,
     }
 }
 
 /// Takes a drive off its channel, and frees its volume.
 #[unsafe(no_mangle)]
 pub extern "C" fn dasd_detach(handle: &mut Handle, alloc: Global, address: u16) -> i32
-    ensures { Calls handle.old.slot.held handle.new.slot.held result (λ old new. DoneOrRefused result old new (Detached (address % 256) old.channel new.channel)) }
+    ensures { Calls handle.old.slot.held handle.new.slot.held result (λ old new. DoneOrRefused result old new (Detached address old new) (RefusesDetach address result old)) }
 {
     let Some(mut subsystem) = take(handle, alloc) else {
         return NOTHING_HELD;
     };
-    let code = detach(&mut subsystem, address);
+    let code = detach(&mut subsystem.channels, address);
     put(handle, subsystem);
     code
 }
 
-fn detach(subsystem: &mut Subsystem, address: u16) -> i32
-    ensures number { subsystem.new.number ≡ subsystem.old.number }
-    ensures detached { DoneOrRefused result subsystem.old subsystem.new (Detached (address % 256) subsystem.old.channel subsystem.new.channel) }
+fn detach(channels: &mut Channels<VolumeFile>, address: u16) -> i32
+    ensures { DoneOrRefused result channels.old channels.new (Detached address channels.old channels.new) (RefusesDetach address result channels.old) }
 {
-    if address / 256 != subsystem.number as u16 {
-        return NO_CHANNEL;
-    }
-    match subsystem.channel.detach((address % 256) as u8) {
+    match channels.detach(address) {
         Ok(image) => {
             drop(image);
             DONE
         }
-        Err(fault) => return of_detach(fault),
+        Err(fault) => of_detach(fault),
     }
 }

@@ -1,14 +1,15 @@
 //! The handle, and how a subsystem is taken out of it and put back.
 
 ghost use Rattle.std.specs.Prelude.{◌≡◌, ◌==◌, ◌↔◌, Option, Some, None, IsSome, IfSome, IfOk, IfErr, is_some, option_map, pos, true, false, if◌then◌else◌};
-ghost use Rattle.dasd_c.specs.Codes.{nothing_held, in_use};
-ghost use Rattle.dasd_c.specs.Calls.{IsMade, only_channel};
+ghost use Rattle.dasd_subsystem.specs.Making.{NotMade, made};
+ghost use Rattle.dasd_c.specs.Attaching.{TellsWhy};
+ghost use Rattle.dasd_c.specs.Codes.{nothing_held, in_use, refusal_code};
 ghost use Rattle.dasd_c.specs.declared.handle.TheConstants.{HELD};
 
 use crate::parts::Parts;
 use crate::slot::Slot;
-use crate::tell::{BAD_CHANNELS, DONE, IN_USE, NO_MEMORY, NOTHING_HELD, of_refusal};
-use dasd_subsystem::Subsystem;
+use crate::tell::{DONE, IN_USE, NOTHING_HELD, of_refusal};
+use dasd_subsystem::{Refusal, Subsystem};
 use std::alloc::Global;
 use std::marker::Send;
 use std::mem;
@@ -67,7 +68,7 @@ pub extern "C" fn dasd_interface() -> u32
     1
 }
 
-/// Makes a storage of so many zero bytes and the channel of this set, where the handle holds nothing.
+/// Makes a storage of so many zero bytes and the channels of this set over it, where the handle holds nothing.
 #[unsafe(no_mangle)]
 pub extern "C" fn dasd_new(
     handle: &mut Handle,
@@ -75,53 +76,33 @@ pub extern "C" fn dasd_new(
     storage_bytes: u32,
     channels: u8,
 ) -> i32
-    ensures made { result ≡ pos 0 → IfSome handle.new.slot.held (λ s. IsMade s storage_bytes channels) }
+    ensures made { result ≡ pos 0 → IfSome handle.new.slot.held (λ s. s.channels ≡ made channels storage_bytes) }
     ensures held { result ≡ pos 0 → IsSome handle.new.slot.held }
-    ensures refused { (result ≡ pos 0 → ⊥) → handle.new.slot.held ≡ handle.old.slot.held }
+    ensures stays { (result ≡ pos 0 → ⊥) → handle.new.slot.held ≡ handle.old.slot.held }
     ensures in_use { IsSome handle.old.slot.held → result ≡ in_use }
+    ensures refused { handle.old.slot.held ≡ None → (result ≡ pos 0 → ⊥) → TellsWhy refusal_code (NotMade channels storage_bytes) result }
 {
     if handle.stamp == HELD {
         return IN_USE;
     }
-    match made(alloc, storage_bytes, channels) {
+    match boxed(alloc, storage_bytes, channels) {
         Ok(made) => {
             put(handle, made);
             DONE
         }
-        Err(code) => code,
+        Err(refusal) => of_refusal(refusal),
     }
 }
 
 // A subsystem on the heap, or why there is none.
-fn made(alloc: Global, storage_bytes: u32, channels: u8) -> Result<Box<Subsystem>, i32>
-    ensures made { IfOk result (λ s. IsMade s.value storage_bytes channels) }
-    ensures not_done { IfErr result (λ code. code ≡ pos 0 → ⊥) }
+fn boxed(alloc: Global, storage_bytes: u32, channels: u8) -> Result<Box<Subsystem>, Refusal>
+    ensures made { IfOk result (λ s. s.value.channels ≡ made channels storage_bytes) }
+    ensures refused { IfErr result (λ e. NotMade channels storage_bytes e) }
 {
-    let Some(number) = number_of(channels) else {
-        return Err(BAD_CHANNELS);
-    };
-    match Subsystem::new(alloc, number, storage_bytes) {
-        Ok(subsystem) => match Box::new(alloc, subsystem) {
-            Ok(boxed) => Ok(boxed),
-            Err(_) => Err(NO_MEMORY),
-        },
-        Err(refusal) => Err(of_refusal(refusal)),
-    }
-}
-
-// The number of the one channel in a set.
-fn number_of(channels: u8) -> Option<u8>
-    ensures { result ≡ only_channel channels }
-{
-    match channels {
-        128 => Some(0),
-        64 => Some(1),
-        32 => Some(2),
-        16 => Some(3),
-        8 => Some(4),
-        4 => Some(5),
-        2 => Some(6),
-        _ => None,
+    let subsystem = Subsystem::new(alloc, channels, storage_bytes)?;
+    match Box::new(alloc, subsystem) {
+        Ok(boxed) => Ok(boxed),
+        Err(_) => Err(Refusal::OutOfMemory),
     }
 }
 

@@ -1,98 +1,89 @@
-//! The processor's input/output instructions. Each answers its condition code, 0 to 3.
+//! The processor's input/output instructions. Each answers its condition code, 0 to 3: that of the channel of the address, and 3 where
+//! there is none.
 
-ghost use Rattle.std.specs.Prelude.{◌≡◌};
+ghost use Rattle.std.specs.Prelude.{◌≡◌, ◌/◌};
 ghost use Rattle.s360_laws.specs.Events as machine;
-ghost use Rattle.dasd_c.specs.Calls.{Calls, EachMachine, Tells, TellsOf, TestsChannel};
+ghost use Rattle.s360_laws.specs.declared.condition.ConditionCode.TheVariants.{Three};
+ghost use Rattle.dasd_c.specs.Calls.{Calls, Tells, TellsOf, TellsTest};
 
 use crate::handle::{Handle, put, take};
 use crate::tell::{NOTHING_HELD, of_csw, of_status, of_test};
 use dasd_files::VolumeFile;
-use dasd_subsystem::Subsystem;
-use s360_channel::Channel;
+use s360_channels::Channels;
 use std::alloc::Global;
 
 /// Start I/O.
 #[unsafe(no_mangle)]
 pub extern "C" fn dasd_sio(handle: &mut Handle, alloc: Global, address: u16) -> i32
-    ensures { Calls handle.old.slot.held handle.new.slot.held result (λ old new. EachMachine old.channel (λ m. Tells (machine.Sio address) result m new.channel)) }
+    ensures { Calls handle.old.slot.held handle.new.slot.held result (λ old new. Tells (address / 256) (machine.Sio address) (machine.WithCode Three) result old new) }
 {
     let Some(mut subsystem) = take(handle, alloc) else {
         return NOTHING_HELD;
     };
-    let code = sio(&mut subsystem.channel, address);
+    let code = sio(&mut subsystem.channels, address);
     put(handle, subsystem);
     code
 }
 
-fn sio(channel: &mut Channel<VolumeFile>, address: u16) -> i32
-    ensures { EachMachine channel.old (λ m. Tells (machine.Sio address) result m channel.new) }
+fn sio(channels: &mut Channels<VolumeFile>, address: u16) -> i32
+    ensures { Tells (address / 256) (machine.Sio address) (machine.WithCode Three) result channels.old channels.new }
 {
-    of_status(channel.sio(address))
+    of_status(channels.sio(address))
 }
 
 /// Test I/O.
 #[unsafe(no_mangle)]
 pub extern "C" fn dasd_tio(handle: &mut Handle, alloc: Global, address: u16) -> i32
-    ensures { Calls handle.old.slot.held handle.new.slot.held result (λ old new. EachMachine old.channel (λ m. Tells (machine.Tio address) result m new.channel)) }
+    ensures { Calls handle.old.slot.held handle.new.slot.held result (λ old new. Tells (address / 256) (machine.Tio address) (machine.WithCode Three) result old new) }
 {
     let Some(mut subsystem) = take(handle, alloc) else {
         return NOTHING_HELD;
     };
-    let code = tio(&mut subsystem.channel, address);
+    let code = tio(&mut subsystem.channels, address);
     put(handle, subsystem);
     code
 }
 
-fn tio(channel: &mut Channel<VolumeFile>, address: u16) -> i32
-    ensures { EachMachine channel.old (λ m. Tells (machine.Tio address) result m channel.new) }
+fn tio(channels: &mut Channels<VolumeFile>, address: u16) -> i32
+    ensures { Tells (address / 256) (machine.Tio address) (machine.WithCode Three) result channels.old channels.new }
 {
-    of_csw(channel.tio(address))
+    of_csw(channels.tio(address))
 }
 
 /// Halt I/O.
 #[unsafe(no_mangle)]
 pub extern "C" fn dasd_hio(handle: &mut Handle, alloc: Global, address: u16) -> i32
-    ensures { Calls handle.old.slot.held handle.new.slot.held result (λ old new. EachMachine old.channel (λ m. TellsOf (machine.Hio address) result m old.channel new.channel)) }
+    ensures { Calls handle.old.slot.held handle.new.slot.held result (λ old new. TellsOf (address / 256) (machine.Hio address) (machine.WithCode Three) result old new) }
 {
     let Some(mut subsystem) = take(handle, alloc) else {
         return NOTHING_HELD;
     };
-    let code = hio(&mut subsystem.channel, address);
+    let code = hio(&mut subsystem.channels, address);
     put(handle, subsystem);
     code
 }
 
-fn hio(channel: &mut Channel<VolumeFile>, address: u16) -> i32
-    ensures { EachMachine channel.old (λ m. TellsOf (machine.Hio address) result m channel.old channel.new) }
+fn hio(channels: &mut Channels<VolumeFile>, address: u16) -> i32
+    ensures { TellsOf (address / 256) (machine.Hio address) (machine.WithCode Three) result channels.old channels.new }
 {
-    of_status(channel.hio(address))
+    of_status(channels.hio(address))
 }
 
-/// Test Channel, of the channel of an address: code 3 where that is another one.
+/// Test Channel, of the channel of an address.
 #[unsafe(no_mangle)]
 pub extern "C" fn dasd_tch(handle: &mut Handle, alloc: Global, address: u16) -> i32
-    ensures { Calls handle.old.slot.held handle.new.slot.held result (λ old new. (new.channel ≡ old.channel) × TestsChannel address old result) }
+    ensures { Calls handle.old.slot.held handle.new.slot.held result (λ old new. (new ≡ old) × TellsTest (address / 256) result old) }
 {
     let Some(subsystem) = take(handle, alloc) else {
         return NOTHING_HELD;
     };
-    let code = tch(&subsystem, address);
+    let code = tch(&subsystem.channels, address);
     put(handle, subsystem);
     code
 }
 
-fn tch(subsystem: &Subsystem, address: u16) -> i32
-    ensures { TestsChannel address subsystem.now result }
+fn tch(channels: &Channels<VolumeFile>, address: u16) -> i32
+    ensures { TellsTest (address / 256) result channels.now }
 {
-    if address / 256 == subsystem.number as u16 {
-        test(&subsystem.channel)
-    } else {
-        3
-    }
-}
-
-fn test(channel: &Channel<VolumeFile>) -> i32
-    ensures { EachMachine channel.now (λ m. Tells machine.Tch result m channel.now) }
-{
-    of_test(channel.tch())
+    of_test(channels.tch(address))
 }

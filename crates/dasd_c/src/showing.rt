@@ -1,17 +1,19 @@
 //! What is shown of channels, drives and their volumes.
 
-ghost use Rattle.std.specs.Prelude.{◌≡◌, pos, false, None, IfSome, OnOk, IfErr};
-ghost use Rattle.s360_laws.specs.Machine.{is_working};
+ghost use Rattle.std.specs.Prelude.{◌≡◌, ◌/◌, ◌%◌, pos, false, None, IfSome, OnOk, IfErr};
+ghost use Rattle.s360_channels.specs.Channels.{channel_at};
 ghost use Rattle.dasd_c.specs.Codes.{nothing_held};
-ghost use Rattle.dasd_c.specs.Calls.{EachMachine, works};
+ghost use Rattle.dasd_c.specs.Calls.{Calls};
+ghost use Rattle.dasd_c.specs.Shown.{RunsAt, ShowsDriveOf, drive_shown, is_two, number_of_arm, number_of_model, numbers_of};
 
 use crate::handle::{Handle, put, take};
 use crate::tell::{DONE, NO_CHANNEL, NO_DRIVE, NO_FILE, NOTHING_HELD, PROGRAM_RUNS};
 use ckd_image::ImageStore;
 use ckd_track::DriveModel;
 use dasd_files::VolumeFile;
-use dasd_subsystem::Subsystem;
 use s360_channel::{Channel, DriveView, SubchannelView};
+use s360_channels::Channels;
+use s360_events::Condition;
 use s360_laws::arm::Arm;
 use std::alloc::Global;
 
@@ -35,12 +37,12 @@ pub extern "C" fn dasd_show_file(
 ) -> i32
     ensures kept { handle.new.slot.held ≡ handle.old.slot.held }
     ensures empty { handle.old.slot.held ≡ None → result ≡ nothing_held }
-    ensures at_rest { result ≡ pos 0 → IfSome handle.old.slot.held (λ s. EachMachine s.channel (λ m. is_working m.subchannel ≡ false)) }
+    ensures at_rest { result ≡ pos 0 → IfSome handle.old.slot.held (λ s. RunsAt false s.channels.storage (channel_at (address / 256) s.channels)) }
 {
     let Some(subsystem) = take(handle, alloc) else {
         return NOTHING_HELD;
     };
-    let found = file_of(&subsystem, address, file);
+    let found = file_of(&subsystem.channels, address, file);
     put(handle, subsystem);
     match found {
         Ok(found) => {
@@ -51,17 +53,17 @@ pub extern "C" fn dasd_show_file(
     }
 }
 
-fn file_of(subsystem: &Subsystem, address: u16, file: u8) -> Result<File, i32>
-    ensures at_rest { OnOk result (EachMachine subsystem.now.channel (λ m. is_working m.subchannel ≡ false)) }
+fn file_of(channels: &Channels<VolumeFile>, address: u16, file: u8) -> Result<File, i32>
+    ensures at_rest { OnOk result (RunsAt false channels.now.storage (channel_at (address / 256) channels.now)) }
     ensures refused { IfErr result (λ code. code ≡ pos 0 → ⊥) }
 {
-    if address / 256 != subsystem.number as u16 {
-        return Err(NO_CHANNEL);
-    }
-    if runs(&subsystem.channel) {
+    if runs(channels, address) {
         return Err(PROGRAM_RUNS);
     }
-    let Some(image) = subsystem.channel.image((address % 256) as u8) else {
+    let Some(channel) = channels.channel((address / 256) as u8) else {
+        return Err(NO_CHANNEL);
+    };
+    let Some(image) = channel.image((address % 256) as u8) else {
         return Err(NO_DRIVE);
     };
     match image.store(file as usize) {
@@ -70,20 +72,21 @@ fn file_of(subsystem: &Subsystem, address: u16, file: u8) -> Result<File, i32>
     }
 }
 
-// Whether a program runs on the channel.
-fn runs(channel: &Channel<VolumeFile>) -> bool
-    ensures { EachMachine channel.now (λ m. result ≡ is_working m.subchannel) }
+// Whether a program runs on the channel of an address: Test Channel says so.
+fn runs(channels: &Channels<VolumeFile>, address: u16) -> bool
+    ensures { RunsAt result channels.now.storage (channel_at (address / 256) channels.now) }
 {
-    works(channel.state().subchannel)
+    is_two(channels.tch(address))
 }
 
-fn works(subchannel: SubchannelView) -> bool
-    ensures { result ≡ works subchannel }
+fn is_two(condition: Condition<()>) -> bool
+    ensures { result ≡ is_two condition }
 {
-    match subchannel {
-        SubchannelView::Idle => false,
-        SubchannelView::Working(_, _) => true,
-        SubchannelView::Pending(_, _) => false,
+    match condition {
+        Condition::Zero => false,
+        Condition::Stored(_) => false,
+        Condition::Two => true,
+        Condition::Three => false,
     }
 }
 
@@ -116,33 +119,34 @@ pub extern "C" fn dasd_show_drive(
     address: u16,
     shown: &mut Drive,
 ) -> i32
-    ensures { handle.new.slot.held ≡ handle.old.slot.held }
+    ensures { Calls handle.old.slot.held handle.new.slot.held result (λ old new. (new ≡ old) × ShowsDriveOf (channel_at (address / 256) old) (address % 256) result shown.old shown.new) }
 {
     let Some(subsystem) = take(handle, alloc) else {
         return NOTHING_HELD;
     };
-    let found = drive_of(&subsystem, address);
+    let code = show_drive(&subsystem.channels, address, shown);
     put(handle, subsystem);
-    match found {
-        Ok(found) => {
-            *shown = found;
+    code
+}
+
+fn show_drive(channels: &Channels<VolumeFile>, address: u16, shown: &mut Drive) -> i32
+    ensures { ShowsDriveOf (channel_at (address / 256) channels.now) (address % 256) result shown.old shown.new }
+{
+    let Some(channel) = channels.channel((address / 256) as u8) else {
+        return NO_CHANNEL;
+    };
+    match channel.drive((address % 256) as u8) {
+        Some(drive) => {
+            *shown = as_drive(drive);
             DONE
         }
-        Err(code) => code,
+        None => NO_DRIVE,
     }
 }
 
-fn drive_of(subsystem: &Subsystem, address: u16) -> Result<Drive, i32> {
-    if address / 256 != subsystem.number as u16 {
-        return Err(NO_CHANNEL);
-    }
-    match subsystem.channel.drive((address % 256) as u8) {
-        Some(drive) => Ok(as_drive(drive)),
-        None => Err(NO_DRIVE),
-    }
-}
-
-fn as_drive(drive: DriveView) -> Drive {
+fn as_drive(drive: DriveView) -> Drive
+    ensures { result ≡ drive_shown drive }
+{
     let sense = drive.sense;
     Drive {
         model: number_of_model(drive.model),
@@ -155,7 +159,9 @@ fn as_drive(drive: DriveView) -> Drive {
     }
 }
 
-fn number_of_model(model: DriveModel) -> u16 {
+fn number_of_model(model: DriveModel) -> u16
+    ensures { result ≡ number_of_model model }
+{
     match model {
         DriveModel::D2311 => 2311,
         DriveModel::D2314 => 2314,
@@ -189,7 +195,7 @@ pub extern "C" fn dasd_show_channel(
     let Some(subsystem) = take(handle, alloc) else {
         return NOTHING_HELD;
     };
-    let found = state_of(&subsystem, channel);
+    let found = state_of(&subsystem.channels, channel);
     put(handle, subsystem);
     match found {
         Some(found) => {
@@ -200,11 +206,11 @@ pub extern "C" fn dasd_show_channel(
     }
 }
 
-fn state_of(subsystem: &Subsystem, number: u8) -> Option<State> {
-    if number != subsystem.number {
-        return None;
+fn state_of(channels: &Channels<VolumeFile>, number: u8) -> Option<State> {
+    match channels.channel(number) {
+        Some(channel) => Some(as_state(channel)),
+        None => None,
     }
-    Some(as_state(&subsystem.channel))
 }
 
 fn as_state(channel: &Channel<VolumeFile>) -> State {
@@ -231,7 +237,9 @@ fn as_state(channel: &Channel<VolumeFile>) -> State {
 }
 
 /// The number of a subchannel, the device that has it, and whether its program asked for an interruption.
-pub(crate) fn seen(subchannel: SubchannelView) -> (u8, u8, u8) {
+pub(crate) fn seen(subchannel: SubchannelView) -> (u8, u8, u8)
+    ensures { result ≡ numbers_of subchannel }
+{
     match subchannel {
         SubchannelView::Idle => (0, 0, 0),
         SubchannelView::Working(device, asked) => (1, device, asked as u8),
@@ -239,7 +247,9 @@ pub(crate) fn seen(subchannel: SubchannelView) -> (u8, u8, u8) {
     }
 }
 
-fn number_of_arm(arm: Arm) -> u8 {
+fn number_of_arm(arm: Arm) -> u8
+    ensures { result ≡ number_of_arm arm }
+{
     match arm {
         Arm::AtRest => 0,
         Arm::InMotion => 1,

@@ -1,14 +1,16 @@
 //! The numbers by which a call says what came of it. 0 and above: it was done. They are those of `enum dasd_fault`.
 
-ghost use Rattle.std.specs.Prelude.{◌≡◌, pos, OnOk, OnErr};
+ghost use Rattle.std.specs.Prelude.{◌≡◌, pos, if◌then◌else◌};
 ghost use Rattle.s360_laws.specs.Events as machine;
 ghost use Rattle.s360_laws.specs.declared.condition.ConditionCode.TheVariants as code;
+ghost use Rattle.s360_channels.specs.declared.faults.DetachFault.TheVariants as refused;
 ghost use Rattle.s360_events.specs.Seen.{condition_seen, status_seen, csw_seen};
-ghost use Rattle.dasd_c.specs.Codes.{code_of, address_from};
+ghost use Rattle.dasd_c.specs.Codes.{code_of, address_from, detach_code, mount_code, refusal_code};
 
 use ckd_image::MountFault;
 use dasd_subsystem::Refusal;
-use s360_channel::DetachFault;
+use s360_channel::DetachFault as WhyStays;
+use s360_channels::DetachFault;
 use s360_events::{Condition, Status};
 use s360_words::Csw;
 
@@ -30,7 +32,7 @@ pub(crate) const OUTSIDE_STORAGE: i32 = -4;
 /// There is no storage of this size.
 pub(crate) const BAD_SIZE: i32 = -5;
 
-/// The set is not one channel.
+/// The set is not one of the channels 0 to 6.
 pub(crate) const BAD_CHANNELS: i32 = -6;
 
 /// A storage key is 0 to 15.
@@ -74,11 +76,11 @@ pub(crate) const DEVICE_END_OWED: i32 = -19;
 
 /// Why something was not made, attached, or is no image.
 pub(crate) fn of_refusal(refusal: Refusal) -> i32
-    ensures { result ≡ pos 0 → ⊥ }
+    ensures { result ≡ refusal_code refusal }
 {
     match refusal {
+        Refusal::BadChannels => BAD_CHANNELS,
         Refusal::BadSize => BAD_SIZE,
-        Refusal::BadNumber => BAD_CHANNELS,
         Refusal::NoChannel => NO_CHANNEL,
         Refusal::NoCylinders => NO_CYLINDERS,
         Refusal::NoFiles => NO_FILES,
@@ -91,7 +93,7 @@ pub(crate) fn of_refusal(refusal: Refusal) -> i32
 }
 
 fn of_mount(fault: MountFault) -> i32
-    ensures { result ≡ pos 0 → ⊥ }
+    ensures { result ≡ mount_code fault }
 {
     match fault {
         MountFault::NotCkdP370 => -32,
@@ -105,26 +107,24 @@ fn of_mount(fault: MountFault) -> i32
     }
 }
 
-/// What came of a call that may be refused.
-pub(crate) fn of_done(done: Result<(), Refusal>) -> i32
-    ensures done { OnOk done (result ≡ pos 0) }
-    ensures refused { OnErr done (result ≡ pos 0 → ⊥) }
+/// Why a drive stays.
+pub(crate) fn of_detach(fault: DetachFault) -> i32
+    ensures { result ≡ detach_code fault }
 {
-    match done {
-        Ok(()) => DONE,
-        Err(refusal) => of_refusal(refusal),
+    match fault {
+        DetachFault::NoChannel => NO_CHANNEL,
+        DetachFault::Refused(why) => of_why(why),
     }
 }
 
-/// Why a drive stays.
-pub(crate) fn of_detach(fault: DetachFault) -> i32
-    ensures { result ≡ pos 0 → ⊥ }
+fn of_why(why: WhyStays) -> i32
+    ensures { result ≡ detach_code (refused.Refused why) }
 {
-    match fault {
-        DetachFault::NoDrive => NO_DRIVE,
-        DetachFault::ProgramRuns => PROGRAM_RUNS,
-        DetachFault::EndingPends => ENDING_PENDS,
-        DetachFault::DeviceEndOwed => DEVICE_END_OWED,
+    match why {
+        WhyStays::NoDrive => NO_DRIVE,
+        WhyStays::ProgramRuns => PROGRAM_RUNS,
+        WhyStays::EndingPends => ENDING_PENDS,
+        WhyStays::DeviceEndOwed => DEVICE_END_OWED,
     }
 }
 
@@ -169,6 +169,13 @@ pub(crate) fn of_arrival(arrived: bool) -> i32
     ensures { result ≡ code_of (machine.HasArrived arrived) }
 {
     if arrived { 1 } else { 0 }
+}
+
+/// Whether something is so: 1 or 0.
+pub(crate) fn of_answer(answer: bool) -> i32
+    ensures { result ≡ (if answer then pos 1 else pos 0) }
+{
+    if answer { 1 } else { 0 }
 }
 
 /// Whether storage kept what was stored.

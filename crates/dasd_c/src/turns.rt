@@ -1,17 +1,18 @@
 //! What happens beside the processor's instructions.
 
-ghost use Rattle.std.specs.Prelude.{◌≡◌, pos};
+ghost use Rattle.std.specs.Prelude.{◌≡◌, ◌/◌, pos, false};
 ghost use Rattle.s360_laws.specs.Events as machine;
-ghost use Rattle.s360_channel.specs.Calls.{Does};
-ghost use Rattle.dasd_c.specs.Codes.{code_of};
-ghost use Rattle.dasd_c.specs.Calls.{Calls, EachMachine, OfChannel, Tells, TellsInterruption, TellsOf, Takes, interrupts_from, is_in};
+ghost use Rattle.s360_channels.specs.Channels.{OnChannel};
+ghost use Rattle.dasd_c.specs.Codes.{code_of, no_channel};
+ghost use Rattle.dasd_c.specs.Calls.{Calls, ResetsFor, RunsFor, StepsFor, Tells, TellsFirst, TellsPending};
+ghost use Rattle.dasd_c.specs.Shown.{ran_shown, track_shown};
 
 use crate::handle::{Handle, put, take};
 use crate::showing::seen;
-use crate::tell::{DONE, NO_CHANNEL, NOTHING_HELD, of_arrival, of_interruption};
+use crate::tell::{DONE, NO_CHANNEL, NOTHING_HELD, of_answer, of_arrival, of_interruption};
 use dasd_files::VolumeFile;
-use dasd_subsystem::Subsystem;
-use s360_channel::{Channel, RunOn};
+use s360_channel::RunOn;
+use s360_channels::Channels;
 use std::alloc::Global;
 
 /// Lets the program that runs on a channel do units until it ends, but so many at most, and says how many it did.
@@ -23,25 +24,26 @@ pub extern "C" fn dasd_step(
     units: u32,
     done: &mut u32,
 ) -> i32
-    ensures { Calls handle.old.slot.held handle.new.slot.held result (λ old new. OfChannel channel old new result ((result ≡ pos 0) × EachMachine old.channel (λ m. Does (machine.StepBy units) m (machine.Stepped done.new) old.channel new.channel))) }
+    ensures { Calls handle.old.slot.held handle.new.slot.held result (λ old new. OnChannel channel (StepsFor units result done.new) ((result ≡ no_channel) × (done.new ≡ done.old)) old new) }
 {
     let Some(mut subsystem) = take(handle, alloc) else {
         return NOTHING_HELD;
     };
-    let code = step(&mut subsystem, channel, units, done);
+    let code = step(&mut subsystem.channels, channel, units, done);
     put(handle, subsystem);
     code
 }
 
-fn step(subsystem: &mut Subsystem, channel: u8, units: u32, done: &mut u32) -> i32
-    ensures number { subsystem.new.number ≡ subsystem.old.number }
-    ensures does { OfChannel channel subsystem.old subsystem.new result ((result ≡ pos 0) × EachMachine subsystem.old.channel (λ m. Does (machine.StepBy units) m (machine.Stepped done.new) subsystem.old.channel subsystem.new.channel)) }
+fn step(channels: &mut Channels<VolumeFile>, channel: u8, units: u32, done: &mut u32) -> i32
+    ensures { OnChannel channel (StepsFor units result done.new) ((result ≡ no_channel) × (done.new ≡ done.old)) channels.old channels.new }
 {
-    if channel != subsystem.number {
-        return NO_CHANNEL;
+    match channels.run_on(channel, units) {
+        Some(ran) => {
+            *done = ran.units;
+            DONE
+        }
+        None => NO_CHANNEL,
     }
-    *done = subsystem.channel.run_on(units).units;
-    DONE
 }
 
 /// What came of a run: how many units were done, and the subchannel behind them.
@@ -64,29 +66,30 @@ pub extern "C" fn dasd_run_on(
     units: u32,
     ran: &mut Ran,
 ) -> i32
-    ensures { Calls handle.old.slot.held handle.new.slot.held result (λ old new. OfChannel channel old new result ((result ≡ pos 0) × EachMachine old.channel (λ m. Does (machine.StepBy units) m (machine.Stepped ran.new.units) old.channel new.channel))) }
+    ensures { Calls handle.old.slot.held handle.new.slot.held result (λ old new. OnChannel channel (RunsFor units result ran.new) ((result ≡ no_channel) × (ran.new ≡ ran.old)) old new) }
 {
     let Some(mut subsystem) = take(handle, alloc) else {
         return NOTHING_HELD;
     };
-    let code = run_on(&mut subsystem, channel, units, ran);
+    let code = run_on(&mut subsystem.channels, channel, units, ran);
     put(handle, subsystem);
     code
 }
 
-fn run_on(subsystem: &mut Subsystem, channel: u8, units: u32, ran: &mut Ran) -> i32
-    ensures number { subsystem.new.number ≡ subsystem.old.number }
-    ensures does { OfChannel channel subsystem.old subsystem.new result ((result ≡ pos 0) × EachMachine subsystem.old.channel (λ m. Does (machine.StepBy units) m (machine.Stepped ran.new.units) subsystem.old.channel subsystem.new.channel)) }
+fn run_on(channels: &mut Channels<VolumeFile>, channel: u8, units: u32, ran: &mut Ran) -> i32
+    ensures { OnChannel channel (RunsFor units result ran.new) ((result ≡ no_channel) × (ran.new ≡ ran.old)) channels.old channels.new }
 {
-    if channel != subsystem.number {
-        return NO_CHANNEL;
+    match channels.run_on(channel, units) {
+        Some(did) => {
+            *ran = ran_of(did);
+            DONE
+        }
+        None => NO_CHANNEL,
     }
-    *ran = ran_of(subsystem.channel.run_on(units));
-    DONE
 }
 
 fn ran_of(ran: RunOn) -> Ran
-    ensures { result.units ≡ ran.units }
+    ensures { result ≡ ran_shown ran }
 {
     let (subchannel, device, asked) = seen(ran.subchannel);
     Ran {
@@ -101,63 +104,43 @@ fn ran_of(ran: RunOn) -> Ran
 /// The arm of the drive at an address arrives: 1, if it moved, and else 0.
 #[unsafe(no_mangle)]
 pub extern "C" fn dasd_arrive(handle: &mut Handle, alloc: Global, address: u16) -> i32
-    ensures { Calls handle.old.slot.held handle.new.slot.held result (λ old new. EachMachine old.channel (λ m. Tells (machine.Arrive address) result m new.channel)) }
+    ensures { Calls handle.old.slot.held handle.new.slot.held result (λ old new. Tells (address / 256) (machine.Arrive address) (machine.HasArrived false) result old new) }
 {
     let Some(mut subsystem) = take(handle, alloc) else {
         return NOTHING_HELD;
     };
-    let code = arrive(&mut subsystem.channel, address);
+    let code = arrive(&mut subsystem.channels, address);
     put(handle, subsystem);
     code
 }
 
-fn arrive(channel: &mut Channel<VolumeFile>, address: u16) -> i32
-    ensures { EachMachine channel.old (λ m. Tells (machine.Arrive address) result m channel.new) }
+fn arrive(channels: &mut Channels<VolumeFile>, address: u16) -> i32
+    ensures { Tells (address / 256) (machine.Arrive address) (machine.HasArrived false) result channels.old channels.new }
 {
-    of_arrival(channel.arrive(address))
+    of_arrival(channels.arrive(address))
 }
 
 /// Whether an interruption would be taken from one of these channels now: 1 or 0.
 #[unsafe(no_mangle)]
 pub extern "C" fn dasd_is_pending(handle: &mut Handle, alloc: Global, channels: u8) -> i32
-    ensures { Calls handle.old.slot.held handle.new.slot.held result (λ old new. (new.channel ≡ old.channel) × EachMachine old.channel (λ m. interrupts_from channels old m result)) }
+    ensures { Calls handle.old.slot.held handle.new.slot.held result (λ old new. (new ≡ old) × TellsPending channels result old) }
 {
     let Some(subsystem) = take(handle, alloc) else {
         return NOTHING_HELD;
     };
-    let code = is_pending(&subsystem, channels);
+    let code = is_pending(&subsystem.channels, channels);
     put(handle, subsystem);
     code
 }
 
-fn is_pending(subsystem: &Subsystem, channels: u8) -> i32
-    ensures { EachMachine subsystem.now.channel (λ m. interrupts_from channels subsystem.now m result) }
+fn is_pending(held: &Channels<VolumeFile>, channels: u8) -> i32
+    ensures { TellsPending channels result held.now }
 {
-    if is_in(channels, subsystem.number) && subsystem.channel.is_pending() {
-        1
-    } else {
-        0
-    }
+    of_answer(held.is_pending(channels))
 }
 
-// Whether a set of channels has this one.
-fn is_in(channels: u8, number: u8) -> bool
-    ensures { result ≡ is_in channels number }
-{
-    match number {
-        0 => channels / 128 % 2 == 1,
-        1 => channels / 64 % 2 == 1,
-        2 => channels / 32 % 2 == 1,
-        3 => channels / 16 % 2 == 1,
-        4 => channels / 8 % 2 == 1,
-        5 => channels / 4 % 2 == 1,
-        6 => channels / 2 % 2 == 1,
-        _ => false,
-    }
-}
-
-/// The processor takes an interruption from the channel, if it is in this set and has one: 1, with the address that interrupts,
-/// and else 0.
+/// The processor takes an interruption from the first channel by number that is in this set and has one: 1, with the address that
+/// interrupts, and else 0.
 #[unsafe(no_mangle)]
 pub extern "C" fn dasd_interrupt(
     handle: &mut Handle,
@@ -165,31 +148,20 @@ pub extern "C" fn dasd_interrupt(
     channels: u8,
     address: &mut u16,
 ) -> i32
-    ensures { Calls handle.old.slot.held handle.new.slot.held result (λ old new. Takes channels old new result address.old address.new) }
+    ensures { Calls handle.old.slot.held handle.new.slot.held result (λ old new. TellsFirst channels result address.old address.new old new) }
 {
     let Some(mut subsystem) = take(handle, alloc) else {
         return NOTHING_HELD;
     };
-    let code = interrupt_from(&mut subsystem, channels, address);
+    let code = interrupt(&mut subsystem.channels, channels, address);
     put(handle, subsystem);
     code
 }
 
-fn interrupt_from(subsystem: &mut Subsystem, channels: u8, address: &mut u16) -> i32
-    ensures number { subsystem.new.number ≡ subsystem.old.number }
-    ensures takes { Takes channels subsystem.old subsystem.new result address.old address.new }
+fn interrupt(held: &mut Channels<VolumeFile>, channels: u8, address: &mut u16) -> i32
+    ensures { TellsFirst channels result address.old address.new held.old held.new }
 {
-    if is_in(channels, subsystem.number) {
-        interrupt(&mut subsystem.channel, address)
-    } else {
-        0
-    }
-}
-
-fn interrupt(channel: &mut Channel<VolumeFile>, address: &mut u16) -> i32
-    ensures { EachMachine channel.old (λ m. TellsInterruption result address.old address.new m channel.new) }
-{
-    of_interruption(channel.interrupt(), address)
+    of_interruption(held.interrupt(channels), address)
 }
 
 /// Address, cylinder and head of a track that was written and could not be saved.
@@ -209,28 +181,28 @@ pub extern "C" fn dasd_reset(
     channel: u8,
     unsaved: &mut Track,
 ) -> i32
-    ensures { Calls handle.old.slot.held handle.new.slot.held result (λ old new. OfChannel channel old new result (EachMachine old.channel (λ m. TellsOf machine.Reset result m old.channel new.channel))) }
+    ensures { Calls handle.old.slot.held handle.new.slot.held result (λ old new. OnChannel channel (ResetsFor result unsaved.old unsaved.new) ((result ≡ no_channel) × (unsaved.new ≡ unsaved.old)) old new) }
 {
     let Some(mut subsystem) = take(handle, alloc) else {
         return NOTHING_HELD;
     };
-    let code = if channel == subsystem.number {
-        reset(&mut subsystem.channel, unsaved)
-    } else {
-        NO_CHANNEL
-    };
+    let code = reset(&mut subsystem.channels, channel, unsaved);
     put(handle, subsystem);
     code
 }
 
-fn reset(channel: &mut Channel<VolumeFile>, unsaved: &mut Track) -> i32
-    ensures { EachMachine channel.old (λ m. TellsOf machine.Reset result m channel.old channel.new) }
+fn reset(channels: &mut Channels<VolumeFile>, channel: u8, unsaved: &mut Track) -> i32
+    ensures { OnChannel channel (ResetsFor result unsaved.old unsaved.new) ((result ≡ no_channel) × (unsaved.new ≡ unsaved.old)) channels.old channels.new }
 {
-    of_unsaved(channel.reset().unsaved, unsaved)
+    match channels.reset(channel) {
+        Some(reset) => of_unsaved(reset.unsaved, unsaved),
+        None => NO_CHANNEL,
+    }
 }
 
 fn of_unsaved(track: Option<(u16, u16, u16)>, unsaved: &mut Track) -> i32
-    ensures { result ≡ code_of (machine.WasReset track) }
+    ensures told { result ≡ code_of (machine.WasReset track) }
+    ensures named { unsaved.new ≡ track_shown track unsaved.old }
 {
     match track {
         Some((address, cylinder, head)) => {

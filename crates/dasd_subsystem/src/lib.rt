@@ -1,6 +1,7 @@
-//! A channel, its drives and the volumes of these in memory as one value, for a program that can't hold them itself.
+//! Channels over one main storage, with drives whose volumes are in memory, as one value, for a program that can't hold them itself.
 #![tactic(auto)]
 
+mod making;
 mod mounting;
 mod refusal;
 mod subsystem;

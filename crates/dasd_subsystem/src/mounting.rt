@@ -1,9 +1,9 @@
 //! Files become an image.
 
-ghost use Rattle.std.specs.Prelude.{◌≡◌, ◌+◌, ◌<◌, ◌≤◌, ◌∷◌, ◌++◌, [], length, map, IfOk, OnOk, All, IsSome};
+ghost use Rattle.std.specs.Prelude.{◌≡◌, ◌+◌, ◌<◌, ◌≤◌, ◌∷◌, ◌++◌, [], length, map, IfOk, IfErr, OnOk, All, IsSome};
 ghost use Rattle.arrayvec.specs.ArrayVec.{array_vec_len};
 ghost use Rattle.ckd_image.specs.Files.{each};
-ghost use Rattle.dasd_subsystem.specs.Attaching.{IsImageOf, new_volume};
+ghost use Rattle.dasd_subsystem.specs.Attaching.{AreFew, AreImage, IsImageOf, NotFormatted, NotMounted, new_volume};
 
 use crate::refusal::Refusal;
 use arrayvec::ArrayVec;
@@ -16,8 +16,11 @@ use std::alloc::Global;
 ///
 /// # Errors
 ///
-/// `NoFiles`, `TooManyFiles`, `OutOfMemory`, or why they are none.
-pub fn check(alloc: Global, files: &[&[u8]]) -> Result<(), Refusal> {
+/// `NoFiles`, `TooManyFiles`, `OutOfMemory` and why they are none, in this order.
+pub fn check(alloc: Global, files: &[&[u8]]) -> Result<(), Refusal>
+    ensures image { OnOk result (AreImage (map (λ file. file.now) files.now)) }
+    ensures refused { IfErr result (λ e. NotMounted (map (λ file. file.now) files.now) e) }
+{
     match mounted(alloc, files) {
         Ok(_) => Ok(()),
         Err(refusal) => Err(refusal),
@@ -26,7 +29,9 @@ pub fn check(alloc: Global, files: &[&[u8]]) -> Result<(), Refusal> {
 
 /// The image that copies of these files, in their order, are.
 pub(crate) fn mounted(alloc: Global, files: &[&[u8]]) -> Result<Image<VolumeFile>, Refusal>
-    ensures { IfOk result (λ i. IsImageOf (map (λ file. file.now) files.now) i) }
+    ensures image { IfOk result (λ i. IsImageOf (map (λ file. file.now) files.now) i) }
+    ensures few { OnOk result (AreFew (map (λ file. file.now) files.now)) }
+    ensures refused { IfErr result (λ e. NotMounted (map (λ file. file.now) files.now) e) }
 {
     if files.is_empty() {
         return Err(Refusal::NoFiles);
@@ -44,6 +49,7 @@ pub(crate) fn mounted(alloc: Global, files: &[&[u8]]) -> Result<Image<VolumeFile
 fn copied(alloc: Global, files: &[&[u8]]) -> Result<ArrayVec<Option<VolumeFile>, 8>, Refusal>
     requires { length files.now ≤ 8 }
     ensures there { IfOk result (λ copies. All IsSome copies.items) }
+    ensures refused { IfErr result (λ e. e ≡ Refusal.OutOfMemory) }
     ensures contents { IfOk result (λ copies. each (λ f. f.content) copies.items ≡ map (λ file. file.now) files.now) }
 {
     let mut copies: ArrayVec<Option<VolumeFile>, 8> = ArrayVec::new();
@@ -73,7 +79,9 @@ pub(crate) fn formatted(
     model: DriveModel,
     cylinders: u16,
 ) -> Result<Image<VolumeFile>, Refusal>
-    ensures { IfOk result (λ i. i ≡ new_volume model cylinders) }
+    ensures image { IfOk result (λ i. i ≡ new_volume model cylinders) }
+    ensures some { OnOk result (0 < cylinders) }
+    ensures refused { IfErr result (λ e. NotFormatted cylinders e) }
 {
     if cylinders == 0 {
         return Err(Refusal::NoCylinders);

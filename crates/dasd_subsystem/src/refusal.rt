@@ -1,20 +1,23 @@
 //! What a subsystem refuses.
 
+ghost use Rattle.std.specs.Prelude.{◌≡◌};
+ghost use Rattle.dasd_subsystem.specs.Attaching.{refusal_of};
+
 use ckd_image::MountFault;
-use s360_channel::AttachFault;
-use s360_words::StorageFault;
+use s360_channel::AttachFault as WhyNot;
+use s360_channels::AttachFault;
 use thiserror::Error;
 
 /// Why a subsystem was not made, a drive not attached, or files are no image.
 #[derive(Clone, Copy, Debug, PartialEq, Eq, Error)]
 pub enum Refusal {
+    /// The set has none of the channels 0 to 6, or more than these.
+    #[error("the set is not one of the channels 0 to 6")]
+    BadChannels,
     /// There is no storage of this size.
     #[error("a storage has a multiple of 2,048 bytes, from 4,096 to 16,777,216")]
     BadSize,
-    /// The channel's number is above 6.
-    #[error("a channel's number is 0 to 6")]
-    BadNumber,
-    /// The address is that of another channel.
+    /// There is no channel with the number in the high byte of the address.
     #[error("no channel of this number")]
     NoChannel,
     /// A new volume has at least one cylinder.
@@ -40,19 +43,14 @@ pub enum Refusal {
     OutOfMemory,
 }
 
-/// Why no storage was made.
-pub(crate) fn of_storage(fault: StorageFault) -> Refusal {
-    match fault {
-        StorageFault::BadSize => Refusal::BadSize,
-        StorageFault::OutOfMemory => Refusal::OutOfMemory,
-    }
-}
-
 /// Why no drive was attached.
-pub(crate) fn of_attach(fault: AttachFault) -> Refusal {
+pub(crate) fn of_attach(fault: AttachFault) -> Refusal
+    ensures { result ≡ refusal_of fault }
+{
     match fault {
-        AttachFault::UnitTaken => Refusal::AddressTaken,
-        AttachFault::Full => Refusal::Full,
-        AttachFault::OutOfMemory(_) => Refusal::OutOfMemory,
+        AttachFault::NoChannel => Refusal::NoChannel,
+        AttachFault::Refused(WhyNot::UnitTaken) => Refusal::AddressTaken,
+        AttachFault::Refused(WhyNot::Full) => Refusal::Full,
+        AttachFault::Refused(WhyNot::OutOfMemory(_)) => Refusal::OutOfMemory,
     }
 }

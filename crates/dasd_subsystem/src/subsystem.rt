@@ -1,49 +1,49 @@
-//! A channel with its drives.
+//! Channels with their drives.
 
-ghost use Rattle.std.specs.Prelude.{◌≡◌, ◌%◌, ◌++◌, ◌∷◌, [], map, OnOk, OnErr, IfOk};
-ghost use Rattle.s360_words.specs.Storage.{cleared};
-ghost use Rattle.s360_channel.specs.declared.subchannel.Subchannel.TheVariants.{Idle};
-ghost use Rattle.s360_channel.specs.Channel.{new_attached};
-ghost use Rattle.dasd_subsystem.specs.Attaching.{Attaches, AttachesNew};
+ghost use Rattle.std.specs.Prelude.{◌≡◌, ◌/◌, ◌%◌, true, map, is_some, OnOk, OnErr, IfOk, IfErr};
+ghost use Rattle.s360_words.specs.Storage.{is_size};
+ghost use Rattle.s360_channels.specs.Channels.{channel_at};
+ghost use Rattle.dasd_subsystem.specs.Attaching.{Attaches, AttachesImage, AttachesNew, NotAttached, NotAttachedNew, Refuses};
+ghost use Rattle.dasd_subsystem.specs.Making.{NotMade, is_set, made};
 
+use crate::making::{is_set, made_over};
 use crate::mounting::{formatted, mounted};
-use crate::refusal::{Refusal, of_attach, of_storage};
+use crate::refusal::{Refusal, of_attach};
 use ckd_image::Image;
 use ckd_track::DriveModel;
 use dasd_files::VolumeFile;
-use s360_channel::Channel;
-use s360_words::Storage;
+use s360_channels::Channels;
+use s360_words::{Storage, StorageFault};
 use std::alloc::Global;
 
-/// A channel with its main storage, whose volumes are in memory.
+/// Channels with the numbers 0 to 6 over one main storage, whose volumes are in memory.
 #[derive(Drop)]
 pub struct Subsystem {
-    /// The channel's number.
-    pub number: u8,
-    /// The channel.
-    pub channel: Channel<VolumeFile>,
+    /// The channels, with the storage that they share.
+    pub channels: Channels<VolumeFile>,
 }
 
 impl Subsystem {
-    /// A channel with this number, 0 to 6, and a storage of so many zero bytes, with no drives.
+    /// The channels of a set, without drives, over a storage of so many zero bytes. The set has the form of a system mask: bits 0
+    /// to 6, from the left, are channels 0 to 6.
     ///
     /// # Errors
     ///
-    /// `BadNumber`, `BadSize` and `OutOfMemory`.
-    pub fn new(alloc: Global, number: u8, size: u32) -> Result<Subsystem, Refusal>
-        ensures number { IfOk result (λ s. s.number ≡ number) }
-        ensures channel { IfOk result (λ s. s.channel ≡ record { number = number; storage = cleared size; subchannel = Idle; drives = [] }) }
+    /// `BadChannels`, `BadSize` and `OutOfMemory`, in this order.
+    pub fn new(alloc: Global, channels: u8, size: u32) -> Result<Subsystem, Refusal>
+        ensures made { IfOk result (λ s. s.channels ≡ made channels size) }
+        ensures allowed { OnOk result ((is_set channels ≡ true) × (is_size size ≡ true)) }
+        ensures refused { IfErr result (λ e. NotMade channels size e) }
     {
-        if number > 6 {
-            return Err(Refusal::BadNumber);
+        if !is_set(channels) {
+            return Err(Refusal::BadChannels);
         }
-        let storage = match Storage::new(alloc, size) {
-            Ok(storage) => storage,
-            Err(fault) => return Err(of_storage(fault)),
-        };
-        match Channel::new(number, storage) {
-            Ok(channel) => Ok(Subsystem { number, channel }),
-            Err(_) => Err(Refusal::BadNumber),
+        match Storage::new(alloc, size) {
+            Ok(storage) => Ok(Subsystem {
+                channels: made_over(alloc, channels, storage)?,
+            }),
+            Err(StorageFault::BadSize) => Err(Refusal::BadSize),
+            Err(StorageFault::OutOfMemory) => Err(Refusal::OutOfMemory),
         }
     }
 
@@ -51,23 +51,26 @@ impl Subsystem {
     ///
     /// # Errors
     ///
-    /// `NoChannel`, `NoFiles`, `TooManyFiles`, `OutOfMemory`, why the files are no image, `AddressTaken` and `Full`. Nothing
-    /// has changed.
+    /// `NoChannel`, `NoFiles`, `TooManyFiles`, why the files are no image, `AddressTaken` and `Full`, in this order, and
+    /// `OutOfMemory` wherever memory is taken: for the copies, and last for the drive. Nothing has changed.
     pub fn attach(&mut self, alloc: Global, address: u16, files: &[&[u8]]) -> Result<(), Refusal>
-        ensures number { self.new.number ≡ self.old.number }
-        ensures attached { OnOk result (Attaches (address % 256) (map (λ file. file.now) files.now) self.old.channel self.new.channel) }
-        ensures stays { OnErr result (self.new.channel ≡ self.old.channel) }
+        ensures attached { OnOk result (Attaches address (map (λ file. file.now) files.now) self.old.channels self.new.channels) }
+        ensures refused { IfErr result (λ e. NotAttached (channel_at (address / 256) self.old.channels) (address % 256) (map (λ file. file.now) files.now) e) }
+        ensures stays { OnErr result (self.new ≡ self.old) }
     {
-        let device = self.device_of(address)?;
+        if !has_channel(&self.channels, address) {
+            return Err(Refusal::NoChannel);
+        }
         let image = mounted(alloc, files)?;
-        attach_image(&mut self.channel, alloc, device, image)
+        attach_image(&mut self.channels, alloc, address, image)
     }
 
     /// Attaches a drive under an address, with a new volume of so many cylinders.
     ///
     /// # Errors
     ///
-    /// `NoChannel`, `NoCylinders`, `OutOfMemory`, `AddressTaken` and `Full`. Nothing has changed.
+    /// `NoChannel`, `NoCylinders`, `AddressTaken` and `Full`, in this order, and `OutOfMemory` wherever memory is taken: for the
+    /// volume, and last for the drive. Nothing has changed.
     pub fn attach_new(
         &mut self,
         alloc: Global,
@@ -75,38 +78,37 @@ impl Subsystem {
         model: DriveModel,
         cylinders: u16,
     ) -> Result<(), Refusal>
-        ensures number { self.new.number ≡ self.old.number }
-        ensures attached { OnOk result (AttachesNew (address % 256) model cylinders self.old.channel self.new.channel) }
-        ensures stays { OnErr result (self.new.channel ≡ self.old.channel) }
+        ensures attached { OnOk result (AttachesNew address model cylinders self.old.channels self.new.channels) }
+        ensures refused { IfErr result (λ e. NotAttachedNew (channel_at (address / 256) self.old.channels) (address % 256) cylinders e) }
+        ensures stays { OnErr result (self.new ≡ self.old) }
     {
-        let device = self.device_of(address)?;
-        let image = formatted(alloc, model, cylinders)?;
-        attach_image(&mut self.channel, alloc, device, image)
-    }
-
-    // The low byte of an address of this channel.
-    fn device_of(&self, address: u16) -> Result<u8, Refusal>
-        ensures { IfOk result (λ device. device ≡ address % 256) }
-    {
-        if address / 256 == self.number as u16 {
-            Ok((address % 256) as u8)
-        } else {
-            Err(Refusal::NoChannel)
+        if !has_channel(&self.channels, address) {
+            return Err(Refusal::NoChannel);
         }
+        let image = formatted(alloc, model, cylinders)?;
+        attach_image(&mut self.channels, alloc, address, image)
     }
+}
+
+// Whether there is a channel with the number in the high byte.
+fn has_channel(channels: &Channels<VolumeFile>, address: u16) -> bool
+    ensures { result ≡ is_some (channel_at (address / 256) channels.now) }
+{
+    channels.channel((address / 256) as u8).is_some()
 }
 
 // Attaches a drive that holds this image.
 fn attach_image(
-    channel: &mut Channel<VolumeFile>,
+    channels: &mut Channels<VolumeFile>,
     alloc: Global,
-    device: u8,
+    address: u16,
     image: Image<VolumeFile>,
 ) -> Result<(), Refusal>
-    ensures attached { OnOk result (channel.new ≡ record channel.old { drives = channel.old.drives ++ new_attached device image ∷ [] }) }
-    ensures stays { OnErr result (channel.new ≡ channel.old) }
+    ensures attached { OnOk result (AttachesImage address image channels.old channels.new) }
+    ensures refused { IfErr result (λ e. Refuses (channel_at (address / 256) channels.old) (address % 256) e) }
+    ensures stays { OnErr result (channels.new ≡ channels.old) }
 {
-    match channel.attach(alloc, device, image) {
+    match channels.attach(alloc, address, image) {
         Ok(()) => Ok(()),
         Err((fault, _)) => Err(of_attach(fault)),
     }

@@ -1,4 +1,4 @@
-//! A selector channel with IBM 2311 and 2314 drives, for emulators of the System/360: a safe way to the library `libdasd`.
+//! Selector channels with IBM 2311 and 2314 drives, for emulators of the System/360: a safe way to the library `libdasd`.
 //!
 //! ```
 //! use dasd::{Address, ChannelSet, Subsystem, Condition, DriveModel};

@@ -1,11 +1,12 @@
-//! A channel with its drives, behind a handle that nothing else reaches.
+//! Channels with their drives, behind a handle that nothing else reaches.
 
 use crate::{Address, Arm, ChannelSet, Condition, Csw, DriveModel, Fault, Status, SubchannelView};
 use dasd_sys as sys;
 
 const CSW: usize = 64;
 
-/// Main storage, and a channel with its drives and their volumes.
+/// Main storage, and the channels over it with their drives and the volumes of these. A call for an address or a number is made at that
+/// channel, and every other channel stays.
 ///
 /// What a call lends borrows this value, so that no other call is made while it is used. It may go to another thread, and is used by
 /// one at a time.
@@ -81,7 +82,8 @@ fn pairs(files: &[&[u8]]) -> Vec<sys::dasd_bytes> {
 // In each call below: SAFETY: the handle is this value's own and was made by `new`; what else is passed is a value of its type, or bytes
 // with their length, that no other argument overlaps, and that can't lie in storage or in a file, since those are lent by `&mut self`.
 impl Subsystem {
-    /// Main storage of so many zero bytes, and the channel of this set, without drives. The set has one channel.
+    /// Main storage of so many zero bytes, and the channels of this set over it, without drives. The set has one to seven of the
+    /// channels 0 to 6.
     pub fn new(storage_bytes: u32, channels: ChannelSet) -> Result<Subsystem, Fault> {
         let mut handle = sys::dasd { stamp: 0, place: std::ptr::null_mut() };
         done(unsafe { sys::dasd_new(&mut handle, storage_bytes, channels.0) })?;
@@ -195,14 +197,14 @@ impl Subsystem {
         unsafe { sys::dasd_is_pending(&mut self.handle, channels.0) == 1 }
     }
 
-    /// Takes an interruption from a channel of this set: its address, and the channel status word that is stored.
+    /// Takes an interruption from the first channel, by number, of this set that has one: its address, and the channel status word that is stored.
     pub fn interrupt(&mut self, channels: ChannelSet) -> Option<(Address, Csw)> {
         let mut address = 0;
         let taken = unsafe { sys::dasd_interrupt(&mut self.handle, channels.0, &mut address) == 1 };
         taken.then(|| (Address(address), self.csw()))
     }
 
-    /// Resets a channel and its drives; address, cylinder and head of a track that could not be saved.
+    /// Resets a channel and its drives, and no other; address, cylinder and head of a track that could not be saved.
     pub fn reset(&mut self, channel: u8) -> Result<Option<(Address, u16, u16)>, Fault> {
         let mut track = sys::dasd_track::default();
         let code = done(unsafe { sys::dasd_reset(&mut self.handle, channel, &mut track) })?;

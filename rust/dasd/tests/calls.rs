@@ -74,9 +74,28 @@ fn refusals() {
     assert_eq!(disks.attach(Address(0x191), &[&[0u8][..]; 9]), Err(Fault::TooManyFiles));
     assert_eq!((disks.step(3, 1), disks.reset(7), disks.channel(0).err()), (Err(Fault::NoChannel), Err(Fault::NoChannel), Some(Fault::NoChannel)));
     assert_eq!(Subsystem::new(1000, ChannelSet::of(&[1])).err(), Some(Fault::BadSize));
-    assert_eq!(Subsystem::new(4096, ChannelSet::of(&[1, 2])).err(), Some(Fault::BadChannels));
+    assert_eq!(Subsystem::new(4096, ChannelSet::of(&[])).err(), Some(Fault::BadChannels));
+    assert_eq!(Subsystem::new(4096, ChannelSet::of(&[1, 7])).err(), Some(Fault::BadChannels));
     let fault: Box<dyn std::error::Error> = Fault::Full.into();
     assert_eq!((fault.to_string(), Fault::Full.code()), ("eight drives are attached to this channel".to_string(), -13));
+}
+
+#[test]
+fn several_channels_share_storage() {
+    let (mut disks, low, high) = (Subsystem::new(65536, ChannelSet::of(&[1, 2])).unwrap(), DRIVE, Address(0x290));
+    disks.attach_new(low, DriveModel::D2314, 2).unwrap();
+    disks.attach_new(high, DriveModel::D2311, 1).unwrap();
+    assert_eq!(disks.attach_new(Address(0x390), DriveModel::D2311, 1), Err(Fault::NoChannel));
+    disks.storage()[0x48..0x4C].copy_from_slice(&[0, 0, 1, 0]);
+    disks.storage()[0x100..0x108].copy_from_slice(&[0x16, 0, 2, 0, 0x20, 0, 0, 16]);
+    assert_eq!((disks.sio(high), disks.sio(low), disks.tch(Address(0x300))), (Condition::Zero, Condition::Zero, Condition::Three));
+    disks.run_on(2, 1000).unwrap();
+    assert_eq!((disks.tch(low), disks.tch(high), disks.interrupt(ChannelSet::of(&[0, 1]))), (Condition::Two, Condition::Stored(()), None));
+    disks.run_on(1, 1000).unwrap();
+    let addresses: Vec<_> = std::iter::from_fn(|| disks.interrupt(ChannelSet::ALL)).map(|(from, _)| from).collect();
+    assert_eq!(addresses, [low, high]);
+    assert_eq!((disks.sio(low), disks.sio(high), disks.reset(1)), (Condition::Zero, Condition::Zero, Ok(None)));
+    assert_eq!((disks.tch(low), disks.tch(high)), (Condition::Zero, Condition::Two));
 }
 
 #[test]

@@ -3,14 +3,12 @@ use Rattle.std.proofs.lemmas.Int.{to_z-of_z}
 use Rattle.std.specs.Prelude.{is_ok}
 use Rattle.s360_laws.specs.Events.{WasKept}
 use Rattle.dasd_c.specs.Codes.{code_of}
-use Rattle.dasd_c.specs.Calls.{Tells}
 use Rattle.dasd_c.proofs.storing.set_key.Goals as goal
 
--- C is told the number of the channel's answer
+-- C is told whether all of it was within
 pub returns : goal.returns
-unfolding Tells
-returns c = λ m stands. let same : c.is_ok.result ≡ is_ok c.set_key.result = search rules in record {
-  answer = WasKept (is_ok c.set_key.result);
+returns c = let same : c.is_ok.result ≡ is_ok c.set_key.result = search rules in record {
+  kept = is_ok c.set_key.result;
   told = to_z-of_z w32 c.of_kept.result (search rules) ∙ c.of_kept.ensures ∙ ap (λ (kept : Bool). code_of (WasKept kept)) same;
-  does = c.set_key.ensures.does m stands;
+  stores = c.set_key.ensures;
 }

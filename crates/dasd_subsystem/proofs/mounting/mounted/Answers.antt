@@ -3,5 +3,5 @@ use Rattle.ckd_image.specs.Image.{Holds}
 use Rattle.dasd_subsystem.proofs.mounting.mounted.Goals as goal
 
 -- the copies hold what the files do
-pub returns-in-Ok : goal.returns-in-Ok
-returns-in-Ok c = subst (λ (fs : List (List ℕ)). Holds fs c.in-Ok.image.geometry c.in-Ok.image.slots) c.in_ok-copied.ensures.contents c.in-Ok.ensures.holds
+pub returns-in-Ok-clause-image : goal.returns-in-Ok-clause-image
+returns-in-Ok-clause-image c = subst (λ (fs : List (List ℕ)). Holds fs c.in-Ok.image.geometry c.in-Ok.image.slots) c.in_ok-copied.ensures.contents c.in-Ok.ensures.holds

@@ -1,13 +1,22 @@
-use Rattle.std.proofs.Common.{◌≡◌, ◌++◌, ◌∷◌, [], subst, ℕ}
-use Rattle.std.specs.Prelude.{OnOk}
+use Rattle.std.proofs.Common.{rules, tests, ◌≡◌, ◌/◌, ◌%◌, true, subst}
+use Rattle.std.specs.Prelude.{OnOk, is_some}
 use Rattle.ckd_image.specs.Image.{ImageState}
-use Rattle.dasd_subsystem.specs.Attaching.{new_volume}
-use Rattle.s360_channel.specs.Channel.{new_attached}
+use Rattle.s360_channels.specs.Channels.{channel_at}
+use Rattle.dasd_subsystem.specs.Attaching.{AttachesImage, NotAttachedNew, Refuses}
+use Rattle.dasd_subsystem.proofs.Refusing.{err_then, not_taken_new}
 use Rattle.dasd_subsystem.proofs.subsystem.Subsystem.attach_new.Goals as goal
 
--- the drive is that of the address, and its image is the new one
+-- the image is the new one
 pub returns-clause-attached : goal.returns-clause-attached
 returns-clause-attached c =
-    let a = c.args in let old = a.self.now.channel in
-    subst (λ (d : ℕ). OnOk c.attach_image.result (c.attach_image.new.channel ≡ record old { drives = old.drives ++ new_attached d (new_volume a.model a.cylinders) ∷ [] })) c.in_ok-device.ensures
-    (subst (λ (i : ImageState). OnOk c.attach_image.result (c.attach_image.new.channel ≡ record old { drives = old.drives ++ new_attached c.in_ok-device.device i ∷ [] })) c.in_ok-image.ensures c.attach_image.ensures.attached)
+    subst (λ (i : ImageState). OnOk c.attach_image.result (AttachesImage c.args.address i c.args.self.now.channels c.attach_image.new.channels))
+    c.in_ok-image.ensures.image c.attach_image.ensures.attached
+
+-- there is a volume, and the channel refuses it
+pub returns-clause-refused : goal.returns-clause-refused
+returns-clause-refused c =
+    let o = channel_at (c.args.address / 256) c.args.self.now.channels in let device = c.args.address % 256 in
+    let some : is_some o ≡ true = search (rules, tests) in
+    err_then c.attach_image.result (Refuses o device) (NotAttachedNew o device c.args.cylinders)
+    (λ e h. not_taken_new o device c.args.cylinders e some c.in_ok-image.ensures.some h)
+    c.attach_image.ensures.refused

@@ -3,14 +3,12 @@ use Rattle.std.proofs.lemmas.Int.{to_z-of_z}
 use Rattle.s360_events.specs.Seen.{condition_seen}
 use Rattle.s360_laws.specs.Events.{WithCode}
 use Rattle.s360_laws.specs.declared.condition.ConditionCode.TheVariants.{One}
-use Rattle.dasd_c.specs.Calls.{Tells}
-use Rattle.dasd_c.proofs.instructions.test.Goals as goal
+use Rattle.dasd_c.proofs.instructions.tch.Goals as goal
 
 -- C is told the number of the channel's answer
 pub returns : goal.returns
-unfolding Tells
-returns c = λ m stands. record {
+returns c = record {
   answer = condition_seen (λ u. WithCode One) c.tch.result;
   told = to_z-of_z w32 c.of_test.result (search rules) ∙ c.of_test.ensures;
-  does = c.tch.ensures m stands;
+  tests = c.tch.ensures;
 }

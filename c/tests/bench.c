@@ -1,0 +1,141 @@
+/* bench.c - the works of crates/bench by whole channel programs, through the handle: what an emulator pays for a call of the library.
+ *
+ *     bench LETTER PASSES      LETTER: A B C D S U W, over a full volume of a 2314, as `bench channel LETTER PASSES` does it there;
+ *                              or 1, a Read Data of 80 bytes behind a search, 1,000 times a pass, over one cylinder
+ *
+ * Counted by callgrind, a pass is what `bench A 1` takes beyond `bench A 0`. It prints how many programs ended as they must. */
+#include <inttypes.h>
+#include <stdint.h>
+#include <stdio.h>
+#include <stdlib.h>
+#include <string.h>
+
+#include "../dasd.h"
+
+enum { ADDRESS = 0x190, CYLINDERS = 203, HEADS = 20, RECORDS = 7, DATA = 900, LONG_DATA = 7294, ONE_DATA = 80 };
+enum { FIRST = 0x400, OPERANDS = 0x200, SEARCHED = 0x202, COUNTS = 0x300, BUFFER = 0x2000, CAW = 72, CSW = 64 };
+enum { CHAIN_DATA = 0x80, CHAIN = 0x40 };
+
+/* The handle, and where the next word of its program goes. */
+typedef struct machine {
+    dasd d;
+    uint32_t next;
+    unsigned long ended, otherwise;
+} machine;
+
+static void store(machine *m, uint32_t at, const void *bytes, size_t n) {
+    if (dasd_poke(&m->d, at, bytes, n) != DASD_DONE) abort();
+}
+
+static void word(machine *m, unsigned code, unsigned address, unsigned flags, unsigned count) {
+    const uint8_t bytes[8] = {(uint8_t)code, 0, (uint8_t)(address >> 8), (uint8_t)address, (uint8_t)flags, 0, (uint8_t)(count >> 8), (uint8_t)count};
+    store(m, m->next, bytes, sizeof bytes);
+    m->next += 8;
+}
+
+/* A search that passes over the transfer behind it once it is satisfied. */
+static void search(machine *m, unsigned code, unsigned count) {
+    const uint32_t at = m->next;
+    word(m, code, SEARCHED, CHAIN, count);
+    word(m, 0x08, at, 0, 0);
+}
+
+static void last(machine *m, unsigned times, unsigned code, unsigned count) {
+    while (times--) word(m, code, BUFFER, times ? CHAIN : 0, count);
+}
+
+static void format(machine *m, unsigned records, unsigned data) {
+    for (unsigned i = 0; i < records; i++) {
+        word(m, 0x1D, COUNTS + 8 * i, CHAIN_DATA, 8);
+        word(m, 0, BUFFER, i + 1 < records ? CHAIN : 0, data);
+    }
+}
+
+/* Stores what a program names of a track: its address, the record that is searched for, and the count areas of new ones. */
+static void operands(machine *m, unsigned cylinder, unsigned head, unsigned record, unsigned records, unsigned data) {
+    const uint8_t cc[4] = {(uint8_t)(cylinder >> 8), (uint8_t)cylinder, (uint8_t)(head >> 8), (uint8_t)head};
+    const uint8_t seek[7] = {0, 0, cc[0], cc[1], cc[2], cc[3], (uint8_t)record};
+    store(m, OPERANDS, seek, sizeof seek);
+    for (unsigned i = 0; i < records; i++) {
+        const uint8_t count[8] = {cc[0], cc[1], cc[2], cc[3], (uint8_t)(i + 1), 0, (uint8_t)(data >> 8), (uint8_t)data};
+        store(m, COUNTS + 8 * i, count, sizeof count);
+    }
+}
+
+/* Start I/O, units to the end, Test I/O; whether all was done, and channel end and device end alone are told. */
+static void run(machine *m) {
+    static const uint8_t caw[4] = {0, 0, FIRST >> 8, FIRST & 255};
+    const uint8_t want[8] = {0, 0, (uint8_t)(m->next >> 8), (uint8_t)m->next, 0x0C, 0, 0, 0};
+    uint8_t csw[8] = {0};
+    dasd_run ran = {0, DASD_AVAILABLE, 0, 0, 0};
+    store(m, CAW, caw, sizeof caw);
+    if (dasd_sio(&m->d, ADDRESS) == 0)
+        do
+            if (dasd_run_on(&m->d, 1, UINT32_MAX, &ran) != DASD_DONE) abort();
+        while (ran.subchannel == DASD_WORKING);
+    if (dasd_tio(&m->d, ADDRESS) == 1 && dasd_peek(&m->d, CSW, csw, sizeof csw) == DASD_DONE && !memcmp(csw, want, sizeof csw))
+        m->ended++;
+    else
+        m->otherwise++;
+}
+
+/* The records that a work reads are written by programs. */
+static void prepare(machine *m, char work, unsigned cylinders) {
+    const unsigned records = work == 'D' || work == '1' ? 1 : RECORDS, data = work == 'D' ? LONG_DATA : work == '1' ? ONE_DATA : DATA;
+    static uint8_t body[LONG_DATA];
+    memset(body, 0xC1, sizeof body);
+    store(m, BUFFER, body, sizeof body);
+    m->next = FIRST;
+    if (work == 'W') return;
+    word(m, 0x07, OPERANDS, CHAIN, 6);
+    search(m, 0x31, 5);
+    format(m, records, data);
+    for (unsigned track = 0; track < cylinders * HEADS; track++) {
+        operands(m, track / HEADS, track % HEADS, 0, records, data);
+        run(m);
+    }
+    m->next = FIRST;
+}
+
+/* The work's program. */
+static void build(machine *m, char work) {
+    if (work != '1') word(m, 0x07, OPERANDS, CHAIN, 6);
+    switch (work) {
+    case 'B': last(m, RECORDS, 0x1E, 8 + DATA); break;
+    case 'C': last(m, HEADS * RECORDS, 0x86, DATA); break;
+    case 'D': search(m, 0x31, 5), last(m, 1, 0x06, LONG_DATA); break;
+    case 'S': search(m, 0x39, 4), word(m, 0x16, BUFFER, CHAIN, 16), last(m, RECORDS, 0x06, DATA); break;
+    case 'U': search(m, 0x31, 5), last(m, 1, 0x05, DATA); break;
+    case 'W': search(m, 0x31, 5), format(m, RECORDS, DATA); break;
+    case '1': search(m, 0x31, 5), last(m, 1, 0x06, ONE_DATA); break;
+    default: search(m, 0x31, 5), last(m, RECORDS, 0x06, DATA);
+    }
+}
+
+static void pass(machine *m, char work) {
+    if (work == '1') {
+        for (int i = 0; i < 1000; i++) run(m);
+        return;
+    }
+    for (unsigned cylinder = 0; cylinder < CYLINDERS; cylinder++)
+        for (unsigned head = 0; head < (work == 'C' ? 1 : HEADS); head++) {
+            operands(m, cylinder, head, work != 'W', work == 'W' ? RECORDS : 0, DATA);
+            run(m);
+        }
+}
+
+int main(int argc, char **argv) {
+    machine m = {.d = DASD_NOTHING};
+    if (argc != 3 || strlen(argv[1]) != 1 || !strchr("ABCDSUW1", *argv[1])) {
+        fprintf(stderr, "usage: bench A|B|C|D|S|U|W|1 PASSES\n");
+        return 2;
+    }
+    const unsigned cylinders = *argv[1] == '1' ? 1 : CYLINDERS;
+    if (dasd_new(&m.d, 65536, DASD_CHANNEL(1)) < 0 || dasd_attach_new(&m.d, ADDRESS, 2314, (uint16_t)cylinders) < 0) return 1;
+    prepare(&m, *argv[1], cylinders);
+    operands(&m, 0, HEADS - 1, 1, 0, 0); /* where the last program left the arm: work 1 has no seek */
+    build(&m, *argv[1]);
+    for (long left = atol(argv[2]); left > 0; left--) pass(&m, *argv[1]);
+    printf("%s: %lu programs, %lu ended otherwise\n", argv[1], m.ended + m.otherwise, m.otherwise);
+    return dasd_free(&m.d) == DASD_DONE && !m.otherwise ? EXIT_SUCCESS : EXIT_FAILURE;
+}

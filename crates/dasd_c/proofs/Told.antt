@@ -1,0 +1,34 @@
+-- What a call at one of several channels does, told in other words.
+use Rattle.std.proofs.Common.{◌≡◌, subst, ℕ, Option, Some, None}
+use Rattle.s360_channel.specs.Channel.{ChannelState}
+use Rattle.s360_channels.specs.Channels.{ChannelsState, OnChannel, OnFound, channel_at}
+
+module _ (How Other : ChannelState → ChannelState → Type 0) (Missing Lacking : Type 0) (number : ℕ) (old new : ChannelsState)
+    (does : (c d : ChannelState) → How c d → Other c d) (misses : Missing → Lacking) where
+  found : (o : Option ChannelState) → OnFound o number How Missing old new → OnFound o number Other Lacking old new
+  found None h = (misses h.0, h.1)
+  found (Some c) h = record {
+    after = h.after;
+    finds = record { last = h.finds.last; how = does _ _ h.finds.how; storage = h.finds.storage; channel = h.finds.channel };
+    others_stay = h.others_stay;
+  }
+
+  pub told : OnChannel number How Missing old new → OnChannel number Other Lacking old new
+  told h = found (channel_at number old) h
+
+pub not_both : {A : Type 0} (a : A) → ◌≡◌ {A = Option A} (Some a) None → ⊥
+not_both a h = cc
+
+-- An answer that is there only where the channel is: what it was, and that there was none.
+module _ {A : Type 0} (To : Option A → ChannelState → ChannelState → Type 0) (number : ℕ) (old new : ChannelsState) where
+  pub there : (Other : ChannelState → ChannelState → Type 0) (Lacking : Type 0) (r : Option A) (a : A) → r ≡ Some a
+      → ((c d : ChannelState) → To (Some a) c d → Other c d) → OnChannel number (To r) (r ≡ None) old new → OnChannel number Other Lacking old new
+  there Other Lacking r a is does h =
+      told (To (Some a)) Other (◌≡◌ {A = Option A} (Some a) None) Lacking number old new does (λ e. absurd (not_both a e))
+      (subst (λ (r : Option A). OnChannel number (To r) (r ≡ None) old new) is h)
+
+  pub nobody : (Other : ChannelState → ChannelState → Type 0) (Lacking : Type 0) (r : Option A) → r ≡ None → ((c d : ChannelState) → To None c d → ⊥)
+      → Lacking → OnChannel number (To r) (r ≡ None) old new → OnChannel number Other Lacking old new
+  nobody Other Lacking r is none lacks h =
+      told (To None) Other (◌≡◌ {A = Option A} None None) Lacking number old new (λ c d h. absurd (none c d h)) (λ e. lacks)
+      (subst (λ (r : Option A). OnChannel number (To r) (r ≡ None) old new) is h)
