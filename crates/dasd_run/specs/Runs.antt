@@ -2,25 +2,34 @@
 use Rattle.std.specs.Prelude.{◌≡◌, ◌⊎◌, ◌++◌, List, ℕ, ◌∷◌, [], replicate, Option, Some, Result, Ok, IsErr, IfErr}
 use Rattle.std.specs.List.{AllZip}
 use Rattle.std.specs.Result.{result_and}
+use Rattle.counted_io.specs.Streams.{Stream, Takes, TakesFront, NoneFailed, OneFailed}
 use Rattle.ckd_track.specs.Geometry.{new_geometry}
 use Rattle.ckd_image.specs.Layout.{image_length}
 use Rattle.ckd_image.specs.Image.{ImageState, HoldsImage, new_image}
 use Rattle.s360_channel.specs.Channel.{ChannelState, AttachedState, new_attached}
 use Rattle.s360_deck.specs.declared.runs.RunFault.{RunFault}
-use Rattle.s360_deck.specs.Runs.{Runs, StaysUnlessRun}
+use Rattle.s360_deck.specs.CountedRuns.{CountedRuns}
+use Rattle.s360_deck.specs.Runs.{StaysUnlessRun}
 use Rattle.dasd_words.specs.declared.volumes.Volume.{Volume}
 use Rattle.dasd_words.specs.declared.volumes.VolumeSource.{VolumeSource}
 use Rattle.dasd_words.specs.declared.volumes.VolumeSource.TheVariants.{Files, New}
 use Rattle.dasd_jobs.specs.Written.{Replaced}
+use Rattle.dasd_jobs.specs.declared.faults.JobFault.TheVariants.{Write}
 use Rattle.dasd_run.specs.declared.commands.Ending.{Ending}
 use Rattle.dasd_run.specs.declared.commands.Ending.TheVariants.{Done}
 use Rattle.dasd_run.specs.declared.fault.ProgramFault.{ProgramFault}
 use Rattle.dasd_run.specs.declared.fault.ProgramFault.TheVariants as fault
 use Rattle.dasd_run.specs.Saves.{Concludes}
 
--- what a deck leaves that was read of this text, whatever of it was left unread
-abbrev pub RunsText : Result (Unit {0}) RunFault → (text : List ℕ) → (old new : ChannelState) → (written_before written : Option (List ℕ)) → Type 0
-RunsText result text old new written_before written = (rest : Option (List ℕ)) × Runs result (Some text) rest old new written_before written
+-- what a deck leaves whose text this is, read to its end or as far as it may be long
+abbrev pub RunsText : Result (Unit {0}) RunFault → (text : List ℕ) → (old new : ChannelState) → (written_before written : Stream) → Type 0
+RunsText result text old new written_before written =
+    (before after : Stream) × (before.known ≡ Some text) × CountedRuns result before after old new written_before written
+
+-- A text is printed and flushed; or there is a write fault, a write failed or the flush, and the first bytes may be printed.
+abbrev pub Tells : Result Ending ProgramFault → (text : List ℕ) → (printed_before printed : Stream) → Type 0
+Tells (Ok ending) text printed_before printed = (ending ≡ Done) × Takes printed_before printed text × NoneFailed printed_before printed
+Tells (Err f) text printed_before printed = (f ≡ fault.Job Write) × TakesFront printed_before printed text × OneFailed printed_before printed
 
 -- the image of a volume before a run: what was read of its files, or a new one in memory
 abbrev pub Opens : VolumeSource → ImageState → Type 0
@@ -38,7 +47,7 @@ AttachesOne v old new = (u : AttachedState) × IsDriveOf v u × (new.drives ≡ 
 
 -- A deck of this text was run, or refused, at a channel that has a drive for each volume, in their order; its trace was ended, and
 -- the files of the volumes were written back. Their fault is told before that of the trace.
-pub record RunsVolumes (result : Result Ending ProgramFault) (volumes : List Volume) (before now : List Replaced) (printed_before printed : Option (List ℕ)) : Type 0 where
+pub record RunsVolumes (result : Result Ending ProgramFault) (volumes : List Volume) (before now : List Replaced) (printed_before printed : Stream) : Type 0 where
   pub built : ChannelState
   pub drives : AllZip IsDriveOf volumes built.drives
   pub text : List ℕ
@@ -53,7 +62,7 @@ pub record RunsVolumes (result : Result Ending ProgramFault) (volumes : List Vol
   pub told : result ≡ result_and concluded (result_and traced (Ok Done))
 
 -- or the run did not come to its deck, has a fault, and wrote and printed nothing
-abbrev pub RunsOrStops : Result Ending ProgramFault → List Volume → (before now : List Replaced) → (printed_before printed : Option (List ℕ)) → Type 0
+abbrev pub RunsOrStops : Result Ending ProgramFault → List Volume → (before now : List Replaced) → (printed_before printed : Stream) → Type 0
 RunsOrStops result volumes before now printed_before printed =
     RunsVolumes result volumes before now printed_before printed
     ⊎ (IsErr result × (now ≡ before) × (printed ≡ printed_before))

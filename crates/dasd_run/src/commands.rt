@@ -1,9 +1,9 @@
 //! The commands of `dasd`.
 
-ghost use Rattle.std.specs.Prelude.{◌≡◌, true, IfOk, IfErr};
-ghost use Rattle.std.specs.Io.KnownBytes.{Appends};
+ghost use Rattle.std.specs.Prelude.{◌≡◌, true, IfErr};
+ghost use Rattle.counted_io.specs.Streams.{seen_by};
 ghost use Rattle.dasd_run.specs.Faults.{keeps_files};
-ghost use Rattle.dasd_run.specs.Runs.{RunsOrStops};
+ghost use Rattle.dasd_run.specs.Runs.{RunsOrStops, Tells};
 ghost use Rattle.dasd_run.specs.Saves.{Concludes};
 
 use crate::archive::{Lines, check_strictly, compare_both, dump_part};
@@ -15,6 +15,7 @@ use crate::runs::{Disks, build, finish};
 use crate::traces::{Traces, begin_trace, end_trace};
 use crate::unload::{extract_set, extract_volume};
 use crate::vtoc::list_contents;
+use counted_io::{Counted, WriteFault, write_flushed};
 use dasd_jobs::{ImageFiles, JobFault, NewVolume, Progress, check_files, format_file, list_files};
 use dasd_words::{DeckRun, Request, Volume, WordFault, read_words};
 use s360_deck::RunFault;
@@ -31,7 +32,7 @@ pub enum Ending {
 }
 
 /// Does what these words ask, the first of which is the program's name. A deck is read from `reader`, where the words name no
-/// file of it; `writer` takes what is printed, and `progress` what is shown while a job over a large volume goes on.
+/// file of it; `writer` takes what is printed, with its failures counted, and `progress` what is shown while a job over a large volume goes on.
 ///
 /// # Errors
 ///
@@ -42,7 +43,7 @@ pub fn obey<F: Traces, R: Read, W: Write, P: Progress>(
     words: &[&str],
     files: &mut F,
     reader: &mut R,
-    writer: &mut W,
+    writer: &mut Counted<W>,
     progress: &mut P,
 ) -> Result<Ending, ProgramFault>
     ensures { IfErr result (λ e. keeps_files e ≡ true → F.written files.new ≡ F.written files.old) }
@@ -64,7 +65,7 @@ fn answer<F: Traces, R: Read, W: Write, P: Progress>(
     request: Request,
     files: &mut F,
     reader: &mut R,
-    writer: &mut W,
+    writer: &mut Counted<W>,
     progress: &mut P,
 ) -> Result<Ending, ProgramFault>
     ensures { IfErr result (λ e. keeps_files e ≡ true → F.written files.new ≡ F.written files.old) }
@@ -127,12 +128,12 @@ fn run_volumes<F: Traces, R: Read, W: Write>(
     alloc: Global,
     files: &mut F,
     reader: &mut R,
-    writer: &mut W,
+    writer: &mut Counted<W>,
     asked: DeckRun,
 ) -> Result<Ending, ProgramFault>
     ensures keeps { IfErr result (λ e. keeps_files e ≡ true → F.written files.new ≡ F.written files.old) }
     ensures runs { RunsOrStops result asked.entry.volumes.items (F.written files.old) (F.written files.new)
-        (W.contents writer.old) (W.contents writer.new) }
+        (seen_by W.contents writer.old) (seen_by W.contents writer.new) }
 {
     let volumes = asked.volumes.as_slice();
     let mut tracer = begin_trace(alloc, files, &asked)?;
@@ -150,7 +151,7 @@ fn run_volumes<F: Traces, R: Read, W: Write>(
 fn check_volume<F: ImageFiles, W: Write, P: Progress>(
     alloc: Global,
     files: &mut F,
-    writer: &mut W,
+    writer: &mut Counted<W>,
     progress: &mut P,
     paths: &[&str],
 ) -> Result<Ending, ProgramFault>
@@ -164,16 +165,12 @@ fn check_volume<F: ImageFiles, W: Write, P: Progress>(
 }
 
 // Prints a text, and leaves none of it held back.
-fn tell<W: Write>(writer: &mut W, text: &str) -> Result<Ending, ProgramFault>
-    ensures printed { IfOk result (λ ending. (ending ≡ Ending.Done) × Appends (W.contents writer.old) (W.contents writer.new) text.now) }
-    ensures fault { IfErr result (λ e. e ≡ ProgramFault.Job JobFault.Write) }
+fn tell<W: Write>(writer: &mut Counted<W>, text: &str) -> Result<Ending, ProgramFault>
+    ensures { Tells result text.now (seen_by W.contents writer.old) (seen_by W.contents writer.new) }
 {
-    match write!(writer, "{text}") {
-        Ok(()) => match writer.flush() {
-            Ok(()) => Ok(Ending::Done),
-            Err(_) => Err(ProgramFault::Job(JobFault::Write)),
-        },
-        Err(_) => Err(ProgramFault::Job(JobFault::Write)),
+    match write_flushed(writer, text.as_bytes()) {
+        Ok(()) => Ok(Ending::Done),
+        Err(WriteFault) => Err(ProgramFault::Job(JobFault::Write)),
     }
 }
 

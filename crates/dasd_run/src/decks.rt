@@ -1,14 +1,16 @@
 //! A deck is read and run, and its faults are told in more words.
 
 ghost use Rattle.std.specs.Prelude.{◌≡◌};
+ghost use Rattle.counted_io.specs.Streams.{seen_by};
 ghost use Rattle.s360_deck.specs.Runs.{StaysUnlessRun};
 ghost use Rattle.dasd_run.specs.Runs.{RunsText};
 
 use crate::remarks::{Remark, first_word};
 use crate::runs::Disks;
+use counted_io::Counted;
 use dasd_jobs::{FileFault, ImageFiles};
 use dasd_words::operand_rule;
-use s360_deck::{DeckFault, RunFault, run, run_watched};
+use s360_deck::{DeckFault, RunFault, run_counted, run_watched};
 use std::alloc::Global;
 use std::io::{Read, Write};
 use trace_lines::Tracer;
@@ -50,22 +52,22 @@ pub(crate) fn read_deck<F: ImageFiles, R: Read>(
 ///
 /// # Errors
 ///
-/// What stopped it. No event has run, but with a write fault.
+/// What stopped it. No event has run, but with a write fault, which comes exactly where a write failed or the last flush.
 pub(crate) fn run_text<W: Write, T: Write + Drop>(
     alloc: Global,
-    writer: &mut W,
+    writer: &mut Counted<W>,
     text: &[u8],
     channel: &mut Disks,
     tracer: &mut Option<Tracer<T>>,
 ) -> Result<(), RunFault>
-    ensures runs { RunsText result text.now channel.old channel.new (W.contents writer.old) (W.contents writer.new) }
+    ensures runs { RunsText result text.now channel.old channel.new (seen_by W.contents writer.old) (seen_by W.contents writer.new) }
     ensures no_event { StaysUnlessRun result channel.old channel.new }
     ensures nothing_written { StaysUnlessRun result writer.old writer.new }
 {
-    let mut unread = text;
+    let mut unread = Counted::new(text);
     match tracer {
         Some(tracer) => run_watched(alloc, &mut unread, writer, channel, tracer),
-        None => run(alloc, &mut unread, writer, channel),
+        None => run_counted(alloc, &mut unread, writer, channel),
     }
 }
 

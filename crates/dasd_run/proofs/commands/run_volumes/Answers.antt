@@ -2,6 +2,7 @@ use Rattle.std.proofs.Common.{◌≡◌, ◌∙◌, List, inl, subst, refl}
 use Rattle.std.specs.List.{AllZip}
 use Rattle.std.proofs.lemmas.Result.{err_from_is_err_and}
 use Rattle.dasd_words.specs.declared.volumes.Volume.{Volume}
+use Rattle.counted_io.specs.Streams.{seen_by}
 use Rattle.dasd_jobs.specs.Written.{Replaced}
 use Rattle.dasd_run.specs.Runs.{IsDriveOf}
 use Rattle.dasd_run.specs.Saves.{Concludes}
@@ -22,7 +23,7 @@ returns-in_err-conclude-clause-runs g c =
       run = r;
       last = c.run_text-run.new.channel;
       runs = c.run_text-run.ensures.runs;
-      unless_run = stays_seen g.W.Write.contents r c.args.writer.now c.run_text-run.new.writer c.run_text-run.ensures.nothing_written;
+      unless_run = stays_seen (seen_by g.W.Write.contents) r c.args.writer.now c.run_text-run.new.writer c.run_text-run.ensures.nothing_written;
       concluded = c.conclude.result;
       concludes =
           subst (λ (vs : List Volume). Concludes r c.conclude.result vs c.run_text-run.new.channel (written c.args.files.now) (written c.conclude.new.files)) c.as_slice-volumes.ensures.value
@@ -46,7 +47,7 @@ returns-in_err-traced-clause-runs g c =
       run = r;
       last = c.run_text-run.new.channel;
       runs = c.run_text-run.ensures.runs;
-      unless_run = stays_seen g.W.Write.contents r c.args.writer.now c.run_text-run.new.writer c.run_text-run.ensures.nothing_written;
+      unless_run = stays_seen (seen_by g.W.Write.contents) r c.args.writer.now c.run_text-run.new.writer c.run_text-run.ensures.nothing_written;
       concluded = c.conclude.result;
       concludes =
           subst (λ (vs : List Volume). Concludes r c.conclude.result vs c.run_text-run.new.channel (written c.args.files.now) (written c.conclude.new.files)) c.as_slice-volumes.ensures.value
