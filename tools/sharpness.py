@@ -62,6 +62,7 @@ NO_RUN_SHOWS = {
 }
 PROGRAM = "dasd_cmd"
 HEAD = re.compile(r"^(?P<indent> *)(?P<before>(?:pub(?:\([a-z]+\))? )?(?:const )?)fn (?P<name>\w+)", re.M)
+CALL = re.compile(r"^if crate::wrong_body::number\(\) == .*\n", re.M)
 NUMBER_MADE = re.compile(r'^(define internal [^\n]*@"\w+::wrong_body::number"\([^\n]*\)[^\n{]*)\{\n.*?^\}\n', re.M | re.S)
 NUMBER = """//! Which wrong body is taken.
 
@@ -174,17 +175,25 @@ def read_edit(path):
     return file, pairs
 
 
+def right_one(text, old):
+    """The function at hand in which this text stands, as `function_at` answers it: no wrong copy that was planted before."""
+    for place in re.finditer(re.escape(old), text):
+        found = function_at(text, place.start())
+        if found and "_wrong_" not in found[0]["name"]:
+            return found
+    return None
+
+
 def beside(text, pairs, number):
     """The file with a wrong copy of the function behind the right one, which calls it where its number is asked for; or none."""
-    place = text.find(pairs[0][0])
-    found = function_at(text, place) if place >= 0 else None
+    found = right_one(text, pairs[0][0])
     if not found:
         return None
     head, body, end = found
     blocks = re.findall(r"^(?:unsafe )?impl\b[^\n]*", text[: head.start()], re.M)
     if head["indent"] and blocks and " for " in blocks[-1]:
         return None
-    whole, called = text[head.start() : end], arguments(text, head)
+    whole, called = CALL.sub("", text[head.start() : end]), arguments(text, head)
     if called is None or any(old not in whole for old, _ in pairs):
         return None
     wrong = whole
@@ -194,7 +203,7 @@ def beside(text, pairs, number):
     wrong = HEAD.sub(lambda it: f"{it['indent']}fn {name}" if it["name"] == head["name"] else it[0], wrong, count=1)
     receiver, names = called
     receiver = receiver or ("Self::" if head["indent"] else "")
-    taken = f"if crate::wrong_body::number() == {number} {{ return {receiver}{name}({', '.join(names)}); }}\n"
+    taken = f"if crate::wrong_body::number() == {number} {{ return {receiver}{name}({', '.join(names)}); }}\n"  # as CALL reads it
     return text[:body] + taken + text[body:end] + "\n" + wrong + text[end:]
 
 

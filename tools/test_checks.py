@@ -27,7 +27,7 @@ PAGES = {
     "crates/low/specs/Other.antt": "",
 }
 COPIES = {"README.md": check_version.COPIES["README.md"], "CHANGELOG.md": check_version.COPIES["CHANGELOG.md"]}
-# A crate with two wrong bodies of one function, and three that can't stand beside a right one.
+# A crate with wrong bodies of two functions, one of which reads as the other does, and three that can't stand beside a right one.
 BODIES = {
     "crates/low/src/lib.rt": """mod trait_of;
 
@@ -35,6 +35,10 @@ pub fn least(one: u32, other: u32) -> u32
     ensures { result ≡ min one other }
 {
     if one < other { one } else { other }
+}
+
+pub fn most(one: u32, other: u32) -> u32 {
+    if other < one { one } else { other }
 }
 """,
     "crates/low/src/trait_of.rt": """impl Least for Pair {
@@ -46,6 +50,7 @@ pub fn least(one: u32, other: u32) -> u32
     "crates/low/specs/Word.antt": "word = 1\n",
     "crates/low/must-fail/always_the_first.edit": "file: src/lib.rt\nold: { other }\nnew: { one }\n",
     "crates/low/must-fail/greatest.edit": "file: src/lib.rt\nold: one < other\nnew: other < one\n",
+    "crates/low/must-fail/most_is_least.edit": "file: src/lib.rt\nold: if other < one\nnew: if one < other\n",
     "crates/low/must-fail/another_definition.edit": "file: specs/Word.antt\nold: 1\nnew: 2\n",
     "crates/low/must-fail/method_of_a_trait.edit": "file: src/trait_of.rt\nold: self.one\nnew: self.other\n",
     "tools/wrong_bodies/suite/always_the_second.edit": "file: crates/low/src/lib.rt\nold: { one }\nnew: { other }\n",
@@ -124,23 +129,30 @@ class WrongBodies(unittest.TestCase):
             sharpness.TOP = Path(folder)
             planted, left_out = sharpness.plant(Path(folder), ["low"], "suite")
             code = Path(folder, "crates/low/src/lib.rt").read_text(encoding="utf-8")
-        self.assertEqual(list(planted.values()), ["low/always_the_first", "low/greatest", "suite: always_the_second"])
+        bodies = [
+            ("low/always_the_first", "least", "if one < other { one } else { one }"),
+            ("low/greatest", "least", "if other < one { one } else { other }"),
+            ("low/most_is_least", "most", "if one < other { one } else { other }"),
+            ("suite: always_the_second", "least", "if one < other { other } else { other }"),
+        ]
+        self.assertEqual(list(planted.values()), [name for name, _, _ in bodies])
         self.assertEqual(left_out, ["low/another_definition", "low/method_of_a_trait", "suite: stale"])
         self.assertTrue(code.startswith("mod wrong_body;\nmod trait_of;\n"))
-        bodies = {1: "if one < other { one } else { one }", 2: "if other < one { one } else { other }", 3: "if one < other { other } else { other }"}
-        for number, body in bodies.items():
-            head = f"fn least_wrong_{number}(one: u32, other: u32) -> u32\n"
-            self.assertEqual(code.count(head), 1)
-            self.assertEqual(code[code.index(head) :].partition("\n}\n")[0].splitlines()[-1].strip(), body)
-            call = f"if crate::wrong_body::number() == {number} {{ return least_wrong_{number}(one, other); }}\n"
-            self.assertIn(call, code[: code.index("fn least_wrong_")])
+        for number, (_, function, body) in enumerate(bodies, 1):
+            wrong = f"{function}_wrong_{number}"
+            call = f"if crate::wrong_body::number() == {number} {{ return {wrong}(one, other); }}\n"
+            right = code[code.index(f"pub fn {function}(") :].partition("\n}\n")[0]
+            self.assertIn(call, right)
+            copy = code[code.index(f"\nfn {wrong}(") :].partition("\n}\n")[0]
+            self.assertEqual(copy.splitlines()[-1].strip(), body)
+            self.assertNotIn("wrong_body", copy)
 
     def test_no_body_that_no_run_shows(self):
         with tempfile.TemporaryDirectory() as folder:
             write(folder, BODIES)
             sharpness.TOP, sharpness.NO_RUN_SHOWS = Path(folder), {"low/greatest": "it is so"}
             planted, left_out = sharpness.plant(Path(folder), ["low"], "another")
-        self.assertEqual(list(planted.values()), ["low/always_the_first"])
+        self.assertEqual(list(planted.values()), ["low/always_the_first", "low/most_is_least"])
         self.assertIn("low/greatest", left_out)
 
 
