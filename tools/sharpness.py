@@ -1,5 +1,5 @@
 #!/usr/bin/env python3
-"""Measures how sharp the suites are: which of the wrong bodies that stand in must-fail edits a program of tests catches.
+"""Measures how sharp the suites are: which wrong bodies a program of tests catches, of those that stand in must-fail edits.
 
     tools/sharpness.py [--crates CRATE,..] SUITE..
 
@@ -9,7 +9,11 @@ watch (or of those named) are put beside the right ones, in one unproved build (
 of them is taken; the program is then run once a number. A wrong body is caught if what the program prints or its status is another, or
 if it does not end in the time that it has. For each suite one line tells how many were caught, and then which were not.
 
-What stands outside a function (an edit of a definition, of a table, or of a function of a trait) is not tried, and is counted.
+A suite may have wrong bodies of its own in tools/wrong_bodies/SUITE: files of the form of a must-fail edit, whose `file:` begins at
+`crates`. They stand for what no must-fail edit shows, and the gate does not look at them.
+
+What stands outside a function (an edit of a definition, of a table, or of a function of a trait) is not tried, and is counted; so is
+what NO_RUN_SHOWS names.
 NOTHING THAT IS BUILT HERE IS PROVED, and the gate does not run this.
 """
 
@@ -49,8 +53,16 @@ SCRIPTS = {
     "differ": ["conformance/differ.py", "--lists", "200", "model", "dasd=MADE"],
     "real_files": ["tools/real_files.py", "--built", "MADE"],
 }
+# Wrong bodies that no run of a suite can show, and why.
+NO_RUN_SHOWS = {
+    "ckd_image/failure_not_counted": "only proofs read that count",
+    "s360_words/caw_takes_any_low_bits": "the fetch of the first word refuses such an address with the same answer",
+    "ckd_slot/bytes_behind_the_end_mark_are_left": "no drive puts bytes behind an end mark; the contract alone leaves it open",
+    "ckd_position/search_compares_at_most_four_bytes": "no drive asks that function: it compares piece by piece, by another",
+}
 PROGRAM = "dasd_cmd"
 HEAD = re.compile(r"^(?P<indent> *)(?P<before>(?:pub(?:\([a-z]+\))? )?(?:const )?)fn (?P<name>\w+)", re.M)
+CALL = re.compile(r"^if crate::wrong_body::number\(\) == .*\n", re.M)
 NUMBER_MADE = re.compile(r'^(define internal [^\n]*@"\w+::wrong_body::number"\([^\n]*\)[^\n{]*)\{\n.*?^\}\n', re.M | re.S)
 NUMBER = """//! Which wrong body is taken.
 
@@ -163,17 +175,25 @@ def read_edit(path):
     return file, pairs
 
 
+def right_one(text, old):
+    """The function at hand in which this text stands, as `function_at` answers it: no wrong copy that was planted before."""
+    for place in re.finditer(re.escape(old), text):
+        found = function_at(text, place.start())
+        if found and "_wrong_" not in found[0]["name"]:
+            return found
+    return None
+
+
 def beside(text, pairs, number):
-    """The file with a wrong copy of the function beside the right one, which calls it where its number is asked for; or none."""
-    place = text.find(pairs[0][0])
-    found = function_at(text, place) if place >= 0 else None
+    """The file with a wrong copy of the function behind the right one, which calls it where its number is asked for; or none."""
+    found = right_one(text, pairs[0][0])
     if not found:
         return None
     head, body, end = found
     blocks = re.findall(r"^(?:unsafe )?impl\b[^\n]*", text[: head.start()], re.M)
     if head["indent"] and blocks and " for " in blocks[-1]:
         return None
-    whole, called = text[head.start() : end], arguments(text, head)
+    whole, called = CALL.sub("", text[head.start() : end]), arguments(text, head)
     if called is None or any(old not in whole for old, _ in pairs):
         return None
     wrong = whole
@@ -183,32 +203,46 @@ def beside(text, pairs, number):
     wrong = HEAD.sub(lambda it: f"{it['indent']}fn {name}" if it["name"] == head["name"] else it[0], wrong, count=1)
     receiver, names = called
     receiver = receiver or ("Self::" if head["indent"] else "")
-    taken = f"if crate::wrong_body::number() == {number} {{ return {receiver}{name}({', '.join(names)}); }}\n"
-    return text[: head.start()] + wrong + "\n" + text[head.start() : body] + taken + text[body:]
+    taken = f"if crate::wrong_body::number() == {number} {{ return {receiver}{name}({', '.join(names)}); }}\n"  # as CALL reads it
+    return text[:body] + taken + text[body:end] + "\n" + wrong + text[end:]
 
 
-def plant(top, crates):
-    """Puts the wrong bodies of these crates beside the right ones in a copy; answers their names by number, and those left out."""
-    planted, left_out = {}, []
+def edits_of(top, crates, suite):
+    """The edits to try, each with the name that is printed and the folder in which its `file:` begins."""
     for crate in crates:
-        folder, before = top / "crates" / crate, len(planted)
+        folder = top / "crates" / crate
         for edit in sorted((folder / "must-fail").glob("*.edit")):
-            file, pairs = read_edit(edit)
-            number, source = len(planted) + 1, folder / file
-            text = source.read_text() if file.startswith("src/") else None
-            changed = beside(text, pairs, number) if text else None
-            if changed is None:
-                left_out.append(f"{crate}/{edit.stem}")
-                continue
-            source.write_text(changed)
-            planted[number] = f"{crate}/{edit.stem}"
-        if len(planted) > before:
-            (folder / "src" / "wrong_body.rt").write_text(NUMBER)
-            root = next(it for it in (folder / "src" / "lib.rt", folder / "src" / "main.rt") if it.exists())
-            lines = root.read_text()
-            at = re.search(r"^(pub )?mod ", lines, re.M)
-            at = at.start() if at else len(lines)
-            root.write_text(lines[:at] + "mod wrong_body;\n" + lines[at:])
+            yield f"{crate}/{edit.stem}", folder, edit
+    for edit in sorted((TOP / "tools" / "wrong_bodies" / suite).glob("*.edit")):
+        yield f"{suite}: {edit.stem}", top, edit
+
+
+def make_number(folder):
+    """Gives a crate the function that says which wrong body is taken."""
+    (folder / "src" / "wrong_body.rt").write_text(NUMBER)
+    root = next(it for it in (folder / "src" / "lib.rt", folder / "src" / "main.rt") if it.exists())
+    lines = root.read_text()
+    at = re.search(r"^(pub )?mod ", lines, re.M)
+    at = at.start() if at else len(lines)
+    root.write_text(lines[:at] + "mod wrong_body;\n" + lines[at:])
+
+
+def plant(top, crates, suite):
+    """Puts wrong bodies beside the right ones in a copy; answers their names by number, and those left out."""
+    planted, left_out, changed_crates = {}, [], set()
+    for name, folder, edit in edits_of(top, crates, suite):
+        file, pairs = read_edit(edit)
+        source = folder / file
+        number, code = len(planted) + 1, source.relative_to(top / "crates").parts
+        changed = beside(source.read_text(), pairs, number) if code[1] == "src" and name not in NO_RUN_SHOWS else None
+        if changed is None:
+            left_out.append(name)
+            continue
+        source.write_text(changed)
+        planted[number] = name
+        changed_crates.add(code[0])
+    for crate in changed_crates:
+        make_number(top / "crates" / crate)
     return planted, left_out
 
 
@@ -259,7 +293,7 @@ def measure(tools, suite, crates):
         shutil.copy(TOP / "crates.txt", top)
         shutil.copy(TOP / "HANDLES", top)
         watched, program = crates or LAYERS.get(suite, []), PROGRAM if suite in SCRIPTS else suite
-        planted, left_out = plant(top, [it for it in [*crates_below(program), program] if it in watched])
+        planted, left_out = plant(top, [it for it in [*crates_below(program), program] if it in watched], suite)
         if not planted:
             sys.exit(f"sharpness.py: no wrong body of {suite} can be tried")
         made = room / "suite"

@@ -1,5 +1,5 @@
 #!/usr/bin/env python3
-"""Tests of check_documents.py and check_version.py, over a small repository that is made for each: `tools/test_checks.py`."""
+"""Tests of check_documents.py, check_version.py and sharpness.py, over a small repository that is made for each: `tools/test_checks.py`."""
 
 import contextlib
 import io
@@ -13,6 +13,7 @@ sys.path.insert(0, str(Path(__file__).resolve().parent))
 
 import check_documents
 import check_version
+import sharpness
 
 PAGES = {
     "crates.txt": "# crates\nlow:\n",
@@ -26,6 +27,44 @@ PAGES = {
     "crates/low/specs/Other.antt": "",
 }
 COPIES = {"README.md": check_version.COPIES["README.md"], "CHANGELOG.md": check_version.COPIES["CHANGELOG.md"]}
+# A crate with wrong bodies of two functions, one of which reads as the other does, and three that can't stand beside a right one.
+BODIES = {
+    "crates/low/src/lib.rt": """mod trait_of;
+
+pub fn least(one: u32, other: u32) -> u32
+    ensures { result ≡ min one other }
+{
+    if one < other { one } else { other }
+}
+
+pub fn most(one: u32, other: u32) -> u32 {
+    if other < one { one } else { other }
+}
+""",
+    "crates/low/src/trait_of.rt": """impl Least for Pair {
+    fn least(&self) -> u32 {
+        self.one
+    }
+}
+""",
+    "crates/low/specs/Word.antt": "word = 1\n",
+    "crates/low/must-fail/always_the_first.edit": "file: src/lib.rt\nold: { other }\nnew: { one }\n",
+    "crates/low/must-fail/greatest.edit": "file: src/lib.rt\nold: one < other\nnew: other < one\n",
+    "crates/low/must-fail/most_is_least.edit": "file: src/lib.rt\nold: if other < one\nnew: if one < other\n",
+    "crates/low/must-fail/another_definition.edit": "file: specs/Word.antt\nold: 1\nnew: 2\n",
+    "crates/low/must-fail/method_of_a_trait.edit": "file: src/trait_of.rt\nold: self.one\nnew: self.other\n",
+    "tools/wrong_bodies/suite/always_the_second.edit": "file: crates/low/src/lib.rt\nold: { one }\nnew: { other }\n",
+    "tools/wrong_bodies/suite/stale.edit": "file: crates/low/src/lib.rt\nold: not there\nnew: there\n",
+}
+
+
+def write(top, files):
+    """Makes files below a folder."""
+    for name, text in files.items():
+        page = Path(top, name)
+        page.parent.mkdir(parents=True, exist_ok=True)
+        if text is not None:
+            page.write_text(text, encoding="utf-8")
 
 
 class Checks(unittest.TestCase):
@@ -33,11 +72,7 @@ class Checks(unittest.TestCase):
 
     def run_check(self, script, changed):
         with tempfile.TemporaryDirectory() as folder:
-            for name, text in {**PAGES, **changed}.items():
-                page = Path(folder, name)
-                page.parent.mkdir(parents=True, exist_ok=True)
-                if text is not None:
-                    page.write_text(text, encoding="utf-8")
+            write(folder, {**PAGES, **changed})
             printed = io.StringIO()
             script.TOP = Path(folder)
             with contextlib.redirect_stdout(printed):
@@ -83,6 +118,42 @@ class Checks(unittest.TestCase):
         self.finds(check_version, {})
         self.finds(check_version, {"README.md": "Version 2.3.3.\n"}, "README.md: 2.3.3, and VERSION has 2.3.4")
         self.finds(check_version, {"README.md": "\n"}, "README.md: no version, and VERSION has 2.3.4")
+
+
+class WrongBodies(unittest.TestCase):
+    """What `sharpness.py` plants."""
+
+    def test_bodies_stand_beside_the_right_one(self):
+        with tempfile.TemporaryDirectory() as folder:
+            write(folder, BODIES)
+            sharpness.TOP = Path(folder)
+            planted, left_out = sharpness.plant(Path(folder), ["low"], "suite")
+            code = Path(folder, "crates/low/src/lib.rt").read_text(encoding="utf-8")
+        bodies = [
+            ("low/always_the_first", "least", "if one < other { one } else { one }"),
+            ("low/greatest", "least", "if other < one { one } else { other }"),
+            ("low/most_is_least", "most", "if one < other { one } else { other }"),
+            ("suite: always_the_second", "least", "if one < other { other } else { other }"),
+        ]
+        self.assertEqual(list(planted.values()), [name for name, _, _ in bodies])
+        self.assertEqual(left_out, ["low/another_definition", "low/method_of_a_trait", "suite: stale"])
+        self.assertTrue(code.startswith("mod wrong_body;\nmod trait_of;\n"))
+        for number, (_, function, body) in enumerate(bodies, 1):
+            wrong = f"{function}_wrong_{number}"
+            call = f"if crate::wrong_body::number() == {number} {{ return {wrong}(one, other); }}\n"
+            right = code[code.index(f"pub fn {function}(") :].partition("\n}\n")[0]
+            self.assertIn(call, right)
+            copy = code[code.index(f"\nfn {wrong}(") :].partition("\n}\n")[0]
+            self.assertEqual(copy.splitlines()[-1].strip(), body)
+            self.assertNotIn("wrong_body", copy)
+
+    def test_no_body_that_no_run_shows(self):
+        with tempfile.TemporaryDirectory() as folder:
+            write(folder, BODIES)
+            sharpness.TOP, sharpness.NO_RUN_SHOWS = Path(folder), {"low/greatest": "it is so"}
+            planted, left_out = sharpness.plant(Path(folder), ["low"], "another")
+        self.assertEqual(list(planted.values()), ["low/always_the_first", "low/most_is_least"])
+        self.assertIn("low/greatest", left_out)
 
 
 if __name__ == "__main__":

@@ -2,10 +2,11 @@
 
 use crate::stage::Disks;
 use crate::words::device_address;
-use anyhow::{Result, bail};
-use s360_channel::{SubchannelView, View};
+use anyhow::{Context, Result, bail};
+use s360_channel::{SubchannelView, View, Watched};
 use s360_deck::AnswerLine;
 use s360_events::Answer;
+use s360_words::Storage;
 use std::alloc::Global;
 use std::fmt;
 use test_rows::{address, byte, bytes, words_of};
@@ -23,6 +24,13 @@ pub(crate) fn call(alloc: Global, channel: &mut Disks, line: &str) -> Result<Str
             let kept = channel.poke(address(at)?, bytes(alloc, body)?.as_slice());
             line_of(alloc, &Answer::Store(kept.is_ok()))
         }
+        ["detach", device] => Ok(match channel.detach(byte(device)?) {
+            Ok(_) => "taken off\n".to_string(alloc)?,
+            Err(fault) => format!(in alloc; "{fault}\n")?,
+        }),
+        ["image", device] => image(alloc, channel, byte(device)?),
+        ["program"] => program(alloc, channel),
+        ["exchange", at] => exchange(alloc, channel, address(at)?),
         words => line_of(alloc, &call_device(channel, words)?),
     }
 }
@@ -71,6 +79,43 @@ fn peek(alloc: Global, channel: &Disks, at: &str, len: &str) -> Result<String> {
             Ok(format!(in alloc; "{digits}\n")?)
         }
     }
+}
+
+// The heads and the cylinders of the image at an address.
+fn image(alloc: Global, channel: &Disks, device: u8) -> Result<String> {
+    Ok(match channel.image(device) {
+        None => "no drive\n".to_string(alloc)?,
+        Some(image) => {
+            let geometry = image.geometry();
+            let (heads, cylinders) = (geometry.model.heads(), geometry.cylinders);
+            format!(in alloc; "{heads} heads, {cylinders} cylinders\n")?
+        }
+    })
+}
+
+// The program that runs: where its last word was and its next one is, and the residual count.
+fn program(alloc: Global, channel: &Disks) -> Result<String> {
+    Ok(match channel.program() {
+        None => "no program\n".to_string(alloc)?,
+        Some(Watched { device, program }) => {
+            let (last, next, residual) = (program.last, program.next, program.residual);
+            format!(in alloc; "program {device:02X} {last:08X} {next:08X} {residual}\n")?
+        }
+    })
+}
+
+// Exchanges storage for another one, in which the block of an address has the key 5, and back; the keys that the channel tells.
+fn exchange(alloc: Global, channel: &mut Disks, at: u32) -> Result<String> {
+    let mut other = Storage::new(alloc, channel.storage().size())?;
+    if !other.set_key(at, 5) || channel.exchange_storage(&mut other).is_err() {
+        bail!("not exchanged");
+    }
+    let key = channel.key(at).context("outside storage")?;
+    if channel.exchange_storage(&mut other).is_err() {
+        bail!("not exchanged again");
+    }
+    let back = channel.key(at).context("outside storage")?;
+    Ok(format!(in alloc; "key {key}, and then key {back}\n")?)
 }
 
 // What the channel shows: `working 91, 90 InMotion, 91 AtRest`.

@@ -23,6 +23,8 @@
 //! | `> SIO 190`, `>bytes 0A` | a line, or bytes, of a deck. Lines without others between are one deck |
 //! | `reader fails`, `writer 12` | the read behind the deck fails; the write behind so many bytes fails |
 //! | `call sio 1190` | a call of the channel |
+//! | `call detach 90`, `call image 90` | a drive is taken off, or why not; heads and cylinders of its image |
+//! | `call program`, `call exchange 800` | where the program's last and next words are, and its residual count; a storage whose block has key 5 takes the place of the channel's, and its own comes back: the keys that are told |
 //! | `< INT NONE` | a line that is printed |
 //! | `! read fault` | what is reported of a refusal |
 //! | `sense 190 100000000000` | a Sense starts, runs to its end, and gives these bytes |

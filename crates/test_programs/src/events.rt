@@ -148,7 +148,18 @@ impl Player {
         }))
     }
 
-    // What the processor stores, and what it finds in the sense bytes.
+    // Stores the channel status word of the last ending, as an interruption does; whether there was one.
+    fn stores(&mut self) -> bool {
+        match self.last {
+            Some(ended) => {
+                self.machine.storage().put_csw(ended.csw);
+                true
+            }
+            None => false,
+        }
+    }
+
+    // What the processor stores and finds in storage, what is seen of the program that runs, and the sense bytes.
     fn processor(&mut self, alloc: Global, words: &[&str]) -> Result<bool> {
         Ok(match words {
             ["at", at, body] => {
@@ -159,6 +170,18 @@ impl Player {
                 .machine
                 .storage()
                 .set_key(address(at)?, byte(key)? % 16),
+            ["stored"] => self.stores(),
+            ["outside", at, len] => {
+                let len = len.parse::<u32>()?;
+                self.machine.storage().slice(address(at)?, len).is_none()
+            }
+            ["seen", last, next, residual] => {
+                let place = (address(last)?, address(next)?, residual.parse::<u16>()?);
+                match self.machine.seen() {
+                    Some(seen) => (seen.last, seen.next, seen.residual) == place,
+                    None => false,
+                }
+            }
             ["sense", first, second] => {
                 self.machine.sense() == [byte(first)?, byte(second)?, 0, 0, 0, 0]
             }

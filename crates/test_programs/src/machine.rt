@@ -7,6 +7,7 @@ ghost use Rattle.test_programs.specs.Standing.{if-stands-prop};
 use anyhow::{Result, bail};
 use ckd_drive::{Drive, Phase};
 use s360_program::program::{Advance, Running, Start};
+use s360_program::view::ProgramView;
 use s360_words::{Csw, Storage};
 use std::alloc::Global;
 use test_rows::{Failure, RowFiles, RowStore, only_store};
@@ -104,6 +105,14 @@ impl Machine {
         let taken = running.take_pci();
         self.running = Some(running);
         (asked == taken.is_some()).then_some(taken)
+    }
+
+    /// What is seen of the program that runs.
+    pub(crate) fn seen(&self) -> Option<ProgramView> {
+        match &self.running {
+            Some(running) => Some(running.view()),
+            None => None,
+        }
     }
 
     /// The processor's storage.

@@ -2,7 +2,7 @@
 
 use crate::record_before;
 use anyhow::{Result, bail};
-use ckd_track::{last_charge, r0_charge, read_slot};
+use ckd_track::{Geometry, last_charge, r0_charge, read_slot};
 use std::alloc::Global;
 use test_rows::model_of;
 
@@ -11,6 +11,22 @@ pub(crate) fn drive(alloc: Global, model: &str) -> Result<String> {
     let model = model_of(model)?;
     let (heads, capacity, size) = (model.heads(), model.capacity(), model.slot_size());
     Ok(format!(in alloc; "{heads} heads, {capacity} bytes, slots of {size}")?)
+}
+
+/// The number of a track, and how many tracks its volume has.
+pub(crate) fn track(
+    alloc: Global,
+    model: &str,
+    cylinders: &str,
+    place: [&str; 2],
+) -> Result<String> {
+    let geometry = Geometry::new(model_of(model)?, cylinders.parse::<u16>()?);
+    let (cylinder, head) = (place[0].parse::<u16>()?, place[1].parse::<u16>()?);
+    if cylinder >= geometry.cylinders || head >= geometry.model.heads() {
+        return Ok("no such track".to_string(alloc)?);
+    }
+    let (track, tracks) = (geometry.track_at(cylinder, head), geometry.tracks());
+    Ok(format!(in alloc; "{track} of {tracks}")?)
 }
 
 /// What a record with these lengths takes.

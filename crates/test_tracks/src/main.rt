@@ -8,6 +8,7 @@
 //! |---|---|
 //! | `slot 00*12+08+00*8+FF*8` | none: the lines behind it ask of this slot |
 //! | `drive 2311` | tracks of a cylinder, capacity and slot size |
+//! | `track 2314 203 1 3` | the number of the track at this cylinder and head of a volume of so many cylinders, and how many tracks it has |
 //! | `charge 2311 10 100` | what a record with this key length and data length takes: where others follow it, as the last one, and as R0 |
 //! | `parts` | the home address, and the count, the key and the data of each record; or why the slot can not be read |
 //! | `index` | how many records a table has of the slot, their places, and what stands behind these; the table was full of 7 before |
@@ -17,6 +18,7 @@
 //! | `fits 2311 1 0 1740` | whether a record with these lengths fits behind record 1, or with `-` in its place as the only one |
 //! | `home 8000010002` | the slot behind a write of this home address |
 //! | `format 2311 1 0000000009020004 D2C5E8C1C2C3` | the slot behind a write of a record, of which count and areas are given; or that it is not written |
+//! | `zeros 120 10` | the slot behind so many zeros from a place on, as a write that is cut leaves them |
 //! | `data 2 C1*10`, `body 3 C1*13` | the slot behind a write of the data, or of the key and the data, of a record; or that it is not written |
 #![tactic(auto)]
 
@@ -50,6 +52,9 @@ fn main(rt: HostRuntime) -> Result<()> {
 fn answer(alloc: Global, slot: &[u8], line: &str) -> Result<String> {
     match words_of(alloc, line)?.as_slice() {
         ["drive", model] => charges::drive(alloc, model),
+        ["track", model, cylinders, cylinder, head] => {
+            charges::track(alloc, model, cylinders, [cylinder, head])
+        }
         ["charge", model, key, data] => charges::charge(alloc, model, key, data),
         ["used", model] => charges::used(alloc, slot, model),
         ["fits", model, after, key, data] => charges::fits(alloc, slot, [model, after, key, data]),

@@ -3,7 +3,10 @@
 use crate::record_before;
 use crate::spelling::spelled;
 use anyhow::{Context, Result, bail};
-use ckd_track::{DriveModel, fits, put_data, put_key_data, put_record, read_slot, write_ha};
+use ckd_track::{
+    DriveModel, clear_area, end_offset_of, fits, put_data, put_key_data, put_record, read_slot,
+    write_ha,
+};
 use std::alloc::Global;
 use test_rows::{bytes, model_of, number};
 
@@ -19,6 +22,7 @@ pub(crate) fn written(alloc: Global, slot: &[u8], words: &[&str]) -> Result<Stri
             let after = record_before(after)?;
             format_record(model_of(model)?, slot, after, count, areas.as_slice())
         }
+        ["zeros", at, n] => write_zeros(slot, number(at)?, number(n)?),
         ["data", i, data] => write_data(slot, number(i)?, bytes(alloc, data)?.as_slice()),
         ["body", i, body] => write_body(slot, number(i)?, bytes(alloc, body)?.as_slice()),
         _ => bail!("no such line"),
@@ -69,6 +73,20 @@ fn format_record(
         return false;
     }
     put_record(slot, after, count, areas);
+    true
+}
+
+// Writes zeros in the place of bytes before the end mark.
+fn write_zeros(slot: &mut [u8], at: usize, n: usize) -> bool {
+    if read_slot(slot).is_err() {
+        return false;
+    }
+    let end = end_offset_of(slot);
+    if at > end || n > end - at {
+        return false;
+    }
+    let zeros_from = slot.len();
+    clear_area(slot, at, n, end, zeros_from);
     true
 }
 
