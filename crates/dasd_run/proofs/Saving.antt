@@ -14,7 +14,8 @@ use Rattle.dasd_run.specs.declared.fault.ProgramFault.TheVariants.{Job}
 use Rattle.dasd_run.specs.Faults.{keeps_files}
 use Rattle.dasd_run.specs.Saves.{SavesAll, SavesVolume}
 
-abbrev Given : Type 0
+-- what stands beside a volume: the address of its drive and the image that was given back, if there is one
+abbrev pub Given : Type 0
 Given = Option (ℕ × ImageState)
 
 -- the pairs from a place on, where there is one

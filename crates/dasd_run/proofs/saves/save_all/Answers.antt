@@ -1,15 +1,11 @@
-use Rattle.std.proofs.Common.{◌≡◌, ◌∙◌, ℕ, List, subst, sym, Option, Ok, Err, None, slice_index_or, arith}
+use Rattle.std.proofs.Common.{◌≡◌, ◌∙◌, List, subst, sym, Ok, Err, None, slice_index_or, arith}
 use Rattle.std.proofs.lemmas.List.{get_or-set_other}
-use Rattle.ckd_image.specs.Image.{ImageState}
 use Rattle.dasd_words.specs.declared.volumes.Volume.{Volume}
 use Rattle.dasd_run.specs.declared.fault.ProgramFault.TheVariants.{Job}
 use Rattle.dasd_run.specs.Saves.{SavesVolume}
-use Rattle.dasd_run.proofs.Saving.{none_there, saved_there, stops_there, none_left}
+use Rattle.dasd_run.proofs.Saving.{Given, none_there, saved_there, stops_there, none_left}
 use Rattle.dasd_run.proofs.saves.save_all.Goals.{in-Some+in-Ok, in_default}
 use Rattle.dasd_run.proofs.saves.save_all.Goals as goal
-
-abbrev Given : Type 0
-Given = Option (ℕ × ImageState)
 
 pub returns : goal.returns
 returns g c =
