@@ -1,7 +1,8 @@
 /* bench.c - the works of crates/bench by whole channel programs, through the handle: what an emulator pays for a call of the library.
  *
  *     bench LETTER PASSES      LETTER: A B C D S U W, over a full volume of a 2314, as `bench channel LETTER PASSES` does it there;
- *                              or 1, a Read Data of 80 bytes behind a search, 1,000 times a pass, over one cylinder
+ *                              or over one cylinder, 1,000 times a pass and without a look at what was stored: 0, a Read R0, and
+ *                              1, a Read Data of 80 bytes behind a search that fails once
  *
  * Counted by callgrind, a pass is what `bench A 1` takes beyond `bench A 0`. It prints how many programs ended as they must. */
 #include <inttypes.h>
@@ -28,7 +29,8 @@ static void store(machine *m, uint32_t at, const void *bytes, size_t n) {
 }
 
 static void word(machine *m, unsigned code, unsigned address, unsigned flags, unsigned count) {
-    const uint8_t bytes[8] = {(uint8_t)code, 0, (uint8_t)(address >> 8), (uint8_t)address, (uint8_t)flags, 0, (uint8_t)(count >> 8), (uint8_t)count};
+    const uint8_t bytes[8] = {(uint8_t)code,  0, (uint8_t)(address >> 8), (uint8_t)address,
+                              (uint8_t)flags, 0, (uint8_t)(count >> 8),   (uint8_t)count};
     store(m, m->next, bytes, sizeof bytes);
     m->next += 8;
 }
@@ -79,9 +81,20 @@ static void run(machine *m) {
         m->otherwise++;
 }
 
+/* The three calls alone. */
+static void run_alone(machine *m) {
+    dasd_run ran;
+    if (dasd_sio(&m->d, ADDRESS) == 0 && dasd_run_on(&m->d, 1, UINT32_MAX, &ran) == DASD_DONE && dasd_tio(&m->d, ADDRESS) == 1)
+        m->ended++;
+    else
+        m->otherwise++;
+}
+
+static int is_small(char work) { return work == '0' || work == '1'; }
+
 /* The records that a work reads are written by programs. */
 static void prepare(machine *m, char work, unsigned cylinders) {
-    const unsigned records = work == 'D' || work == '1' ? 1 : RECORDS, data = work == 'D' ? LONG_DATA : work == '1' ? ONE_DATA : DATA;
+    const unsigned records = work == 'D' || is_small(work) ? 1 : RECORDS, data = work == 'D' ? LONG_DATA : is_small(work) ? ONE_DATA : DATA;
     static uint8_t body[LONG_DATA];
     memset(body, 0xC1, sizeof body);
     store(m, BUFFER, body, sizeof body);
@@ -99,7 +112,7 @@ static void prepare(machine *m, char work, unsigned cylinders) {
 
 /* The work's program. */
 static void build(machine *m, char work) {
-    if (work != '1') word(m, 0x07, OPERANDS, CHAIN, 6);
+    if (!is_small(work)) word(m, 0x07, OPERANDS, CHAIN, 6);
     switch (work) {
     case 'B': last(m, RECORDS, 0x1E, 8 + DATA); break;
     case 'C': last(m, HEADS * RECORDS, 0x86, DATA); break;
@@ -107,14 +120,15 @@ static void build(machine *m, char work) {
     case 'S': search(m, 0x39, 4), word(m, 0x16, BUFFER, CHAIN, 16), last(m, RECORDS, 0x06, DATA); break;
     case 'U': search(m, 0x31, 5), last(m, 1, 0x05, DATA); break;
     case 'W': search(m, 0x31, 5), format(m, RECORDS, DATA); break;
+    case '0': last(m, 1, 0x16, 16); break;
     case '1': search(m, 0x31, 5), last(m, 1, 0x06, ONE_DATA); break;
     default: search(m, 0x31, 5), last(m, RECORDS, 0x06, DATA);
     }
 }
 
 static void pass(machine *m, char work) {
-    if (work == '1') {
-        for (int i = 0; i < 1000; i++) run(m);
+    if (is_small(work)) {
+        for (int i = 0; i < 1000; i++) run_alone(m);
         return;
     }
     for (unsigned cylinder = 0; cylinder < CYLINDERS; cylinder++)
@@ -126,14 +140,14 @@ static void pass(machine *m, char work) {
 
 int main(int argc, char **argv) {
     machine m = {.d = DASD_NOTHING};
-    if (argc != 3 || strlen(argv[1]) != 1 || !strchr("ABCDSUW1", *argv[1])) {
-        fprintf(stderr, "usage: bench A|B|C|D|S|U|W|1 PASSES\n");
+    if (argc != 3 || strlen(argv[1]) != 1 || !strchr("ABCDSUW01", *argv[1])) {
+        fprintf(stderr, "usage: bench A|B|C|D|S|U|W|0|1 PASSES\n");
         return 2;
     }
-    const unsigned cylinders = *argv[1] == '1' ? 1 : CYLINDERS;
+    const unsigned cylinders = is_small(*argv[1]) ? 1 : CYLINDERS;
     if (dasd_new(&m.d, 65536, DASD_CHANNEL(1)) < 0 || dasd_attach_new(&m.d, ADDRESS, 2314, (uint16_t)cylinders) < 0) return 1;
     prepare(&m, *argv[1], cylinders);
-    operands(&m, 0, HEADS - 1, 1, 0, 0); /* where the last program left the arm: work 1 has no seek */
+    operands(&m, 0, HEADS - 1, 1, 0, 0); /* where the last program left the arm: small works have no seek */
     build(&m, *argv[1]);
     for (long left = atol(argv[2]); left > 0; left--) pass(&m, *argv[1]);
     printf("%s: %lu programs, %lu ended otherwise\n", argv[1], m.ended + m.otherwise, m.otherwise);
