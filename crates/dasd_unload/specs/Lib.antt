@@ -1,2 +1,2 @@
 pub mod Unloads
-pub mod Wanted
+pub mod Asked

@@ -4,7 +4,7 @@ ghost use Rattle.std.specs.Prelude.{◌≡◌, true, false, IfOk, IfErr, OnOk, O
 ghost use Rattle.std.specs.Option.{option_copied};
 ghost use Rattle.dasd_extract.specs.Walk.{Extracts, wanted};
 ghost use Rattle.dasd_unload.specs.Unloads.{UnloadsTo, is_of_job, leaves_a_file};
-ghost use Rattle.dasd_unload.specs.Wanted.{form_of, is_partitioned, IsNamed, IsMemberAt, StartsAt, UnloadsSet, ComesTo};
+ghost use Rattle.dasd_unload.specs.Asked.{form_of, is_partitioned, IsNamed, IsMemberAt, StartsAt, UnloadsSet, ComesTo};
 
 use crate::fault::{NO_MEMORY, UnloadFault, of_volume};
 use dasd_contents::{DataSet, find, read_contents};
