@@ -1,1 +1,2 @@
 pub mod Unloads
+pub mod Asked

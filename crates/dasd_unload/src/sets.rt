@@ -1,8 +1,10 @@
 //! A data set or a member of a partitioned one, unloaded from a volume.
 
-ghost use Rattle.std.specs.Prelude.{◌≡◌, true, false, IfErr};
-ghost use Rattle.dasd_extract.specs.Walk.{wanted};
+ghost use Rattle.std.specs.Prelude.{◌≡◌, true, false, IfOk, IfErr, OnOk, OnErr};
+ghost use Rattle.std.specs.Option.{option_copied};
+ghost use Rattle.dasd_extract.specs.Walk.{Extracts, wanted};
 ghost use Rattle.dasd_unload.specs.Unloads.{UnloadsTo, is_of_job, leaves_a_file};
+ghost use Rattle.dasd_unload.specs.Asked.{form_of, is_partitioned, IsNamed, IsMemberAt, StartsAt, UnloadsSet, ComesTo};
 
 use crate::fault::{NO_MEMORY, UnloadFault, of_volume};
 use dasd_contents::{DataSet, find, read_contents};
@@ -59,28 +61,45 @@ pub fn unload_set<F: ImageFiles, W: Write>(
     paths: &[&str],
     set: WantedSet,
 ) -> Result<(), UnloadFault>
+    ensures file { OnOk result (ComesTo (option_copied set.entry.target) (F.written files.old) (F.written files.new)) }
     ensures kept { IfErr result (λ e. leaves_a_file e ≡ false → F.written files.new ≡ F.written files.old) }
 {
     let mut volume = open_volume(alloc, files, paths).map_err(UnloadFault::Job)?;
-    let found = find_set(alloc, &mut volume, set.name)?;
+    let stop = unload_from(alloc, files, &mut volume, writer, set)?;
+    if stop.cause != Cause::EndOfFile {
+        return Err(UnloadFault::NotWhole(stop));
+    }
+    Ok(())
+}
+
+// Unloads a data set or a member of one from a volume, and says where its blocks end, and why.
+fn unload_from<F: ImageFiles, V: SlotReader, W: Write>(
+    alloc: Global,
+    files: &mut F,
+    volume: &mut V,
+    writer: &mut W,
+    set: WantedSet,
+) -> Result<Stop, UnloadFault>
+    ensures done { IfOk result (UnloadsSet set.entry.name.now (option_copied set.entry.member) set.entry.is_text (option_copied set.entry.target)
+        (V.volume volume.old) (F.written files.old) (F.written files.new) (W.contents writer.old) (W.contents writer.new)) }
+    ensures file { OnOk result (ComesTo (option_copied set.entry.target) (F.written files.old) (F.written files.new)) }
+    ensures kept { OnErr result (F.written files.new ≡ F.written files.old) }
+{
+    let found = find_set(alloc, volume, set.name)?;
     let Some(form) = form_of(&found.block, set.is_text) else {
         return Err(UnloadFault::NoRecordFormat);
     };
-    let start = find_start(alloc, &mut volume, &found, set.member)?;
+    let start = find_start(alloc, volume, &found, set.member)?;
     let source = Source {
         extents: found.extents.as_slice(),
         start,
         tracks: u16::MAX,
         form,
     };
-    let stop = match set.target {
-        Some(path) => unload_to(alloc, files, &mut volume, path, source)?.stop,
-        None => print(alloc, &mut volume, writer, source)?,
-    };
-    if stop.cause != Cause::EndOfFile {
-        return Err(UnloadFault::NotWhole(stop));
+    match set.target {
+        Some(path) => Ok(unload_to(alloc, files, volume, path, source)?.stop),
+        None => Ok(print(alloc, volume, writer, source)?),
     }
-    Ok(())
 }
 
 // The data set of a name.
@@ -88,11 +107,17 @@ fn find_set<V: SlotReader>(
     alloc: Global,
     volume: &mut V,
     name: &str,
-) -> Result<DataSet, UnloadFault> {
+) -> Result<DataSet, UnloadFault>
+    ensures named { IfOk result (IsNamed name.now (V.volume volume.old)) }
+    ensures kept { V.volume volume.new ≡ V.volume volume.old }
+{
     let Some(name) = data_set_name(name) else {
         return Err(UnloadFault::NoDataSet);
     };
-    let contents = read_contents(alloc, volume).map_err(|fault| of_volume(fault))?;
+    let contents = match read_contents(alloc, volume) {
+        Ok(contents) => contents,
+        Err(fault) => return Err(of_volume(fault)),
+    };
     match find(alloc, contents.found.blocks.as_slice(), &name) {
         Ok(Some(set)) => Ok(set),
         Ok(None) => Err(UnloadFault::NoDataSet),
@@ -101,7 +126,9 @@ fn find_set<V: SlotReader>(
 }
 
 /// How the blocks of a data set are written; none where they are to be lines, and its format is of no records.
-pub(crate) fn form_of(block: &DataSetBlock, is_text: bool) -> Option<Form> {
+pub(crate) fn form_of(block: &DataSetBlock, is_text: bool) -> Option<Form>
+    ensures { result ≡ form_of block.now is_text }
+{
     if !is_text {
         return Some(Form::Raw);
     }
@@ -109,7 +136,9 @@ pub(crate) fn form_of(block: &DataSetBlock, is_text: bool) -> Option<Form> {
 }
 
 /// Whether a data set has members.
-pub(crate) fn is_partitioned(block: &DataSetBlock) -> bool {
+pub(crate) fn is_partitioned(block: &DataSetBlock) -> bool
+    ensures { result ≡ is_partitioned block.now }
+{
     block.organisation & PARTITIONED != 0
 }
 
@@ -129,7 +158,10 @@ fn find_start<V: SlotReader>(
     volume: &mut V,
     set: &DataSet,
     member: Option<&str>,
-) -> Result<RelativeAddress, UnloadFault> {
+) -> Result<RelativeAddress, UnloadFault>
+    ensures start { IfOk result (StartsAt (V.volume volume.old) set.now (option_copied member.entry)) }
+    ensures kept { V.volume volume.new ≡ V.volume volume.old }
+{
     match (is_partitioned(&set.block), member) {
         (false, None) => Ok(FIRST),
         (false, Some(_)) => Err(UnloadFault::NoMember),
@@ -144,13 +176,17 @@ fn find_member_start<V: SlotReader>(
     volume: &mut V,
     set: &DataSet,
     member: &str,
-) -> Result<RelativeAddress, UnloadFault> {
+) -> Result<RelativeAddress, UnloadFault>
+    ensures start { IfOk result (IsMemberAt member.now (V.volume volume.old) set.now.extents.items) }
+    ensures kept { V.volume volume.new ≡ V.volume volume.old }
+{
     let Some(name) = member_name(member) else {
         return Err(UnloadFault::NoMember);
     };
-    let members = read_members(alloc, volume, set.extents.as_slice()).map_err(|fault| of_volume(
-        fault,
-    ))?;
+    let members = match read_members(alloc, volume, set.extents.as_slice()) {
+        Ok(members) => members,
+        Err(fault) => return Err(of_volume(fault)),
+    };
     match find_member(members.entries.as_slice(), name) {
         Some(entry) => Ok(entry.address),
         None => Err(UnloadFault::NoMember),
@@ -163,8 +199,14 @@ fn print<V: SlotReader, W: Write>(
     volume: &mut V,
     writer: &mut W,
     source: Source,
-) -> Result<Stop, UnloadFault> {
-    let stop = extract(alloc, volume, writer, source).map_err(|fault| of_volume(fault))?;
+) -> Result<Stop, UnloadFault>
+    ensures { IfOk result (Extracts (wanted source.entry.form source.entry.extents.now source.entry.start source.entry.tracks)
+        (V.volume volume.old) (W.contents writer.old) (W.contents writer.new)) }
+{
+    let stop = match extract(alloc, volume, writer, source) {
+        Ok(stop) => stop,
+        Err(fault) => return Err(of_volume(fault)),
+    };
     match writer.flush() {
         Ok(()) => Ok(stop),
         Err(_) => Err(UnloadFault::Job(JobFault::Write)),

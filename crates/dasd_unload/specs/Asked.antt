@@ -1,0 +1,86 @@
+-- The data set or the member that is asked for, and what of it is written.
+use Rattle.std.specs.Prelude.{◌≡◌, ℕ, ◌==◌, Bool, true, false, not, List, [], bit_and, bytes_eq, find, Option, Some, None, option_map}
+use Rattle.std.specs.Io.KnownBytes.{Keeps}
+use Rattle.volume_labels.specs.declared.fields.Extent.{Extent}
+use Rattle.volume_labels.specs.declared.fields.RelativeAddress.{RelativeAddress}
+use Rattle.volume_labels.specs.declared.blocks.DataSetBlock.{DataSetBlock}
+use Rattle.data_sets.specs.declared.directories.DirectoryEntry.{DirectoryEntry}
+use Rattle.data_sets.specs.Records as records
+use Rattle.dasd_volumes.specs.Reading.{KnownVolume}
+use Rattle.dasd_contents.specs.Contents.{contents_of}
+use Rattle.dasd_contents.specs.Sets.{FoundOf}
+use Rattle.dasd_contents.specs.declared.sets.DataSet.{DataSet}
+use Rattle.dasd_extract.specs.declared.blocks.Form.{Form}
+use Rattle.dasd_extract.specs.declared.blocks.Form.TheVariants.{Raw, Text}
+use Rattle.dasd_extract.specs.declared.members.Members.{Members}
+use Rattle.dasd_extract.specs.declared.stops.Stop.{Stop}
+use Rattle.dasd_extract.specs.Members.{MembersOf}
+use Rattle.dasd_extract.specs.Names.{Names}
+use Rattle.dasd_extract.specs.Walk.{Wanted, Extracts}
+use Rattle.dasd_jobs.specs.Written.{Replaced, with_file}
+
+-- blocks are written as they stand, or as lines, if the format of the data set is of some records
+abbrev pub form_of : DataSetBlock → (is_text : Bool) → Option Form
+form_of d false = Some Raw
+form_of d true = option_map Text (records.form_of d.format d.record_length)
+
+-- a data set has members
+abbrev pub is_partitioned : DataSetBlock → Bool
+is_partitioned d = not (bit_and d.organisation 0x0200 == 0)
+
+-- a data set of a volume has this name, and is the first that has it
+pub record IsNamed (text : List ℕ) (v : KnownVolume) (d : DataSet) : Type 0 where
+  pub name : List ℕ
+  pub named : Names text name
+  pub found : (slots : List (List ℕ)) → v.slots ≡ Some slots → FoundOf (contents_of v.geometry slots).blocks name (Some d)
+
+-- where the blocks of a data set begin
+abbrev pub beginning : RelativeAddress
+beginning = record { track = 0; number = 0 }
+
+-- those of the first member of a name begin where the directory says
+pub record IsMemberAt (text : List ℕ) (v : KnownVolume) (extents : List Extent) (start : RelativeAddress) : Type 0 where
+  pub name : List ℕ
+  pub named : Names text name
+  pub members : Members
+  pub of_set : MembersOf extents v members
+  pub entry : DirectoryEntry
+  pub found : find (λ e. bytes_eq e.name name) members.entries.items ≡ Some entry
+  pub begins : start ≡ entry.address
+
+-- what is asked for begins here: a data set without members, or a member of one that has some
+abbrev pub StartsAt : KnownVolume → DataSet → (member : Option (List ℕ)) → RelativeAddress → Type 0
+StartsAt v d None start = (is_partitioned d.block ≡ false) × (start ≡ beginning)
+StartsAt v d (Some member) start = (is_partitioned d.block ≡ true) × IsMemberAt member v d.extents.items start
+
+-- what is asked for, as a source of blocks
+pub record Asks (name : List ℕ) (member : Option (List ℕ)) (is_text : Bool) (v : KnownVolume) (s : Wanted) : Type 0 where
+  pub set : DataSet
+  pub named : IsNamed name v set
+  pub form : form_of set.block is_text ≡ Some s.form
+  pub extents : s.extents ≡ set.extents.items
+  pub start : StartsAt v set member s.start
+  pub tracks : s.tracks ≡ 65535
+
+-- the blocks of a source were put into a file at a path
+pub record PutsBlocks (path : List ℕ) (s : Wanted) (v : KnownVolume) (before now : List Replaced) (stop : Stop) : Type 0 where
+  pub bytes : List ℕ
+  pub put : now ≡ with_file before path bytes
+  pub blocks : Extracts s v (Some []) (Some bytes) stop
+
+-- they were, where a path is named, and the writer got nothing; else the writer got them, and no file came
+abbrev pub WritesTo : (target : Option (List ℕ)) → Wanted → KnownVolume → (files_before files_now : List Replaced) → (before now : Option (List ℕ)) → Stop → Type 0
+WritesTo (Some path) s v files_before files_now before now stop = PutsBlocks path s v files_before files_now stop × Keeps before now
+WritesTo None s v files_before files_now before now stop = (files_now ≡ files_before) × Extracts s v before now stop
+
+-- one file came to the path that is named, or none where none is
+abbrev pub ComesTo : (target : Option (List ℕ)) → (before now : List Replaced) → Type 0
+ComesTo (Some path) before now = (bytes : List ℕ) × (now ≡ with_file before path bytes)
+ComesTo None before now = now ≡ before
+
+-- what is asked for was found and written, and its blocks end so
+pub record UnloadsSet (name : List ℕ) (member : Option (List ℕ)) (is_text : Bool) (target : Option (List ℕ)) (v : KnownVolume) (files_before files_now : List Replaced)
+    (before now : Option (List ℕ)) (stop : Stop) : Type 0 where
+  pub source : Wanted
+  pub asked : Asks name member is_text v source
+  pub written : WritesTo target source v files_before files_now before now stop
