@@ -16,6 +16,7 @@ use Rattle.s360_channel.specs.declared.view.SubchannelView.TheVariants.{Idle, Wo
 use Rattle.s360_events.specs.declared.conditions.Condition.{Condition}
 use Rattle.s360_events.specs.declared.conditions.Condition.TheVariants.{Two}
 use Rattle.dasd_c.specs.declared.showing.Drive.{Drive}
+use Rattle.dasd_c.specs.declared.showing.State.{State}
 use Rattle.dasd_c.specs.declared.turns.Ran.{Ran}
 use Rattle.dasd_c.specs.declared.turns.Track.{Track}
 use Rattle.dasd_c.specs.Codes.{no_channel, no_drive}
@@ -63,6 +64,11 @@ ShowsSeen None code before shown = (code ≡ no_drive) × (shown ≡ before)
 abbrev pub ShowsDriveOf : Option ChannelState → (device : ℕ) → (code : ℤ) → (before shown : Drive) → Type 0
 ShowsDriveOf (Some c) device code before shown = ShowsSeen (option_map (λ u. drive_seen (device_of u)) (attached_with device c.drives)) code before shown
 ShowsDriveOf None device code before shown = (code ≡ no_channel) × (shown ≡ before)
+
+-- A channel is shown; or there is none with this number, and nothing is.
+abbrev pub ShowsStateOf : Option ChannelState → (code : ℤ) → (before shown : State) → Type 0
+ShowsStateOf (Some c) code before shown = code ≡ pos 0
+ShowsStateOf None code before shown = (code ≡ no_channel) × (shown ≡ before)
 
 -- whether a condition code is 2: of Test Channel, that a program runs
 abbrev pub is_two : {A : Type 0} → Condition A → Bool
