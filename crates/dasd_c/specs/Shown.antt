@@ -8,7 +8,7 @@ use Rattle.s360_laws.specs.declared.arm.Arm.{Arm}
 use Rattle.s360_laws.specs.declared.arm.Arm.TheVariants.{AtRest, InMotion, Arrived}
 use Rattle.s360_channel.specs.Channel.{ChannelState, StandsFor, device_of}
 use Rattle.s360_channel.specs.Shares.{with_storage}
-use Rattle.s360_channel.specs.Views.{attached_with, drive_seen}
+use Rattle.s360_channel.specs.Views.{attached_with, drive_seen, subchannel_seen}
 use Rattle.s360_channel.specs.declared.view.DriveView.{DriveView}
 use Rattle.s360_channel.specs.declared.view.RunOn.{RunOn}
 use Rattle.s360_channel.specs.declared.view.SubchannelView.{SubchannelView}
@@ -16,6 +16,7 @@ use Rattle.s360_channel.specs.declared.view.SubchannelView.TheVariants.{Idle, Wo
 use Rattle.s360_events.specs.declared.conditions.Condition.{Condition}
 use Rattle.s360_events.specs.declared.conditions.Condition.TheVariants.{Two}
 use Rattle.dasd_c.specs.declared.showing.Drive.{Drive}
+use Rattle.dasd_c.specs.declared.showing.State.{State}
 use Rattle.dasd_c.specs.declared.turns.Ran.{Ran}
 use Rattle.dasd_c.specs.declared.turns.Track.{Track}
 use Rattle.dasd_c.specs.Codes.{no_channel, no_drive}
@@ -63,6 +64,16 @@ ShowsSeen None code before shown = (code ≡ no_drive) × (shown ≡ before)
 abbrev pub ShowsDriveOf : Option ChannelState → (device : ℕ) → (code : ℤ) → (before shown : Drive) → Type 0
 ShowsDriveOf (Some c) device code before shown = ShowsSeen (option_map (λ u. drive_seen (device_of u)) (attached_with device c.drives)) code before shown
 ShowsDriveOf None device code before shown = (code ≡ no_channel) × (shown ≡ before)
+
+-- what a subchannel does is shown
+abbrev pub ShowsSubchannel : State → SubchannelView → Type 0
+ShowsSubchannel s seen = let n = numbers_of seen in (s.subchannel ≡ n.0) × (s.device ≡ n.1) × (s.asked ≡ n.2)
+
+-- A channel is shown, with what the subchannel of every machine does that it stands for; or there is none with this number, and nothing
+-- is.
+abbrev pub ShowsStateOf : Option ChannelState → (code : ℤ) → (before shown : State) → Type 0
+ShowsStateOf (Some c) code before shown = (code ≡ pos 0) × ((m : Machine) → StandsFor c m → ShowsSubchannel shown (subchannel_seen m m.subchannel))
+ShowsStateOf None code before shown = (code ≡ no_channel) × (shown ≡ before)
 
 -- whether a condition code is 2: of Test Channel, that a program runs
 abbrev pub is_two : {A : Type 0} → Condition A → Bool

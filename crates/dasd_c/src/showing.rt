@@ -4,14 +4,14 @@ ghost use Rattle.std.specs.Prelude.{◌≡◌, ◌/◌, ◌%◌, pos, false, Non
 ghost use Rattle.s360_channels.specs.Channels.{channel_at};
 ghost use Rattle.dasd_c.specs.Codes.{nothing_held};
 ghost use Rattle.dasd_c.specs.Calls.{Calls};
-ghost use Rattle.dasd_c.specs.Shown.{RunsAt, ShowsDriveOf, drive_shown, is_two, number_of_arm, number_of_model, numbers_of};
+ghost use Rattle.dasd_c.specs.Shown.{RunsAt, ShowsDriveOf, ShowsStateOf, ShowsSubchannel, drive_shown, is_two, number_of_arm, number_of_model, numbers_of};
 
 use crate::handle::{Handle, put, take};
 use crate::tell::{DONE, NO_CHANNEL, NO_DRIVE, NO_FILE, NOTHING_HELD, PROGRAM_RUNS};
 use ckd_image::ImageStore;
 use ckd_track::DriveModel;
 use dasd_files::VolumeFile;
-use s360_channel::{Channel, DriveView, SubchannelView};
+use s360_channel::{DriveView, SubchannelView, View};
 use s360_channels::Channels;
 use s360_events::Condition;
 use s360_laws::arm::Arm;
@@ -190,31 +190,31 @@ pub extern "C" fn dasd_show_channel(
     channel: u8,
     shown: &mut State,
 ) -> i32
-    ensures { handle.new.slot.held ≡ handle.old.slot.held }
+    ensures { Calls handle.old.slot.held handle.new.slot.held result (λ old new. (new ≡ old) × ShowsStateOf (channel_at channel old) result shown.old shown.new) }
 {
     let Some(subsystem) = take(handle, alloc) else {
         return NOTHING_HELD;
     };
-    let found = state_of(&subsystem.channels, channel);
+    let code = show_channel(&subsystem.channels, channel, shown);
     put(handle, subsystem);
-    match found {
-        Some(found) => {
-            *shown = found;
+    code
+}
+
+fn show_channel(channels: &Channels<VolumeFile>, number: u8, shown: &mut State) -> i32
+    ensures { ShowsStateOf (channel_at number channels.now) result shown.old shown.new }
+{
+    match channels.channel(number) {
+        Some(channel) => {
+            *shown = as_state(channel.state());
             DONE
         }
         None => NO_CHANNEL,
     }
 }
 
-fn state_of(channels: &Channels<VolumeFile>, number: u8) -> Option<State> {
-    match channels.channel(number) {
-        Some(channel) => Some(as_state(channel)),
-        None => None,
-    }
-}
-
-fn as_state(channel: &Channel<VolumeFile>) -> State {
-    let view = channel.state();
+fn as_state(view: View) -> State
+    ensures { ShowsSubchannel result view.subchannel }
+{
     let (subchannel, device, asked) = seen(view.subchannel);
     let mut units = [0; 8];
     let mut arms = [0; 8];
