@@ -15,7 +15,7 @@ use test_watched_channels::{
 pub(crate) const HEADER_LENGTH: usize = 512;
 
 /// The most units of a step that are done one by one, and at all.
-const MOST_UNITS: u16 = 300;
+const MOST_UNITS: u32 = 300;
 
 /// What came of a list over stores of which a call fails.
 #[derive(Clone, Copy, PartialEq, Eq)]
@@ -97,13 +97,17 @@ pub(crate) fn fail_list(
     end(alloc, &watch, failure.device, plain, failing)
 }
 
-// An event at both channels; a step unit by unit, until a call fails.
+// An event at both channels; a step or run unit by unit, until a call fails.
 fn both(watch: &Watch, plain: &mut TestChannel, failing: &mut TestChannel, event: &Event) -> Met {
-    let Event::Step(units) = event else {
-        let _ = plain.react(event);
-        return react(watch, failing, event);
+    let units = match event {
+        Event::Step(units) => u32::from(*units),
+        Event::Run(units) => *units,
+        _ => {
+            let _ = plain.react(event);
+            return react(watch, failing, event);
+        }
     };
-    for _ in 0..(*units).min(MOST_UNITS) {
+    for _ in 0..units.min(MOST_UNITS) {
         if !matches!(failing.state().subchannel, SubchannelView::Working(_, _)) {
             return Met::Nothing;
         }

@@ -1,8 +1,8 @@
-//! What each answer must be by those before it, and what the channel shows: no start while a program runs or its channel end
-//! is owed, and each channel end and device end stored once.
+//! What each answer must be by those before it: no start while a program runs or its channel end is owed, and each channel end and
+//! device end stored once.
 
 use s360_channel::{SubchannelView, View};
-use s360_deck::{Answer, Event};
+use s360_deck::Answer;
 use s360_events::Condition;
 use s360_laws::arm::Arm;
 use s360_words::UnitStatus;
@@ -158,53 +158,5 @@ fn is_moved(drive: &Option<(u8, Arm)>, device: u8) -> bool {
     match drive {
         Some((number, arm)) => *number == device && *arm != Arm::AtRest,
         None => false,
-    }
-}
-
-/// Whether an event may be answered so by a channel 1 that showed this before.
-pub(crate) fn may_answer(before: &View, event: &Event, answer: &Answer) -> bool {
-    match before.subchannel {
-        SubchannelView::Idle => !matches!(answer, Answer::Tch(Condition::Two)),
-        SubchannelView::Working(_, _) => may_answer_working(event, answer),
-        SubchannelView::Pending(device, csw) => match (event, answer) {
-            (Event::Sio(address), Answer::Sio(_, condition)) if *address / 256 == 1 => {
-                *condition == Condition::Two
-            }
-            (Event::Tio(address), Answer::Tio(_, condition)) if *address / 256 == 1 => {
-                if *address % 256 == u16::from(device) {
-                    *condition == Condition::Stored(csw)
-                } else {
-                    *condition == Condition::Two
-                }
-            }
-            (Event::Tch, Answer::Tch(condition)) => *condition == Condition::Stored(()),
-            (Event::Interrupt, Answer::Interrupt(given)) => {
-                *given == Some((u16::from(device).saturating_add(256), csw))
-            }
-            (Event::Hio(address), Answer::Hio(_, condition)) if *address / 256 == 1 => {
-                *condition == Condition::Zero
-            }
-            _ => true,
-        },
-    }
-}
-
-// While a program runs.
-fn may_answer_working(event: &Event, answer: &Answer) -> bool {
-    match (event, answer) {
-        (Event::Sio(address), Answer::Sio(_, condition)) => *condition == busy_or_none(*address),
-        (Event::Tio(address), Answer::Tio(_, condition)) => *condition == busy_or_none(*address),
-        (Event::Hio(address), Answer::Hio(_, condition)) => *condition == busy_or_none(*address),
-        (Event::Tch, Answer::Tch(condition)) => *condition == Condition::Two,
-        _ => true,
-    }
-}
-
-// 2 at the channel, 3 at another one.
-fn busy_or_none<T>(address: u16) -> Condition<T> {
-    if address / 256 == 1 {
-        Condition::Two
-    } else {
-        Condition::Three
     }
 }

@@ -7,13 +7,13 @@ use s360_events::{Event, ShowCount, StorageKey};
 use std::alloc::Global;
 
 /// Where chains stand, each of which has 128 bytes.
-const CHAINS: u32 = 0x400;
+pub(crate) const CHAINS: u32 = 0x400;
 
 /// A Recalibrate by itself: channel end comes at once, and device end when the arm has arrived.
 const MOVE: [u8; 8] = [0x13, 0, 0, 0, 0x20, 0, 0, 1];
 
 /// Where the channel address word stands.
-const ADDRESS_WORD: u32 = 0x48;
+pub(crate) const ADDRESS_WORD: u32 = 0x48;
 
 /// A list for so many drives: tables of arguments and chains are stored first.
 pub(crate) fn random_list(alloc: Global, chance: &mut Chance, drives: u32) -> Result<Vec<Event>> {
@@ -59,7 +59,7 @@ fn first_events(alloc: Global, chance: &mut Chance) -> Result<Vec<Event>> {
 fn add_turn(chance: &mut Chance, drives: u32, events: &mut Vec<Event>) -> Result<()> {
     if chance.percent(40) {
         add_program(chance, drives, events)?;
-    } else if chance.percent(10) {
+    } else if chance.percent(15) {
         add_moving_arm(chance, drives, events)?;
     } else {
         events.push(random_event(chance, drives))?;
@@ -100,10 +100,13 @@ fn add_moving_arm(chance: &mut Chance, drives: u32, events: &mut Vec<Event>) -> 
     events.push(Event::Sio(device_address(chance, drives)))?;
     for _ in 0..chance.below(4) {
         events.push(Event::Step(chance.below(4).min(65_535) as u16))?;
-        events.push(match chance.below(3) {
-            0 => Event::Arrive(moving),
-            1 => Event::Tio(moving),
-            _ => Event::Tio(device_address(chance, drives)),
+        events.push(match chance.below(9) {
+            0 | 1 => Event::Arrive(moving),
+            2 | 3 => Event::Tio(moving),
+            4 | 5 => Event::Tio(device_address(chance, drives)),
+            6 => Event::Interrupt,
+            7 => Event::Sio(moving),
+            _ => Event::Hio(moving),
         })?;
     }
     Ok(())
@@ -113,7 +116,8 @@ fn add_moving_arm(chance: &mut Chance, drives: u32, events: &mut Vec<Event>) -> 
 fn random_event(chance: &mut Chance, drives: u32) -> Event {
     match chance.below(100) {
         0..=21 => Event::Sio(device_address(chance, drives)),
-        22..=43 => Event::Step(units(chance)),
+        22..=41 => Event::Step(units(chance)),
+        42..=43 => Event::Run(u32::from(units(chance))),
         44..=58 => Event::Interrupt,
         59..=68 => Event::Arrive(device_address(chance, drives)),
         69..=74 => Event::Tio(device_address(chance, drives)),

@@ -66,9 +66,11 @@ fn all_alike(alloc: Global, answers: &[Answer], others: &[Answer]) -> Result<boo
 fn units_of(answers: &[Answer]) -> u64 {
     let mut units: u64 = 0;
     for answer in answers {
-        if let Answer::Step(done) = answer {
-            units = units.saturating_add(u64::from(*done));
-        }
+        units = units.saturating_add(match answer {
+            Answer::Step(done) => u64::from(*done),
+            Answer::Run(done) => u64::from(*done),
+            _ => 0,
+        });
     }
     units
 }

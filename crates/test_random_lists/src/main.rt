@@ -1,24 +1,31 @@
-//! Lists of events by chance at a channel with one to four drives. Each is compared with its serial list at a fresh channel, and its
-//! answers are looked at one by one, whether they may come. In other lists calls of a store fail, once or for good: up to the first fault
-//! all is as without it, and at most the slot differs that could not be saved; each fault is reported by its event; and the list
-//! goes on past it, with answers that may come. Each list comes to the same where it is watched, and so does a long one that is traced.
-//! It is printed how many lists were tried, and how many came out as they must.
+//! Lists of events by chance at a channel with one to four drives. Each is compared with its serial list at a fresh channel. Its
+//! answers are looked at one by one, whether they may come, and whether the channel shows behind each what it must by what it showed
+//! before. In other lists calls of a store fail, once or for good: up to the first fault all is as without it, and at most the slot
+//! differs that could not be saved; each fault is reported by its event; and the list goes on past it, with answers that may come.
+//! Each list comes to the same where it is watched, and so does a long one that is traced. Of other programs by chance it is worked
+//! out what they come to. It is printed how many lists were tried, and how many came out as they must.
 #![tactic(auto)]
 
+mod asking;
 mod chains;
 mod chance;
 mod faults;
 mod ledger;
 mod lists;
 mod looks;
+mod rules;
+mod storage;
 mod telling;
 mod watching;
+mod worked;
 
+use crate::asking::attaches_once;
 use crate::chance::Chance;
 use crate::faults::{Ending, fail_list, keeps_slots};
 use crate::lists::{long_list, random_list};
 use crate::looks::{Looks, units_if_same};
 use crate::watching::{Breach, watch_list};
+use crate::worked::{Course, goes_on};
 use anyhow::Result;
 use s360_deck::Event;
 use std::alloc::Global;
@@ -32,6 +39,9 @@ const LISTS: u32 = 3_000;
 /// How many over stores of which a call fails.
 const FAILING_LISTS: u32 = 3_000;
 
+/// How many programs by chance are worked out beside the channel.
+const WORKED: u32 = 3_000;
+
 /// The events of the long list.
 const LONG: usize = 10_000;
 
@@ -39,7 +49,8 @@ fn main(rt: HostRuntime) -> Result<()> {
     play_random_lists(&rt)?;
     play_failing_lists(&rt)?;
     play_watched_lists(&rt)?;
-    play_traced_list(&rt)
+    play_traced_list(&rt)?;
+    play_worked_programs(&rt)
 }
 
 // Lists by chance over stores that do not fail.
@@ -146,6 +157,27 @@ fn play_traced_list(rt: &HostRuntime) -> Result<()> {
     Ok(())
 }
 
+// Programs by chance that are worked out, and one that does not end.
+fn play_worked_programs(rt: &HostRuntime) -> Result<()> {
+    let alloc = rt.alloc();
+    let disks = test_disks(alloc, 1)?;
+    let (mut worked, mut others) = (Tally::NONE, Tally::NONE);
+    for number in 0..WORKED {
+        let mut chance = Chance::new(u64::from(number).saturating_add(3_000_000));
+        let course = Course::of(alloc, &mut chance)?;
+        worked.add(course.is_so(alloc, disks.as_slice())?);
+        if number % 300 == 0 {
+            let goes = goes_on(alloc, &mut chance, disks.as_slice())?;
+            for disk in &disks {
+                others.add(goes && attaches_once(alloc, disk)?);
+            }
+        }
+    }
+    println!(rt; "programs by chance that are worked out: {worked} as they must")?;
+    println!(rt; "programs without an end, and drives at one address: {others} as they must")?;
+    Ok(())
+}
+
 // What came of such lists.
 #[derive(Clone, Copy)]
 struct FailingLists {
@@ -180,7 +212,7 @@ impl FailingLists {
         if ending != Ending::Told {
             println!(rt; "list {number} with a fault: {ending}")?;
         }
-        let came = go_on(alloc, disks.as_slice(), list.as_slice(), failure)?;
+        let came = go_past(alloc, disks.as_slice(), list.as_slice(), failure)?;
         self.past.add(came.is_ok());
         match came {
             Ok(met) => self.faults = self.faults.saturating_add(met),
@@ -191,7 +223,7 @@ impl FailingLists {
 }
 
 // Does a list past its faults; how many it met, or what is wrong.
-fn go_on(
+fn go_past(
     alloc: Global,
     disks: &[Disk],
     list: &[Event],

@@ -23,7 +23,7 @@ pub(crate) fn tells(
     match (answer, faults) {
         (Answer::Reset(unsaved), 0) => unsaved.is_none(),
         (Answer::Reset(unsaved), 1) => names(disks, *unsaved, lost),
-        (Answer::Step(_) | Answer::Hio(_, _), 1) => has_unit_check(view),
+        (Answer::Step(_) | Answer::Run(_) | Answer::Hio(_, _), 1) => has_unit_check(view),
         (_, faults) => faults == 0,
     }
 }

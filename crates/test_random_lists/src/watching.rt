@@ -1,7 +1,10 @@
 //! Lists of events, one by one: what each answer must be, how many calls of the stores each event may make, and how a call that
 //! fails is reported.
 
-use crate::ledger::{Ledger, may_answer};
+use crate::asking::answers_well;
+use crate::ledger::Ledger;
+use crate::rules::Shown;
+use crate::storage::{holds_what_is_told, protected};
 use crate::telling::{has_equipment_check, tells};
 use anyhow::Result;
 use s360_deck::{Answer, AnswerLine, Event, drive};
@@ -14,8 +17,14 @@ use test_watched_channels::{Disk, Failure, Left, TestChannel, Watch, channel_ove
 pub(crate) enum Breach {
     /// An answer is not that which `drive` gives.
     Driven,
-    /// An answer may not come where it comes.
+    /// An answer may not come where it comes, or the channel shows behind it what it may not.
     Answer,
+    /// Storage has not the channel status word that was answered.
+    Word,
+    /// A program has changed a block that its key protects.
+    Protected,
+    /// A call that is no event is answered otherwise, or changes something.
+    Asked,
     /// An end was stored twice, or lost.
     Ledger,
     /// An event makes too many calls of stores.
@@ -35,6 +44,9 @@ impl fmt::Display for Breach {
         f.write_str(match self {
             Breach::Driven => "another answer by one",
             Breach::Answer => "an answer that may not come",
+            Breach::Word => "another channel status word in storage",
+            Breach::Protected => "a protected block that has changed",
+            Breach::Asked => "a call that is no event",
             Breach::Ledger => "an end stored twice or lost",
             Breach::Calls => "too many calls of stores",
             Breach::Telling => "a fault that its event does not tell",
@@ -104,10 +116,13 @@ pub(crate) fn watch_list(
     };
     for (place, (event, wanted)) in events.iter().zip(answers.as_slice()).enumerate() {
         let failed = watch.failed();
-        let answer = match watch_event(&watch, &mut watcher, disks, event) {
+        let answer = match watch_event(alloc, &watch, &mut watcher, disks, event)? {
             Ok(answer) => answer,
             Err(breach) => return Ok(Err(breach)),
         };
+        if place % 4 == 3 && !answers_well(alloc, &mut watcher.channel, disks)? {
+            return Ok(Err(Breach::Asked));
+        }
         if !are_alike(alloc, &answer, wanted)? {
             return Ok(Err(Breach::Driven));
         }
@@ -151,29 +166,48 @@ fn end(
 
 // Does an event.
 fn watch_event(
+    alloc: Global,
     watch: &Watch,
     watcher: &mut Watcher,
     disks: &[Disk],
     event: &Event,
-) -> std::result::Result<Answer, Breach> {
-    let before = watcher.channel.state();
+) -> Result<std::result::Result<Answer, Breach>> {
+    let before = Shown::of(&watcher.channel);
+    let kept = protected_from(alloc, &watcher.channel, event, before)?;
     let (calls, failed) = (watch.calls(), watch.failed());
     let answer = watcher.channel.react(event);
-    if watch.calls().saturating_sub(calls) > most_calls(&answer) {
-        return Err(Breach::Calls);
-    }
-    if !may_answer(&before, event, &answer) {
-        return Err(Breach::Answer);
-    }
-    let view = watcher.channel.state();
-    if !watcher.ledger.takes(&answer) || !watcher.ledger.is_balanced(&view) {
-        return Err(Breach::Ledger);
-    }
+    let behind = Shown::of(&watcher.channel);
     let faults = watch.failed().saturating_sub(failed);
-    if !tells(disks, &answer, &view, faults, watch.lost()) {
-        return Err(Breach::Telling);
+    Ok(if watch.calls().saturating_sub(calls) > most_calls(&answer) {
+        Err(Breach::Calls)
+    } else if !before.may_lead(event, &answer, &behind) {
+        Err(Breach::Answer)
+    } else if !holds_what_is_told(&watcher.channel, &answer) {
+        Err(Breach::Word)
+    } else if kept.as_slice()
+        != protected_from(alloc, &watcher.channel, event, before)?.as_slice()
+    {
+        Err(Breach::Protected)
+    } else if !watcher.ledger.takes(&answer) || !watcher.ledger.is_balanced(&behind.view) {
+        Err(Breach::Ledger)
+    } else if !tells(disks, &answer, &behind.view, faults, watch.lost()) {
+        Err(Breach::Telling)
+    } else {
+        Ok(answer)
+    })
+}
+
+// The bytes of the blocks that an event may not change, since a program's key protects them that does units.
+fn protected_from(
+    alloc: Global,
+    channel: &TestChannel,
+    event: &Event,
+    before: Shown,
+) -> Result<Vec<u8>> {
+    match event {
+        Event::Step(_) | Event::Run(_) => protected(alloc, channel, before.program),
+        _ => Ok(Vec::new(alloc)),
     }
-    Ok(answer)
 }
 
 // What these events leave at a channel of their own, of which the last met a fault; nothing where the sense bytes do not report it. A
@@ -198,6 +232,7 @@ fn left_behind(
 pub(crate) fn most_calls(answer: &Answer) -> u64 {
     match answer {
         Answer::Step(done) => u64::from(*done).saturating_mul(2),
+        Answer::Run(done) => u64::from(*done).saturating_mul(2),
         Answer::Hio(_, _) | Answer::Reset(_) => 1,
         _ => 0,
     }
