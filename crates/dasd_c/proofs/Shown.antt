@@ -1,5 +1,5 @@
 -- Test Channel says whether a program runs.
-use Rattle.std.proofs.Common.{◌≡◌, ◌∙◌, ap, sym, refl, Bool, true, false, Option, Some, None}
+use Rattle.std.proofs.Common.{◌≡◌, ◌∙◌, ap, refl, Bool, true, false, Option, Some, None}
 use Rattle.s360_words.specs.Storage.{Storage}
 use Rattle.s360_events.specs.Seen.{answer_seen}
 use Rattle.s360_events.specs.declared.answers.Answer.TheVariants as answer

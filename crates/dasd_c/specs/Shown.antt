@@ -1,5 +1,5 @@
 -- What C is shown of channels and drives.
-use Rattle.std.specs.Prelude.{◌≡◌, ◌/◌, ◌%◌, ℤ, pos, ℕ, Bool, true, false, Option, Some, None, option_map, if◌then◌else◌}
+use Rattle.std.specs.Prelude.{◌≡◌, ℤ, pos, ℕ, Bool, true, false, Option, Some, None, option_map, if◌then◌else◌}
 use Rattle.s360_words.specs.Storage.{Storage}
 use Rattle.ckd_track.specs.declared.model.DriveModel.{DriveModel}
 use Rattle.ckd_track.specs.declared.model.DriveModel.TheVariants.{D2311, D2314}

@@ -1,6 +1,6 @@
 //! What happens beside the processor's instructions.
 
-ghost use Rattle.std.specs.Prelude.{◌≡◌, ◌/◌, pos, false};
+ghost use Rattle.std.specs.Prelude.{◌≡◌, ◌/◌, false};
 ghost use Rattle.s360_laws.specs.Events as machine;
 ghost use Rattle.s360_channels.specs.Channels.{OnChannel};
 ghost use Rattle.dasd_c.specs.Codes.{code_of, no_channel};

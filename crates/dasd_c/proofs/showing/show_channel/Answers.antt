@@ -1,4 +1,4 @@
-use Rattle.std.proofs.Common.{◌≡◌, ◌∙◌, pos, ap, sym, subst, refl, Option}
+use Rattle.std.proofs.Common.{◌∙◌, pos, ap, sym, subst, refl, Option}
 use Rattle.std.specs.Prelude.{option_map}
 use Rattle.s360_channel.specs.Channel.{ChannelState}
 use Rattle.s360_channel.specs.declared.view.SubchannelView.{SubchannelView}
