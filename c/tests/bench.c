@@ -20,13 +20,13 @@ enum { CHAIN_DATA = 0x80, CHAIN = 0x40 };
 /* The handle, and where the next word of its program goes. */
 typedef struct machine {
     dasd d;
+    dasd_storage storage;
     uint32_t next;
     unsigned long ended, otherwise;
 } machine;
 
-static void store(machine *m, uint32_t at, const void *bytes, size_t n) {
-    if (dasd_poke(&m->d, at, bytes, n) != DASD_DONE) abort();
-}
+/* Stores as the processor of an emulator does, to which main storage was shown. */
+static void store(machine *m, uint32_t at, const void *bytes, size_t n) { memcpy(m->storage.at + at, bytes, n); }
 
 static void word(machine *m, unsigned code, unsigned address, unsigned flags, unsigned count) {
     const uint8_t bytes[8] = {(uint8_t)code,  0, (uint8_t)(address >> 8), (uint8_t)address,
@@ -68,14 +68,13 @@ static void operands(machine *m, unsigned cylinder, unsigned head, unsigned reco
 static void run(machine *m) {
     static const uint8_t caw[4] = {0, 0, FIRST >> 8, FIRST & 255};
     const uint8_t want[8] = {0, 0, (uint8_t)(m->next >> 8), (uint8_t)m->next, 0x0C, 0, 0, 0};
-    uint8_t csw[8] = {0};
     dasd_run ran = {0, DASD_AVAILABLE, 0, 0, 0};
     store(m, CAW, caw, sizeof caw);
     if (dasd_sio(&m->d, ADDRESS) == 0)
         do
             if (dasd_run_on(&m->d, 1, UINT32_MAX, &ran) != DASD_DONE) abort();
         while (ran.subchannel == DASD_WORKING);
-    if (dasd_tio(&m->d, ADDRESS) == 1 && dasd_peek(&m->d, CSW, csw, sizeof csw) == DASD_DONE && !memcmp(csw, want, sizeof csw))
+    if (dasd_tio(&m->d, ADDRESS) == 1 && !memcmp(m->storage.at + CSW, want, sizeof want))
         m->ended++;
     else
         m->otherwise++;
@@ -146,6 +145,7 @@ int main(int argc, char **argv) {
     }
     const unsigned cylinders = is_small(*argv[1]) ? 1 : CYLINDERS;
     if (dasd_new(&m.d, 65536, DASD_CHANNEL(1)) < 0 || dasd_attach_new(&m.d, ADDRESS, 2314, (uint16_t)cylinders) < 0) return 1;
+    if (dasd_show_storage(&m.d, &m.storage) != DASD_DONE) return 1;
     prepare(&m, *argv[1], cylinders);
     operands(&m, 0, HEADS - 1, 1, 0, 0); /* where the last program left the arm: small works have no seek */
     build(&m, *argv[1]);
