@@ -4,7 +4,7 @@
 #include <string.h>
 
 #include "../dasd.h"
-#include "digits.h"
+#include "storage.h"
 #include "tests.h"
 
 /* Record 1 of the first track is written from 208, or its eight bytes are read to 210. 200 has the identifiers of record 0 and 1. */
@@ -12,18 +12,6 @@
 #define READ_AT(program) "31000208 40000005 08000" program " 00000000 06000210 20000008"
 static const char identifiers[] = "0000000000 000000 0000000001 000008";
 static const char text[] = "E3C5E2E3 40F14040", zeros[] = "00000000 00000000";
-
-static void store(dasd *d, uint32_t at, const char *hexadecimal) {
-    uint8_t bytes[128];
-    size_t n = bytes_of(hexadecimal, bytes, sizeof bytes);
-    CHECK(dasd_poke(d, at, bytes, n) == DASD_DONE);
-}
-
-static int shows(dasd *d, uint32_t at, const char *hexadecimal) {
-    uint8_t want[128], got[128];
-    size_t n = bytes_of(hexadecimal, want, sizeof want);
-    return dasd_peek(d, at, got, n) == DASD_DONE && !memcmp(got, want, n);
-}
 
 /* Two channels with a drive of the same low byte each. */
 static void made(dasd *d) {

@@ -7,7 +7,7 @@
 #include <string.h>
 
 #include "../dasd.h"
-#include "digits.h"
+#include "storage.h"
 #include "tests.h"
 
 /* --- The layout that dasd.h and the library agree on --- */
@@ -37,18 +37,6 @@ extern long heap_refuse_at, heap_live;
 static void made(dasd *d) {
     CHECK(dasd_new(d, 65536, DASD_CHANNEL(1)) == DASD_DONE);
     CHECK(dasd_attach_new(d, 0x190, 2314, 2) == DASD_DONE);
-}
-
-static void store(dasd *d, uint32_t at, const char *hexadecimal) {
-    uint8_t bytes[128];
-    size_t n = bytes_of(hexadecimal, bytes, sizeof bytes);
-    CHECK(dasd_poke(d, at, bytes, n) == DASD_DONE);
-}
-
-static int shows(dasd *d, uint32_t at, const char *hexadecimal) {
-    uint8_t want[128], got[128];
-    size_t n = bytes_of(hexadecimal, want, sizeof want);
-    return dasd_peek(d, at, got, n) == DASD_DONE && !memcmp(got, want, n);
 }
 
 /* Starts the program that the channel address word leads to, lets it end, and takes its interruption. */
