@@ -1,5 +1,5 @@
 -- A deck that is run over volumes.
-use Rattle.std.specs.Prelude.{◌≡◌, ◌⊎◌, ◌++◌, List, ℕ, ◌∷◌, [], replicate, Option, Some, Result, Ok, Err, IsErr, IfErr}
+use Rattle.std.specs.Prelude.{◌≡◌, ◌⊎◌, ◌++◌, List, ℕ, ◌∷◌, [], replicate, Some, Result, Ok, Err, IsErr, IfErr}
 use Rattle.std.specs.List.{AllZip}
 use Rattle.std.specs.Result.{result_and}
 use Rattle.counted_io.specs.Streams.{Stream, Takes, TakesFront, NoneFailed, OneFailed}

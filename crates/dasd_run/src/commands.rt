@@ -142,9 +142,8 @@ fn run_volumes<F: Traces, R: Read, W: Write>(
     let run = run_text(alloc, writer, text.as_slice(), &mut channel, &mut tracer);
     tell_fault(files, text.as_slice(), run);
     let traced = end_trace(tracer, run);
-    conclude(alloc, files, volumes, channel, run)?;
-    traced?;
-    Ok(Ending::Done)
+    let concluded = conclude(alloc, files, volumes, channel, run);
+    concluded.and(traced.and(Ok(Ending::Done)))
 }
 
 // Checks the volume of these files, and says whether it has tracks that can't be read.
