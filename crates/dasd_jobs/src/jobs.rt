@@ -54,9 +54,7 @@ pub fn format_file<F: ImageFiles, W: Write, P: Progress>(
 {
     let written = write_shown(alloc, files, progress, volume);
     progress.clear();
-    if let Err(fault) = written {
-        return Err(fault);
-    }
+    written?;
     match write_formatted(writer, progress, volume) {
         Ok(()) => Ok(()),
         Err(WriteFault) => Err(JobFault::Write),
@@ -170,15 +168,10 @@ pub fn list_files<F: ImageFiles, W: Write>(
     ensures writes { CountsLines result (seen_by W.contents writer.old) (seen_by W.contents writer.new) }
     ensures none { IfErr result (λ e. e ≡ JobFault.OutOfMemory → writer.new ≡ writer.old) }
 {
-    match open_volume(alloc, files, paths) {
-        Ok(volume) => {
-            let mut volume = volume;
-            match dasd_volumes::list(alloc, &mut volume, writer) {
-                Ok(()) => Ok(()),
-                Err(fault) => Err(of_volume(fault)),
-            }
-        }
-        Err(fault) => Err(fault),
+    let mut volume = open_volume(alloc, files, paths)?;
+    match dasd_volumes::list(alloc, &mut volume, writer) {
+        Ok(()) => Ok(()),
+        Err(fault) => Err(of_volume(fault)),
     }
 }
 
@@ -199,15 +192,10 @@ pub fn check_files<F: ImageFiles, W: Write, P: Progress>(
     ensures writes { CountsLines result (seen_by W.contents writer.old) (seen_by W.contents writer.new) }
     ensures none { IfErr result (λ e. e ≡ JobFault.OutOfMemory → writer.new ≡ writer.old) }
 {
-    match open_volume(alloc, files, paths) {
-        Ok(volume) => {
-            let mut volume = volume;
-            match dasd_volumes::check(alloc, &mut volume, writer, progress) {
-                Ok(findings) => Ok(findings),
-                Err(fault) => Err(of_volume(fault)),
-            }
-        }
-        Err(fault) => Err(fault),
+    let mut volume = open_volume(alloc, files, paths)?;
+    match dasd_volumes::check(alloc, &mut volume, writer, progress) {
+        Ok(findings) => Ok(findings),
+        Err(fault) => Err(of_volume(fault)),
     }
 }
 

@@ -72,10 +72,7 @@ fn check_cylinders<V: SlotReader, W: Write, P: Progress>(
     let mut findings: u32 = 0;
     for cylinder in 0..geometry.cylinders {
         show_cylinder(progress, geometry, cylinder);
-        match check_cylinder(volume, writer, progress, slot, cylinder) {
-            Ok(found) => findings += found,
-            Err(fault) => return Err(fault),
-        }
+        findings += check_cylinder(volume, writer, progress, slot, cylinder)?;
     }
     Ok(findings)
 }
@@ -139,10 +136,8 @@ fn check_track<W: Write, P: Progress>(
         return Ok(0);
     };
     progress.clear();
-    match write_finding(writer, progress, address, fault) {
-        Ok(()) => Ok(1),
-        Err(fault) => Err(fault),
-    }
+    write_finding(writer, progress, address, fault)?;
+    Ok(1)
 }
 
 // The line of a track that can't be read, which is seen at once. Nothing is shown meanwhile.

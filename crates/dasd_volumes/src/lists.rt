@@ -46,9 +46,7 @@ pub fn list<V: SlotReader, W: Write>(
         return Err(VolumeFault::Write);
     }
     for cylinder in 0..geometry.cylinders {
-        if let Err(fault) = list_cylinder(volume, writer, slot.as_mut_slice(), cylinder) {
-            return Err(fault);
-        }
+        list_cylinder(volume, writer, slot.as_mut_slice(), cylinder)?;
     }
     match flush_all(writer) {
         Ok(()) => Ok(()),
@@ -144,13 +142,9 @@ fn list_records<W: Write>(
     ensures { WritesWhole result (seen_by W.contents writer.old) (seen_by W.contents writer.new)
         (track_line geometry.model address.cylinder address.head track.now ++ flat_map record_line track.now.records) }
 {
-    if let Err(fault) = list_home_address(writer, geometry, address, track) {
-        return Err(fault);
-    }
+    list_home_address(writer, geometry, address, track)?;
     for i in 0..track.len() {
-        if let Err(fault) = list_record(writer, track, i) {
-            return Err(fault);
-        }
+        list_record(writer, track, i)?;
     }
     Ok(())
 }

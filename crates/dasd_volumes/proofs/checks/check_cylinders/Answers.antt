@@ -1,4 +1,5 @@
 use Rattle.std.proofs.Common.{rules, tests, refl}
+use Rattle.std.proofs.lemmas.Result.{err_from_is_err_and}
 use Rattle.dasd_volumes.proofs.Appended.{no_number, more_number}
 use Rattle.dasd_volumes.proofs.Fronts.{no_lines, more_lines, front_of_lines}
 use Rattle.dasd_volumes.specs.Volumes.{finding_line}
@@ -27,6 +28,7 @@ loop-cylinder-preserved g c = record {
 }
 
 -- a cylinder was not checked to its end
-pub returns-in-Err-clause-lines : goal.returns-in-Err-clause-lines
-returns-in-Err-clause-lines g c =
-    λ slots known. front_of_lines finding_line _ _ _ _ c.loop-cylinder.cylinder _ (search (rules, tests)) (c.loop-cylinder.invariant.lines slots known) (search (rules, tests))
+pub returns-in_err-findings-clause-lines : goal.returns-in_err-findings-clause-lines
+returns-in_err-findings-clause-lines g c =
+    let p = err_from_is_err_and c.from_residual.result c.from_residual.ensures.1 in
+    rw p.1 (λ slots known. front_of_lines finding_line _ _ _ _ c.loop-cylinder.cylinder _ (search (rules, tests)) (c.loop-cylinder.invariant.lines slots known) (search (rules, tests)))
