@@ -1,15 +1,11 @@
 -- Each character of ASCII has a byte in the code page.
-use Rattle.std.proofs.Common.{ℕ, zero, suc, ◌+◌, ◌<◌, ◌≤◌, ◌≡◌, ◌≢◌, ◌∙◌, Bool, true, false, ◌&&◌, ◌==◌, nat_lt, List, [], ◌∷◌, get_or, min, refl, sym, ap, arith}
-use Rattle.std.proofs.lemmas.Bool.{eqb-true, ltb-true, ltb-false, false≢true}
+use Rattle.std.proofs.Common.{ℕ, zero, suc, ◌<◌, ◌≤◌, ◌≡◌, ◌≢◌, ◌∙◌, Bool, true, false, ◌&&◌, ◌==◌, nat_lt, List, [], ◌∷◌, get_or, min, refl, sym, ap, arith}
+use Rattle.std.proofs.lemmas.Bool.{and_parts, eqb-true, ltb-true, ltb-false}
 use Rattle.volume_labels.specs.Ebcdic.{code_page_037, character_of}
 
 all_below : (ℕ → Bool) → ℕ → Bool
 all_below test zero = true
 all_below test (suc n) = test n && all_below test n
-
-both : (a b : Bool) → (a && b) ≡ true → (a ≡ true) × (b ≡ true)
-both true b is = (refl, is)
-both false b is = absurd (false≢true is)
 
 below : (test : ℕ → Bool) (n k : ℕ) → all_below test n ≡ true → k < n → test k ≡ true
 unfolding all_below
@@ -17,14 +13,14 @@ below test zero k all inside = absurd (none k inside)
   where
     none : (k : ℕ) → k < 0 → ⊥
     none k h = omega (arith, h)
-below test (suc n) k all inside = at_last (nat_lt k n) refl (below test n k (both (test n) (all_below test n) all).1)
+below test (suc n) k all inside = at_last (nat_lt k n) refl (below test n k (and_parts (test n) (all_below test n) all).1)
   where
     last : (k n : ℕ) → k < suc n → n ≤ k → k ≡ n
     last k n inside from = omega (arith, inside, from)
 
     at_last : (b : Bool) → b ≡ nat_lt k n → (k < n → test k ≡ true) → test k ≡ true
     at_last true is earlier = earlier (ltb-true k n (sym is))
-    at_last false is earlier = ap test (last k n inside (ltb-false k n (sym is))) ∙ (both (test n) (all_below test n) all).0
+    at_last false is earlier = ap test (last k n inside (ltb-false k n (sym is))) ∙ (and_parts (test n) (all_below test n) all).0
 
 -- the byte of each character
 bytes : List ℕ
@@ -55,14 +51,3 @@ is_found c i inside whole none = none (byte_for c) (few (get_or bytes c 0) i who
   where
     few : (b i : ℕ) → 256 ≤ i → min 255 b < i
     few b i whole = omega (arith, whole)
-
--- one byte less to look at
-pub one_less : (c i : ℕ) → ((k : ℕ) → k < i → character_of k ≢ c) → character_of i ≢ c → (k : ℕ) → k < i + 1 → character_of k ≢ c
-one_less c i none not_this k inside = at_last (nat_lt k i) refl
-  where
-    last : (k i : ℕ) → k < i + 1 → i ≤ k → k ≡ i
-    last k i inside from = omega (arith, inside, from)
-
-    at_last : (b : Bool) → b ≡ nat_lt k i → character_of k ≢ c
-    at_last true is = none k (ltb-true k i (sym is))
-    at_last false is = λ e. not_this (ap character_of (sym (last k i inside (ltb-false k i (sym is)))) ∙ e)

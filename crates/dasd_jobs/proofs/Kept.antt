@@ -1,7 +1,6 @@
 -- Files that are written back one after another.
-use Rattle.std.proofs.Common.{ℕ, ◌+◌, ◌<◌, ◌≤◌, ◌≡◌, ◌∙◌, ◌⊎◌, inl, inr, List, ◌++◌, length, get_or, ap, sym, subst, Option, append_assoc, append-nil, arith}
+use Rattle.std.proofs.Common.{ℕ, ◌+◌, ◌<◌, ◌≤◌, ◌≡◌, ◌∙◌, ◌⊎◌, inl, inr, List, ◌++◌, ap, sym, subst, Option, append_assoc, append-nil, arith}
 use Rattle.std.proofs.lemmas.Bool.{cases_lt}
-use Rattle.std.proofs.lemmas.List.{get_or-map}
 use Rattle.ckd_image.specs.Files.{file_at}
 use Rattle.dasd_files.specs.Files.{FileState}
 use Rattle.dasd_jobs.specs.Back.{IsKept, AreKept}
@@ -16,10 +15,6 @@ none_yet before of = sym (append-nil before) ∙ ap (λ l. before ++ l) (sym (of
 pub and_one : {A : Type 0} (before now after : List A) (of : ℕ → List A) (n : ℕ) → now ≡ before ++ of_each of n → after ≡ now ++ of n → after ≡ before ++ of_each of (n + 1)
 and_one before now after of n first next =
     next ∙ ap (λ l. l ++ of n) first ∙ append_assoc before (of_each of n) (of n) ∙ ap (λ l. before ++ l) (sym (of_one_more of n))
-
--- an element that is there does not go by what stands for one that is not
-pub same_at : {A : Type 0} (xs : List A) (i : ℕ) (d e : A) → i < length xs → get_or xs i d ≡ get_or xs i e
-same_at xs i d e inside = sym (get_or-map (λ x. x) xs i d d inside) ∙ get_or-map (λ x. x) xs i e d inside
 
 -- one more store that holds what was read of it, unless it was changed
 pub one_more_kept : (stores : List (Option FileState)) (n : ℕ) → AreKept stores n → IsKept (file_at stores n) → AreKept stores (n + 1)

@@ -1,5 +1,5 @@
 -- Lines that a job prints.
-use Rattle.std.specs.Prelude.{Result, Ok, Err}
+use Rattle.std.specs.Prelude.{Result, Err}
 use Rattle.counted_io.specs.Streams.{Stream, NoneFailed, OneFailed}
 use Rattle.dasd_jobs.specs.declared.faults.JobFault.{JobFault}
 use Rattle.dasd_jobs.specs.declared.faults.JobFault.TheVariants.{Write}

@@ -1,16 +1,8 @@
 -- Files that come to a folder.
-use Rattle.std.proofs.Common.{◌∙◌, ap, sym, ℕ, List, [], ◌++◌, append_assoc, append-nil}
-use Rattle.std.proofs.lemmas.List.Elements.{All-append, All-nil}
+use Rattle.std.proofs.Common.{◌∙◌, ap, ℕ, List, ◌++◌, append_assoc}
+use Rattle.std.proofs.lemmas.List.Elements.{All-append}
 use Rattle.dasd_jobs.specs.Written.{Replaced}
 use Rattle.dasd_unload.specs.Unloads.{AddsIn, StandsIn}
-
--- none came
-pub adds_nothing : (folder : List ℕ) (before : List Replaced) → AddsIn folder before before
-adds_nothing folder before = record {
-  more = [];
-  added = sym (append-nil before);
-  stand = All-nil (StandsIn folder);
-}
 
 -- some came, and then others
 pub adds_both : (folder : List ℕ) (before between now : List Replaced) → AddsIn folder before between → AddsIn folder between now → AddsIn folder before now

@@ -1,6 +1,6 @@
 -- Texts of which the first bytes are written.
-use Rattle.std.proofs.Common.{◌≡◌, ◌+◌, ◌-◌, ◌<◌, ◌≤◌, ℕ, zero, suc, List, [], ◌++◌, take, drop, get_or, length, refl, sym, ap, subst, ◌∙◌, append_assoc, append-nil, take-append-drop, arith, add-one, flat_map}
-use Rattle.std.proofs.lemmas.List.{flat_map_more, take_more, take_all}
+use Rattle.std.proofs.Common.{◌≡◌, ◌+◌, ◌-◌, ◌<◌, ◌≤◌, ℕ, zero, suc, List, [], ◌++◌, take, drop, get_or, length, sym, ap, subst, ◌∙◌, append_assoc, append-nil, take-append-drop, arith, add-one, flat_map}
+use Rattle.std.proofs.lemmas.List.{flat_map_more, take_more}
 use Rattle.std.proofs.lemmas.List.Concat.{flat_map-append}
 use Rattle.counted_io.specs.Streams.{Stream, Takes, TakesFront}
 use Rattle.counted_io.proofs.Written.{takes_nothing, takes_more}
@@ -14,9 +14,6 @@ pub record Begins (front text : List ℕ) : Type 0 where
 
 pub begins_with_all : (text : List ℕ) → Begins text text
 begins_with_all text = record { rest = []; whole = sym (append-nil text) }
-
-pub begins_with_first : (first second : List ℕ) → Begins first (first ++ second)
-begins_with_first first second = record { rest = second; whole = refl }
 
 -- the same behind other bytes, and of a text that goes on
 pub begins_behind : (before front text : List ℕ) → Begins front text → Begins (before ++ front) (before ++ text)
@@ -89,16 +86,12 @@ pub one_more : (a b c : Stream) (before : List ℕ) (of : ℕ → List ℕ) (n :
 one_more a b c before of n first next =
     subst (Takes a c) (append_assoc before (of_each of n) (of n) ∙ ap (λ l. before ++ l) (sym (of_one_more of n))) (takes_more a b c (before ++ of_each of n) (of n) first next)
 
--- the text of one more element, and of all; and the first bytes of the next
+-- the text of one more element; and the first bytes of the next
 pub one_more_text : {X : Type 0} (a b c : Stream) (text : X → List ℕ) (before : List ℕ) (xs : List X) (i : ℕ) (d : X) → i < length xs
     → Takes a b (before ++ flat_map text (take i xs)) → Takes b c (text (get_or xs i d)) → Takes a c (before ++ flat_map text (take (i + 1) xs))
 one_more_text a b c text before xs i d inside first next =
     subst (Takes a c) (flat_map_more text before (take i xs) (get_or xs i d) ∙ ap (λ l. before ++ flat_map text l) (sym (take_more xs i d inside)))
     (takes_more a b c _ _ first next)
-
-pub all_texts : {X : Type 0} (a b : Stream) (text : X → List ℕ) (before : List ℕ) (xs : List X) (i : ℕ) → length xs ≤ i
-    → Takes a b (before ++ flat_map text (take i xs)) → Takes a b (before ++ flat_map text xs)
-all_texts a b text before xs i passed are = rw (take_all i xs passed) at are
 
 pub front_of_text : {X : Type 0} (a b c : Stream) (text : X → List ℕ) (before : List ℕ) (xs : List X) (i : ℕ) (d : X) → i < length xs
     → Takes a b (before ++ flat_map text (take i xs)) → TakesFront b c (text (get_or xs i d)) → TakesFront a c (before ++ flat_map text xs)

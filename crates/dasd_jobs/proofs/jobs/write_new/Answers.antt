@@ -1,4 +1,4 @@
-use Rattle.std.proofs.Common.{◌≡◌, ◌∙◌, List, ℕ, ap}
+use Rattle.std.proofs.Common.{◌∙◌, List, ℕ, ap}
 use Rattle.ckd_image.specs.Image.{new_file}
 use Rattle.dasd_jobs.specs.Written.{with_file}
 use Rattle.dasd_jobs.proofs.jobs.write_new.Goals as goal

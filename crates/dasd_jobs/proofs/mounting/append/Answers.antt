@@ -1,4 +1,4 @@
-use Rattle.std.proofs.Common.{◌≡◌, ◌∙◌, ◌++◌, ◌∷◌, [], ap, sym, Some}
+use Rattle.std.proofs.Common.{◌∙◌, ◌++◌, ◌∷◌, [], ap, sym, Some}
 use Rattle.ckd_image.specs.Files.{each}
 use Rattle.ckd_image.proofs.ReadLemmas.{each-append}
 use Rattle.dasd_files.specs.Files.{FileState}

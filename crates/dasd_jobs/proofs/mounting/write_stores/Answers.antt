@@ -1,9 +1,9 @@
-use Rattle.std.proofs.Common.{◌≡◌, ◌∙◌, ◌++◌, ◌+◌, map, ap, sym, subst, append-nil, arith, slice_index_or, None, Bor, ℕ, List, []}
+use Rattle.std.proofs.Common.{◌≡◌, ◌∙◌, ◌++◌, map, ap, sym, subst, append-nil, arith, slice_index_or, None, Bor, ℕ, List, []}
 use Rattle.std.proofs.Math.ListN.{get_or-map}
-use Rattle.std.proofs.lemmas.List.{get_or_past}
+use Rattle.std.proofs.lemmas.List.{get_or_default, get_or_past}
 use Rattle.ckd_image.specs.Files.{file_at}
 use Rattle.dasd_jobs.specs.Back.{changed_file, IsKept}
-use Rattle.dasd_jobs.proofs.Kept.{none_yet, and_one, one_more_kept, same_at}
+use Rattle.dasd_jobs.proofs.Kept.{none_yet, and_one, one_more_kept}
 use Rattle.dasd_jobs.proofs.mounting.write_stores.Goals.{then-i-stores+in_ok-write_changed, else-i-stores}
 use Rattle.dasd_jobs.proofs.mounting.write_stores.Goals as goal
 
@@ -21,7 +21,7 @@ loop-i-preserved g c =
     let and_kept = one_more_kept stores i c.loop-i.invariant.kept in
     elim c.if-i-stores.branch [
       | then-i-stores+in_ok-write_changed w ↦
-          let at = w.index-stores-i.is ∙ same_at stores i _ None w.if-i-stores.true in
+          let at = w.index-stores-i.is ∙ get_or_default stores i _ None w.if-i-stores.true in
           record {
             written = next (rw (w.files-is) (w.in_ok-write_changed.ensures.0
                 ∙ ap (λ s. g.F.ImageFiles.written c.loop-i.files ++ changed_file (slice_index_or c.args.paths.now i no_path).now s) at

@@ -28,7 +28,7 @@ use denote.Triple.Spec.{Meets, triple_of}
 use denote.Triple.Table.{entered}
 use denote.Triple.Walked.{says, Stays, stay_dropped, walk_of, ends_at, walk_Meets, Goes-dropped}
 use Rattle.dasd_jobs.specs.Written.{with_file}
-use Rattle.dasd_jobs.proofs.Walks.{none, none_made}
+use Rattle.ghost_data.proofs.Walks.{none, none_made}
 use Rattle.dasd_jobs.specs.contracts.written.Written as Written
 use Rattle.ghost_data.specs.contracts.traces.Trace as Trace
 use Rattle.dasd_jobs.specs.contracts.written.Written.with as F
