@@ -11,7 +11,8 @@ use Rattle.s360_channels.specs.declared.faults.DetachFault.TheVariants as detach
 use Rattle.dasd_subsystem.specs.declared.refusal.Refusal.{Refusal}
 use Rattle.dasd_subsystem.specs.declared.refusal.Refusal.TheVariants as refusal
 
--- DASD_NOTHING_HELD, DASD_IN_USE, DASD_OUTSIDE_STORAGE, DASD_BAD_KEY, DASD_BAD_MODEL, DASD_NO_CHANNEL, DASD_NO_DRIVE
+-- DASD_NOTHING_HELD, DASD_IN_USE, DASD_OUTSIDE_STORAGE, DASD_BAD_KEY, DASD_BAD_MODEL, DASD_NO_CHANNEL, DASD_NO_DRIVE, DASD_NO_FILE,
+-- DASD_PROGRAM_RUNS
 abbrev pub nothing_held : ℤ
 nothing_held = neg_ℤ (pos 1)
 
@@ -32,6 +33,12 @@ no_channel = neg_ℤ (pos 10)
 
 abbrev pub no_drive : ℤ
 no_drive = neg_ℤ (pos 11)
+
+abbrev pub no_file : ℤ
+no_file = neg_ℤ (pos 16)
+
+abbrev pub program_runs : ℤ
+program_runs = neg_ℤ (pos 17)
 
 -- a condition code
 abbrev pub number_of : ConditionCode → ℤ
@@ -85,6 +92,6 @@ refusal_code (refusal.Mount fault) = mount_code fault
 abbrev pub detach_code : DetachFault → ℤ
 detach_code detach.NoChannel = no_channel
 detach_code (detach.Refused why.NoDrive) = no_drive
-detach_code (detach.Refused why.ProgramRuns) = neg_ℤ (pos 17)
+detach_code (detach.Refused why.ProgramRuns) = program_runs
 detach_code (detach.Refused why.EndingPends) = neg_ℤ (pos 18)
 detach_code (detach.Refused why.DeviceEndOwed) = neg_ℤ (pos 19)

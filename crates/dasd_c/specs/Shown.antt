@@ -1,25 +1,30 @@
 -- What C is shown of channels and drives.
-use Rattle.std.specs.Prelude.{◌≡◌, ℤ, pos, ℕ, Bool, true, false, Option, Some, None, option_map, if◌then◌else◌}
+use Rattle.std.specs.Prelude.{◌≡◌, ◌/◌, ◌%◌, ℤ, pos, ℕ, Bool, true, false, List, length, map, filter, is_some, Option, Some, None, if◌then◌else◌}
 use Rattle.s360_words.specs.Storage.{Storage}
+use Rattle.ckd_image.specs.Image.{ImageState, IsFileAt}
 use Rattle.ckd_track.specs.declared.model.DriveModel.{DriveModel}
 use Rattle.ckd_track.specs.declared.model.DriveModel.TheVariants.{D2311, D2314}
 use Rattle.s360_laws.specs.Machine.{Machine, is_working}
 use Rattle.s360_laws.specs.declared.arm.Arm.{Arm}
 use Rattle.s360_laws.specs.declared.arm.Arm.TheVariants.{AtRest, InMotion, Arrived}
-use Rattle.s360_channel.specs.Channel.{ChannelState, StandsFor, device_of}
+use Rattle.s360_channels.specs.Channels.{ChannelsState, channel_at}
+use Rattle.s360_channel.specs.Channel.{ChannelState, StandsFor}
 use Rattle.s360_channel.specs.Shares.{with_storage}
-use Rattle.s360_channel.specs.Views.{attached_with, drive_seen, subchannel_seen}
+use Rattle.s360_channel.specs.Views.{view_of}
+use Rattle.s360_channels.specs.Asked.{drive_at, image_at}
 use Rattle.s360_channel.specs.declared.view.DriveView.{DriveView}
 use Rattle.s360_channel.specs.declared.view.RunOn.{RunOn}
+use Rattle.s360_channel.specs.declared.view.View.{View}
 use Rattle.s360_channel.specs.declared.view.SubchannelView.{SubchannelView}
 use Rattle.s360_channel.specs.declared.view.SubchannelView.TheVariants.{Idle, Working, Pending}
 use Rattle.s360_events.specs.declared.conditions.Condition.{Condition}
 use Rattle.s360_events.specs.declared.conditions.Condition.TheVariants.{Two}
 use Rattle.dasd_c.specs.declared.showing.Drive.{Drive}
+use Rattle.dasd_c.specs.declared.showing.File.{File}
 use Rattle.dasd_c.specs.declared.showing.State.{State}
 use Rattle.dasd_c.specs.declared.turns.Ran.{Ran}
 use Rattle.dasd_c.specs.declared.turns.Track.{Track}
-use Rattle.dasd_c.specs.Codes.{no_channel, no_drive}
+use Rattle.dasd_c.specs.Codes.{no_channel, no_drive, no_file, program_runs}
 
 -- a subchannel: its number, the device whose program runs or ended, and 1 where a word of that program asked for an interruption
 abbrev pub numbers_of : SubchannelView → ℕ × ℕ × ℕ
@@ -62,18 +67,35 @@ ShowsSeen (Some seen) code before shown = (code ≡ pos 0) × (shown ≡ drive_s
 ShowsSeen None code before shown = (code ≡ no_drive) × (shown ≡ before)
 
 abbrev pub ShowsDriveOf : Option ChannelState → (device : ℕ) → (code : ℤ) → (before shown : Drive) → Type 0
-ShowsDriveOf (Some c) device code before shown = ShowsSeen (option_map (λ u. drive_seen (device_of u)) (attached_with device c.drives)) code before shown
+ShowsDriveOf (Some c) device code before shown = ShowsSeen (drive_at device (Some c)) code before shown
 ShowsDriveOf None device code before shown = (code ≡ no_channel) × (shown ≡ before)
 
 -- what a subchannel does is shown
 abbrev pub ShowsSubchannel : State → SubchannelView → Type 0
 ShowsSubchannel s seen = let n = numbers_of seen in (s.subchannel ≡ n.0) × (s.device ≡ n.1) × (s.asked ≡ n.2)
 
--- A channel is shown, with what the subchannel of every machine does that it stands for; or there is none with this number, and nothing
+-- The drives of a channel are shown in the order of attachment, each with the low byte of its address and the number of its arm, and how
+-- many they are; behind them stand zeros.
+abbrev pub unit_shown : Option (ℕ × Arm) → ℕ
+unit_shown (Some d) = d.0
+unit_shown None = 0
+
+abbrev pub arm_shown : Option (ℕ × Arm) → ℕ
+arm_shown (Some d) = number_of_arm d.1
+arm_shown None = 0
+
+abbrev pub drives_shown : List (Option (ℕ × Arm)) → ℕ
+drives_shown drives = length (filter is_some drives)
+
+abbrev pub ShowsState : State → View → Type 0
+ShowsState s view =
+    ShowsSubchannel s view.subchannel × (s.drives ≡ drives_shown view.drives) × (s.units ≡ map unit_shown view.drives) × (s.arms ≡ map arm_shown view.drives)
+
+-- A channel is shown, as every machine shows itself that it stands for over this storage; or there is none with this number, and nothing
 -- is.
-abbrev pub ShowsStateOf : Option ChannelState → (code : ℤ) → (before shown : State) → Type 0
-ShowsStateOf (Some c) code before shown = (code ≡ pos 0) × ((m : Machine) → StandsFor c m → ShowsSubchannel shown (subchannel_seen m m.subchannel))
-ShowsStateOf None code before shown = (code ≡ no_channel) × (shown ≡ before)
+abbrev pub ShowsStateOf : Option ChannelState → Storage → (code : ℤ) → (before shown : State) → Type 0
+ShowsStateOf (Some c) s code before shown = (code ≡ pos 0) × ((m : Machine) → StandsFor (with_storage c s) m → ShowsState shown (view_of m))
+ShowsStateOf None s code before shown = (code ≡ no_channel) × (shown ≡ before)
 
 -- whether a condition code is 2: of Test Channel, that a program runs
 abbrev pub is_two : {A : Type 0} → Condition A → Bool
@@ -84,3 +106,29 @@ is_two code = false
 abbrev pub RunsAt : Bool → Storage → Option ChannelState → Type 0
 RunsAt answer s (Some c) = (m : Machine) → StandsFor (with_storage c s) m → answer ≡ is_working m.subchannel
 RunsAt answer s None = answer ≡ false
+
+-- A file that holds these bytes is shown, by how many they are; or there is no such file, and nothing is.
+abbrev pub ShowsContent : Option (List ℕ) → (code : ℤ) → (before shown : File) → Type 0
+ShowsContent (Some bytes) code before shown = (code ≡ pos 0) × (shown.len ≡ length bytes)
+ShowsContent None code before shown = (code ≡ no_file) × (shown ≡ before)
+
+-- The file of an image at a place among its files; or there is no drive that holds one,
+abbrev pub ShowsFileIn : Option ImageState → (place : ℕ) → (code : ℤ) → (before shown : File) → Type 0
+ShowsFileIn (Some image) place code before shown = (content : Option (List ℕ)) × IsFileAt image place content × ShowsContent content code before shown
+ShowsFileIn None place code before shown = (code ≡ no_drive) × (shown ≡ before)
+
+-- or there is no such channel,
+abbrev pub ShowsFileAt : Option ChannelState → (device place : ℕ) → (code : ℤ) → (before shown : File) → Type 0
+ShowsFileAt (Some c) device place code before shown = ShowsFileIn (image_at device (Some c)) place code before shown
+ShowsFileAt None device place code before shown = (code ≡ no_channel) × (shown ≡ before)
+
+-- or a program runs there.
+abbrev pub ShowsUnless : (running : Bool) → Option ChannelState → (device place : ℕ) → (code : ℤ) → (before shown : File) → Type 0
+ShowsUnless true o device place code before shown = (code ≡ program_runs) × (shown ≡ before)
+ShowsUnless false o device place code before shown = ShowsFileAt o device place code before shown
+
+-- A file of the drive under an address, by its place among those of the drive's volume.
+pub record ShowsFileOf (s : ChannelsState) (address place : ℕ) (code : ℤ) (before shown : File) : Type 0 where
+  pub running : Bool
+  pub runs : RunsAt running s.storage (channel_at (address / 256) s)
+  pub shows : ShowsUnless running (channel_at (address / 256) s) (address % 256) place code before shown

@@ -1,14 +1,13 @@
 //! What is shown of channels, drives and their volumes.
 
-ghost use Rattle.std.specs.Prelude.{◌≡◌, ◌/◌, ◌%◌, pos, false, None, IfSome, OnOk, IfErr};
+ghost use Rattle.std.specs.Prelude.{◌≡◌, ◌/◌, ◌%◌, Some, length};
 ghost use Rattle.s360_channels.specs.Channels.{channel_at};
-ghost use Rattle.dasd_c.specs.Codes.{nothing_held};
 ghost use Rattle.dasd_c.specs.Calls.{Calls};
-ghost use Rattle.dasd_c.specs.Shown.{RunsAt, ShowsDriveOf, ShowsStateOf, ShowsSubchannel, drive_shown, is_two, number_of_arm, number_of_model, numbers_of};
+ghost use Rattle.dasd_c.specs.Shown.{RunsAt, ShowsDriveOf, ShowsFileIn, ShowsFileOf, ShowsState, ShowsStateOf, arm_shown, drive_shown, drives_shown, is_two, number_of_arm, number_of_model, numbers_of, unit_shown};
 
 use crate::handle::{Handle, put, take};
 use crate::tell::{DONE, NO_CHANNEL, NO_DRIVE, NO_FILE, NOTHING_HELD, PROGRAM_RUNS};
-use ckd_image::ImageStore;
+use ckd_image::{Image, ImageStore};
 use ckd_track::DriveModel;
 use dasd_files::VolumeFile;
 use s360_channel::{DriveView, SubchannelView, View};
@@ -35,40 +34,40 @@ pub extern "C" fn dasd_show_file(
     file: u8,
     shown: &mut File,
 ) -> i32
-    ensures kept { handle.new.slot.held ≡ handle.old.slot.held }
-    ensures empty { handle.old.slot.held ≡ None → result ≡ nothing_held }
-    ensures at_rest { result ≡ pos 0 → IfSome handle.old.slot.held (λ s. RunsAt false s.channels.storage (channel_at (address / 256) s.channels)) }
+    ensures { Calls handle.old.slot.held handle.new.slot.held result (λ old new. (new ≡ old) × ShowsFileOf old address file result shown.old shown.new) }
 {
     let Some(subsystem) = take(handle, alloc) else {
         return NOTHING_HELD;
     };
-    let found = file_of(&subsystem.channels, address, file);
+    let code = show_file(&subsystem.channels, address, file, shown);
     put(handle, subsystem);
-    match found {
-        Ok(found) => {
-            *shown = found;
-            DONE
-        }
-        Err(code) => code,
+    code
+}
+
+fn show_file(channels: &Channels<VolumeFile>, address: u16, file: u8, shown: &mut File) -> i32
+    ensures { ShowsFileOf channels.now address file result shown.old shown.new }
+{
+    if runs(channels, address) {
+        return PROGRAM_RUNS;
+    }
+    if !channels.has((address / 256) as u8) {
+        return NO_CHANNEL;
+    }
+    match channels.image(address) {
+        Some(image) => show_file_of(image, file, shown),
+        None => NO_DRIVE,
     }
 }
 
-fn file_of(channels: &Channels<VolumeFile>, address: u16, file: u8) -> Result<File, i32>
-    ensures at_rest { OnOk result (RunsAt false channels.now.storage (channel_at (address / 256) channels.now)) }
-    ensures refused { IfErr result (λ code. code ≡ pos 0 → ⊥) }
+fn show_file_of(image: &Image<VolumeFile>, file: u8, shown: &mut File) -> i32
+    ensures { ShowsFileIn (Some image.now) file result shown.old shown.new }
 {
-    if runs(channels, address) {
-        return Err(PROGRAM_RUNS);
-    }
-    let Some(channel) = channels.channel((address / 256) as u8) else {
-        return Err(NO_CHANNEL);
-    };
-    let Some(image) = channel.image((address % 256) as u8) else {
-        return Err(NO_DRIVE);
-    };
     match image.store(file as usize) {
-        Some(store) => Ok(as_file(store)),
-        None => Err(NO_FILE),
+        Some(store) => {
+            *shown = as_file(store);
+            DONE
+        }
+        None => NO_FILE,
     }
 }
 
@@ -90,7 +89,10 @@ fn is_two(condition: Condition<()>) -> bool
     }
 }
 
-fn as_file(store: &VolumeFile) -> File {
+fn as_file(store: &VolumeFile) -> File
+    ensures len { result.len ≡ length store.now.content }
+    ensures changes { result.changes ≡ store.now.changes }
+{
     File {
         at: store.as_ptr(),
         len: store.len() as usize,
@@ -132,10 +134,10 @@ pub extern "C" fn dasd_show_drive(
 fn show_drive(channels: &Channels<VolumeFile>, address: u16, shown: &mut Drive) -> i32
     ensures { ShowsDriveOf (channel_at (address / 256) channels.now) (address % 256) result shown.old shown.new }
 {
-    let Some(channel) = channels.channel((address / 256) as u8) else {
+    if !channels.has((address / 256) as u8) {
         return NO_CHANNEL;
-    };
-    match channel.drive((address % 256) as u8) {
+    }
+    match channels.drive(address) {
         Some(drive) => {
             *shown = as_drive(drive);
             DONE
@@ -190,7 +192,7 @@ pub extern "C" fn dasd_show_channel(
     channel: u8,
     shown: &mut State,
 ) -> i32
-    ensures { Calls handle.old.slot.held handle.new.slot.held result (λ old new. (new ≡ old) × ShowsStateOf (channel_at channel old) result shown.old shown.new) }
+    ensures { Calls handle.old.slot.held handle.new.slot.held result (λ old new. (new ≡ old) × ShowsStateOf (channel_at channel old) old.storage result shown.old shown.new) }
 {
     let Some(subsystem) = take(handle, alloc) else {
         return NOTHING_HELD;
@@ -201,11 +203,11 @@ pub extern "C" fn dasd_show_channel(
 }
 
 fn show_channel(channels: &Channels<VolumeFile>, number: u8, shown: &mut State) -> i32
-    ensures { ShowsStateOf (channel_at number channels.now) result shown.old shown.new }
+    ensures { ShowsStateOf (channel_at number channels.now) channels.now.storage result shown.old shown.new }
 {
-    match channels.channel(number) {
-        Some(channel) => {
-            *shown = as_state(channel.state());
+    match channels.state(number) {
+        Some(state) => {
+            *shown = as_state(state);
             DONE
         }
         None => NO_CHANNEL,
@@ -213,26 +215,47 @@ fn show_channel(channels: &Channels<VolumeFile>, number: u8, shown: &mut State) 
 }
 
 fn as_state(view: View) -> State
-    ensures { ShowsSubchannel result view.subchannel }
+    ensures { ShowsState result view }
 {
     let (subchannel, device, asked) = seen(view.subchannel);
-    let mut units = [0; 8];
-    let mut arms = [0; 8];
-    let mut drives = 0;
-    for place in 0..8usize {
-        if let Some((address, arm)) = view.drives[place] {
-            units[place] = address;
-            arms[place] = number_of_arm(arm);
-            drives = place as u8 + 1;
-        }
-    }
     State {
         subchannel,
         device,
         asked,
-        drives,
-        units,
-        arms,
+        drives: count_of(&view.drives),
+        units: view.drives.map(unit_of),
+        arms: view.drives.map(arm_of),
+    }
+}
+
+// How many drives are attached.
+fn count_of(drives: &[Option<(u8, Arm)>; 8]) -> u8
+    ensures { result ≡ drives_shown drives.now }
+{
+    let mut count = 0;
+    for drive in drives {
+        if drive.is_some() {
+            count += 1;
+        }
+    }
+    count
+}
+
+fn unit_of(drive: Option<(u8, Arm)>) -> u8
+    ensures { result ≡ unit_shown drive }
+{
+    match drive {
+        Some((unit, _)) => unit,
+        None => 0,
+    }
+}
+
+fn arm_of(drive: Option<(u8, Arm)>) -> u8
+    ensures { result ≡ arm_shown drive }
+{
+    match drive {
+        Some((_, arm)) => number_of_arm(arm),
+        None => 0,
     }
 }
 

@@ -1,6 +1,6 @@
 //! Channels with their drives.
 
-ghost use Rattle.std.specs.Prelude.{◌≡◌, ◌/◌, ◌%◌, true, map, is_some, OnOk, OnErr, IfOk, IfErr};
+ghost use Rattle.std.specs.Prelude.{◌≡◌, ◌/◌, ◌%◌, true, map, OnOk, OnErr, IfOk, IfErr};
 ghost use Rattle.s360_words.specs.Storage.{is_size};
 ghost use Rattle.s360_channels.specs.Channels.{channel_at};
 ghost use Rattle.dasd_subsystem.specs.Attaching.{Attaches, AttachesImage, AttachesNew, NotAttached, NotAttachedNew, Refuses};
@@ -58,7 +58,7 @@ impl Subsystem {
         ensures refused { IfErr result (λ e. NotAttached (channel_at (address / 256) self.old.channels) (address % 256) (map (λ file. file.now) files.now) e) }
         ensures stays { OnErr result (self.new ≡ self.old) }
     {
-        if !has_channel(&self.channels, address) {
+        if !self.channels.has((address / 256) as u8) {
             return Err(Refusal::NoChannel);
         }
         let image = mounted(alloc, files)?;
@@ -82,19 +82,12 @@ impl Subsystem {
         ensures refused { IfErr result (λ e. NotAttachedNew (channel_at (address / 256) self.old.channels) (address % 256) cylinders e) }
         ensures stays { OnErr result (self.new ≡ self.old) }
     {
-        if !has_channel(&self.channels, address) {
+        if !self.channels.has((address / 256) as u8) {
             return Err(Refusal::NoChannel);
         }
         let image = formatted(alloc, model, cylinders)?;
         attach_image(&mut self.channels, alloc, address, image)
     }
-}
-
-// Whether there is a channel with the number in the high byte.
-fn has_channel(channels: &Channels<VolumeFile>, address: u16) -> bool
-    ensures { result ≡ is_some (channel_at (address / 256) channels.now) }
-{
-    channels.channel((address / 256) as u8).is_some()
 }
 
 // Attaches a drive that holds this image.

@@ -4,8 +4,8 @@ use Rattle.std.proofs.lemmas.List.{get_or_default}
 use Rattle.std.specs.Prelude.{slice_index_or, slice_set}
 use Rattle.s360_words.specs.Storage.{Storage}
 use Rattle.s360_channel.specs.Channel.{ChannelState}
-use Rattle.s360_channels.specs.Channels.{Fits, AllFit, OnFound}
-use Rattle.s360_channels.specs.Inside.{Serves, ServesAt, of_parts}
+use Rattle.s360_channels.specs.Channels.{Fits, AllFit, OnChannel, OnFound}
+use Rattle.s360_channels.specs.Inside.{Serves, of_parts}
 
 pub fits_at : (size : ℕ) (cs : List (Option ChannelState)) (number : ℕ) (c : ChannelState) → AllFit size cs → slice_index_or cs number None ≡ Some c → Fits size c
 fits_at size [] number c h e = absurd (no e)
@@ -41,23 +41,10 @@ none_past (c ∷ cs) (suc number) h = none_past cs number (less (length cs) numb
     less : (n m : ℕ) → suc n ≤ suc m → n ≤ m
     less n m h = omega arith
 
-module _ (number : ℕ) (How : ChannelState → ChannelState → Type 0) (Missing : Type 0) (s : Storage) (cs : List (Option ChannelState)) (fit : AllFit (length s.bytes) cs) where
-  pub nobody : slice_index_or cs number None ≡ None → Missing → ServesAt number How Missing (of_parts s cs) (of_parts s cs)
-  nobody e missing = record {
-    calls = subst (λ x. OnFound x number How Missing (of_parts s cs) (of_parts s cs)) (sym e) (missing, refl);
-    fit = fit;
-    size = refl;
-  }
-
-  pub beyond : length cs ≤ number → Missing → ServesAt number How Missing (of_parts s cs) (of_parts s cs)
-  beyond h missing = nobody (none_past cs number h) missing
-
-  pub somebody : (before after : ChannelState) (t : Storage) → slice_index_or cs number None ≡ Some before → Serves How before s after t → ServesAt number How Missing (of_parts s cs) (of_parts t (slice_set cs number (Some after)))
-  somebody before after t e v = record {
-    calls = subst (λ x. OnFound x number How Missing (of_parts s cs) (of_parts t (slice_set cs number (Some after)))) (sym e) (record { after = after; finds = v.finds; others_stay = refl });
-    fit = fit_set (length s.bytes) cs number after fit v.fits;
-    size = v.size;
-  }
+pub somebody : (number : ℕ) (How : ChannelState → ChannelState → Type 0) (Missing : Type 0) (s : Storage) (cs : List (Option ChannelState)) (before after : ChannelState) (t : Storage)
+    → slice_index_or cs number None ≡ Some before → Serves How before s after t → OnChannel number How Missing (of_parts s cs) (of_parts t (slice_set cs number (Some after)))
+somebody number How Missing s cs before after t e v =
+    subst (λ x. OnFound x number How Missing (of_parts s cs) (of_parts t (slice_set cs number (Some after)))) (sym e) (record { after = after; finds = v.finds; others_stay = refl })
 
 pub there : (cs : List (Option ChannelState)) (number : ℕ) (r : Option ChannelState) (c : ChannelState) → number < length cs → slice_index_or cs number r ≡ Some c → slice_index_or cs number None ≡ Some c
 there cs number r c h e = get_or_default cs number None r h ∙ e

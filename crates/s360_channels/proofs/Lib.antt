@@ -6,3 +6,4 @@ pub mod Pending
 pub mod Asking
 pub mod Leaving
 pub mod Taking
+pub mod Holding

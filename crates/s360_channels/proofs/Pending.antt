@@ -1,6 +1,6 @@
--- Whether an interruption of a channel would be taken does not depend on the storage that it finds.
-use Rattle.std.proofs.Common.{◌≡◌, ℕ, refl, sym, ◌∙◌, Bool, true, false, cond, Some, None}
-use Rattle.std.specs.Prelude.{is_some}
+-- Whether an interruption of a channel would be taken, and what it is shown as, does not depend on the storage that it finds.
+use Rattle.std.proofs.Common.{◌≡◌, ℕ, refl, sym, ap, subst, ◌∙◌, Bool, true, false, cond, Some, None, map}
+use Rattle.std.specs.Prelude.{is_some, option_map, slice_get}
 use Rattle.s360_words.specs.Storage.{Storage}
 use Rattle.s360_words.specs.declared.words.Csw.{Csw}
 use Rattle.ckd_command.specs.Drive.{State}
@@ -9,15 +9,19 @@ use Rattle.s360_runs.specs.Places.{Place}
 use Rattle.s360_runs.specs.Units.{standing_in}
 use Rattle.s360_program.specs.Stage.{Stage}
 use Rattle.s360_program.specs.Stage as stage
-use Rattle.s360_program.specs.Stands.{phase_by}
+use Rattle.s360_program.specs.Stands.{RunningState, phase_by}
 use Rattle.s360_laws.specs.Machine.{Machine}
-use Rattle.s360_channel.specs.Channel.{ChannelState, IsChannel, StandsFor}
+use Rattle.s360_channel.specs.Channel.{ChannelState, IsChannel, StandsFor, device_of}
+use Rattle.s360_channel.specs.Channel.{Shows as ChannelShows}
 use Rattle.s360_channel.specs.Shares.{with_storage}
-use Rattle.s360_channel.specs.Views.{interrupts}
+use Rattle.s360_channel.specs.Views.{drives_seen, interrupts, view_of}
 use Rattle.s360_channel.specs.declared.subchannel.Subchannel.{Subchannel}
 use Rattle.s360_channel.specs.declared.subchannel.Subchannel.TheVariants.{Idle, Working, Pending}
+use Rattle.s360_channel.specs.declared.view.SubchannelView.TheVariants as seen
+use Rattle.s360_channel.specs.declared.view.View.{View}
+use Rattle.s360_channel.proofs.Shown.{idle_shown, pending_shown, view_from, working_shown}
 use Rattle.s360_channel.proofs.Seen.{idle_interrupts, pending_interrupts, working_interrupts}
-use Rattle.s360_channels.specs.Asked.{Interrupts}
+use Rattle.s360_channels.specs.Asked.{Interrupts, Shows}
 
 asked : (b : Bool) (csw : Csw) → b ≡ is_some (cond b (Some csw) None)
 asked true csw = refl
@@ -44,3 +48,27 @@ pending_over b c s k h m t = h k.machine k.stands ∙ go c.subchannel refl
     go (Working place r) e =
         sym (working_interrupts c k.machine place r r.place.interruption k.stands e (λ w. asked_there r.key r.stage r.place c.storage w.attached.drive.state w.attached.drive.work))
         ∙ working_interrupts (with_storage c s) m place r r.place.interruption t e (λ w. asked_there r.key r.stage r.place s w.attached.drive.state w.attached.drive.work)
+
+-- Nor does what it is shown as.
+module _ (c : ChannelState) (m : Machine) (h : StandsFor c m) where
+  shown_working : (place : ℕ) (r : RunningState) (device : ℕ) → c.subchannel ≡ Working place r → Some device ≡ option_map (λ u. u.device) (slice_get c.drives place)
+      → record { subchannel = seen.Working device r.place.interruption; drives = drives_seen (map device_of c.drives) } ≡ view_of m
+  shown_working place r device e at =
+      view_from c m h _ _ (working_shown c m place r device r.place.interruption h e at (λ w. asked_there r.key r.stage r.place c.storage w.attached.drive.state w.attached.drive.work)) refl
+
+  shown_idle : c.subchannel ≡ Idle → record { subchannel = seen.Idle; drives = drives_seen (map device_of c.drives) } ≡ view_of m
+  shown_idle e = view_from c m h _ _ (idle_shown c m h e) refl
+
+  shown_pending : (device : ℕ) (csw : Csw) → c.subchannel ≡ Pending device csw → record { subchannel = seen.Pending device csw; drives = drives_seen (map device_of c.drives) } ≡ view_of m
+  shown_pending device csw e = view_from c m h _ _ (pending_shown c m device csw h e) refl
+
+pub shown_over : (view : View) (c : ChannelState) (s : Storage) → IsChannel c → ((m : Machine) → StandsFor c m → view ≡ view_of m) → Shows view s c
+shown_over view c s k h m t = h k.machine k.stands ∙ go c.subchannel refl
+  where
+    go : (x : Subchannel) → c.subchannel ≡ x → view_of k.machine ≡ view_of m
+    go Idle e = sym (shown_idle c k.machine k.stands e) ∙ shown_idle (with_storage c s) m t e
+    go (Pending device csw) e = sym (shown_pending c k.machine k.stands device csw e) ∙ shown_pending (with_storage c s) m t device csw e
+    go (Working place r) e =
+        let w = subst (ChannelShows c k.machine) e k.stands.shows in
+        let at = ap (option_map (λ u. u.device)) (sym w.is_there) in
+        sym (shown_working c k.machine k.stands place r w.attached.device e at) ∙ shown_working (with_storage c s) m t place r w.attached.device e at

@@ -1,13 +1,17 @@
--- What is asked of a channel over the shared storage: what Test Channel answers, and whether an interruption would be taken.
-use Rattle.std.specs.Prelude.{◌≡◌, Bool, false, Option, Some, None}
+-- What is asked of a channel over the shared storage: what Test Channel answers, whether an interruption would be taken, what it and its
+-- drives are shown as.
+use Rattle.std.specs.Prelude.{◌≡◌, ℕ, Bool, false, Option, Some, None, option_map}
 use Rattle.s360_words.specs.Storage.{Storage}
+use Rattle.ckd_image.specs.Image.{ImageState}
 use Rattle.s360_laws.specs.Events.{Answer, WithCode, Tch}
 use Rattle.s360_laws.specs.Machine.{Machine}
 use Rattle.s360_laws.specs.declared.condition.ConditionCode.TheVariants.{Three}
 use Rattle.s360_channel.specs.Calls.{DoesQuietly}
-use Rattle.s360_channel.specs.Channel.{ChannelState, StandsFor}
+use Rattle.s360_channel.specs.Channel.{ChannelState, StandsFor, device_of}
 use Rattle.s360_channel.specs.Shares.{with_storage}
-use Rattle.s360_channel.specs.Views.{interrupts}
+use Rattle.s360_channel.specs.Views.{attached_with, drive_seen, interrupts, view_of}
+use Rattle.s360_channel.specs.declared.view.DriveView.{DriveView}
+use Rattle.s360_channel.specs.declared.view.View.{View}
 
 abbrev pub Tests : Answer → Storage → ChannelState → Type 0
 Tests answer s c = (m : Machine) → StandsFor (with_storage c s) m → DoesQuietly Tch m answer (with_storage c s)
@@ -23,3 +27,22 @@ Interrupts answer s c = (m : Machine) → StandsFor (with_storage c s) m → ans
 abbrev pub InterruptsAt : Bool → Storage → Option ChannelState → Type 0
 InterruptsAt answer s None = answer ≡ false
 InterruptsAt answer s (Some c) = Interrupts answer s c
+
+-- A channel is shown as the machine shows itself that it stands for, over the shared storage.
+abbrev pub Shows : View → Storage → ChannelState → Type 0
+Shows view s c = (m : Machine) → StandsFor (with_storage c s) m → view ≡ view_of m
+
+abbrev pub ShowsAt : Option View → Storage → Option ChannelState → Type 0
+ShowsAt None s None = Unit {0}
+ShowsAt (Some view) s (Some c) = Shows view s c
+ShowsAt view s c = ⊥
+
+-- what is known of a channel's drive without a channel program
+abbrev pub drive_at : (device : ℕ) → Option ChannelState → Option DriveView
+drive_at device None = None
+drive_at device (Some c) = option_map (λ u. drive_seen (device_of u)) (attached_with device c.drives)
+
+-- the image of a channel's drive
+abbrev pub image_at : (device : ℕ) → Option ChannelState → Option ImageState
+image_at device None = None
+image_at device (Some c) = option_map (λ u. u.drive.image) (attached_with device c.drives)

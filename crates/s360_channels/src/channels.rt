@@ -1,6 +1,6 @@
 //! Several channels, and the calls for an address of any of them.
 
-ghost use Rattle.std.specs.Prelude.{◌≡◌, ◌/◌, ◌%◌, None, Some, length, replicate, slice_set, false, option_map, OnOk, OnErr, IfErr};
+ghost use Rattle.std.specs.Prelude.{◌≡◌, ◌/◌, ◌%◌, None, Some, length, replicate, slice_set, false, OnOk, OnErr, IfErr};
 ghost use Rattle.s360_laws.specs.Events as machine;
 ghost use Rattle.s360_events.specs.Seen.{answer_seen};
 ghost use Rattle.s360_events.specs.declared.answers.Answer.TheVariants as answer;
@@ -10,6 +10,7 @@ ghost use Rattle.s360_channels.specs.Asked.{InterruptsAt, TestsAt};
 ghost use Rattle.s360_channels.specs.Channels.{OnChannel, Quietly, AtMost, RunsTo, ResetsTo, channel_at};
 
 use crate::faults::{AddFault, AttachFault};
+use crate::lending::{Lending, give_back};
 use crate::{adding, numbers};
 use ckd_image::{Image, ImageStore};
 use s360_channel::{Channel, Reset, RunOn};
@@ -25,19 +26,20 @@ use std::marker::Model;
 /// others and the processor store is a change from outside between two of its units.
 #[derive(Drop)]
 pub struct Channels<S: ImageStore> {
-    pub(crate) storage: Storage,
+    pub(crate) lending: Lending,
     pub(crate) list: [Option<Channel<S>>; 7],
 }
 
 impl<S: ImageStore> Model for Channels<S> {
     ghost use Rattle.std.specs.Prelude.{length};
     ghost use Rattle.s360_channels.specs.Channels.{ChannelsState, AllFit};
+    ghost use Rattle.s360_channels.specs.Inside.{lent};
 
     ghost Value = { ChannelsState };
 
-    ghost view = { λ c. record { storage = c.storage; channels = c.list } };
+    ghost view = { λ c. lent c.lending c.list };
 
-    ghost invariant = { λ c. AllFit (length c.storage.bytes) c.list };
+    ghost invariant = { λ c. AllFit (length c.lending.kept.bytes) c.list };
 }
 
 impl<S: ImageStore> Channels<S> {
@@ -46,7 +48,10 @@ impl<S: ImageStore> Channels<S> {
         ensures { result ≡ record { storage = storage; channels = replicate 7 None } }
     {
         Channels {
-            storage,
+            lending: Lending {
+                kept: storage,
+                holder: None,
+            },
             list: [None, None, None, None, None, None, None],
         }
     }
@@ -56,7 +61,7 @@ impl<S: ImageStore> Channels<S> {
     pub fn sio(&mut self, address: u16) -> Condition<Status>
         ensures { OnChannel (address / 256) (Quietly (machine.Sio address) (answer_seen (answer.Sio address result))) (result ≡ Three) self.old self.new }
     {
-        numbers::sio(&mut self.list, &mut self.storage, address)
+        numbers::sio(&mut self.list, &mut self.lending, address)
     }
 
     /// Test I/O at an input/output address, at the channel of its high byte; 3 where there is none. It makes no call of a store
@@ -64,7 +69,7 @@ impl<S: ImageStore> Channels<S> {
     pub fn tio(&mut self, address: u16) -> Condition<Csw>
         ensures { OnChannel (address / 256) (Quietly (machine.Tio address) (answer_seen (answer.Tio address result))) (result ≡ Three) self.old self.new }
     {
-        numbers::tio(&mut self.list, &mut self.storage, address)
+        numbers::tio(&mut self.list, &mut self.lending, address)
     }
 
     /// Halt I/O at an input/output address, at the channel of its high byte; 3 where there is none. It makes at most one call of
@@ -72,22 +77,23 @@ impl<S: ImageStore> Channels<S> {
     pub fn hio(&mut self, address: u16) -> Condition<Status>
         ensures { OnChannel (address / 256) (AtMost 1 (machine.Hio address) (answer_seen (answer.Hio address result))) (result ≡ Three) self.old self.new }
     {
-        numbers::hio(&mut self.list, &mut self.storage, address)
+        numbers::hio(&mut self.list, &mut self.lending, address)
     }
 
     /// Lets the program of the channel with this number do units until it ends, so many at most; none where there is no such
     /// channel. A unit makes at most two calls of a store.
+    #[inline(always)]
     pub fn run_on(&mut self, number: u8, units: u32) -> Option<RunOn>
         ensures { OnChannel number (RunsTo units result) (result ≡ None) self.old self.new }
     {
-        numbers::run_on(&mut self.list, &mut self.storage, number, units)
+        numbers::run_on(&mut self.list, &mut self.lending, number, units)
     }
 
     /// The arm of the drive at an input/output address arrives, if it moves. It makes no call of a store.
     pub fn arrive(&mut self, address: u16) -> bool
         ensures { OnChannel (address / 256) (Quietly (machine.Arrive address) (machine.HasArrived result)) (result ≡ false) self.old self.new }
     {
-        numbers::arrive(&mut self.list, &mut self.storage, address)
+        numbers::arrive(&mut self.list, &mut self.lending, address)
     }
 
     /// The processor takes an interruption of the channel with this number, if it has one: its channel status word is stored. It
@@ -95,7 +101,7 @@ impl<S: ImageStore> Channels<S> {
     pub fn interrupt_at(&mut self, number: u8) -> Option<(u16, Csw)>
         ensures { OnChannel number (Quietly machine.Interrupt (machine.Interrupted result)) (result ≡ None) self.old self.new }
     {
-        numbers::interrupt(&mut self.list, &mut self.storage, number)
+        numbers::interrupt(&mut self.list, &mut self.lending, number)
     }
 
     /// Resets the channel with this number and its drives; none where there is no such channel. It makes at most one call of a
@@ -103,7 +109,7 @@ impl<S: ImageStore> Channels<S> {
     pub fn reset(&mut self, number: u8) -> Option<Reset>
         ensures { OnChannel number (ResetsTo result) (result ≡ None) self.old self.new }
     {
-        numbers::reset(&mut self.list, &mut self.storage, number)
+        numbers::reset(&mut self.list, &mut self.lending, number)
     }
 
     /// Adds a channel with this number and no drives. It takes memory for the storage that the channel has between calls.
@@ -117,7 +123,8 @@ impl<S: ImageStore> Channels<S> {
         ensures refused { IfErr result (λ e. RefusedAs number self.old.channels e) }
         ensures stays { OnErr result (self.new ≡ self.old) }
     {
-        adding::add(&mut self.list, self.storage.size(), alloc, number)
+        give_back(&mut self.list, &mut self.lending);
+        adding::add(&mut self.list, self.lending.kept.size(), alloc, number)
     }
 
     /// Attaches a drive that holds this image to the channel of the high byte of an address, under its low byte, as
@@ -138,6 +145,7 @@ impl<S: ImageStore> Channels<S> {
         ensures handed_back { IfErr result (λ e. e.1 ≡ image) }
         ensures stays { OnErr result (self.new ≡ self.old) }
     {
+        give_back(&mut self.list, &mut self.lending);
         adding::attach(&mut self.list, alloc, address, image)
     }
 
@@ -153,13 +161,5 @@ impl<S: ImageStore> Channels<S> {
         ensures { InterruptsAt result self.now.storage (channel_at number self.now) }
     {
         numbers::is_pending(&self.list, number)
-    }
-
-    /// The channel with this number, lent, to be asked for its drives, its images and what its subchannel does; the storage that
-    /// it has between calls is not the machine's.
-    pub fn channel(&self, number: u8) -> Option<&Channel<S>>
-        ensures { option_map (λ c. c.now) result ≡ channel_at number self.now }
-    {
-        numbers::channel(&self.list, number)
     }
 }

@@ -6,7 +6,7 @@ ghost use Rattle.s360_channels.specs.Ending.{Ends, FinishesAll, RemovesAt};
 ghost use Rattle.s360_channels.specs.Inside.{ServesEnd, of_parts};
 
 use crate::channels::Channels;
-use crate::found;
+use crate::lending::{exchange, give_back};
 use ckd_image::ImageStore;
 use s360_channel::{Channel, Finished};
 use s360_words::Storage;
@@ -19,7 +19,8 @@ impl<S: ImageStore> Channels<S> {
     pub fn remove(&mut self, number: u8) -> Option<Finished<S>>
         ensures { RemovesAt number (option_map (λ c. record { storage = c.storage; images = c.images; unsaved = c.reset.unsaved }) result) self.old self.new }
     {
-        remove(&mut self.list, &mut self.storage, number)
+        give_back(&mut self.list, &mut self.lending);
+        remove(&mut self.list, &mut self.lending.kept, number)
     }
 
     /// Resets each channel, in order of the channels' numbers, and gives back the storage that they shared, and by their numbers
@@ -38,8 +39,9 @@ impl<S: ImageStore> Channels<S> {
             self.remove(5),
             self.remove(6),
         ];
-        let Channels { storage, list: _ } = self;
-        (storage, channels)
+        give_back(&mut self.list, &mut self.lending);
+        let Channels { lending, list: _ } = self;
+        (lending.kept, channels)
     }
 }
 
@@ -80,7 +82,7 @@ fn end<S: ImageStore>(mut channel: Channel<S>, storage: &mut Storage) -> Finishe
     ensures ends { Ends channel storage.old (record { storage = result.storage; images = result.images; unsaved = result.reset.unsaved }) storage.new }
     ensures size { length storage.new.bytes ≡ length storage.old.bytes }
 {
-    found::exchange(&mut channel, storage);
+    exchange(&mut channel, storage);
     let mut finished = channel.finish();
     mem::swap(&mut finished.storage, storage);
     finished

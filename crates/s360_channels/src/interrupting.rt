@@ -39,8 +39,8 @@ impl<S: ImageStore> Channels<S> {
     }
 }
 
-// Whether the mask is open for the channel with a number.
-fn is_open(mask: u8, number: u8) -> bool
+/// Whether a system mask is open for the channel with a number: bits 0 to 6, from the left, are those of channels 0 to 6.
+pub fn is_open(mask: u8, number: u8) -> bool
     ensures { result ≡ is_open mask number }
 {
     match number {

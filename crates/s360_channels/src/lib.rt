@@ -7,10 +7,13 @@ mod ending;
 mod faults;
 mod found;
 mod interrupting;
+mod lending;
 mod numbers;
 mod packs;
 mod processor;
+mod showing;
 mod turns;
 
 pub use crate::channels::Channels;
 pub use crate::faults::{AddFault, AttachFault, DetachFault, ExchangeFault};
+pub use crate::interrupting::is_open;

@@ -1,37 +1,40 @@
 //! A call at the channel with a number.
 
-ghost use Rattle.std.specs.Prelude.{◌≡◌, ◌/◌, length, None, false, option_map, slice_index_or, ℕ};
+ghost use Rattle.std.specs.Prelude.{◌≡◌, ◌/◌, ◌%◌, length, None, false, is_some, option_map, slice_index_or, ℕ};
 ghost use Rattle.s360_words.specs.Storage.{Storage as StorageState};
 ghost use Rattle.s360_laws.specs.Events as machine;
 ghost use Rattle.s360_events.specs.Seen.{answer_seen};
 ghost use Rattle.s360_events.specs.declared.answers.Answer.TheVariants as answer;
 ghost use Rattle.s360_events.specs.declared.conditions.Condition.TheVariants.{Three};
-ghost use Rattle.s360_channels.specs.Asked.{InterruptsAt, TestsAt};
-ghost use Rattle.s360_channels.specs.Channels.{AllFit, Quietly, AtMost, RunsTo, ResetsTo};
-ghost use Rattle.s360_channels.specs.Inside.{ServesAt, of_parts};
+ghost use Rattle.s360_channels.specs.Asked.{InterruptsAt, ShowsAt, TestsAt, drive_at, image_at};
+ghost use Rattle.s360_channels.specs.Channels.{AllFit, OnChannel, Quietly, AtMost, RunsTo, ResetsTo};
+ghost use Rattle.s360_channels.specs.Inside.{lent};
 ghost use Rattle.s360_channels.specs.Turns.{StepsTo};
 
 use crate::found;
-use ckd_image::ImageStore;
-use s360_channel::{Channel, Reset, RunOn};
+use crate::lending::{Lending, hold};
+use ckd_image::{Image, ImageStore};
+use s360_channel::{Channel, DriveView, Reset, RunOn, View};
 use s360_events::{Condition, Status};
-use s360_words::{Csw, Storage};
+use s360_words::Csw;
 
 /// Start I/O at the channel of the high byte.
 pub(crate) fn sio<S: ImageStore>(
     channels: &mut [Option<Channel<S>>],
-    storage: &mut Storage,
+    lending: &mut Lending,
     address: u16,
 ) -> Condition<Status>
-    requires { AllFit (length storage.old.bytes) channels.old }
-    ensures { ServesAt (address / 256) (Quietly (machine.Sio address) (answer_seen (answer.Sio address result))) (result ≡ Three) (of_parts storage.old channels.old) (of_parts storage.new channels.new) }
+    requires { AllFit (length lending.old.kept.bytes) channels.old }
+    ensures calls { OnChannel (address / 256) (Quietly (machine.Sio address) (answer_seen (answer.Sio address result))) (result ≡ Three) (lent lending.old channels.old) (lent lending.new channels.new) }
+    ensures fit { AllFit (length lending.new.kept.bytes) channels.new }
 {
     let number = (address / 256) as usize;
     if number >= channels.len() {
         return Condition::Three;
     }
+    hold(channels, lending, number);
     match &mut channels[number] {
-        Some(channel) => found::sio(channel, storage, address),
+        Some(channel) => channel.sio(address),
         None => Condition::Three,
     }
 }
@@ -39,18 +42,20 @@ pub(crate) fn sio<S: ImageStore>(
 /// Test I/O at the channel of the high byte.
 pub(crate) fn tio<S: ImageStore>(
     channels: &mut [Option<Channel<S>>],
-    storage: &mut Storage,
+    lending: &mut Lending,
     address: u16,
 ) -> Condition<Csw>
-    requires { AllFit (length storage.old.bytes) channels.old }
-    ensures { ServesAt (address / 256) (Quietly (machine.Tio address) (answer_seen (answer.Tio address result))) (result ≡ Three) (of_parts storage.old channels.old) (of_parts storage.new channels.new) }
+    requires { AllFit (length lending.old.kept.bytes) channels.old }
+    ensures calls { OnChannel (address / 256) (Quietly (machine.Tio address) (answer_seen (answer.Tio address result))) (result ≡ Three) (lent lending.old channels.old) (lent lending.new channels.new) }
+    ensures fit { AllFit (length lending.new.kept.bytes) channels.new }
 {
     let number = (address / 256) as usize;
     if number >= channels.len() {
         return Condition::Three;
     }
+    hold(channels, lending, number);
     match &mut channels[number] {
-        Some(channel) => found::tio(channel, storage, address),
+        Some(channel) => channel.tio(address),
         None => Condition::Three,
     }
 }
@@ -58,18 +63,20 @@ pub(crate) fn tio<S: ImageStore>(
 /// Halt I/O at the channel of the high byte.
 pub(crate) fn hio<S: ImageStore>(
     channels: &mut [Option<Channel<S>>],
-    storage: &mut Storage,
+    lending: &mut Lending,
     address: u16,
 ) -> Condition<Status>
-    requires { AllFit (length storage.old.bytes) channels.old }
-    ensures { ServesAt (address / 256) (AtMost 1 (machine.Hio address) (answer_seen (answer.Hio address result))) (result ≡ Three) (of_parts storage.old channels.old) (of_parts storage.new channels.new) }
+    requires { AllFit (length lending.old.kept.bytes) channels.old }
+    ensures calls { OnChannel (address / 256) (AtMost 1 (machine.Hio address) (answer_seen (answer.Hio address result))) (result ≡ Three) (lent lending.old channels.old) (lent lending.new channels.new) }
+    ensures fit { AllFit (length lending.new.kept.bytes) channels.new }
 {
     let number = (address / 256) as usize;
     if number >= channels.len() {
         return Condition::Three;
     }
+    hold(channels, lending, number);
     match &mut channels[number] {
-        Some(channel) => found::hio(channel, storage, address),
+        Some(channel) => channel.hio(address),
         None => Condition::Three,
     }
 }
@@ -77,18 +84,20 @@ pub(crate) fn hio<S: ImageStore>(
 /// An arm of the channel of the high byte arrives.
 pub(crate) fn arrive<S: ImageStore>(
     channels: &mut [Option<Channel<S>>],
-    storage: &mut Storage,
+    lending: &mut Lending,
     address: u16,
 ) -> bool
-    requires { AllFit (length storage.old.bytes) channels.old }
-    ensures { ServesAt (address / 256) (Quietly (machine.Arrive address) (machine.HasArrived result)) (result ≡ false) (of_parts storage.old channels.old) (of_parts storage.new channels.new) }
+    requires { AllFit (length lending.old.kept.bytes) channels.old }
+    ensures calls { OnChannel (address / 256) (Quietly (machine.Arrive address) (machine.HasArrived result)) (result ≡ false) (lent lending.old channels.old) (lent lending.new channels.new) }
+    ensures fit { AllFit (length lending.new.kept.bytes) channels.new }
 {
     let number = (address / 256) as usize;
     if number >= channels.len() {
         return false;
     }
+    hold(channels, lending, number);
     match &mut channels[number] {
-        Some(channel) => found::arrive(channel, storage, address),
+        Some(channel) => channel.arrive(address),
         None => false,
     }
 }
@@ -96,39 +105,44 @@ pub(crate) fn arrive<S: ImageStore>(
 /// Units of a channel's program, as `Channel::step` does them.
 pub(crate) fn step<S: ImageStore>(
     channels: &mut [Option<Channel<S>>],
-    storage: &mut Storage,
+    lending: &mut Lending,
     number: u8,
     units: u16,
 ) -> Option<u16>
-    requires { AllFit (length storage.old.bytes) channels.old }
-    ensures { ServesAt number (StepsTo units result) (result ≡ None) (of_parts storage.old channels.old) (of_parts storage.new channels.new) }
+    requires { AllFit (length lending.old.kept.bytes) channels.old }
+    ensures calls { OnChannel number (StepsTo units result) (result ≡ None) (lent lending.old channels.old) (lent lending.new channels.new) }
+    ensures fit { AllFit (length lending.new.kept.bytes) channels.new }
 {
     let number = number as usize;
     if number >= channels.len() {
         return None;
     }
+    hold(channels, lending, number);
     match &mut channels[number] {
-        Some(channel) => Some(found::step(channel, storage, units)),
+        Some(channel) => Some(channel.step(units)),
         None => None,
     }
 }
 
 /// Units of a channel's program.
+#[inline(always)]
 pub(crate) fn run_on<S: ImageStore>(
     channels: &mut [Option<Channel<S>>],
-    storage: &mut Storage,
+    lending: &mut Lending,
     number: u8,
     units: u32,
 ) -> Option<RunOn>
-    requires { AllFit (length storage.old.bytes) channels.old }
-    ensures { ServesAt number (RunsTo units result) (result ≡ None) (of_parts storage.old channels.old) (of_parts storage.new channels.new) }
+    requires { AllFit (length lending.old.kept.bytes) channels.old }
+    ensures calls { OnChannel number (RunsTo units result) (result ≡ None) (lent lending.old channels.old) (lent lending.new channels.new) }
+    ensures fit { AllFit (length lending.new.kept.bytes) channels.new }
 {
     let number = number as usize;
     if number >= channels.len() {
         return None;
     }
+    hold(channels, lending, number);
     match &mut channels[number] {
-        Some(channel) => Some(found::run_on(channel, storage, units)),
+        Some(channel) => Some(channel.run_on(units)),
         None => None,
     }
 }
@@ -136,18 +150,20 @@ pub(crate) fn run_on<S: ImageStore>(
 /// The interruption of a channel.
 pub(crate) fn interrupt<S: ImageStore>(
     channels: &mut [Option<Channel<S>>],
-    storage: &mut Storage,
+    lending: &mut Lending,
     number: u8,
 ) -> Option<(u16, Csw)>
-    requires { AllFit (length storage.old.bytes) channels.old }
-    ensures { ServesAt number (Quietly machine.Interrupt (machine.Interrupted result)) (result ≡ None) (of_parts storage.old channels.old) (of_parts storage.new channels.new) }
+    requires { AllFit (length lending.old.kept.bytes) channels.old }
+    ensures calls { OnChannel number (Quietly machine.Interrupt (machine.Interrupted result)) (result ≡ None) (lent lending.old channels.old) (lent lending.new channels.new) }
+    ensures fit { AllFit (length lending.new.kept.bytes) channels.new }
 {
     let number = number as usize;
     if number >= channels.len() {
         return None;
     }
+    hold(channels, lending, number);
     match &mut channels[number] {
-        Some(channel) => found::interrupt(channel, storage),
+        Some(channel) => channel.interrupt(),
         None => None,
     }
 }
@@ -155,27 +171,26 @@ pub(crate) fn interrupt<S: ImageStore>(
 /// A channel is reset.
 pub(crate) fn reset<S: ImageStore>(
     channels: &mut [Option<Channel<S>>],
-    storage: &mut Storage,
+    lending: &mut Lending,
     number: u8,
 ) -> Option<Reset>
-    requires { AllFit (length storage.old.bytes) channels.old }
-    ensures { ServesAt number (ResetsTo result) (result ≡ None) (of_parts storage.old channels.old) (of_parts storage.new channels.new) }
+    requires { AllFit (length lending.old.kept.bytes) channels.old }
+    ensures calls { OnChannel number (ResetsTo result) (result ≡ None) (lent lending.old channels.old) (lent lending.new channels.new) }
+    ensures fit { AllFit (length lending.new.kept.bytes) channels.new }
 {
     let number = number as usize;
     if number >= channels.len() {
         return None;
     }
+    hold(channels, lending, number);
     match &mut channels[number] {
-        Some(channel) => Some(found::reset(channel, storage)),
+        Some(channel) => Some(channel.reset()),
         None => None,
     }
 }
 
-/// The channel with a number, lent.
-pub(crate) fn channel<S: ImageStore>(
-    channels: &[Option<Channel<S>>],
-    number: u8,
-) -> Option<&Channel<S>>
+// The channel with a number, lent.
+fn channel<S: ImageStore>(channels: &[Option<Channel<S>>], number: u8) -> Option<&Channel<S>>
     ensures { option_map (λ c. c.now) result ≡ slice_index_or channels.now number None }
 {
     let number = number as usize;
@@ -210,5 +225,52 @@ pub(crate) fn is_pending<S: ImageStore>(channels: &[Option<Channel<S>>], number:
     match &channels[number] {
         Some(channel) => found::is_pending(channel),
         None => false,
+    }
+}
+
+/// Whether there is a channel with a number.
+pub(crate) fn has<S: ImageStore>(channels: &[Option<Channel<S>>], number: u8) -> bool
+    ensures { result ≡ is_some (slice_index_or channels.now number None) }
+{
+    channel(channels, number).is_some()
+}
+
+/// What a channel is shown as.
+pub(crate) fn state<S: ImageStore>(channels: &[Option<Channel<S>>], number: u8) -> Option<View>
+    ensures { (size : ℕ) (s : StorageState) → AllFit size channels.now → ShowsAt result s (slice_index_or channels.now number None) }
+{
+    let number = number as usize;
+    if number >= channels.len() {
+        return None;
+    }
+    match &channels[number] {
+        Some(channel) => Some(found::state(channel)),
+        None => None,
+    }
+}
+
+/// What is known of the drive at an address.
+pub(crate) fn drive<S: ImageStore>(
+    channels: &[Option<Channel<S>>],
+    address: u16,
+) -> Option<DriveView>
+    ensures { result ≡ drive_at (address % 256) (slice_index_or channels.now (address / 256) None) }
+{
+    match channel(channels, (address / 256) as u8) {
+        Some(channel) => channel.drive((address % 256) as u8),
+        None => None,
+    }
+}
+
+/// The image of the drive at an address, lent.
+pub(crate) fn image<S: ImageStore>(
+    channels: &[Option<Channel<S>>],
+    address: u16,
+) -> Option<&Image<S>>
+    ensures { option_map (λ i. i.now) result ≡ image_at (address % 256) (slice_index_or channels.now (address / 256) None) }
+{
+    match channel(channels, (address / 256) as u8) {
+        Some(channel) => channel.image((address % 256) as u8),
+        None => None,
     }
 }

@@ -7,7 +7,8 @@ ghost use Rattle.s360_channels.specs.Packs.{ChangesPack, RefusedDetach, RefusedE
 
 use crate::channels::Channels;
 use crate::faults::{DetachFault, ExchangeFault};
-use crate::found;
+use crate::lending;
+use crate::lending::give_back;
 use ckd_image::{Image, ImageStore};
 use s360_channel::Channel;
 use s360_words::Storage;
@@ -24,7 +25,8 @@ impl<S: ImageStore> Channels<S> {
         ensures refused { IfErr result (λ e. RefusedDetach (channel_at (address / 256) self.old) self.old.storage (address % 256) e) }
         ensures stays { OnErr result (self.new ≡ self.old) }
     {
-        detach_at(&mut self.list, &mut self.storage, address)
+        give_back(&mut self.list, &mut self.lending);
+        detach_at(&mut self.list, &mut self.lending.kept, address)
     }
 
     /// Changes the pack of the drive at an address, at the channel of its high byte, and gives back the one that it had, as
@@ -43,7 +45,8 @@ impl<S: ImageStore> Channels<S> {
         ensures handed_back { IfErr result (λ e. e.1 ≡ image) }
         ensures stays { OnErr result (self.new ≡ self.old) }
     {
-        exchange_at(&mut self.list, &mut self.storage, address, image)
+        give_back(&mut self.list, &mut self.lending);
+        exchange_at(&mut self.list, &mut self.lending.kept, address, image)
     }
 }
 
@@ -85,9 +88,9 @@ fn detach<S: ImageStore>(
     ensures fits { Fits (length storage.old.bytes) channel.new }
     ensures size { length storage.new.bytes ≡ length storage.old.bytes }
 {
-    found::exchange(channel, storage);
+    lending::exchange(channel, storage);
     let detached = channel.detach(device);
-    found::exchange(channel, storage);
+    lending::exchange(channel, storage);
     match detached {
         Ok(image) => Ok(image),
         Err(fault) => Err(DetachFault::Refused(fault)),
@@ -136,9 +139,9 @@ fn exchange<S: ImageStore>(
     ensures fits { Fits (length storage.old.bytes) channel.new }
     ensures size { length storage.new.bytes ≡ length storage.old.bytes }
 {
-    found::exchange(channel, storage);
+    lending::exchange(channel, storage);
     let exchanged = channel.exchange(device, image);
-    found::exchange(channel, storage);
+    lending::exchange(channel, storage);
     match exchanged {
         Ok(before) => Ok(before),
         Err((fault, image)) => Err((ExchangeFault::Refused(fault), image)),

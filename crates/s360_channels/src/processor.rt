@@ -7,6 +7,7 @@ ghost use Rattle.s360_channel.specs.Views.{key_in};
 ghost use Rattle.s360_channels.specs.Channels.{Puts, Stores};
 
 use crate::channels::Channels;
+use crate::lending::{give_back, shared};
 use ckd_image::ImageStore;
 use s360_channel::OutsideStorage;
 use s360_words::Storage;
@@ -16,21 +17,21 @@ impl<S: ImageStore> Channels<S> {
     pub fn storage(&self) -> &Storage
         ensures { result.now ≡ self.now.storage }
     {
-        &self.storage
+        shared(&self.list, &self.lending)
     }
 
     /// These bytes of storage as they are now, also while programs run; none where one of them is outside.
     pub fn peek(&self, at: u32, len: u32) -> Option<&[u8]>
         ensures { option_map (λ bytes. bytes.now) result ≡ part_of self.now.storage at len }
     {
-        self.storage.slice(at, len)
+        shared(&self.list, &self.lending).slice(at, len)
     }
 
     /// The key, below 16, of the block of storage that has this address; none outside storage.
     pub fn key(&self, at: u32) -> Option<u8>
         ensures { result ≡ key_in self.now.storage at }
     {
-        self.storage.key(at)
+        shared(&self.list, &self.lending).key(at)
     }
 
     /// Where the bytes of storage lie, for a processor that shares them without a copy. They stay there until the channels are
@@ -38,7 +39,8 @@ impl<S: ImageStore> Channels<S> {
     pub fn storage_place(&mut self) -> *mut u8
         ensures { self.new ≡ self.old }
     {
-        self.storage.as_mut_ptr()
+        give_back(&mut self.list, &mut self.lending);
+        self.lending.kept.as_mut_ptr()
     }
 
     /// The processor stores these bytes from an address on, also while programs run.
@@ -49,7 +51,8 @@ impl<S: ImageStore> Channels<S> {
     pub fn poke(&mut self, at: u32, bytes: &[u8]) -> Result<(), OutsideStorage>
         ensures { Stores (Bytes at bytes.now) (is_ok result) self.old self.new }
     {
-        if put(&mut self.storage, at, bytes) {
+        give_back(&mut self.list, &mut self.lending);
+        if put(&mut self.lending.kept, at, bytes) {
             Ok(())
         } else {
             Err(OutsideStorage)
@@ -65,7 +68,8 @@ impl<S: ImageStore> Channels<S> {
         requires { key < 16 }
         ensures { Stores (KeyOf at key) (is_ok result) self.old self.new }
     {
-        if set_key(&mut self.storage, at, key) {
+        give_back(&mut self.list, &mut self.lending);
+        if set_key(&mut self.lending.kept, at, key) {
             Ok(())
         } else {
             Err(OutsideStorage)

@@ -15,7 +15,7 @@ impl<S: ImageStore> Channels<S> {
     pub fn step(&mut self, number: u8, units: u16) -> Option<u16>
         ensures { OnChannel number (StepsTo units result) (result ≡ None) self.old self.new }
     {
-        numbers::step(&mut self.list, &mut self.storage, number, units)
+        numbers::step(&mut self.list, &mut self.lending, number, units)
     }
 
     /// Lets each channel's program do so many units, in order of the channels' numbers, and answers by number as `step` does:

@@ -1,9 +1,15 @@
 use Rattle.std.proofs.Common.{rules, tests}
-use Rattle.s360_channels.proofs.At.{fits_at, somebody, there}
+use Rattle.s360_channels.proofs.At.{there}
+use Rattle.s360_channels.proofs.Fitting.{reset_fits}
+use Rattle.s360_channels.proofs.Holding.{calls_somebody, fit_behind}
 use Rattle.s360_channels.proofs.numbers.reset.Goals as goal
 
-pub reset-requires : goal.reset-requires
-reset-requires g c = fits_at _ c.args.channels.now (c.args.number) c.in-Some.channel c.requires (there c.args.channels.now (c.args.number) c.index-channels-number.result c.in-Some.channel (search (rules, tests)) c.in-Some.is)
+pub returns-in-Some-clause-calls : goal.returns-in-Some-clause-calls
+returns-in-Some-clause-calls g c =
+    let e = there c.hold.new.channels (c.args.number) c.index-channels-number.result c.in-Some.channel (search (rules, tests)) c.in-Some.is in
+    calls_somebody (c.args.number) _ _ _ c.hold.new.lending c.hold.new.channels c.in-Some.channel _ c.hold.ensures.same c.hold.ensures.holds e (record { does = c.reset.ensures.does; calls = c.reset.ensures.calls })
 
-pub returns-in-Some : goal.returns-in-Some
-returns-in-Some g c = somebody (c.args.number) _ _ c.args.storage.now c.args.channels.now c.requires c.in-Some.channel _ _ (there c.args.channels.now (c.args.number) c.index-channels-number.result c.in-Some.channel (search (rules, tests)) c.in-Some.is) c.reset.ensures
+pub returns-in-Some-clause-fit : goal.returns-in-Some-clause-fit
+returns-in-Some-clause-fit g c =
+    let e = there c.hold.new.channels (c.args.number) c.index-channels-number.result c.in-Some.channel (search (rules, tests)) c.in-Some.is in
+    fit_behind _ (reset_fits c.reset.result) _ c.hold.new.channels (c.args.number) c.in-Some.channel _ c.hold.ensures.fit e (record { does = c.reset.ensures.does; calls = c.reset.ensures.calls })

@@ -9,7 +9,7 @@ detach-requires g c = fits_at _ c.args.channels.now (c.args.address / 256) c.in-
 pub returns-in-Some-clause-detached : goal.returns-in-Some-clause-detached
 returns-in-Some-clause-detached g c =
     ok_then c.detach.result _ _
-    (λ image v. (somebody (c.args.address / 256) (TakesOff (c.args.address % 256) image) ⊥ c.args.storage.now c.args.channels.now c.requires c.in-Some.channel c.detach.new.channel c.detach.new.storage (there c.args.channels.now (c.args.address / 256) c.index-channels-number.result c.in-Some.channel (search (rules, tests)) c.in-Some.is) v).calls)
+    (λ image v. somebody (c.args.address / 256) (TakesOff (c.args.address % 256) image) ⊥ c.args.storage.now c.args.channels.now c.in-Some.channel c.detach.new.channel c.detach.new.storage (there c.args.channels.now (c.args.address / 256) c.index-channels-number.result c.in-Some.channel (search (rules, tests)) c.in-Some.is) v)
     c.detach.ensures.detached
 
 pub returns-in-Some-clause-fit : goal.returns-in-Some-clause-fit

@@ -9,7 +9,7 @@ exchange-requires g c = fits_at _ c.args.channels.now (c.args.address / 256) c.i
 pub returns-in-Some-clause-exchanged : goal.returns-in-Some-clause-exchanged
 returns-in-Some-clause-exchanged g c =
     ok_then c.exchange.result _ _
-    (λ before v. (somebody (c.args.address / 256) (ChangesPack (c.args.address % 256) c.args.image before) ⊥ c.args.storage.now c.args.channels.now c.requires c.in-Some.channel c.exchange.new.channel c.exchange.new.storage (there c.args.channels.now (c.args.address / 256) c.index-channels-number.result c.in-Some.channel (search (rules, tests)) c.in-Some.is) v).calls)
+    (λ before v. somebody (c.args.address / 256) (ChangesPack (c.args.address % 256) c.args.image before) ⊥ c.args.storage.now c.args.channels.now c.in-Some.channel c.exchange.new.channel c.exchange.new.storage (there c.args.channels.now (c.args.address / 256) c.index-channels-number.result c.in-Some.channel (search (rules, tests)) c.in-Some.is) v)
     c.exchange.ensures.exchanged
 
 pub returns-in-Some-clause-fit : goal.returns-in-Some-clause-fit

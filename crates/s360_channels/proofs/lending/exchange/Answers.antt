@@ -1,5 +1,5 @@
 use Rattle.s360_channel.specs.Shares.{finding}
-use Rattle.s360_channels.proofs.found.exchange.Goals as goal
+use Rattle.s360_channels.proofs.lending.exchange.Goals as goal
 
 pub returns : goal.returns
 returns g c = record {
