@@ -138,7 +138,8 @@ int32_t dasd_attach_new(dasd *d, uint16_t address, uint16_t model, uint16_t cyli
  * DASD_NO_CHANNEL, DASD_NO_DRIVE, DASD_PROGRAM_RUNS, DASD_ENDING_PENDS, DASD_DEVICE_END_OWED. */
 int32_t dasd_detach(dasd *d, uint16_t address);
 
-/* A file of a volume, to be saved: `len` bytes at `at`. `changes` is another number after each write that changed a byte of it. */
+/* A file of a volume, to be saved: `len` bytes at `at`. `changes` is another number after each write to it, also of bytes that stood
+ * there already. */
 typedef struct dasd_file {
     const uint8_t *at;
     size_t len;

@@ -208,7 +208,7 @@ class Subsystem:
         self._call("detach", address)
 
     def file(self, address, place=0):
-        """A copy of a file of a drive's volume, and a number that is another after each write that changed a byte of it."""
+        """A copy of a file of a drive's volume, and a number that is another after each write to it."""
         shown = _File()
         self._call("show_file", address, place, ctypes.byref(shown))
         return ctypes.string_at(shown.at, shown.len), shown.changes

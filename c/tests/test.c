@@ -85,6 +85,9 @@ static void write_and_read(void) {
     CHECK(shows(&d, 0x44, "0C000000"));
     CHECK(dasd_show_file(&d, 0x190, 0, &after) == DASD_DONE && after.changes != before.changes);
     CHECK(!memcmp(after.at + 512 + 5 + 16, "\0\0\0\0\1\0\0\10\xE3\xC5\xE2\xE3", 12));
+    program(&d, 0x190); /* writes the same once more */
+    CHECK(dasd_show_file(&d, 0x190, 0, &same) == DASD_DONE && same.changes != after.changes);
+    after = same;
     store(&d, 0x100, "31000208 40000005 08000100 00000000 06000300 20000008"); /* Read Data of record 1 */
     program(&d, 0x190);
     CHECK(shows(&d, 0x300, "E3C5E2E3 40F14040"));

@@ -1,6 +1,6 @@
 //! A volume's file in memory.
 
-ghost use Rattle.std.specs.Prelude.{◌≡◌, ◌≢◌, ◌+◌, ◌<◌, ◌≤◌, false, nat_lt, length, replicate, slice_range, is_ok, IsOk, IfOk};
+ghost use Rattle.std.specs.Prelude.{◌≡◌, ◌≢◌, ◌+◌, ◌<◌, ◌≤◌, true, false, nat_lt, length, replicate, slice_range, is_ok, IsOk, IfOk};
 ghost use Rattle.ckd_image.specs.Store.{overwritten};
 ghost use Rattle.dasd_files.specs.Files.{file_of, has_room_in, Writes};
 
@@ -8,6 +8,15 @@ use ckd_image::{ImageStore, StoreFault};
 use ghost_data::{Count, Trace};
 use std::alloc::{AllocError, Global};
 use std::marker::Model;
+
+/// Which writes move the number of changes on.
+#[derive(Clone, Copy, Debug, PartialEq, Eq)]
+enum CountedWrites {
+    /// All of them, also those of bytes that stand there already. Nothing is compared.
+    All,
+    /// Those that change a byte.
+    Changing,
+}
 
 /// The bytes of a file in memory, and a number that is another after each write that changes one of them. Their length stays:
 /// a write that would pass their end fails and changes nothing; every other call succeeds.
@@ -17,6 +26,7 @@ pub struct VolumeFile {
     origin: Trace,
     refused: Count,
     changes: u64,
+    counted: CountedWrites,
 }
 
 impl Model for VolumeFile {
@@ -40,7 +50,17 @@ impl VolumeFile {
             origin,
             refused: Count::new(),
             changes: 0,
+            counted: CountedWrites::Changing,
         }
+    }
+
+    /// The same file, whose number moves on with each write from now on: nothing is compared, and a write of bytes that stand
+    /// there already counts too.
+    pub fn counting_all_writes(mut self) -> VolumeFile
+        ensures { result ≡ self }
+    {
+        self.counted = CountedWrites::All;
+        self
     }
 
     /// A file of a copy of these bytes. The only error is that memory was refused.
@@ -69,14 +89,15 @@ impl VolumeFile {
         self.held.as_ptr()
     }
 
-    /// A number: 0 before the first write that changes a byte, and another after each.
+    /// A number: 0 before the first write that changes a byte, and another after each. Where all writes are counted it is another
+    /// after each of them.
     pub fn changes(&self) -> u64
         ensures { result ≡ self.now.changes }
     {
         self.changes
     }
 
-    /// Whether a write changed a byte; if none did, the bytes are those that the file was made of.
+    /// Whether a write was counted; if none was, the bytes are those that the file was made of.
     pub fn is_changed(&self) -> bool
         ensures changes { result ≡ nat_lt 0 self.now.changes }
         ensures kept { result ≡ false → self.now.content ≡ self.now.origin }
@@ -119,7 +140,11 @@ impl ImageStore for VolumeFile {
             self.refused = self.refused.next();
             return Err(StoreFault);
         }
-        if overwrite(self.held.as_mut_slice(), from, bytes) {
+        let counts = match self.counted {
+            CountedWrites::All => put(self.held.as_mut_slice(), from, bytes),
+            CountedWrites::Changing => overwrite(self.held.as_mut_slice(), from, bytes),
+        };
+        if counts {
             self.changes = another(self.changes);
         }
         Ok(())
@@ -140,10 +165,18 @@ fn overwrite(held: &mut [u8], at: usize, bytes: &[u8]) -> bool
     ensures put { held.new ≡ overwritten held.old at bytes.now }
     ensures same { result ≡ false → held.new ≡ held.old }
 {
-    let to = at + bytes.len();
-    if &held[at..to] == bytes {
+    if &held[at..at + bytes.len()] == bytes {
         return false;
     }
-    held[at..to].copy_from_slice(bytes);
+    put(held, at, bytes)
+}
+
+// Puts bytes over those from a place on, and says that one of them may be another.
+fn put(held: &mut [u8], at: usize, bytes: &[u8]) -> bool
+    requires { at + length bytes.now ≤ length held.old }
+    ensures put { held.new ≡ overwritten held.old at bytes.now }
+    ensures counts { result ≡ true }
+{
+    held[at..at + bytes.len()].copy_from_slice(bytes);
     true
 }

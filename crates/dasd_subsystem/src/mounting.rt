@@ -57,7 +57,7 @@ fn copied(alloc: Global, files: &[&[u8]]) -> Result<ArrayVec<Option<VolumeFile>,
         let Ok(file) = VolumeFile::copy_of(alloc, *bytes) else {
             return Err(Refusal::OutOfMemory);
         };
-        append(&mut copies, file);
+        append(&mut copies, file.counting_all_writes());
     }
     Ok(copies)
 }
@@ -89,7 +89,7 @@ pub(crate) fn formatted(
     let Ok(file) = VolumeFile::zeros(alloc, image_len(model, cylinders)) else {
         return Err(Refusal::OutOfMemory);
     };
-    match Image::format(file, model, cylinders) {
+    match Image::format(file.counting_all_writes(), model, cylinders) {
         Ok(image) => Ok(image),
         Err((fault, _)) => Err(Refusal::Mount(fault)),
     }

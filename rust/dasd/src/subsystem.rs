@@ -22,7 +22,7 @@ unsafe impl Send for Subsystem {}
 #[derive(Clone, Copy, Debug)]
 pub struct File<'a> {
     pub bytes: &'a [u8],
-    /// Another number after each write that changed a byte.
+    /// Another number after each write, also of bytes that stood there already.
     pub changes: u64,
 }
 
