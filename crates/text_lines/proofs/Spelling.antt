@@ -95,3 +95,10 @@ two_at_least width n most h within fits = ⊎_elim (λ l. let w : 2 ≤ width = 
 -- eight digits are enough for any number that fewer are enough for
 pub within_eight : (n most : ℕ) → most ≤ 8 → n < 16 ^ most → n < 16 ^ 8
 within_eight n most short fits = omega (arith, pow-le-pow_right {n = 16} (lit< tt) short)
+
+-- a byte is its two digits
+pub two_digits : (byte : ℕ) → byte < 256 → hexadecimal 2 byte ≡ digit_glyph true (byte / 16) ∷ last_glyph byte ∷ []
+two_digits byte h =
+    last_behind 2 byte (λ l. omega arith) (omega arith)
+    ∙ ap (λ l. l ++ last_glyph byte ∷ []) (last_alone 1 (byte / 16) (omega arith) (omega arith))
+    ∙ ap (λ n. digit_glyph true n ∷ last_glyph byte ∷ []) {x = byte / 16 % 16} {y = byte / 16} (omega arith)

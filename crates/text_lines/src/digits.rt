@@ -36,10 +36,18 @@ pub fn put_bytes<const N: usize>(line: &mut ArrayString<N>, bytes: &[u8])
     ensures size { length line.new.bytes ≤ length line.old.bytes + 2 * length bytes.now }
 {
     for byte in bytes {
-        let mut digits = ArrayString::new();
-        put_digits(&mut digits, 2, u32::from(*byte), 2);
-        line.push_str(digits.as_str());
+        put_byte(line, *byte);
     }
+}
+
+// A byte in its two digits.
+fn put_byte<const N: usize>(line: &mut ArrayString<N>, byte: u8)
+    requires { length line.old.bytes + 2 ≤ N }
+    ensures text { line.new.bytes ≡ line.old.bytes ++ hexadecimal 2 byte }
+    ensures size { length line.new.bytes ≤ length line.old.bytes + 2 }
+{
+    line.push(glyph(u32::from(byte / 16)));
+    line.push(glyph(u32::from(byte % 16)));
 }
 
 // The digits of a number that has at most `most`, and zeros in front of them up to the width.
