@@ -141,7 +141,10 @@ impl ImageStore for VolumeFile {
             return Err(StoreFault);
         }
         let counts = match self.counted {
-            CountedWrites::All => put(self.held.as_mut_slice(), from, bytes),
+            CountedWrites::All => {
+                put(self.held.as_mut_slice(), from, bytes);
+                true
+            }
             CountedWrites::Changing => overwrite(self.held.as_mut_slice(), from, bytes),
         };
         if counts {
@@ -168,15 +171,14 @@ fn overwrite(held: &mut [u8], at: usize, bytes: &[u8]) -> bool
     if &held[at..at + bytes.len()] == bytes {
         return false;
     }
-    put(held, at, bytes)
+    put(held, at, bytes);
+    true
 }
 
-// Puts bytes over those from a place on, and says that one of them may be another.
-fn put(held: &mut [u8], at: usize, bytes: &[u8]) -> bool
+// Puts bytes over those from a place on.
+fn put(held: &mut [u8], at: usize, bytes: &[u8])
     requires { at + length bytes.now ≤ length held.old }
-    ensures put { held.new ≡ overwritten held.old at bytes.now }
-    ensures counts { result ≡ true }
+    ensures { held.new ≡ overwritten held.old at bytes.now }
 {
     held[at..at + bytes.len()].copy_from_slice(bytes);
-    true
 }
