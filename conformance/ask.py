@@ -12,14 +12,14 @@ import sys
 from suite.adapters import make
 from suite.adapters.protocol import Broke
 from suite.decks import DeckFault, parse_line
-from suite.vectors import Vector, folder, softened
+from suite.vectors import FOLDER, Vector, softened
 
 
 def read_deck(path, volumes=()):
     """The vector of a deck's file, with what its remarks say: by place what an event must answer, and the others by their words."""
     with open(path, "rb") as it:
         lines = it.read().split(b"\n")
-    vector, must, said, events = Vector(os.path.basename(path), "ask", folder()), {}, {}, 0
+    vector, must, said, events = Vector(os.path.basename(path), "ask", FOLDER), {}, {}, 0
     for line in lines:
         words = line.decode("latin1").split(None, 2)
         if words[:1] == ["*"]:

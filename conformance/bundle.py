@@ -1,5 +1,5 @@
 #!/usr/bin/env python3
-"""Writes the whole suite, vectors too, into one archive that runs by itself.
+"""Writes the whole suite into one archive that runs by itself.
 
   bundle.py FILE.tar.gz
 """
@@ -7,7 +7,7 @@ import os
 import sys
 import tarfile
 
-from suite.vectors import HERE, folder
+from suite.vectors import HERE
 
 NAME = "ckd-conformance"
 
@@ -28,7 +28,6 @@ def main():
     license_file = os.path.join(os.path.dirname(HERE), "LICENSE")
     with tarfile.open(sys.argv[1], "w:gz") as archive:
         archive.add(HERE, NAME, filter=keep)
-        archive.add(folder(), NAME + "/vectors", filter=keep)
         if os.path.exists(license_file):
             archive.add(license_file, NAME + "/LICENSE", filter=keep)
     return 0

@@ -5,7 +5,7 @@
 
 EMULATOR is one of
   model               the suite's own model
-  dasd=COMMAND        the program dasd, or one that takes the same words
+  dasd=COMMAND        the program dasd, or one that takes the same words; dasd-traced writes a trace of each run too
   protocol=COMMAND    a program that speaks the plain protocol
   library=FILE        the C library, by ctypes
   hercules[=PROGRAM]  Hercules 3.13; hercules-seek-first puts a Seek before each program that begins with none

@@ -40,7 +40,6 @@ LAYERS = {
     "test_channel_rows": ["s360_program", "s360_channel", "s360_deck"],
     "test_random_lists": ["s360_program", "s360_channel"],
     "test_cut_programs": ["s360_program", "s360_channel"],
-    "test_deck_vectors": ["s360_words", "ckd_position", "ckd_sense", "ckd_command", "ckd_drive", "s360_program", "s360_channel"],
     "test_hostile_images": ["ckd_track", "ckd_image"],
     "test_hostile_decks": ["s360_deck"],
     "test_dasd_rows": ["dasd_volumes", "dasd_jobs", "dasd_run"],

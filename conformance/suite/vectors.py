@@ -8,13 +8,8 @@ from typing import Dict, List, Optional, Tuple
 from .volumes import Volume, tidied
 
 HERE = os.path.dirname(os.path.dirname(os.path.abspath(__file__)))
-# The vectors stand where the repository's own gate plays them; in a bundle of the suite they stand beside it.
-PLACES = (os.path.join(HERE, "vectors"), os.path.join(os.path.dirname(HERE), "crates", "test_deck_vectors", "data"))
-
-
-def folder():
-    """Where the vectors are."""
-    return next((it for it in PLACES if os.path.isdir(it)), PLACES[0])
+# Where the vectors and their images stand.
+FOLDER = os.path.join(HERE, "vectors")
 
 
 @dataclass
@@ -114,8 +109,7 @@ def read_line(vector, line):
 def all_vectors(paths=()):
     """The vectors of these files; of none, all of the suite, group by group."""
     if not paths:
-        where = folder()
-        paths = [os.path.join(where, it) for it in sorted(os.listdir(where)) if it.endswith(".vectors")]
+        paths = [os.path.join(FOLDER, it) for it in sorted(os.listdir(FOLDER)) if it.endswith(".vectors")]
     return [it for path in paths for it in read_vectors(path)]
 
 

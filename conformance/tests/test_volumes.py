@@ -2,13 +2,13 @@
 import os
 import unittest
 
-from suite.vectors import HERE, all_vectors, digest, folder
+from suite.vectors import FOLDER, HERE, all_vectors, digest
 from suite.volumes import BadDescription, BadImage, Volume, parse_bytes, parse_description, read_slot, tidied, tidy_slot
 from volume import describe
 
 
 def image(*names):
-    return Volume.load([os.path.join(folder(), it) for it in names])
+    return Volume.load([os.path.join(FOLDER, it) for it in names])
 
 
 def described(name):
@@ -61,7 +61,7 @@ class Descriptions(unittest.TestCase):
         self.assertEqual(parse_bytes("C1*3+00+'AB'"), bytes.fromhex("C1C1C100C1C2"))
 
     def test_each_image_is_described_and_made_again(self):
-        names = sorted(it for it in os.listdir(folder()) if it.endswith(".img") and not it.startswith(("split", "many")) and it != "odd.img")
+        names = sorted(it for it in os.listdir(FOLDER) if it.endswith(".img") and not it.startswith(("split", "many")) and it != "odd.img")
         for name in names:
             with self.subTest(name):
                 volume = image(name)

@@ -23,14 +23,14 @@ class Emulator:
 
 
 def make(spec):
-    """The emulator that a word names: `model`, `dasd=COMMAND`, `protocol=COMMAND`, `library=FILE`, `hercules` or `hercules=PROGRAM`."""
+    """The emulator that a word names: `model`, `dasd=COMMAND`, `dasd-traced=COMMAND`, `protocol=COMMAND`, `library=FILE`, `hercules` or `hercules=PROGRAM`."""
     kind, _, rest = spec.partition("=")
     if kind == "model":
         from .model import ModelEmulator
         return ModelEmulator()
-    if kind == "dasd" and rest:
+    if kind in ("dasd", "dasd-traced") and rest:
         from .dasd import DasdProgram
-        return DasdProgram(rest)
+        return DasdProgram(rest, traced=kind != "dasd")
     if kind == "protocol" and rest:
         from .protocol import ProtocolEmulator
         return ProtocolEmulator(rest)

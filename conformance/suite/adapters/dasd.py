@@ -1,4 +1,7 @@
-"""The program `dasd`, or any that takes the same words: each vector is one run, its deck on standard input."""
+"""The program `dasd`, or any that takes the same words: each vector is one run, its deck on standard input.
+
+A traced program also writes a trace of each run, into a file that is thrown away: its answers and volumes must be those without.
+"""
 import os
 import shlex
 import subprocess
@@ -10,10 +13,9 @@ from . import Emulator
 
 
 class DasdProgram(Emulator):
-    name = "dasd"
-
-    def __init__(self, command, seconds=60):
-        self.command, self.seconds = shlex.split(command), seconds
+    def __init__(self, command, traced=False, seconds=60):
+        self.name = "dasd, traced" if traced else "dasd"
+        self.command, self.traced, self.seconds = shlex.split(command), traced, seconds
 
     def play(self, vector):
         with tempfile.TemporaryDirectory() as room:
@@ -27,6 +29,8 @@ class DasdProgram(Emulator):
                     paths[unit].append(path)
                     words.append("%02X=%s" % (unit, path))
             options = ["run", "--storage", str(vector.storage), "--channel", str(vector.channel)]
+            if self.traced:
+                options += ["--trace-to", os.path.join(room, "trace")]
             try:
                 ran = subprocess.run([*self.command, *options, *words], input=vector.deck, capture_output=True, timeout=self.seconds)
             except (OSError, subprocess.TimeoutExpired) as fault:

@@ -1,6 +1,6 @@
 //! Rows of decks and of calls at a channel, over stores of which a call may fail: what each must answer, and what it leaves,
 //! by the Principles of Operation and the component descriptions of the 2841 and the 2314. Decks over stores that do not fail
-//! stand among the vectors of `test_deck_vectors`; here stands what those can not say.
+//! stand among the vectors of `conformance/vectors`; here stands what those can not say.
 //!
 //! - A call of a drive's store fails, once or from then on: a load and a save, in a unit, as the arm moves off, by a halt, by a
 //!   reset, and by the last reset; and what the programs behind it find. `sweep` lets each call of each of its stores fail in turn.
