@@ -2,9 +2,9 @@
 """Runs the built program `dasd` over real files in a scratch folder, and compares what stands there afterwards byte for byte.
 
 Each row makes files, runs commands and says what they print, end with and leave: links, pipes, devices, modes, owners, full
-disks, broken pipes, odd names and files that are no images; kills, runs at once and traces in tools/real_runs.py, and `dasd extract` in
-tools/real_extracts.py. A row that needs root, a small file system of its own or a device, where these can't be had, is skipped, with
-a word.
+disks, broken pipes, odd names and files that are no images; kills, runs at once and traces in tools/real_runs.py, `dasd extract` in
+tools/real_extracts.py, and strict checks, dumps and comparisons in tools/real_archives.py. A row that needs root, a small file
+system of its own or a device, where these can't be had, is skipped, with a word.
 
 It runs crates/dasd_cmd/out/dasd_cmd, as `rt ci` or `rt run` leaves it; with --built FILE that program; with words behind, the
 rows whose names have one of them. The last line is 'N rows over real files, M came out wrong, K skipped', and the status 1 where M
@@ -27,6 +27,7 @@ from pathlib import Path
 sys.dont_write_bytecode = True
 sys.path.insert(0, str(Path(__file__).resolve().parent))
 
+import real_archives
 import real_extracts
 import real_runs
 from scratch_files import ANSWERS, NOBODY, ROWS, WRITE, Scratch, Skipped, fault, header, is_held, row, same, volume, wrote
@@ -443,7 +444,7 @@ def main():
     if not program.is_file():
         sys.exit(f"real_files.py: there is no {program}: rt run in its crate builds it")
     played, wrong, skipped = 0, 0, 0
-    assert real_extracts.ROWS is ROWS and real_runs.ROWS is ROWS
+    assert real_archives.ROWS is ROWS and real_extracts.ROWS is ROWS and real_runs.ROWS is ROWS
     for name, play in ROWS:
         if given.words and not any(word in name for word in given.words):
             continue

@@ -43,9 +43,8 @@ LAYERS = {
     "test_hostile_images": ["ckd_track", "ckd_image"],
     "test_hostile_decks": ["s360_deck"],
     "test_dasd_rows": ["dasd_volumes", "dasd_jobs", "dasd_run"],
-    "test_archives": ["dasd_archive", "volume_labels"],
     "differ": ["s360_words", "ckd_position", "ckd_sense", "ckd_command", "ckd_slot", "ckd_cache", "ckd_drive", "s360_program", "s360_channel"],
-    "real_files": ["dasd_volumes", "dasd_jobs", "dasd_run", "dasd_cmd"],
+    "real_files": ["dasd_volumes", "dasd_archive", "volume_labels", "dasd_jobs", "dasd_run", "dasd_cmd"],
 }
 # The suites that are scripts over a built `dasd`, whose path stands for MADE.
 SCRIPTS = {

@@ -1,0 +1,75 @@
+"""Rows of tools/real_files.py: strict checks, dumps and comparisons of small volumes, and what each must print.
+
+tools/rows/archives.rows has rows, with an empty line between. The first line of a row is its name. A line such as `track 3 21 C1*80`
+puts bytes into the slot of a track of a new 2311 of one cylinder, from a place on; one that begins with `other` does so with the
+volume that a comparison is made with. A line `check`, `dump` or `compare` is a command over the volumes as the lines of the whole row
+make them. tools/rows/archives.answers has for each row its name, and then what its commands print. Both were worked out by hand."""
+
+from pathlib import Path
+
+from scratch_files import ROWS, SLOT, same, volume
+
+__all__ = ["ROWS"]
+HERE = Path(__file__).resolve().parent / "rows"
+HEADER = 512
+
+
+def spelled(word):
+    """Bytes as a row writes them: hexadecimal digits, of which a part may be followed by how often it stands there, as `0000+C1*80`."""
+    parts = [part.partition("*") for part in word.split("+")]
+    return b"".join(bytes.fromhex(digits) * int(times or 1) for digits, _, times in parts)
+
+
+def made(lines, kind):
+    """The volume that the lines of this kind make."""
+    held = bytearray(volume())
+    for line in lines:
+        word, *rest = line.split()
+        if word == kind:
+            track, at, body = int(rest[0]), int(rest[1]), spelled(rest[2])
+            begin = HEADER + track * SLOT["2311"] + at
+            held[begin : begin + len(body)] = body
+    return bytes(held)
+
+
+def command(line):
+    """The words of `dasd` for a line of a row; none for a line that is no command."""
+    word, *rest = line.split()
+    if word not in ("check", "dump", "compare"):
+        return None
+    style = {"text": [], "json": ["--json"]}[rest[0]]
+    if word == "check":
+        return ["check", "--strict", *style, "a.ckd"]
+    if word == "dump":
+        return ["dump", *style, "a.ckd", *rest[1:]]
+    return ["compare", *({"lists": [], "counts": ["--tracks"]}[rest[1]]), *style, "a.ckd", "b.ckd"]
+
+
+def player(lines, wanted):
+    """Plays a row: what its commands print, one behind another, and that they say nothing on standard error."""
+
+    def play(s):
+        s.put("a.ckd", made(lines, "track"))
+        s.put("b.ckd", made(lines, "other"))
+        printed = ""
+        for words in filter(None, map(command, lines)):
+            status, out, told = s.dasd(*words)
+            same((status in (0, 1), told), (True, ""), " ".join(words))
+            printed += out
+        same(printed, wanted)
+
+    return play
+
+
+def read_rows():
+    """The rows, each with its name, its lines and what it must print."""
+    rows = [row.splitlines() for row in (HERE / "archives.rows").read_text().split("\n\n")]
+    left = (HERE / "archives.answers").read_text()
+    for number, (name, *lines) in enumerate(rows):
+        begin = left.index(name + "\n") + len(name) + 1
+        end = left.index("\n" + rows[number + 1][0] + "\n", begin - 1) + 1 if number + 1 < len(rows) else len(left)
+        ROWS.append((f"archives: {name}", player(lines, left[begin:end])))
+        left = left[end:]
+
+
+read_rows()
