@@ -135,23 +135,30 @@ pub(crate) fn read_paths<'a>(alloc: Global, words: &[&'a str]) -> Result<Vec<&'a
 
 /// `dasd compare`.
 pub(crate) fn compare_command<'a>(alloc: Global) -> Result<Command<'a>, AllocError> {
-    let one = Arg::new(alloc, "A").required(true).help(
-        "an image; several files of one are joined by +, as big_1.ckd+big_2.ckd",
-    );
-    let other = Arg::new(alloc, "B")
-        .required(true)
-        .help("the image that it is compared with");
-    let tracks = Arg::new(alloc, "tracks")
-        .long("tracks")
-        .action(ArgAction::SetTrue)
-        .help("prints how many tracks differ, and no more");
     Command::new(alloc, "compare")
         .about("Prints what differs of two volumes, track by track")
         .after_help("Example: dasd compare monday.ckd tuesday.ckd")
-        .arg(one)?
-        .arg(other)?
-        .arg(tracks)?
+        .arg(compared(
+            alloc,
+            "A",
+            "an image; several files of one are joined by +, as big_1.ckd+big_2.ckd",
+        ))?
+        .arg(compared(alloc, "B", "the image that it is compared with"))?
+        .arg(tracks(alloc))?
         .arg(json(alloc))
+}
+
+// A volume that is compared.
+fn compared<'a>(alloc: Global, name: &'a str, help: &'a str) -> Arg<'a> {
+    Arg::new(alloc, name).required(true).help(help)
+}
+
+// The word for a count alone.
+fn tracks<'a>(alloc: Global) -> Arg<'a> {
+    Arg::new(alloc, "tracks")
+        .long("tracks")
+        .action(ArgAction::SetTrue)
+        .help("prints how many tracks differ, and no more")
 }
 
 /// What `dasd compare` is asked.
