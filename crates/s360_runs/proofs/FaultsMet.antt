@@ -27,6 +27,7 @@ use Rattle.s360_runs.specs.Transfers.{Request, Transfer, request_of, Stops, Tran
 use Rattle.s360_runs.specs.Units.{unit, Next, EndsIn, next_chosen, next_moved, next_looked, next_begun, next_fetched, Between, Looking, Moving, ProgramPhase, standing_in, state_in, StandsAt, outcome_of, on_next, walk, GoesOn, EndsWith, StandsIn, phase_past, Walk}
 use Rattle.s360_runs.proofs.DriveFacts.{close_end, settle_end, settle_again, settle_saves, settle_lost, joins_check, settle_none, settle_loads, close_leaves, close_stays, close_none, close_loads, StaysWritten, begin_keeps, begin_loads, begin_saves, begin_stays, BegunStays, look_keeps, look_loads, look_loads_not, load_fails, look_saves, look_stays, LookStays, look_ready, LookReady}
 use Rattle.s360_runs.proofs.DriveTerms.{no, Fails, fails_from, LookKeeps, BegunKeeps}
+use Rattle.s360_runs.proofs.Units.{StopsWith, stops_with}
 use Rattle.s360_runs.proofs.Standing.{stands_somewhere, goes_by, begins}
 use Rattle.s360_runs.proofs.Walks.{units_in_two, run_is_walk}
 
@@ -158,30 +159,7 @@ failed_next left key r t channel before at l h =
     never true = refl
     never false = refl
 
--- a check stops a command with the bytes that it has
-abbrev pub StopsWith : List ℕ → TransferUnit → Type 0
-StopsWith bytes (Moves next) = Unit {0}
-StopsWith bytes (Stops next check) = next.bytes ≡ bytes
-StopsWith bytes Completes = Unit {0}
-
-pub stops_with : (key : ℕ) (o : Open) (t : Transfer) → StopsWith t.bytes (transfer_unit key o t)
-stops_with key o t = go (needs_ccw t) (needs_byte o t) (fetch t.storage t.place false) (check_of key o t)
-  where
-    chained_with : (w : Fetched) → StopsWith t.bytes (chained_data t w)
-    chained_with NoCcw = refl
-    chained_with (TransferTo address) = tt
-    chained_with (GoodCcw ccw) = tt
-
-    byte_with : (b : Bool) (check : ChannelStatus) → StopsWith t.bytes (cond b (Moves (after_bytes 1 o t)) (Stops t check))
-    byte_with true check = tt
-    byte_with false check = refl
-
-    go : (a b : Bool) (w : Fetched) (check : ChannelStatus) → StopsWith t.bytes (cond a (chained_data t w) (cond b (byte_or_check o t check) Completes))
-    go true b w check = chained_with w
-    go false true w check = byte_with (is_clear check) check
-    go false false w check = tt
-
--- and the check is no incorrect length
+-- a check that stops a command is no incorrect length
 abbrev StopsByCheck : TransferUnit → Type 0
 StopsByCheck (Stops next check) = CheckOrLength check
 StopsByCheck u = Unit {0}

@@ -25,7 +25,8 @@ use Rattle.s360_runs.specs.Unsaved.{has_written, TellsWritten, NextTellsWritten}
 use Rattle.s360_runs.specs.Writes.{slot_in, may_write, NextKeeps, UnitKeeps, WritesUnderArm, on_going, walk_writes, run_writes, run_writes_from, OutcomeKeeps, RunKeeps}
 use Rattle.s360_runs.proofs.DriveFacts.{get_set_other, settle_none, close_none, begin_keeps, look_keeps}
 use Rattle.s360_runs.proofs.DriveTerms.{no, BegunKeeps, LookKeeps}
-use Rattle.s360_runs.proofs.FaultsMet.{stops_with, StopsWith, fault_ends_unit, fault_ends_phase}
+use Rattle.s360_runs.proofs.FaultsMet.{fault_ends_unit, fault_ends_phase}
+use Rattle.s360_runs.proofs.Units.{StopsWith, stops_with}
 use Rattle.s360_runs.proofs.UnsavedTracks.{stands_saved, unsaved_was_written}
 use Rattle.s360_runs.proofs.Walks.{run_walk, walks_on}
 

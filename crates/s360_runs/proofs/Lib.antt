@@ -1,4 +1,5 @@
 pub mod Walks
+pub mod Units
 pub mod Standing
 pub mod AtOnce
 pub mod DriveTerms
