@@ -25,9 +25,9 @@ use Rattle.s360_runs.specs.Status.{no_channel_status, with_interruption}
 use Rattle.s360_runs.specs.StoreCalls.{is_next, looks_for_area}
 use Rattle.s360_runs.specs.Transfers.{Completes, Moves, Request, Stops, Transfer, TransferUnit, first_transfer, transfer_unit}
 use Rattle.s360_runs.specs.Units.{Between, EndsIn, EndsWith, GoesOn, Looking, Moving, Next, ProgramPhase, StandsIn, Walk, next_begun, next_chosen, next_fetched, next_looked, next_moved, on_next, phase_past, unit, walk}
-use Rattle.s360_runs.proofs.DriveFacts.{look_loads}
-use Rattle.s360_runs.proofs.DriveTerms.{no}
+use Rattle.s360_runs.proofs.DriveFacts.{look_loads, sighted}
 use Rattle.s360_runs.proofs.FaultsMet.{unmet_walk}
+use Rattle.s360_runs.proofs.Units.{NextIs, WalkIs, plain_walk_holds}
 use Rattle.s360_runs.proofs.UnsavedTracks.{stands_saved}
 
 -- While a command looks for its area the sense reports nothing, and its whole count is left.
@@ -40,8 +40,7 @@ Fresh (Looking o r) = IsFresh o r
 Fresh phase = Unit {0}
 
 abbrev NextFresh : Next → Type 0
-NextFresh (GoesOn phase) = Fresh phase
-NextFresh (EndsIn s e) = Unit {0}
+NextFresh n = NextIs Fresh (λ s e. Unit {0}) n
 
 abbrev BegunFresh : AfterBegin → Type 0
 BegunFresh (Started o) = NoSenseFor (aim o.opened.command) o.state.registers.sense
@@ -62,18 +61,13 @@ LookFresh (Passed o) = NoSenseFor (aim o.opened.command) o.state.registers.sense
 LookFresh l = Unit {0}
 
 look_fresh : (o : Open) → NoSenseFor (aim o.opened.command) o.state.registers.sense → LookFresh (look None o)
-look_fresh o n = go (aim o.opened.command) _ (sight_at o.state.volume.geometry (track_under o.state) o.opened o.state.registers)
+look_fresh o n = go (sighted o) (sight_at o.state.volume.geometry (track_under o.state) o.opened o.state.registers)
   where
-    at : (s : Sight) → SightAt o.state.registers o.opened s → LookFresh (looked None o s)
-    at (answer.Found opened) h = tt
-    at (answer.IndexPassed r) h = subst (NoSenseFor (aim o.opened.command)) (sym h.1) n
-    at (answer.NextHead r) h = subst (NoSenseFor (aim o.opened.command)) (sym h) n
-    at (answer.Missed r) h = tt
-
-    go : (a : Aim) (s : Sight) → SightAt o.state.registers o.opened s → LookFresh (look_for None o a s)
-    go (NextArea kind) s h = at s h
-    go NoArea s h = at s h
-    go Credited s h = at s h
+    go : (s : Sight) → SightAt o.state.registers o.opened s → LookFresh (looked None o s)
+    go (answer.Found opened) h = tt
+    go (answer.IndexPassed r) h = subst (NoSenseFor (aim o.opened.command)) (sym h.1) n
+    go (answer.NextHead r) h = subst (NoSenseFor (aim o.opened.command)) (sym h) n
+    go (answer.Missed r) h = tt
 
 chosen_fresh : (c : Choice) → NextFresh (next_chosen c)
 chosen_fresh (Chains p) = tt
@@ -111,24 +105,10 @@ past_fresh (OneUnit f) (Looking o r) h = h
 past_fresh (Outside c) (Looking o r) h = h
 past_fresh TakesInterruption (Looking o r) h = h
 
-abbrev WalkFresh : Walk → Type 0
-WalkFresh (StandsIn g) = Fresh g
-WalkFresh (EndsWith rest s e) = Unit {0}
-
-next_fresh : (rest : Script) (key : ℕ) (n : Next) → NextFresh n → ((g : ProgramPhase) → Fresh g → WalkFresh (walk rest key g)) → WalkFresh (on_next rest n (walk rest key))
-next_fresh rest key (GoesOn g) h k = k g h
-next_fresh rest key (EndsIn s e) h k = tt
-
-walk_fresh : (script : Script) (key : ℕ) (g : ProgramPhase) → Fresh g → WalkFresh (walk (without_faults script) key g)
-walk_fresh [] key g h = h
-walk_fresh (OneUnit f ∷ rest) key g h = next_fresh (without_faults rest) key (unit None key g) (unit_fresh key g h) (walk_fresh rest key)
-walk_fresh (Outside c ∷ rest) key g h = walk_fresh rest key (phase_past (Outside c) g) (past_fresh (Outside c) g h)
-walk_fresh (TakesInterruption ∷ rest) key g h = walk_fresh rest key (phase_past TakesInterruption g) (past_fresh TakesInterruption g h)
-
-pub stands_fresh : (s : Start) (caw : Caw) (script : Script) (g : ProgramPhase) → walk script caw.key (Between (start_point caw s)) ≡ StandsIn g → Fresh g
+stands_fresh : (s : Start) (caw : Caw) (script : Script) (g : ProgramPhase) → walk script caw.key (Between (start_point caw s)) ≡ StandsIn g → Fresh g
 stands_fresh s caw script g h =
     let first = Between (start_point caw s) in
-    subst WalkFresh (unmet_walk script caw.key first g h) (walk_fresh script caw.key first tt)
+    subst (WalkIs Fresh (λ s e. Unit {0})) (unmet_walk script caw.key first g h) (plain_walk_holds Fresh (λ s e. Unit {0}) caw.key past_fresh (unit_fresh caw.key) script first tt)
 
 -- The ending.
 
@@ -137,8 +117,8 @@ no_sense_before o h n = go (aim o.opened.command) h n
   where
     go : (a : Aim) → is_next a ≡ true → NoSenseFor a o.state.registers.sense → o.state.registers.sense ≡ ZERO
     go (NextArea kind) h n = n
-    go NoArea h n = no h
-    go Credited h n = no h
+    go NoArea h n = absurd (cc)
+    go Credited h n = absurd (cc)
 
 -- the ending, by its sense, its channel status, its count and the track that it reports as not saved
 abbrev made : (key : ℕ) → Open → Request → Sense → ChannelStatus → ℕ → Option (ℕ × ℕ) → Ending

@@ -1,6 +1,6 @@
 -- A channel program keeps the tracks that it does not write.
 use Rattle.std.proofs.Common.{◌≡◌, ℕ, refl, ap, subst, sym, ◌∙◌, true, false, Bool, cond, not, ◌&&◌, ◌||◌, ◌==◌, List, [], ◌∷◌, ◌++◌, Option, Some, None, ◌⊎◌, inl, inr}
-use Rattle.std.proofs.lemmas.Bool.{eq-eqb, eqb-false}
+use Rattle.std.proofs.lemmas.Bool.{and_from, both_ways, eq-eqb, or_parts, or_right}
 use Rattle.std.specs.Prelude.{is_some, slice_get}
 use Rattle.s360_words.specs.Words.{caw_of, chains_command}
 use Rattle.s360_words.specs.declared.flags.ChannelStatus.{ChannelStatus}
@@ -23,19 +23,15 @@ use Rattle.s360_runs.specs.Transfers.{Request, Transfer, request_of, Stops, Tran
 use Rattle.s360_runs.specs.Units.{unit, Next, EndsIn, GoesOn, next_chosen, next_moved, next_looked, next_begun, next_fetched, Between, Looking, Moving, ProgramPhase, standing_in, outcome_of, on_next, walk, Walk, EndsWith, StandsIn, phase_past, state_in}
 use Rattle.s360_runs.specs.Unsaved.{has_written, TellsWritten, NextTellsWritten}
 use Rattle.s360_runs.specs.Writes.{slot_in, may_write, NextKeeps, UnitKeeps, WritesUnderArm, on_going, walk_writes, run_writes, run_writes_from, OutcomeKeeps, RunKeeps}
-use Rattle.s360_runs.proofs.DriveFacts.{get_set_other, settle_none, close_none, begin_keeps, look_keeps}
-use Rattle.s360_runs.proofs.DriveTerms.{no, BegunKeeps, LookKeeps}
-use Rattle.s360_runs.proofs.FaultsMet.{fault_ends_unit, fault_ends_phase}
-use Rattle.s360_runs.proofs.Units.{StopsWith, stops_with}
+use Rattle.s360_runs.proofs.DriveFacts.{VolumeClosed, VolumeIn, begin_keeps, get_set_other, look_keeps}
+use Rattle.s360_runs.proofs.FaultsMet.{CutByMet, fault_or_not, cut_or_not}
+use Rattle.s360_runs.proofs.Units.{NextHas, OpenIs, WalkIs, cut_holds, past_state, run_holds, unit_holds}
 use Rattle.s360_runs.proofs.UnsavedTracks.{stands_saved, unsaved_was_written}
 use Rattle.s360_runs.proofs.Walks.{run_walk, walks_on}
 
 -- this track has these bytes still, and the volume its geometry
 abbrev Kept : ℕ → Volume → Volume → Type 0
 Kept n v w = (slot_in w n ≡ slot_in v n) × (w.geometry ≡ v.geometry)
-
-same : (n : ℕ) (v w : Volume) → w ≡ v → Kept n v w
-same n v w e = (ap (λ w. slot_in w n) e, ap (λ w. w.geometry) e)
 
 -- A command that is closed.
 
@@ -52,65 +48,25 @@ closed_keeps n s c false h = go c.written h
 close_keeps : (n : ℕ) (o : Open) (b : List ℕ) → (n ≡ number_under (state_of o) → is_written (close None o b).state ≡ true → ⊥) → Kept n (state_of o).volume (close None o b).state.volume
 close_keeps n o b h = closed_keeps n o.state (closing_of o b) (closing_of o b).moves_off h
 
-ending_keeps : (n : ℕ) (v : Volume) (key : ℕ) (p : Place) (c : Closed) (channel : ChannelStatus) → Kept n v c.state.volume → Kept n v (ending None key p c channel).drive.volume
-ending_keeps n v key p c channel h = subst (λ c. Kept n v (settled_ending key p c channel).drive.volume) (sym (settle_none c)) h
-
-abbrev KeptNext : ℕ → Volume → Next → Type 0
-KeptNext n v (GoesOn g) = Kept n v (state_in g).volume
-KeptNext n v (EndsIn s e) = Kept n v e.drive.volume
-
 -- Units without faults.
-
-choice_keeps : (n : ℕ) (v : Volume) (key : ℕ) (r : Request) (c : Closed) (channel : ChannelStatus) → Kept n v c.state.volume → KeptNext n v (next_chosen (choice None key r c channel))
-choice_keeps n v key r c channel h = go (chains_command r.ccw && not (stops_chaining c.unit) && is_clear channel)
-  where
-    go : (b : Bool) → KeptNext n v (next_chosen (cond b (Chains (record { storage = r.storage; place = past_modifier r.place c; state = c.state })) (Ends r.storage (ending None key r.place c channel))))
-    go true = h
-    go false = ending_keeps n v key r.place c channel h
-
-moved_keeps : (n : ℕ) (v : Volume) (key : ℕ) (o : Open) (t : Transfer) (u : TransferUnit) → StopsWith t.bytes u → Kept n v (state_of o).volume → Kept n v (close None o t.bytes).state.volume → KeptNext n v (next_moved None key o t u)
-moved_keeps n v key o t (Moves next) e h k = h
-moved_keeps n v key o t (Stops next check) e h k = ending_keeps n v key next.place (close None o next.bytes) check (subst (λ b. Kept n v (close None o b).state.volume) (sym e) k)
-moved_keeps n v key o t Completes e h k = choice_keeps n v key (request_of t) (close None o t.bytes) (length_status o t (close None o t.bytes)) k
-
-looked_keeps : (n : ℕ) (v : Volume) (key : ℕ) (r : Request) (d : IdleDrive) → d.volume ≡ v → (l : AfterLook) → LookKeeps d l → KeptNext n v (next_looked None key r l)
-looked_keeps n v key r d e (Failed s) h = ending_keeps n v key r.place (failed s) no_channel_status (same n v s.volume (h ∙ e))
-looked_keeps n v key r d e (Passed o) h = same n v o.state.volume (h ∙ e)
-looked_keeps n v key r d e (Ready o) h =
-    moved_keeps n v key o (first_transfer r) (transfer_unit key o (first_transfer r)) (stops_with key o (first_transfer r)) (same n v o.state.volume (h ∙ e)) (same n v (close None o []).state.volume (close_none o ∙ h ∙ e))
-
-begun_keeps : (n : ℕ) (v : Volume) (key : ℕ) (r : Request) (d : IdleDrive) → d.volume ≡ v → (b : AfterBegin) → BegunKeeps d b → KeptNext n v (next_begun None key r b)
-begun_keeps n v key r d e (Rejected s) h = ending_keeps n v key r.place (failed s) no_channel_status (same n v s.volume (h ∙ e))
-begun_keeps n v key r d e (Immediate s motion) h = choice_keeps n v key r (immediate s motion) no_channel_status (same n v s.volume (h ∙ e))
-begun_keeps n v key r d e (Started o) h = same n v o.state.volume (h ∙ e)
-
-fetched_keeps : (n : ℕ) (key : ℕ) (p : Point) (w : Fetched) → KeptNext n p.state.volume (next_fetched None key p w)
-fetched_keeps n key p NoCcw = ending_keeps n p.state.volume key (past_no_ccw p.place) (untouched p.state) PROGRAM_CHECK (refl, refl)
-fetched_keeps n key p (TransferTo address) = (refl, refl)
-fetched_keeps n key p (GoodCcw ccw) = begun_keeps n p.state.volume key (requested p ccw) (drive_of p.state) refl (begin None ccw.code p.state) (begin_keeps ccw.code p.state)
 
 -- the track is not under the arm, or nothing is written there
 abbrev Away : ℕ → ProgramPhase → Type 0
 Away n g = n ≡ number_under (state_in g) → has_written g ≡ true → ⊥
 
-or_right : (a b : Bool) → b ≡ true → (a || b) ≡ true
-or_right true b h = refl
-or_right false b h = h
+kept_open : (n : ℕ) (g : ProgramPhase) → Away n g → let V = Kept n (state_in g).volume in OpenIs (VolumeClosed V) (VolumeIn V) None g
+kept_open n (Between p) a = λ code. begin_keeps (Kept n p.state.volume) code p.state (refl, refl)
+kept_open n (Looking o r) a = look_keeps (Kept n o.state.volume) o (refl, refl)
+kept_open n (Moving o t) a = close_keeps n o t.bytes (λ e w. a e (or_right (is_written (state_of o)) (is_written (close None o t.bytes).state) w))
 
-unit_keeps : (n : ℕ) (key : ℕ) (g : ProgramPhase) → Away n g → KeptNext n (state_in g).volume (unit None key g)
-unit_keeps n key (Between p) a = fetched_keeps n key p (fetch p.storage p.place true)
-unit_keeps n key (Looking o r) a = looked_keeps n o.state.volume key r (drive_of (state_of o)) refl (look None o) (look_keeps o)
-unit_keeps n key (Moving o t) a =
-    moved_keeps n o.state.volume key o t (transfer_unit key o t) (stops_with key o t) (refl, refl) (close_keeps n o t.bytes (λ e w. a e (or_right (is_written (state_of o)) (is_written (close None o t.bytes).state) w)))
+unit_keeps : (n : ℕ) (key : ℕ) (g : ProgramPhase) → Away n g → let V = Kept n (state_in g).volume in NextHas (VolumeIn V) (λ e. V e.drive.volume) (unit None key g)
+unit_keeps n key g a =
+    let V = Kept n (state_in g).volume in
+    unit_holds (VolumeClosed V) (VolumeIn V) (λ e. V e.drive.volume) None key (λ c h. h) (λ p c channel h. h) g (refl, refl) (refl, refl) (kept_open n g a)
 
 cut_keeps : (n : ℕ) (key : ℕ) (g : ProgramPhase) → Away n g → Kept n (state_in g).volume ((standing_in key g).cut None).drive.volume
-cut_keeps n key (Between p) a = ending_keeps n p.state.volume key p.place (untouched p.state) no_channel_status (refl, refl)
-cut_keeps n key (Looking o r) a = ending_keeps n o.state.volume key r.place (untouched (state_of o)) no_channel_status (refl, refl)
-cut_keeps n key (Moving o t) a = ending_keeps n o.state.volume key t.place (closed_by_cut None o t.bytes) no_channel_status (go t.bytes a)
-  where
-    go : (b : List ℕ) → (n ≡ number_under (state_of o) → (is_written (state_of o) || is_written (close None o b).state) ≡ true → ⊥) → Kept n o.state.volume (closed_by_cut None o b).state.volume
-    go [] a = (refl, refl)
-    go (x ∷ b) a = close_keeps n o (x ∷ b) (λ e w. a e (or_right (is_written (state_of o)) (is_written (close None o (x ∷ b)).state) w))
+cut_keeps n key g a =
+    let V = Kept n (state_in g).volume in cut_holds (VolumeClosed V) (VolumeIn V) (λ e. V e.drive.volume) None key (λ c h. h) (λ p c channel h. h) g (refl, refl) (kept_open n g a)
 
 -- Faults.
 
@@ -129,42 +85,35 @@ fault_keeps n f g before e a k h at w = go f h.slots
             ∙ ap (λ c. track_at (state_in g).volume.geometry c e.drive.head) at.cylinder
             ∙ ap (λ t. track_at (state_in g).volume.geometry (state_in g).registers.cylinder t) at.head
 
-next_keeps : (n : ℕ) (v : Volume) (x : Next) → KeptNext n v x → NextKeeps n v x
+next_keeps : (n : ℕ) (v : Volume) (x : Next) → NextHas (VolumeIn (Kept n v)) (λ e. Kept n v e.drive.volume) x → NextKeeps n v x
 next_keeps n v (GoesOn g) h = h.0
 next_keeps n v (EndsIn s e) h = h.0
 
 faulty_unit : (n : ℕ) (f : Fault) (key : ℕ) (g : ProgramPhase) → Away n g → NextTellsWritten g (unit (Some f) key g) → NextKeeps n (state_in g).volume (unit (Some f) key g)
-faulty_unit n f key g a told = go (meets f key g) refl
+faulty_unit n f key g a told = go (fault_or_not f key g)
   where
-    u : UnitByFault f key g
-    u = fault_ends_unit f key g
-
     met : (x : Next) → NextByFault f key g x → NextTellsWritten g x → NextKeeps n (state_in g).volume x
     met (GoesOn next) h w = absurd h
     met (EndsIn s e) h w = fault_keeps n f g (cut_drive key g) e a (cut_keeps n key g a) h.0 h.1 w
 
-    go : (b : Bool) → meets f key g ≡ b → NextKeeps n (state_in g).volume (unit (Some f) key g)
-    go true e = met (unit (Some f) key g) (u.met e) told
-    go false e = subst (NextKeeps n (state_in g).volume) (sym (u.not_met e)) (next_keeps n (state_in g).volume (unit None key g) (unit_keeps n key g a))
+    go : (unit (Some f) key g ≡ unit None key g) ⊎ NextByFault f key g (unit (Some f) key g) → NextKeeps n (state_in g).volume (unit (Some f) key g)
+    go (inr h) = met (unit (Some f) key g) h told
+    go (inl e) = subst (NextKeeps n (state_in g).volume) (sym e) (next_keeps n (state_in g).volume (unit None key g) (unit_keeps n key g a))
 
 faulty_cut : (n : ℕ) (f : Fault) (key : ℕ) (g : ProgramPhase) → Away n g → TellsWritten g ((standing_in key g).cut (Some f)) → slot_in ((standing_in key g).cut (Some f)).drive.volume n ≡ slot_in (state_in g).volume n
-faulty_cut n f key g a told = go (cut_meets f g) refl
+faulty_cut n f key g a told = go (cut_or_not f key g)
   where
-    u : CutByFault f key g
-    u = fault_ends_phase f key g
+    e : Ending
+    e = (standing_in key g).cut (Some f)
 
-    go : (b : Bool) → cut_meets f g ≡ b → slot_in ((standing_in key g).cut (Some f)).drive.volume n ≡ slot_in (state_in g).volume n
-    go true e = let h = u.met e in fault_keeps n f g (cut_drive key g) ((standing_in key g).cut (Some f)) a (cut_keeps n key g a) h.0 h.1 told
-    go false e = ap (λ x. slot_in x.drive.volume n) (u.not_met e) ∙ (cut_keeps n key g a).0
+    go : (e ≡ (standing_in key g).cut None) ⊎ CutByMet f key g → slot_in e.drive.volume n ≡ slot_in (state_in g).volume n
+    go (inr h) = fault_keeps n f g (cut_drive key g) e a (cut_keeps n key g a) h.0 h.1 told
+    go (inl h) = ap (λ x. slot_in x.drive.volume n) h ∙ (cut_keeps n key g a).0
 
 -- Where a program stands.
 
 away : (n : ℕ) (g : ProgramPhase) → may_write n g ≡ false → Away n g
-away n g h e w = no (sym h ∙ both (number_under (state_in g) == n) (has_written g) (eq-eqb _ _ (sym e)) w)
-  where
-    both : (a b : Bool) → a ≡ true → b ≡ true → (a && b) ≡ true
-    both true b h k = k
-    both false b h k = no h
+away n g h e w = both_ways (may_write n g) h (and_from (number_under (state_in g) == n) (has_written g) (eq-eqb _ _ (sym e)) w)
 
 pub writes_under_arm : WritesUnderArm
 writes_under_arm s caw script g f n stands h = go f
@@ -180,21 +129,8 @@ writes_under_arm s caw script g f n stands h = go f
 
 -- Over a script. So far the program stands in a phase, behind the script that it has come over.
 
-or_false : (a b : Bool) → (a || b) ≡ false → (a ≡ false) × (b ≡ false)
-or_false true b h = no (sym h)
-or_false false b h = (refl, h)
-
 abbrev WalkKeeps : ℕ → (key : ℕ) → Volume → Walk → Type 0
-WalkKeeps n key v (StandsIn g) = (fault : Option Fault) → slot_in ((standing_in key g).cut fault).drive.volume n ≡ slot_in v n
-WalkKeeps n key v (EndsWith rest s e) = slot_in e.drive.volume n ≡ slot_in v n
-
-abbrev Saved : ProgramPhase → Type 0
-Saved g = unsaved (state_in g) ≡ None
-
-pub past_state : (turn : Turn) (g : ProgramPhase) → state_in (phase_past turn g) ≡ state_in g
-past_state turn (Between p) = refl
-past_state turn (Looking o r) = refl
-past_state turn (Moving o t) = refl
+WalkKeeps n key v w = WalkIs (λ g. (fault : Option Fault) → slot_in ((standing_in key g).cut fault).drive.volume n ≡ slot_in v n) (λ s e. slot_in e.drive.volume n ≡ slot_in v n) w
 
 walk_behind : (done more : Script) (key : ℕ) (first g : ProgramPhase) → walk done key first ≡ StandsIn g → walk (done ++ more) key first ≡ walk more key g
 walk_behind done more key first g at = walks_on done more key first ∙ ap (λ w. walked_on w key more) at
@@ -203,7 +139,7 @@ keeps_on : (n : ℕ) (s : Start) (caw : Caw) (done script : Script) (g : Program
     → walk_writes n script caw.key g ≡ false → slot_in (state_in g).volume n ≡ slot_in v n → WalkKeeps n caw.key v (walk script caw.key g)
 keeps_on n s caw done [] g v at h k = λ fault. (writes_under_arm s caw done g fault n at h).by_cut ∙ k
 keeps_on n s caw done (OneUnit fault ∷ rest) g v at h k =
-    let w = or_false (may_write n g) (on_going (unit fault caw.key g) (walk_writes n rest caw.key)) h in
+    let w = or_parts (may_write n g) (on_going (unit fault caw.key g) (walk_writes n rest caw.key)) h in
     go (unit fault caw.key g) refl w.1 ((writes_under_arm s caw done g fault n at w.0).by_unit)
     (λ g' at' h' k'. keeps_on n s caw (done ++ OneUnit fault ∷ []) rest g' v at' h' k')
   where
@@ -217,16 +153,10 @@ keeps_on n s caw done (Outside change ∷ rest) g v at h k =
 keeps_on n s caw done (TakesInterruption ∷ rest) g v at h k =
     keeps_on n s caw (done ++ TakesInterruption ∷ []) rest (phase_past TakesInterruption g) v (walk_behind done (TakesInterruption ∷ []) caw.key (Between (start_point caw s)) g at) h (ap (λ x. slot_in x.volume n) (past_state TakesInterruption g) ∙ k)
 
-outcome_keeps : (n : ℕ) (key : ℕ) (v : Volume) (script : Script) (w : Walk) → WalkKeeps n key v w → OutcomeKeeps n v (outcome_of script key w)
-outcome_keeps n key v script (StandsIn g) h = h
-outcome_keeps n key v script (EndsWith rest s e) h = h
-
 pub run_keeps : RunKeeps
 run_keeps s script n h = go (caw_of s.caw) h
   where
     go : (c : Option Caw) → run_writes_from n script s c ≡ false → OutcomeKeeps n s.drive.volume (run_from script s c)
     go None h = refl
     go (Some caw) h =
-        let first = Between (start_point caw s) in
-        subst (OutcomeKeeps n s.drive.volume) (sym (run_walk s caw script))
-        (outcome_keeps n caw.key s.drive.volume script (walk script caw.key first) (keeps_on n s caw [] script first s.drive.volume refl h refl))
+        run_holds (OutcomeKeeps n s.drive.volume) s caw script (λ g k. k) (λ used st e k. k) (keeps_on n s caw [] script (Between (start_point caw s)) s.drive.volume refl h refl)

@@ -2,7 +2,6 @@ pub mod Walks
 pub mod Units
 pub mod Standing
 pub mod AtOnce
-pub mod DriveTerms
 pub mod DriveFacts
 pub mod EndStatus
 pub mod FaultsMet

@@ -25,22 +25,16 @@ use Rattle.s360_runs.specs.StoreCalls.{closing_of, meets, leaves, leaves_fetched
 use Rattle.s360_runs.specs.Transfers.{Request, Transfer, request_of, Stops, TransferUnit, Moves, Completes, transfer_unit, first_transfer}
 use Rattle.s360_runs.specs.Units.{unit, Next, EndsIn, GoesOn, next_chosen, next_moved, next_looked, next_begun, next_fetched, Between, Looking, Moving, ProgramPhase, on_next, walk, StandsIn, EndsWith, phase_past, state_in}
 use Rattle.s360_runs.specs.Writes.{on_going, writes_moved, writes_in_unit, written_past, written_since, MarkIsOfScript}
-use Rattle.s360_runs.proofs.DriveFacts.{goes}
-use Rattle.s360_runs.proofs.DriveTerms.{no}
-use Rattle.s360_runs.proofs.FaultsMet.{fault_ends_unit}
-use Rattle.s360_runs.proofs.KeptTracks.{past_state}
+use Rattle.s360_runs.proofs.DriveFacts.{empty_stays, sighted}
+use Rattle.s360_runs.proofs.FaultsMet.{fault_or_not}
+use Rattle.s360_runs.proofs.Units.{BegunIs, FoundIs, LookIs, NextHas, begun_holds, choice_holds, looked_holds, past_state}
 
 -- where the program goes on the track is written as said
-abbrev Marked : Bool → Next → Type 0
-Marked w (GoesOn g) = is_written (state_in g) ≡ w
-Marked w (EndsIn s e) = Unit {0}
+abbrev Is : Bool → State → Type 0
+Is w s = is_written s ≡ w
 
-choice_marked : (w : Bool) (key : ℕ) (r : Request) (c : Closed) (channel : ChannelStatus) → is_written c.state ≡ w → Marked w (next_chosen (choice None key r c channel))
-choice_marked w key r c channel h = go (chains_command r.ccw && not (stops_chaining c.unit) && is_clear channel)
-  where
-    go : (b : Bool) → Marked w (next_chosen (cond b (Chains (record { storage = r.storage; place = past_modifier r.place c; state = c.state })) (Ends r.storage (ending None key r.place c channel))))
-    go true = h
-    go false = tt
+abbrev Marked : Bool → Next → Type 0
+Marked w n = NextHas (Is w) (λ e. Unit {0}) n
 
 -- a command that is closed
 close_marked : (o : Open) (b : List ℕ) → is_written (close None o b).state ≡ cond (closing_of o b).moves_off false (cond (is_some (closing_of o b).written) true (is_written o.state))
@@ -54,106 +48,72 @@ close_marked o b = go (closing_of o b).moves_off
     go true = refl
     go false = written (closing_of o b).written
 
+choice_marked : (w : Bool) (key : ℕ) (o : Open) (t : Transfer) → Is w (close None o t.bytes).state → Marked w (next_moved None key o t Completes)
+choice_marked w key o t h = let c = close None o t.bytes in choice_holds (λ c. Is w c.state) (Is w) (λ e. Unit {0}) None key (λ c h. h) (λ p c channel h. tt) (request_of t) c (length_status o t c) h
+
 moved_marked : (key : ℕ) (o : Open) (t : Transfer) (u : TransferUnit) → Marked (cond (leaves_moved o t u) false (cond (writes_moved o t u) true (is_written o.state))) (next_moved None key o t u)
 moved_marked key o t (Moves next) = refl
 moved_marked key o t (Stops next check) = tt
-moved_marked key o t Completes = choice_marked _ key (request_of t) (close None o t.bytes) (length_status o t (close None o t.bytes)) (close_marked o t.bytes)
+moved_marked key o t Completes = choice_marked _ key o t (close_marked o t.bytes)
 
 -- without a byte nothing is written, and no track is left
 empty_marked : (o : Open) → is_written (close None o []).state ≡ is_written o.state
-empty_marked o = close_marked o [] ∙ go (closing_of o []).moves_off (closing_of o []).written (closing_empty _ _ _ _) (closing_facts _ _ _ _ []).written
+empty_marked o = close_marked o [] ∙ go (closing_of o []).moves_off (closing_of o []).written (empty_stays o) (closing_facts _ _ _ _ []).written
   where
     go : {w : Bool} (m : Bool) (t : Option Track) → m ≡ false → (t ≡ None) ⊎ ((◌≡◌ {A = List ℕ} [] [] → ⊥) × (w ≡ true)) → cond m false (cond (is_some t) true (is_written o.state)) ≡ is_written o.state
-    go true t e h = no (sym e)
+    go true t e h = absurd (cc)
     go false t e (inl h) = ap (λ t. cond (is_some t) true (is_written o.state)) h
     go false t e (inr h) = absurd (h.0 refl)
 
-found_marked : (key : ℕ) (o : Open) (t : Transfer) (u : TransferUnit) → t.bytes ≡ [] → Marked (is_written o.state) (next_moved None key o t u)
-found_marked key o t (Moves next) e = refl
-found_marked key o t (Stops next check) e = tt
-found_marked key o t Completes e = choice_marked _ key (request_of t) (close None o t.bytes) (length_status o t (close None o t.bytes)) (ap (λ b. is_written (close None o b).state) e ∙ empty_marked o)
-
--- a look
-abbrev LookMarked : Bool → AfterLook → Type 0
-LookMarked w (Failed s) = Unit {0}
-LookMarked w (Passed o) = is_written (state_of o) ≡ w
-LookMarked w (Ready o) = is_written (state_of o) ≡ w
-
-looked_next : (w : Bool) (key : ℕ) (r : Request) (l : AfterLook) → LookMarked w l → Marked w (next_looked None key r l)
-looked_next w key r (Failed s) h = tt
-looked_next w key r (Passed o) h = h
-looked_next w key r (Ready o) h = subst (λ w. Marked w (next_looked None key r (Ready o))) h (found_marked key o (first_transfer r) (transfer_unit key o (first_transfer r)) refl)
-
-look_marked : (o : Open) → LookMarked (cond (leaves_looking o) false (is_written o.state)) (look None o)
-look_marked o = go (aim o.opened.command) (sight o.state.volume.geometry (track_under o.state) o.opened o.state.registers)
+look_marked : (o : Open) → let w = cond (leaves_looking o) false (is_written o.state) in LookIs (λ c. Is w c.state) (Is w) (FoundIs (λ c. Is w c.state) (Is w) None) (look None o)
+look_marked o = go (sighted o)
   where
-    at : (s : Sight) → LookMarked (cond (goes_to_next_head s) false (is_written o.state)) (looked None o s)
-    at (answer.Found opened) = refl
-    at (answer.IndexPassed r) = refl
-    at (answer.NextHead r) = subst (LookMarked false) (sym (goes o.state Failed (Passed (record o { state = moved o.state r })))) refl
-    at (answer.Missed r) = tt
+    go : (s : Sight) → let w = cond (goes_to_next_head s) false (is_written o.state) in LookIs (λ c. Is w c.state) (Is w) (FoundIs (λ c. Is w c.state) (Is w) None) (looked None o s)
+    go (answer.Found opened) = (refl, empty_marked (record o { opened = opened }))
+    go (answer.IndexPassed r) = refl
+    go (answer.NextHead r) = refl
+    go (answer.Missed r) = refl
 
-    go : (a : Aim) (s : Sight) → LookMarked (cond (goes_to_next_head s) false (is_written o.state)) (look_for None o a s)
-    go (NextArea kind) s = at s
-    go NoArea s = at s
-    go Credited s = at s
-
--- a command that begins
-abbrev BegunMarked : Bool → AfterBegin → Type 0
-BegunMarked w (Rejected s) = Unit {0}
-BegunMarked w (Immediate s motion) = is_written s ≡ w
-BegunMarked w (Started o) = is_written (state_of o) ≡ w
-
-begun_next : (w : Bool) (key : ℕ) (r : Request) (b : AfterBegin) → BegunMarked w b → Marked w (next_begun None key r b)
-begun_next w key r (Rejected s) h = tt
-begun_next w key r (Immediate s motion) h = choice_marked w key r (immediate s motion) no_channel_status h
-begun_next w key r (Started o) h = h
-
-begin_marked : (code : ℕ) (s : State) → BegunMarked (cond (leaves_as_it_begins (beginning code s.registers)) false (is_written s)) (begin None code s)
+begin_marked : (code : ℕ) (s : State) → let w = cond (leaves_as_it_begins (beginning code s.registers)) false (is_written s) in BegunIs (λ c. Is w c.state) (Is w) (begin None code s)
 begin_marked code s = go (beginning code s.registers)
   where
-    at_zero : (r : Registers) (o : Option Opened) → BegunMarked false (at_cylinder_zero s r o)
-    at_zero r None = refl
-    at_zero r (Some o) = refl
-
-    go : (b : Beginning) → BegunMarked (cond (leaves_as_it_begins b) false (is_written s)) (begun None s b)
-    go (answer.Rejected r) = tt
+    go : (b : Beginning) → let w = cond (leaves_as_it_begins b) false (is_written s) in BegunIs (λ c. Is w c.state) (Is w) (begun None s b)
+    go (answer.Rejected r) = refl
     go (answer.Immediate r) = refl
     go (answer.Started r o) = refl
-    go (answer.ToCylinderZero r o) = subst (BegunMarked false) (sym (goes (with_registers s r) Rejected (at_cylinder_zero s r o))) (at_zero r o)
+    go (answer.ToCylinderZero r None) = refl
+    go (answer.ToCylinderZero r (Some o)) = refl
 
 fetched_marked : (key : ℕ) (p : Point) (w : Fetched) → Marked (cond (leaves_fetched p w) false (is_written p.state)) (next_fetched None key p w)
 fetched_marked key p NoCcw = tt
 fetched_marked key p (TransferTo address) = refl
-fetched_marked key p (GoodCcw ccw) = begun_next _ key (requested p ccw) (begin None ccw.code p.state) (begin_marked ccw.code p.state)
+fetched_marked key p (GoodCcw ccw) =
+    let w = cond (leaves_fetched p (GoodCcw ccw)) false (is_written p.state) in
+    begun_holds (λ c. Is w c.state) (Is w) (λ e. Unit {0}) None key (λ c h. h) (λ p c channel h. tt) (requested p ccw) (begin None ccw.code p.state) (begin_marked ccw.code p.state)
 
 unit_marked : (key : ℕ) (g : ProgramPhase) → Marked (written_past key g (is_written (state_in g))) (unit None key g)
 unit_marked key (Between p) = fetched_marked key p (fetch p.storage p.place true)
-unit_marked key (Looking o r) = looked_next _ key r (look None o) (look_marked o)
 unit_marked key (Moving o t) = moved_marked key o t (transfer_unit key o t)
+unit_marked key (Looking o r) =
+    let w = cond (leaves_looking o) false (is_written o.state) in
+    looked_holds (λ c. Is w c.state) (Is w) (λ e. Unit {0}) None key (λ c h. h) (λ p c channel h. tt) r (look None o) (look_marked o)
 
 -- a unit in which the program goes on met no fault
 faulty_marked : (f : Option Fault) (key : ℕ) (g : ProgramPhase) → Marked (written_past key g (is_written (state_in g))) (unit f key g)
 faulty_marked None key g = unit_marked key g
-faulty_marked (Some f) key g = go (meets f key g) refl
+faulty_marked (Some f) key g = go (fault_or_not f key g)
   where
-    u : UnitByFault f key g
-    u = fault_ends_unit f key g
-
     met : (x : Next) → NextByFault f key g x → Marked (written_past key g (is_written (state_in g))) x
     met (GoesOn next) h = absurd h
     met (EndsIn s e) h = tt
 
-    go : (b : Bool) → meets f key g ≡ b → Marked (written_past key g (is_written (state_in g))) (unit (Some f) key g)
-    go true e = met (unit (Some f) key g) (u.met e)
-    go false e = subst (Marked (written_past key g (is_written (state_in g)))) (sym (u.not_met e)) (unit_marked key g)
+    go : (unit (Some f) key g ≡ unit None key g) ⊎ NextByFault f key g (unit (Some f) key g) → Marked (written_past key g (is_written (state_in g))) (unit (Some f) key g)
+    go (inr h) = met (unit (Some f) key g) h
+    go (inl e) = subst (Marked (written_past key g (is_written (state_in g)))) (sym e) (unit_marked key g)
 
 pub mark_is_of_script : MarkIsOfScript
-mark_is_of_script [] key g last h = ap is_written_in (the g last h)
+mark_is_of_script [] key g last h = ap (λ g. is_written (state_in g)) (the g last h)
   where
-    is_written_in : ProgramPhase → Bool
-    is_written_in g = is_written (state_in g)
-
     the : (g last : ProgramPhase) → StandsIn g ≡ StandsIn last → last ≡ g
     the g last h = cc
 mark_is_of_script (OneUnit fault ∷ rest) key g last h = go (unit fault key g) (faulty_marked fault key g) h (λ next k. mark_is_of_script rest key next last k)
@@ -162,9 +122,6 @@ mark_is_of_script (OneUnit fault ∷ rest) key g last h = go (unit fault key g) 
         → ((next : ProgramPhase) → walk rest key next ≡ StandsIn last → is_written (state_in last) ≡ written_since rest key next (is_written (state_in next)))
         → is_written (state_in last) ≡ on_going x (λ next. written_since rest key next (written_past key g (is_written (state_in g))))
     go (GoesOn next) k e more = more next e ∙ ap (written_since rest key next) k
-    go (EndsIn s e') k e more = absurd (differ e)
-      where
-        differ : EndsWith rest s e' ≡ StandsIn last → ⊥
-        differ h = cc
+    go (EndsIn s e') k e more = absurd (cc)
 mark_is_of_script (Outside change ∷ rest) key g last h = mark_is_of_script rest key (phase_past (Outside change) g) last h ∙ ap (λ s. written_since rest key (phase_past (Outside change) g) (is_written s)) (past_state (Outside change) g)
 mark_is_of_script (TakesInterruption ∷ rest) key g last h = mark_is_of_script rest key (phase_past TakesInterruption g) last h ∙ ap (λ s. written_since rest key (phase_past TakesInterruption g) (is_written s)) (past_state TakesInterruption g)

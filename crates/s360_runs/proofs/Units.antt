@@ -91,11 +91,6 @@ LookIs C Q R (Failed s) = C (failed s)
 LookIs C Q R (Passed o) = Q (state_of o)
 LookIs C Q R (Ready o) = R o
 
-pub begun_map : {C D : Closed → Type 0} {Q R : State → Type 0} → ((c : Closed) → C c → D c) → ((s : State) → Q s → R s) → (b : AfterBegin) → BegunIs C Q b → BegunIs D R b
-begun_map f g (Rejected s) h = f (failed s) h
-begun_map f g (Immediate s motion) h = f (immediate s motion) h
-begun_map f g (Started o) h = g (state_of o) h
-
 -- a command whose area was found goes on, or is closed with no byte
 abbrev pub FoundIs : (Closed → Type 0) → (State → Type 0) → Option Fault → Open → Type 0
 FoundIs C Q f o = Q (state_of o) × C (close f o [])

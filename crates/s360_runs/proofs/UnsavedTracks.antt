@@ -19,7 +19,6 @@ use Rattle.s360_runs.specs.Status.{stops_chaining, is_clear, no_channel_status}
 use Rattle.s360_runs.specs.Transfers.{Request, Transfer, request_of, Stops, TransferUnit, Moves, Completes, transfer_unit, first_transfer}
 use Rattle.s360_runs.specs.Units.{unit, Next, EndsIn, next_chosen, next_moved, next_looked, next_begun, next_fetched, Between, Looking, Moving, ProgramPhase, standing_in, outcome_of, on_next, walk, GoesOn, EndsWith, StandsIn, phase_past, Walk, state_in}
 use Rattle.s360_runs.specs.Unsaved.{has_written, WritesByCommands, TellsWritten, NextTellsWritten, UnsavedWasWritten, TellsNoFault, OutcomeTellsNoFault, FirstTellsNoFault, NoFaultNothingTold}
-use Rattle.s360_runs.proofs.DriveFacts.{settle_none}
 use Rattle.s360_runs.proofs.FaultsMet.{unmet_walk}
 use Rattle.s360_runs.proofs.Units.{BegunIs, FoundIs, LookIs, NextHas, OpenIs, WalkIs, cut_holds, past_state, plain_walk_holds, run_holds, unit_holds}
 
@@ -34,7 +33,7 @@ abbrev CalmClosed : IdleDrive → Closed → Type 0
 CalmClosed before c = Calm (Quiet before) c.state
 
 calm_ending : (before : IdleDrive) (key : ℕ) (p : Place) (c : Closed) (channel : ChannelStatus) → Calm (Quiet before) c.state → TellsNoFault before (ending None key p c channel)
-calm_ending before key p c channel h = subst (λ c. TellsNoFault before (settled_ending key p c channel)) (sym (settle_none c)) (record { saved = h.saved; no_check = h.quiet })
+calm_ending before key p c channel h = record { saved = h.saved; no_check = h.quiet }
 
 calm_begun : (before : IdleDrive) (b : AfterBegin) → BegunCalm (Quiet before) b → BegunIs (CalmClosed before) (Calm (Quiet before)) b
 calm_begun before (Rejected s) h = h
