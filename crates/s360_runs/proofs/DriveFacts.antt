@@ -11,12 +11,11 @@ use Rattle.ckd_command.specs.declared.registers.Mark.TheVariants.{Saved, Written
 use Rattle.ckd_command.specs.declared.registers.Registers.{Registers}
 use Rattle.ckd_command.specs.declared.tables.Aim.{Aim}
 use Rattle.ckd_command.specs.declared.tables.Aim.TheVariants.{NoArea, Next, Credited}
-use Rattle.ckd_command.specs.declared.begin.Opened.{Opened}
 use Rattle.ckd_command.specs.Answers.{Beginning, Sight}
 use Rattle.ckd_command.specs.Answers as answer
 use Rattle.ckd_command.specs.Tables.{aim}
 use Rattle.ckd_command.specs.Commands.{Closing, beginning, sight}
-use Rattle.ckd_command.specs.Drive.{IdleDrive, State, Volume, track_number, unsaved, tells_equipment_check, is_written, is_written_by, drive_of, number_under, slot_under, track_under, Fault, LoadFails, SaveFails, left_by, lost, saving, moving_off, moved, with_registers, with_store_fault, Open, state_of, AfterBegin, Rejected, Immediate, Started, begin, begun, at_cylinder_zero, AfterLook, Ready, Passed, Failed, look, looked, look_for, with_written, Closed, failed, close, closed, closed_by, closed_moving, settled, with_unit_check, unsaved_by}
+use Rattle.ckd_command.specs.Drive.{IdleDrive, State, Volume, track_number, unsaved, tells_equipment_check, is_written, is_written_by, drive_of, number_under, slot_under, track_under, Fault, LoadFails, SaveFails, left_by, lost, saving, moving_off, with_registers, with_store_fault, Open, AfterBegin, Rejected, Immediate, Started, begin, begun, AfterLook, Ready, Passed, Failed, look, looked, look_for, with_written, Closed, failed, close, closed, closed_moving, settled, with_unit_check, unsaved_by}
 use Rattle.ckd_command.proofs.Arms.{AtSameTrack, BeginsAt, beginning_at, closing_at, closing_empty, SightAt, sight_at}
 use Rattle.ckd_command.proofs.CommandFacts.{IsClosing, closing_facts, store_fault_is_told}
 use Rattle.s360_runs.specs.Status.{tells}

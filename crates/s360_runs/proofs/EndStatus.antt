@@ -1,22 +1,18 @@
 -- Each ending has channel end, and device end unless the arm still moves.
-use Rattle.std.proofs.Common.{◌≡◌, ℕ, refl, sym, subst, true, false, Bool, cond, not, List, [], ◌∷◌, Option, Some, None}
-use Rattle.std.specs.Prelude.{◌&&◌}
-use Rattle.s360_words.specs.Storage.{Storage}
-use Rattle.s360_words.specs.Words.{chains_command, caw_of}
+use Rattle.std.proofs.Common.{◌≡◌, ℕ, refl, subst, true, false, Bool, cond, [], Option, Some, None}
+use Rattle.s360_words.specs.Words.{caw_of}
 use Rattle.s360_words.specs.declared.flags.ChannelStatus.{ChannelStatus}
 use Rattle.s360_words.specs.declared.flags.TheConstants.ChannelStatus.{PROGRAM_CHECK, PROGRAM_CONTROLLED_INTERRUPTION}
 use Rattle.s360_words.specs.declared.words.Caw.{Caw}
 use Rattle.s360_words.specs.declared.words.Csw.{Csw}
-use Rattle.ckd_command.specs.Drive.{Closed, State, Fault, Open, close, state_of, AfterBegin, Rejected, Immediate, Started, begin, look, AfterLook, Failed, Passed, Ready, begin_program}
-use Rattle.s360_runs.specs.Commands.{Ends, choice, past_modifier, Point, Chains, requested}
-use Rattle.s360_runs.specs.Endings.{untouched, failed, Ending, ending, closed_by_cut, immediate, Standing, Outcome, Ended, NotEnded, standing, csw_at}
+use Rattle.ckd_command.specs.Drive.{Closed, State, Fault, AfterBegin, Rejected, Immediate, Started, begin, look, AfterLook, Failed, Passed, Ready, begin_program}
+use Rattle.s360_runs.specs.Endings.{untouched, failed, Ending, ending, immediate, Standing, Outcome, Ended, NotEnded, csw_at}
 use Rattle.s360_runs.specs.Laws.{IsEnd, EndingIsEnd, CutIsEnd}
-use Rattle.s360_runs.specs.Places.{Place, fetch, Fetched, NoCcw, past_no_ccw, TransferTo, GoodCcw}
+use Rattle.s360_runs.specs.Places.{Place}
 use Rattle.s360_runs.specs.Runs.{Start, run, run_from, first_place, start_point}
-use Rattle.s360_runs.specs.Scripts.{Script, OneUnit, Outside, TakesInterruption}
-use Rattle.s360_runs.specs.Status.{stops_chaining, is_clear, no_channel_status, no_unit_status}
-use Rattle.s360_runs.specs.Transfers.{Request, Transfer, TransferUnit, Moves, Stops, Completes, request_of, first_transfer, transfer_unit}
-use Rattle.s360_runs.specs.Units.{unit, Next, GoesOn, EndsIn, next_chosen, next_begun, next_fetched, next_moved, next_looked, ProgramPhase, Between, Looking, Moving, standing_in, state_in, Walk, StandsIn, EndsWith, walk, on_next, phase_past, outcome_of}
+use Rattle.s360_runs.specs.Scripts.{Script}
+use Rattle.s360_runs.specs.Status.{no_unit_status}
+use Rattle.s360_runs.specs.Units.{ProgramPhase, Between, Looking, Moving, standing_in, state_in}
 use Rattle.s360_runs.proofs.DriveFacts.{settle_end, close_end}
 use Rattle.s360_runs.proofs.Units.{OpenIs, BegunIs, LookIs, FoundIs, unit_holds, cut_holds, walk_holds, run_holds}
 

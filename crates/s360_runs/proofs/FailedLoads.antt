@@ -1,10 +1,10 @@
 -- All that a failed load leaves.
-use Rattle.std.proofs.Common.{◌≡◌, ℕ, refl, sym, ap, subst, ◌∙◌, ◌+◌, true, false, Bool, cond, [], ◌∷◌, Option, Some, None}
+use Rattle.std.proofs.Common.{◌≡◌, ℕ, refl, sym, ap, subst, ◌∙◌, ◌+◌, true, false, Bool, cond, Option, Some, None}
 use Rattle.std.specs.Prelude.{◌%◌, ◌^◌}
 use Rattle.s360_words.specs.declared.flags.ChannelStatus.{ChannelStatus}
 use Rattle.s360_words.specs.declared.words.Caw.{Caw}
 use Rattle.ckd_command.specs.Commands.{beginning}
-use Rattle.ckd_command.specs.Drive.{AfterBegin, AfterLook, Failed, Fault, Immediate, LoadFails, Open, Passed, Ready, Rejected, Started, State, begin, close, drive_of, begun, look, look_for, looked, state_of, track_under, unsaved, with_store_fault}
+use Rattle.ckd_command.specs.Drive.{AfterBegin, AfterLook, Failed, Fault, Immediate, LoadFails, Open, Passed, Ready, Rejected, Started, State, begin, close, drive_of, begun, look, looked, state_of, track_under, unsaved, with_store_fault}
 use Rattle.ckd_command.specs.Tables.{aim}
 use Rattle.ckd_command.specs.declared.tables.Aim.{Aim}
 use Rattle.ckd_command.specs.declared.tables.Aim.TheVariants.{NoArea, Next as NextArea, Credited}
@@ -17,14 +17,14 @@ use Rattle.ckd_command.proofs.Arms.{BeginsAt, NoSenseFor, SightAt, beginning_at,
 use Rattle.ckd_command.proofs.Marks.{anywhere}
 use Rattle.s360_runs.specs.Commands.{Chains, Choice, Ends, choice, completed, requested}
 use Rattle.s360_runs.specs.Endings.{Ending, ending, failed, immediate}
-use Rattle.s360_runs.specs.Faults.{FailedLoad, ended_by_load, without_faults}
+use Rattle.s360_runs.specs.Faults.{FailedLoad, ended_by_load}
 use Rattle.s360_runs.specs.Places.{Fetched, GoodCcw, NoCcw, TransferTo, fetch}
 use Rattle.s360_runs.specs.Runs.{Start, start_point}
 use Rattle.s360_runs.specs.Scripts.{OneUnit, Outside, Script, TakesInterruption, Turn}
 use Rattle.s360_runs.specs.Status.{no_channel_status, with_interruption}
 use Rattle.s360_runs.specs.StoreCalls.{is_next, looks_for_area}
 use Rattle.s360_runs.specs.Transfers.{Completes, Moves, Request, Stops, Transfer, TransferUnit, first_transfer, transfer_unit}
-use Rattle.s360_runs.specs.Units.{Between, EndsIn, EndsWith, GoesOn, Looking, Moving, Next, ProgramPhase, StandsIn, Walk, next_begun, next_chosen, next_fetched, next_looked, next_moved, on_next, phase_past, unit, walk}
+use Rattle.s360_runs.specs.Units.{Between, EndsIn, Looking, Moving, Next, ProgramPhase, StandsIn, next_begun, next_chosen, next_fetched, next_looked, next_moved, phase_past, unit, walk}
 use Rattle.s360_runs.proofs.DriveFacts.{look_loads, sighted}
 use Rattle.s360_runs.proofs.FaultsMet.{unmet_walk}
 use Rattle.s360_runs.proofs.Units.{NextIs, WalkIs, plain_walk_holds}

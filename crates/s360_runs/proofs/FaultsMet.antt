@@ -11,12 +11,11 @@ use Rattle.s360_words.specs.declared.flags.TheConstants.ChannelStatus.{INCORRECT
 use Rattle.s360_words.specs.declared.flags.TheConstants.UnitStatus.{CHANNEL_END, DEVICE_END, UNIT_CHECK}
 use Rattle.s360_words.specs.declared.flags.UnitStatus.{UnitStatus}
 use Rattle.s360_words.specs.declared.words.Caw.{Caw}
-use Rattle.ckd_command.specs.Commands.{Closing, beginning}
-use Rattle.ckd_command.specs.declared.registers.Registers.{Registers}
-use Rattle.ckd_command.specs.Drive.{Fault, Volume, IdleDrive, Closed, closed, settled, drive_of, close, Open, look, AfterLook, State, Failed, Passed, Ready, AfterBegin, Rejected, Immediate, Started, begin, state_of, gives, is_written, lost, LoadFails, SaveFails, with_store_fault, with_unit_check}
-use Rattle.ckd_command.proofs.Arms.{AtSameTrack, closing_empty}
+use Rattle.ckd_command.specs.Commands.{beginning}
+use Rattle.ckd_command.specs.Drive.{Fault, Volume, Closed, drive_of, close, Open, look, AfterLook, State, Failed, Passed, Ready, AfterBegin, Rejected, Immediate, Started, begin, gives, is_written, lost, LoadFails, SaveFails, with_store_fault, with_unit_check}
+use Rattle.ckd_command.proofs.Arms.{AtSameTrack}
 use Rattle.s360_runs.specs.Commands.{Ends, choice, past_modifier, Point, Chains, completed, goes_on_chaining, length_status, requested}
-use Rattle.s360_runs.specs.Endings.{Ending, ending, settled_ending, failed, immediate, untouched, closed_by_cut, Ended, NotEnded}
+use Rattle.s360_runs.specs.Endings.{Ending, ending, settled_ending, failed, immediate, untouched, closed_by_cut, Ended}
 use Rattle.s360_runs.specs.Faults.{EndsByFault, NextByFault, UnitByFault, FaultEndsUnit, FaultEndsPhase, FaultEndsCut, FaultEndsProgram, OutcomeByFault, cut_drive, drive_in, StaysAt, without_faults, GoesOnWithoutFaults}
 use Rattle.s360_runs.specs.Laws.{IsEnd}
 use Rattle.s360_runs.specs.Places.{Place, fetch, Fetched, NoCcw, TransferTo, GoodCcw, past_no_ccw}
@@ -24,7 +23,7 @@ use Rattle.s360_runs.specs.Runs.{Start, run, start_point, run_from}
 use Rattle.s360_runs.specs.Scripts.{Script, OneUnit, units_in, Outside, TakesInterruption}
 use Rattle.s360_runs.specs.Status.{tells, beside, with_interruption, is_clear, no_channel_status}
 use Rattle.s360_runs.specs.StoreCalls.{closing_of, cut_meets, ends_written_begun, ends_written_by, ends_written_fetched, ends_written_looked, ends_written_moved, leaves_as_it_begins, leaves_fetched, leaves_looking, leaves_moved, meets, saves_by_cut}
-use Rattle.s360_runs.specs.Transfers.{Request, Transfer, request_of, Stops, TransferUnit, Moves, Completes, transfer_unit, needs_ccw, needs_byte, check_of, chained_data, after_bytes, byte_or_check, first_transfer, is_incorrect_length}
+use Rattle.s360_runs.specs.Transfers.{Request, Transfer, request_of, Stops, TransferUnit, Moves, Completes, transfer_unit, needs_ccw, needs_byte, check_of, chained_data, after_bytes, first_transfer, is_incorrect_length}
 use Rattle.s360_runs.specs.Units.{unit, Next, EndsIn, next_chosen, next_moved, next_looked, next_begun, next_fetched, Between, Looking, Moving, ProgramPhase, standing_in, state_in, StandsAt, outcome_of, on_next, walk, GoesOn, EndsWith, StandsIn, phase_past, Walk}
 use Rattle.s360_runs.proofs.DriveFacts.{BegunStays, Fails, FailsOr, LookStays, StaysWritten, VolumeClosed, VolumeIn, begin_keeps, begin_loads, begin_saves, begin_stays, close_end, close_loads, close_moves, close_none, close_saves, close_stays, empty_stays, fails_from, joins_check, load_fails, look_keeps, look_loads, look_loads_not, look_saves, look_stays, lost_fails, same_arm, settle_again, settle_end, settle_saves}
 use Rattle.s360_runs.proofs.Units.{BegunIs, FoundIs, LookIs, StopsWith, stops_with}
@@ -174,9 +173,11 @@ module _ (left : List ℕ) (key : ℕ) (g : ProgramPhase) where
           → MetOr (b || ends) left key g (finish (Some (SaveFails left)) x) (finish None y)
       go false e h = subst (λ x. MetOr ends left key g (finish (Some (SaveFails left)) x) (finish None y)) (sym (h.1 refl)) staying
       go true e h =
-          let t = h.0 refl in
-          (λ w. subst (λ x. NextByFault (SaveFails left) key g (finish (Some (SaveFails left)) x)) (sym t.1)
-          (failing t.0 (subst (λ r. Fails (SaveFails left) (cut_drive key g) r t.0) r (fails_from (SaveFails left) (drive_of s) (cut_drive key g) s.registers s.registers t.0 (e refl) (same_arm s.registers) t.2))), λ w. absurd (cc))
+          let t = h.0 refl in (
+            λ w. subst (λ x. NextByFault (SaveFails left) key g (finish (Some (SaveFails left)) x)) (sym t.1)
+                (failing t.0 (subst (λ r. Fails (SaveFails left) (cut_drive key g) r t.0) r (fails_from (SaveFails left) (drive_of s) (cut_drive key g) s.registers s.registers t.0 (e refl) (same_arm s.registers) t.2))),
+            λ w. absurd (cc),
+          )
 
   -- what a command that is closed needs
   closes_may : (o : Open) (b : List ℕ) → (close None o b).state.volume ≡ (cut_drive key g).volume → o.state.registers ≡ (state_in g).registers → MayLose key g (close None o b)

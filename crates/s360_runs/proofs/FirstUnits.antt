@@ -1,14 +1,13 @@
 -- The first unit of a program, as Start I/O and as the run has it.
-use Rattle.std.proofs.Common.{◌≡◌, ◌≤◌, ℕ, refl, sym, ap, ◌∙◌, arith, true, false, Bool, cond, not, ◌&&◌, [], Option, Some, None, inl, inr, ◌⊎◌}
+use Rattle.std.proofs.Common.{◌≡◌, ◌≤◌, ℕ, refl, arith, true, false, Bool, cond, not, ◌&&◌, [], Option, Some, None, inl, inr, ◌⊎◌}
 use Rattle.s360_words.specs.Words.{chains_command, caw_of}
-use Rattle.s360_words.specs.declared.flags.ChannelStatus.{ChannelStatus}
 use Rattle.s360_words.specs.declared.flags.TheConstants.ChannelStatus.{PROGRAM_CHECK}
 use Rattle.s360_words.specs.declared.flags.TheConstants.UnitStatus.{CHANNEL_END}
 use Rattle.s360_words.specs.declared.words.Caw.{Caw}
 use Rattle.s360_words.specs.declared.words.Ccw.{Ccw}
-use Rattle.ckd_command.specs.Drive.{Closed, State, Immediate, begin, begin_program, drive_of, AfterBegin, Rejected, Started}
+use Rattle.ckd_command.specs.Drive.{State, Immediate, begin, begin_program, drive_of, AfterBegin, Rejected, Started}
 use Rattle.s360_runs.specs.Commands.{chained, Chains, past_modifier, Ends, begun, Point, fetched}
-use Rattle.s360_runs.specs.Endings.{Ended, Outcome, ending, failed, immediate, settled_ending, untouched}
+use Rattle.s360_runs.specs.Endings.{Ended, Outcome, ending, failed, immediate, untouched}
 use Rattle.s360_runs.specs.Laws.{FirstIsUnit, IsFirstUnit, first_of}
 use Rattle.s360_runs.specs.Places.{Place, Fetched, NoCcw, TransferTo, GoodCcw, past_ccw, past_no_ccw, fetched_at, unless_transfer}
 use Rattle.s360_runs.specs.Runs.{Start, outcome, commands, first_place, run_from, start_point}

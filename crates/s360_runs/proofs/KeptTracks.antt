@@ -1,33 +1,27 @@
 -- A channel program keeps the tracks that it does not write.
-use Rattle.std.proofs.Common.{◌≡◌, ℕ, refl, ap, subst, sym, ◌∙◌, true, false, Bool, cond, not, ◌&&◌, ◌||◌, ◌==◌, List, [], ◌∷◌, ◌++◌, Option, Some, None, ◌⊎◌, inl, inr}
+use Rattle.std.proofs.Common.{◌≡◌, ℕ, refl, ap, subst, sym, ◌∙◌, true, false, Bool, ◌==◌, List, [], ◌∷◌, ◌++◌, Option, Some, None, ◌⊎◌, inl, inr}
 use Rattle.std.proofs.lemmas.Bool.{and_from, both_ways, eq-eqb, or_parts, or_right}
-use Rattle.std.specs.Prelude.{is_some, slice_get}
-use Rattle.s360_words.specs.Words.{caw_of, chains_command}
-use Rattle.s360_words.specs.declared.flags.ChannelStatus.{ChannelStatus}
-use Rattle.s360_words.specs.declared.flags.TheConstants.ChannelStatus.{PROGRAM_CHECK}
+use Rattle.std.specs.Prelude.{is_some}
+use Rattle.s360_words.specs.Words.{caw_of}
 use Rattle.s360_words.specs.declared.words.Caw.{Caw}
 use Rattle.ckd_track.specs.Geometry.{track_at}
 use Rattle.ckd_track.specs.Track.{Track, slot_of}
 use Rattle.ckd_command.specs.Commands.{Closing}
-use Rattle.ckd_command.specs.Drive.{Volume, State, Fault, LoadFails, SaveFails, IdleDrive, drive_of, number_under, track_number, is_written, unsaved, Open, state_of, AfterBegin, Rejected, Immediate, Started, begin, AfterLook, Ready, Passed, Failed, look, Closed, close, closed, closed_moving, with_written, failed as close_failed}
-use Rattle.s360_runs.specs.Commands.{Point, Chains, Ends, choice, past_modifier, length_status, requested}
-use Rattle.s360_runs.specs.Endings.{Ending, Ended, NotEnded, Outcome, ending, settled_ending, failed, immediate, untouched, closed_by_cut}
-use Rattle.s360_runs.specs.Faults.{LosesAtMost, NextByFault, UnitByFault, CutByFault, EndsByFault, StaysAt, cut_drive, drive_in}
+use Rattle.ckd_command.specs.Drive.{Volume, State, Fault, LoadFails, SaveFails, IdleDrive, number_under, track_number, is_written, Open, state_of, close, closed, with_written}
+use Rattle.s360_runs.specs.Endings.{Ending}
+use Rattle.s360_runs.specs.Faults.{LosesAtMost, NextByFault, EndsByFault, StaysAt, cut_drive, drive_in}
 use Rattle.s360_runs.specs.Laws.{walked_on}
-use Rattle.s360_runs.specs.Places.{Place, fetch, Fetched, NoCcw, TransferTo, GoodCcw, past_no_ccw}
-use Rattle.s360_runs.specs.Runs.{Start, run, run_from, start_point}
-use Rattle.s360_runs.specs.Scripts.{Script, OneUnit, Outside, TakesInterruption, Turn}
-use Rattle.s360_runs.specs.Status.{stops_chaining, is_clear, no_channel_status}
-use Rattle.s360_runs.specs.StoreCalls.{closing_of, meets, cut_meets}
-use Rattle.s360_runs.specs.Transfers.{Request, Transfer, request_of, Stops, TransferUnit, Moves, Completes, transfer_unit, first_transfer}
-use Rattle.s360_runs.specs.Units.{unit, Next, EndsIn, GoesOn, next_chosen, next_moved, next_looked, next_begun, next_fetched, Between, Looking, Moving, ProgramPhase, standing_in, outcome_of, on_next, walk, Walk, EndsWith, StandsIn, phase_past, state_in}
+use Rattle.s360_runs.specs.Runs.{Start, run_from, start_point}
+use Rattle.s360_runs.specs.Scripts.{Script, OneUnit, Outside, TakesInterruption}
+use Rattle.s360_runs.specs.StoreCalls.{closing_of}
+use Rattle.s360_runs.specs.Units.{unit, Next, EndsIn, GoesOn, Between, Looking, Moving, ProgramPhase, standing_in, on_next, walk, Walk, StandsIn, phase_past, state_in}
 use Rattle.s360_runs.specs.Unsaved.{has_written, TellsWritten, NextTellsWritten}
-use Rattle.s360_runs.specs.Writes.{slot_in, may_write, NextKeeps, UnitKeeps, WritesUnderArm, on_going, walk_writes, run_writes, run_writes_from, OutcomeKeeps, RunKeeps}
+use Rattle.s360_runs.specs.Writes.{slot_in, may_write, NextKeeps, UnitKeeps, WritesUnderArm, on_going, walk_writes, run_writes_from, OutcomeKeeps, RunKeeps}
 use Rattle.s360_runs.proofs.DriveFacts.{VolumeClosed, VolumeIn, begin_keeps, get_set_other, look_keeps}
 use Rattle.s360_runs.proofs.FaultsMet.{CutByMet, fault_or_not, cut_or_not}
 use Rattle.s360_runs.proofs.Units.{NextHas, OpenIs, WalkIs, cut_holds, past_state, run_holds, unit_holds}
-use Rattle.s360_runs.proofs.UnsavedTracks.{stands_saved, unsaved_was_written}
-use Rattle.s360_runs.proofs.Walks.{run_walk, walks_on}
+use Rattle.s360_runs.proofs.UnsavedTracks.{unsaved_was_written}
+use Rattle.s360_runs.proofs.Walks.{walks_on}
 
 -- this track has these bytes still, and the volume its geometry
 abbrev Kept : ℕ → Volume → Volume → Type 0

@@ -1,30 +1,20 @@
 -- The mark of the track under the arm is read off the units of a script.
-use Rattle.std.proofs.Common.{◌≡◌, ℕ, refl, ap, subst, sym, ◌∙◌, true, false, Bool, cond, not, ◌&&◌, ◌||◌, List, [], ◌∷◌, Option, Some, None, ◌⊎◌, inl, inr}
+use Rattle.std.proofs.Common.{◌≡◌, ℕ, refl, ap, subst, sym, ◌∙◌, true, false, Bool, cond, List, [], ◌∷◌, Option, Some, None, ◌⊎◌, inl, inr}
 use Rattle.std.specs.Prelude.{is_some}
-use Rattle.s360_words.specs.Words.{chains_command}
-use Rattle.s360_words.specs.declared.flags.ChannelStatus.{ChannelStatus}
 use Rattle.ckd_track.specs.Track.{Track}
-use Rattle.ckd_command.specs.declared.registers.Registers.{Registers}
-use Rattle.ckd_command.specs.declared.tables.Aim.{Aim}
-use Rattle.ckd_command.specs.declared.tables.Aim.TheVariants.{NoArea, Next as NextArea, Credited}
-use Rattle.ckd_command.specs.declared.begin.Opened.{Opened}
 use Rattle.ckd_command.specs.Answers.{Beginning, Sight}
 use Rattle.ckd_command.specs.Answers as answer
-use Rattle.ckd_command.specs.Commands.{Closing, beginning, sight, closing}
-use Rattle.ckd_command.specs.Tables.{aim}
-use Rattle.ckd_command.specs.Drive.{State, Fault, is_written, track_under, Open, state_of, AfterBegin, Rejected, Immediate, Started, begin, begun, at_cylinder_zero, AfterLook, Ready, Passed, Failed, look, look_for, looked, moved, with_registers, Closed, close, closed, closed_moving, with_written, failed as close_failed}
-use Rattle.ckd_command.proofs.Arms.{closing_empty}
+use Rattle.ckd_command.specs.Commands.{beginning}
+use Rattle.ckd_command.specs.Drive.{State, Fault, is_written, Open, begin, begun, look, looked, close, closed, with_written}
 use Rattle.ckd_command.proofs.CommandFacts.{closing_facts}
-use Rattle.s360_runs.specs.Commands.{Point, Chains, Ends, choice, past_modifier, length_status, requested}
-use Rattle.s360_runs.specs.Endings.{Ending, ending, immediate}
-use Rattle.s360_runs.specs.Faults.{NextByFault, UnitByFault}
+use Rattle.s360_runs.specs.Commands.{Point, length_status, requested}
+use Rattle.s360_runs.specs.Faults.{NextByFault}
 use Rattle.s360_runs.specs.Places.{fetch, Fetched, NoCcw, TransferTo, GoodCcw}
-use Rattle.s360_runs.specs.Scripts.{Script, OneUnit, Outside, TakesInterruption, Turn}
-use Rattle.s360_runs.specs.Status.{stops_chaining, is_clear, no_channel_status}
-use Rattle.s360_runs.specs.StoreCalls.{closing_of, meets, leaves, leaves_fetched, leaves_as_it_begins, leaves_looking, goes_to_next_head, leaves_moved}
-use Rattle.s360_runs.specs.Transfers.{Request, Transfer, request_of, Stops, TransferUnit, Moves, Completes, transfer_unit, first_transfer}
-use Rattle.s360_runs.specs.Units.{unit, Next, EndsIn, GoesOn, next_chosen, next_moved, next_looked, next_begun, next_fetched, Between, Looking, Moving, ProgramPhase, on_next, walk, StandsIn, EndsWith, phase_past, state_in}
-use Rattle.s360_runs.specs.Writes.{on_going, writes_moved, writes_in_unit, written_past, written_since, MarkIsOfScript}
+use Rattle.s360_runs.specs.Scripts.{OneUnit, Outside, TakesInterruption}
+use Rattle.s360_runs.specs.StoreCalls.{closing_of, leaves_fetched, leaves_as_it_begins, leaves_looking, goes_to_next_head, leaves_moved}
+use Rattle.s360_runs.specs.Transfers.{Transfer, request_of, Stops, TransferUnit, Moves, Completes, transfer_unit}
+use Rattle.s360_runs.specs.Units.{unit, Next, EndsIn, GoesOn, next_moved, next_fetched, Between, Looking, Moving, ProgramPhase, on_next, walk, StandsIn, phase_past, state_in}
+use Rattle.s360_runs.specs.Writes.{on_going, writes_moved, written_past, written_since, MarkIsOfScript}
 use Rattle.s360_runs.proofs.DriveFacts.{empty_stays, sighted}
 use Rattle.s360_runs.proofs.FaultsMet.{fault_or_not}
 use Rattle.s360_runs.proofs.Units.{BegunIs, FoundIs, LookIs, NextHas, begun_holds, choice_holds, looked_holds, past_state}

@@ -1,20 +1,20 @@
 -- A channel program keeps the size of storage.
 use Rattle.std.proofs.lemmas.Bool.{cond_both}
-use Rattle.std.proofs.Common.{◌≡◌, ℕ, refl, ap, subst, sym, ◌∙◌, true, false, Bool, cond, not, ◌&&◌, List, [], ◌∷◌, length, Option, Some, None}
-use Rattle.s360_words.specs.Storage.{Storage, Change, Bytes, KeyOf, changed, stored}
-use Rattle.s360_words.specs.Words.{caw_of, chains_command, skips}
+use Rattle.std.proofs.Common.{◌≡◌, ℕ, refl, ◌∙◌, true, false, Bool, cond, not, ◌&&◌, length, Option, Some, None}
+use Rattle.s360_words.specs.Storage.{Storage, Bytes, KeyOf, stored}
+use Rattle.s360_words.specs.Words.{caw_of, skips}
 use Rattle.s360_words.specs.declared.flags.ChannelStatus.{ChannelStatus}
 use Rattle.s360_words.specs.declared.words.Caw.{Caw}
 use Rattle.s360_words.proofs.Overwriting.{length-overwritten}
 use Rattle.ckd_command.specs.Drive.{Fault, Open, AfterBegin, Rejected, Immediate, Started, begin, AfterLook, Ready, Passed, Failed, look, Closed, close, gives}
-use Rattle.s360_runs.specs.Commands.{goes_on_chaining, Point, Chains, Ends, choice, past_modifier, length_status, requested, point_past}
+use Rattle.s360_runs.specs.Commands.{goes_on_chaining, Chains, Ends, choice, past_modifier, length_status, requested}
 use Rattle.s360_runs.specs.Endings.{NotEnded, ending, immediate}
 use Rattle.s360_runs.specs.Places.{fetch, Fetched, NoCcw, TransferTo, GoodCcw}
 use Rattle.s360_runs.specs.Runs.{run_from, start_point}
-use Rattle.s360_runs.specs.Scripts.{Script, OneUnit, Outside, TakesInterruption, Turn, storage_past}
-use Rattle.s360_runs.specs.Status.{stops_chaining, is_clear, no_channel_status}
-use Rattle.s360_runs.specs.Transfers.{Request, Transfer, request_of, Stops, TransferUnit, Moves, Completes, transfer_unit, first_transfer, after_bytes, storage_after, next_bytes, byte_or_check, chained_data, check_of, needs_ccw, needs_byte}
-use Rattle.s360_runs.specs.Units.{standing_in, unit, Next, EndsIn, GoesOn, next_chosen, next_moved, next_looked, next_begun, next_fetched, Between, Looking, Moving, ProgramPhase, on_next, walk, phase_past, Walk, StandsIn, EndsWith, outcome_of}
+use Rattle.s360_runs.specs.Scripts.{OneUnit, Outside, TakesInterruption, Turn, storage_past}
+use Rattle.s360_runs.specs.Status.{is_clear, no_channel_status}
+use Rattle.s360_runs.specs.Transfers.{Request, Transfer, request_of, Stops, TransferUnit, Moves, Completes, transfer_unit, first_transfer, after_bytes, next_bytes, chained_data, check_of, needs_ccw, needs_byte}
+use Rattle.s360_runs.specs.Units.{standing_in, unit, Next, next_chosen, next_moved, next_looked, next_begun, next_fetched, Between, Looking, Moving, ProgramPhase, phase_past}
 use Rattle.s360_runs.specs.Writes.{KeepsSize, OutcomeKeepsSize}
 use Rattle.s360_runs.proofs.Units.{NextIs, run_holds, walk_holds}
 

@@ -12,7 +12,7 @@ use Rattle.s360_runs.specs.Places.{Fetched, GoodCcw, NoCcw, Place, TransferTo, f
 use Rattle.s360_runs.specs.Runs.{Start, run_from, start_point}
 use Rattle.s360_runs.specs.Scripts.{OneUnit, Outside, Script, TakesInterruption, Turn}
 use Rattle.s360_runs.specs.Status.{is_clear, no_channel_status}
-use Rattle.s360_runs.specs.Transfers.{Completes, Moves, Request, Stops, Transfer, TransferUnit, after_bytes, byte_or_check, chained_data, check_of, first_transfer, needs_byte, needs_ccw, request_of, transfer_unit}
+use Rattle.s360_runs.specs.Transfers.{Completes, Moves, Request, Stops, Transfer, TransferUnit, after_bytes, chained_data, check_of, first_transfer, needs_byte, needs_ccw, request_of, transfer_unit}
 use Rattle.s360_runs.specs.Units.{Between, EndsIn, EndsWith, GoesOn, Looking, Moving, Next, ProgramPhase, StandsIn, Walk, next_begun, next_chosen, next_fetched, next_looked, next_moved, on_next, outcome_of, phase_past, standing_in, state_in, unit, walk}
 use Rattle.s360_runs.proofs.Walks.{run_walk}
 

@@ -1,5 +1,5 @@
 -- Which tracks a program may report as not saved, and that it reports none without a fault of the store.
-use Rattle.std.proofs.Common.{◌≡◌, ℕ, refl, subst, sym, true, false, Bool, cond, not, ◌&&◌, ◌||◌, List, [], ◌∷◌, Option, Some, None, ◌⊎◌, inl, inr}
+use Rattle.std.proofs.Common.{◌≡◌, ℕ, refl, subst, sym, true, false, Bool, cond, ◌||◌, List, [], Option, Some, None, ◌⊎◌, inl, inr}
 use Rattle.std.proofs.lemmas.Bool.{or_left, or_right}
 use Rattle.std.specs.Prelude.{is_some}
 use Rattle.s360_words.specs.Words.{chains_command, caw_of}
@@ -7,17 +7,17 @@ use Rattle.s360_words.specs.declared.flags.ChannelStatus.{ChannelStatus}
 use Rattle.s360_words.specs.declared.flags.TheConstants.ChannelStatus.{PROGRAM_CHECK}
 use Rattle.s360_words.specs.declared.words.Caw.{Caw}
 use Rattle.ckd_command.specs.Drive.{Fault, IdleDrive, Closed, unsaved, close, Open, look, AfterLook, State, Failed, Passed, Ready, AfterBegin, Rejected, Immediate, Started, begin, begin_program, state_of, is_written, is_write_command, tells_equipment_check}
-use Rattle.ckd_command.proofs.Marks.{never_both, LookFinds, look_finds, Traces, BegunTraces, begin_traces, LookTraces, look_traces, close_traces, close_writes, settle_traces, Calm, BegunCalm, begin_calm, LookCalm, look_calm, close_calm}
-use Rattle.s360_runs.specs.Commands.{Ends, choice, past_modifier, Point, Chains, length_status, requested}
-use Rattle.s360_runs.specs.Endings.{ending, settled_ending, failed, immediate, untouched, closed_by_cut}
+use Rattle.ckd_command.proofs.Marks.{never_both, LookFinds, look_finds, BegunTraces, begin_traces, LookTraces, look_traces, close_traces, close_writes, settle_traces, Calm, BegunCalm, begin_calm, LookCalm, look_calm, close_calm}
+use Rattle.s360_runs.specs.Commands.{requested}
+use Rattle.s360_runs.specs.Endings.{ending, immediate, untouched}
 use Rattle.s360_runs.specs.Faults.{without_faults}
-use Rattle.s360_runs.specs.Places.{Place, fetch, Fetched, NoCcw, TransferTo, GoodCcw, past_no_ccw}
+use Rattle.s360_runs.specs.Places.{Place, fetch, Fetched, NoCcw, TransferTo, GoodCcw}
 use Rattle.s360_runs.specs.Runs.{Start, start_point, run_from, first_place}
-use Rattle.s360_runs.specs.Scripts.{Script, OneUnit, Outside, TakesInterruption}
+use Rattle.s360_runs.specs.Scripts.{Script}
 use Rattle.s360_runs.specs.Starts.{first_from, first_fetched, first_begun, AcceptedStart, ImmediateStart}
-use Rattle.s360_runs.specs.Status.{stops_chaining, is_clear, no_channel_status}
-use Rattle.s360_runs.specs.Transfers.{Request, Transfer, request_of, Stops, TransferUnit, Moves, Completes, transfer_unit, first_transfer}
-use Rattle.s360_runs.specs.Units.{unit, Next, EndsIn, next_chosen, next_moved, next_looked, next_begun, next_fetched, Between, Looking, Moving, ProgramPhase, standing_in, outcome_of, on_next, walk, GoesOn, EndsWith, StandsIn, phase_past, Walk, state_in}
+use Rattle.s360_runs.specs.Status.{no_channel_status}
+use Rattle.s360_runs.specs.Transfers.{Request}
+use Rattle.s360_runs.specs.Units.{unit, Next, EndsIn, Between, Looking, Moving, ProgramPhase, standing_in, walk, GoesOn, StandsIn, Walk, state_in}
 use Rattle.s360_runs.specs.Unsaved.{has_written, WritesByCommands, TellsWritten, NextTellsWritten, UnsavedWasWritten, TellsNoFault, OutcomeTellsNoFault, FirstTellsNoFault, NoFaultNothingTold}
 use Rattle.s360_runs.proofs.FaultsMet.{unmet_walk}
 use Rattle.s360_runs.proofs.Units.{BegunIs, FoundIs, LookIs, NextHas, OpenIs, WalkIs, cut_holds, past_state, plain_walk_holds, run_holds, unit_holds}
