@@ -68,9 +68,6 @@ all_behind (t ∷ z) x y h = behind t (z ++ x) (z ++ y) (all_behind z x y h)
 
 -- What changed nothing.
 
-no : {P : Type 0} → false ≡ true → P
-no h = absurd (cc)
-
 gone : (x : List Exchange) → (t : Exchange) → units_ahead (t ∷ x) ≡ units_ahead x → turns_of t ≡ [] → fate_ahead (t ∷ x) ≡ fate_ahead x → acts_of t x ≡ [] → Alike (t ∷ x) x
 gone x t u s f a = record {
   ahead = u;
@@ -120,7 +117,7 @@ left_out (Show at len, m, r) x h = go r
     go (WasReset w) = gone x (Show at len, m, WasReset w) refl refl refl refl
     go (WasKept b) = gone x (Show at len, m, WasKept b) refl refl refl refl
     go (Shown s) = gone x (Show at len, m, Shown s) refl refl refl refl
-left_out t x h = no h
+left_out t x h = absurd (cc)
 
 filtered : (list : List Exchange) → Alike (filter (λ t. not (changes_nothing t)) list) list
 filtered [] = same []
@@ -146,7 +143,7 @@ arrival_gone (Arrive a, m, r) x h = go r
     go (WasReset w) = gone x (Arrive a, m, WasReset w) refl refl refl refl
     go (WasKept b) = gone x (Arrive a, m, WasKept b) refl refl refl refl
     go (Shown s) = gone x (Arrive a, m, Shown s) refl refl refl refl
-arrival_gone t x h = no h
+arrival_gone t x h = absurd (cc)
 
 abbrev AreArrivals : List Exchange → Type 0
 AreArrivals [] = Unit {0}
@@ -165,7 +162,7 @@ held_alone held h = subst (λ l. Alike l []) (append-nil held) (held_gone held [
 
 first_true : (a b : Bool) → (a && b) ≡ true → a ≡ true
 first_true true b h = refl
-first_true false b h = no h
+first_true false b h = absurd (cc)
 
 shifted : (list : List Exchange) (inside : Bool) (held : List Exchange) → AreArrivals held → Alike (arrivals_last inside held list) list
 shifted [] inside held h = held_alone held h

@@ -18,12 +18,12 @@ use Rattle.s360_laws.specs.Soundness.{IsSoundIn, IsRunning, AreDistinct, arm_owe
 use Rattle.s360_laws.specs.declared.arm.Arm.{Arm}
 use Rattle.s360_laws.specs.declared.arm.Arm.TheVariants.{AtRest, InMotion, Arrived}
 use Rattle.s360_laws.specs.declared.condition.ConditionCode.TheVariants.{Two, Three, Zero}
-use Rattle.s360_laws.proofs.FindDevices.{no, found_map, device_after, Keeps, at_device, device_of, set_arm, set_both, set_drive}
+use Rattle.s360_laws.proofs.FindDevices.{found_map, device_after, Keeps, at_device, device_of, set_arm, set_both, set_drive}
 use Rattle.s360_laws.proofs.LedgerIdle.{Lowest, lowest_found, whole}
 use Rattle.s360_laws.proofs.LedgerLists.{stays}
-use Rattle.s360_laws.proofs.LedgerWorking.{in_run, by_device, asks_good}
+use Rattle.s360_laws.proofs.LedgerWorking.{by_device, asks_good}
 use Rattle.s360_laws.proofs.Owing.{Rest}
-use Rattle.s360_laws.proofs.Shapes.{idle, pending, working}
+use Rattle.s360_laws.proofs.Shapes.{working_device, idle, pending, working}
 
 -- An event's answer and the machine behind it keep the arm at an address as the exchange says.
 abbrev Keeps_arm : ℕ → Arm → Event → Option FaultAfter → Answer × Machine → Type 0
@@ -130,7 +130,7 @@ reset_arm m w u arm x unsaved c there =
     ap (option_map (λ v. v.arm)) (found_map (λ d. 256 * w.channel + d == u) at_rest (λ v. refl) w.devices) ∙ go (device_for w u) there
   where
     go : (y : Option Device) → is_some y ≡ true → option_map (λ v. v.arm) (option_map at_rest y) ≡ Some AtRest
-    go None h = no h
+    go None h = absurd (cc)
     go (Some v) h = refl
 
 is_there : (m : Machine) (u : ℕ) (arm : Arm) → Has_arm u arm m → is_some (device_for m u) ≡ true
@@ -148,7 +148,7 @@ still_there : (m : Machine) (d u : ℕ) (f : Device → Device) → Keeps f → 
 still_there m d u f k h = ap is_some (device_after m.channel d u f k m.devices) ∙ go (address_of m d == u) (device_for m u) h
   where
     go : (b : Bool) (y : Option Device) → is_some y ≡ true → is_some (cond b (option_map f y) y) ≡ true
-    go b None h = no h
+    go b None h = absurd (cc)
     go true (Some v) h = refl
     go false (Some v) h = refl
 
@@ -280,7 +280,7 @@ working_arm m d s Tch x u arm r z h o = h
 working_arm m d s (StepBy k) x u arm r z h o = step_arm m d s k u arm x (run_of m d (s ++ units_with k x)) h o z
 working_arm m d s (Arrive a) x u arm r z h o = either u arm (Arrive a) x (a / 256 == m.channel) (arrive (a % 256) (working m d s) (device_at m (a % 256))) (HasArrived false, working m d s) (λ k. arrive_arm m (Working d s) a (a % 256) u arm x (device_at m (a % 256)) (whole m.channel a k) refl h) h
 working_arm m d s Interrupt x u arm r z h o =
-    let v = in_run m d s (device_at m d) refl r in
+    let v = working_device m d s (device_at m d) refl r in
     by_device m d s v.0 (λ o. Keeps_arm u arm Interrupt x (interrupt_program d s (working m d s) (asked_by o))) v.1
     (asked_arm m d s u arm x (asked_by (Some (run s (start_of m v.0.drive)))) (asks_good (run s (start_of m v.0.drive)) (good_run (start_of m v.0.drive) s)) h)
 working_arm m d s Reset x u arm r z h o =
@@ -312,7 +312,7 @@ told_csw_arm : (m : Machine) (p a u : ℕ) (arm : Arm) (csw : Csw) → address_o
 told_csw_arm m p a u arm csw e r h o = go (a == u) (tells csw.unit DEVICE_END) (λ k. no_end_here m p u arm (tells csw.unit DEVICE_END) h o r.1 (ap (λ a. a == u) e ∙ k))
   where
     go : (b c : Bool) → (b ≡ true → c ≡ false) → Some arm ≡ Some (cond (b && c) AtRest (cond false Arrived arm))
-    go true true k = no (sym (k refl))
+    go true true k = absurd (cc (k refl))
     go true false k = refl
     go false c k = refl
 
@@ -355,7 +355,7 @@ pub arm_follows : ArmFollows
 arm_follows m e u arm sound h o = arm_in m m.subchannel e.0 e.1 u arm sound.0 sound.1 h o
 
 still_owes : (b c : Bool) (arm : Arm) → b ≡ false → arm_owes arm ≡ 1 → arm_owes (cond b AtRest (cond c Arrived arm)) ≡ 1
-still_owes true c arm k o = no (sym k)
+still_owes true c arm k o = absurd (cc)
 still_owes false true arm k o = refl
 still_owes false false arm k o = o
 
@@ -470,4 +470,4 @@ halt_of_pending_stays m a p csw x e h = go m.subchannel h (a / 256 == m.channel)
         differ : Working d s ≡ Pending p csw → ⊥
         differ h = cc
     go (Pending q c) h true k = refl
-    go (Pending q c) h false k = no k
+    go (Pending q c) h false k = absurd (cc)

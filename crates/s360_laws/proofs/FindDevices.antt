@@ -26,9 +26,6 @@ add_same n x y = go (x == y) refl
     go true h = eq-eqb _ _ (ap (λ k. 256 * n + k) (eqb-true x y h))
     go false h = different _ _ (λ e. eqb-false x y h (back n x y e))
 
-pub no : {P : Type 0} → false ≡ true → P
-no h = absurd (cc)
-
 -- Finding devices.
 
 abbrev pub Has : (Device → Bool) → Option Device → Type 0

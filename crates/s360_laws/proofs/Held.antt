@@ -1,6 +1,6 @@
 -- What is answered while the channel end of a program that ended is owed.
 use Rattle.std.proofs.Common.{◌≡◌, ℕ, ◌+◌, ◌*◌, ◌/◌, ◌%◌, refl, sym, ap, subst, ◌∙◌, true, false, Bool, cond, ◌&&◌, ◌==◌, List, [], ◌∷◌, Option, Some, None}
-use Rattle.std.proofs.lemmas.Bool.{eq-eqb, eqb-true}
+use Rattle.std.proofs.lemmas.Bool.{false≢true, eq-eqb, eqb-true}
 use Rattle.s360_words.specs.Storage.{Change, Bytes, is_within, KeyOf}
 use Rattle.s360_words.specs.declared.flags.TheConstants.UnitStatus.{CHANNEL_END}
 use Rattle.s360_words.specs.declared.words.Csw.{Csw}
@@ -11,16 +11,16 @@ use Rattle.s360_laws.specs.Machine.{Machine, react, test_io, Pending, with_csw, 
 use Rattle.s360_laws.specs.Soundness.{IsSoundIn}
 use Rattle.s360_laws.specs.declared.arm.Arm.TheVariants.{Arrived}
 use Rattle.s360_laws.specs.declared.condition.ConditionCode.TheVariants.{Two, Three, Zero}
-use Rattle.s360_laws.proofs.FindDevices.{no, different}
+use Rattle.s360_laws.proofs.FindDevices.{different}
 use Rattle.s360_laws.proofs.LedgerIdle.{whole}
 use Rattle.s360_laws.proofs.Shapes.{pending, idle}
 
 on_this : (b : Bool) (y z : Answer × Machine) → b ≡ true → (cond b y z).0 ≡ y.0
 on_this true y z h = refl
-on_this false y z h = no h
+on_this false y z h = absurd (cc)
 
 on_other : (b : Bool) (y z : Answer × Machine) → b ≡ false → (cond b y z).0 ≡ z.0
-on_other true y z h = no (sym h)
+on_other true y z h = absurd (cc)
 on_other false y z h = refl
 
 -- each answer is that of an ending that pends
@@ -55,7 +55,7 @@ either_next m p csw e x false y z f g = g
 -- the CSW that was stored for its own address has channel end
 stored_now : (b c : Bool) → b ≡ true → c ≡ true → (b && c) ≡ true
 stored_now true c h k = k
-stored_now false c h k = no h
+stored_now false c h k = absurd (cc)
 
 arrive_next : (m : Machine) (p : ℕ) (csw : Csw) (a d : ℕ) (x : Option FaultAfter) (y : Option Device) → HeldNext m p csw (Arrive a) x (arrive d (pending m p csw) y)
 arrive_next m p csw a d x None h = same m p csw
@@ -74,14 +74,14 @@ held_next m p csw (Sio a) x c = either_next m p csw (Sio a) x (a / 256 == m.chan
 held_next m p csw (Tio a) x c =
     either_next m p csw (Tio a) x (a / 256 == m.channel) (test_io (a % 256) (pending m p csw) (Pending p csw)) (WithCode Three, pending m p csw)
     (λ e. either_next m p csw (Tio a) x (a % 256 == p) (CswStored csw, with_csw csw (idle m)) (WithCode Two, pending m p csw)
-    (λ f h. no (sym h ∙ stored_now (a == 256 * m.channel + p) (tells csw.unit CHANNEL_END) (eq-eqb _ _ (sym (whole m.channel a e) ∙ ap (λ n. 256 * m.channel + n) (eqb-true _ _ f))) c)) (λ h. same m p csw))
+    (λ f h. absurd (false≢true (sym h ∙ stored_now (a == 256 * m.channel + p) (tells csw.unit CHANNEL_END) (eq-eqb _ _ (sym (whole m.channel a e) ∙ ap (λ n. 256 * m.channel + n) (eqb-true _ _ f))) c))) (λ h. same m p csw))
     (λ h. same m p csw)
 held_next m p csw (Hio a) x c = either_next m p csw (Hio a) x (a / 256 == m.channel) (WithCode Zero, pending m p csw) (WithCode Three, pending m p csw) (λ e h. same m p csw) (λ h. same m p csw)
 held_next m p csw Tch x c = λ h. same m p csw
 held_next m p csw (StepBy k) x c = λ h. same m p csw
 held_next m p csw (Arrive a) x c = either_next m p csw (Arrive a) x (a / 256 == m.channel) (arrive (a % 256) (pending m p csw) (device_at m (a % 256))) (HasArrived false, pending m p csw) (λ e. arrive_next m p csw a (a % 256) x (device_at m (a % 256))) (λ h. same m p csw)
-held_next m p csw Interrupt x c = λ h. no (sym h ∙ stored_now (256 * m.channel + p == 256 * m.channel + p) (tells csw.unit CHANNEL_END) (eq-eqb _ _ refl) c)
-held_next m p csw Reset x c = λ h. no (sym h)
+held_next m p csw Interrupt x c = λ h. absurd (false≢true (sym h ∙ stored_now (256 * m.channel + p == 256 * m.channel + p) (tells csw.unit CHANNEL_END) (eq-eqb _ _ refl) c))
+held_next m p csw Reset x c = λ h. absurd (cc)
 held_next m p csw (Store at bytes) x c = λ h. kept_next m p csw (Bytes at bytes) (is_within (Bytes at bytes) m.storage)
 held_next m p csw (SetKey at key) x c = λ h. kept_next m p csw (KeyOf at key) (is_within (KeyOf at key) m.storage)
 held_next m p csw (Show at len) x c = λ h. same m p csw

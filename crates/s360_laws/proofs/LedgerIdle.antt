@@ -21,7 +21,7 @@ use Rattle.s360_laws.specs.Soundness.{device_for, device_owes, AreDistinct, arm_
 use Rattle.s360_laws.specs.declared.arm.Arm.{Arm}
 use Rattle.s360_laws.specs.declared.arm.Arm.TheVariants.{AtRest, InMotion, Arrived}
 use Rattle.s360_laws.specs.declared.condition.ConditionCode.TheVariants.{Three}
-use Rattle.s360_laws.proofs.FindDevices.{found_map, distinct_map, no, at_device, set_both, device_after, keeps_one, set_drive}
+use Rattle.s360_laws.proofs.FindDevices.{found_map, distinct_map, at_device, set_both, device_after, keeps_one, set_drive}
 use Rattle.s360_laws.proofs.Owing.{Fine, Balance, silent, same_owed, nothing, distinct_arm, device_end_told, either_fine, arrive_fine}
 use Rattle.s360_laws.proofs.Shapes.{idle}
 
@@ -35,7 +35,7 @@ rest_owes n u vs = ap device_owes (found_map (λ d. 256 * n + d == u) at_rest (�
     free (Some v) = refl
 
 pub reset_fine : (m w : Machine) (x : Option FaultAfter) (unsaved : _) → AreDistinct w.devices → Fine m Reset x (WasReset unsaved, all_at_rest w)
-reset_fine m w x unsaved ds = (distinct_map at_rest (λ v. refl) w.devices ds, tt, λ u. (zero-add 0, zero-add _ ∙ zero-add _ ∙ rest_owes w.channel u w.devices, λ b. no b))
+reset_fine m w x unsaved ds = (distinct_map at_rest (λ v. refl) w.devices ds, tt, λ u. (zero-add 0, zero-add _ ∙ zero-add _ ∙ rest_owes w.channel u w.devices, λ b. absurd (cc)))
 
 -- A start.
 
@@ -70,13 +70,13 @@ at_once_balance m a d u unit channel x v e s at_a at free g h (inl k) =
   where
     moves : (motion : Bool) → false ≡ not motion → 0 + arm_owes (cond motion InMotion AtRest) ≡ 1
     moves true q = refl
-    moves false q = no q
+    moves false q = absurd (cc)
 at_once_balance m a d u unit channel x v e s at_a at free g h (inr k) =
     subst (λ unit. Balance u (Sio a, x, StatusStored unit channel) (idle m) (record (with_device d (set_both (arm_after e) e.drive) (idle m)) { storage = s })) (sym k)
     (due_one (a == u), ap (λ y. cond ((a == u) && true) 1 0 + (0 + device_owes y)) (end_set m (arm_after e) e.drive d a u s at_a) ∙ first_owes (a == u) true (arm_after e) e.drive (device_for m u) (rests e.motion (sym (ap (λ n. tells n DEVICE_END) (h ∙ k)) ∙ g.device_end)) (λ b. (v, sound_device m a d u v at_a at b)), free_due m a d u v at_a at free)
   where
     rests : (motion : Bool) → true ≡ not motion → 1 + arm_owes (cond motion InMotion AtRest) ≡ 1
-    rests true q = no (sym q)
+    rests true q = absurd (cc)
     rests false q = refl
 
 abbrev pub FirstGood : Start → First → Type 0
@@ -94,14 +94,14 @@ first_good s f h = go f (subst (λ f. IsFirstUnit s f (run (units 1) s)) h (firs
 
 pub begin_fine : (m : Machine) (a d : ℕ) (x : Option FaultAfter) (v : Device) (f : First) → address_of m d ≡ a → device_at m d ≡ Some v → v.arm ≡ AtRest → AreDistinct m.devices → FirstGood (start_of m v.drive) f
     → Fine (idle m) (Sio a) x (started d (idle m) f)
-begin_fine m a d x v BadStart e at free ds g = (ds, tt, λ u. (silent (a == u) 0, silent (a == u) _, λ b. no b))
+begin_fine m a d x v BadStart e at free ds g = (ds, tt, λ u. (silent (a == u) 0, silent (a == u) _, λ b. absurd (cc)))
 begin_fine m a d x v (RejectedStart w) e at free ds g = (
   distinct_map _ (keeps_one d (set_drive w) (λ v. refl)) m.devices ds,
   tt,
   λ u. (
     silent (a == u) 0,
     silent (a == u) _ ∙ ap (λ n. 0 + n) (ap device_owes (device_after m.channel d u (set_drive w) (λ v. refl) m.devices) ∙ same_owed (set_drive w) (address_of m d == u) (device_for m u) (λ b. same (device_for m u))),
-    λ b. no b,
+    λ b. absurd (cc),
   ),
 )
   where
@@ -129,8 +129,8 @@ start_fine m a d x None e at ds = (ds, tt, λ u. nothing _ _)
 start_fine m a d x (Some v) e at ds = go v.arm refl
   where
     go : (arm : Arm) → v.arm ≡ arm → Fine (idle m) (Sio a) x (start_device d (idle m) (Some (record v { arm = arm })))
-    go InMotion h = (ds, tt, λ u. (silent (a == u) 0, silent (a == u) _, λ b. no b))
-    go Arrived h = (distinct_arm m AtRest d ds, tt, λ u. (silent (a == u) 0, device_end_told m d a u v at h e, λ b. no b))
+    go InMotion h = (ds, tt, λ u. (silent (a == u) 0, silent (a == u) _, λ b. absurd (cc)))
+    go Arrived h = (distinct_arm m AtRest d ds, tt, λ u. (silent (a == u) 0, device_end_told m d a u v at h e, λ b. absurd (cc)))
     go AtRest h = begin_fine m a d x v (first (start_of m v.drive)) e at h ds (first_good (start_of m v.drive) (first (start_of m v.drive)) refl)
 
 pub test_fine : (m : Machine) (a d : ℕ) (x : Option FaultAfter) (y : Option Device) → address_of m d ≡ a → device_at m d ≡ y → AreDistinct m.devices → Fine (idle m) (Tio a) x (test_device d (idle m) y)
@@ -138,8 +138,8 @@ test_fine m a d x None e at ds = (ds, tt, λ u. nothing _ _)
 test_fine m a d x (Some v) e at ds = go v.arm refl
   where
     go : (arm : Arm) → v.arm ≡ arm → Fine (idle m) (Tio a) x (test_device d (idle m) (Some (record v { arm = arm })))
-    go InMotion h = (ds, tt, λ u. (silent (a == u) 0, silent (a == u) _, λ b. no b))
-    go Arrived h = (distinct_arm m AtRest d ds, tt, λ u. (silent (a == u) 0, device_end_told m d a u v at h e, λ b. no b))
+    go InMotion h = (ds, tt, λ u. (silent (a == u) 0, silent (a == u) _, λ b. absurd (cc)))
+    go Arrived h = (distinct_arm m AtRest d ds, tt, λ u. (silent (a == u) 0, device_end_told m d a u v at h e, λ b. absurd (cc)))
     go AtRest h = (ds, tt, λ u. nothing _ _)
 
 -- The lowest device end.
@@ -192,7 +192,7 @@ pub interrupt_fine : (m : Machine) (x : Option FaultAfter) (l : Option ℕ) → 
 interrupt_fine m x None h ds = (ds, tt, λ u. nothing _ _)
 interrupt_fine m x (Some d) h ds =
     let r = lowest_found m.devices ds d h in
-    (distinct_arm m AtRest d ds, tt, λ u. (silent (address_of m d == u) 0, device_end_told m d (address_of m d) u r.0 r.1 r.2 refl, λ b. no b))
+    (distinct_arm m AtRest d ds, tt, λ u. (silent (address_of m d == u) 0, device_end_told m d (address_of m d) u r.0 r.1 r.2 refl, λ b. absurd (cc)))
 
 -- Idle.
 

@@ -9,7 +9,6 @@ use Rattle.s360_laws.specs.Events.{FaultAfter, Tio, CswStored, Store, WithCode, 
 use Rattle.s360_laws.specs.Machine.{Machine, address_of, Pending, with_csw, with_change, react, test_io, arrive, device_at}
 use Rattle.s360_laws.specs.Soundness.{device_for, device_owes, AreDistinct}
 use Rattle.s360_laws.specs.declared.condition.ConditionCode.TheVariants.{Two, Three, Zero}
-use Rattle.s360_laws.proofs.FindDevices.{no}
 use Rattle.s360_laws.proofs.LedgerIdle.{tested, whole, reset_fine}
 use Rattle.s360_laws.proofs.Owing.{Rest, Fine, nothing, either_fine, arrive_fine}
 use Rattle.s360_laws.proofs.Shapes.{pending, idle}
@@ -26,7 +25,7 @@ told_csw m p a u csw e = (
 
 pub pending_test : (m : Machine) (p a : ℕ) (csw : Csw) (x : Option FaultAfter) (b : Bool) → (a % 256 == p) ≡ b → address_of m (a % 256) ≡ a → AreDistinct m.devices → Rest m (Pending p csw)
     → Fine (pending m p csw) (Tio a) x (cond b (CswStored csw, with_csw csw (idle m)) (WithCode Two, pending m p csw))
-pending_test m p a csw x true h e ds r = (ds, tt, λ u. let t = told_csw m p a u csw (ap (address_of m) (sym (eqb-true _ _ h)) ∙ e) in (t.0, t.1, λ b. no b))
+pending_test m p a csw x true h e ds r = (ds, tt, λ u. let t = told_csw m p a u csw (ap (address_of m) (sym (eqb-true _ _ h)) ∙ e) in (t.0, t.1, λ b. absurd (cc)))
 pending_test m p a csw x false h e ds r = (ds, r, λ u. nothing _ _)
 
 pub pending_keep : (m : Machine) (p : ℕ) (csw : Csw) (c : Change) (x : Option FaultAfter) (b : Bool) → AreDistinct m.devices → Rest m (Pending p csw)
@@ -42,7 +41,7 @@ pending_fine m p csw (Hio a) x ds r = either_fine (pending m p csw) (Hio a) x (a
 pending_fine m p csw Tch x ds r = (ds, r, λ u. nothing _ _)
 pending_fine m p csw (StepBy k) x ds r = (ds, r, λ u. nothing _ _)
 pending_fine m p csw (Arrive a) x ds r = either_fine (pending m p csw) (Arrive a) x (a / 256 == m.channel) (arrive (a % 256) (pending m p csw) (device_at m (a % 256))) (HasArrived false, pending m p csw) (λ h. arrive_fine m (Pending p csw) a (a % 256) x (device_at m (a % 256)) refl ds r) (ds, r, λ u. nothing _ _)
-pending_fine m p csw Interrupt x ds r = (ds, tt, λ u. let t = told_csw m p (address_of m p) u csw refl in (t.0, t.1, λ b. no b))
+pending_fine m p csw Interrupt x ds r = (ds, tt, λ u. let t = told_csw m p (address_of m p) u csw refl in (t.0, t.1, λ b. absurd (cc)))
 pending_fine m p csw Reset x ds r = reset_fine (pending m p csw) (pending m p csw) x None ds
 pending_fine m p csw (Store at bytes) x ds r = (pending_keep m p csw (Bytes at bytes) x (is_within (Bytes at bytes) m.storage) ds r).0 at bytes
 pending_fine m p csw (SetKey at key) x ds r = (pending_keep m p csw (KeyOf at key) x (is_within (KeyOf at key) m.storage) ds r).1 at key

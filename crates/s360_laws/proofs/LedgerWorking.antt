@@ -16,10 +16,10 @@ use Rattle.s360_laws.specs.Machine.{ended, Device, Machine, device_at, Pending, 
 use Rattle.s360_laws.specs.Soundness.{owes_channel_end, owes_device_end, device_for, device_owes, arm_owes, AreDistinct, IsRunning}
 use Rattle.s360_laws.specs.declared.arm.Arm.TheVariants.{InMotion, AtRest}
 use Rattle.s360_laws.specs.declared.condition.ConditionCode.TheVariants.{Two, Three}
-use Rattle.s360_laws.proofs.FindDevices.{no, set_both, device_of, distinct_map, keeps_one}
+use Rattle.s360_laws.proofs.FindDevices.{set_both, device_of, distinct_map, keeps_one}
 use Rattle.s360_laws.proofs.LedgerIdle.{end_set, sound_device, reset_fine}
 use Rattle.s360_laws.proofs.Owing.{Rest, Fine, nothing, silent, either_fine, arrive_fine}
-use Rattle.s360_laws.proofs.Shapes.{working}
+use Rattle.s360_laws.proofs.Shapes.{working_device, working}
 
 -- Working.
 
@@ -65,13 +65,13 @@ over_distinct m d st e ds = distinct_map _ (keeps_one d (set_both (arm_after e) 
 
 pub cut_fine : (m : Machine) (d : ℕ) (s : Script) (a : ℕ) (x : Option FaultAfter) (v : Device) (o : Outcome) → device_at m d ≡ Some v → AreDistinct m.devices → device_owes (device_at m d) ≡ 0 → RunGood o
     → Fine (working m d s) (Hio a) x (WithCode Two, cut (fault_in x) d (working m d s) (Some o))
-cut_fine m d s a x v (Ended used st e) at ds z g = (over_distinct m d st e ds, over_rest m d st e v at g, λ u. let b = over_balance m d u s st e v at z g in (b.0, b.1, λ b. no b))
+cut_fine m d s a x v (Ended used st e) at ds z g = (over_distinct m d st e ds, over_rest m d st e v at g, λ u. let b = over_balance m d u s st e v at z g in (b.0, b.1, λ b. absurd (cc)))
 cut_fine m d s a x v (NotEnded st) at ds z g =
-    (over_distinct m d st.storage (st.cut (fault_in x)) ds, over_rest m d st.storage (st.cut (fault_in x)) v at (g.0 (fault_in x)), λ u. let b = over_balance m d u s st.storage (st.cut (fault_in x)) v at z (g.0 (fault_in x)) in (b.0, b.1, λ b. no b))
+    (over_distinct m d st.storage (st.cut (fault_in x)) ds, over_rest m d st.storage (st.cut (fault_in x)) v at (g.0 (fault_in x)), λ u. let b = over_balance m d u s st.storage (st.cut (fault_in x)) v at z (g.0 (fault_in x)) in (b.0, b.1, λ b. absurd (cc)))
 
 pub step_fine : (m : Machine) (d : ℕ) (s : Script) (k : ℕ) (x : Option FaultAfter) (v : Device) (o : Outcome) → device_at m d ≡ Some v → AreDistinct m.devices → device_owes (device_at m d) ≡ 0 → RunGood o
     → Fine (working m d s) (StepBy k) x (stepped d s k (working m d s) (Some o))
-step_fine m d s k x v (Ended used st e) at ds z g = (over_distinct m d st e ds, over_rest m d st e v at g, λ u. let b = over_balance m d u s st e v at z g in (b.0, b.1, λ b. no b))
+step_fine m d s k x v (Ended used st e) at ds z g = (over_distinct m d st e ds, over_rest m d st e v at g, λ u. let b = over_balance m d u s st e v at z g in (b.0, b.1, λ b. absurd (cc)))
 step_fine m d s k x v (NotEnded st) at ds z g = (ds, z, λ u. nothing _ _)
 
 pub asks_good : (o : Outcome) → RunGood o → AsksGood (asked_by (Some o))
@@ -87,14 +87,9 @@ mark_fine m d s x (Some csw) ds z g = (
   λ u. (
     ap (λ k. cond ((address_of m d == u) && tells k CHANNEL_END) 1 0 + owes_channel_end u (working m d s)) g ∙ silent (address_of m d == u) _,
     ap (λ k. cond ((address_of m d == u) && tells k DEVICE_END) 1 0 + owes_device_end u (working m d s)) g ∙ silent (address_of m d == u) _,
-    λ b. no b,
+    λ b. absurd (cc),
   ),
 )
-
--- the device that works
-pub in_run : (m : Machine) (d : ℕ) (s : Script) (y : Option Device) → device_at m d ≡ y → IsRunning (option_map (λ v. run s (start_of m v.drive)) y) → (v : Device) × (device_at m d ≡ Some v)
-in_run m d s None at r = absurd r
-in_run m d s (Some v) at r = (v, at)
 
 pub by_device : (m : Machine) (d : ℕ) (s : Script) (v : Device) (P : Option Outcome → Type 0) → device_at m d ≡ Some v → P (Some (run s (start_of m v.drive))) → P (run_of m d s)
 by_device m d s v P at p = subst (λ y. P (option_map (λ v. run s (start_of m v.drive)) y)) (sym at) p
@@ -114,17 +109,17 @@ pub working_fine : (m : Machine) (d : ℕ) (s : Script) (e : Event) (x : Option 
 working_fine m d s (Sio a) x ds r z = either_fine (working m d s) (Sio a) x (a / 256 == m.channel) (WithCode Two, working m d s) (WithCode Three, working m d s) (λ h. (ds, z, λ u. nothing _ _)) (ds, z, λ u. nothing _ _)
 working_fine m d s (Tio a) x ds r z = either_fine (working m d s) (Tio a) x (a / 256 == m.channel) (WithCode Two, working m d s) (WithCode Three, working m d s) (λ h. (ds, z, λ u. nothing _ _)) (ds, z, λ u. nothing _ _)
 working_fine m d s (Hio a) x ds r z =
-    let v = in_run m d s (device_at m d) refl r in
+    let v = working_device m d s (device_at m d) refl r in
     either_fine (working m d s) (Hio a) x (a / 256 == m.channel) (WithCode Two, cut (fault_in x) d (working m d s) (run_of m d s)) (WithCode Three, working m d s)
     (λ h. by_device m d s v.0 (λ o. Fine (working m d s) (Hio a) x (WithCode Two, cut (fault_in x) d (working m d s) o)) v.1 (cut_fine m d s a x v.0 (run s (start_of m v.0.drive)) v.1 ds z (good_run (start_of m v.0.drive) s))) (ds, z, λ u. nothing _ _)
 working_fine m d s Tch x ds r z = (ds, z, λ u. nothing _ _)
 working_fine m d s (StepBy k) x ds r z =
-    let v = in_run m d s (device_at m d) refl r in
+    let v = working_device m d s (device_at m d) refl r in
     by_device m d (s ++ units_with k x) v.0 (λ o. Fine (working m d s) (StepBy k) x (stepped d s k (working m d s) o)) v.1
     (step_fine m d s k x v.0 (run (s ++ units_with k x) (start_of m v.0.drive)) v.1 ds z (good_run (start_of m v.0.drive) (s ++ units_with k x)))
 working_fine m d s (Arrive a) x ds r z = either_fine (working m d s) (Arrive a) x (a / 256 == m.channel) (arrive (a % 256) (working m d s) (device_at m (a % 256))) (HasArrived false, working m d s) (λ h. arrive_fine m (Working d s) a (a % 256) x (device_at m (a % 256)) refl ds z) (ds, z, λ u. nothing _ _)
 working_fine m d s Interrupt x ds r z =
-    let v = in_run m d s (device_at m d) refl r in
+    let v = working_device m d s (device_at m d) refl r in
     by_device m d s v.0 (λ o. Fine (working m d s) Interrupt x (interrupt_program d s (working m d s) (asked_by o))) v.1
     (mark_fine m d s x (asked_by (Some (run s (start_of m v.0.drive)))) ds z (asks_good (run s (start_of m v.0.drive)) (good_run (start_of m v.0.drive) s)))
 working_fine m d s Reset x ds r z = reset_fine (working m d s) (cut (fault_in x) d (working m d s) (run_of m d s)) x (unsaved_at (256 * m.channel + d) (fault_in x) (run_of m d s)) (cut_distinct (working m d s) (fault_in x) d (run_of m d s) ds)

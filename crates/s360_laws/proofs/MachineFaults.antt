@@ -17,10 +17,9 @@ use Rattle.s360_laws.specs.Machine.{cut, ended, units_failing, Device, Machine, 
 use Rattle.s360_laws.specs.Soundness.{IsRunning}
 use Rattle.s360_laws.specs.Steps.{EndedByFault, FaultEndsStep, FaultEndsHalt, ToldByReset, FaultToldByReset, OthersMeetNone}
 use Rattle.s360_laws.specs.declared.condition.ConditionCode.TheVariants.{Two, Three}
-use Rattle.s360_laws.proofs.FindDevices.{Keeps, found_map, keeps_one, Has, has_found, set_both, no}
+use Rattle.s360_laws.proofs.FindDevices.{Keeps, found_map, keeps_one, Has, has_found, set_both}
 use Rattle.s360_laws.proofs.SeenDevices.{seen}
-use Rattle.s360_laws.proofs.Shapes.{working}
-use Rattle.s360_laws.proofs.StepLaws.{run_at, working_device}
+use Rattle.s360_laws.proofs.Shapes.{run_at, working_device, working}
 use Rattle.s360_laws.proofs.StepUnits.{units_count, stood}
 
 -- The units of a step in which a fault stands.
@@ -236,12 +235,12 @@ fault_told_by_reset m x r = go m.subchannel r
 pub others_meet_none : OthersMeetNone
 others_meet_none m (Sio a) x h = refl
 others_meet_none m (Tio a) x h = refl
-others_meet_none m (Hio a) x h = no (sym h)
+others_meet_none m (Hio a) x h = absurd (cc)
 others_meet_none m Tch x h = refl
-others_meet_none m (StepBy k) x h = no (sym h)
+others_meet_none m (StepBy k) x h = absurd (cc)
 others_meet_none m (Arrive a) x h = refl
 others_meet_none m Interrupt x h = refl
-others_meet_none m Reset x h = no (sym h)
+others_meet_none m Reset x h = absurd (cc)
 others_meet_none m (Store at bytes) x h = refl
 others_meet_none m (SetKey at key) x h = refl
 others_meet_none m (Show at len) x h = refl

@@ -26,8 +26,7 @@ use Rattle.s360_laws.specs.declared.arm.Arm.{Arm}
 use Rattle.s360_laws.specs.declared.arm.Arm.TheVariants.{AtRest, InMotion, Arrived}
 use Rattle.s360_laws.specs.declared.condition.ConditionCode.TheVariants.{Zero, Two, Three}
 use Rattle.s360_laws.proofs.FindDevices.{Keeps, found_map, keeps_one, Has, has_found, set_arm, set_both, set_drive}
-use Rattle.s360_laws.proofs.Shapes.{working}
-use Rattle.s360_laws.proofs.StepLaws.{run_at, working_device}
+use Rattle.s360_laws.proofs.Shapes.{run_at, working_device, working}
 
 -- Changes of devices.
 

@@ -10,7 +10,7 @@ use Rattle.s360_laws.specs.Machine.{Machine, Subchannel, Idle, Working, address_
 use Rattle.s360_laws.specs.Soundness.{device_owes, device_for, owes_channel_end, owes_device_end, AreDistinct, arm_owes}
 use Rattle.s360_laws.specs.declared.arm.Arm.{Arm}
 use Rattle.s360_laws.specs.declared.arm.Arm.TheVariants.{AtRest, Arrived, InMotion}
-use Rattle.s360_laws.proofs.FindDevices.{no, set_arm, device_after, distinct_map, keeps_one, at_device, device_of}
+use Rattle.s360_laws.proofs.FindDevices.{set_arm, device_after, distinct_map, keeps_one, at_device, device_of}
 
 -- What each event owes.
 
@@ -37,7 +37,7 @@ either_fine m e x false y z f g = g
 
 -- nothing stored, nothing owed more or less
 pub nothing : {P : Type 0} (c d : ℕ) → (0 + c ≡ c) × (0 + d ≡ d) × (false ≡ true → P)
-nothing c d = (zero-add c, zero-add d, λ h. no h)
+nothing c d = (zero-add c, zero-add d, λ h. absurd (cc))
 
 -- a status without this end
 pub silent : (b : Bool) (c : ℕ) → cond (b && false) 1 0 + c ≡ c
@@ -76,8 +76,8 @@ arrival_owes m d u v at h =
   where
     moves : (arm : Arm) → is_in_motion arm ≡ true → 1 ≡ arm_owes arm
     moves InMotion h = refl
-    moves AtRest h = no h
-    moves Arrived h = no h
+    moves AtRest h = absurd (cc)
+    moves Arrived h = absurd (cc)
 
 pub arrival_rest : (m : Machine) (c : Subchannel) (d : ℕ) (v : Device) → device_at m d ≡ Some v → is_in_motion v.arm ≡ true → Rest m c → Rest (with_arm Arrived d m) c
 arrival_rest m Idle d v at h r = tt
@@ -97,6 +97,6 @@ arrive_fine m c a d x (Some v) at ds r = go c r (is_in_motion v.arm) refl
     go Idle r false h = (ds, tt, λ u. nothing _ _)
     go (Working p s) r false h = (ds, r, λ u. nothing _ _)
     go (Pending p csw) r false h = (ds, r, λ u. nothing _ _)
-    go Idle r true h = (distinct_arm m Arrived d ds, tt, λ u. (zero-add 0, zero-add _ ∙ ap (λ n. 0 + n) (arrival_owes m d u v at h), λ b. no b))
-    go (Working p s) r true h = (distinct_arm m Arrived d ds, arrival_rest m (Working p s) d v at h r, λ u. (zero-add _, zero-add _ ∙ ap (λ n. cond (address_of m p == u) 1 0 + n) (arrival_owes m d u v at h), λ b. no b))
-    go (Pending p csw) r true h = (distinct_arm m Arrived d ds, arrival_rest m (Pending p csw) d v at h r, λ u. (zero-add _, zero-add _ ∙ ap (λ n. cond (address_of m p == u && tells csw.unit DEVICE_END) 1 0 + n) (arrival_owes m d u v at h), λ b. no b))
+    go Idle r true h = (distinct_arm m Arrived d ds, tt, λ u. (zero-add 0, zero-add _ ∙ ap (λ n. 0 + n) (arrival_owes m d u v at h), λ b. absurd (cc)))
+    go (Working p s) r true h = (distinct_arm m Arrived d ds, arrival_rest m (Working p s) d v at h r, λ u. (zero-add _, zero-add _ ∙ ap (λ n. cond (address_of m p == u) 1 0 + n) (arrival_owes m d u v at h), λ b. absurd (cc)))
+    go (Pending p csw) r true h = (distinct_arm m Arrived d ds, arrival_rest m (Pending p csw) d v at h r, λ u. (zero-add _, zero-add _ ∙ ap (λ n. cond (address_of m p == u && tells csw.unit DEVICE_END) 1 0 + n) (arrival_owes m d u v at h), λ b. absurd (cc)))

@@ -1,5 +1,6 @@
 -- Devices as the serial history sees them, and what an event has to do for it.
 use Rattle.std.proofs.Common.{◌≡◌, ℕ, refl, sym, ap, ◌∙◌, true, false, Bool, cond, ◌==◌, List, [], ◌∷◌, ◌++◌, map, Option, Some}
+use Rattle.std.proofs.lemmas.Bool.{cond_both}
 use Rattle.std.specs.Prelude.{find, option_map}
 use Rattle.s360_words.specs.Storage.{Change}
 use Rattle.ckd_command.specs.Drive.{IdleDrive, no_sense}
@@ -62,8 +63,9 @@ Quiet m ahead = is_working m.subchannel ≡ false → units_ahead ahead ≡ 0
 abbrev pub Follows : Machine → Event → Option FaultAfter → Answer → Machine → Type 0
 Follows m e x a m_two = (ahead : List Exchange) → Quiet m_two ahead → history (world_of m_two) (all_acts m_two ahead) ≡ history (world_of m) (all_acts m ((e, x, a) ∷ ahead))
 
-abbrev pub Good : Machine → Event → Option FaultAfter → Answer × Machine → Type 0
-Good m e x r = Runs r.1 r.1.subchannel × Follows m e x r.0 r.1
+pub record Good (m : Machine) (e : Event) (x : Option FaultAfter) (r : Answer × Machine) : Type 0 where
+  pub runs : Runs r.1 r.1.subchannel
+  pub follows : Follows m e x r.0 r.1
 
 -- where the world changes by equal steps
 abbrev pub with_world : World → List (ℕ × IdleDrive) → World
@@ -72,9 +74,8 @@ with_world w ds = record w { drives = ds }
 pub same_after : (ahead : List Exchange) (w w_two : World) → w ≡ w_two → history w (acts ahead) ≡ history w_two (acts ahead)
 same_after ahead w w_two h = ap (λ w. history w (acts ahead)) h
 
-pub either_good : (m : Machine) (e : Event) (x : Option FaultAfter) (b : Bool) (y z : Answer × Machine) → Good m e x y → Good m e x z → Good m e x (cond b y z)
-either_good m e x true y z gy gz = gy
-either_good m e x false y z gy gz = gz
+pub either_good : {m : Machine} {e : Event} {x : Option FaultAfter} (b : Bool) {y z : Answer × Machine} → Good m e x y → Good m e x z → Good m e x (cond b y z)
+either_good {m} {e} {x} b {y} {z} gy gz = cond_both b y z (Good m e x) (λ h. gy) (λ h. gz)
 
 -- where no unit follows, a change is an act of its own
 pub own : (ahead : List Exchange) (c : Change) (w : World) → units_ahead ahead ≡ 0 → history (does w (Changes c)) (acts ahead) ≡ history w (own_change ahead c ++ acts ahead)

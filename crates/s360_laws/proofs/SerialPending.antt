@@ -13,50 +13,20 @@ use Rattle.s360_laws.proofs.Shapes.{pending, idle}
 
 -- Pending.
 
-abbrev PendingGood : Machine → ℕ → Csw → Event → Option FaultAfter → Answer × Machine → Type 0
-PendingGood m p csw e x r = Good (pending m p csw) e x r
+module _ (m : Machine) (p : ℕ) (csw : Csw) (x : Option FaultAfter) where
+  arrives : (a d : ℕ) (u : Option Device) → Good (pending m p csw) (Arrive a) x (arrive d (pending m p csw) u)
+  arrives a d None = record { runs = tt; follows = λ ahead q. refl }
+  arrives a d (Some u) = either_good (is_in_motion u.arm) (record { runs = tt; follows = λ ahead q. ap (λ ds. history (with_world (world_of m) ds) (acts ahead)) (arms Arrived d m.devices) }) (record { runs = tt; follows = λ ahead q. refl })
 
-pub pending_test : (a : ℕ) (x : Option FaultAfter) (m : Machine) (p : ℕ) (csw : Csw) (b : Bool) → PendingGood m p csw (Tio a) x (cond b (CswStored csw, with_csw csw (idle m)) (WithCode Two, pending m p csw))
-pending_test a x m p csw true = (tt, λ ahead q. refl)
-pending_test a x m p csw false = (tt, λ ahead q. refl)
-
-pub pending_sio : (a : ℕ) (x : Option FaultAfter) (m : Machine) (p : ℕ) (csw : Csw) (b : Bool) → PendingGood m p csw (Sio a) x (cond b (WithCode Two, pending m p csw) (WithCode Three, pending m p csw))
-pending_sio a x m p csw true = (tt, λ ahead q. refl)
-pending_sio a x m p csw false = (tt, λ ahead q. refl)
-
-pub pending_tio : (a : ℕ) (x : Option FaultAfter) (m : Machine) (p : ℕ) (csw : Csw) (b c : Bool) → PendingGood m p csw (Tio a) x (cond b (cond c (CswStored csw, with_csw csw (idle m)) (WithCode Two, pending m p csw)) (WithCode Three, pending m p csw))
-pending_tio a x m p csw true c = pending_test a x m p csw c
-pending_tio a x m p csw false c = (tt, λ ahead q. refl)
-
-pub pending_hio : (a : ℕ) (x : Option FaultAfter) (m : Machine) (p : ℕ) (csw : Csw) (b : Bool) → PendingGood m p csw (Hio a) x (cond b (WithCode Zero, pending m p csw) (WithCode Three, pending m p csw))
-pending_hio a x m p csw true = (tt, λ ahead q. refl)
-pending_hio a x m p csw false = (tt, λ ahead q. refl)
-
-pub pending_arrive : (a device : ℕ) (x : Option FaultAfter) (m : Machine) (p : ℕ) (csw : Csw) (u : Option Device) → PendingGood m p csw (Arrive a) x (arrive device (pending m p csw) u)
-pending_arrive a device x m p csw None = (tt, λ ahead q. refl)
-pending_arrive a device x m p csw (Some u) = go (is_in_motion u.arm)
-  where
-    go : (b : Bool) → PendingGood m p csw (Arrive a) x (cond b (HasArrived true, with_arm Arrived device (pending m p csw)) (HasArrived false, pending m p csw))
-    go true = (tt, λ ahead q. ap (λ ds. history (with_world (world_of m) ds) (acts ahead)) (arms Arrived device m.devices))
-    go false = (tt, λ ahead q. refl)
-
-pub pending_store : (x : Option FaultAfter) (m : Machine) (p : ℕ) (csw : Csw) (at : ℕ) (bytes : List ℕ) (b : Bool) → PendingGood m p csw (Store at bytes) x (cond b (WasKept true, with_change (Bytes at bytes) (pending m p csw)) (WasKept false, pending m p csw))
-pending_store x m p csw at bytes true = (tt, λ ahead q. own ahead (Bytes at bytes) (world_of m) (q refl))
-pending_store x m p csw at bytes false = (tt, λ ahead q. refl)
-
-pub pending_key : (x : Option FaultAfter) (m : Machine) (p : ℕ) (csw : Csw) (at key : ℕ) (b : Bool) → PendingGood m p csw (SetKey at key) x (cond b (WasKept true, with_change (KeyOf at key) (pending m p csw)) (WasKept false, pending m p csw))
-pending_key x m p csw at key true = (tt, λ ahead q. own ahead (KeyOf at key) (world_of m) (q refl))
-pending_key x m p csw at key false = (tt, λ ahead q. refl)
-
-pub pending_good : (m : Machine) (p : ℕ) (csw : Csw) (e : Event) (x : Option FaultAfter) → PendingGood m p csw e x (react e x (pending m p csw))
-pending_good m p csw (Sio a) x = pending_sio a x m p csw (a / 256 == m.channel)
-pending_good m p csw (Tio a) x = pending_tio a x m p csw (a / 256 == m.channel) (a % 256 == p)
-pending_good m p csw (Hio a) x = pending_hio a x m p csw (a / 256 == m.channel)
-pending_good m p csw Tch x = (tt, λ ahead q. refl)
-pending_good m p csw (StepBy k) x = (tt, λ ahead q. refl)
-pending_good m p csw (Arrive a) x = either_good (pending m p csw) (Arrive a) x (a / 256 == m.channel) (arrive (a % 256) (pending m p csw) (device_at m (a % 256))) (HasArrived false, pending m p csw) (pending_arrive a (a % 256) x m p csw (device_at m (a % 256))) (tt, λ ahead q. refl)
-pending_good m p csw Interrupt x = (tt, λ ahead q. own ahead (csw_stored csw) (world_of m) (q refl))
-pending_good m p csw Reset x = (tt, λ ahead q. clear m ahead)
-pending_good m p csw (Store at bytes) x = pending_store x m p csw at bytes (is_within (Bytes at bytes) m.storage)
-pending_good m p csw (SetKey at key) x = pending_key x m p csw at key (is_within (KeyOf at key) m.storage)
-pending_good m p csw (Show at len) x = (tt, λ ahead q. refl)
+  pub pending_good : (e : Event) → Good (pending m p csw) e x (react e x (pending m p csw))
+  pending_good (Sio a) = either_good (a / 256 == m.channel) (record { runs = tt; follows = λ ahead q. refl }) (record { runs = tt; follows = λ ahead q. refl })
+  pending_good (Tio a) = either_good (a / 256 == m.channel) (either_good (a % 256 == p) (record { runs = tt; follows = λ ahead q. refl }) (record { runs = tt; follows = λ ahead q. refl })) (record { runs = tt; follows = λ ahead q. refl })
+  pending_good (Hio a) = either_good (a / 256 == m.channel) (record { runs = tt; follows = λ ahead q. refl }) (record { runs = tt; follows = λ ahead q. refl })
+  pending_good Tch = record { runs = tt; follows = λ ahead q. refl }
+  pending_good (StepBy k) = record { runs = tt; follows = λ ahead q. refl }
+  pending_good (Arrive a) = either_good (a / 256 == m.channel) (arrives a (a % 256) (device_at m (a % 256))) (record { runs = tt; follows = λ ahead q. refl })
+  pending_good Interrupt = record { runs = tt; follows = λ ahead q. own ahead (csw_stored csw) (world_of m) (q refl) }
+  pending_good Reset = record { runs = tt; follows = λ ahead q. clear m ahead }
+  pending_good (Store at bytes) = either_good (is_within (Bytes at bytes) m.storage) (record { runs = tt; follows = λ ahead q. own ahead (Bytes at bytes) (world_of m) (q refl) }) (record { runs = tt; follows = λ ahead q. refl })
+  pending_good (SetKey at key) = either_good (is_within (KeyOf at key) m.storage) (record { runs = tt; follows = λ ahead q. own ahead (KeyOf at key) (world_of m) (q refl) }) (record { runs = tt; follows = λ ahead q. refl })
+  pending_good (Show at len) = record { runs = tt; follows = λ ahead q. refl }

@@ -1,12 +1,12 @@
 -- When a start is accepted.
 use Rattle.std.proofs.Common.{◌≡◌, ℕ, ◌+◌, ◌/◌, ◌%◌, refl, sym, ap, ◌∙◌, arith, true, false, Bool, cond, ◌==◌, Option}
+use Rattle.std.proofs.lemmas.Bool.{false≢true}
 use Rattle.s360_words.specs.declared.flags.TheConstants.UnitStatus.{CHANNEL_END}
 use Rattle.s360_laws.specs.Events.{Answer, WithCode, Sio, FaultAfter, Event, Tio, Hio, Tch, StepBy, Arrive, Interrupt, Reset, Store, SetKey, Show}
 use Rattle.s360_laws.specs.Ledger.{NoStartWhileWorking, is_accepted, StartsAfterChannelEnd}
 use Rattle.s360_laws.specs.Soundness.{channel_owes}
 use Rattle.s360_laws.specs.Machine.{Machine, Working, Subchannel, is_working, react, Idle, Pending, start_io, after_all}
 use Rattle.s360_laws.specs.declared.condition.ConditionCode.TheVariants.{Two, Three}
-use Rattle.s360_laws.proofs.FindDevices.{no}
 use Rattle.s360_laws.proofs.LedgerLists.{ends_pend, exactly}
 use Rattle.s360_laws.proofs.Shapes.{working}
 
@@ -18,9 +18,9 @@ pub no_start_while_working : NoStartWhileWorking
 no_start_while_working m h a x = go m.subchannel h
   where
     go : (c : Subchannel) → is_working c ≡ true → ◌≡◌ {A = Answer × Machine} (react (Sio a) x (record m { subchannel = c })) (WithCode (cond (a / 256 == m.channel) Two Three), record m { subchannel = c })
-    go Idle h = no h
+    go Idle h = absurd (cc)
     go (Working d s) h = no_start (a / 256 == m.channel) (working m d s)
-    go (Pending p csw) h = no h
+    go (Pending p csw) h = absurd (cc)
 
 -- where the channel is not idle, no start is accepted
 not_accepted : (a v : ℕ) (x : Option FaultAfter) (b : Bool) (m : Machine) → is_accepted v (Sio a, x, (cond {A = Answer × Machine} b (WithCode Two, m) (WithCode Three, m)).0) ≡ false
@@ -47,8 +47,8 @@ accepted_idle m e x v h = go m.subchannel h
   where
     go : (c : Subchannel) → is_accepted v (e, x, (react e x (record m { subchannel = c })).0) ≡ true → c ≡ Idle
     go Idle h = refl
-    go (Working d s) h = no (sym (refused e x v m (Working d s) (λ a. refl)) ∙ h)
-    go (Pending p csw) h = no (sym (refused e x v m (Pending p csw) (λ a. refl)) ∙ h)
+    go (Working d s) h = absurd (false≢true (sym (refused e x v m (Working d s) (λ a. refl)) ∙ h))
+    go (Pending p csw) h = absurd (false≢true (sym (refused e x v m (Pending p csw) (λ a. refl)) ∙ h))
 
 pub starts_after_channel_end : StartsAfterChannelEnd
 starts_after_channel_end m es e u v sound s h =

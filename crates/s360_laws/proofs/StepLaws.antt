@@ -14,11 +14,11 @@ use Rattle.s360_laws.specs.History.{Runs}
 use Rattle.s360_laws.specs.Machine.{units_failing, units_with, Machine, react, run_of, Device, device_at, start_of, stepped, Subchannel, Idle, Pending, Working, is_working}
 use Rattle.s360_laws.specs.Soundness.{IsRunning}
 use Rattle.s360_laws.specs.Steps.{after_units, units_of, StepsJoin, StepsSplit, StepsAtMost}
-use Rattle.s360_laws.proofs.FindDevices.{no}
 use Rattle.s360_laws.proofs.SeenDevices.{seen}
 use Rattle.s360_laws.proofs.Serial.{good}
 use Rattle.s360_laws.proofs.Shapes.{working}
 use Rattle.s360_laws.proofs.StepUnits.{stood, used_most, units_count}
+pub use Rattle.s360_laws.proofs.Shapes.{run_at, working_device}
 
 pub plain_two : (j k : ℕ) → units j ++ units k ≡ units (j + k)
 plain_two zero k = ap units (sym (zero-add k))
@@ -40,13 +40,6 @@ Joined m j k x a =
 -- the run ended all units
 together : (m : Machine) (d : ℕ) (s : Script) (j k : ℕ) (x : Option FaultAfter) → run_of m d ((s ++ units j) ++ units_with k x) ≡ run_of m d (s ++ units_with (j + k) (after_units j x))
 together m d s j k x = ap (run_of m d) (append_assoc s (units j) (units_with k x) ∙ ap (λ l. s ++ l) (units_two j k x))
-
-pub working_device : (m : Machine) (d : ℕ) (s : Script) (y : Option Device) → device_at m d ≡ y → IsRunning (option_map (λ v. run s (start_of m v.drive)) y) → (v : Device) × (device_at m d ≡ Some v) × IsRunning (Some (run s (start_of m v.drive)))
-working_device m d s None at r = absurd r
-working_device m d s (Some v) at r = (v, at, r)
-
-pub run_at : (m : Machine) (d : ℕ) (v : Device) (s : Script) → device_at m d ≡ Some v → run_of m d s ≡ Some (run s (start_of m v.drive))
-run_at m d v s at = ap (option_map (λ v. run s (start_of m v.drive))) at
 
 the_run : (a b : Outcome) → Some a ≡ Some b → a ≡ b
 the_run a b h = cc
@@ -112,7 +105,7 @@ no_step m (Working d s) r = none_first m d s (run_of m d (s ++ [])) (subst (λ l
 pub splits : StepsSplit
 splits m [] r = no_step m m.subchannel r
 splits m (j ∷ ks) r =
-    let n = (good m m.subchannel (StepBy j) None r).0 in
+    let n = (good m m.subchannel (StepBy j) None r).runs in
     let h = splits (react (StepBy j) None m).1 ks n in
     let t = joins m j (sum ks) None r in
     let c : j + sum ks ≡ sum (j ∷ ks) = sym (sum_by-cons (λ x. x) j ks) in
@@ -130,7 +123,7 @@ most_stepped m d s k x v r (NotEnded seen) h = (le k, λ w. refl)
     le : (n : ℕ) → n ≤ n
     le n = omega arith
 most_stepped m d s k x v r (Ended used st e) h =
-    (at_most (walk_of (stood (start_of m v.drive) s r)), λ w. no w)
+    (at_most (walk_of (stood (start_of m v.drive) s r)), λ w. absurd (cc))
   where
     used_in : Outcome → ℕ
     used_in (Ended u a b) = u
@@ -156,8 +149,8 @@ pub steps_at_most : StepsAtMost
 steps_at_most m k x r = go m.subchannel r
   where
     go : (c : Subchannel) → Runs m c → AtMost k (react (StepBy k) x (record m { subchannel = c }))
-    go Idle r = (omega arith, λ w. no w)
-    go (Pending p csw) r = (omega arith, λ w. no w)
+    go Idle r = (omega arith, λ w. absurd (cc))
+    go (Pending p csw) r = (omega arith, λ w. absurd (cc))
     go (Working d s) r =
         let v = working_device m d s (device_at m d) refl r in
         subst (λ o. AtMost k (stepped d s k (working m d s) o)) (sym (run_at m d v.0 (s ++ units_with k x) v.1))
