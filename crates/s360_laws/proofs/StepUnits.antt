@@ -19,47 +19,14 @@ use Rattle.s360_laws.proofs.SeenDevices.{seen}
 
 plain_front : (k : ℕ) (front rest : Script) → units k ≡ front ++ rest → units (length front) ≡ front
 plain_front k [] rest h = refl
-plain_front zero (t ∷ front) rest h = absurd (no_list h)
-  where
-    no_list : [] ≡ t ∷ (front ++ rest) → ⊥
-    no_list h = cc
-plain_front (suc k) (t ∷ front) rest h = same_cons _ _ _ _ (head_of _ _ _ _ h) (plain_front k front rest (tail_of _ _ _ _ h))
-  where
-    head_of : (a b : Turn) (x y : Script) → a ∷ x ≡ b ∷ y → a ≡ b
-    head_of a b x y h = cc
-
-    tail_of : (a b : Turn) (x y : Script) → a ∷ x ≡ b ∷ y → x ≡ y
-    tail_of a b x y h = cc
-
-    same_cons : (a b : Turn) (x y : Script) → a ≡ b → x ≡ y → a ∷ x ≡ b ∷ y
-    same_cons a b x y p q = cc
+plain_front zero (t ∷ front) rest h = absurd (cc)
+plain_front (suc k) (t ∷ front) rest h = let e : units k ≡ front ++ rest = cc in let next = plain_front k front rest e in cc
 
 failing_front : (k b : ℕ) (f : Fault) (front rest : Script) → units_failing k b f ≡ front ++ rest → units_failing (length front) b f ≡ front
 failing_front k b f [] rest h = refl
-failing_front zero b f (t ∷ front) rest h = absurd (no_list h)
-  where
-    no_list : [] ≡ t ∷ (front ++ rest) → ⊥
-    no_list h = cc
-failing_front (suc k) zero f (t ∷ front) rest h = same_cons _ _ _ _ (head_of _ _ _ _ h) (plain_front k front rest (tail_of _ _ _ _ h))
-  where
-    head_of : (a b : Turn) (x y : Script) → a ∷ x ≡ b ∷ y → a ≡ b
-    head_of a b x y h = cc
-
-    tail_of : (a b : Turn) (x y : Script) → a ∷ x ≡ b ∷ y → x ≡ y
-    tail_of a b x y h = cc
-
-    same_cons : (a b : Turn) (x y : Script) → a ≡ b → x ≡ y → a ∷ x ≡ b ∷ y
-    same_cons a b x y p q = cc
-failing_front (suc k) (suc b) f (t ∷ front) rest h = same_cons _ _ _ _ (head_of _ _ _ _ h) (failing_front k b f front rest (tail_of _ _ _ _ h))
-  where
-    head_of : (a b : Turn) (x y : Script) → a ∷ x ≡ b ∷ y → a ≡ b
-    head_of a b x y h = cc
-
-    tail_of : (a b : Turn) (x y : Script) → a ∷ x ≡ b ∷ y → x ≡ y
-    tail_of a b x y h = cc
-
-    same_cons : (a b : Turn) (x y : Script) → a ≡ b → x ≡ y → a ∷ x ≡ b ∷ y
-    same_cons a b x y p q = cc
+failing_front zero b f (t ∷ front) rest h = absurd (cc)
+failing_front (suc k) zero f (t ∷ front) rest h = let e : units k ≡ front ++ rest = cc in let next = plain_front k front rest e in cc
+failing_front (suc k) (suc b) f (t ∷ front) rest h = let e : units_failing k b f ≡ front ++ rest = cc in let next = failing_front k b f front rest e in cc
 
 pub units_front : (k : ℕ) (x : Option FaultAfter) (front rest : Script) → units_with k x ≡ front ++ rest → units_with (length front) x ≡ front
 units_front k None front rest h = plain_front k front rest h
@@ -97,10 +64,7 @@ used_most s script more key g used st e h r = go (walk more key g) refl
     used_of (NotEnded a) = 0
 
     go : (w : Walk) → walk more key g ≡ w → units_in script ≤ used
-    go (StandsIn f) w = absurd (no (sym r ∙ h more ∙ ap (outcome_of (script ++ more) key) w))
-      where
-        no : Ended used st e ≡ NotEnded (standing_in key f) → ⊥
-        no q = cc
+    go (StandsIn f) w = let q = sym r ∙ h more ∙ ap (outcome_of (script ++ more) key) w in absurd (cc)
     go (EndsWith rest st_two e_two) w =
         let y = exact more key rest st_two e_two g w in
         let q = sym (ap (outcome_of (script ++ more) key) w) ∙ sym (h more) ∙ r in
@@ -122,10 +86,7 @@ ended_there s script key g k used x st e h r = go (walk (units_with k x) key g) 
     other u st_two e_two q = cc
 
     go : (w : Walk) → walk (units_with k x) key g ≡ w → run (script ++ units_with (used - units_in script) x) s ≡ Ended used st e
-    go (StandsIn f) w = absurd (no (sym r ∙ h (units_with k x) ∙ ap (outcome_of (script ++ units_with k x) key) w))
-      where
-        no : Ended used st e ≡ NotEnded (standing_in key f) → ⊥
-        no q = cc
+    go (StandsIn f) w = let q = sym r ∙ h (units_with k x) ∙ ap (outcome_of (script ++ units_with k x) key) w in absurd (cc)
     go (EndsWith rest st_two e_two) w =
         let y = exact (units_with k x) key rest st_two e_two g w in
         let q = sym (ap (outcome_of (script ++ units_with k x) key) w) ∙ sym (h (units_with k x)) ∙ r in
@@ -162,9 +123,6 @@ pub unmet : (s : Start) (script : Script) (key : ℕ) (g : ProgramPhase) (k : �
     → (more : Script) → run ((script ++ units k) ++ more) s ≡ run ((script ++ units_with k x) ++ more) s
 unmet s script key g k x seen st r more = go (walk (units_with k x) key g) refl
   where
-    never : {A : Type 0} (u : ℕ) (st_two : Storage) (e : Ending) → Ended u st_two e ≡ NotEnded seen → A
-    never u st_two e h = absurd (cc)
-
     counts : units_in ((script ++ units k) ++ more) ≡ units_in ((script ++ units_with k x) ++ more)
     counts =
         let a = units_in_two (script ++ units k) more in
@@ -176,7 +134,7 @@ unmet s script key g k x seen st r more = go (walk (units_with k x) key g) refl
         omega arith
 
     go : (w : Walk) → walk (units_with k x) key g ≡ w → run ((script ++ units k) ++ more) s ≡ run ((script ++ units_with k x) ++ more) s
-    go (EndsWith rest st_two e) w = never _ _ _ (sym (ap (outcome_of (script ++ units_with k x) key) w) ∙ sym (st (units_with k x)) ∙ r)
+    go (EndsWith rest st_two e) w = let q = sym (ap (outcome_of (script ++ units_with k x) key) w) ∙ sym (st (units_with k x)) ∙ r in absurd (cc)
     go (StandsIn h) w =
         goes_by s script (units k) key g h st (ap (λ l. walk l key g) (sym (plain_step k x)) ∙ unmet_walk (units_with k x) key g h w) more
         ∙ same_outcome ((script ++ units k) ++ more) ((script ++ units_with k x) ++ more) key (walk more key h) counts
