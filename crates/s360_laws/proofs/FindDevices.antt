@@ -1,6 +1,6 @@
 -- Numbers, tests and devices that are found by their addresses.
-use Rattle.std.proofs.Common.{◌≡◌, ℕ, ◌+◌, ◌*◌, refl, sym, ap, ◌∙◌, arith, true, false, Bool, cond, ◌==◌, List, [], ◌∷◌, map, Option, Some, None}
-use Rattle.std.proofs.lemmas.Bool.{eq-eqb, eqb-true, eqb-false}
+use Rattle.std.proofs.Common.{subst, ◌≡◌, ℕ, ◌+◌, ◌*◌, refl, sym, ap, ◌∙◌, arith, true, false, Bool, cond, ◌==◌, List, [], ◌∷◌, map, Option, Some, None}
+use Rattle.std.proofs.lemmas.Bool.{ne_eqb, eq-eqb, eqb-true, eqb-false}
 use Rattle.std.specs.Prelude.{find, option_map}
 use Rattle.ckd_command.specs.Drive.{IdleDrive}
 use Rattle.s360_laws.specs.Machine.{Device, Machine, address_of, device_at}
@@ -10,21 +10,14 @@ use Rattle.s360_laws.specs.declared.arm.Arm.{Arm}
 -- Numbers and tests.
 
 pub different : (a b : ℕ) → (a ≡ b → ⊥) → (a == b) ≡ false
-different a b f = go (a == b) refl
-  where
-    go : (c : Bool) → (a == b) ≡ c → (a == b) ≡ false
-    go true h = absurd (f (eqb-true a b h))
-    go false h = h
+different a b f = ne_eqb a b f
 
 pub add_same : (n x y : ℕ) → (256 * n + x == 256 * n + y) ≡ (x == y)
 add_same n x y = go (x == y) refl
   where
-    back : (n x y : ℕ) → 256 * n + x ≡ 256 * n + y → x ≡ y
-    back n x y e = omega arith
-
     go : (b : Bool) → (x == y) ≡ b → (256 * n + x == 256 * n + y) ≡ b
     go true h = eq-eqb _ _ (ap (λ k. 256 * n + k) (eqb-true x y h))
-    go false h = different _ _ (λ e. eqb-false x y h (back n x y e))
+    go false h = ne_eqb _ _ (λ e. let back : x ≡ y = omega arith in eqb-false x y h back)
 
 -- Finding devices.
 
@@ -76,6 +69,13 @@ keeps_one d f k v = go (v.device == d)
     go : (b : Bool) → (cond b (f v) v).device ≡ v.device
     go true = k v
     go false = refl
+
+-- the device that is changed
+pub changed_device : (d : ℕ) (f : Device → Device) → Keeps f → (vs : List Device) (v : Device) → find (λ w. w.device == d) vs ≡ Some v
+    → find (λ w. w.device == d) (map (λ w. cond (w.device == d) (f w) w) vs) ≡ Some (f v)
+changed_device d f k vs v at =
+    found_map (λ n. n == d) _ (keeps_one d f k) vs ∙ ap (option_map (λ w. cond (w.device == d) (f w) w)) at
+    ∙ ap (λ b. Some (cond b (f v) v)) (subst (Has (λ w. w.device == d)) at (has_found (λ w. w.device == d) vs))
 
 -- the device of an address, after a change of one device
 pub device_after : (n d u : ℕ) (f : Device → Device) → Keeps f → (vs : List Device)

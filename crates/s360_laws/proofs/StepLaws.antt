@@ -17,7 +17,7 @@ use Rattle.s360_laws.specs.Steps.{after_units, units_of, StepsJoin, StepsSplit, 
 use Rattle.s360_laws.proofs.SeenDevices.{seen}
 use Rattle.s360_laws.proofs.Serial.{good}
 use Rattle.s360_laws.proofs.Shapes.{working}
-use Rattle.s360_laws.proofs.StepUnits.{stood, used_most, units_count}
+use Rattle.s360_laws.proofs.StepUnits.{ended_in, stood, units_count}
 pub use Rattle.s360_laws.proofs.Shapes.{run_at, working_device}
 
 pub plain_two : (j k : ℕ) → units j ++ units k ≡ units (j + k)
@@ -53,26 +53,20 @@ joined_second : (m : Machine) (d : ℕ) (s : Script) (j k : ℕ) (x : Option Fau
     → let b = stepped d (s ++ units j) k (working m d (s ++ units j)) o in
     let c = stepped d s (j + k) (working m d s) o in
     (b.1 ≡ c.1) × (c.0 ≡ Stepped (j + units_of b.0))
-joined_second m d s j k x v at r None h = absurd (none (sym (run_at m d v ((s ++ units j) ++ units_with k x) at) ∙ h))
-  where
-    none : Some (run ((s ++ units j) ++ units_with k x) (start_of m v.drive)) ≡ None → ⊥
-    none h = cc
+joined_second m d s j k x v at r None h = absurd (cc (sym (run_at m d v ((s ++ units j) ++ units_with k x) at) ∙ h))
 joined_second m d s j k x v at r (Some (NotEnded st)) h = (ap (λ l. working m d l) (append_assoc s (units j) (units k) ∙ ap (λ l. s ++ l) (plain_two j k)), refl)
 joined_second m d s j k x v at r (Some (Ended u st e)) h =
     let y = stood (start_of m v.drive) (s ++ units j) r in
     let q = the_run _ _ (sym (run_at m d v ((s ++ units j) ++ units_with k x) at) ∙ h) in
-    let most = used_most (start_of m v.drive) (s ++ units j) (units_with k x) y.0 y.1 u st e y.2 q in
-    (refl, ap Stepped (counts u (units_in s) j _ _ (units_in_two s (units j)) (units_count j None) most))
-  where
-    counts : (u n j p i : ℕ) → p ≡ n + i → i ≡ j → p ≤ u → u - n ≡ j + (u - p)
-    counts u n j p i a b c = omega arith
+    let z = ended_in (start_of m v.drive) (s ++ units j) (units_with k x) y.0 y.1 u st e y.2 q in
+    let both = units_in_two s (units j) in
+    let all = units_count j None in
+    let count : u - units_in s ≡ j + (u - units_in (s ++ units j)) = omega arith in
+    (refl, ap Stepped count)
 
 joined_first : (m : Machine) (d : ℕ) (s : Script) (j k : ℕ) (x : Option FaultAfter) (v : Device) → device_at m d ≡ Some v
     → (o : Option Outcome) → run_of m d (s ++ units j) ≡ o → Joined (working m d s) j k x (stepped d s j (working m d s) o)
-joined_first m d s j k x v at None h = absurd (none (sym (run_at m d v (s ++ units j) at) ∙ h))
-  where
-    none : Some (run (s ++ units j) (start_of m v.drive)) ≡ None → ⊥
-    none h = cc
+joined_first m d s j k x v at None h = absurd (cc (sym (run_at m d v (s ++ units j) at) ∙ h))
 joined_first m d s j k x v at (Some (Ended u st e)) h =
     let q = ap (stepped d s (j + k) (working m d s)) (sym (together m d s j k x) ∙ stays_over m d v (s ++ units j) (units_with k x) u st e at h) in
     (sym (ap (λ r. r.1) q), ap (λ r. r.0) q ∙ ap Stepped (sym (add-zero _)))
@@ -118,32 +112,14 @@ AtMost k r = (units_of r.0 ≤ k) × (is_working r.1.subchannel ≡ true → r.0
 
 most_stepped : (m : Machine) (d : ℕ) (s : Script) (k : ℕ) (x : Option FaultAfter) (v : Device) → IsRunning (Some (run s (start_of m v.drive)))
     → (o : Outcome) → run (s ++ units_with k x) (start_of m v.drive) ≡ o → AtMost k (stepped d s k (working m d s) (Some o))
-most_stepped m d s k x v r (NotEnded seen) h = (le k, λ w. refl)
-  where
-    le : (n : ℕ) → n ≤ n
-    le n = omega arith
+most_stepped m d s k x v r (NotEnded seen) h = (omega arith, λ w. refl)
 most_stepped m d s k x v r (Ended used st e) h =
-    (at_most (walk_of (stood (start_of m v.drive) s r)), λ w. absurd (cc))
-  where
-    used_in : Outcome → ℕ
-    used_in (Ended u a b) = u
-    used_in (NotEnded a) = 0
-
-    few : (u a b k n : ℕ) → u ≡ a - n → a ≡ b + k → u - b ≤ k
-    few u a b k n p q = omega arith
-
-    walk_of : ((key : ℕ) × (g : ProgramPhase) × StandsAt (start_of m v.drive) s key g) → (n : ℕ) × (used ≡ units_in (s ++ units_with k x) - n)
-    walk_of y = go (walk (units_with k x) y.0 y.1) refl
-      where
-        go : (w : Walk) → walk (units_with k x) y.0 y.1 ≡ w → (n : ℕ) × (used ≡ units_in (s ++ units_with k x) - n)
-        go (StandsIn g) w = absurd (never (sym h ∙ y.2 (units_with k x) ∙ ap (outcome_of (s ++ units_with k x) y.0) w))
-          where
-            never : Ended used st e ≡ NotEnded (standing_in y.0 g) → ⊥
-            never q = cc
-        go (EndsWith rest st_two e_two) w = (units_in rest, ap used_in (sym h ∙ y.2 (units_with k x) ∙ ap (outcome_of (s ++ units_with k x) y.0) w))
-
-    at_most : (n : ℕ) × (used ≡ units_in (s ++ units_with k x) - n) → used - units_in s ≤ k
-    at_most y = few used (units_in (s ++ units_with k x)) (units_in s) k y.0 y.1 (units_in_two s (units_with k x) ∙ ap (λ n. units_in s + n) (units_count k x))
+    let y = stood (start_of m v.drive) s r in
+    let z = ended_in (start_of m v.drive) s (units_with k x) y.0 y.1 used st e y.2 h in
+    let split = ap units_in z.parts ∙ units_in_two z.front z.rest in
+    let all = units_count k x in
+    let few : used - units_in s ≤ k = omega arith in
+    (few, λ w. absurd (cc))
 
 pub steps_at_most : StepsAtMost
 steps_at_most m k x r = go m.subchannel r
