@@ -1,6 +1,6 @@
 -- An event at an idle machine keeps the ledger in balance.
 use Rattle.std.proofs.Common.{◌≡◌, ℕ, ◌+◌, ◌*◌, ◌/◌, ◌%◌, refl, sym, ap, subst, ◌∙◌, arith, true, false, Bool, cond, not, ◌&&◌, ◌==◌, List, [], ◌∷◌, map, Option, Some, None, zero-add, ◌⊎◌, inl, inr}
-use Rattle.std.proofs.lemmas.Bool.{eq-eqb, eqb-true}
+use Rattle.std.proofs.lemmas.Bool.{ne_eqb, eq-eqb, eqb-true}
 use Rattle.std.specs.Prelude.{find, option_map, is_some, filter, nat_lt}
 use Rattle.s360_words.specs.Storage.{Storage, changed, status_stored, Change, Bytes, is_within, KeyOf}
 use Rattle.s360_words.specs.declared.flags.ChannelStatus.{ChannelStatus}
@@ -22,7 +22,7 @@ use Rattle.s360_laws.specs.declared.arm.Arm.{Arm}
 use Rattle.s360_laws.specs.declared.arm.Arm.TheVariants.{AtRest, InMotion, Arrived}
 use Rattle.s360_laws.specs.declared.condition.ConditionCode.TheVariants.{Three}
 use Rattle.s360_laws.proofs.FindDevices.{found_map, distinct_map, at_device, set_both, device_after, keeps_one, set_drive}
-use Rattle.s360_laws.proofs.Owing.{Fine, Balance, silent, same_owed, nothing, distinct_arm, device_end_told, either_fine, arrive_fine}
+use Rattle.s360_laws.proofs.Owing.{end_owes, Fine, Balance, silent, same_owed, nothing, distinct_arm, device_end_told, either_fine, arrive_fine}
 use Rattle.s360_laws.proofs.Shapes.{idle}
 
 -- Reset.
@@ -66,18 +66,10 @@ pub at_once_balance : (m : Machine) (a d u : ℕ) (unit : UnitStatus) (channel :
     → Balance u (Sio a, x, StatusStored unit channel) (idle m) (record (with_device d (set_both (arm_after e) e.drive) (idle m)) { storage = s })
 at_once_balance m a d u unit channel x v e s at_a at free g h (inl k) =
     subst (λ unit. Balance u (Sio a, x, StatusStored unit channel) (idle m) (record (with_device d (set_both (arm_after e) e.drive) (idle m)) { storage = s })) (sym k)
-    (due_one (a == u), ap (λ y. cond ((a == u) && false) 1 0 + (0 + device_owes y)) (end_set m (arm_after e) e.drive d a u s at_a) ∙ first_owes (a == u) false (arm_after e) e.drive (device_for m u) (moves e.motion (sym (ap (λ n. tells n DEVICE_END) (h ∙ k)) ∙ g.device_end)) (λ b. (v, sound_device m a d u v at_a at b)), free_due m a d u v at_a at free)
-  where
-    moves : (motion : Bool) → false ≡ not motion → 0 + arm_owes (cond motion InMotion AtRest) ≡ 1
-    moves true q = refl
-    moves false q = absurd (cc)
+    (due_one (a == u), ap (λ y. cond ((a == u) && false) 1 0 + (0 + device_owes y)) (end_set m (arm_after e) e.drive d a u s at_a) ∙ first_owes (a == u) false (arm_after e) e.drive (device_for m u) (end_owes false e.motion (sym (ap (λ n. tells n DEVICE_END) (h ∙ k)) ∙ g.device_end)) (λ b. (v, sound_device m a d u v at_a at b)), free_due m a d u v at_a at free)
 at_once_balance m a d u unit channel x v e s at_a at free g h (inr k) =
     subst (λ unit. Balance u (Sio a, x, StatusStored unit channel) (idle m) (record (with_device d (set_both (arm_after e) e.drive) (idle m)) { storage = s })) (sym k)
-    (due_one (a == u), ap (λ y. cond ((a == u) && true) 1 0 + (0 + device_owes y)) (end_set m (arm_after e) e.drive d a u s at_a) ∙ first_owes (a == u) true (arm_after e) e.drive (device_for m u) (rests e.motion (sym (ap (λ n. tells n DEVICE_END) (h ∙ k)) ∙ g.device_end)) (λ b. (v, sound_device m a d u v at_a at b)), free_due m a d u v at_a at free)
-  where
-    rests : (motion : Bool) → true ≡ not motion → 1 + arm_owes (cond motion InMotion AtRest) ≡ 1
-    rests true q = absurd (cc)
-    rests false q = refl
+    (due_one (a == u), ap (λ y. cond ((a == u) && true) 1 0 + (0 + device_owes y)) (end_set m (arm_after e) e.drive d a u s at_a) ∙ first_owes (a == u) true (arm_after e) e.drive (device_for m u) (end_owes true e.motion (sym (ap (λ n. tells n DEVICE_END) (h ∙ k)) ∙ g.device_end)) (λ b. (v, sound_device m a d u v at_a at b)), free_due m a d u v at_a at free)
 
 abbrev pub FirstGood : Start → First → Type 0
 FirstGood s (ImmediateStart e) = IsGood e × ((e.csw.unit ≡ CHANNEL_END) ⊎ (e.csw.unit ≡ normal_end))
@@ -148,45 +140,32 @@ abbrev pub Lowest : ℕ → List Device → Type 0
 Lowest d vs = (v : Device) × (find (λ w. w.device == d) vs ≡ Some v) × (v.arm ≡ Arrived)
 
 pub lowest_found : (vs : List Device) → AreDistinct vs → (d : ℕ) → lowest (filter has_arrived vs) ≡ Some d → Lowest d vs
-lowest_found [] ds d h = absurd (none h)
+lowest_found [] ds d h = absurd (cc)
+lowest_found (v ∷ vs) ds d h = go v.arm refl h (lowest_found vs ds.1)
   where
-    none : None ≡ Some d → ⊥
-    none h = cc
-lowest_found (v ∷ vs) ds d h = go v.arm refl h (λ d h. lowest_found vs ds.1 d h)
-  where
-    the : (b c : ℕ) → Some b ≡ Some c → b ≡ c
-    the b c h = cc
+    here : v.arm ≡ Arrived → Some v.device ≡ Some d → Lowest d (v ∷ vs)
+    here arm h = let e : v.device ≡ d = cc in (v, ap (λ b. cond b (Some v) (find (λ w. w.device == d) vs)) (eq-eqb _ _ e), arm)
 
-    here : v.arm ≡ Arrived → v.device ≡ d → Lowest d (v ∷ vs)
-    here arm h = (v, ap (λ b. cond b (Some v) (find (λ w. w.device == d) vs)) (eq-eqb _ _ h), arm)
+    -- no two devices have one address
+    there : Lowest d vs → Lowest d (v ∷ vs)
+    there r = (r.0, ap (λ b. cond b (Some v) (find (λ w. w.device == d) vs)) (ne_eqb v.device d apart) ∙ r.1, r.2)
+      where
+        apart : v.device ≡ d → ⊥
+        apart e = let q = sym ds.0 ∙ ap (λ k. find (λ w. w.device == k) vs) e ∙ r.1 in cc
 
-    there : (v.device == d) ≡ false → Lowest d vs → Lowest d (v ∷ vs)
-    there h r = (r.0, ap (λ b. cond b (Some v) (find (λ w. w.device == d) vs)) h ∙ r.1, r.2)
-
-    either : v.arm ≡ Arrived → Lowest d vs → (b : Bool) → (v.device == d) ≡ b → Lowest d (v ∷ vs)
-    either arm r true h = here arm (eqb-true _ _ h)
-    either arm r false h = there h r
-
-    one : v.arm ≡ Arrived → (l : Option ℕ) → lowest (filter has_arrived vs) ≡ l → lower v.device l ≡ Some d → ((d : ℕ) → lowest (filter has_arrived vs) ≡ Some d → Lowest d vs) → Lowest d (v ∷ vs)
-    one arm None e h k = here arm (the _ _ h)
-    one arm (Some c) e h k = least (nat_lt v.device c) h
+    lower_of : v.arm ≡ Arrived → (l : Option ℕ) → lowest (filter has_arrived vs) ≡ l → lower v.device l ≡ Some d → ((d : ℕ) → lowest (filter has_arrived vs) ≡ Some d → Lowest d vs) → Lowest d (v ∷ vs)
+    lower_of arm None e h k = here arm h
+    lower_of arm (Some c) e h k = least (nat_lt v.device c) h
       where
         least : (b : Bool) → cond b (Some v.device) (Some c) ≡ Some d → Lowest d (v ∷ vs)
-        least true h = here arm (the _ _ h)
-        least false h = either arm (k d (e ∙ h)) (v.device == d) refl
-
-    other : (w : Device) → find (λ w. w.device == d) vs ≡ Some w → (b : Bool) → (v.device == d) ≡ b → Lowest d vs → Lowest d (v ∷ vs)
-    other w f true h r = absurd (none (sym ds.0 ∙ ap (λ k. find (λ w. w.device == k) vs) (eqb-true _ _ h) ∙ f))
-      where
-        none : None ≡ Some w → ⊥
-        none h = cc
-    other w f false h r = there h r
+        least true h = here arm h
+        least false h = there (k d (e ∙ h))
 
     go : (arm : Arm) → v.arm ≡ arm → lowest (cond (has_arrived (record v { arm = arm })) (v ∷ filter has_arrived vs) (filter has_arrived vs)) ≡ Some d
         → ((d : ℕ) → lowest (filter has_arrived vs) ≡ Some d → Lowest d vs) → Lowest d (v ∷ vs)
-    go Arrived a h k = one a (lowest (filter has_arrived vs)) refl h k
-    go AtRest a h k = let r = k d h in other r.0 r.1 (v.device == d) refl r
-    go InMotion a h k = let r = k d h in other r.0 r.1 (v.device == d) refl r
+    go Arrived a h k = lower_of a (lowest (filter has_arrived vs)) refl h k
+    go AtRest a h k = there (k d h)
+    go InMotion a h k = there (k d h)
 
 pub interrupt_fine : (m : Machine) (x : Option FaultAfter) (l : Option ℕ) → lowest (filter has_arrived m.devices) ≡ l → AreDistinct m.devices → Fine (idle m) Interrupt x (interrupt_device (idle m) l)
 interrupt_fine m x None h ds = (ds, tt, λ u. nothing _ _)
@@ -199,25 +178,15 @@ interrupt_fine m x (Some d) h ds =
 pub whole : (n a : ℕ) → (a / 256 == n) ≡ true → 256 * n + a % 256 ≡ a
 whole n a h = let e : a / 256 ≡ n = eqb-true _ _ h in omega arith
 
-pub idle_halt : (m : Machine) (a : ℕ) (x : Option FaultAfter) (b : Bool) → AreDistinct m.devices → Fine (idle m) (Hio a) x (cond b (StatusStored no_unit_status no_channel_status, with_status no_unit_status no_channel_status (idle m)) (WithCode Three, idle m))
-idle_halt m a x true ds = (ds, tt, λ u. nothing _ _)
-idle_halt m a x false ds = (ds, tt, λ u. nothing _ _)
-
-pub idle_keep : (m : Machine) (c : Change) (x : Option FaultAfter) (b : Bool) → AreDistinct m.devices
-    → ((at : ℕ) (bytes : List ℕ) → Fine (idle m) (Store at bytes) x (cond b (WasKept true, with_change c (idle m)) (WasKept false, idle m)))
-    × ((at key : ℕ) → Fine (idle m) (SetKey at key) x (cond b (WasKept true, with_change c (idle m)) (WasKept false, idle m)))
-idle_keep m c x true ds = (λ at bytes. (ds, tt, λ u. nothing _ _), λ at key. (ds, tt, λ u. nothing _ _))
-idle_keep m c x false ds = (λ at bytes. (ds, tt, λ u. nothing _ _), λ at key. (ds, tt, λ u. nothing _ _))
-
 pub idle_fine : (m : Machine) (e : Event) (x : Option FaultAfter) → AreDistinct m.devices → Fine (idle m) e x (react e x (idle m))
-idle_fine m (Sio a) x ds = either_fine (idle m) (Sio a) x (a / 256 == m.channel) (start_io (a % 256) (idle m) Idle) (WithCode Three, idle m) (λ h. start_fine m a (a % 256) x (device_at m (a % 256)) (whole m.channel a h) refl ds) (ds, tt, λ u. nothing _ _)
-idle_fine m (Tio a) x ds = either_fine (idle m) (Tio a) x (a / 256 == m.channel) (test_io (a % 256) (idle m) Idle) (WithCode Three, idle m) (λ h. test_fine m a (a % 256) x (device_at m (a % 256)) (whole m.channel a h) refl ds) (ds, tt, λ u. nothing _ _)
-idle_fine m (Hio a) x ds = either_fine (idle m) (Hio a) x (a / 256 == m.channel) (halt_io (fault_in x) (a % 256) (idle m) Idle) (WithCode Three, idle m) (λ h. idle_halt m a x (is_some (device_at m (a % 256))) ds) (ds, tt, λ u. nothing _ _)
+idle_fine m (Sio a) x ds = either_fine (idle m) (Sio a) x (a / 256 == m.channel) _ _ (λ h. start_fine m a (a % 256) x (device_at m (a % 256)) (whole m.channel a h) refl ds) (ds, tt, λ u. nothing _ _)
+idle_fine m (Tio a) x ds = either_fine (idle m) (Tio a) x (a / 256 == m.channel) _ _ (λ h. test_fine m a (a % 256) x (device_at m (a % 256)) (whole m.channel a h) refl ds) (ds, tt, λ u. nothing _ _)
+idle_fine m (Hio a) x ds = either_fine (idle m) (Hio a) x (a / 256 == m.channel) _ _ (λ h. either_fine (idle m) (Hio a) x (is_some (device_at m (a % 256))) _ _ (λ h. (ds, tt, λ u. nothing _ _)) (ds, tt, λ u. nothing _ _)) (ds, tt, λ u. nothing _ _)
 idle_fine m Tch x ds = (ds, tt, λ u. nothing _ _)
 idle_fine m (StepBy k) x ds = (ds, tt, λ u. nothing _ _)
-idle_fine m (Arrive a) x ds = either_fine (idle m) (Arrive a) x (a / 256 == m.channel) (arrive (a % 256) (idle m) (device_at m (a % 256))) (HasArrived false, idle m) (λ h. arrive_fine m Idle a (a % 256) x (device_at m (a % 256)) refl ds tt) (ds, tt, λ u. nothing _ _)
+idle_fine m (Arrive a) x ds = either_fine (idle m) (Arrive a) x (a / 256 == m.channel) _ _ (λ h. arrive_fine m Idle a (a % 256) x (device_at m (a % 256)) refl ds tt) (ds, tt, λ u. nothing _ _)
 idle_fine m Interrupt x ds = interrupt_fine m x (lowest (filter has_arrived m.devices)) refl ds
 idle_fine m Reset x ds = reset_fine (idle m) (idle m) x None ds
-idle_fine m (Store at bytes) x ds = (idle_keep m (Bytes at bytes) x (is_within (Bytes at bytes) m.storage) ds).0 at bytes
-idle_fine m (SetKey at key) x ds = (idle_keep m (KeyOf at key) x (is_within (KeyOf at key) m.storage) ds).1 at key
+idle_fine m (Store at bytes) x ds = either_fine (idle m) (Store at bytes) x (is_within (Bytes at bytes) m.storage) _ _ (λ h. (ds, tt, λ u. nothing _ _)) (ds, tt, λ u. nothing _ _)
+idle_fine m (SetKey at key) x ds = either_fine (idle m) (SetKey at key) x (is_within (KeyOf at key) m.storage) _ _ (λ h. (ds, tt, λ u. nothing _ _)) (ds, tt, λ u. nothing _ _)
 idle_fine m (Show at len) x ds = (ds, tt, λ u. nothing _ _)

@@ -28,21 +28,15 @@ pub pending_test : (m : Machine) (p a : ℕ) (csw : Csw) (x : Option FaultAfter)
 pending_test m p a csw x true h e ds r = (ds, tt, λ u. let t = told_csw m p a u csw (ap (address_of m) (sym (eqb-true _ _ h)) ∙ e) in (t.0, t.1, λ b. absurd (cc)))
 pending_test m p a csw x false h e ds r = (ds, r, λ u. nothing _ _)
 
-pub pending_keep : (m : Machine) (p : ℕ) (csw : Csw) (c : Change) (x : Option FaultAfter) (b : Bool) → AreDistinct m.devices → Rest m (Pending p csw)
-    → ((at : ℕ) (bytes : List ℕ) → Fine (pending m p csw) (Store at bytes) x (cond b (WasKept true, with_change c (pending m p csw)) (WasKept false, pending m p csw)))
-    × ((at key : ℕ) → Fine (pending m p csw) (SetKey at key) x (cond b (WasKept true, with_change c (pending m p csw)) (WasKept false, pending m p csw)))
-pending_keep m p csw c x true ds r = (λ at bytes. (ds, r, λ u. nothing _ _), λ at key. (ds, r, λ u. nothing _ _))
-pending_keep m p csw c x false ds r = (λ at bytes. (ds, r, λ u. nothing _ _), λ at key. (ds, r, λ u. nothing _ _))
-
 pub pending_fine : (m : Machine) (p : ℕ) (csw : Csw) (e : Event) (x : Option FaultAfter) → AreDistinct m.devices → Rest m (Pending p csw) → Fine (pending m p csw) e x (react e x (pending m p csw))
-pending_fine m p csw (Sio a) x ds r = either_fine (pending m p csw) (Sio a) x (a / 256 == m.channel) (WithCode Two, pending m p csw) (WithCode Three, pending m p csw) (λ h. (ds, r, λ u. nothing _ _)) (ds, r, λ u. nothing _ _)
-pending_fine m p csw (Tio a) x ds r = either_fine (pending m p csw) (Tio a) x (a / 256 == m.channel) (test_io (a % 256) (pending m p csw) (Pending p csw)) (WithCode Three, pending m p csw) (λ h. pending_test m p a csw x (a % 256 == p) refl (whole m.channel a h) ds r) (ds, r, λ u. nothing _ _)
-pending_fine m p csw (Hio a) x ds r = either_fine (pending m p csw) (Hio a) x (a / 256 == m.channel) (WithCode Zero, pending m p csw) (WithCode Three, pending m p csw) (λ h. (ds, r, λ u. nothing _ _)) (ds, r, λ u. nothing _ _)
+pending_fine m p csw (Sio a) x ds r = either_fine (pending m p csw) (Sio a) x (a / 256 == m.channel) _ _ (λ h. (ds, r, λ u. nothing _ _)) (ds, r, λ u. nothing _ _)
+pending_fine m p csw (Tio a) x ds r = either_fine (pending m p csw) (Tio a) x (a / 256 == m.channel) _ _ (λ h. pending_test m p a csw x (a % 256 == p) refl (whole m.channel a h) ds r) (ds, r, λ u. nothing _ _)
+pending_fine m p csw (Hio a) x ds r = either_fine (pending m p csw) (Hio a) x (a / 256 == m.channel) _ _ (λ h. (ds, r, λ u. nothing _ _)) (ds, r, λ u. nothing _ _)
 pending_fine m p csw Tch x ds r = (ds, r, λ u. nothing _ _)
 pending_fine m p csw (StepBy k) x ds r = (ds, r, λ u. nothing _ _)
-pending_fine m p csw (Arrive a) x ds r = either_fine (pending m p csw) (Arrive a) x (a / 256 == m.channel) (arrive (a % 256) (pending m p csw) (device_at m (a % 256))) (HasArrived false, pending m p csw) (λ h. arrive_fine m (Pending p csw) a (a % 256) x (device_at m (a % 256)) refl ds r) (ds, r, λ u. nothing _ _)
+pending_fine m p csw (Arrive a) x ds r = either_fine (pending m p csw) (Arrive a) x (a / 256 == m.channel) _ _ (λ h. arrive_fine m (Pending p csw) a (a % 256) x (device_at m (a % 256)) refl ds r) (ds, r, λ u. nothing _ _)
 pending_fine m p csw Interrupt x ds r = (ds, tt, λ u. let t = told_csw m p (address_of m p) u csw refl in (t.0, t.1, λ b. absurd (cc)))
 pending_fine m p csw Reset x ds r = reset_fine (pending m p csw) (pending m p csw) x None ds
-pending_fine m p csw (Store at bytes) x ds r = (pending_keep m p csw (Bytes at bytes) x (is_within (Bytes at bytes) m.storage) ds r).0 at bytes
-pending_fine m p csw (SetKey at key) x ds r = (pending_keep m p csw (KeyOf at key) x (is_within (KeyOf at key) m.storage) ds r).1 at key
+pending_fine m p csw (Store at bytes) x ds r = either_fine (pending m p csw) (Store at bytes) x (is_within (Bytes at bytes) m.storage) _ _ (λ h. (ds, r, λ u. nothing _ _)) (ds, r, λ u. nothing _ _)
+pending_fine m p csw (SetKey at key) x ds r = either_fine (pending m p csw) (SetKey at key) x (is_within (KeyOf at key) m.storage) _ _ (λ h. (ds, r, λ u. nothing _ _)) (ds, r, λ u. nothing _ _)
 pending_fine m p csw (Show at len) x ds r = (ds, r, λ u. nothing _ _)

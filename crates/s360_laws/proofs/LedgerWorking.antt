@@ -18,7 +18,7 @@ use Rattle.s360_laws.specs.declared.arm.Arm.TheVariants.{InMotion, AtRest}
 use Rattle.s360_laws.specs.declared.condition.ConditionCode.TheVariants.{Two, Three}
 use Rattle.s360_laws.proofs.FindDevices.{set_both, device_of, distinct_map, keeps_one}
 use Rattle.s360_laws.proofs.LedgerIdle.{end_set, sound_device, reset_fine}
-use Rattle.s360_laws.proofs.Owing.{Rest, Fine, nothing, silent, either_fine, arrive_fine}
+use Rattle.s360_laws.proofs.Owing.{end_owes, Rest, Fine, nothing, silent, either_fine, arrive_fine}
 use Rattle.s360_laws.proofs.Shapes.{working_device, working}
 
 -- Working.
@@ -26,11 +26,7 @@ use Rattle.s360_laws.proofs.Shapes.{working_device, working}
 pub ended_owes : (b c motion : Bool) (w : IdleDrive) (y : Option Device) → c ≡ not motion → (b ≡ true → (v : Device) × (y ≡ Some v)) → (b ≡ true → device_owes y ≡ 0)
     → 0 + (cond (b && c) 1 0 + device_owes (cond b (option_map (set_both (cond motion InMotion AtRest) w) y) y)) ≡ cond b 1 0 + device_owes y
 ended_owes true c motion w y q k z =
-    ap (λ y. 0 + (cond c 1 0 + device_owes (option_map (set_both (cond motion InMotion AtRest) w) y))) (k refl).1 ∙ ap (λ c. 0 + (cond c 1 0 + arm_owes (cond motion InMotion AtRest))) q ∙ all motion ∙ sym (ap (λ n. 1 + n) (z refl))
-  where
-    all : (motion : Bool) → 0 + (cond (not motion) 1 0 + arm_owes (cond motion InMotion AtRest)) ≡ 1
-    all true = refl
-    all false = refl
+    ap (λ y. 0 + (cond c 1 0 + device_owes (option_map (set_both (cond motion InMotion AtRest) w) y))) (k refl).1 ∙ zero-add _ ∙ end_owes c motion q ∙ sym (ap (λ n. 1 + n) (z refl))
 ended_owes false c motion w y q k z = zero-add _
 
 pub once_told : (b : Bool) → ◌≡◌ {A = ℕ} (cond (b && true) 1 0) (cond b 1 0)
@@ -44,12 +40,8 @@ over_rest m d st e v at g = (
       (device_of (ended d st e m) d ∙ end_set m (arm_after e) e.drive d (address_of m d) (address_of m d) st refl
       ∙ ap (λ b. cond b (option_map (set_both (arm_after e) e.drive) (device_for m (address_of m d))) (device_for m (address_of m d))) (eq-eqb (address_of m d) (address_of m d) refl)
       ∙ ap (option_map (set_both (arm_after e) e.drive)) (sym (device_of m d) ∙ at))
-      ∙ ap (λ c. cond c 1 0 + arm_owes (arm_after e)) g.device_end ∙ all e.motion,
+      ∙ end_owes (tells e.csw.unit DEVICE_END) e.motion g.device_end,
 )
-  where
-    all : (motion : Bool) → cond (not motion) 1 0 + arm_owes (cond motion InMotion AtRest) ≡ 1
-    all true = refl
-    all false = refl
 
 pub over_balance : (m : Machine) (d u : ℕ) (s : Script) (st : Storage) (e : Ending) (v : Device) → device_at m d ≡ Some v → device_owes (device_at m d) ≡ 0 → IsGood e
     → (0 + owes_channel_end u (ended d st e m) ≡ owes_channel_end u (working m d s)) × (0 + owes_device_end u (ended d st e m) ≡ owes_device_end u (working m d s))
@@ -99,30 +91,24 @@ cut_distinct m f d None ds = ds
 cut_distinct m f d (Some (Ended used st e)) ds = over_distinct m d st e ds
 cut_distinct m f d (Some (NotEnded st)) ds = over_distinct m d st.storage (st.cut f) ds
 
-pub working_keep : (m : Machine) (d : ℕ) (s more : Script) (x : Option FaultAfter) (b : Bool) → AreDistinct m.devices → device_owes (device_at m d) ≡ 0
-    → ((at : ℕ) (bytes : List ℕ) → Fine (working m d s) (Store at bytes) x (cond b (WasKept true, goes_on d s more (working m d s)) (WasKept false, working m d s)))
-    × ((at key : ℕ) → Fine (working m d s) (SetKey at key) x (cond b (WasKept true, goes_on d s more (working m d s)) (WasKept false, working m d s)))
-working_keep m d s more x true ds z = (λ at bytes. (ds, z, λ u. nothing _ _), λ at key. (ds, z, λ u. nothing _ _))
-working_keep m d s more x false ds z = (λ at bytes. (ds, z, λ u. nothing _ _), λ at key. (ds, z, λ u. nothing _ _))
-
 pub working_fine : (m : Machine) (d : ℕ) (s : Script) (e : Event) (x : Option FaultAfter) → AreDistinct m.devices → IsRunning (run_of m d s) → device_owes (device_at m d) ≡ 0 → Fine (working m d s) e x (react e x (working m d s))
-working_fine m d s (Sio a) x ds r z = either_fine (working m d s) (Sio a) x (a / 256 == m.channel) (WithCode Two, working m d s) (WithCode Three, working m d s) (λ h. (ds, z, λ u. nothing _ _)) (ds, z, λ u. nothing _ _)
-working_fine m d s (Tio a) x ds r z = either_fine (working m d s) (Tio a) x (a / 256 == m.channel) (WithCode Two, working m d s) (WithCode Three, working m d s) (λ h. (ds, z, λ u. nothing _ _)) (ds, z, λ u. nothing _ _)
+working_fine m d s (Sio a) x ds r z = either_fine (working m d s) (Sio a) x (a / 256 == m.channel) _ _ (λ h. (ds, z, λ u. nothing _ _)) (ds, z, λ u. nothing _ _)
+working_fine m d s (Tio a) x ds r z = either_fine (working m d s) (Tio a) x (a / 256 == m.channel) _ _ (λ h. (ds, z, λ u. nothing _ _)) (ds, z, λ u. nothing _ _)
 working_fine m d s (Hio a) x ds r z =
     let v = working_device m d s (device_at m d) refl r in
-    either_fine (working m d s) (Hio a) x (a / 256 == m.channel) (WithCode Two, cut (fault_in x) d (working m d s) (run_of m d s)) (WithCode Three, working m d s)
+    either_fine (working m d s) (Hio a) x (a / 256 == m.channel) _ _
     (λ h. by_device m d s v.0 (λ o. Fine (working m d s) (Hio a) x (WithCode Two, cut (fault_in x) d (working m d s) o)) v.1 (cut_fine m d s a x v.0 (run s (start_of m v.0.drive)) v.1 ds z (good_run (start_of m v.0.drive) s))) (ds, z, λ u. nothing _ _)
 working_fine m d s Tch x ds r z = (ds, z, λ u. nothing _ _)
 working_fine m d s (StepBy k) x ds r z =
     let v = working_device m d s (device_at m d) refl r in
     by_device m d (s ++ units_with k x) v.0 (λ o. Fine (working m d s) (StepBy k) x (stepped d s k (working m d s) o)) v.1
     (step_fine m d s k x v.0 (run (s ++ units_with k x) (start_of m v.0.drive)) v.1 ds z (good_run (start_of m v.0.drive) (s ++ units_with k x)))
-working_fine m d s (Arrive a) x ds r z = either_fine (working m d s) (Arrive a) x (a / 256 == m.channel) (arrive (a % 256) (working m d s) (device_at m (a % 256))) (HasArrived false, working m d s) (λ h. arrive_fine m (Working d s) a (a % 256) x (device_at m (a % 256)) refl ds z) (ds, z, λ u. nothing _ _)
+working_fine m d s (Arrive a) x ds r z = either_fine (working m d s) (Arrive a) x (a / 256 == m.channel) _ _ (λ h. arrive_fine m (Working d s) a (a % 256) x (device_at m (a % 256)) refl ds z) (ds, z, λ u. nothing _ _)
 working_fine m d s Interrupt x ds r z =
     let v = working_device m d s (device_at m d) refl r in
     by_device m d s v.0 (λ o. Fine (working m d s) Interrupt x (interrupt_program d s (working m d s) (asked_by o))) v.1
     (mark_fine m d s x (asked_by (Some (run s (start_of m v.0.drive)))) ds z (asks_good (run s (start_of m v.0.drive)) (good_run (start_of m v.0.drive) s)))
 working_fine m d s Reset x ds r z = reset_fine (working m d s) (cut (fault_in x) d (working m d s) (run_of m d s)) x (unsaved_at (256 * m.channel + d) (fault_in x) (run_of m d s)) (cut_distinct (working m d s) (fault_in x) d (run_of m d s) ds)
-working_fine m d s (Store at bytes) x ds r z = (working_keep m d s _ x (is_within (Bytes at bytes) m.storage) ds z).0 at bytes
-working_fine m d s (SetKey at key) x ds r z = (working_keep m d s _ x (is_within (KeyOf at key) m.storage) ds z).1 at key
+working_fine m d s (Store at bytes) x ds r z = either_fine (working m d s) (Store at bytes) x (is_within (Bytes at bytes) m.storage) _ _ (λ h. (ds, z, λ u. nothing _ _)) (ds, z, λ u. nothing _ _)
+working_fine m d s (SetKey at key) x ds r z = either_fine (working m d s) (SetKey at key) x (is_within (KeyOf at key) m.storage) _ _ (λ h. (ds, z, λ u. nothing _ _)) (ds, z, λ u. nothing _ _)
 working_fine m d s (Show at len) x ds r z = (ds, z, λ u. nothing _ _)
