@@ -1,15 +1,15 @@
 -- The acts of the serial list are the acts of the list.
-use Rattle.std.proofs.Common.{◌≡◌, ℕ, zero, suc, ◌+◌, ◌*◌, ◌/◌, ◌%◌, refl, sym, ap, subst, ◌∙◌, arith, true, false, Bool, cond, not, ◌&&◌, ◌||◌, ◌==◌, List, [], ◌∷◌, ◌++◌, Option, Some, None, zero-add, append_assoc, append-nil}
+use Rattle.std.proofs.Common.{◌≡◌, ℕ, zero, suc, ◌+◌, ◌*◌, ◌/◌, ◌%◌, refl, sym, ap, subst, ◌∙◌, arith, true, false, Bool, not, ◌&&◌, ◌||◌, ◌==◌, List, [], ◌∷◌, ◌++◌, Option, Some, None, zero-add, append_assoc, append-nil}
 use Rattle.std.proofs.lemmas.Bool.{and_parts, cond_both, eqb-true, not-false}
 use Rattle.std.specs.Prelude.{replicate, filter}
 use Rattle.s360_words.specs.Storage.{Change, csw_stored, Bytes, KeyOf}
-use Rattle.s360_runs.specs.Scripts.{units, OneUnit, Script}
-use Rattle.s360_laws.specs.Events.{Exchange, Hio, WithCode, Reset, Sio, StepBy, Stepped, Interrupt, Interrupted, Store, WasKept, SetKey, Tio, CswStored, StatusStored, Tch, Answer, HasArrived, Arrive, WasReset, Show, Shown, FaultAfter}
+use Rattle.s360_runs.specs.Scripts.{units, OneUnit}
+use Rattle.s360_laws.specs.Events.{Exchange, Hio, WithCode, Reset, Sio, StepBy, Stepped, Interrupt, Interrupted, Store, WasKept, SetKey, Tio, CswStored, StatusStored, Tch, HasArrived, Arrive, Show, FaultAfter}
 use Rattle.s360_laws.specs.History.{units_ahead, script_ahead, fate_ahead, acts, own_change, where_over, Changes, acts_of, Program, turns_of}
 use Rattle.s360_laws.specs.Machine.{units_with}
 use Rattle.s360_laws.specs.SerialLists.{changes_nothing, is_arrival, arrivals_last, steps_ahead, is_step, is_between, whole_step, steps_of, ArePlain, steps_joined, SameActs}
 use Rattle.s360_laws.specs.declared.condition.ConditionCode.TheVariants.{Two, Zero, One, Three}
-use Rattle.s360_laws.proofs.Ahead.{step_script, same_script, quiet_script}
+use Rattle.s360_laws.proofs.Ahead.{step_script, same_script}
 use Rattle.s360_laws.proofs.StepLaws.{plain_two}
 
 record Alike (x y : List Exchange) : Type 0 where

@@ -1,12 +1,12 @@
 -- A slot that no program of a list may write keeps its bytes.
-use Rattle.std.proofs.Common.{◌≡◌, ℕ, refl, ap, subst, sym, ◌∙◌, true, false, Bool, cond, ◌&&◌, ◌||◌, ◌==◌, List, [], ◌∷◌, map, Option, Some, None}
+use Rattle.std.proofs.Common.{◌≡◌, ℕ, refl, ap, subst, sym, ◌∙◌, true, false, Bool, cond, ◌&&◌, ◌==◌, List, [], ◌∷◌, map, Option, Some, None}
 use Rattle.std.proofs.lemmas.Bool.{cond_both, false≢true, eqb-true, or_parts}
 use Rattle.std.specs.Prelude.{find, option_map}
 use Rattle.s360_words.specs.Words.{caw_of, chains_command}
 use Rattle.s360_words.specs.declared.words.Caw.{Caw}
-use Rattle.ckd_command.specs.Drive.{Volume, AfterBegin, Rejected, Immediate, Started, IdleDrive, begin, drive_of, no_sense}
+use Rattle.ckd_command.specs.Drive.{Volume, AfterBegin, Rejected, Immediate, Started, IdleDrive, begin, no_sense}
 use Rattle.s360_runs.specs.Commands.{Point, requested}
-use Rattle.s360_runs.specs.Endings.{Ending, Outcome, Ended, NotEnded, ending, immediate}
+use Rattle.s360_runs.specs.Endings.{Outcome, Ended, NotEnded, ending, immediate}
 use Rattle.s360_runs.specs.Places.{fetch, Fetched, GoodCcw, NoCcw, TransferTo}
 use Rattle.s360_runs.specs.Runs.{Start, run, start_point}
 use Rattle.s360_runs.specs.Scripts.{Script}

@@ -1,8 +1,8 @@
 -- An event at an idle machine keeps the ledger in balance.
-use Rattle.std.proofs.Common.{◌≡◌, ℕ, ◌+◌, ◌*◌, ◌/◌, ◌%◌, refl, sym, ap, subst, ◌∙◌, arith, true, false, Bool, cond, not, ◌&&◌, ◌==◌, List, [], ◌∷◌, map, Option, Some, None, zero-add, ◌⊎◌, inl, inr}
+use Rattle.std.proofs.Common.{◌≡◌, ℕ, ◌+◌, ◌*◌, ◌/◌, ◌%◌, refl, sym, ap, subst, ◌∙◌, arith, true, false, Bool, cond, ◌&&◌, ◌==◌, List, [], ◌∷◌, map, Option, Some, None, zero-add, ◌⊎◌, inl, inr}
 use Rattle.std.proofs.lemmas.Bool.{ne_eqb, eq-eqb, eqb-true}
 use Rattle.std.specs.Prelude.{find, option_map, is_some, filter, nat_lt}
-use Rattle.s360_words.specs.Storage.{Storage, changed, status_stored, Change, Bytes, is_within, KeyOf}
+use Rattle.s360_words.specs.Storage.{Storage, changed, status_stored, Bytes, is_within, KeyOf}
 use Rattle.s360_words.specs.declared.flags.ChannelStatus.{ChannelStatus}
 use Rattle.s360_words.specs.declared.flags.TheConstants.UnitStatus.{CHANNEL_END, DEVICE_END}
 use Rattle.s360_words.specs.declared.flags.UnitStatus.{UnitStatus}
@@ -12,15 +12,14 @@ use Rattle.s360_runs.specs.Laws.{IsFirstUnit}
 use Rattle.s360_runs.specs.Runs.{Start, run}
 use Rattle.s360_runs.specs.Scripts.{units}
 use Rattle.s360_runs.specs.Starts.{first, First, ImmediateStart, BadStart, RejectedStart, AcceptedStart}
-use Rattle.s360_runs.specs.Status.{normal_end, tells, no_unit_status, no_channel_status}
+use Rattle.s360_runs.specs.Status.{normal_end, tells}
 use Rattle.s360_runs.proofs.EndStatus.{IsGood, RunGood, good_run}
 use Rattle.s360_runs.proofs.FirstUnits.{first_is_unit}
-use Rattle.s360_laws.specs.Events.{FaultAfter, Reset, WasReset, Sio, StatusStored, Store, Arrive, Tio, Interrupt, Hio, WithCode, WasKept, SetKey, Event, Tch, StepBy, HasArrived, Show}
-use Rattle.s360_laws.specs.Machine.{Device, at_rest, Machine, all_at_rest, address_of, device_at, with_device, arm_after, start_of, started, start_device, test_device, lowest, has_arrived, arrive, lower, interrupt_device, with_status, with_change, react, start_io, Idle, test_io, halt_io, fault_in}
+use Rattle.s360_laws.specs.Events.{FaultAfter, Reset, WasReset, Sio, StatusStored, Store, Arrive, Tio, Interrupt, Hio, SetKey, Event, Tch, StepBy, Show}
+use Rattle.s360_laws.specs.Machine.{Device, at_rest, Machine, all_at_rest, address_of, device_at, with_device, arm_after, start_of, started, start_device, test_device, lowest, has_arrived, lower, interrupt_device, react, Idle}
 use Rattle.s360_laws.specs.Soundness.{device_for, device_owes, AreDistinct, arm_owes}
 use Rattle.s360_laws.specs.declared.arm.Arm.{Arm}
 use Rattle.s360_laws.specs.declared.arm.Arm.TheVariants.{AtRest, InMotion, Arrived}
-use Rattle.s360_laws.specs.declared.condition.ConditionCode.TheVariants.{Three}
 use Rattle.s360_laws.proofs.FindDevices.{found_map, distinct_map, at_device, set_both, device_after, keeps_one, set_drive}
 use Rattle.s360_laws.proofs.Owing.{end_owes, Fine, Balance, silent, same_owed, nothing, distinct_arm, device_end_told, either_fine, arrive_fine}
 use Rattle.s360_laws.proofs.Shapes.{idle}

@@ -1,14 +1,14 @@
 -- An event at a machine with a pending ending keeps the ledger in balance.
-use Rattle.std.proofs.Common.{◌≡◌, ℕ, ◌+◌, ◌/◌, ◌%◌, refl, sym, ap, ◌∙◌, true, false, Bool, cond, ◌&&◌, ◌==◌, List, Option, None, zero-add, add-zero}
+use Rattle.std.proofs.Common.{◌≡◌, ℕ, ◌+◌, ◌/◌, ◌%◌, refl, sym, ap, ◌∙◌, true, false, Bool, cond, ◌&&◌, ◌==◌, Option, None, zero-add, add-zero}
 use Rattle.std.proofs.lemmas.Bool.{eqb-true}
-use Rattle.s360_words.specs.Storage.{Change, Bytes, is_within, KeyOf}
+use Rattle.s360_words.specs.Storage.{Bytes, is_within, KeyOf}
 use Rattle.s360_words.specs.declared.flags.TheConstants.UnitStatus.{CHANNEL_END, DEVICE_END}
 use Rattle.s360_words.specs.declared.words.Csw.{Csw}
 use Rattle.s360_runs.specs.Status.{tells}
-use Rattle.s360_laws.specs.Events.{FaultAfter, Tio, CswStored, Store, WithCode, WasKept, SetKey, Event, Sio, Hio, Tch, StepBy, Arrive, HasArrived, Interrupt, Reset, Show}
-use Rattle.s360_laws.specs.Machine.{Machine, address_of, Pending, with_csw, with_change, react, test_io, arrive, device_at}
+use Rattle.s360_laws.specs.Events.{FaultAfter, Tio, CswStored, Store, WithCode, SetKey, Event, Sio, Hio, Tch, StepBy, Arrive, Interrupt, Reset, Show}
+use Rattle.s360_laws.specs.Machine.{Machine, address_of, Pending, with_csw, react, device_at}
 use Rattle.s360_laws.specs.Soundness.{device_for, device_owes, AreDistinct}
-use Rattle.s360_laws.specs.declared.condition.ConditionCode.TheVariants.{Two, Three, Zero}
+use Rattle.s360_laws.specs.declared.condition.ConditionCode.TheVariants.{Two}
 use Rattle.s360_laws.proofs.LedgerIdle.{tested, whole, reset_fine}
 use Rattle.s360_laws.proofs.Owing.{Rest, Fine, nothing, either_fine, arrive_fine}
 use Rattle.s360_laws.proofs.Shapes.{pending, idle}

@@ -1,13 +1,13 @@
 -- What a fault of the store does in a step, at Halt I/O and at a reset.
 use Rattle.std.proofs.Common.{◌≡◌, ℕ, zero, suc, ◌+◌, ◌-◌, ◌/◌, refl, sym, ap, subst, ◌∙◌, arith, true, false, Bool, cond, ◌==◌, List, [], ◌∷◌, ◌++◌, Option, Some, None, ◌⊎◌, inl, inr, append_assoc}
-use Rattle.std.specs.Prelude.{find, option_map, map}
+use Rattle.std.specs.Prelude.{option_map, map}
 use Rattle.s360_words.specs.Storage.{Storage}
 use Rattle.ckd_command.specs.Drive.{Fault, IdleDrive, SaveFails, LoadFails}
 use Rattle.s360_runs.specs.Endings.{Outcome, Ended, Ending, NotEnded, Standing}
-use Rattle.s360_runs.specs.Faults.{cut_drive, OutcomeByFault, NextByFault, EndsByFault}
+use Rattle.s360_runs.specs.Faults.{cut_drive, OutcomeByFault, EndsByFault}
 use Rattle.s360_runs.specs.Runs.{Start, run}
 use Rattle.s360_runs.specs.Scripts.{Script, OneUnit, units, units_in}
-use Rattle.s360_runs.specs.Units.{unit, ProgramPhase, StandsAt, Next, standing_in, outcome_of, on_next, walk, GoesOn, EndsIn}
+use Rattle.s360_runs.specs.Units.{unit, ProgramPhase, StandsAt, Next, outcome_of, on_next, walk, GoesOn, EndsIn}
 use Rattle.s360_runs.proofs.FaultsMet.{fault_ends_cut, run_by_fault}
 use Rattle.s360_runs.proofs.Standing.{goes_by}
 use Rattle.s360_runs.proofs.Walks.{units_in_two}

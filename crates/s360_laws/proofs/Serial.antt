@@ -1,17 +1,15 @@
 -- Event by event, the machine does what its acts do.
-use Rattle.std.proofs.Common.{◌≡◌, ℕ, ◌/◌, ◌%◌, refl, ◌∙◌, true, false, Bool, cond, ◌==◌, List, [], ◌∷◌, ◌++◌, Option, Some, None, zero-add}
+use Rattle.std.proofs.Common.{◌≡◌, ℕ, ◌/◌, ◌%◌, refl, ◌∙◌, false, Bool, cond, ◌==◌, List, [], ◌∷◌, ◌++◌, Option, Some, None, zero-add}
 use Rattle.std.proofs.lemmas.Bool.{cond_both}
 use Rattle.std.specs.Prelude.{is_some, filter}
 use Rattle.s360_words.specs.Storage.{Bytes, is_within, KeyOf}
 use Rattle.s360_words.specs.declared.words.Csw.{Csw}
 use Rattle.s360_runs.specs.Starts.{first, First, BadStart, RejectedStart, ImmediateStart, AcceptedStart}
-use Rattle.s360_runs.specs.Status.{no_unit_status, no_channel_status}
-use Rattle.s360_laws.specs.Events.{Event, FaultAfter, Answer, Exchange, Sio, Arrive, Tio, Hio, StatusStored, Store, WithCode, HasArrived, Interrupt, WasKept, SetKey, Tch, StepBy, Reset, Show, CswStored, Input}
+use Rattle.s360_laws.specs.Events.{Event, FaultAfter, Answer, Exchange, Sio, Arrive, Tio, Hio, Store, Interrupt, SetKey, Tch, StepBy, Reset, Show, Input}
 use Rattle.s360_laws.specs.History.{Runs, units_ahead, world_of, history, begun_act, IsSerial}
-use Rattle.s360_laws.specs.Machine.{Machine, Subchannel, react, Idle, Working, Pending, is_working, started, Device, start_device, start_of, test_device, with_status, arrive, is_in_motion, with_arm, interrupt_device, start_io, device_at, test_io, halt_io, fault_in, lowest, has_arrived, with_change, with_csw, exchanges}
+use Rattle.s360_laws.specs.Machine.{Machine, Subchannel, react, Idle, Working, Pending, is_working, started, Device, start_device, start_of, test_device, arrive, is_in_motion, interrupt_device, device_at, lowest, has_arrived, exchanges}
 use Rattle.s360_laws.specs.declared.arm.Arm.{Arm}
 use Rattle.s360_laws.specs.declared.arm.Arm.TheVariants.{InMotion, Arrived, AtRest}
-use Rattle.s360_laws.specs.declared.condition.ConditionCode.TheVariants.{Three, Two, Zero}
 use Rattle.s360_laws.proofs.SeenDevices.{Good}
 use Rattle.s360_laws.proofs.SerialIdle.{idle_good}
 use Rattle.s360_laws.proofs.SerialPending.{pending_good}

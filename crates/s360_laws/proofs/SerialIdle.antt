@@ -1,5 +1,5 @@
 -- What an idle machine does, the serial history does.
-use Rattle.std.proofs.Common.{◌≡◌, ℕ, ◌/◌, ◌%◌, refl, sym, ap, subst, ◌∙◌, true, false, Bool, cond, ◌==◌, List, [], ◌∷◌, ◌++◌, map, Option, Some, None, ◌⊎◌, inl, inr}
+use Rattle.std.proofs.Common.{◌≡◌, ℕ, ◌/◌, ◌%◌, refl, sym, ap, subst, ◌∙◌, ◌==◌, List, [], ◌∷◌, ◌++◌, map, Option, Some, None, ◌⊎◌, inl, inr}
 use Rattle.std.specs.Prelude.{option_map, is_some, filter}
 use Rattle.s360_words.specs.Storage.{status_stored, Bytes, KeyOf, csw_stored, is_within}
 use Rattle.s360_words.specs.declared.flags.TheConstants.UnitStatus.{DEVICE_END, UNIT_CHECK, CHANNEL_END}
@@ -8,15 +8,14 @@ use Rattle.s360_runs.specs.Laws.{IsFirstUnit}
 use Rattle.s360_runs.specs.Runs.{run}
 use Rattle.s360_runs.specs.Scripts.{units}
 use Rattle.s360_runs.specs.Starts.{First, first, BadStart, AcceptedStart, RejectedStart, ImmediateStart}
-use Rattle.s360_runs.specs.Status.{no_unit_status, no_channel_status, normal_end, busy_device_end}
+use Rattle.s360_runs.specs.Status.{no_channel_status, normal_end, busy_device_end}
 use Rattle.s360_runs.proofs.FirstUnits.{first_is_unit}
-use Rattle.s360_laws.specs.Events.{FaultAfter, Tio, Arrive, Hio, StatusStored, Store, WithCode, HasArrived, Sio, WasKept, SetKey, Interrupt, Exchange, Event, Tch, StepBy, Reset, Show}
+use Rattle.s360_laws.specs.Events.{FaultAfter, Tio, Arrive, Hio, StatusStored, Store, Sio, SetKey, Interrupt, Exchange, Event, Tch, StepBy, Reset, Show}
 use Rattle.s360_laws.specs.History.{history, world_of, acts, drive_in, does, after_first, Changes, after_rejection, Program, ByItself, after_run, after_program, start_acts, ClearsSense}
-use Rattle.s360_laws.specs.Machine.{Machine, Device, test_device, with_csw, csw_of_unit, with_status, arrive, is_in_motion, with_arm, device_at, start_of, started, with_ending, arm_after, start_device, with_change, interrupt_device, at_rest, react, start_io, Idle, test_io, halt_io, fault_in, lowest, has_arrived}
+use Rattle.s360_laws.specs.Machine.{Machine, Device, test_device, with_csw, csw_of_unit, with_status, arrive, is_in_motion, device_at, start_of, started, with_ending, arm_after, start_device, interrupt_device, at_rest, react, lowest, has_arrived}
 use Rattle.s360_laws.specs.Soundness.{IsRunning}
 use Rattle.s360_laws.specs.declared.arm.Arm.{Arm}
 use Rattle.s360_laws.specs.declared.arm.Arm.TheVariants.{AtRest, InMotion, Arrived}
-use Rattle.s360_laws.specs.declared.condition.ConditionCode.TheVariants.{Three}
 use Rattle.s360_laws.proofs.SeenDevices.{Good, with_world, arms, seen, found, same_after, drives, ends, own, rests, either_good}
 use Rattle.s360_laws.proofs.Shapes.{idle}
 
@@ -44,10 +43,13 @@ pub begin_good : (a : ℕ) (x : Option FaultAfter) (m : Machine) (u : Device) (f
     → Good (idle m) (Sio a) x (started (a % 256) (idle m) f)
 begin_good a x m u BadStart at h r = record { runs = tt; follows = λ ahead q. refl }
 begin_good a x m u AcceptedStart at h r = record { runs = subst (λ y. IsRunning (option_map (λ u. run (units 1) (start_of m u.drive)) y)) (sym at) r; follows = λ ahead q. refl }
-begin_good a x m u (RejectedStart d) at h r = record { runs = tt; follows = λ ahead q. same_after ahead _ _
+begin_good a x m u (RejectedStart d) at h r = record {
+  runs = tt;
+  follows = λ ahead q. same_after ahead _ _
       (ap (λ ds. record (world_of (with_status UNIT_CHECK no_channel_status m)) { drives = ds }) (drives d (a % 256) m.devices)
       ∙ ap (λ f. does (after_first (world_of m) (a % 256) f) (Changes (status_stored UNIT_CHECK.0 no_channel_status.0))) (sym h)
-      ∙ ap (λ y. does (after_rejection (world_of m) (a % 256) y) (Changes (status_stored UNIT_CHECK.0 no_channel_status.0))) (sym (look_up m (a % 256) (Some u) at))) }
+      ∙ ap (λ y. does (after_rejection (world_of m) (a % 256) y) (Changes (status_stored UNIT_CHECK.0 no_channel_status.0))) (sym (look_up m (a % 256) (Some u) at)));
+}
 begin_good a x m u (ImmediateStart e) at h r = by_unit r.1
   where
     ended_world : does (world_of (with_ending (a % 256) m.storage e m)) (Changes (status_stored e.csw.unit.0 e.csw.channel.0))
@@ -78,8 +80,11 @@ end_csw = csw_of_unit DEVICE_END
 
 pub device_end : (x : Option FaultAfter) (m : Machine) (d : Option ℕ) → Good (idle m) Interrupt x (interrupt_device (idle m) d)
 device_end x m None = record { runs = tt; follows = λ ahead q. refl }
-device_end x m (Some d) = record { runs = tt; follows = λ ahead q. ap (λ ds. history (with_world (world_of (with_csw end_csw m)) ds) (acts ahead)) (arms AtRest d m.devices)
-      ∙ own ahead (csw_stored end_csw) (world_of m) (q refl) }
+device_end x m (Some d) = record {
+  runs = tt;
+  follows = λ ahead q. ap (λ ds. history (with_world (world_of (with_csw end_csw m)) ds) (acts ahead)) (arms AtRest d m.devices)
+      ∙ own ahead (csw_stored end_csw) (world_of m) (q refl);
+}
 
 pub clear : (m : Machine) (ahead : List Exchange) → history (record (world_of m) { drives = map seen (map at_rest m.devices) }) (acts ahead) ≡ history (does (world_of m) ClearsSense) (acts ahead)
 clear m ahead = ap (λ ds. history (record (world_of m) { drives = ds }) (acts ahead)) (rests m.devices)

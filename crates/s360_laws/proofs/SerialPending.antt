@@ -1,15 +1,14 @@
 -- What a machine with a pending ending does, the serial history does.
-use Rattle.std.proofs.Common.{ℕ, ◌/◌, ◌%◌, refl, ap, true, false, Bool, cond, ◌==◌, List, Option, Some, None}
+use Rattle.std.proofs.Common.{ℕ, ◌/◌, ◌%◌, refl, ap, ◌==◌, Option, Some, None}
 use Rattle.s360_words.specs.Storage.{Bytes, KeyOf, csw_stored, is_within}
 use Rattle.s360_words.specs.declared.words.Csw.{Csw}
-use Rattle.s360_laws.specs.Events.{Event, FaultAfter, Answer, Tio, CswStored, Store, WithCode, Sio, Hio, Arrive, HasArrived, WasKept, SetKey, Tch, StepBy, Interrupt, Reset, Show}
+use Rattle.s360_laws.specs.Events.{Event, FaultAfter, Tio, Store, Sio, Hio, Arrive, SetKey, Tch, StepBy, Interrupt, Reset, Show}
 use Rattle.s360_laws.specs.History.{history, world_of, acts}
-use Rattle.s360_laws.specs.Machine.{Machine, with_csw, arrive, Device, is_in_motion, with_arm, with_change, react, device_at}
+use Rattle.s360_laws.specs.Machine.{Machine, arrive, Device, is_in_motion, react, device_at}
 use Rattle.s360_laws.specs.declared.arm.Arm.TheVariants.{Arrived}
-use Rattle.s360_laws.specs.declared.condition.ConditionCode.TheVariants.{Two, Three, Zero}
 use Rattle.s360_laws.proofs.SeenDevices.{Good, with_world, arms, own, either_good}
 use Rattle.s360_laws.proofs.SerialIdle.{clear}
-use Rattle.s360_laws.proofs.Shapes.{pending, idle}
+use Rattle.s360_laws.proofs.Shapes.{pending}
 
 -- Pending.
 

@@ -1,5 +1,5 @@
 -- What a machine does while a program runs, the serial history does.
-use Rattle.std.proofs.Common.{◌≡◌, ℕ, zero, suc, ◌+◌, ◌-◌, ◌*◌, ◌/◌, ◌%◌, refl, sym, ap, subst, ◌∙◌, true, false, Bool, cond, ◌==◌, List, [], ◌∷◌, ◌++◌, map, Option, Some, None, append_assoc, append-nil}
+use Rattle.std.proofs.Common.{◌≡◌, ℕ, zero, suc, ◌+◌, ◌-◌, ◌*◌, ◌/◌, ◌%◌, refl, sym, ap, subst, ◌∙◌, cond, ◌==◌, List, [], ◌∷◌, ◌++◌, map, Option, Some, None, append_assoc, append-nil}
 use Rattle.std.specs.Prelude.{find, option_map}
 use Rattle.s360_words.specs.Storage.{Storage, Change, changed, Bytes, KeyOf, csw_stored, is_within}
 use Rattle.s360_words.specs.declared.words.Csw.{Csw}
@@ -9,14 +9,14 @@ use Rattle.s360_runs.specs.Runs.{run}
 use Rattle.s360_runs.specs.Scripts.{Script, units, units_in, Outside, TakesInterruption}
 use Rattle.s360_runs.specs.Units.{ProgramPhase, walk, StandsIn, standing_in, Between, phase_past, Looking, Moving, StandsAt}
 use Rattle.s360_runs.proofs.Standing.{seen_there, goes_by}
-use Rattle.s360_laws.specs.Events.{Exchange, FaultAfter, Hio, WithCode, Reset, WasReset, StepBy, Interrupt, Sio, Tio, Event, Answer, Arrive, HasArrived, Store, WasKept, SetKey, Tch, Show}
+use Rattle.s360_laws.specs.Events.{Exchange, FaultAfter, Hio, WithCode, Reset, WasReset, StepBy, Interrupt, Sio, Tio, Event, Answer, Arrive, Store, SetKey, Tch, Show}
 use Rattle.s360_laws.specs.History.{Fate, does, world_of, Program, after_run, after_program, after_end, World, history, script_ahead, fate_ahead, acts, where_over, units_ahead, IsCut, ClearsSense, Changes, ByItself, own_change}
 use Rattle.s360_laws.specs.Ledger.{later}
-use Rattle.s360_laws.specs.Machine.{Machine, Device, device_at, start_of, with_ending, arm_after, run_of, cut, fault_in, reset, unsaved_at, all_at_rest, units_with, stepped, with_arm, arrive, is_in_motion, Working, goes_on, interrupt_program, react, asked_by}
+use Rattle.s360_laws.specs.Machine.{Machine, Device, device_at, start_of, with_ending, arm_after, run_of, cut, fault_in, reset, unsaved_at, all_at_rest, units_with, stepped, with_arm, arrive, is_in_motion, Working, interrupt_program, react, asked_by}
 use Rattle.s360_laws.specs.Soundness.{IsRunning}
 use Rattle.s360_laws.specs.declared.arm.Arm.{Arm}
 use Rattle.s360_laws.specs.declared.arm.Arm.TheVariants.{Arrived}
-use Rattle.s360_laws.specs.declared.condition.ConditionCode.TheVariants.{Two, Three}
+use Rattle.s360_laws.specs.declared.condition.ConditionCode.TheVariants.{Two}
 use Rattle.s360_laws.proofs.Ahead.{same_script, step_script, quiet_script}
 use Rattle.s360_laws.proofs.SeenDevices.{ends, Good, same_after, seen, found, arms, with_world, either_good}
 use Rattle.s360_laws.proofs.SerialIdle.{look_up, clear}
@@ -42,14 +42,20 @@ still m d s ahead w = ap (λ l. history w (Program d (s ++ l) (fate_ahead ahead)
 pub cut_good : (a : ℕ) (x : Option FaultAfter) (m : Machine) (d : ℕ) (s : Script) (u : Device) (o : Outcome) → device_at m d ≡ Some u → run s (start_of m u.drive) ≡ o → IsRunning (Some o)
     → Good (working m d s) (Hio a) x (WithCode Two, cut (fault_in x) d (working m d s) (Some o))
 cut_good a x m d s u (Ended used st e) at h r = absurd r
-cut_good a x m d s u (NotEnded st) at h r = record { runs = tt; follows = λ ahead q. same_after ahead _ _
-      (end_world m d st.storage (st.cut (fault_in x)) ∙ sym (program_world m d (s ++ []) (IsCut (fault_in x)) u (NotEnded st) at (ap (λ l. run l (start_of m u.drive)) (append-nil s) ∙ h))) }
+cut_good a x m d s u (NotEnded st) at h r = record {
+  runs = tt;
+  follows = λ ahead q. same_after ahead _ _
+      (end_world m d st.storage (st.cut (fault_in x)) ∙ sym (program_world m d (s ++ []) (IsCut (fault_in x)) u (NotEnded st) at (ap (λ l. run l (start_of m u.drive)) (append-nil s) ∙ h)));
+}
 
 pub reset_good : (x : Option FaultAfter) (m : Machine) (d : ℕ) (s : Script) (u : Device) (o : Outcome) → device_at m d ≡ Some u → run s (start_of m u.drive) ≡ o → IsRunning (Some o)
     → Good (working m d s) Reset x (WasReset (unsaved_at (256 * m.channel + d) (fault_in x) (Some o)), all_at_rest (cut (fault_in x) d (working m d s) (Some o)))
 reset_good x m d s u (Ended used st e) at h r = absurd r
-reset_good x m d s u (NotEnded st) at h r = record { runs = tt; follows = λ ahead q. clear (with_ending d st.storage (st.cut (fault_in x)) m) ahead ∙ same_after ahead _ _
-      (ap (λ w. does w ClearsSense) (end_world m d st.storage (st.cut (fault_in x)) ∙ sym (program_world m d (s ++ []) (IsCut (fault_in x)) u (NotEnded st) at (ap (λ l. run l (start_of m u.drive)) (append-nil s) ∙ h)))) }
+reset_good x m d s u (NotEnded st) at h r = record {
+  runs = tt;
+  follows = λ ahead q. clear (with_ending d st.storage (st.cut (fault_in x)) m) ahead ∙ same_after ahead _ _
+      (ap (λ w. does w ClearsSense) (end_world m d st.storage (st.cut (fault_in x)) ∙ sym (program_world m d (s ++ []) (IsCut (fault_in x)) u (NotEnded st) at (ap (λ l. run l (start_of m u.drive)) (append-nil s) ∙ h))));
+}
 
 pub step_good : (x : Option FaultAfter) (m : Machine) (d : ℕ) (s : Script) (k : ℕ) (u : Device) (o : Outcome) → device_at m d ≡ Some u → IsRunning (Some (run s (start_of m u.drive))) → run (s ++ units_with k x) (start_of m u.drive) ≡ o
     → Good (working m d s) (StepBy k) x (stepped d s k (working m d s) (Some o))
@@ -64,10 +70,13 @@ step_good x m d s k u (NotEnded st) at r h =
           ∙ ap (λ l. history (world_of m) (Program d l (fate_ahead ahead) ∷ acts ahead)) (append_assoc s (units_with k x) (script_ahead ahead) ∙ ap (λ l. s ++ l) (step_script k x ahead));
     }
 step_good x m d s k u (Ended used st e) at r h =
-    let y = stood (start_of m u.drive) s r in record { runs = tt; follows = λ ahead q. same_after ahead _ _
+    let y = stood (start_of m u.drive) s r in record {
+      runs = tt;
+      follows = λ ahead q. same_after ahead _ _
           (end_world m d st e ∙ sym (program_world m d (s ++ units_with (used - units_in s) x) (fate_ahead ahead) u (Ended used st e) at (ended_there (start_of m u.drive) s y.0 y.1 k used x st e y.2 h)))
           ∙ ap (λ l. history (world_of m) (Program d (s ++ l) (fate_ahead ahead) ∷ acts ahead))
-          (sym (ap (λ l. units_with (used - units_in s) x ++ l) (quiet_script ahead (q refl)) ∙ append-nil (units_with (used - units_in s) x)) ∙ step_script (used - units_in s) x ahead) }
+          (sym (ap (λ l. units_with (used - units_in s) x ++ l) (quiet_script ahead (q refl)) ∙ append-nil (units_with (used - units_in s) x)) ∙ step_script (used - units_in s) x ahead);
+    }
 
 -- what comes between two units
 

@@ -1,6 +1,6 @@
 -- When a start is accepted.
-use Rattle.std.proofs.Common.{◌≡◌, ℕ, ◌+◌, ◌/◌, ◌%◌, refl, sym, ap, ◌∙◌, arith, true, false, Bool, cond, ◌==◌, Option}
-use Rattle.std.proofs.lemmas.Bool.{false≢true}
+use Rattle.std.proofs.Common.{◌≡◌, ℕ, ◌/◌, ◌%◌, refl, sym, ap, ◌∙◌, arith, true, false, Bool, cond, ◌==◌, Option}
+use Rattle.std.proofs.lemmas.Bool.{cond_both, false≢true}
 use Rattle.s360_words.specs.declared.flags.TheConstants.UnitStatus.{CHANNEL_END}
 use Rattle.s360_laws.specs.Events.{Answer, WithCode, Sio, FaultAfter, Event, Tio, Hio, Tch, StepBy, Arrive, Interrupt, Reset, Store, SetKey, Show}
 use Rattle.s360_laws.specs.Ledger.{NoStartWhileWorking, is_accepted, StartsAfterChannelEnd}
@@ -24,8 +24,7 @@ no_start_while_working m h a x = go m.subchannel h
 
 -- where the channel is not idle, no start is accepted
 not_accepted : (a v : ℕ) (x : Option FaultAfter) (b : Bool) (m : Machine) → is_accepted v (Sio a, x, (cond {A = Answer × Machine} b (WithCode Two, m) (WithCode Three, m)).0) ≡ false
-not_accepted a v x true m = refl
-not_accepted a v x false m = refl
+not_accepted a v x b m = cond_both {A = Answer × Machine} b (WithCode Two, m) (WithCode Three, m) (λ r. is_accepted v (Sio a, x, r.0) ≡ false) (λ e. refl) (λ e. refl)
 
 -- and no other event accepts one
 refused : (e : Event) (x : Option FaultAfter) (v : ℕ) (m : Machine) (c : Subchannel) → ((a : ℕ) → ◌≡◌ {A = Answer × Machine} (start_io (a % 256) (record m { subchannel = c }) c) (WithCode Two, record m { subchannel = c }))
@@ -54,7 +53,6 @@ pub starts_after_channel_end : StartsAfterChannelEnd
 starts_after_channel_end m es e u v sound s h =
     let k = ends_pend m es u sound in
     let idle = accepted_idle (after_all es m) e.0 e.1 v h in
-    full _ _ (exactly _ _ _ _ k.0 s) (ap (channel_owes CHANNEL_END u (after_all es m)) idle)
-  where
-    full : (n o : ℕ) → n + o ≡ 1 → o ≡ 0 → n ≡ 1
-    full n o p q = omega arith
+    let once = exactly _ _ _ _ k.0 s in
+    let none = ap (channel_owes CHANNEL_END u (after_all es m)) idle in
+    omega arith

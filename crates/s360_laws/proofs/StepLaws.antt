@@ -1,13 +1,12 @@
 -- How the units of a program are cut into steps does not matter.
 use Rattle.std.proofs.Common.{true, ◌≡◌, ℕ, zero, suc, ◌+◌, ◌-◌, ◌≤◌, refl, sym, ap, subst, ◌∙◌, arith, [], ◌∷◌, ◌++◌, Option, Some, None, zero-add, add-zero, suc-add, append_assoc, append-nil}
 use Rattle.std.proofs.lemmas.List.Sums.{sum_by-cons}
-use Rattle.std.specs.Prelude.{option_map, sum}
+use Rattle.std.specs.Prelude.{sum}
 use Rattle.s360_words.specs.Storage.{Storage}
 use Rattle.ckd_command.specs.Drive.{Fault}
 use Rattle.s360_runs.specs.Endings.{Outcome, Ending, Ended, NotEnded}
 use Rattle.s360_runs.specs.Runs.{run}
 use Rattle.s360_runs.specs.Scripts.{units, OneUnit, Script, units_in}
-use Rattle.s360_runs.specs.Units.{walk, ProgramPhase, StandsAt, Walk, StandsIn, outcome_of, standing_in, EndsWith}
 use Rattle.s360_runs.proofs.Walks.{ended_stays, units_in_two}
 use Rattle.s360_laws.specs.Events.{FaultAfter, Answer, StepBy, Stepped}
 use Rattle.s360_laws.specs.History.{Runs}

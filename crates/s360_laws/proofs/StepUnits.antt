@@ -1,12 +1,12 @@
 -- The units of a step, and the programs that end in one.
-use Rattle.std.proofs.Common.{◌≡◌, ℕ, zero, suc, ◌+◌, ◌-◌, ◌≤◌, refl, sym, ap, ◌∙◌, arith, [], ◌∷◌, ◌++◌, length, Option, Some, None}
+use Rattle.std.proofs.Common.{◌≡◌, ℕ, zero, suc, ◌+◌, ◌-◌, refl, sym, ap, ◌∙◌, arith, [], ◌∷◌, ◌++◌, length, Option, Some, None}
 use Rattle.s360_words.specs.Storage.{Storage}
 use Rattle.ckd_command.specs.Drive.{Fault}
 use Rattle.s360_runs.specs.Endings.{Outcome, Ended, NotEnded, Ending, Standing}
 use Rattle.s360_runs.specs.Faults.{without_faults}
 use Rattle.s360_runs.specs.Runs.{Start, run}
-use Rattle.s360_runs.specs.Scripts.{Script, units, Turn, units_in, OneUnit}
-use Rattle.s360_runs.specs.Units.{ProgramPhase, StandsAt, walk, Walk, StandsIn, outcome_of, standing_in, EndsWith}
+use Rattle.s360_runs.specs.Scripts.{Script, units, units_in, OneUnit}
+use Rattle.s360_runs.specs.Units.{ProgramPhase, StandsAt, walk, Walk, StandsIn, outcome_of, EndsWith}
 use Rattle.s360_runs.proofs.FaultsMet.{unmet_walk, same_outcome}
 use Rattle.s360_runs.proofs.Standing.{stands_somewhere, ends_by, goes_by}
 use Rattle.s360_runs.proofs.Walks.{exact, units_in_two}
