@@ -7,10 +7,10 @@ use Rattle.s360_words.specs.declared.flags.UnitStatus.{UnitStatus}
 use Rattle.s360_words.specs.Storage.{overwritten}
 use Rattle.s360_words.proofs.Overwriting.{length-overwritten}
 use Rattle.ckd_command.specs.declared.registers.Mark.{Mark}
-use Rattle.ckd_command.specs.declared.registers.Mark.TheVariants.{Saved, Written, Lost}
+use Rattle.ckd_command.specs.declared.registers.Mark.TheVariants.{Written}
 use Rattle.ckd_command.specs.declared.registers.Registers.{Registers}
 use Rattle.ckd_command.specs.declared.tables.Aim.{Aim}
-use Rattle.ckd_command.specs.declared.tables.Aim.TheVariants.{NoArea, Next, Credited}
+use Rattle.ckd_command.specs.declared.tables.Aim.TheVariants.{Next}
 use Rattle.ckd_command.specs.Answers.{Beginning, Sight}
 use Rattle.ckd_command.specs.Answers as answer
 use Rattle.ckd_command.specs.Tables.{aim}
@@ -111,9 +111,8 @@ saving_or : {A : Type 0} (left : List ℕ) (s : State) (fails : State → A) (go
 saving_or left s fails goes = go s.mark
   where
     go : (m : Mark) → let x = saving (left_by (Some (SaveFails left)) m) s fails goes in (is_written_by m ≡ true → x ≡ fails (lost s left)) × (is_written_by m ≡ false → x ≡ goes)
-    go Saved = (λ h. absurd (cc), λ h. refl)
-    go Lost = (λ h. absurd (cc), λ h. refl)
     go Written = (λ h. refl, λ h. absurd (cc))
+    go m = (λ h. absurd (cc), λ h. refl)
 
 -- A call of the drive whose save fails where the arm or the head leaves a written track, and that is else the same.
 abbrev pub FailsOr : {A : Type 0} → (leaves : Bool) → List ℕ → State → (State → A) → (with_fault without : A) → Type 0
@@ -198,9 +197,8 @@ settle_again (SaveFails left) c before at h = go c.state.mark h.slots.0
   where
     go : (m : Mark) → unsaved_by m c.state.registers ≡ Some (c.state.registers.cylinder, c.state.registers.head)
         → saving (left_by (Some (SaveFails left)) m) c.state (λ s. record c { state = s; unit = with_unit_check c.unit }) c ≡ c
-    go Saved k = refl
-    go Lost k = refl
     go Written k = absurd (cc)
+    go m k = refl
 
 -- Looks.
 
@@ -210,8 +208,7 @@ look_loads o = go (aim o.opened.command) _
   where
     go : (a : Aim) (s : Sight) → is_next a ≡ true → look_for (Some LoadFails) o a s ≡ Failed (with_store_fault o.state)
     go (Next kind) s h = refl
-    go NoArea s h = absurd (cc)
-    go Credited s h = absurd (cc)
+    go a s h = absurd (cc)
 
 -- one that does not look for any makes none
 pub look_loads_not : (o : Open) → looks_for_area o ≡ false → look (Some LoadFails) o ≡ look None o
@@ -219,14 +216,11 @@ look_loads_not o = go (aim o.opened.command) _
   where
     at : (s : Sight) → looked (Some LoadFails) o s ≡ looked None o s
     at (answer.Found opened) = refl
-    at (answer.IndexPassed r) = refl
-    at (answer.NextHead r) = refl
-    at (answer.Missed r) = refl
+    at s = refl
 
     go : (a : Aim) (s : Sight) → is_next a ≡ false → look_for (Some LoadFails) o a s ≡ look_for None o a s
     go (Next kind) s h = absurd (cc)
-    go NoArea s h = at s
-    go Credited s h = at s
+    go a s h = at s
 
 -- what an open command sights of the track under the arm
 abbrev pub sighted : Open → Sight
@@ -237,10 +231,8 @@ pub look_saves : (left : List ℕ) (o : Open) → FailsOr (leaves_looking o) lef
 look_saves left o = go (sighted o)
   where
     go : (s : Sight) → FailsOr (goes_to_next_head s) left o.state Failed (looked (Some (SaveFails left)) o s) (looked None o s)
-    go (answer.Found opened) = stays_or left o.state Failed _
-    go (answer.IndexPassed r) = stays_or left o.state Failed _
-    go (answer.Missed r) = stays_or left o.state Failed _
     go (answer.NextHead r) = leaves_or left o.state o.state.registers Failed _ (same_arm o.state.registers)
+    go s = stays_or left o.state Failed _
 
 -- where a look fails the arm stays; and where it finds the area, the open command is as it was but for the area
 abbrev pub LookStays : Open → AfterLook → Type 0
@@ -253,9 +245,8 @@ look_stays o = go (sighted o) refl (sight_at o.state.volume.geometry (track_unde
   where
     go : (s : Sight) → sighted o ≡ s → SightAt o.state.registers o.opened s → LookStays o (looked None o s)
     go (answer.Found opened) e k = (ap goes_to_next_head e, refl)
-    go (answer.IndexPassed r) e k = tt
-    go (answer.NextHead r) e k = tt
     go (answer.Missed r) e k = k
+    go s e k = tt
 
 -- Beginnings.
 
@@ -264,20 +255,16 @@ begin_loads code s = go (beginning code s.registers)
   where
     go : (b : Beginning) → begun (Some LoadFails) s b ≡ begun None s b
     go (answer.Rejected r) = refl
-    go (answer.Immediate r) = refl
-    go (answer.Started r o) = refl
-    go (answer.ToCylinderZero r o) = refl
+    go b = refl
 
 -- a save fails before the arm goes to cylinder 0
 pub begin_saves : (left : List ℕ) (code : ℕ) (s : State) → FailsOr (leaves_as_it_begins (beginning code s.registers)) left s Rejected (begin (Some (SaveFails left)) code s) (begin None code s)
 begin_saves left code s = go (beginning code s.registers) (beginning_at code s.registers)
   where
     go : (b : Beginning) → BeginsAt s.registers b → FailsOr (leaves_as_it_begins b) left s Rejected (begun (Some (SaveFails left)) s b) (begun None s b)
-    go (answer.Rejected r) k = stays_or left s Rejected _
-    go (answer.Immediate r) k = stays_or left s Rejected _
-    go (answer.Started r o) k = stays_or left s Rejected _
     go (answer.ToCylinderZero r None) k = leaves_or left s r Rejected _ k
     go (answer.ToCylinderZero r (Some o)) k = leaves_or left s r Rejected _ k.0
+    go b k = stays_or left s Rejected _
 
 -- where a command begins the arm stays, but where it moves
 abbrev pub BegunStays : Registers → AfterBegin → Type 0
@@ -291,9 +278,8 @@ begin_stays code s = go (beginning code s.registers) (beginning_at code s.regist
     go : (b : Beginning) → BeginsAt s.registers b → BegunStays s.registers (begun None s b)
     go (answer.Rejected r) k = k
     go (answer.Immediate r) k = λ w. (refl, k)
-    go (answer.Started r o) k = tt
     go (answer.ToCylinderZero r None) k = λ w. absurd (cc)
-    go (answer.ToCylinderZero r (Some o)) k = tt
+    go b k = tt
 
 -- Beginning and looking change no slot: what holds of the volume holds of it behind them.
 
@@ -307,17 +293,13 @@ pub begin_keeps : (V : Volume → Type 0) (code : ℕ) (s : State) → V s.volum
 begin_keeps V code s h = go (beginning code s.registers)
   where
     go : (b : Beginning) → BegunIs (VolumeClosed V) (VolumeIn V) (begun None s b)
-    go (answer.Rejected r) = h
-    go (answer.Immediate r) = h
-    go (answer.Started r o) = h
     go (answer.ToCylinderZero r None) = h
     go (answer.ToCylinderZero r (Some o)) = h
+    go b = h
 
 pub look_keeps : (V : Volume → Type 0) (o : Open) → V o.state.volume → LookIs (VolumeClosed V) (VolumeIn V) (FoundIs (VolumeClosed V) (VolumeIn V) None) (look None o)
 look_keeps V o h = go (sighted o)
   where
     go : (s : Sight) → LookIs (VolumeClosed V) (VolumeIn V) (FoundIs (VolumeClosed V) (VolumeIn V) None) (looked None o s)
     go (answer.Found opened) = (h, subst V (sym (close_none (record o { opened = opened }))) h)
-    go (answer.IndexPassed r) = h
-    go (answer.NextHead r) = h
-    go (answer.Missed r) = h
+    go s = h

@@ -7,7 +7,7 @@ use Rattle.ckd_command.specs.Commands.{beginning}
 use Rattle.ckd_command.specs.Drive.{AfterBegin, AfterLook, Failed, Fault, Immediate, LoadFails, Open, Passed, Ready, Rejected, Started, State, begin, close, drive_of, begun, look, looked, state_of, track_under, unsaved, with_store_fault}
 use Rattle.ckd_command.specs.Tables.{aim}
 use Rattle.ckd_command.specs.declared.tables.Aim.{Aim}
-use Rattle.ckd_command.specs.declared.tables.Aim.TheVariants.{NoArea, Next as NextArea, Credited}
+use Rattle.ckd_command.specs.declared.tables.Aim.TheVariants.{Next as NextArea}
 use Rattle.ckd_command.specs.Answers.{Beginning, Sight}
 use Rattle.ckd_command.specs.Answers as answer
 use Rattle.ckd_sense.specs.declared.sense_bytes.Sense.{Sense}
@@ -18,12 +18,12 @@ use Rattle.ckd_command.proofs.Marks.{anywhere}
 use Rattle.s360_runs.specs.Commands.{Chains, Choice, Ends, choice, completed, requested}
 use Rattle.s360_runs.specs.Endings.{Ending, ending, failed, immediate}
 use Rattle.s360_runs.specs.Faults.{FailedLoad, ended_by_load}
-use Rattle.s360_runs.specs.Places.{Fetched, GoodCcw, NoCcw, TransferTo, fetch}
+use Rattle.s360_runs.specs.Places.{Fetched, GoodCcw, fetch}
 use Rattle.s360_runs.specs.Runs.{Start, start_point}
 use Rattle.s360_runs.specs.Scripts.{OneUnit, Outside, Script, TakesInterruption, Turn}
 use Rattle.s360_runs.specs.Status.{no_channel_status, with_interruption}
 use Rattle.s360_runs.specs.StoreCalls.{is_next, looks_for_area}
-use Rattle.s360_runs.specs.Transfers.{Completes, Moves, Request, Stops, Transfer, TransferUnit, first_transfer, transfer_unit}
+use Rattle.s360_runs.specs.Transfers.{Completes, Request, Transfer, TransferUnit, first_transfer, transfer_unit}
 use Rattle.s360_runs.specs.Units.{Between, EndsIn, Looking, Moving, Next, ProgramPhase, StandsIn, next_begun, next_chosen, next_fetched, next_looked, next_moved, phase_past, unit, walk}
 use Rattle.s360_runs.proofs.DriveFacts.{look_loads, sighted}
 use Rattle.s360_runs.proofs.FaultsMet.{unmet_walk}
@@ -50,11 +50,9 @@ begin_fresh : (code : ℕ) (s : State) → BegunFresh (begin None code s)
 begin_fresh code s = go (beginning code s.registers) (beginning_at code s.registers)
   where
     go : (b : Beginning) → BeginsAt s.registers b → BegunFresh (begun None s b)
-    go (answer.Rejected r) h = tt
-    go (answer.Immediate r) h = tt
     go (answer.Started r o) h = h.1
-    go (answer.ToCylinderZero r None) h = tt
     go (answer.ToCylinderZero r (Some o)) h = h.1
+    go b h = tt
 
 abbrev LookFresh : AfterLook → Type 0
 LookFresh (Passed o) = NoSenseFor (aim o.opened.command) o.state.registers.sense
@@ -64,19 +62,17 @@ look_fresh : (o : Open) → NoSenseFor (aim o.opened.command) o.state.registers.
 look_fresh o n = go (sighted o) (sight_at o.state.volume.geometry (track_under o.state) o.opened o.state.registers)
   where
     go : (s : Sight) → SightAt o.state.registers o.opened s → LookFresh (looked None o s)
-    go (answer.Found opened) h = tt
     go (answer.IndexPassed r) h = subst (NoSenseFor (aim o.opened.command)) (sym h.1) n
     go (answer.NextHead r) h = subst (NoSenseFor (aim o.opened.command)) (sym h) n
-    go (answer.Missed r) h = tt
+    go s h = tt
 
 chosen_fresh : (c : Choice) → NextFresh (next_chosen c)
 chosen_fresh (Chains p) = tt
 chosen_fresh (Ends s e) = tt
 
 moved_fresh : (f : Option Fault) (key : ℕ) (o : Open) (t : Transfer) (u : TransferUnit) → NextFresh (next_moved f key o t u)
-moved_fresh f key o t (Moves next) = tt
-moved_fresh f key o t (Stops next check) = tt
 moved_fresh f key o t Completes = chosen_fresh (completed f key t o (close f o t.bytes))
+moved_fresh f key o t u = tt
 
 unit_fresh : (key : ℕ) (g : ProgramPhase) → Fresh g → NextFresh (unit None key g)
 unit_fresh key (Between p) h = fetched (fetch p.storage p.place true)
@@ -87,9 +83,8 @@ unit_fresh key (Between p) h = fetched (fetch p.storage p.place true)
     begun_fresh r (Started o) e h = (h, e)
 
     fetched : (w : Fetched) → NextFresh (next_fetched None key p w)
-    fetched NoCcw = tt
-    fetched (TransferTo address) = tt
     fetched (GoodCcw ccw) = begun_fresh (requested p ccw) (begin None ccw.code p.state) refl (begin_fresh ccw.code p.state)
+    fetched w = tt
 unit_fresh key (Looking o r) h = go (look None o) (look_fresh o h.0)
   where
     go : (l : AfterLook) → LookFresh l → NextFresh (next_looked None key r l)
@@ -117,8 +112,7 @@ no_sense_before o h n = go (aim o.opened.command) h n
   where
     go : (a : Aim) → is_next a ≡ true → NoSenseFor a o.state.registers.sense → o.state.registers.sense ≡ ZERO
     go (NextArea kind) h n = n
-    go NoArea h n = absurd (cc)
-    go Credited h n = absurd (cc)
+    go a h n = absurd (cc)
 
 -- the ending, by its sense, its channel status, its count and the track that it reports as not saved
 abbrev made : (key : ℕ) → Open → Request → Sense → ChannelStatus → ℕ → Option (ℕ × ℕ) → Ending

@@ -228,8 +228,7 @@ looked_met left key o r =
         -- with no byte no command leaves its track
         stays_here : (u : TransferUnit) → (leaves_moved p (first_transfer r) u && is_written p.state) ≡ false
         stays_here (Moves next) = refl
-        stays_here (Stops next check) = ap (λ b. b && is_written p.state) (empty_stays p)
-        stays_here Completes = ap (λ b. b && is_written p.state) (empty_stays p)
+        stays_here u = ap (λ b. b && is_written p.state) (empty_stays p)
 
 fetched_met : (left : List ℕ) (key : ℕ) (p : Point) (w : Fetched)
     → MetOr ((leaves_fetched p w && is_written p.state) || ends_written_fetched p w) left key (Between p) (next_fetched (Some (SaveFails left)) key p w) (next_fetched None key p w)
@@ -273,19 +272,16 @@ moved_loads key o t (Stops next check) = ap (λ c. EndsIn next.storage (ending N
 moved_loads key o t Completes = ap (λ c. next_chosen (completed None key t o c)) (close_loads o t.bytes)
 
 looked_loads : (key : ℕ) (r : Request) (l : AfterLook) → next_looked (Some LoadFails) key r l ≡ next_looked None key r l
-looked_loads key r (Failed s) = refl
-looked_loads key r (Passed o) = refl
 looked_loads key r (Ready o) = moved_loads key o (first_transfer r) (transfer_unit key o (first_transfer r))
+looked_loads key r l = refl
 
 begun_loads : (key : ℕ) (r : Request) (b : AfterBegin) → next_begun (Some LoadFails) key r b ≡ next_begun None key r b
 begun_loads key r (Rejected s) = refl
-begun_loads key r (Immediate s motion) = refl
-begun_loads key r (Started o) = refl
+begun_loads key r b = refl
 
 fetched_loads : (key : ℕ) (p : Point) (w : Fetched) → next_fetched (Some LoadFails) key p w ≡ next_fetched None key p w
-fetched_loads key p NoCcw = refl
-fetched_loads key p (TransferTo address) = refl
 fetched_loads key p (GoodCcw ccw) = ap (next_begun (Some LoadFails) key (requested p ccw)) (begin_loads ccw.code p.state) ∙ begun_loads key (requested p ccw) (begin None ccw.code p.state)
+fetched_loads key p w = refl
 
 by_load : (key : ℕ) (g : ProgramPhase) → UnitByFault LoadFails key g
 by_load key (Between p) = record { met = λ w. absurd (cc); not_met = λ w. fetched_loads key p (fetch p.storage p.place true) }
@@ -313,13 +309,12 @@ fault_or_not f key g = go (meets f key g) refl
 -- Cuts.
 
 cut_by_load : (key : ℕ) (g : ProgramPhase) → (standing_in key g).cut (Some LoadFails) ≡ (standing_in key g).cut None
-cut_by_load key (Between p) = refl
-cut_by_load key (Looking o r) = refl
 cut_by_load key (Moving o t) = go t.bytes
   where
     go : (b : List ℕ) → ending (Some LoadFails) key t.place (closed_by_cut (Some LoadFails) o b) no_channel_status ≡ ending None key t.place (closed_by_cut None o b) no_channel_status
     go [] = refl
     go (x ∷ b) = ap (λ c. ending None key t.place c no_channel_status) (close_loads o (x ∷ b))
+cut_by_load key g = refl
 
 -- as a unit that ends so
 abbrev no_storage : Storage

@@ -9,7 +9,7 @@ use Rattle.ckd_command.specs.Drive.{State, Immediate, begin, begin_program, driv
 use Rattle.s360_runs.specs.Commands.{chained, Chains, past_modifier, Ends, begun, Point, fetched}
 use Rattle.s360_runs.specs.Endings.{Ended, Outcome, ending, failed, immediate, untouched}
 use Rattle.s360_runs.specs.Laws.{FirstIsUnit, IsFirstUnit, first_of}
-use Rattle.s360_runs.specs.Places.{Place, Fetched, NoCcw, TransferTo, GoodCcw, past_ccw, past_no_ccw, fetched_at, unless_transfer}
+use Rattle.s360_runs.specs.Places.{Place, Fetched, GoodCcw, past_ccw, past_no_ccw, fetched_at, unless_transfer}
 use Rattle.s360_runs.specs.Runs.{Start, outcome, commands, first_place, run_from, start_point}
 use Rattle.s360_runs.specs.Scripts.{units}
 use Rattle.s360_runs.specs.Starts.{AcceptedStart, BadStart, First, ImmediateStart, RejectedStart, first_begun, first_fetched, first_from}
@@ -69,9 +69,8 @@ first_begin s key ccw p (Started o) = (refl, tt)
 first_fetch : (s : Start) (key : ℕ) (p : Place) (w : Fetched)
     → let q : Point = record { storage = s.storage; place = p; state = begin_program s.drive } in
     Is s (first_fetched key q (unless_transfer false w)) (outcome (units 1) key (commands 1 key (fetched None [] key q (unless_transfer false w))))
-first_fetch s key p NoCcw = bad s 1 key (past_no_ccw p) (omega arith)
-first_fetch s key p (TransferTo address) = bad s 1 key (past_no_ccw p) (omega arith)
 first_fetch s key p (GoodCcw ccw) = first_begin s key ccw (past_ccw p ccw) (begin None ccw.code (begin_program s.drive))
+first_fetch s key p w = bad s 1 key (past_no_ccw p) (omega arith)
 
 first_caw : (s : Start) (c : Option Caw) → Is s (first_from s c) (run_from (units 1) s c)
 first_caw s None = bad s 0 0 (first_place 0) (omega arith)

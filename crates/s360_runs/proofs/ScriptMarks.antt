@@ -60,19 +60,15 @@ look_marked o = go (sighted o)
   where
     go : (s : Sight) → let w = cond (goes_to_next_head s) false (is_written o.state) in LookIs (λ c. Is w c.state) (Is w) (FoundIs (λ c. Is w c.state) (Is w) None) (looked None o s)
     go (answer.Found opened) = (refl, empty_marked (record o { opened = opened }))
-    go (answer.IndexPassed r) = refl
-    go (answer.NextHead r) = refl
-    go (answer.Missed r) = refl
+    go s = refl
 
 begin_marked : (code : ℕ) (s : State) → let w = cond (leaves_as_it_begins (beginning code s.registers)) false (is_written s) in BegunIs (λ c. Is w c.state) (Is w) (begin None code s)
 begin_marked code s = go (beginning code s.registers)
   where
     go : (b : Beginning) → let w = cond (leaves_as_it_begins b) false (is_written s) in BegunIs (λ c. Is w c.state) (Is w) (begun None s b)
-    go (answer.Rejected r) = refl
-    go (answer.Immediate r) = refl
-    go (answer.Started r o) = refl
     go (answer.ToCylinderZero r None) = refl
     go (answer.ToCylinderZero r (Some o)) = refl
+    go b = refl
 
 fetched_marked : (key : ℕ) (p : Point) (w : Fetched) → Marked (cond (leaves_fetched p w) false (is_written p.state)) (next_fetched None key p w)
 fetched_marked key p NoCcw = tt

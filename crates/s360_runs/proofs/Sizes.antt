@@ -1,17 +1,17 @@
 -- A channel program keeps the size of storage.
 use Rattle.std.proofs.lemmas.Bool.{cond_both}
 use Rattle.std.proofs.Common.{◌≡◌, ℕ, refl, ◌∙◌, true, false, Bool, cond, not, ◌&&◌, length, Option, Some, None}
-use Rattle.s360_words.specs.Storage.{Storage, Bytes, KeyOf, stored}
+use Rattle.s360_words.specs.Storage.{Storage, Bytes, stored}
 use Rattle.s360_words.specs.Words.{caw_of, skips}
 use Rattle.s360_words.specs.declared.flags.ChannelStatus.{ChannelStatus}
 use Rattle.s360_words.specs.declared.words.Caw.{Caw}
 use Rattle.s360_words.proofs.Overwriting.{length-overwritten}
-use Rattle.ckd_command.specs.Drive.{Fault, Open, AfterBegin, Rejected, Immediate, Started, begin, AfterLook, Ready, Passed, Failed, look, Closed, close, gives}
+use Rattle.ckd_command.specs.Drive.{Fault, Open, AfterBegin, Immediate, begin, AfterLook, Ready, look, Closed, close, gives}
 use Rattle.s360_runs.specs.Commands.{goes_on_chaining, Chains, Ends, choice, past_modifier, length_status, requested}
 use Rattle.s360_runs.specs.Endings.{NotEnded, ending, immediate}
 use Rattle.s360_runs.specs.Places.{fetch, Fetched, NoCcw, TransferTo, GoodCcw}
 use Rattle.s360_runs.specs.Runs.{run_from, start_point}
-use Rattle.s360_runs.specs.Scripts.{OneUnit, Outside, TakesInterruption, Turn, storage_past}
+use Rattle.s360_runs.specs.Scripts.{Outside, Turn, storage_past}
 use Rattle.s360_runs.specs.Status.{is_clear, no_channel_status}
 use Rattle.s360_runs.specs.Transfers.{Request, Transfer, request_of, Stops, TransferUnit, Moves, Completes, transfer_unit, first_transfer, after_bytes, next_bytes, chained_data, check_of, needs_ccw, needs_byte}
 use Rattle.s360_runs.specs.Units.{standing_in, unit, Next, next_chosen, next_moved, next_looked, next_begun, next_fetched, Between, Looking, Moving, ProgramPhase, phase_past}
@@ -54,35 +54,29 @@ module _ (before : Storage) (f : Option Fault) (key : ℕ) where
   moved_sized o t h = go (transfer_unit key o t) (unit_sized o t h)
     where
       go : (u : TransferUnit) → UnitSized before u → NextSized before (next_moved f key o t u)
-      go (Moves next) k = k
-      go (Stops next check) k = k
       go Completes k = chosen_sized (request_of t) (close f o t.bytes) (length_status o t (close f o t.bytes)) h
+      go u k = k
 
   begun_sized : (r : Request) (b : AfterBegin) → Sized before r.storage → NextSized before (next_begun f key r b)
-  begun_sized r (Rejected s) h = h
   begun_sized r (Immediate s motion) h = chosen_sized r (immediate s motion) no_channel_status h
-  begun_sized r (Started o) h = h
+  begun_sized r b h = h
 
   next_sized : (g : ProgramPhase) → Sized before (storage_in g) → NextSized before (unit f key g)
   next_sized (Moving o t) h = moved_sized o t h
   next_sized (Between p) h = go (fetch p.storage p.place true)
     where
       go : (w : Fetched) → NextSized before (next_fetched f key p w)
-      go NoCcw = h
-      go (TransferTo address) = h
       go (GoodCcw ccw) = begun_sized (requested p ccw) (begin f ccw.code p.state) h
+      go w = h
   next_sized (Looking o r) h = go (look f o)
     where
       go : (l : AfterLook) → NextSized before (next_looked f key r l)
-      go (Failed s) = h
-      go (Passed o) = h
       go (Ready o) = moved_sized o (first_transfer r) h
+      go l = h
 
 turn_sized : (turn : Turn) (s : Storage) → Sized s (storage_past turn s)
 turn_sized (Outside (Bytes at bytes)) s = length-overwritten s.bytes at bytes
-turn_sized (Outside (KeyOf at key)) s = refl
-turn_sized TakesInterruption s = refl
-turn_sized (OneUnit f) s = refl
+turn_sized turn s = refl
 
 past_sized : (turn : Turn) (g : ProgramPhase) → Sized (storage_in g) (storage_in (phase_past turn g))
 past_sized turn (Between p) = turn_sized turn p.storage
@@ -94,8 +88,7 @@ keeps_size s script = go (caw_of s.caw)
   where
     seen : (key : ℕ) (g : ProgramPhase) → Sized s.storage (storage_in g) → OutcomeKeepsSize s.storage (NotEnded (standing_in key g))
     seen key (Between p) h = h
-    seen key (Looking o r) h = h
-    seen key (Moving o t) h = h
+    seen key g h = h
 
     go : (c : Option Caw) → OutcomeKeepsSize s.storage (run_from script s c)
     go None = refl

@@ -59,8 +59,7 @@ run_holds {P} {E} O s caw script stands ends h = subst O (sym (run_walk s caw sc
 -- a turn that is no unit leaves the drive
 pub past_state : (turn : Turn) (g : ProgramPhase) → state_in (phase_past turn g) ≡ state_in g
 past_state turn (Between p) = refl
-past_state turn (Looking o r) = refl
-past_state turn (Moving o t) = refl
+past_state turn g = refl
 
 -- A check stops a command with the bytes that it has.
 

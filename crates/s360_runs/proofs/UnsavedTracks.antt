@@ -11,7 +11,7 @@ use Rattle.ckd_command.proofs.Marks.{never_both, LookFinds, look_finds, BegunTra
 use Rattle.s360_runs.specs.Commands.{requested}
 use Rattle.s360_runs.specs.Endings.{ending, immediate, untouched}
 use Rattle.s360_runs.specs.Faults.{without_faults}
-use Rattle.s360_runs.specs.Places.{Place, fetch, Fetched, NoCcw, TransferTo, GoodCcw}
+use Rattle.s360_runs.specs.Places.{Place, fetch, Fetched, GoodCcw}
 use Rattle.s360_runs.specs.Runs.{Start, start_point, run_from, first_place}
 use Rattle.s360_runs.specs.Scripts.{Script}
 use Rattle.s360_runs.specs.Starts.{first_from, first_fetched, first_begun, AcceptedStart, ImmediateStart}
@@ -37,8 +37,7 @@ calm_ending before key p c channel h = record { saved = h.saved; no_check = h.qu
 
 calm_begun : (before : IdleDrive) (b : AfterBegin) → BegunCalm (Quiet before) b → BegunIs (CalmClosed before) (Calm (Quiet before)) b
 calm_begun before (Rejected s) h = h
-calm_begun before (Immediate s motion) h = h
-calm_begun before (Started o) h = h
+calm_begun before b h = h
 
 calm_open : (before : IdleDrive) (g : ProgramPhase) → Calm (Quiet before) (state_in g) → OpenIs (CalmClosed before) (Calm (Quiet before)) None g
 calm_open before (Between p) h = λ code. calm_begun before (begin None code p.state) (begin_calm (Quiet before) code p.state h)
@@ -46,9 +45,8 @@ calm_open before (Moving o t) h = close_calm (Quiet before) o t.bytes h
 calm_open before (Looking o r) h = go (look None o) (look_calm (Quiet before) o h)
   where
     go : (l : AfterLook) → LookCalm (Quiet before) l → LookIs (CalmClosed before) (Calm (Quiet before)) (FoundIs (CalmClosed before) (Calm (Quiet before)) None) l
-    go (Failed s) h = h
-    go (Passed o) h = h
     go (Ready o) h = (h, close_calm (Quiet before) o [] h)
+    go l h = h
 
 -- of a walk
 abbrev WalkCalm : IdleDrive → Walk → Type 0
@@ -80,9 +78,8 @@ calm_first s (Some caw) = fetched (fetch s.storage (first_place caw.address) tru
     begun r (Started o) h = tt
 
     fetched : (w : Fetched) → FirstTellsNoFault s.drive (first_fetched caw.key (start_point caw s) w)
-    fetched NoCcw = tt
-    fetched (TransferTo address) = tt
     fetched (GoodCcw ccw) = begun (requested (start_point caw s) ccw) (begin None ccw.code (begin_program s.drive)) (begin_calm (Quiet s.drive) ccw.code (begin_program s.drive) (calm_start caw s))
+    fetched w = tt
 
 pub no_fault_nothing_told : NoFaultNothingTold
 no_fault_nothing_told s script = (go (caw_of s.caw), calm_first s (caw_of s.caw))
@@ -128,9 +125,8 @@ told_closed f o b e =
     record { lost = λ l. or_left (is_written (state_of o)) (is_written (close None o b).state) (h.lost l); still = λ l. or_right (is_written (state_of o)) (is_written (close None o b).state) (h.written l) }
 
 wrote_before : (g : ProgramPhase) → is_written (state_in g) ≡ true → has_written g ≡ true
-wrote_before (Between p) h = h
-wrote_before (Looking o r) h = h
 wrote_before (Moving o t) h = or_left (is_written (state_of o)) _ h
+wrote_before g h = h
 
 -- the drive as the unit finds it
 told_here : (g : ProgramPhase) → unsaved (state_in g) ≡ None → ToldOf (has_written g) (state_in g)
@@ -145,9 +141,8 @@ told_open f (Moving o t) e = told_closed f o t.bytes e
 told_open f (Between p) e = λ code. go (begin f code p.state) (begin_traces f code p.state e)
   where
     go : (b : AfterBegin) → BegunTraces p.state b → BegunIs (λ c. ToldOf (is_written p.state) c.state) (Still (is_written p.state)) b
-    go (Rejected s) h = record { lost = h.lost; still = h.written }
-    go (Immediate s motion) h = record { lost = h.lost; still = h.written }
     go (Started o) h = h.written
+    go b h = record { lost = h.lost; still = h.written }
 told_open f (Looking o r) e = go (look f o) (look_traces f o e) (look_finds f o e)
   where
     w : Bool

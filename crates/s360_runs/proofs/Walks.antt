@@ -74,13 +74,11 @@ by_phase f rest key most (Moving o p) same h = by_unit f rest key most o p (tran
 
 resume_outside : (c : _) (rest : Script) (key : ℕ) (f : ProgramPhase) → resume (Outside c ∷ rest) key f ≡ resume rest key (phase_past (Outside c) f)
 resume_outside c rest key (Between p) = refl
-resume_outside c rest key (Looking o p) = refl
-resume_outside c rest key (Moving o p) = refl
+resume_outside c rest key f = refl
 
 resume_taking : (rest : Script) (key : ℕ) (f : ProgramPhase) → resume (TakesInterruption ∷ rest) key f ≡ resume rest key (phase_past TakesInterruption f)
 resume_taking rest key (Between p) = refl
-resume_taking rest key (Looking o p) = refl
-resume_taking rest key (Moving o p) = refl
+resume_taking rest key f = refl
 
 at_end : (key most : ℕ) (f : ProgramPhase) → commands most key (resume [] key f) ≡ step_of key (walk [] key f)
 at_end key most (Between p) = step_stays most key (StandsIn (Between p))
