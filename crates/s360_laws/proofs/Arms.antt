@@ -179,14 +179,12 @@ idle_arm : (m : Machine) (e : Event) (x : Option FaultAfter) (u : ℕ) (arm : Ar
 idle_arm m (Sio a) x u arm ds h o = either u arm (Sio a) x (a / 256 == m.channel) _ _ (λ k. start_arm m a (a % 256) u arm x (device_at m (a % 256)) (whole m.channel a k) refl h o) h
 idle_arm m (Tio a) x u arm ds h o = either u arm (Tio a) x (a / 256 == m.channel) _ _ (λ k. test_arm m a (a % 256) u arm x (device_at m (a % 256)) (whole m.channel a k) refl h) h
 idle_arm m (Hio a) x u arm ds h o = either u arm (Hio a) x (a / 256 == m.channel) _ _ (λ k. either u arm (Hio a) x (is_some (device_at m (a % 256))) _ _ (λ b. h) h) h
-idle_arm m Tch x u arm ds h o = h
-idle_arm m (StepBy k) x u arm ds h o = h
 idle_arm m (Arrive a) x u arm ds h o = either u arm (Arrive a) x (a / 256 == m.channel) _ _ (λ k. arrive_arm m Idle a (a % 256) u arm x (device_at m (a % 256)) (whole m.channel a k) refl h) h
 idle_arm m Interrupt x u arm ds h o = interrupt_arm m u arm x (lowest (filter has_arrived m.devices)) refl ds h
 idle_arm m Reset x u arm ds h o = reset_arm m (idle m) u arm x None refl (is_there m u arm h)
 idle_arm m (Store at bytes) x u arm ds h o = either u arm (Store at bytes) x (is_within (Bytes at bytes) m.storage) _ _ (λ b. h) h
 idle_arm m (SetKey at key) x u arm ds h o = either u arm (SetKey at key) x (is_within (KeyOf at key) m.storage) _ _ (λ b. h) h
-idle_arm m (Show at len) x u arm ds h o = h
+idle_arm m e x u arm ds h o = h
 
 -- A program runs: its device's arm is at rest.
 
@@ -228,7 +226,6 @@ working_arm m d s (Sio a) x u arm r z h o = either u arm (Sio a) x (a / 256 == m
 working_arm m d s (Tio a) x u arm r z h o = either u arm (Tio a) x (a / 256 == m.channel) _ _ (λ k. h) h
 working_arm m d s (Hio a) x u arm r z h o =
     either u arm (Hio a) x (a / 256 == m.channel) _ _ (λ k. cut_arm m d s a u arm x (run_of m d s) h o z) h
-working_arm m d s Tch x u arm r z h o = h
 working_arm m d s (StepBy k) x u arm r z h o = step_arm m d s k u arm x (run_of m d (s ++ units_with k x)) h o z
 working_arm m d s (Arrive a) x u arm r z h o = either u arm (Arrive a) x (a / 256 == m.channel) _ _ (λ k. arrive_arm m (Working d s) a (a % 256) u arm x (device_at m (a % 256)) (whole m.channel a k) refl h) h
 working_arm m d s Interrupt x u arm r z h o =
@@ -239,7 +236,7 @@ working_arm m d s Reset x u arm r z h o =
     reset_arm m (cut (fault_in x) d (working m d s) (run_of m d s)) u arm x (unsaved_at (256 * m.channel + d) (fault_in x) (run_of m d s)) (cut_channel m d s x (run_of m d s)) (cut_there m d s u x (run_of m d s) (is_there m u arm h))
 working_arm m d s (Store at bytes) x u arm r z h o = either u arm (Store at bytes) x (is_within (Bytes at bytes) m.storage) _ _ (λ b. h) h
 working_arm m d s (SetKey at key) x u arm r z h o = either u arm (SetKey at key) x (is_within (KeyOf at key) m.storage) _ _ (λ b. h) h
-working_arm m d s (Show at len) x u arm r z h o = h
+working_arm m d s e x u arm r z h o = h
 
 -- A CSW pends: it has the device end, or the arm owes it.
 
@@ -270,14 +267,12 @@ pending_arm : (m : Machine) (p : ℕ) (csw : Csw) (e : Event) (x : Option FaultA
 pending_arm m p csw (Sio a) x u arm r h o = either u arm (Sio a) x (a / 256 == m.channel) _ _ (λ k. h) h
 pending_arm m p csw (Tio a) x u arm r h o = either u arm (Tio a) x (a / 256 == m.channel) _ _ (λ k. pending_test_arm m p a u arm csw x (a % 256 == p) refl (whole m.channel a k) r h o) h
 pending_arm m p csw (Hio a) x u arm r h o = either u arm (Hio a) x (a / 256 == m.channel) _ _ (λ k. h) h
-pending_arm m p csw Tch x u arm r h o = h
-pending_arm m p csw (StepBy k) x u arm r h o = h
 pending_arm m p csw (Arrive a) x u arm r h o = either u arm (Arrive a) x (a / 256 == m.channel) _ _ (λ k. arrive_arm m (Pending p csw) a (a % 256) u arm x (device_at m (a % 256)) (whole m.channel a k) refl h) h
 pending_arm m p csw Interrupt x u arm r h o = h ∙ told_csw_arm m p (address_of m p) u arm csw refl r h o
 pending_arm m p csw Reset x u arm r h o = reset_arm m (pending m p csw) u arm x None refl (is_there m u arm h)
 pending_arm m p csw (Store at bytes) x u arm r h o = either u arm (Store at bytes) x (is_within (Bytes at bytes) m.storage) _ _ (λ b. h) h
 pending_arm m p csw (SetKey at key) x u arm r h o = either u arm (SetKey at key) x (is_within (KeyOf at key) m.storage) _ _ (λ b. h) h
-pending_arm m p csw (Show at len) x u arm r h o = h
+pending_arm m p csw e x u arm r h o = h
 
 -- Any event, and lists.
 

@@ -21,15 +21,9 @@ held_answer m p csw (Sio a) x = λ e. ap (λ (r : Answer × Machine). r.0) (cond
 held_answer m p csw (Tio a) x = λ e other.
     ap (λ (r : Answer × Machine). r.0) (cond-true (a / 256 == m.channel) (test_io (a % 256) (pending m p csw) (Pending p csw)) (WithCode Three, pending m p csw) (eq-eqb _ _ e)
     ∙ cond-false (a % 256 == p) (CswStored csw, with_csw csw (idle m)) (WithCode Two, pending m p csw) (different _ _ other))
-held_answer m p csw (Hio a) x = tt
 held_answer m p csw Tch x = refl
-held_answer m p csw (StepBy k) x = tt
-held_answer m p csw (Arrive a) x = tt
 held_answer m p csw Interrupt x = refl
-held_answer m p csw Reset x = tt
-held_answer m p csw (Store at bytes) x = tt
-held_answer m p csw (SetKey at key) x = tt
-held_answer m p csw (Show at len) x = tt
+held_answer m p csw e x = tt
 
 -- the machine that follows has it still, unless it was stored or reset
 abbrev StillHeld : Machine → ℕ → Csw → Machine → Type 0
@@ -56,14 +50,12 @@ held_next m p csw (Tio a) x c =
     (λ f h. absurd (false≢true (sym h ∙ and_from (a == 256 * m.channel + p) (tells csw.unit CHANNEL_END) (eq-eqb _ _ (sym (whole m.channel a e) ∙ ap (λ n. 256 * m.channel + n) (eqb-true _ _ f))) c))) (λ h. same m p csw))
     (λ h. same m p csw)
 held_next m p csw (Hio a) x c = either_next m p csw (Hio a) x (a / 256 == m.channel) _ _ (λ e h. same m p csw) (λ h. same m p csw)
-held_next m p csw Tch x c = λ h. same m p csw
-held_next m p csw (StepBy k) x c = λ h. same m p csw
 held_next m p csw (Arrive a) x c = either_next m p csw (Arrive a) x (a / 256 == m.channel) _ _ (λ e. arrive_next m p csw a (a % 256) x (device_at m (a % 256))) (λ h. same m p csw)
 held_next m p csw Interrupt x c = λ h. absurd (false≢true (sym h ∙ and_from (256 * m.channel + p == 256 * m.channel + p) (tells csw.unit CHANNEL_END) (eq-eqb _ _ refl) c))
 held_next m p csw Reset x c = λ h. absurd (cc)
 held_next m p csw (Store at bytes) x c = either_next m p csw (Store at bytes) x (is_within (Bytes at bytes) m.storage) _ _ (λ b h. (with_change (Bytes at bytes) m, refl, refl)) (λ h. same m p csw)
 held_next m p csw (SetKey at key) x c = either_next m p csw (SetKey at key) x (is_within (KeyOf at key) m.storage) _ _ (λ b h. (with_change (KeyOf at key) m, refl, refl)) (λ h. same m p csw)
-held_next m p csw (Show at len) x c = λ h. same m p csw
+held_next m p csw e x c = λ h. same m p csw
 
 held_list : (es : List Input) (m : Machine) (p : ℕ) (csw : Csw) → tells csw.unit CHANNEL_END ≡ true → HeldAnswers m.channel p csw (exchanges es (pending m p csw))
 held_list [] m p csw c = tt

@@ -85,9 +85,8 @@ first_keeps s = from (caw_of s.caw)
     begun key r (Immediate t motion) k = cond_both (chains_command r.ccw) AcceptedStart (ImmediateStart (ending None key r.place (immediate t motion) no_channel_status)) (FirstKeeps s.drive.volume) (λ e. tt) (λ e. tt)
 
     fetched : (key : ℕ) (p : Point) (w : Fetched) → Same p.state.volume → FirstKeeps s.drive.volume (first_fetched key p w)
-    fetched key p NoCcw h = tt
-    fetched key p (TransferTo address) h = tt
     fetched key p (GoodCcw ccw) h = begun key (requested p ccw) (begin None ccw.code p.state) (begin_keeps Same ccw.code p.state h)
+    fetched key p w h = tt
 
     from : (c : Option Caw) → FirstKeeps s.drive.volume (first_from s c)
     from None = tt
@@ -126,9 +125,7 @@ rejection_keeps w p device track (Some d) e = go (first (start_in w d.1)) refl
     go : (f : First) → first (start_in w d.1) ≡ f → slot track (at device (after_first w p f).drives) ≡ slot track (at device w.drives)
     go (RejectedStart drive) k =
         with_slot track device p drive w.drives (λ c f l. ap (λ v. slot_in v track) (subst (FirstKeeps d.1.volume) k (first_keeps (start_in w d.1))) ∙ ap (λ d. slot_in d.1.volume track) (the d c (sym e ∙ f)))
-    go BadStart k = refl
-    go (ImmediateStart z) k = refl
-    go AcceptedStart k = refl
+    go f k = refl
 
 act_keeps : (w : World) (device track : ℕ) (act : Act) → act_writes w device track act ≡ false → slot_at (does w act) device track ≡ slot_at w device track
 act_keeps w device track (Program p script fate) h = program_keeps w p device track script fate (drive_in w p) refl h

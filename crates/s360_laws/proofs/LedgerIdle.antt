@@ -1,11 +1,12 @@
--- An event at an idle machine keeps the ledger in balance.
-use Rattle.std.proofs.Common.{◌≡◌, ℕ, ◌+◌, ◌*◌, ◌/◌, ◌%◌, refl, sym, ap, subst, ◌∙◌, arith, true, false, Bool, cond, ◌&&◌, ◌==◌, List, [], ◌∷◌, map, Option, Some, None, zero-add, ◌⊎◌, inl, inr}
+-- An event where no program runs keeps the ledger in balance.
+use Rattle.std.proofs.Common.{◌≡◌, ℕ, ◌+◌, ◌*◌, ◌/◌, ◌%◌, refl, sym, ap, subst, ◌∙◌, arith, true, false, Bool, cond, ◌&&◌, ◌==◌, List, [], ◌∷◌, map, Option, Some, None, zero-add, ◌⊎◌, inl, inr, add-zero}
 use Rattle.std.proofs.lemmas.Bool.{ne_eqb, eq-eqb, eqb-true}
 use Rattle.std.specs.Prelude.{find, option_map, is_some, filter, nat_lt}
 use Rattle.s360_words.specs.Storage.{Storage, changed, status_stored, Bytes, is_within, KeyOf}
 use Rattle.s360_words.specs.declared.flags.ChannelStatus.{ChannelStatus}
 use Rattle.s360_words.specs.declared.flags.TheConstants.UnitStatus.{CHANNEL_END, DEVICE_END}
 use Rattle.s360_words.specs.declared.flags.UnitStatus.{UnitStatus}
+use Rattle.s360_words.specs.declared.words.Csw.{Csw}
 use Rattle.ckd_command.specs.Drive.{unsaved, IdleDrive}
 use Rattle.s360_runs.specs.Endings.{Ending}
 use Rattle.s360_runs.specs.Laws.{IsFirstUnit}
@@ -15,14 +16,15 @@ use Rattle.s360_runs.specs.Starts.{first, First, ImmediateStart, BadStart, Rejec
 use Rattle.s360_runs.specs.Status.{normal_end, tells}
 use Rattle.s360_runs.proofs.EndStatus.{IsGood, RunGood, good_run}
 use Rattle.s360_runs.proofs.FirstUnits.{first_is_unit}
-use Rattle.s360_laws.specs.Events.{FaultAfter, Reset, WasReset, Sio, StatusStored, Store, Arrive, Tio, Interrupt, Hio, SetKey, Event, Tch, StepBy, Show}
-use Rattle.s360_laws.specs.Machine.{Device, at_rest, Machine, all_at_rest, address_of, device_at, with_device, arm_after, start_of, started, start_device, test_device, lowest, has_arrived, lower, interrupt_device, react, Idle}
+use Rattle.s360_laws.specs.Events.{FaultAfter, Reset, WasReset, Sio, StatusStored, Store, Arrive, Tio, Interrupt, Hio, SetKey, Event, Tch, StepBy, Show, CswStored, WithCode}
+use Rattle.s360_laws.specs.Machine.{Device, at_rest, Machine, all_at_rest, address_of, device_at, with_device, arm_after, start_of, started, start_device, test_device, lowest, has_arrived, lower, interrupt_device, react, Idle, Pending, with_csw}
 use Rattle.s360_laws.specs.Soundness.{device_for, device_owes, AreDistinct, arm_owes}
 use Rattle.s360_laws.specs.declared.arm.Arm.{Arm}
 use Rattle.s360_laws.specs.declared.arm.Arm.TheVariants.{AtRest, InMotion, Arrived}
+use Rattle.s360_laws.specs.declared.condition.ConditionCode.TheVariants.{Two}
 use Rattle.s360_laws.proofs.FindDevices.{found_map, distinct_map, at_device, set_both, device_after, keeps_one, set_drive}
-use Rattle.s360_laws.proofs.Owing.{end_owes, Fine, Balance, silent, same_owed, nothing, distinct_arm, device_end_told, either_fine, arrive_fine}
-use Rattle.s360_laws.proofs.Shapes.{idle}
+use Rattle.s360_laws.proofs.Owing.{end_owes, Fine, Balance, silent, same_owed, nothing, distinct_arm, device_end_told, either_fine, arrive_fine, Rest}
+use Rattle.s360_laws.proofs.Shapes.{idle, pending}
 
 -- Reset.
 
@@ -78,10 +80,8 @@ pub first_good : (s : Start) (f : First) → first s ≡ f → FirstGood s f
 first_good s f h = go f (subst (λ f. IsFirstUnit s f (run (units 1) s)) h (first_is_unit s).unit_is)
   where
     go : (f : First) → IsFirstUnit s f (run (units 1) s) → FirstGood s f
-    go BadStart r = tt
-    go (RejectedStart d) r = tt
-    go AcceptedStart r = tt
     go (ImmediateStart e) r = (subst RunGood r.0 (good_run s (units 1)), r.1)
+    go f r = tt
 
 pub begin_fine : (m : Machine) (a d : ℕ) (x : Option FaultAfter) (v : Device) (f : First) → address_of m d ≡ a → device_at m d ≡ Some v → v.arm ≡ AtRest → AreDistinct m.devices → FirstGood (start_of m v.drive) f
     → Fine (idle m) (Sio a) x (started d (idle m) f)
@@ -163,8 +163,7 @@ lowest_found (v ∷ vs) ds d h = go v.arm refl h (lowest_found vs ds.1)
     go : (arm : Arm) → v.arm ≡ arm → lowest (cond (has_arrived (record v { arm = arm })) (v ∷ filter has_arrived vs) (filter has_arrived vs)) ≡ Some d
         → ((d : ℕ) → lowest (filter has_arrived vs) ≡ Some d → Lowest d vs) → Lowest d (v ∷ vs)
     go Arrived a h k = lower_of a (lowest (filter has_arrived vs)) refl h k
-    go AtRest a h k = there (k d h)
-    go InMotion a h k = there (k d h)
+    go arm a h k = there (k d h)
 
 pub interrupt_fine : (m : Machine) (x : Option FaultAfter) (l : Option ℕ) → lowest (filter has_arrived m.devices) ≡ l → AreDistinct m.devices → Fine (idle m) Interrupt x (interrupt_device (idle m) l)
 interrupt_fine m x None h ds = (ds, tt, λ u. nothing _ _)
@@ -181,11 +180,35 @@ pub idle_fine : (m : Machine) (e : Event) (x : Option FaultAfter) → AreDistinc
 idle_fine m (Sio a) x ds = either_fine (idle m) (Sio a) x (a / 256 == m.channel) _ _ (λ h. start_fine m a (a % 256) x (device_at m (a % 256)) (whole m.channel a h) refl ds) (ds, tt, λ u. nothing _ _)
 idle_fine m (Tio a) x ds = either_fine (idle m) (Tio a) x (a / 256 == m.channel) _ _ (λ h. test_fine m a (a % 256) x (device_at m (a % 256)) (whole m.channel a h) refl ds) (ds, tt, λ u. nothing _ _)
 idle_fine m (Hio a) x ds = either_fine (idle m) (Hio a) x (a / 256 == m.channel) _ _ (λ h. either_fine (idle m) (Hio a) x (is_some (device_at m (a % 256))) _ _ (λ h. (ds, tt, λ u. nothing _ _)) (ds, tt, λ u. nothing _ _)) (ds, tt, λ u. nothing _ _)
-idle_fine m Tch x ds = (ds, tt, λ u. nothing _ _)
-idle_fine m (StepBy k) x ds = (ds, tt, λ u. nothing _ _)
 idle_fine m (Arrive a) x ds = either_fine (idle m) (Arrive a) x (a / 256 == m.channel) _ _ (λ h. arrive_fine m Idle a (a % 256) x (device_at m (a % 256)) refl ds tt) (ds, tt, λ u. nothing _ _)
 idle_fine m Interrupt x ds = interrupt_fine m x (lowest (filter has_arrived m.devices)) refl ds
 idle_fine m Reset x ds = reset_fine (idle m) (idle m) x None ds
 idle_fine m (Store at bytes) x ds = either_fine (idle m) (Store at bytes) x (is_within (Bytes at bytes) m.storage) _ _ (λ h. (ds, tt, λ u. nothing _ _)) (ds, tt, λ u. nothing _ _)
 idle_fine m (SetKey at key) x ds = either_fine (idle m) (SetKey at key) x (is_within (KeyOf at key) m.storage) _ _ (λ h. (ds, tt, λ u. nothing _ _)) (ds, tt, λ u. nothing _ _)
-idle_fine m (Show at len) x ds = (ds, tt, λ u. nothing _ _)
+idle_fine m e x ds = (ds, tt, λ u. nothing _ _)
+
+-- Pending.
+
+pub told_csw : (m : Machine) (p a u : ℕ) (csw : Csw) → address_of m p ≡ a
+    → (cond ((a == u) && tells csw.unit CHANNEL_END) 1 0 + 0 ≡ cond ((address_of m p == u) && tells csw.unit CHANNEL_END) 1 0)
+    × (cond ((a == u) && tells csw.unit DEVICE_END) 1 0 + (0 + device_owes (device_for m u)) ≡ cond ((address_of m p == u) && tells csw.unit DEVICE_END) 1 0 + device_owes (device_for m u))
+told_csw m p a u csw e = (
+  add-zero _ ∙ ap (λ b. cond (b && tells csw.unit CHANNEL_END) 1 0) (sym (tested m a p u e)),
+  ap (λ n. cond ((a == u) && tells csw.unit DEVICE_END) 1 0 + n) (zero-add _) ∙ ap (λ b. cond (b && tells csw.unit DEVICE_END) 1 0 + device_owes (device_for m u)) (sym (tested m a p u e)),
+)
+
+pub pending_test : (m : Machine) (p a : ℕ) (csw : Csw) (x : Option FaultAfter) (b : Bool) → (a % 256 == p) ≡ b → address_of m (a % 256) ≡ a → AreDistinct m.devices → Rest m (Pending p csw)
+    → Fine (pending m p csw) (Tio a) x (cond b (CswStored csw, with_csw csw (idle m)) (WithCode Two, pending m p csw))
+pending_test m p a csw x true h e ds r = (ds, tt, λ u. let t = told_csw m p a u csw (ap (address_of m) (sym (eqb-true _ _ h)) ∙ e) in (t.0, t.1, λ b. absurd (cc)))
+pending_test m p a csw x false h e ds r = (ds, r, λ u. nothing _ _)
+
+pub pending_fine : (m : Machine) (p : ℕ) (csw : Csw) (e : Event) (x : Option FaultAfter) → AreDistinct m.devices → Rest m (Pending p csw) → Fine (pending m p csw) e x (react e x (pending m p csw))
+pending_fine m p csw (Sio a) x ds r = either_fine (pending m p csw) (Sio a) x (a / 256 == m.channel) _ _ (λ h. (ds, r, λ u. nothing _ _)) (ds, r, λ u. nothing _ _)
+pending_fine m p csw (Tio a) x ds r = either_fine (pending m p csw) (Tio a) x (a / 256 == m.channel) _ _ (λ h. pending_test m p a csw x (a % 256 == p) refl (whole m.channel a h) ds r) (ds, r, λ u. nothing _ _)
+pending_fine m p csw (Hio a) x ds r = either_fine (pending m p csw) (Hio a) x (a / 256 == m.channel) _ _ (λ h. (ds, r, λ u. nothing _ _)) (ds, r, λ u. nothing _ _)
+pending_fine m p csw (Arrive a) x ds r = either_fine (pending m p csw) (Arrive a) x (a / 256 == m.channel) _ _ (λ h. arrive_fine m (Pending p csw) a (a % 256) x (device_at m (a % 256)) refl ds r) (ds, r, λ u. nothing _ _)
+pending_fine m p csw Interrupt x ds r = (ds, tt, λ u. let t = told_csw m p (address_of m p) u csw refl in (t.0, t.1, λ b. absurd (cc)))
+pending_fine m p csw Reset x ds r = reset_fine (pending m p csw) (pending m p csw) x None ds
+pending_fine m p csw (Store at bytes) x ds r = either_fine (pending m p csw) (Store at bytes) x (is_within (Bytes at bytes) m.storage) _ _ (λ h. (ds, r, λ u. nothing _ _)) (ds, r, λ u. nothing _ _)
+pending_fine m p csw (SetKey at key) x ds r = either_fine (pending m p csw) (SetKey at key) x (is_within (KeyOf at key) m.storage) _ _ (λ h. (ds, r, λ u. nothing _ _)) (ds, r, λ u. nothing _ _)
+pending_fine m p csw e x ds r = (ds, r, λ u. nothing _ _)

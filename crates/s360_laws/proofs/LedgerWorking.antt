@@ -98,7 +98,6 @@ working_fine m d s (Hio a) x ds r z =
     let v = working_device m d s (device_at m d) refl r in
     either_fine (working m d s) (Hio a) x (a / 256 == m.channel) _ _
     (λ h. by_device m d s v.0 (λ o. Fine (working m d s) (Hio a) x (WithCode Two, cut (fault_in x) d (working m d s) o)) v.1 (cut_fine m d s a x v.0 (run s (start_of m v.0.drive)) v.1 ds z (good_run (start_of m v.0.drive) s))) (ds, z, λ u. nothing _ _)
-working_fine m d s Tch x ds r z = (ds, z, λ u. nothing _ _)
 working_fine m d s (StepBy k) x ds r z =
     let v = working_device m d s (device_at m d) refl r in
     by_device m d (s ++ units_with k x) v.0 (λ o. Fine (working m d s) (StepBy k) x (stepped d s k (working m d s) o)) v.1
@@ -111,4 +110,4 @@ working_fine m d s Interrupt x ds r z =
 working_fine m d s Reset x ds r z = reset_fine (working m d s) (cut (fault_in x) d (working m d s) (run_of m d s)) x (unsaved_at (256 * m.channel + d) (fault_in x) (run_of m d s)) (cut_distinct (working m d s) (fault_in x) d (run_of m d s) ds)
 working_fine m d s (Store at bytes) x ds r z = either_fine (working m d s) (Store at bytes) x (is_within (Bytes at bytes) m.storage) _ _ (λ h. (ds, z, λ u. nothing _ _)) (ds, z, λ u. nothing _ _)
 working_fine m d s (SetKey at key) x ds r z = either_fine (working m d s) (SetKey at key) x (is_within (KeyOf at key) m.storage) _ _ (λ h. (ds, z, λ u. nothing _ _)) (ds, z, λ u. nothing _ _)
-working_fine m d s (Show at len) x ds r z = (ds, z, λ u. nothing _ _)
+working_fine m d s e x ds r z = (ds, z, λ u. nothing _ _)

@@ -116,9 +116,8 @@ pub fault_ends_step : FaultEndsStep
 fault_ends_step m k x r = go m.subchannel r
   where
     go : (c : Subchannel) → Runs m c → FaultOr (λ r. EndedByFault r (Stepped (suc x.units))) (react (StepBy k) (Some x) (record m { subchannel = c })) (react (StepBy k) None (record m { subchannel = c }))
-    go Idle r = inl refl
-    go (Pending p csw) r = inl refl
     go (Working d s) r = let v = working_device m d s (device_at m d) refl r in step_faults m d s k x v.0 v.1 v.2
+    go c r = inl refl
 
 -- Cuts.
 
@@ -164,11 +163,10 @@ pub fault_ends_halt : FaultEndsHalt
 fault_ends_halt m a x r = go m.subchannel r
   where
     go : (c : Subchannel) → Runs m c → FaultOr (λ r. EndedByFault r (WithCode Two)) (react (Hio a) (Some x) (record m { subchannel = c })) (react (Hio a) None (record m { subchannel = c }))
-    go Idle r = inl refl
-    go (Pending p csw) r = inl refl
     go (Working d s) r =
         let v = working_device m d s (device_at m d) refl r in
         either_halt (a / 256 == m.channel) (working m d s) (halted (Some x.fault) (working m d s) d (run_of m d s)) (halted None (working m d s) d (run_of m d s)) (halt_faults m d s x.fault v.0 v.1 v.2)
+    go c r = inl refl
 
 -- Resets.
 
@@ -199,12 +197,11 @@ fault_told_by_reset m x r = go m.subchannel r
     either d s seen v at (inr met) = inr (told_by_reset m d s seen x.fault met.0 v at met.1 met.2)
 
     go : (c : Subchannel) → Runs m c → FaultOr (ToldByReset (record m { subchannel = c })) (react Reset (Some x) (record m { subchannel = c })) (react Reset None (record m { subchannel = c }))
-    go Idle r = inl refl
-    go (Pending p csw) r = inl refl
     go (Working d s) r =
         let v = working_device m d s (device_at m d) refl r in
         let y = seen_in m d s v.0 v.1 v.2 in
         subst (λ o. FaultOr (ToldByReset (working m d s)) (reset_by (Some x.fault) (working m d s) d o) (reset_by None (working m d s) d o)) (sym y.2) (either d s y.0 v.0 v.1 (cut_or (start_of m v.0.drive) s y.0 x.fault y.1))
+    go c r = inl refl
 
 -- Other events.
 

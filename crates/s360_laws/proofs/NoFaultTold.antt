@@ -98,10 +98,9 @@ start_calm m d None at = (tt, none_changed m)
 start_calm m d (Some v) at = by_arm v.arm
   where
     by_first : (f : First) → FirstTellsNoFault v.drive f → Calm m (started d m f)
-    by_first BadStart h = (tt, none_changed m)
     by_first (RejectedStart drive) h = (tt, one_changed m d (set_drive drive) (λ w. refl) (λ w there. subst (λ w. GainsNoCheck w.drive drive) (the_device v w (sym at ∙ there)) h))
     by_first (ImmediateStart e) h = (tt, ending_calm m d m.storage e v at h)
-    by_first AcceptedStart h = (tt, none_changed m)
+    by_first f h = (tt, none_changed m)
 
     by_arm : (arm : Arm) → Calm m (start_device d m (Some (set_arm arm v)))
     by_arm InMotion = (tt, none_changed m)
@@ -113,9 +112,8 @@ test_calm m d None = (tt, none_changed m)
 test_calm m d (Some v) = by_arm v.arm
   where
     by_arm : (arm : Arm) → Calm m (test_device d m (Some (set_arm arm v)))
-    by_arm InMotion = (tt, none_changed m)
     by_arm Arrived = (tt, armed m AtRest d)
-    by_arm AtRest = (tt, none_changed m)
+    by_arm arm = (tt, none_changed m)
 
 either : (m : Machine) (b : Bool) (y z : Answer × Machine) → Calm m y → Calm m z → Calm m (cond b y z)
 either m b y z h k = cond_both b y z (Calm m) (λ e. h) (λ e. k)
@@ -139,9 +137,8 @@ step_calm m d s k v at (Some (Ended used st e)) h = (tt, ending_calm m d st e v 
 step_calm m d s k v at (Some (NotEnded seen)) h = (tt, none_changed m)
 
 told_calm : (m : Machine) (d : ℕ) (v : Device) (o : Option Outcome) → OutcomeFor v.drive o → unsaved_at (address_of m d) None o ≡ None
-told_calm m d v None h = refl
-told_calm m d v (Some (Ended used st e)) h = refl
 told_calm m d v (Some (NotEnded seen)) h = ap (option_map (λ t. (address_of m d, t.0, t.1))) h.saved
+told_calm m d v o h = refl
 
 -- at rest no sense reports anything
 rests_calm : (m n : Machine) → NoneGainsCheck m (all_at_rest n)
@@ -168,8 +165,7 @@ kept_calm m c = either m (is_within c m.storage) (WasKept true, change c m m.sub
   where
     go : (s : Subchannel) → NoneGainsCheck m (change c m s)
     go Idle = none_changed m
-    go (Working d s) = none_changed m
-    go (Pending p csw) = none_changed m
+    go s = none_changed m
 
 -- of the run of the program that runs
 run_calm : (m : Machine) (d : ℕ) (s : Script) (k : ℕ) (v : Device) → device_at m d ≡ Some v → IsRunning (Some (run s (start_of m v.drive))) → OutcomeFor v.drive (run_of m d (s ++ units k))
@@ -181,8 +177,7 @@ stand_calm m d s v at r = subst (OutcomeFor v.drive) (sym (run_at m d v s at)) (
 -- by the subchannel
 start_io_calm : (m : Machine) (d : ℕ) (c : Subchannel) → Calm m (start_io d m c)
 start_io_calm m d Idle = start_calm m d (device_at m d) refl
-start_io_calm m d (Working p s) = (tt, none_changed m)
-start_io_calm m d (Pending p csw) = (tt, none_changed m)
+start_io_calm m d c = (tt, none_changed m)
 
 test_io_calm : (m : Machine) (d : ℕ) (c : Subchannel) → Calm m (test_io d m c)
 test_io_calm m d Idle = test_calm m d (device_at m d)
@@ -195,9 +190,8 @@ halt_io_calm m d (Pending p csw) r = (tt, none_changed m)
 halt_io_calm m d (Working p s) r = let v = working_device m p s (device_at m p) refl r in (tt, cut_calm m p v.0 v.1 (run_of m p s) (stand_calm m p s v.0 v.1 v.2))
 
 stepping_calm : (m : Machine) (k : ℕ) (c : Subchannel) → Runs m c → Calm m (step k None m c)
-stepping_calm m k Idle r = (tt, none_changed m)
-stepping_calm m k (Pending p csw) r = (tt, none_changed m)
 stepping_calm m k (Working d s) r = let v = working_device m d s (device_at m d) refl r in step_calm m d s k v.0 v.1 (run_of m d (s ++ units k)) (run_calm m d s k v.0 v.1 v.2)
+stepping_calm m k c r = (tt, none_changed m)
 
 interrupt_calm : (m : Machine) (c : Subchannel) → Calm m (interrupt m c)
 interrupt_calm m Idle = interrupts_calm m (lowest (filter has_arrived m.devices))
@@ -205,9 +199,8 @@ interrupt_calm m (Working d s) = asks_calm m d s (asked_by (run_of m d s))
 interrupt_calm m (Pending p csw) = (tt, none_changed m)
 
 reset_calm : (m : Machine) (c : Subchannel) → Runs m c → Calm m (reset None m c)
-reset_calm m Idle r = (refl, rests_calm m m)
-reset_calm m (Pending p csw) r = (refl, rests_calm m m)
 reset_calm m (Working d s) r = let v = working_device m d s (device_at m d) refl r in (told_calm m d v.0 (run_of m d s) (stand_calm m d s v.0 v.1 v.2), rests_calm m (cut None d m (run_of m d s)))
+reset_calm m c r = (refl, rests_calm m m)
 
 pub no_fault_none_told : NoFaultNoneTold
 no_fault_none_told m (Sio a) r = on_this m a _ (start_io_calm m (a % 256) m.subchannel)
@@ -258,6 +251,5 @@ reset_tells_written m x track h = go m.subchannel refl h
     by_device d s is (Some v) at h = by_caw d s v is at (caw_of (start_of m v.drive).caw) h
 
     go : (c : Subchannel) → m.subchannel ≡ c → (react Reset x (record m { subchannel = c })).0 ≡ WasReset (Some track) → HadWritten m
-    go Idle is h = absurd (cc)
-    go (Pending p csw) is h = absurd (cc)
     go (Working d s) is h = by_device d s is (device_at m d) refl h
+    go c is h = absurd (cc)

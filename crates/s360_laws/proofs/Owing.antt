@@ -80,8 +80,7 @@ arrival_owes m d u v at h =
   where
     moves : (arm : Arm) → is_in_motion arm ≡ true → 1 ≡ arm_owes arm
     moves InMotion h = refl
-    moves AtRest h = absurd (cc)
-    moves Arrived h = absurd (cc)
+    moves arm h = absurd (cc)
 
 pub arrival_rest : (m : Machine) (c : Subchannel) (d : ℕ) (v : Device) → device_at m d ≡ Some v → is_in_motion v.arm ≡ true → Rest m c → Rest (with_arm Arrived d m) c
 arrival_rest m Idle d v at h r = tt
@@ -91,8 +90,7 @@ arrival_rest m (Pending p csw) d v at h r = (r.0, ap (λ n. cond (tells csw.unit
 -- an arrival that moves nothing
 same_rest : (m : Machine) (c : Subchannel) (a : ℕ) (x : Option FaultAfter) → AreDistinct m.devices → Rest m c → Fine (record m { subchannel = c }) (Arrive a) x (HasArrived false, record m { subchannel = c })
 same_rest m Idle a x ds r = (ds, r, λ u. nothing _ _)
-same_rest m (Working p s) a x ds r = (ds, r, λ u. nothing _ _)
-same_rest m (Pending p csw) a x ds r = (ds, r, λ u. nothing _ _)
+same_rest m c a x ds r = (ds, r, λ u. nothing _ _)
 
 pub arrive_fine : (m : Machine) (c : Subchannel) (a d : ℕ) (x : Option FaultAfter) (y : Option Device) → device_at m d ≡ y → AreDistinct m.devices → Rest m c → Fine (record m { subchannel = c }) (Arrive a) x (arrive d (record m { subchannel = c }) y)
 arrive_fine m c a d x None at ds r = same_rest m c a x ds r

@@ -11,8 +11,7 @@ use Rattle.s360_laws.specs.Machine.{Machine, Subchannel, react, Idle, Working, P
 use Rattle.s360_laws.specs.declared.arm.Arm.{Arm}
 use Rattle.s360_laws.specs.declared.arm.Arm.TheVariants.{InMotion, Arrived, AtRest}
 use Rattle.s360_laws.proofs.SeenDevices.{Good}
-use Rattle.s360_laws.proofs.SerialIdle.{idle_good}
-use Rattle.s360_laws.proofs.SerialPending.{pending_good}
+use Rattle.s360_laws.proofs.SerialIdle.{pending_good, idle_good}
 use Rattle.s360_laws.proofs.SerialWorking.{working_good}
 use Rattle.s360_laws.proofs.Shapes.{idle, pending}
 
@@ -35,15 +34,12 @@ module _ (x : Option FaultAfter) (m : Machine) where
   calm_start a device (Some u) = go u.arm
     where
       started_calm : (f : First) → Calm (Sio a) x (started device (idle m) f)
-      started_calm BadStart = record { none_ahead = λ rest h. h refl }
-      started_calm (RejectedStart d) = record { none_ahead = λ rest h. h refl }
-      started_calm (ImmediateStart e) = record { none_ahead = λ rest h. h refl }
       started_calm AcceptedStart = record { none_ahead = λ rest h. refl }
+      started_calm f = record { none_ahead = λ rest h. h refl }
 
       go : (arm : Arm) → Calm (Sio a) x (start_device device (idle m) (Some (record u { arm = arm })))
-      go InMotion = record { none_ahead = λ rest h. h refl }
-      go Arrived = record { none_ahead = λ rest h. h refl }
       go AtRest = started_calm (first (start_of m u.drive))
+      go arm = record { none_ahead = λ rest h. h refl }
 
   calm_test : (a device : ℕ) (y : Option Device) → Calm (Tio a) x (test_device device (idle m) y)
   calm_test a device None = record { none_ahead = λ rest h. h refl }
@@ -51,8 +47,7 @@ module _ (x : Option FaultAfter) (m : Machine) where
     where
       go : (arm : Arm) → Calm (Tio a) x (test_device device (idle m) (Some (record u { arm = arm })))
       go InMotion = record { none_ahead = λ rest h. h refl }
-      go Arrived = record { none_ahead = λ rest h. h refl }
-      go AtRest = record { none_ahead = λ rest h. h refl }
+      go arm = record { none_ahead = λ rest h. h refl }
 
   calm_arrive : (a device : ℕ) (c : Subchannel) (y : Option Device) → is_working c ≡ false → Calm (Arrive a) x (arrive device (record m { subchannel = c }) y)
   calm_arrive a device c None w = record { none_ahead = λ rest h. h w }
@@ -66,27 +61,24 @@ module _ (x : Option FaultAfter) (m : Machine) where
   calm_idle (Sio a) = either_calm (a / 256 == m.channel) (calm_start a (a % 256) (device_at m (a % 256))) (record { none_ahead = λ rest h. h refl })
   calm_idle (Tio a) = either_calm (a / 256 == m.channel) (calm_test a (a % 256) (device_at m (a % 256))) (record { none_ahead = λ rest h. h refl })
   calm_idle (Hio a) = either_calm (a / 256 == m.channel) (either_calm (is_some (device_at m (a % 256))) (record { none_ahead = λ rest h. h refl }) (record { none_ahead = λ rest h. h refl })) (record { none_ahead = λ rest h. h refl })
-  calm_idle Tch = record { none_ahead = λ rest h. h refl }
   calm_idle (StepBy k) = record { none_ahead = λ rest h. zero-add (units_ahead rest) ∙ h refl }
   calm_idle (Arrive a) = either_calm (a / 256 == m.channel) (calm_arrive a (a % 256) Idle (device_at m (a % 256)) refl) (record { none_ahead = λ rest h. h refl })
   calm_idle Interrupt = calm_device (lowest (filter has_arrived m.devices))
   calm_idle Reset = record { none_ahead = λ rest h. refl }
   calm_idle (Store at bytes) = either_calm (is_within (Bytes at bytes) m.storage) (record { none_ahead = λ rest h. h refl }) (record { none_ahead = λ rest h. h refl })
   calm_idle (SetKey at key) = either_calm (is_within (KeyOf at key) m.storage) (record { none_ahead = λ rest h. h refl }) (record { none_ahead = λ rest h. h refl })
-  calm_idle (Show at len) = record { none_ahead = λ rest h. h refl }
+  calm_idle e = record { none_ahead = λ rest h. h refl }
 
   calm_pending : (p : ℕ) (csw : Csw) (e : Event) → Calm e x (react e x (pending m p csw))
   calm_pending p csw (Sio a) = either_calm (a / 256 == m.channel) (record { none_ahead = λ rest h. h refl }) (record { none_ahead = λ rest h. h refl })
   calm_pending p csw (Tio a) = either_calm (a / 256 == m.channel) (either_calm (a % 256 == p) (record { none_ahead = λ rest h. h refl }) (record { none_ahead = λ rest h. h refl })) (record { none_ahead = λ rest h. h refl })
   calm_pending p csw (Hio a) = either_calm (a / 256 == m.channel) (record { none_ahead = λ rest h. h refl }) (record { none_ahead = λ rest h. h refl })
-  calm_pending p csw Tch = record { none_ahead = λ rest h. h refl }
   calm_pending p csw (StepBy k) = record { none_ahead = λ rest h. zero-add (units_ahead rest) ∙ h refl }
   calm_pending p csw (Arrive a) = either_calm (a / 256 == m.channel) (calm_arrive a (a % 256) (Pending p csw) (device_at m (a % 256)) refl) (record { none_ahead = λ rest h. h refl })
-  calm_pending p csw Interrupt = record { none_ahead = λ rest h. h refl }
   calm_pending p csw Reset = record { none_ahead = λ rest h. refl }
   calm_pending p csw (Store at bytes) = either_calm (is_within (Bytes at bytes) m.storage) (record { none_ahead = λ rest h. h refl }) (record { none_ahead = λ rest h. h refl })
   calm_pending p csw (SetKey at key) = either_calm (is_within (KeyOf at key) m.storage) (record { none_ahead = λ rest h. h refl }) (record { none_ahead = λ rest h. h refl })
-  calm_pending p csw (Show at len) = record { none_ahead = λ rest h. h refl }
+  calm_pending p csw e = record { none_ahead = λ rest h. h refl }
 
 calm : (m : Machine) (c : Subchannel) (e : Event) (x : Option FaultAfter) → is_working c ≡ false → Calm e x (react e x (record m { subchannel = c }))
 calm m Idle e x w = calm_idle x m e
@@ -98,9 +90,8 @@ quiet [] m w = refl
 quiet (e ∷ es) m w = (calm m m.subchannel e.0 e.1 w).none_ahead (exchanges es (react e.0 e.1 m).1) (λ q. quiet es (react e.0 e.1 m).1 q)
 
 nothing_told : (m : Machine) (c : Subchannel) → is_working c ≡ false → world_of m ≡ history (world_of m) (begun_act c [] ++ [])
-nothing_told m Idle w = refl
 nothing_told m (Working d s) w = cc
-nothing_told m (Pending p csw) w = refl
+nothing_told m c w = refl
 
 pub serial : IsSerial
 serial m [] r w = nothing_told m m.subchannel w

@@ -1,4 +1,4 @@
--- What an idle machine does, the serial history does.
+-- What a machine does where no program runs, the serial history does.
 use Rattle.std.proofs.Common.{◌≡◌, ℕ, ◌/◌, ◌%◌, refl, sym, ap, subst, ◌∙◌, ◌==◌, List, [], ◌∷◌, ◌++◌, map, Option, Some, None, ◌⊎◌, inl, inr}
 use Rattle.std.specs.Prelude.{option_map, is_some, filter}
 use Rattle.s360_words.specs.Storage.{status_stored, Bytes, KeyOf, csw_stored, is_within}
@@ -17,7 +17,7 @@ use Rattle.s360_laws.specs.Soundness.{IsRunning}
 use Rattle.s360_laws.specs.declared.arm.Arm.{Arm}
 use Rattle.s360_laws.specs.declared.arm.Arm.TheVariants.{AtRest, InMotion, Arrived}
 use Rattle.s360_laws.proofs.SeenDevices.{Good, with_world, arms, seen, found, same_after, drives, ends, own, rests, either_good}
-use Rattle.s360_laws.proofs.Shapes.{idle}
+use Rattle.s360_laws.proofs.Shapes.{idle, pending}
 
 -- Idle.
 
@@ -26,9 +26,8 @@ idle_test a device x m None = record { runs = tt; follows = λ ahead q. refl }
 idle_test a device x m (Some u) = go u.arm
   where
     go : (arm : Arm) → Good (idle m) (Tio a) x (test_device device (idle m) (Some (record u { arm = arm })))
-    go AtRest = record { runs = tt; follows = λ ahead q. refl }
-    go InMotion = record { runs = tt; follows = λ ahead q. refl }
     go Arrived = record { runs = tt; follows = λ ahead q. ap (λ ds. history (with_world (world_of (with_csw (csw_of_unit DEVICE_END) (idle m))) ds) (acts ahead)) (arms AtRest device m.devices) }
+    go arm = record { runs = tt; follows = λ ahead q. refl }
 
 pub arrival : (a device : ℕ) (x : Option FaultAfter) (m : Machine) (u : Option Device) → Good (idle m) (Arrive a) x (arrive device (idle m) u)
 arrival a device x m None = record { runs = tt; follows = λ ahead q. refl }
@@ -93,11 +92,27 @@ pub idle_good : (m : Machine) (e : Event) (x : Option FaultAfter) → Good (idle
 idle_good m (Sio a) x = either_good (a / 256 == m.channel) (start_good a x m (device_at m (a % 256)) refl) (record { runs = tt; follows = λ ahead q. refl })
 idle_good m (Tio a) x = either_good (a / 256 == m.channel) (idle_test a (a % 256) x m (device_at m (a % 256))) (record { runs = tt; follows = λ ahead q. refl })
 idle_good m (Hio a) x = either_good (a / 256 == m.channel) (either_good (is_some (device_at m (a % 256))) (record { runs = tt; follows = λ ahead q. refl }) (record { runs = tt; follows = λ ahead q. refl })) (record { runs = tt; follows = λ ahead q. refl })
-idle_good m Tch x = record { runs = tt; follows = λ ahead q. refl }
-idle_good m (StepBy k) x = record { runs = tt; follows = λ ahead q. refl }
 idle_good m (Arrive a) x = either_good (a / 256 == m.channel) (arrival a (a % 256) x m (device_at m (a % 256))) (record { runs = tt; follows = λ ahead q. refl })
 idle_good m Interrupt x = device_end x m (lowest (filter has_arrived m.devices))
 idle_good m Reset x = record { runs = tt; follows = λ ahead q. clear m ahead }
 idle_good m (Store at bytes) x = either_good (is_within (Bytes at bytes) m.storage) (record { runs = tt; follows = λ ahead q. own ahead (Bytes at bytes) (world_of m) (q refl) }) (record { runs = tt; follows = λ ahead q. refl })
 idle_good m (SetKey at key) x = either_good (is_within (KeyOf at key) m.storage) (record { runs = tt; follows = λ ahead q. own ahead (KeyOf at key) (world_of m) (q refl) }) (record { runs = tt; follows = λ ahead q. refl })
-idle_good m (Show at len) x = record { runs = tt; follows = λ ahead q. refl }
+idle_good m e x = record { runs = tt; follows = λ ahead q. refl }
+
+-- Pending.
+
+module _ (m : Machine) (p : ℕ) (csw : Csw) (x : Option FaultAfter) where
+  arrives : (a d : ℕ) (u : Option Device) → Good (pending m p csw) (Arrive a) x (arrive d (pending m p csw) u)
+  arrives a d None = record { runs = tt; follows = λ ahead q. refl }
+  arrives a d (Some u) = either_good (is_in_motion u.arm) (record { runs = tt; follows = λ ahead q. ap (λ ds. history (with_world (world_of m) ds) (acts ahead)) (arms Arrived d m.devices) }) (record { runs = tt; follows = λ ahead q. refl })
+
+  pub pending_good : (e : Event) → Good (pending m p csw) e x (react e x (pending m p csw))
+  pending_good (Sio a) = either_good (a / 256 == m.channel) (record { runs = tt; follows = λ ahead q. refl }) (record { runs = tt; follows = λ ahead q. refl })
+  pending_good (Tio a) = either_good (a / 256 == m.channel) (either_good (a % 256 == p) (record { runs = tt; follows = λ ahead q. refl }) (record { runs = tt; follows = λ ahead q. refl })) (record { runs = tt; follows = λ ahead q. refl })
+  pending_good (Hio a) = either_good (a / 256 == m.channel) (record { runs = tt; follows = λ ahead q. refl }) (record { runs = tt; follows = λ ahead q. refl })
+  pending_good (Arrive a) = either_good (a / 256 == m.channel) (arrives a (a % 256) (device_at m (a % 256))) (record { runs = tt; follows = λ ahead q. refl })
+  pending_good Interrupt = record { runs = tt; follows = λ ahead q. own ahead (csw_stored csw) (world_of m) (q refl) }
+  pending_good Reset = record { runs = tt; follows = λ ahead q. clear m ahead }
+  pending_good (Store at bytes) = either_good (is_within (Bytes at bytes) m.storage) (record { runs = tt; follows = λ ahead q. own ahead (Bytes at bytes) (world_of m) (q refl) }) (record { runs = tt; follows = λ ahead q. refl })
+  pending_good (SetKey at key) = either_good (is_within (KeyOf at key) m.storage) (record { runs = tt; follows = λ ahead q. own ahead (KeyOf at key) (world_of m) (q refl) }) (record { runs = tt; follows = λ ahead q. refl })
+  pending_good e = record { runs = tt; follows = λ ahead q. refl }

@@ -175,11 +175,10 @@ module _ (x : Option FaultAfter) (m : Machine) (d : ℕ) (s : Script) (r : IsRun
   working_good (Sio a) = either_good (a / 256 == m.channel) (record { runs = r; follows = λ ahead q. nothing_good ahead }) (record { runs = r; follows = λ ahead q. nothing_good ahead })
   working_good (Tio a) = either_good (a / 256 == m.channel) (record { runs = r; follows = λ ahead q. nothing_good ahead }) (record { runs = r; follows = λ ahead q. nothing_good ahead })
   working_good (Hio a) = either_good (a / 256 == m.channel) (working_hio a) (record { runs = r; follows = λ ahead q. nothing_good ahead })
-  working_good Tch = record { runs = r; follows = λ ahead q. nothing_good ahead }
   working_good (StepBy k) = working_step k
   working_good (Arrive a) = either_good (a / 256 == m.channel) (working_arrive a (a % 256) (device_at m (a % 256))) (record { runs = r; follows = λ ahead q. nothing_good ahead })
   working_good Interrupt = working_interrupt (asked_by (run_of m d s))
   working_good Reset = working_reset
   working_good (Store at bytes) = let g = working_change (Outside (Bytes at bytes) ∷ []) (Bytes at bytes) (λ key g. later_change key (Bytes at bytes) g) in either_good (is_within (Bytes at bytes) m.storage) (record { runs = g.0; follows = λ ahead q. g.1 ahead }) (record { runs = r; follows = λ ahead q. nothing_good ahead })
   working_good (SetKey at key) = let g = working_change (Outside (KeyOf at key) ∷ []) (KeyOf at key) (λ k g. later_change k (KeyOf at key) g) in either_good (is_within (KeyOf at key) m.storage) (record { runs = g.0; follows = λ ahead q. g.1 ahead }) (record { runs = r; follows = λ ahead q. nothing_good ahead })
-  working_good (Show at len) = record { runs = r; follows = λ ahead q. nothing_good ahead }
+  working_good e = record { runs = r; follows = λ ahead q. nothing_good ahead }

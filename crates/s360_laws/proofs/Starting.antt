@@ -18,9 +18,8 @@ pub no_start_while_working : NoStartWhileWorking
 no_start_while_working m h a x = go m.subchannel h
   where
     go : (c : Subchannel) → is_working c ≡ true → ◌≡◌ {A = Answer × Machine} (react (Sio a) x (record m { subchannel = c })) (WithCode (cond (a / 256 == m.channel) Two Three), record m { subchannel = c })
-    go Idle h = absurd (cc)
     go (Working d s) h = no_start (a / 256 == m.channel) (working m d s)
-    go (Pending p csw) h = absurd (cc)
+    go c h = absurd (cc)
 
 -- where the channel is not idle, no start is accepted
 not_accepted : (a v : ℕ) (x : Option FaultAfter) (b : Bool) (m : Machine) → is_accepted v (Sio a, x, (cond {A = Answer × Machine} b (WithCode Two, m) (WithCode Three, m)).0) ≡ false
@@ -30,16 +29,7 @@ not_accepted a v x b m = cond_both {A = Answer × Machine} b (WithCode Two, m) (
 refused : (e : Event) (x : Option FaultAfter) (v : ℕ) (m : Machine) (c : Subchannel) → ((a : ℕ) → ◌≡◌ {A = Answer × Machine} (start_io (a % 256) (record m { subchannel = c }) c) (WithCode Two, record m { subchannel = c }))
     → is_accepted v (e, x, (react e x (record m { subchannel = c })).0) ≡ false
 refused (Sio a) x v m c h = ap (λ r. is_accepted v (Sio a, x, (cond {A = Answer × Machine} (a / 256 == m.channel) r (WithCode Three, record m { subchannel = c })).0)) (h a) ∙ not_accepted a v x (a / 256 == m.channel) (record m { subchannel = c })
-refused (Tio a) x v m c h = refl
-refused (Hio a) x v m c h = refl
-refused Tch x v m c h = refl
-refused (StepBy k) x v m c h = refl
-refused (Arrive a) x v m c h = refl
-refused Interrupt x v m c h = refl
-refused Reset x v m c h = refl
-refused (Store at bytes) x v m c h = refl
-refused (SetKey at key) x v m c h = refl
-refused (Show at len) x v m c h = refl
+refused e x v m c h = refl
 
 accepted_idle : (m : Machine) (e : Event) (x : Option FaultAfter) (v : ℕ) → is_accepted v (e, x, (react e x m).0) ≡ true → m.subchannel ≡ Idle
 accepted_idle m e x v h = go m.subchannel h

@@ -76,9 +76,8 @@ joined_first m d s j k x v at (Some (NotEnded st)) h =
     (y.0 ∙ ap (λ r. r.1) q, sym (ap (λ r. r.0) q) ∙ y.1)
 
 joined : (m : Machine) (c : Subchannel) (j k : ℕ) (x : Option FaultAfter) → Runs m c → Joined (record m { subchannel = c }) j k x (react (StepBy j) None (record m { subchannel = c }))
-joined m Idle j k x r = (refl, refl)
-joined m (Pending p csw) j k x r = (refl, refl)
 joined m (Working d s) j k x r = let v = working_device m d s (device_at m d) refl r in joined_first m d s j k x v.0 v.1 (run_of m d (s ++ units j)) refl
+joined m c j k x r = (refl, refl)
 
 pub joins : StepsJoin
 joins m j k x r = joined m m.subchannel j k x r
@@ -86,14 +85,12 @@ joins m j k x r = joined m m.subchannel j k x r
 -- Lists of steps.
 
 none_first : (m : Machine) (d : ℕ) (s : Script) → (o : Option Outcome) → IsRunning o → (working m d s ≡ (stepped d s 0 (working m d s) o).1) × ((stepped d s 0 (working m d s) o).0 ≡ Stepped 0)
-none_first m d s None r = absurd r
-none_first m d s (Some (Ended u st e)) r = absurd r
 none_first m d s (Some (NotEnded st)) r = (ap (working m d) (sym (append-nil s)), refl)
+none_first m d s o r = absurd r
 
 no_step : (m : Machine) (c : Subchannel) → Runs m c → (record m { subchannel = c } ≡ (react (StepBy 0) None (record m { subchannel = c })).1) × ((react (StepBy 0) None (record m { subchannel = c })).0 ≡ Stepped 0)
-no_step m Idle r = (refl, refl)
-no_step m (Pending p csw) r = (refl, refl)
 no_step m (Working d s) r = none_first m d s (run_of m d (s ++ [])) (subst (λ l. IsRunning (run_of m d l)) (sym (append-nil s)) r)
+no_step m c r = (refl, refl)
 
 pub splits : StepsSplit
 splits m [] r = no_step m m.subchannel r
@@ -124,9 +121,8 @@ pub steps_at_most : StepsAtMost
 steps_at_most m k x r = go m.subchannel r
   where
     go : (c : Subchannel) → Runs m c → AtMost k (react (StepBy k) x (record m { subchannel = c }))
-    go Idle r = (omega arith, λ w. absurd (cc))
-    go (Pending p csw) r = (omega arith, λ w. absurd (cc))
     go (Working d s) r =
         let v = working_device m d s (device_at m d) refl r in
         subst (λ o. AtMost k (stepped d s k (working m d s) o)) (sym (run_at m d v.0 (s ++ units_with k x) v.1))
         (most_stepped m d s k x v.0 v.2 (run (s ++ units_with k x) (start_of m v.0.drive)) refl)
+    go c r = (omega arith, λ w. absurd (cc))
