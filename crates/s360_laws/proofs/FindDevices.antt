@@ -1,6 +1,6 @@
 -- Numbers, tests and devices that are found by their addresses.
 use Rattle.std.proofs.Common.{subst, ◌≡◌, ℕ, ◌+◌, ◌*◌, refl, sym, ap, ◌∙◌, arith, true, false, Bool, cond, ◌==◌, List, [], ◌∷◌, map, Option, Some, None}
-use Rattle.std.proofs.lemmas.Bool.{ne_eqb, eq-eqb, eqb-true, eqb-false}
+use Rattle.std.proofs.lemmas.Bool.{ne_eqb, eq-eqb, eqb-true, eqb-false, cond_both, cond-true, cond-false}
 use Rattle.std.specs.Prelude.{find, option_map}
 use Rattle.ckd_command.specs.Drive.{IdleDrive}
 use Rattle.s360_laws.specs.Machine.{Device, Machine, address_of, device_at}
@@ -27,11 +27,7 @@ Has p (Some v) = p v ≡ true
 
 pub has_found : (p : Device → Bool) (vs : List Device) → Has p (find p vs)
 has_found p [] = tt
-has_found p (v ∷ vs) = go (p v) refl (has_found p vs)
-  where
-    go : (b : Bool) → p v ≡ b → Has p (find p vs) → Has p (cond b (Some v) (find p vs))
-    go true h k = h
-    go false h k = k
+has_found p (v ∷ vs) = cond_both (p v) (Some v) (find p vs) (Has p) (λ e. e) (λ e. has_found p vs)
 
 pub found_same : (n d : ℕ) (vs : List Device) → find (λ v. 256 * n + v.device == 256 * n + d) vs ≡ find (λ v. v.device == d) vs
 found_same n d [] = refl
@@ -64,11 +60,7 @@ abbrev pub set_drive : IdleDrive → Device → Device
 set_drive d v = record v { drive = d }
 
 pub keeps_one : (d : ℕ) (f : Device → Device) → Keeps f → Keeps (λ v. cond (v.device == d) (f v) v)
-keeps_one d f k v = go (v.device == d)
-  where
-    go : (b : Bool) → (cond b (f v) v).device ≡ v.device
-    go true = k v
-    go false = refl
+keeps_one d f k v = cond_both (v.device == d) (f v) v (λ w. w.device ≡ v.device) (λ e. k v) (λ e. refl)
 
 -- the device that is changed
 pub changed_device : (d : ℕ) (f : Device → Device) → Keeps f → (vs : List Device) (v : Device) → find (λ w. w.device == d) vs ≡ Some v
@@ -83,27 +75,19 @@ pub device_after : (n d u : ℕ) (f : Device → Device) → Keeps f → (vs : L
     ≡ cond (256 * n + d == u) (option_map f (find (λ v. 256 * n + v.device == u) vs)) (find (λ v. 256 * n + v.device == u) vs)
 device_after n d u f k vs = found_map (λ d. 256 * n + d == u) _ (keeps_one d f k) vs ∙ go (find (λ v. 256 * n + v.device == u) vs) (has_found (λ v. 256 * n + v.device == u) vs)
   where
-    same_test : (v : Device) → (256 * n + v.device == u) ≡ true → (v.device == d) ≡ (256 * n + d == u)
-    same_test v h = sym (add_same n v.device d) ∙ ap (λ k. k == 256 * n + d) (eqb-true _ _ h) ∙ turn u (256 * n + d)
-      where
-        turn : (a b : ℕ) → (a == b) ≡ (b == a)
-        turn a b = go (b == a) refl
-          where
-            go : (c : Bool) → (b == a) ≡ c → (a == b) ≡ c
-            go true h = eq-eqb _ _ (sym (eqb-true b a h))
-            go false h = different _ _ (λ e. eqb-false b a h (sym e))
-
-    both : (b : Bool) (x y : Device) → Some (cond b x y) ≡ cond b (Some x) (Some y)
-    both true x y = refl
-    both false x y = refl
-
-    none : (b : Bool) → ◌≡◌ {A = Option Device} None (cond b None None)
-    none true = refl
-    none false = refl
-
     go : (x : Option Device) → Has (λ v. 256 * n + v.device == u) x → option_map (λ v. cond (v.device == d) (f v) v) x ≡ cond (256 * n + d == u) (option_map f x) x
-    go None h = none (256 * n + d == u)
-    go (Some v) h = ap (λ b. Some (cond b (f v) v)) (same_test v h) ∙ both (256 * n + d == u) (f v) v
+    go None h = cond_both (256 * n + d == u) None None (λ y. None ≡ y) (λ e. refl) (λ e. refl)
+    go (Some v) h = cond_both (256 * n + d == u) (Some (f v)) (Some v) (λ y. Some (cond (v.device == d) (f v) v) ≡ y) here there
+      where
+        here : (256 * n + d == u) ≡ true → Some (cond (v.device == d) (f v) v) ≡ Some (f v)
+        here e =
+            let one = eqb-true (256 * n + d) u e in
+            let two = eqb-true (256 * n + v.device) u h in
+            let same : v.device ≡ d = omega arith in
+            ap Some (cond-true (v.device == d) (f v) v (eq-eqb _ _ same))
+
+        there : (256 * n + d == u) ≡ false → Some (cond (v.device == d) (f v) v) ≡ Some v
+        there e = ap Some (cond-false (v.device == d) (f v) v (ne_eqb _ _ (λ k. eqb-false (256 * n + d) u e (ap (λ k. 256 * n + k) (sym k) ∙ eqb-true _ _ h))))
 
 -- the device at an address, by the low byte of it
 pub at_device : (m : Machine) (d u : ℕ) (y : Option Device) → address_of m d ≡ u → device_at m d ≡ y → device_for m u ≡ y

@@ -42,17 +42,14 @@ same_devices x d e h k = subst (λ e. GainsNoCheck d.drive e.drive) (the_device 
 -- where one device is changed, and gains nothing
 one_changed : (m : Machine) (d : ℕ) (f : Device → Device) → Keeps f → ((v : Device) → device_at m d ≡ Some v → GainsNoCheck v.drive (f v).drive)
     → (n : ℕ) → Quietly (device_at m n) (find (λ w. w.device == n) (map (λ w. cond (w.device == d) (f w) w) m.devices))
-one_changed m d f k h n v e at after = subst (λ e. GainsNoCheck v.drive e.drive) changed (go (v.device == d) refl)
+one_changed m d f k h n v e at after = subst (λ e. GainsNoCheck v.drive e.drive) changed
+    (cond_both (v.device == d) (f v) v (λ w. GainsNoCheck v.drive w.drive) (λ e. h v (subst (λ n. device_at m n ≡ Some v) (sym (eqb-true v.device n is_n) ∙ eqb-true v.device d e) at)) (λ e q. q))
   where
     changed : cond (v.device == d) (f v) v ≡ e
     changed = the_device _ _ (sym (ap (option_map (λ w. cond (w.device == d) (f w) w)) at) ∙ sym (found_map (λ b. b == n) _ (keeps_one d f k) m.devices) ∙ after)
 
     is_n : (v.device == n) ≡ true
     is_n = subst (Has (λ w. w.device == n)) at (has_found (λ w. w.device == n) m.devices)
-
-    go : (b : Bool) → (v.device == d) ≡ b → GainsNoCheck v.drive (cond b (f v) v).drive
-    go true e = h v (subst (λ n. device_at m n ≡ Some v) (sym (eqb-true v.device n is_n) ∙ eqb-true v.device d e) at)
-    go false e = λ q. q
 
 abbrev Calm : Machine → Answer × Machine → Type 0
 Calm m r = TellsNoTrack r.0 × NoneGainsCheck m r.1

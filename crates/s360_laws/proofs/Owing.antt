@@ -94,13 +94,9 @@ same_rest m c a x ds r = (ds, r, λ u. nothing _ _)
 
 pub arrive_fine : (m : Machine) (c : Subchannel) (a d : ℕ) (x : Option FaultAfter) (y : Option Device) → device_at m d ≡ y → AreDistinct m.devices → Rest m c → Fine (record m { subchannel = c }) (Arrive a) x (arrive d (record m { subchannel = c }) y)
 arrive_fine m c a d x None at ds r = same_rest m c a x ds r
-arrive_fine m c a d x (Some v) at ds r = go (is_in_motion v.arm) refl
+arrive_fine m c a d x (Some v) at ds r = either_fine (record m { subchannel = c }) (Arrive a) x (is_in_motion v.arm) _ _ (λ h. (distinct_arm m Arrived d ds, arrival_rest m c d v at h r, λ u. (zero-add _, zero-add _ ∙ owes h u c, λ b. absurd (cc)))) (same_rest m c a x ds r)
   where
-    go : (b : Bool) → is_in_motion v.arm ≡ b → Fine (record m { subchannel = c }) (Arrive a) x (cond b (HasArrived true, with_arm Arrived d (record m { subchannel = c })) (HasArrived false, record m { subchannel = c }))
-    go false h = same_rest m c a x ds r
-    go true h = (distinct_arm m Arrived d ds, arrival_rest m c d v at h r, λ u. (zero-add _, zero-add _ ∙ owes u c, λ b. absurd (cc)))
-      where
-        owes : (u : ℕ) (c : Subchannel) → channel_owes DEVICE_END u (with_arm Arrived d m) c + device_owes (device_for (with_arm Arrived d m) u) ≡ channel_owes DEVICE_END u m c + device_owes (device_for m u)
-        owes u Idle = ap (λ n. 0 + n) (arrival_owes m d u v at h)
-        owes u (Working p s) = ap (λ n. cond (address_of m p == u) 1 0 + n) (arrival_owes m d u v at h)
-        owes u (Pending p csw) = ap (λ n. cond (address_of m p == u && tells csw.unit DEVICE_END) 1 0 + n) (arrival_owes m d u v at h)
+    owes : is_in_motion v.arm ≡ true → (u : ℕ) (c : Subchannel) → channel_owes DEVICE_END u (with_arm Arrived d m) c + device_owes (device_for (with_arm Arrived d m) u) ≡ channel_owes DEVICE_END u m c + device_owes (device_for m u)
+    owes h u Idle = ap (λ n. 0 + n) (arrival_owes m d u v at h)
+    owes h u (Working p s) = ap (λ n. cond (address_of m p == u) 1 0 + n) (arrival_owes m d u v at h)
+    owes h u (Pending p csw) = ap (λ n. cond (address_of m p == u && tells csw.unit DEVICE_END) 1 0 + n) (arrival_owes m d u v at h)

@@ -1,5 +1,6 @@
 -- Each ending has channel end, and device end unless the arm still moves.
 use Rattle.std.proofs.Common.{◌≡◌, ℕ, refl, subst, true, false, Bool, cond, [], Option, Some, None}
+use Rattle.std.proofs.lemmas.Bool.{cond_both}
 use Rattle.s360_words.specs.Words.{caw_of}
 use Rattle.s360_words.specs.declared.flags.ChannelStatus.{ChannelStatus}
 use Rattle.s360_words.specs.declared.flags.TheConstants.ChannelStatus.{PROGRAM_CHECK, PROGRAM_CONTROLLED_INTERRUPTION}
@@ -66,11 +67,7 @@ RunGood (NotEnded s) = StandingGood s
 
 -- the CSW of an interruption that is asked for has no unit status
 asked_at : (key : ℕ) (p : Place) → AsksGood (cond p.interruption (Some (csw_at key p no_unit_status PROGRAM_CONTROLLED_INTERRUPTION)) None)
-asked_at key p = go p.interruption
-  where
-    go : (b : Bool) → AsksGood (cond b (Some (csw_at key p no_unit_status PROGRAM_CONTROLLED_INTERRUPTION)) None)
-    go true = refl
-    go false = tt
+asked_at key p = cond_both p.interruption (Some (csw_at key p no_unit_status PROGRAM_CONTROLLED_INTERRUPTION)) None AsksGood (λ e. refl) (λ e. tt)
 
 asks_good : (key : ℕ) (g : ProgramPhase) → AsksGood (standing_in key g).interruption
 asks_good key (Between p) = asked_at key p.place

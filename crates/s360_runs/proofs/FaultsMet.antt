@@ -299,12 +299,12 @@ fault_ends_unit LoadFails key g = by_load key g
 fault_ends_unit (SaveFails left) key g = let h = by_save left key g in record { met = h.0; not_met = h.1 }
 
 -- met or not
+met_or_not : {P Q : Type 0} (b : Bool) → (b ≡ true → P) → (b ≡ false → Q) → Q ⊎ P
+met_or_not true met not_met = inr (met refl)
+met_or_not false met not_met = inl (not_met refl)
+
 pub fault_or_not : (f : Fault) (key : ℕ) (g : ProgramPhase) → (unit (Some f) key g ≡ unit None key g) ⊎ NextByFault f key g (unit (Some f) key g)
-fault_or_not f key g = go (meets f key g) refl
-  where
-    go : (b : Bool) → meets f key g ≡ b → (unit (Some f) key g ≡ unit None key g) ⊎ NextByFault f key g (unit (Some f) key g)
-    go true h = inr ((fault_ends_unit f key g).met h)
-    go false h = inl ((fault_ends_unit f key g).not_met h)
+fault_or_not f key g = let u = fault_ends_unit f key g in met_or_not (meets f key g) u.met u.not_met
 
 -- Cuts.
 
@@ -350,13 +350,8 @@ fault_ends_phase (SaveFails left) key g = let h = cut_by_save left key g in reco
 abbrev pub CutByMet : Fault → (key : ℕ) → ProgramPhase → Type 0
 CutByMet f key g = let e = (standing_in key g).cut (Some f) in EndsByFault f (cut_drive key g) e × StaysAt (drive_in g) e.drive
 
--- met or not
 pub cut_or_not : (f : Fault) (key : ℕ) (g : ProgramPhase) → ((standing_in key g).cut (Some f) ≡ (standing_in key g).cut None) ⊎ CutByMet f key g
-cut_or_not f key g = go (cut_meets f g) refl
-  where
-    go : (b : Bool) → cut_meets f g ≡ b → ((standing_in key g).cut (Some f) ≡ (standing_in key g).cut None) ⊎ CutByMet f key g
-    go true h = inr ((fault_ends_phase f key g).met h)
-    go false h = inl ((fault_ends_phase f key g).not_met h)
+cut_or_not f key g = let u = fault_ends_phase f key g in met_or_not (cut_meets f g) u.met u.not_met
 
 -- Runs.
 

@@ -1,6 +1,6 @@
 -- Which tracks a program may report as not saved, and that it reports none without a fault of the store.
 use Rattle.std.proofs.Common.{◌≡◌, ℕ, refl, subst, sym, true, false, Bool, cond, ◌||◌, List, [], Option, Some, None, ◌⊎◌, inl, inr}
-use Rattle.std.proofs.lemmas.Bool.{or_left, or_right}
+use Rattle.std.proofs.lemmas.Bool.{or_left, or_right, cond_both}
 use Rattle.std.specs.Prelude.{is_some}
 use Rattle.s360_words.specs.Words.{chains_command, caw_of}
 use Rattle.s360_words.specs.declared.flags.ChannelStatus.{ChannelStatus}
@@ -70,11 +70,9 @@ calm_first s (Some caw) = fetched (fetch s.storage (first_place caw.address) tru
   where
     begun : (r : Request) (b : AfterBegin) → BegunCalm (Quiet s.drive) b → FirstTellsNoFault s.drive (first_begun caw.key r b)
     begun r (Rejected t) h = h.quiet
-    begun r (Immediate t motion) h = go (chains_command r.ccw)
-      where
-        go : (b : Bool) → FirstTellsNoFault s.drive (cond b AcceptedStart (ImmediateStart (ending None caw.key r.place (immediate t motion) no_channel_status)))
-        go true = tt
-        go false = calm_ending s.drive caw.key r.place (immediate t motion) no_channel_status h
+    begun r (Immediate t motion) h =
+        let e = ending None caw.key r.place (immediate t motion) no_channel_status in
+        cond_both (chains_command r.ccw) AcceptedStart (ImmediateStart e) (FirstTellsNoFault s.drive) (λ k. tt) (λ k. calm_ending s.drive caw.key r.place (immediate t motion) no_channel_status h)
     begun r (Started o) h = tt
 
     fetched : (w : Fetched) → FirstTellsNoFault s.drive (first_fetched caw.key (start_point caw s) w)
