@@ -16,7 +16,7 @@ use Rattle.s360_runs.specs.Transfers.{Request}
 use Rattle.s360_runs.specs.Writes.{OutcomeKeeps, slot_in}
 use Rattle.s360_runs.proofs.DriveFacts.{VolumeClosed, VolumeIn, begin_keeps}
 use Rattle.s360_runs.proofs.Units.{BegunIs}
-use Rattle.s360_runs.proofs.KeptTracks.{run_keeps}
+use Rattle.s360_runs.proofs.Writes.{run_keeps}
 use Rattle.s360_laws.specs.History.{Act, Program, RejectedCommand, Changes, ClearsSense, Fate, ByItself, IsCut, World, after_first, after_program, after_rejection, after_run, does, drive_in, history, start_in, with_drive, world_of, all_acts}
 use Rattle.s360_laws.specs.Machine.{exchanges}
 use Rattle.s360_laws.specs.Writes.{KeepsUnwritten, act_writes, acts_write, program_writes, slot_at}

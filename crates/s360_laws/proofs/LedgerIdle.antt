@@ -62,15 +62,15 @@ due_one false = refl
 pub free_due : (m : Machine) (a d u : ℕ) (v : Device) → address_of m d ≡ a → device_at m d ≡ Some v → v.arm ≡ AtRest → (a == u) ≡ true → ◌≡◌ {A = ℕ} 0 0 × (0 + device_owes (device_for m u) ≡ 0)
 free_due m a d u v e at free h = (refl, zero-add _ ∙ ap device_owes (sound_device m a d u v e at h) ∙ ap arm_owes free)
 
-pub at_once_balance : (m : Machine) (a d u : ℕ) (unit : UnitStatus) (channel : ChannelStatus) (x : Option FaultAfter) (v : Device) (e : Ending) (s : Storage) → address_of m d ≡ a → device_at m d ≡ Some v → v.arm ≡ AtRest → IsGood e
-    → e.csw.unit ≡ unit → ((unit ≡ CHANNEL_END) ⊎ (unit ≡ normal_end))
-    → Balance u (Sio a, x, StatusStored unit channel) (idle m) (record (with_device d (set_both (arm_after e) e.drive) (idle m)) { storage = s })
-at_once_balance m a d u unit channel x v e s at_a at free g h (inl k) =
+pub at_once_balance : (m : Machine) (a d u : ℕ) (channel : ChannelStatus) (x : Option FaultAfter) (v : Device) (e : Ending) (s : Storage) → address_of m d ≡ a → device_at m d ≡ Some v → v.arm ≡ AtRest → IsGood e
+    → (e.csw.unit ≡ CHANNEL_END) ⊎ (e.csw.unit ≡ normal_end)
+    → Balance u (Sio a, x, StatusStored e.csw.unit channel) (idle m) (record (with_device d (set_both (arm_after e) e.drive) (idle m)) { storage = s })
+at_once_balance m a d u channel x v e s at_a at free g (inl k) =
     subst (λ unit. Balance u (Sio a, x, StatusStored unit channel) (idle m) (record (with_device d (set_both (arm_after e) e.drive) (idle m)) { storage = s })) (sym k)
-    (due_one (a == u), ap (λ y. cond ((a == u) && false) 1 0 + (0 + device_owes y)) (end_set m (arm_after e) e.drive d a u s at_a) ∙ first_owes (a == u) false (arm_after e) e.drive (device_for m u) (end_owes false e.motion (sym (ap (λ n. tells n DEVICE_END) (h ∙ k)) ∙ g.device_end)) (λ b. (v, sound_device m a d u v at_a at b)), free_due m a d u v at_a at free)
-at_once_balance m a d u unit channel x v e s at_a at free g h (inr k) =
+    (due_one (a == u), ap (λ y. cond ((a == u) && false) 1 0 + (0 + device_owes y)) (end_set m (arm_after e) e.drive d a u s at_a) ∙ first_owes (a == u) false (arm_after e) e.drive (device_for m u) (end_owes false e.motion (sym (ap (λ n. tells n DEVICE_END) k) ∙ g.device_end)) (λ b. (v, sound_device m a d u v at_a at b)), free_due m a d u v at_a at free)
+at_once_balance m a d u channel x v e s at_a at free g (inr k) =
     subst (λ unit. Balance u (Sio a, x, StatusStored unit channel) (idle m) (record (with_device d (set_both (arm_after e) e.drive) (idle m)) { storage = s })) (sym k)
-    (due_one (a == u), ap (λ y. cond ((a == u) && true) 1 0 + (0 + device_owes y)) (end_set m (arm_after e) e.drive d a u s at_a) ∙ first_owes (a == u) true (arm_after e) e.drive (device_for m u) (end_owes true e.motion (sym (ap (λ n. tells n DEVICE_END) (h ∙ k)) ∙ g.device_end)) (λ b. (v, sound_device m a d u v at_a at b)), free_due m a d u v at_a at free)
+    (due_one (a == u), ap (λ y. cond ((a == u) && true) 1 0 + (0 + device_owes y)) (end_set m (arm_after e) e.drive d a u s at_a) ∙ first_owes (a == u) true (arm_after e) e.drive (device_for m u) (end_owes true e.motion (sym (ap (λ n. tells n DEVICE_END) k) ∙ g.device_end)) (λ b. (v, sound_device m a d u v at_a at b)), free_due m a d u v at_a at free)
 
 abbrev pub FirstGood : Start → First → Type 0
 FirstGood s (ImmediateStart e) = IsGood e × ((e.csw.unit ≡ CHANNEL_END) ⊎ (e.csw.unit ≡ normal_end))
@@ -113,7 +113,7 @@ begin_fine m a d x v AcceptedStart e at free ds g = (
     takes true n h = ap (λ n. 1 + n) (h refl)
     takes false n h = refl
 begin_fine m a d x v (ImmediateStart z) e at free ds g =
-    (distinct_map _ (keeps_one d (set_both (arm_after z) z.drive) (λ v. refl)) m.devices ds, tt, λ u. at_once_balance m a d u z.csw.unit z.csw.channel x v z (changed (status_stored z.csw.unit.0 z.csw.channel.0) m.storage) e at free g.0 refl g.1)
+    (distinct_map _ (keeps_one d (set_both (arm_after z) z.drive) (λ v. refl)) m.devices ds, tt, λ u. at_once_balance m a d u z.csw.channel x v z (changed (status_stored z.csw.unit.0 z.csw.channel.0) m.storage) e at free g.0 g.1)
 
 pub start_fine : (m : Machine) (a d : ℕ) (x : Option FaultAfter) (y : Option Device) → address_of m d ≡ a → device_at m d ≡ y → AreDistinct m.devices → Fine (idle m) (Sio a) x (start_device d (idle m) y)
 start_fine m a d x None e at ds = (ds, tt, λ u. nothing _ _)

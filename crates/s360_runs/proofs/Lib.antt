@@ -8,6 +8,5 @@ pub mod FaultsMet
 pub mod FirstUnits
 pub mod UnsavedTracks
 pub mod FailedLoads
-pub mod KeptTracks
-pub mod ScriptMarks
+pub mod Writes
 pub mod Sizes

@@ -1,5 +1,5 @@
 -- Which tracks a program may report as not saved, and that it reports none without a fault of the store.
-use Rattle.std.proofs.Common.{◌≡◌, ℕ, refl, subst, sym, true, false, Bool, cond, ◌||◌, List, [], Option, Some, None, ◌⊎◌, inl, inr}
+use Rattle.std.proofs.Common.{◌≡◌, ℕ, refl, subst, sym, true, false, Bool, ◌||◌, List, [], Option, Some, None, ◌⊎◌, inl, inr}
 use Rattle.std.proofs.lemmas.Bool.{or_left, or_right, cond_both}
 use Rattle.std.specs.Prelude.{is_some}
 use Rattle.s360_words.specs.Words.{chains_command, caw_of}

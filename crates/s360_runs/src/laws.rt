@@ -136,14 +136,14 @@ pub fn writes_under_arm()
 {}
 
 /// A program keeps every track that none of its units may write.
-#[tactic(auto, using(crate::proofs::KeptTracks::run_keeps))]
+#[tactic(auto, using(crate::proofs::Writes::run_keeps))]
 pub fn run_keeps()
     ensures { RunKeeps }
 {}
 
 /// Whether the track under the arm is written and not saved since is read off the units of the script: one has closed a write,
 /// and none since has left the track.
-#[tactic(auto, using(crate::proofs::ScriptMarks::mark_is_of_script))]
+#[tactic(auto, using(crate::proofs::Writes::mark_is_of_script))]
 pub fn mark_is_of_script()
     ensures { MarkIsOfScript }
 {}
