@@ -107,7 +107,7 @@ load_fails o = record { equipment_check = store_fault_is_told o.state.registers;
 abbrev pub LostOr : {A : Type 0} → List ℕ → State → (State → A) → (goes : A) → (it_is : A) → Type 0
 LostOr left s fails goes it_is = (is_written s ≡ true → it_is ≡ fails (lost s left)) × (is_written s ≡ false → it_is ≡ goes)
 
-saving_or : {A : Type 0} (left : List ℕ) (s : State) (fails : State → A) (goes : A) → LostOr left s fails goes (moving_off (Some (SaveFails left)) s fails goes)
+pub saving_or : {A : Type 0} (left : List ℕ) (s : State) (fails : State → A) (goes : A) → LostOr left s fails goes (moving_off (Some (SaveFails left)) s fails goes)
 saving_or left s fails goes = go s.mark
   where
     go : (m : Mark) → let x = saving (left_by (Some (SaveFails left)) m) s fails goes in (is_written_by m ≡ true → x ≡ fails (lost s left)) × (is_written_by m ≡ false → x ≡ goes)
@@ -186,11 +186,7 @@ close_none o = go (closing_of o []) (closing_of o []).moves_off (closing_facts _
 
 -- Settle.
 
--- a save fails as the program ends
-pub settle_saves : (left : List ℕ) (c : Closed) → LostOr left c.state (λ s. record c { state = s; unit = with_unit_check c.unit }) c (settled (Some (SaveFails left)) c)
-settle_saves left c = saving_or left c.state (λ s. record c { state = s; unit = with_unit_check c.unit }) c
-
--- and where the command failed already by this fault, nothing more is lost
+-- where the command failed already by this fault, nothing more is lost as the program ends
 pub settle_again : (f : Fault) (c : Closed) (before : IdleDrive) (at : Registers) → Fails f before at c.state → settled (Some f) c ≡ c
 settle_again LoadFails c before at h = refl
 settle_again (SaveFails left) c before at h = go c.state.mark h.slots.0

@@ -114,15 +114,6 @@ no_sense_before o h n = go (aim o.opened.command) h n
     go (NextArea kind) h n = n
     go a h n = absurd (cc)
 
--- the ending, by its sense, its channel status, its count and the track that it reports as not saved
-abbrev made : (key : ℕ) → Open → Request → Sense → ChannelStatus → ℕ → Option (ℕ × ℕ) → Ending
-made key o r sense channel count lost = record {
-  drive = record (drive_of (state_of o)) { sense = sense };
-  csw = record { key = key; address = (r.place.last + 8) % 2 ^ 24; unit = record { 0 = 0x0E }; channel = channel; count = count };
-  motion = false;
-  unsaved = lost;
-}
-
 asked_or_not : (asked : Bool) → with_interruption asked no_channel_status ≡ record { 0 = cond asked 0x80 0x00 }
 asked_or_not true = refl
 asked_or_not false = refl
@@ -130,10 +121,10 @@ asked_or_not false = refl
 whole : (key : ℕ) (o : Open) (r : Request) → o.state.registers.sense ≡ ZERO → r.place.residual ≡ r.ccw.count → unsaved o.state ≡ None
     → ending (Some LoadFails) key r.place (failed (with_store_fault o.state)) no_channel_status ≡ ended_by_load key o r
 whole key o r sense count saved =
-    ap (λ n. made key o r (joined n STORE_FAULT) (with_interruption r.place.interruption no_channel_status) r.place.residual (unsaved (with_store_fault o.state))) sense
-    ∙ ap (λ c. made key o r (joined ZERO STORE_FAULT) c r.place.residual (unsaved (with_store_fault o.state))) (asked_or_not r.place.interruption)
-    ∙ ap (λ n. made key o r (joined ZERO STORE_FAULT) (record { 0 = cond r.place.interruption 0x80 0x00 }) n (unsaved (with_store_fault o.state))) count
-    ∙ ap (made key o r (joined ZERO STORE_FAULT) (record { 0 = cond r.place.interruption 0x80 0x00 }) r.ccw.count) (anywhere o.state.mark o.state.registers _ saved)
+    let told : joined o.state.registers.sense STORE_FAULT ≡ record { 0 = 0x1000 } = ap (λ n. joined n STORE_FAULT) sense in
+    let lost : unsaved (with_store_fault o.state) ≡ None = anywhere o.state.mark o.state.registers _ saved in
+    let asked = asked_or_not r.place.interruption in
+    cc
 
 pub failed_load : FailedLoad
 failed_load s caw script o r h area =

@@ -25,7 +25,7 @@ use Rattle.s360_runs.specs.Status.{tells, beside, with_interruption, is_clear, n
 use Rattle.s360_runs.specs.StoreCalls.{closing_of, cut_meets, ends_written_begun, ends_written_by, ends_written_fetched, ends_written_looked, ends_written_moved, leaves_as_it_begins, leaves_fetched, leaves_looking, leaves_moved, meets, saves_by_cut}
 use Rattle.s360_runs.specs.Transfers.{Request, Transfer, request_of, Stops, TransferUnit, Moves, Completes, transfer_unit, needs_ccw, needs_byte, check_of, chained_data, after_bytes, first_transfer, is_incorrect_length}
 use Rattle.s360_runs.specs.Units.{unit, Next, EndsIn, next_chosen, next_moved, next_looked, next_begun, next_fetched, Between, Looking, Moving, ProgramPhase, standing_in, state_in, StandsAt, outcome_of, on_next, walk, GoesOn, EndsWith, StandsIn, phase_past, Walk}
-use Rattle.s360_runs.proofs.DriveFacts.{BegunStays, Fails, FailsOr, LookStays, StaysWritten, VolumeClosed, VolumeIn, begin_keeps, begin_loads, begin_saves, begin_stays, close_end, close_loads, close_moves, close_none, close_saves, close_stays, empty_stays, fails_from, joins_check, load_fails, look_keeps, look_loads, look_loads_not, look_saves, look_stays, lost_fails, same_arm, settle_again, settle_end, settle_saves}
+use Rattle.s360_runs.proofs.DriveFacts.{BegunStays, Fails, FailsOr, LookStays, StaysWritten, VolumeClosed, VolumeIn, begin_keeps, begin_loads, begin_saves, begin_stays, close_end, close_loads, close_moves, close_none, close_saves, close_stays, empty_stays, fails_from, joins_check, load_fails, look_keeps, look_loads, look_loads_not, look_saves, look_stays, lost_fails, same_arm, settle_again, saving_or, settle_end}
 use Rattle.s360_runs.proofs.Units.{BegunIs, FoundIs, LookIs, StopsWith, stops_with}
 use Rattle.s360_runs.proofs.Standing.{stands_somewhere, goes_by, begins}
 use Rattle.s360_runs.proofs.Walks.{units_in_two, run_is_walk}
@@ -109,7 +109,7 @@ lost_ending : (left : List ℕ) (key : ℕ) (g : ProgramPhase) (s : Storage) (p 
 lost_ending left key g s p c channel l m w =
     let k = m.stays w in
     let h = fails_from (SaveFails left) (drive_of c.state) (cut_drive key g) c.state.registers (state_in g).registers (lost c.state left) m.slots k.arm (lost_fails left c.state) in
-    let n = (settle_saves left c).0 w in
+    let n = (saving_or left c.state (λ s. record c { state = s; unit = with_unit_check c.unit }) c).0 w in
     let r = settle_end (Some (SaveFails left)) c m.ends in
     subst (λ d. NextByFault (SaveFails left) key g (EndsIn s (settled_ending key p d channel))) (sym n) (
       record {
@@ -144,7 +144,7 @@ failed_may key g s e k = record { slots = e; ends = record { channel_end = refl;
 module _ (left : List ℕ) (key : ℕ) (g : ProgramPhase) where
   ended_met : (s : Storage) (p : Place) (c : Closed) (channel : ChannelStatus) → CheckOrLength channel → MayLose key g c
       → MetOr (is_written c.state) left key g (EndsIn s (ending (Some (SaveFails left)) key p c channel)) (EndsIn s (ending None key p c channel))
-  ended_met s p c channel l h = (lost_ending left key g s p c channel l h, λ w. ap (λ c. EndsIn s (settled_ending key p c channel)) ((settle_saves left c).1 w))
+  ended_met s p c channel l h = (lost_ending left key g s p c channel l h, λ w. ap (λ c. EndsIn s (settled_ending key p c channel)) ((saving_or left c.state (λ s. record c { state = s; unit = with_unit_check c.unit }) c).1 w))
 
   chosen_met : (r : Request) (c : Closed) (channel : ChannelStatus) → CheckOrLength channel → MayLose key g c
       → MetOr (ends_written_by r c channel) left key g (next_chosen (choice (Some (SaveFails left)) key r c channel)) (next_chosen (choice None key r c channel))

@@ -34,43 +34,42 @@ step_stays zero key w = refl
 step_stays (suc most) key (StandsIn f) = refl
 step_stays (suc most) key (EndsWith rest s e) = refl
 
-goes_on : (rest : Script) (key most : ℕ) (p : Point) → Same rest key → length rest < most → commands most key (Goes rest p) ≡ step_of key (walk rest key (Between p))
-goes_on rest key zero p same h = absurd (omega arith)
-goes_on rest key (suc most) p same h = same most (Between p) (omega arith)
+module _ (rest : Script) (key most : ℕ) (same : Same rest key) (h : length rest < most) where
+  goes_on : (p : Point) → commands most key (Goes rest p) ≡ step_of key (walk rest key (Between p))
+  goes_on p = go most h
+    where
+      go : (most : ℕ) → length rest < most → commands most key (Goes rest p) ≡ step_of key (walk rest key (Between p))
+      go zero h = absurd (omega arith)
+      go (suc most) h = same most (Between p) (omega arith)
 
-by_choice : (rest : Script) (key most : ℕ) (c : Choice) → Same rest key → length rest < most → commands most key (chained rest c) ≡ step_of key (on_next rest (next_chosen c) (walk rest key))
-by_choice rest key most (Chains p) same h = goes_on rest key most p same h
-by_choice rest key most (Ends s e) same h = step_stays most key (EndsWith rest s e)
+  by_choice : (c : Choice) → commands most key (chained rest c) ≡ step_of key (on_next rest (next_chosen c) (walk rest key))
+  by_choice (Chains p) = goes_on p
+  by_choice (Ends s e) = step_stays most key (EndsWith rest s e)
 
-by_unit : (f : Option Fault) (rest : Script) (key most : ℕ) (o : Open) (p : Transfer) (u : TransferUnit) → Same rest key → length rest < most
-    → commands most key (after_move key o (on_unit f rest p u (moved rest key o))) ≡ step_of key (on_next rest (next_moved f key o p u) (walk rest key))
-by_unit f rest key most o p (Moves q) same h = same most (Moving o q) (omega arith)
-by_unit f rest key most o p (Stops q channel) same h = step_stays most key (EndsWith rest _ _)
-by_unit f rest key most o p Completes same h = by_choice rest key most (completed f key p o (close f o p.bytes)) same h
+  by_unit : (f : Option Fault) (o : Open) (p : Transfer) (u : TransferUnit) → commands most key (after_move key o (on_unit f rest p u (moved rest key o))) ≡ step_of key (on_next rest (next_moved f key o p u) (walk rest key))
+  by_unit f o p (Moves q) = same most (Moving o q) (omega arith)
+  by_unit f o p (Stops q channel) = step_stays most key (EndsWith rest _ _)
+  by_unit f o p Completes = by_choice (completed f key p o (close f o p.bytes))
 
-by_look : (f : Option Fault) (rest : Script) (key most : ℕ) (p : Request) (l : AfterLook) → Same rest key → length rest < most
-    → commands most key (after_look key (on_look f rest p l (looked rest p))) ≡ step_of key (on_next rest (next_looked f key p l) (walk rest key))
-by_look f rest key most p (Ready o) same h = by_unit f rest key most o (first_transfer p) (transfer_unit key o (first_transfer p)) same h
-by_look f rest key most p (Failed s) same h = step_stays most key (EndsWith rest _ _)
-by_look f rest key most p (Passed o) same h = same most (Looking o p) (omega arith)
+  by_look : (f : Option Fault) (p : Request) (l : AfterLook) → commands most key (after_look key (on_look f rest p l (looked rest p))) ≡ step_of key (on_next rest (next_looked f key p l) (walk rest key))
+  by_look f p (Ready o) = by_unit f o (first_transfer p) (transfer_unit key o (first_transfer p))
+  by_look f p (Failed s) = step_stays most key (EndsWith rest _ _)
+  by_look f p (Passed o) = same most (Looking o p) (omega arith)
 
-by_begun : (f : Option Fault) (rest : Script) (key most : ℕ) (r : Request) (b : AfterBegin) → Same rest key → length rest < most
-    → commands most key (begun f rest key r b) ≡ step_of key (on_next rest (next_begun f key r b) (walk rest key))
-by_begun f rest key most r (Rejected state) same h = step_stays most key (EndsWith rest _ _)
-by_begun f rest key most r (Immediate state motion) same h = by_choice rest key most (choice f key r (immediate state motion) no_channel_status) same h
-by_begun f rest key most r (Started o) same h = same most (Looking o r) (omega arith)
+  by_begun : (f : Option Fault) (r : Request) (b : AfterBegin) → commands most key (begun f rest key r b) ≡ step_of key (on_next rest (next_begun f key r b) (walk rest key))
+  by_begun f r (Rejected state) = step_stays most key (EndsWith rest _ _)
+  by_begun f r (Immediate state motion) = by_choice (choice f key r (immediate state motion) no_channel_status)
+  by_begun f r (Started o) = same most (Looking o r) (omega arith)
 
-by_fetch : (f : Option Fault) (rest : Script) (key most : ℕ) (p : Point) (w : Fetched) → Same rest key → length rest < most
-    → commands most key (fetched f rest key p w) ≡ step_of key (on_next rest (next_fetched f key p w) (walk rest key))
-by_fetch f rest key most p NoCcw same h = step_stays most key (EndsWith rest _ _)
-by_fetch f rest key most p (TransferTo address) same h = goes_on rest key most (record p { place = past_transfer p.place address }) same h
-by_fetch f rest key most p (GoodCcw ccw) same h = by_begun f rest key most (requested p ccw) (begin f ccw.code p.state) same h
+  by_fetch : (f : Option Fault) (p : Point) (w : Fetched) → commands most key (fetched f rest key p w) ≡ step_of key (on_next rest (next_fetched f key p w) (walk rest key))
+  by_fetch f p NoCcw = step_stays most key (EndsWith rest _ _)
+  by_fetch f p (TransferTo address) = goes_on (record p { place = past_transfer p.place address })
+  by_fetch f p (GoodCcw ccw) = by_begun f (requested p ccw) (begin f ccw.code p.state)
 
-by_phase : (f : Option Fault) (rest : Script) (key most : ℕ) (g : ProgramPhase) → Same rest key → length rest < most
-    → commands most key (resume (OneUnit f ∷ rest) key g) ≡ step_of key (walk (OneUnit f ∷ rest) key g)
-by_phase f rest key most (Between p) same h = by_fetch f rest key most p (fetch p.storage p.place true) same h
-by_phase f rest key most (Looking o p) same h = by_look f rest key most p (look f o) same h
-by_phase f rest key most (Moving o p) same h = by_unit f rest key most o p (transfer_unit key o p) same h
+  by_phase : (f : Option Fault) (g : ProgramPhase) → commands most key (resume (OneUnit f ∷ rest) key g) ≡ step_of key (walk (OneUnit f ∷ rest) key g)
+  by_phase f (Between p) = by_fetch f p (fetch p.storage p.place true)
+  by_phase f (Looking o p) = by_look f p (look f o)
+  by_phase f (Moving o p) = by_unit f o p (transfer_unit key o p)
 
 resume_outside : (c : _) (rest : Script) (key : ℕ) (f : ProgramPhase) → resume (Outside c ∷ rest) key f ≡ resume rest key (phase_past (Outside c) f)
 resume_outside c rest key (Between p) = refl
@@ -87,7 +86,7 @@ at_end key most (Moving o p) = step_stays most key (StandsIn (Moving o p))
 
 pub same_way : (script : Script) (key : ℕ) → Same script key
 same_way [] key most f h = at_end key most f
-same_way (OneUnit a ∷ rest) key most f h = by_phase a rest key most f (same_way rest key) (omega arith)
+same_way (OneUnit a ∷ rest) key most f h = by_phase rest key most (same_way rest key) (omega arith) a f
 same_way (Outside c ∷ rest) key most f h = ap (commands most key) (resume_outside c rest key f) ∙ same_way rest key most (phase_past (Outside c) f) (omega arith)
 same_way (TakesInterruption ∷ rest) key most f h = ap (commands most key) (resume_taking rest key f) ∙ same_way rest key most (phase_past TakesInterruption f) (omega arith)
 
