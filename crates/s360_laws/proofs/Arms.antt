@@ -12,7 +12,7 @@ use Rattle.s360_runs.specs.Starts.{First, BadStart, RejectedStart, ImmediateStar
 use Rattle.s360_runs.specs.Status.{tells}
 use Rattle.s360_runs.proofs.EndStatus.{AsksGood, good_run}
 use Rattle.s360_laws.specs.Arms.{arm_for, arrives, ends_owing, arm_next, ArmFollows, arm_along, ArmStays, ArrivedInterrupts, HaltOfPendingStays}
-use Rattle.s360_laws.specs.Events.{Answer, Event, Exchange, FaultAfter, Sio, Tio, Hio, Tch, StepBy, Arrive, Interrupt, Reset, Store, SetKey, Show, CswStored, WithCode, Interrupted, WasReset}
+use Rattle.s360_laws.specs.Events.{Answer, Event, Exchange, FaultAfter, Sio, Tio, Hio, StepBy, Arrive, Interrupt, Reset, Store, SetKey, CswStored, WithCode, Interrupted, WasReset}
 use Rattle.s360_laws.specs.Machine.{Device, Machine, Subchannel, Idle, Working, Pending, address_of, device_at, at_rest, all_at_rest, arm_after, ended, cut, stepped, started, start_of, start_device, test_device, halt_io, arrive, is_in_motion, has_arrived, lowest, lower, csw_of_unit, interrupt_device, interrupt_program, asked_by, run_of, react, units_with, fault_in, unsaved_at, with_csw, after_all, exchanges}
 use Rattle.s360_laws.specs.Soundness.{IsSoundIn, IsRunning, AreDistinct, arm_owes, device_for, device_owes}
 use Rattle.s360_laws.specs.declared.arm.Arm.{Arm}
@@ -21,9 +21,9 @@ use Rattle.s360_laws.specs.declared.condition.ConditionCode.TheVariants.{Two, Th
 use Rattle.s360_laws.proofs.FindDevices.{found_map, device_after, Keeps, at_device, device_of, set_arm, set_both, set_drive}
 use Rattle.s360_laws.proofs.LedgerIdle.{Lowest, lowest_found, whole}
 use Rattle.s360_laws.proofs.LedgerLists.{stays}
-use Rattle.s360_laws.proofs.LedgerWorking.{by_device, asks_good}
+use Rattle.s360_laws.proofs.LedgerWorking.{asks_good}
 use Rattle.s360_laws.proofs.Owing.{Rest}
-use Rattle.s360_laws.proofs.Shapes.{working_device, idle, pending, working}
+use Rattle.s360_laws.proofs.Shapes.{by_device, working_device, idle, pending, working}
 
 -- An event's answer and the machine behind it keep the arm at an address as the exchange says.
 abbrev Keeps_arm : ℕ → Arm → Event → Option FaultAfter → Answer × Machine → Type 0

@@ -37,13 +37,17 @@ found_same n d (v ∷ vs) = ap (λ b. cond b (Some v) (find (λ v. 256 * n + v.d
 abbrev pub Keeps : (Device → Device) → Type 0
 Keeps g = (v : Device) → (g v).device ≡ v.device
 
-pub found_map : (p : ℕ → Bool) (g : Device → Device) → Keeps g → (vs : List Device) → find (λ w. p w.device) (map g vs) ≡ option_map g (find (λ w. p w.device) vs)
-found_map p g k [] = refl
-found_map p g k (v ∷ vs) = ap (λ d. cond (p d) (Some (g v)) (find (λ w. p w.device) (map g vs))) (k v) ∙ go (p v.device) (found_map p g k vs)
+-- what is found of a list that was changed element by element
+pub find_map : {X Y : Type 0} (p : Y → Bool) (q : X → Bool) (g : X → Y) → ((x : X) → p (g x) ≡ q x) → (xs : List X) → find p (map g xs) ≡ option_map g (find q xs)
+find_map p q g k [] = refl
+find_map {X} {Y} p q g k (x ∷ xs) = ap (λ b. cond b (Some (g x)) (find p (map g xs))) (k x) ∙ go (q x) (find_map p q g k xs)
   where
-    go : (b : Bool) {x : Option Device} → x ≡ option_map g (find (λ w. p w.device) vs) → cond b (Some (g v)) x ≡ option_map g (cond b (Some v) (find (λ w. p w.device) vs))
+    go : (b : Bool) {y : Option Y} → y ≡ option_map g (find q xs) → cond b (Some (g x)) y ≡ option_map g (cond b (Some x) (find q xs))
     go true h = refl
     go false h = h
+
+pub found_map : (p : ℕ → Bool) (g : Device → Device) → Keeps g → (vs : List Device) → find (λ w. p w.device) (map g vs) ≡ option_map g (find (λ w. p w.device) vs)
+found_map p g k vs = find_map (λ w. p w.device) (λ w. p w.device) g (λ v. ap p (k v)) vs
 
 pub distinct_map : (g : Device → Device) → Keeps g → (vs : List Device) → AreDistinct vs → AreDistinct (map g vs)
 distinct_map g k [] h = tt

@@ -1,6 +1,6 @@
 -- The headline, from the laws that it joins.
 use Rattle.std.proofs.Common.{refl, List}
-use Rattle.s360_laws.specs.Events.{Event, FaultAfter, Input, Sio, Tio, Hio, Tch, StepBy, Arrive, Interrupt, Reset, Store, SetKey, Show}
+use Rattle.s360_laws.specs.Events.{Event, FaultAfter, Input, Hio, StepBy, Reset}
 use Rattle.s360_laws.specs.Headline.{HeadlineHolds}
 use Rattle.s360_laws.specs.History.{Runs}
 use Rattle.s360_laws.specs.Machine.{Machine, after_all}

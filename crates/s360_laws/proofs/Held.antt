@@ -5,7 +5,7 @@ use Rattle.s360_words.specs.Storage.{Bytes, is_within, KeyOf}
 use Rattle.s360_words.specs.declared.flags.TheConstants.UnitStatus.{CHANNEL_END}
 use Rattle.s360_words.specs.declared.words.Csw.{Csw}
 use Rattle.s360_runs.specs.Status.{tells}
-use Rattle.s360_laws.specs.Events.{Answer, Event, FaultAfter, Sio, WithCode, Tio, CswStored, Store, Hio, Tch, StepBy, Arrive, Interrupt, Reset, SetKey, Show, Input}
+use Rattle.s360_laws.specs.Events.{Answer, Event, FaultAfter, Sio, WithCode, Tio, CswStored, Store, Hio, Tch, Arrive, Interrupt, Reset, SetKey, Input}
 use Rattle.s360_laws.specs.Ledger.{HeldAnswer, ends_holding, HeldAnswers, HeldUntilStored}
 use Rattle.s360_laws.specs.Machine.{Machine, react, test_io, Pending, with_csw, arrive, Device, is_in_motion, with_arm, with_change, device_at, exchanges}
 use Rattle.s360_laws.specs.Soundness.{IsSoundIn}

@@ -7,10 +7,10 @@ use Rattle.s360_words.specs.declared.words.Caw.{Caw}
 use Rattle.ckd_command.specs.Drive.{Volume, AfterBegin, Rejected, Immediate, Started, IdleDrive, begin, no_sense}
 use Rattle.s360_runs.specs.Commands.{Point, requested}
 use Rattle.s360_runs.specs.Endings.{Outcome, Ended, NotEnded, ending, immediate}
-use Rattle.s360_runs.specs.Places.{fetch, Fetched, GoodCcw, NoCcw, TransferTo}
+use Rattle.s360_runs.specs.Places.{fetch, Fetched, GoodCcw}
 use Rattle.s360_runs.specs.Runs.{Start, run, start_point}
 use Rattle.s360_runs.specs.Scripts.{Script}
-use Rattle.s360_runs.specs.Starts.{First, BadStart, RejectedStart, ImmediateStart, AcceptedStart, first, first_from, first_fetched, first_begun}
+use Rattle.s360_runs.specs.Starts.{First, RejectedStart, ImmediateStart, AcceptedStart, first, first_from, first_fetched, first_begun}
 use Rattle.s360_runs.specs.Status.{no_channel_status}
 use Rattle.s360_runs.specs.Transfers.{Request}
 use Rattle.s360_runs.specs.Writes.{OutcomeKeeps, slot_in}
@@ -20,6 +20,7 @@ use Rattle.s360_runs.proofs.Writes.{run_keeps}
 use Rattle.s360_laws.specs.History.{Act, Program, RejectedCommand, Changes, ClearsSense, Fate, ByItself, IsCut, World, after_first, after_program, after_rejection, after_run, does, drive_in, history, start_in, with_drive, world_of, all_acts}
 use Rattle.s360_laws.specs.Machine.{exchanges}
 use Rattle.s360_laws.specs.Writes.{KeepsUnwritten, act_writes, acts_write, program_writes, slot_at}
+use Rattle.s360_laws.proofs.FindDevices.{find_map}
 use Rattle.s360_laws.proofs.Serial.{serial}
 
 abbrev Drives : Type 0
@@ -59,13 +60,11 @@ with_slot track device p drive (x ∷ xs) h = go (x.0 == p) refl (x.0 == device)
 
 -- a change of sense bytes
 cleared : (track device : ℕ) (ds : Drives) → slot track (at device (map (λ d. (d.0, record d.1 { sense = no_sense })) ds)) ≡ slot track (at device ds)
-cleared track device [] = refl
-cleared track device (x ∷ xs) = go (x.0 == device) (cleared track device xs)
+cleared track device ds = ap (slot track) (find_map (λ d. d.0 == device) (λ d. d.0 == device) (λ d. (d.0, record d.1 { sense = no_sense })) (λ d. refl) ds) ∙ go (at device ds)
   where
-    go : (b : Bool) → slot track (at device (map (λ d. (d.0, record d.1 { sense = no_sense })) xs)) ≡ slot track (at device xs)
-        → slot track (cond b (Some (x.0, record x.1 { sense = no_sense })) (at device (map (λ d. (d.0, record d.1 { sense = no_sense })) xs))) ≡ slot track (cond b (Some x) (at device xs))
-    go true h = refl
-    go false h = h
+    go : (y : Option (ℕ × IdleDrive)) → slot track (option_map (λ d. (d.0, record d.1 { sense = no_sense })) y) ≡ slot track y
+    go None = refl
+    go (Some d) = refl
 
 -- A command that is rejected changes no slot.
 

@@ -5,7 +5,6 @@ use Rattle.std.specs.Prelude.{find, option_map, is_some, filter, nat_lt}
 use Rattle.s360_words.specs.Storage.{Storage, changed, status_stored, Bytes, is_within, KeyOf}
 use Rattle.s360_words.specs.declared.flags.ChannelStatus.{ChannelStatus}
 use Rattle.s360_words.specs.declared.flags.TheConstants.UnitStatus.{CHANNEL_END, DEVICE_END}
-use Rattle.s360_words.specs.declared.flags.UnitStatus.{UnitStatus}
 use Rattle.s360_words.specs.declared.words.Csw.{Csw}
 use Rattle.ckd_command.specs.Drive.{unsaved, IdleDrive}
 use Rattle.s360_runs.specs.Endings.{Ending}
@@ -16,7 +15,7 @@ use Rattle.s360_runs.specs.Starts.{first, First, ImmediateStart, BadStart, Rejec
 use Rattle.s360_runs.specs.Status.{normal_end, tells}
 use Rattle.s360_runs.proofs.EndStatus.{IsGood, RunGood, good_run}
 use Rattle.s360_runs.proofs.FirstUnits.{first_is_unit}
-use Rattle.s360_laws.specs.Events.{FaultAfter, Reset, WasReset, Sio, StatusStored, Store, Arrive, Tio, Interrupt, Hio, SetKey, Event, Tch, StepBy, Show, CswStored, WithCode}
+use Rattle.s360_laws.specs.Events.{FaultAfter, Reset, WasReset, Sio, StatusStored, Store, Arrive, Tio, Interrupt, Hio, SetKey, Event, CswStored, WithCode}
 use Rattle.s360_laws.specs.Machine.{Device, at_rest, Machine, all_at_rest, address_of, device_at, with_device, arm_after, start_of, started, start_device, test_device, lowest, has_arrived, lower, interrupt_device, react, Idle, Pending, with_csw}
 use Rattle.s360_laws.specs.Soundness.{device_for, device_owes, AreDistinct, arm_owes}
 use Rattle.s360_laws.specs.declared.arm.Arm.{Arm}

@@ -10,7 +10,7 @@ use Rattle.s360_laws.specs.Ledger.{Since, SinceBeginning, SinceAcceptance, Since
 use Rattle.s360_laws.specs.Machine.{Machine, Subchannel, Idle, Working, Pending, react, exchanges, after_all, Device, address_of, device_at}
 use Rattle.s360_laws.specs.Soundness.{owes_channel_end, owes_device_end, channel_owes, device_for, IsSound, IsSoundIn, AreDistinct, StaysSound, device_owes, arm_owes, IdleIsSound}
 use Rattle.s360_laws.specs.declared.arm.Arm.{Arm}
-use Rattle.s360_laws.specs.declared.arm.Arm.TheVariants.{AtRest, InMotion, Arrived}
+use Rattle.s360_laws.specs.declared.arm.Arm.TheVariants.{AtRest}
 use Rattle.s360_laws.proofs.FindDevices.{at_device}
 use Rattle.s360_laws.proofs.LedgerIdle.{pending_fine, idle_fine}
 use Rattle.s360_laws.proofs.LedgerWorking.{working_fine}

@@ -1,5 +1,5 @@
 -- An event while a program runs keeps the ledger in balance.
-use Rattle.std.proofs.Common.{◌≡◌, ℕ, ◌+◌, ◌*◌, ◌/◌, ◌%◌, refl, sym, ap, subst, ◌∙◌, true, false, Bool, cond, not, ◌&&◌, ◌==◌, ◌++◌, Option, Some, None, zero-add}
+use Rattle.std.proofs.Common.{◌≡◌, ℕ, ◌+◌, ◌*◌, ◌/◌, ◌%◌, refl, sym, ap, ◌∙◌, true, false, Bool, cond, not, ◌&&◌, ◌==◌, ◌++◌, Option, Some, None, zero-add}
 use Rattle.std.proofs.lemmas.Bool.{eq-eqb}
 use Rattle.std.specs.Prelude.{option_map}
 use Rattle.s360_words.specs.Storage.{Storage, is_within, Bytes, KeyOf}
@@ -11,7 +11,7 @@ use Rattle.s360_runs.specs.Runs.{run}
 use Rattle.s360_runs.specs.Scripts.{Script}
 use Rattle.s360_runs.specs.Status.{tells}
 use Rattle.s360_runs.proofs.EndStatus.{IsGood, RunGood, AsksGood, good_run}
-use Rattle.s360_laws.specs.Events.{FaultAfter, Hio, WithCode, StepBy, Interrupt, Store, SetKey, Event, Sio, Tio, Tch, Arrive, Reset, Show}
+use Rattle.s360_laws.specs.Events.{FaultAfter, Hio, WithCode, StepBy, Interrupt, Store, SetKey, Event, Sio, Tio, Arrive, Reset}
 use Rattle.s360_laws.specs.Machine.{ended, Device, Machine, device_at, Pending, arm_after, address_of, cut, fault_in, stepped, asked_by, interrupt_program, start_of, run_of, react, units_with, Working, unsaved_at}
 use Rattle.s360_laws.specs.Soundness.{owes_channel_end, owes_device_end, device_for, device_owes, AreDistinct, IsRunning}
 use Rattle.s360_laws.specs.declared.arm.Arm.TheVariants.{InMotion, AtRest}
@@ -19,7 +19,7 @@ use Rattle.s360_laws.specs.declared.condition.ConditionCode.TheVariants.{Two}
 use Rattle.s360_laws.proofs.FindDevices.{set_both, device_of, distinct_map, keeps_one}
 use Rattle.s360_laws.proofs.LedgerIdle.{end_set, sound_device, reset_fine}
 use Rattle.s360_laws.proofs.Owing.{end_owes, Rest, Fine, nothing, silent, either_fine, arrive_fine}
-use Rattle.s360_laws.proofs.Shapes.{working_device, working}
+use Rattle.s360_laws.proofs.Shapes.{by_device, working_device, working}
 
 -- Working.
 
@@ -82,9 +82,6 @@ mark_fine m d s x (Some csw) ds z g = (
     λ b. absurd (cc),
   ),
 )
-
-pub by_device : (m : Machine) (d : ℕ) (s : Script) (v : Device) (P : Option Outcome → Type 0) → device_at m d ≡ Some v → P (Some (run s (start_of m v.drive))) → P (run_of m d s)
-by_device m d s v P at p = subst (λ y. P (option_map (λ v. run s (start_of m v.drive)) y)) (sym at) p
 
 pub cut_distinct : (m : Machine) (f : Option Fault) (d : ℕ) (o : Option Outcome) → AreDistinct m.devices → AreDistinct (cut f d m o).devices
 cut_distinct m f d None ds = ds

@@ -13,7 +13,7 @@ use Rattle.s360_runs.proofs.Standing.{goes_by}
 use Rattle.s360_runs.proofs.Walks.{units_in_two}
 use Rattle.s360_laws.specs.Events.{Answer, FaultAfter, Stepped, StepBy, WithCode, Hio, WasReset, Reset, Sio, Tio, Tch, Arrive, Interrupt, Store, SetKey, Show}
 use Rattle.s360_laws.specs.History.{Runs}
-use Rattle.s360_laws.specs.Machine.{cut, ended, units_failing, Device, Machine, device_at, arm_after, stepped, start_of, react, Subchannel, Idle, Pending, Working, run_of, unsaved_at, address_of, all_at_rest, at_rest}
+use Rattle.s360_laws.specs.Machine.{cut, ended, units_failing, Device, Machine, device_at, arm_after, stepped, start_of, react, Subchannel, Working, run_of, unsaved_at, address_of, all_at_rest, at_rest}
 use Rattle.s360_laws.specs.Soundness.{IsRunning}
 use Rattle.s360_laws.specs.Steps.{EndedByFault, FaultEndsStep, FaultEndsHalt, ToldByReset, FaultToldByReset, OthersMeetNone}
 use Rattle.s360_laws.specs.declared.condition.ConditionCode.TheVariants.{Two, Three}

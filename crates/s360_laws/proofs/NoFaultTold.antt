@@ -11,7 +11,7 @@ use Rattle.s360_runs.specs.Endings.{Outcome, Ended, Ending, NotEnded}
 use Rattle.s360_runs.specs.Faults.{without_faults}
 use Rattle.s360_runs.specs.Runs.{Start, run, run_from, start_point}
 use Rattle.s360_runs.specs.Scripts.{Script, OneUnit, Outside, TakesInterruption, units}
-use Rattle.s360_runs.specs.Starts.{First, BadStart, RejectedStart, ImmediateStart, AcceptedStart, first}
+use Rattle.s360_runs.specs.Starts.{First, RejectedStart, ImmediateStart, first}
 use Rattle.s360_runs.specs.Units.{Between, walk, Walk, StandsIn, EndsWith, outcome_of, standing_in}
 use Rattle.s360_runs.specs.Unsaved.{GainsNoCheck, TellsNoFault, OutcomeTellsNoFault, FirstTellsNoFault}
 use Rattle.s360_runs.proofs.FaultsMet.{goes_on_without_faults}

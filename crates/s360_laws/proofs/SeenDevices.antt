@@ -1,5 +1,5 @@
 -- Devices as the serial history sees them, and what an event has to do for it.
-use Rattle.std.proofs.Common.{◌≡◌, ℕ, refl, sym, ap, ◌∙◌, true, false, Bool, cond, ◌==◌, List, [], ◌∷◌, ◌++◌, map, Option, Some}
+use Rattle.std.proofs.Common.{◌≡◌, ℕ, refl, sym, ap, ◌∙◌, true, false, Bool, cond, ◌==◌, List, [], ◌∷◌, ◌++◌, map, Option}
 use Rattle.std.proofs.lemmas.Bool.{cond_both}
 use Rattle.std.specs.Prelude.{find, option_map}
 use Rattle.s360_words.specs.Storage.{Change}
@@ -8,6 +8,7 @@ use Rattle.s360_laws.specs.Events.{Exchange, Event, FaultAfter, Answer}
 use Rattle.s360_laws.specs.History.{with_drive, units_ahead, history, world_of, all_acts, acts, Runs, World, does, Changes, own_change, where_over}
 use Rattle.s360_laws.specs.Machine.{Device, at_rest, Machine, is_working}
 use Rattle.s360_laws.specs.declared.arm.Arm.{Arm}
+use Rattle.s360_laws.proofs.FindDevices.{find_map}
 
 -- Devices as the history sees them.
 
@@ -47,13 +48,8 @@ drives d device us = seen_map _ _ (λ u. one_drive (u.device == device) d u) us
 pub rests : (us : List Device) → map seen (map at_rest us) ≡ map (λ p. (p.0, record p.1 { sense = no_sense })) (map seen us)
 rests us = seen_map at_rest _ (λ u. refl) us
 
-pub find_one : (b : Bool) (u : Device) (x : Option (ℕ × IdleDrive)) (y : Option Device) → x ≡ option_map seen y → cond b (Some (seen u)) x ≡ option_map seen (cond b (Some u) y)
-find_one true u x y h = refl
-find_one false u x y h = h
-
 pub found : (device : ℕ) (us : List Device) → find (λ p. p.0 == device) (map seen us) ≡ option_map seen (find (λ u. u.device == device) us)
-found device [] = refl
-found device (u ∷ us) = find_one (u.device == device) u _ _ (found device us)
+found device us = find_map (λ p. p.0 == device) (λ u. u.device == device) seen (λ u. refl) us
 
 -- What each event owes.
 

@@ -4,12 +4,12 @@ use Rattle.std.proofs.lemmas.Bool.{cond_both}
 use Rattle.std.specs.Prelude.{is_some, filter}
 use Rattle.s360_words.specs.Storage.{Bytes, is_within, KeyOf}
 use Rattle.s360_words.specs.declared.words.Csw.{Csw}
-use Rattle.s360_runs.specs.Starts.{first, First, BadStart, RejectedStart, ImmediateStart, AcceptedStart}
-use Rattle.s360_laws.specs.Events.{Event, FaultAfter, Answer, Exchange, Sio, Arrive, Tio, Hio, Store, Interrupt, SetKey, Tch, StepBy, Reset, Show, Input}
+use Rattle.s360_runs.specs.Starts.{first, First, AcceptedStart}
+use Rattle.s360_laws.specs.Events.{Event, FaultAfter, Answer, Exchange, Sio, Arrive, Tio, Hio, Store, Interrupt, SetKey, StepBy, Reset, Input}
 use Rattle.s360_laws.specs.History.{Runs, units_ahead, world_of, history, begun_act, IsSerial}
 use Rattle.s360_laws.specs.Machine.{Machine, Subchannel, react, Idle, Working, Pending, is_working, started, Device, start_device, start_of, test_device, arrive, is_in_motion, interrupt_device, device_at, lowest, has_arrived, exchanges}
 use Rattle.s360_laws.specs.declared.arm.Arm.{Arm}
-use Rattle.s360_laws.specs.declared.arm.Arm.TheVariants.{InMotion, Arrived, AtRest}
+use Rattle.s360_laws.specs.declared.arm.Arm.TheVariants.{InMotion, AtRest}
 use Rattle.s360_laws.proofs.SeenDevices.{Good}
 use Rattle.s360_laws.proofs.SerialIdle.{pending_good, idle_good}
 use Rattle.s360_laws.proofs.SerialWorking.{working_good}

@@ -10,7 +10,7 @@ use Rattle.s360_runs.specs.Scripts.{units}
 use Rattle.s360_runs.specs.Starts.{First, first, BadStart, AcceptedStart, RejectedStart, ImmediateStart}
 use Rattle.s360_runs.specs.Status.{no_channel_status, normal_end, busy_device_end}
 use Rattle.s360_runs.proofs.FirstUnits.{first_is_unit}
-use Rattle.s360_laws.specs.Events.{FaultAfter, Tio, Arrive, Hio, StatusStored, Store, Sio, SetKey, Interrupt, Exchange, Event, Tch, StepBy, Reset, Show}
+use Rattle.s360_laws.specs.Events.{FaultAfter, Tio, Arrive, Hio, StatusStored, Store, Sio, SetKey, Interrupt, Exchange, Event, Reset}
 use Rattle.s360_laws.specs.History.{history, world_of, acts, drive_in, does, after_first, Changes, after_rejection, Program, ByItself, after_run, after_program, start_acts, ClearsSense}
 use Rattle.s360_laws.specs.Machine.{Machine, Device, test_device, with_csw, csw_of_unit, with_status, arrive, is_in_motion, device_at, start_of, started, with_ending, arm_after, start_device, interrupt_device, at_rest, react, lowest, has_arrived}
 use Rattle.s360_laws.specs.Soundness.{IsRunning}

@@ -9,7 +9,7 @@ use Rattle.s360_runs.specs.Runs.{run}
 use Rattle.s360_runs.specs.Scripts.{Script, units, units_in, Outside, TakesInterruption}
 use Rattle.s360_runs.specs.Units.{ProgramPhase, walk, StandsIn, standing_in, Between, phase_past, Looking, Moving, StandsAt}
 use Rattle.s360_runs.proofs.Standing.{seen_there, goes_by}
-use Rattle.s360_laws.specs.Events.{Exchange, FaultAfter, Hio, WithCode, Reset, WasReset, StepBy, Interrupt, Sio, Tio, Event, Answer, Arrive, Store, SetKey, Tch, Show}
+use Rattle.s360_laws.specs.Events.{Exchange, FaultAfter, Hio, WithCode, Reset, WasReset, StepBy, Interrupt, Sio, Tio, Event, Arrive, Store, SetKey}
 use Rattle.s360_laws.specs.History.{Fate, does, world_of, Program, after_run, after_program, after_end, World, history, script_ahead, fate_ahead, acts, where_over, units_ahead, IsCut, ClearsSense, Changes, ByItself, own_change}
 use Rattle.s360_laws.specs.Ledger.{later}
 use Rattle.s360_laws.specs.Machine.{Machine, Device, device_at, start_of, with_ending, arm_after, run_of, cut, fault_in, reset, unsaved_at, all_at_rest, units_with, stepped, with_arm, arrive, is_in_motion, Working, interrupt_program, react, asked_by}
@@ -20,7 +20,7 @@ use Rattle.s360_laws.specs.declared.condition.ConditionCode.TheVariants.{Two}
 use Rattle.s360_laws.proofs.Ahead.{same_script, step_script, quiet_script}
 use Rattle.s360_laws.proofs.SeenDevices.{ends, Good, same_after, seen, found, arms, with_world, either_good}
 use Rattle.s360_laws.proofs.SerialIdle.{look_up, clear}
-use Rattle.s360_laws.proofs.Shapes.{working_device, working}
+use Rattle.s360_laws.proofs.Shapes.{by_device, working_device, working}
 use Rattle.s360_laws.proofs.StepUnits.{stood, unmet, ended_there}
 
 -- Working.
@@ -120,10 +120,6 @@ between_good m d s more c u at r later =
         ∙ changed_run (world_of m) d (fate_ahead ahead) c (standing_in y.0 y.1) (standing_in y.0 l.0) l.2 l.3
         ∙ ap (λ w. does w (Changes c)) (sym (program_world m d (s ++ []) (fate_ahead ahead) u (NotEnded (standing_in y.0 y.1)) at (ap (λ x. run x (start_of m u.drive)) (append-nil s) ∙ seen_there (start_of m u.drive) s y.0 y.1 y.2))))
 
-pub on_device : (m : Machine) (e : Event) (x : Option FaultAfter) (f : Option Outcome → Answer × Machine) (d : ℕ) (s : Script) (u : Device) → device_at m d ≡ Some u → (w : Machine)
-    → Good w e x (f (Some (run s (start_of m u.drive)))) → Good w e x (f (run_of m d s))
-on_device m e x f d s u at w g = subst (λ y. Good w e x (f (option_map (λ u. run s (start_of m u.drive)) y))) (sym at) g
-
 pub still_runs : (m : Machine) (arm : Arm) (device d : ℕ) (s : Script) → IsRunning (run_of m d s) → IsRunning (run_of (with_arm arm device m) d s)
 still_runs m arm device d s r = subst IsRunning (sym (same m.devices)) r
   where
@@ -143,7 +139,7 @@ module _ (x : Option FaultAfter) (m : Machine) (d : ℕ) (s : Script) (r : IsRun
   working_hio : (a : ℕ) → Good (working m d s) (Hio a) x (WithCode Two, cut (fault_in x) d (working m d s) (run_of m d s))
   working_hio a =
       let y = working_device m d s (device_at m d) refl r in
-      on_device m (Hio a) x (λ o. (WithCode Two, cut (fault_in x) d (working m d s) o)) d s y.0 y.1 (working m d s) (cut_good a x m d s y.0 (run s (start_of m y.0.drive)) y.1 refl y.2)
+      by_device m d s y.0 (λ o. Good (working m d s) (Hio a) x (WithCode Two, cut (fault_in x) d (working m d s) o)) y.1 (cut_good a x m d s y.0 (run s (start_of m y.0.drive)) y.1 refl y.2)
 
   working_arrive : (a device : ℕ) (u : Option Device) → Good (working m d s) (Arrive a) x (arrive device (working m d s) u)
   working_arrive a device None = record { runs = r; follows = λ ahead q. nothing_good ahead }
@@ -154,12 +150,12 @@ module _ (x : Option FaultAfter) (m : Machine) (d : ℕ) (s : Script) (r : IsRun
   working_step : (k : ℕ) → Good (working m d s) (StepBy k) x (stepped d s k (working m d s) (run_of m d (s ++ units_with k x)))
   working_step k =
       let y = working_device m d s (device_at m d) refl r in
-      on_device m (StepBy k) x (stepped d s k (working m d s)) d (s ++ units_with k x) y.0 y.1 (working m d s) (step_good x m d s k y.0 (run (s ++ units_with k x) (start_of m y.0.drive)) y.1 y.2 refl)
+      by_device m d (s ++ units_with k x) y.0 (λ o. Good (working m d s) (StepBy k) x (stepped d s k (working m d s) o)) y.1 (step_good x m d s k y.0 (run (s ++ units_with k x) (start_of m y.0.drive)) y.1 y.2 refl)
 
   working_reset : Good (working m d s) Reset x (reset (fault_in x) (working m d s) (Working d s))
   working_reset =
       let y = working_device m d s (device_at m d) refl r in
-      on_device m Reset x (λ o. (WasReset (unsaved_at (256 * m.channel + d) (fault_in x) o), all_at_rest (cut (fault_in x) d (working m d s) o))) d s y.0 y.1 (working m d s) (reset_good x m d s y.0 (run s (start_of m y.0.drive)) y.1 refl y.2)
+      by_device m d s y.0 (λ o. Good (working m d s) Reset x (WasReset (unsaved_at (256 * m.channel + d) (fault_in x) o), all_at_rest (cut (fault_in x) d (working m d s) o))) y.1 (reset_good x m d s y.0 (run s (start_of m y.0.drive)) y.1 refl y.2)
 
   -- a change of storage between two units
   working_change : (more : Script) (c : Change) → ((key : ℕ) (g : ProgramPhase) → Later key more c g)

@@ -1,6 +1,7 @@
 -- A machine in each state of its subchannel.
-use Rattle.std.proofs.Common.{◌≡◌, ℕ, ap, Option, Some, None}
+use Rattle.std.proofs.Common.{◌≡◌, ℕ, ap, subst, sym, Option, Some, None}
 use Rattle.std.specs.Prelude.{option_map}
+use Rattle.s360_runs.specs.Endings.{Outcome}
 use Rattle.s360_runs.specs.Runs.{run}
 use Rattle.s360_laws.specs.Soundness.{IsRunning}
 use Rattle.std.proofs.Common.{ℕ}
@@ -24,3 +25,7 @@ working_device m d s (Some v) at r = (v, at, r)
 
 pub run_at : (m : Machine) (d : ℕ) (v : Device) (s : Script) → device_at m d ≡ Some v → run_of m d s ≡ Some (run s (start_of m v.drive))
 run_at m d v s at = ap (option_map (λ v. run s (start_of m v.drive))) at
+
+-- what holds of its run holds of the run of the device
+pub by_device : (m : Machine) (d : ℕ) (s : Script) (v : Device) (P : Option Outcome → Type 0) → device_at m d ≡ Some v → P (Some (run s (start_of m v.drive))) → P (run_of m d s)
+by_device m d s v P at p = subst (λ y. P (option_map (λ v. run s (start_of m v.drive)) y)) (sym at) p

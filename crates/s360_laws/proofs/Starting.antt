@@ -2,7 +2,7 @@
 use Rattle.std.proofs.Common.{◌≡◌, ℕ, ◌/◌, ◌%◌, refl, sym, ap, ◌∙◌, arith, true, false, Bool, cond, ◌==◌, Option}
 use Rattle.std.proofs.lemmas.Bool.{cond_both, false≢true}
 use Rattle.s360_words.specs.declared.flags.TheConstants.UnitStatus.{CHANNEL_END}
-use Rattle.s360_laws.specs.Events.{Answer, WithCode, Sio, FaultAfter, Event, Tio, Hio, Tch, StepBy, Arrive, Interrupt, Reset, Store, SetKey, Show}
+use Rattle.s360_laws.specs.Events.{Answer, WithCode, Sio, FaultAfter, Event}
 use Rattle.s360_laws.specs.Ledger.{NoStartWhileWorking, is_accepted, StartsAfterChannelEnd}
 use Rattle.s360_laws.specs.Soundness.{channel_owes}
 use Rattle.s360_laws.specs.Machine.{Machine, Working, Subchannel, is_working, react, Idle, Pending, start_io, after_all}

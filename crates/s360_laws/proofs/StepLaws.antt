@@ -10,7 +10,7 @@ use Rattle.s360_runs.specs.Scripts.{units, OneUnit, Script, units_in}
 use Rattle.s360_runs.proofs.Walks.{ended_stays, units_in_two}
 use Rattle.s360_laws.specs.Events.{FaultAfter, Answer, StepBy, Stepped}
 use Rattle.s360_laws.specs.History.{Runs}
-use Rattle.s360_laws.specs.Machine.{units_failing, units_with, Machine, react, run_of, Device, device_at, start_of, stepped, Subchannel, Idle, Pending, Working, is_working}
+use Rattle.s360_laws.specs.Machine.{units_failing, units_with, Machine, react, run_of, Device, device_at, start_of, stepped, Subchannel, Working, is_working}
 use Rattle.s360_laws.specs.Soundness.{IsRunning}
 use Rattle.s360_laws.specs.Steps.{after_units, units_of, StepsJoin, StepsSplit, StepsAtMost}
 use Rattle.s360_laws.proofs.SeenDevices.{seen}
