@@ -47,15 +47,10 @@ failing_or (suc k) zero s script f key g st = met (run_by_fault s script (units 
 failing_or (suc k) (suc after) s script f key g st = go (unit None key g) refl (λ p st. failing_or k after s (script ++ OneUnit None ∷ []) f key p st)
   where
     one : units_in (script ++ OneUnit None ∷ []) + suc after ≡ units_in script + suc (suc after)
-    one = let a = units_in_two script (OneUnit None ∷ []) in omega arith
+    one = omega (arith, units_in_two)
 
     counts : units_in (script ++ OneUnit None ∷ units_failing k after f) - units_in (units_failing k after f) ≡ units_in (script ++ OneUnit None ∷ units k) - units_in (units k)
-    counts =
-        let a = units_in_two script (OneUnit None ∷ units_failing k after f) in
-        let b = units_in_two script (OneUnit None ∷ units k) in
-        let c = units_count k (Some (record { units = after; fault = f })) in
-        let d = units_count k None in
-        omega arith
+    counts = omega (arith, units_in_two, units_count k (Some (record { units = after; fault = f })), units_count k None)
 
     go : (n : Next) → unit None key g ≡ n → ((p : ProgramPhase) → StandsAt s (script ++ OneUnit None ∷ []) key p
         → MetOr s ((script ++ OneUnit None ∷ []) ++ units_failing k after f) ((script ++ OneUnit None ∷ []) ++ units k) f (units_in (script ++ OneUnit None ∷ []) + suc after))

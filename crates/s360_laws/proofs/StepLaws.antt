@@ -58,9 +58,7 @@ joined_second m d s j k x v at r (Some (Ended u st e)) h =
     let y = stood (start_of m v.drive) (s ++ units j) r in
     let q = the_run _ _ (sym (run_at m d v ((s ++ units j) ++ units_with k x) at) ∙ h) in
     let z = ended_in (start_of m v.drive) (s ++ units j) (units_with k x) y.0 y.1 u st e y.2 q in
-    let both = units_in_two s (units j) in
-    let all = units_count j None in
-    let count : u - units_in s ≡ j + (u - units_in (s ++ units j)) = omega arith in
+    let count : u - units_in s ≡ j + (u - units_in (s ++ units j)) = omega (arith, units_in_two, units_count j None) in
     (refl, ap Stepped count)
 
 joined_first : (m : Machine) (d : ℕ) (s : Script) (j k : ℕ) (x : Option FaultAfter) (v : Device) → device_at m d ≡ Some v
@@ -112,9 +110,8 @@ most_stepped m d s k x v r (NotEnded seen) h = (omega arith, λ w. refl)
 most_stepped m d s k x v r (Ended used st e) h =
     let y = stood (start_of m v.drive) s r in
     let z = ended_in (start_of m v.drive) s (units_with k x) y.0 y.1 used st e y.2 h in
-    let split = ap units_in z.parts ∙ units_in_two z.front z.rest in
-    let all = units_count k x in
-    let few : used - units_in s ≤ k = omega arith in
+    let split = ap units_in z.parts in
+    let few : used - units_in s ≤ k = omega (arith, units_in_two, units_count k x) in
     (few, λ w. absurd (cc))
 
 pub steps_at_most : StepsAtMost

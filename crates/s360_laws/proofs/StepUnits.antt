@@ -110,14 +110,7 @@ pub unmet : (s : Start) (script : Script) (key : ℕ) (g : ProgramPhase) (k : �
 unmet s script key g k x seen st r more = go (walk (units_with k x) key g) refl
   where
     counts : units_in ((script ++ units k) ++ more) ≡ units_in ((script ++ units_with k x) ++ more)
-    counts =
-        let a = units_in_two (script ++ units k) more in
-        let b = units_in_two script (units k) in
-        let c = units_in_two (script ++ units_with k x) more in
-        let d = units_in_two script (units_with k x) in
-        let e = units_count k x in
-        let f = plain_count k in
-        omega arith
+    counts = omega (arith, units_in_two, units_count k x, plain_count k)
 
     go : (w : Walk) → walk (units_with k x) key g ≡ w → run ((script ++ units k) ++ more) s ≡ run ((script ++ units_with k x) ++ more) s
     go (EndsWith rest st_two e) w = let q = sym (ap (outcome_of (script ++ units_with k x) key) w) ∙ sym (st (units_with k x)) ∙ r in absurd (cc)

@@ -380,7 +380,7 @@ run_by_fault s script rest f key g st = go (fault_or_not f key g)
     counts = units_in_two script (OneUnit (Some f) ∷ rest) ∙ sym (units_in_two script (OneUnit None ∷ rest))
 
     used : units_in (script ++ OneUnit (Some f) ∷ rest) - units_in rest ≡ suc (units_in script)
-    used = let e = units_in_two script (OneUnit (Some f) ∷ rest) in omega arith
+    used = omega (arith, units_in_two)
 
     met : (x : Next) → NextByFault f key g x → OutcomeByFault f (suc (units_in script)) (cut_drive key g) (outcome_of (script ++ OneUnit (Some f) ∷ rest) key (on_next rest x (walk rest key)))
     met (GoesOn p) n = absurd n
@@ -430,7 +430,7 @@ pub goes_on_without_faults : GoesOnWithoutFaults
 goes_on_without_faults s script seen r more = from (caw_of s.caw) refl
   where
     counts : units_in (without_faults script ++ more) ≡ units_in (script ++ more)
-    counts = let a = units_in_two (without_faults script) more in let b = units_in_two script more in let c = units_without script in omega arith
+    counts = omega (arith, units_in_two, units_without script)
 
     by_walk : (caw : Caw) → caw_of s.caw ≡ Some caw → (w : Walk) → walk script caw.key (Between (start_point caw s)) ≡ w → run (without_faults script ++ more) s ≡ run (script ++ more) s
     by_walk caw at (EndsWith rest st e) w = let h = sym (run_is_walk s caw script at ∙ ap (outcome_of script caw.key) w) ∙ r in absurd (cc)

@@ -155,9 +155,7 @@ Stays (NotEnded s) after = Unit {0}
 stays_walk : (script more : Script) (key : ℕ) (w : Walk) → Stays (outcome_of script key w) (outcome_of (script ++ more) key (walked_on w key more))
 stays_walk script more key (StandsIn f) = tt
 stays_walk script more key (EndsWith rest s e) =
-    let a = units_in_two script more in
-    let b = units_in_two rest more in
-    let used : units_in (script ++ more) - units_in (rest ++ more) ≡ units_in script - units_in rest = omega arith in
+    let used : units_in (script ++ more) - units_in (rest ++ more) ≡ units_in script - units_in rest = omega (arith, units_in_two) in
     ap (λ u. Ended u s e) used
 
 stays_from : (s : Start) (script more : Script) (c : Option Caw) → Stays (run_from script s c) (run_from (script ++ more) s c)
