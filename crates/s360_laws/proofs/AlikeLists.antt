@@ -77,13 +77,11 @@ gone x t u s f a = record {
 }
 
 left_out : (t : Exchange) (x : List Exchange) → changes_nothing t ≡ true → Alike (t ∷ x) x
-left_out (Sio a, m, WithCode One) x h = gone x (Sio a, m, WithCode One) refl refl refl refl
-left_out (Sio a, m, WithCode Two) x h = gone x (Sio a, m, WithCode Two) refl refl refl refl
-left_out (Sio a, m, WithCode Three) x h = gone x (Sio a, m, WithCode Three) refl refl refl refl
+left_out (Sio a, m, WithCode Zero) x h = absurd (cc)
+left_out (Sio a, m, WithCode code) x h = gone x (Sio a, m, WithCode code) refl refl refl refl
 left_out (Tio a, m, WithCode n) x h = gone x (Tio a, m, WithCode n) refl refl refl refl
-left_out (Hio a, m, WithCode Zero) x h = gone x (Hio a, m, WithCode Zero) refl refl refl refl
-left_out (Hio a, m, WithCode One) x h = gone x (Hio a, m, WithCode One) refl refl refl refl
-left_out (Hio a, m, WithCode Three) x h = gone x (Hio a, m, WithCode Three) refl refl refl refl
+left_out (Hio a, m, WithCode Two) x h = absurd (cc)
+left_out (Hio a, m, WithCode code) x h = gone x (Hio a, m, WithCode code) refl refl refl refl
 left_out (Tch, m, r) x h = gone x (Tch, m, r) refl refl refl refl
 left_out (StepBy k, m, Stepped zero) x h = gone x (StepBy k, m, Stepped zero) (zero-add (units_ahead x)) (none k m) refl refl
   where

@@ -93,37 +93,27 @@ first_keeps s = from (caw_of s.caw)
 
 -- Acts.
 
+agrees : (track device p : ℕ) (drive : IdleDrive) (ds : Drives) (d : ℕ × IdleDrive) → at p ds ≡ Some d → ((p == device) ≡ true → slot_in drive.volume track ≡ slot_in d.1.volume track) → Agrees track device p drive ds
+agrees track device p drive ds d e k c f l = let q = sym e ∙ f in let same : d ≡ c = cc in k l ∙ ap (λ d. slot_in d.1.volume track) same
+
 program_keeps : (w : World) (p device track : ℕ) (script : Script) (fate : Fate) (y : Option (ℕ × IdleDrive)) → drive_in w p ≡ y → ((p == device) && program_writes w track script y) ≡ false
     → slot track (at device (after_program w p script fate y).drives) ≡ slot track (at device w.drives)
 program_keeps w p device track script fate None e h = refl
-program_keeps w p device track script fate (Some d) e h = go fate (run script (start_in w d.1)) (λ k. run_keeps (start_in w d.1) script track (not_written (p == device) _ k h))
+program_keeps w p device track script fate (Some d) e h =
+    go fate (run script (start_in w d.1)) (λ k. run_keeps (start_in w d.1) script track (subst (λ b. (b && program_writes w track script (Some d)) ≡ false) k h))
   where
-    not_written : (a b : Bool) → a ≡ true → (a && b) ≡ false → b ≡ false
-    not_written true b k h = h
-    not_written false b k h = absurd (cc)
-
-    the : (d c : ℕ × IdleDrive) → Some d ≡ Some c → d ≡ c
-    the d c h = cc
-
-    agrees : (drive : IdleDrive) → ((p == device) ≡ true → slot_in drive.volume track ≡ slot_in d.1.volume track) → Agrees track device p drive w.drives
-    agrees drive k c f l = k l ∙ ap (λ d. slot_in d.1.volume track) (the d c (sym e ∙ f))
-
     go : (fate : Fate) (o : Outcome) → ((p == device) ≡ true → OutcomeKeeps track d.1.volume o) → slot track (at device (after_run w p fate o).drives) ≡ slot track (at device w.drives)
-    go ByItself (Ended used s z) k = with_slot track device p z.drive w.drives (agrees z.drive k)
-    go (IsCut fault) (Ended used s z) k = with_slot track device p z.drive w.drives (agrees z.drive k)
-    go (IsCut fault) (NotEnded seen) k = with_slot track device p (seen.cut fault).drive w.drives (agrees (seen.cut fault).drive (λ l. k l fault))
+    go ByItself (Ended used s z) k = with_slot track device p z.drive w.drives (agrees track device p z.drive w.drives d e k)
+    go (IsCut fault) (Ended used s z) k = with_slot track device p z.drive w.drives (agrees track device p z.drive w.drives d e k)
+    go (IsCut fault) (NotEnded seen) k = with_slot track device p (seen.cut fault).drive w.drives (agrees track device p (seen.cut fault).drive w.drives d e (λ l. k l fault))
     go ByItself (NotEnded seen) k = refl
 
 rejection_keeps : (w : World) (p device track : ℕ) (y : Option (ℕ × IdleDrive)) → drive_in w p ≡ y → slot track (at device (after_rejection w p y).drives) ≡ slot track (at device w.drives)
 rejection_keeps w p device track None e = refl
 rejection_keeps w p device track (Some d) e = go (first (start_in w d.1)) refl
   where
-    the : (d c : ℕ × IdleDrive) → Some d ≡ Some c → d ≡ c
-    the d c h = cc
-
     go : (f : First) → first (start_in w d.1) ≡ f → slot track (at device (after_first w p f).drives) ≡ slot track (at device w.drives)
-    go (RejectedStart drive) k =
-        with_slot track device p drive w.drives (λ c f l. ap (λ v. slot_in v track) (subst (FirstKeeps d.1.volume) k (first_keeps (start_in w d.1))) ∙ ap (λ d. slot_in d.1.volume track) (the d c (sym e ∙ f)))
+    go (RejectedStart drive) k = with_slot track device p drive w.drives (agrees track device p drive w.drives d e (λ l. ap (λ v. slot_in v track) (subst (FirstKeeps d.1.volume) k (first_keeps (start_in w d.1)))))
     go f k = refl
 
 act_keeps : (w : World) (device track : ℕ) (act : Act) → act_writes w device track act ≡ false → slot_at (does w act) device track ≡ slot_at w device track

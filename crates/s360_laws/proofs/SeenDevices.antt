@@ -30,20 +30,16 @@ one_arm false arm u = refl
 pub arms : (arm : Arm) (device : ℕ) (us : List Device) → map seen (map (λ u. cond (u.device == device) (record u { arm = arm }) u) us) ≡ map seen us
 arms arm device us = seen_same _ (λ u. one_arm (u.device == device) arm u) us
 
-pub one_end : (b : Bool) (arm : Arm) (d : IdleDrive) (u : Device) → seen (cond b (record u { arm = arm; drive = d }) u) ≡ cond b (u.device, d) (seen u)
-one_end true arm d u = refl
-one_end false arm d u = refl
+pub seen_cond : (b : Bool) (x y : Device) → seen (cond b x y) ≡ cond b (seen x) (seen y)
+seen_cond true x y = refl
+seen_cond false x y = refl
 
 pub ends : (arm : Arm) (d : IdleDrive) (device : ℕ) (us : List Device)
     → map seen (map (λ u. cond (u.device == device) (record u { arm = arm; drive = d }) u) us) ≡ with_drive device d (map seen us)
-ends arm d device us = seen_map _ _ (λ u. one_end (u.device == device) arm d u) us
-
-pub one_drive : (b : Bool) (d : IdleDrive) (u : Device) → seen (cond b (record u { drive = d }) u) ≡ cond b (u.device, d) (seen u)
-one_drive true d u = refl
-one_drive false d u = refl
+ends arm d device us = seen_map _ _ (λ u. seen_cond (u.device == device) (record u { arm = arm; drive = d }) u) us
 
 pub drives : (d : IdleDrive) (device : ℕ) (us : List Device) → map seen (map (λ u. cond (u.device == device) (record u { drive = d }) u) us) ≡ with_drive device d (map seen us)
-drives d device us = seen_map _ _ (λ u. one_drive (u.device == device) d u) us
+drives d device us = seen_map _ _ (λ u. seen_cond (u.device == device) (record u { drive = d }) u) us
 
 pub rests : (us : List Device) → map seen (map at_rest us) ≡ map (λ p. (p.0, record p.1 { sense = no_sense })) (map seen us)
 rests us = seen_map at_rest _ (λ u. refl) us

@@ -73,9 +73,8 @@ ended_in s script more key g used st e h r = go (walk more key g) refl
         let q = sym (ap (outcome_of (script ++ more) key) w) ∙ sym (h more) ∙ r in
         let same : EndsWith [] a b ≡ EndsWith [] st e = cc in
         let count : units_in (script ++ more) - units_in rest ≡ used = cc in
-        let split = ap units_in y.1 ∙ units_in_two y.0 rest in
-        let both = units_in_two script more in
-        record { front = y.0; rest = rest; parts = y.1; walked = y.2 ∙ same; all_used = omega arith }
+        let split = ap units_in y.1 in
+        record { front = y.0; rest = rest; parts = y.1; walked = y.2 ∙ same; all_used = omega (arith, units_in_two) }
 
 -- A program that ended in a step ended at its last unit that counts.
 pub ended_there : (s : Start) (script : Script) (key : ℕ) (g : ProgramPhase) (k used : ℕ) (x : Option FaultAfter) (st : Storage) (e : Ending) → StandsAt s script key g
@@ -84,9 +83,8 @@ ended_there s script key g k used x st e h r =
     let y = ended_in s script (units_with k x) key g used st e h r in
     let front = units_front k x y.front y.rest y.parts in
     let count = ap units_in (sym front) ∙ units_count (length y.front) x in
-    let both = units_in_two script y.front in
     let steps : used - units_in script ≡ length y.front = omega arith in
-    let all : units_in (script ++ y.front) ≡ used = omega arith in
+    let all : units_in (script ++ y.front) ≡ used = omega (arith, units_in_two) in
     ap (λ j. run (script ++ units_with j x) s) steps ∙ ap (λ l. run (script ++ l) s) front ∙ ends_by s script y.front key g st e h y.walked ∙ ap (λ u. Ended u st e) all
 
 -- A step that the program outlives has met no fault.
