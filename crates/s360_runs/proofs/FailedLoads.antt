@@ -1,22 +1,19 @@
 -- All that a failed load leaves.
-use Rattle.std.proofs.Common.{◌≡◌, ℕ, refl, sym, ap, subst, ◌∙◌, ◌+◌, true, false, Bool, cond, Option, Some, None}
-use Rattle.std.specs.Prelude.{◌%◌, ◌^◌}
-use Rattle.s360_words.specs.declared.flags.ChannelStatus.{ChannelStatus}
+use Rattle.std.proofs.Common.{◌≡◌, ℕ, refl, sym, ap, subst, ◌∙◌, true, false, Bool, cond, Option, Some, None}
 use Rattle.s360_words.specs.declared.words.Caw.{Caw}
 use Rattle.ckd_command.specs.Commands.{beginning}
-use Rattle.ckd_command.specs.Drive.{AfterBegin, AfterLook, Failed, Fault, Immediate, LoadFails, Open, Passed, Ready, Rejected, Started, State, begin, close, drive_of, begun, look, looked, state_of, track_under, unsaved, with_store_fault}
+use Rattle.ckd_command.specs.Drive.{AfterBegin, AfterLook, Failed, Fault, Immediate, LoadFails, Open, Passed, Ready, Rejected, Started, State, begin, close, begun, look, looked, track_under, unsaved, with_store_fault}
 use Rattle.ckd_command.specs.Tables.{aim}
 use Rattle.ckd_command.specs.declared.tables.Aim.{Aim}
 use Rattle.ckd_command.specs.declared.tables.Aim.TheVariants.{Next as NextArea}
 use Rattle.ckd_command.specs.Answers.{Beginning, Sight}
 use Rattle.ckd_command.specs.Answers as answer
-use Rattle.ckd_sense.specs.declared.sense_bytes.Sense.{Sense}
 use Rattle.ckd_sense.specs.declared.sense_bytes.TheConstants.Sense.{ZERO, STORE_FAULT}
 use Rattle.ckd_sense.specs.SenseBytes.{joined}
 use Rattle.ckd_command.proofs.Arms.{BeginsAt, NoSenseFor, SightAt, beginning_at, sight_at}
 use Rattle.ckd_command.proofs.Marks.{anywhere}
 use Rattle.s360_runs.specs.Commands.{Chains, Choice, Ends, choice, completed, requested}
-use Rattle.s360_runs.specs.Endings.{Ending, ending, failed, immediate}
+use Rattle.s360_runs.specs.Endings.{ending, failed, immediate}
 use Rattle.s360_runs.specs.Faults.{FailedLoad, ended_by_load}
 use Rattle.s360_runs.specs.Places.{Fetched, GoodCcw, fetch}
 use Rattle.s360_runs.specs.Runs.{Start, start_point}
