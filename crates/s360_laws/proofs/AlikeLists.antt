@@ -8,7 +8,7 @@ use Rattle.s360_laws.specs.Events.{Exchange, Hio, WithCode, Reset, Sio, StepBy, 
 use Rattle.s360_laws.specs.History.{units_ahead, script_ahead, fate_ahead, acts, own_change, where_over, Changes, acts_of, Program, turns_of}
 use Rattle.s360_laws.specs.Machine.{units_with}
 use Rattle.s360_laws.specs.SerialLists.{changes_nothing, is_arrival, arrivals_last, steps_ahead, is_step, is_between, whole_step, steps_of, ArePlain, steps_joined, SameActs}
-use Rattle.s360_laws.specs.declared.condition.ConditionCode.TheVariants.{Two, Zero, One, Three}
+use Rattle.s360_laws.specs.declared.condition.ConditionCode.TheVariants.{Two, Zero}
 use Rattle.s360_laws.proofs.Ahead.{step_script, same_script}
 use Rattle.s360_laws.proofs.StepLaws.{plain_two}
 
