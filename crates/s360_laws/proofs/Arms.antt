@@ -1,5 +1,6 @@
 -- What events do to arms that owe a device end.
 use Rattle.std.proofs.Common.{◌≡◌, ◌≤◌, ℕ, ◌+◌, ◌*◌, ◌/◌, ◌%◌, refl, sym, ap, subst, ◌∙◌, arith, true, false, Bool, cond, ◌&&◌, ◌==◌, List, [], ◌∷◌, ◌++◌, map, Option, Some, None}
+use Rattle.std.proofs.Math.Bool.{and-true}
 use Rattle.std.proofs.lemmas.Bool.{cond_both, eq-eqb, eqb-true, ltb-false, ltb-true}
 use Rattle.std.specs.Prelude.{find, option_map, is_some, filter, nat_lt}
 use Rattle.s360_words.specs.Storage.{Storage, Bytes, KeyOf, is_within}
@@ -36,10 +37,10 @@ either : (u : ℕ) (arm : Arm) (e : Event) (x : Option FaultAfter) (b : Bool) (y
     → (b ≡ true → Keeps_arm u arm e x y) → Keeps_arm u arm e x z → Keeps_arm u arm e x (cond b y z)
 either u arm e x b y z f g = cond_both b y z (Keeps_arm u arm e x) f (λ h. g)
 
--- a status without device end
-quiet_status : (b : Bool) (arm : Arm) → Some arm ≡ Some (cond (b && false) AtRest (cond false Arrived arm))
-quiet_status true arm = refl
-quiet_status false arm = refl
+-- a status without device end, where it is for this address
+unended : (b c : Bool) (arm : Arm) → (b ≡ true → c ≡ false) → Some arm ≡ Some (cond (b && c) AtRest (cond false Arrived arm))
+unended true c arm k = ap (λ c. Some (cond c AtRest arm)) (sym (k refl))
+unended false c arm k = refl
 
 -- The arm at an address after a change of one device.
 
@@ -126,27 +127,19 @@ begin_arm m a d u arm x v f e at free h o = go f
     away : (address_of m d == u) ≡ true → ⊥
     away = not_here m d u arm h o (ap device_owes at ∙ ap arm_owes free)
 
-    no_end : (b c : Bool) → (b ≡ true → ⊥) → Some arm ≡ Some (cond (b && c) AtRest (cond false Arrived arm))
-    no_end true c k = absurd (k refl)
-    no_end false c k = refl
-
     here_not : (a == u) ≡ true → ⊥
     here_not k = away (ap (λ a. a == u) e ∙ k)
 
     go : (f : First) → Keeps_arm u arm (Sio a) x (started d (idle m) f)
-    go BadStart = h ∙ quiet_status (a == u) arm
-    go (RejectedStart w) = arm_of_change m d u (set_drive w) (λ v. refl) ∙ other m d u arm (λ v. v.arm) h away ∙ quiet_status (a == u) arm
-    go (ImmediateStart z) = arm_of_change m d u (set_both (arm_after z) z.drive) (λ v. refl) ∙ other m d u arm (λ v. arm_after z) h away ∙ no_end (a == u) (tells z.csw.unit DEVICE_END) here_not
+    go BadStart = h ∙ unended (a == u) false arm (λ k. refl)
+    go (RejectedStart w) = arm_of_change m d u (set_drive w) (λ v. refl) ∙ other m d u arm (λ v. v.arm) h away ∙ unended (a == u) false arm (λ k. refl)
+    go (ImmediateStart z) = arm_of_change m d u (set_both (arm_after z) z.drive) (λ v. refl) ∙ other m d u arm (λ v. arm_after z) h away ∙ unended (a == u) (tells z.csw.unit DEVICE_END) arm (λ k. absurd (here_not k))
     go AcceptedStart = h
 
 -- a device end that is stored
 told : (m : Machine) (a d u : ℕ) (arm : Arm) (v : Device) → address_of m d ≡ a → Has_arm u arm m → device_at m d ≡ Some v
     → cond (address_of m d == u) (option_map (λ v. (set_arm AtRest v).arm) (device_for m u)) (arm_for m u) ≡ Some (cond ((a == u) && true) AtRest (cond false Arrived arm))
-told m a d u arm v e h at = set_here m d u arm AtRest v h at ∙ ap (λ b. Some (cond b AtRest arm)) (ap (λ a. a == u) e) ∙ go (a == u)
-  where
-    go : (b : Bool) → Some (cond b AtRest arm) ≡ Some (cond (b && true) AtRest (cond false Arrived arm))
-    go true = refl
-    go false = refl
+told m a d u arm v e h at = set_here m d u arm AtRest v h at ∙ ap (λ b. Some (cond b AtRest arm)) (ap (λ a. a == u) e ∙ sym (and-true (a == u)))
 
 start_arm : (m : Machine) (a d u : ℕ) (arm : Arm) (x : Option FaultAfter) (y : Option Device) → address_of m d ≡ a → device_at m d ≡ y → Has_arm u arm m → arm_owes arm ≡ 1
     → Keeps_arm u arm (Sio a) x (start_device d (idle m) y)
@@ -154,7 +147,7 @@ start_arm m a d u arm x None e at h o = h
 start_arm m a d u arm x (Some v) e at h o = go v.arm refl
   where
     go : (w : Arm) → v.arm ≡ w → Keeps_arm u arm (Sio a) x (start_device d (idle m) (Some (record v { arm = w })))
-    go InMotion k = h ∙ quiet_status (a == u) arm
+    go InMotion k = h ∙ unended (a == u) false arm (λ k. refl)
     go Arrived k = arm_of_change m d u (set_arm AtRest) (λ v. refl) ∙ told m a d u arm v e h at
     go AtRest k = begin_arm m a d u arm x v (first (start_of m v.drive)) e at k h o
 
@@ -164,7 +157,7 @@ test_arm m a d u arm x None e at h = h
 test_arm m a d u arm x (Some v) e at h = go v.arm
   where
     go : (w : Arm) → Keeps_arm u arm (Tio a) x (test_device d (idle m) (Some (record v { arm = w })))
-    go InMotion = h ∙ quiet_status (a == u) arm
+    go InMotion = h ∙ unended (a == u) false arm (λ k. refl)
     go Arrived = arm_of_change m d u (set_arm AtRest) (λ v. refl) ∙ told m a d u arm v e h at
     go AtRest = h
 
@@ -208,7 +201,7 @@ step_arm m d s k u arm x (Some (NotEnded st)) h o z = h
 asked_arm : (m : Machine) (d : ℕ) (s : Script) (u : ℕ) (arm : Arm) (x : Option FaultAfter) (c : Option Csw) → AsksGood c → Has_arm u arm m
     → Keeps_arm u arm Interrupt x (interrupt_program d s (working m d s) c)
 asked_arm m d s u arm x None g h = h
-asked_arm m d s u arm x (Some csw) g h = h ∙ quiet_status (address_of m d == u) arm ∙ ap (λ k. Some (cond ((address_of m d == u) && tells k DEVICE_END) AtRest (cond false Arrived arm))) (sym g)
+asked_arm m d s u arm x (Some csw) g h = h ∙ unended (address_of m d == u) false arm (λ k. refl) ∙ ap (λ k. Some (cond ((address_of m d == u) && tells k DEVICE_END) AtRest (cond false Arrived arm))) (sym g)
 
 cut_there : (m : Machine) (d : ℕ) (s : Script) (u : ℕ) (x : Option FaultAfter) (o : Option Outcome) → is_some (device_for m u) ≡ true → is_some (device_for (cut (fault_in x) d (working m d s) o) u) ≡ true
 cut_there m d s u x None h = h
@@ -250,12 +243,7 @@ no_end_here m p u arm true h o r k = absurd (not_here m p u arm h o (zero _ r) k
 
 told_csw_arm : (m : Machine) (p a u : ℕ) (arm : Arm) (csw : Csw) → address_of m p ≡ a → Rest m (Pending p csw) → Has_arm u arm m → arm_owes arm ≡ 1
     → Some arm ≡ Some (cond ((a == u) && tells csw.unit DEVICE_END) AtRest (cond false Arrived arm))
-told_csw_arm m p a u arm csw e r h o = go (a == u) (tells csw.unit DEVICE_END) (λ k. no_end_here m p u arm (tells csw.unit DEVICE_END) h o r.1 (ap (λ a. a == u) e ∙ k))
-  where
-    go : (b c : Bool) → (b ≡ true → c ≡ false) → Some arm ≡ Some (cond (b && c) AtRest (cond false Arrived arm))
-    go true true k = absurd (cc (k refl))
-    go true false k = refl
-    go false c k = refl
+told_csw_arm m p a u arm csw e r h o = unended (a == u) (tells csw.unit DEVICE_END) arm (λ k. no_end_here m p u arm (tells csw.unit DEVICE_END) h o r.1 (ap (λ a. a == u) e ∙ k))
 
 pending_test_arm : (m : Machine) (p a u : ℕ) (arm : Arm) (csw : Csw) (x : Option FaultAfter) (b : Bool) → (a % 256 == p) ≡ b → address_of m (a % 256) ≡ a → Rest m (Pending p csw) → Has_arm u arm m → arm_owes arm ≡ 1
     → Keeps_arm u arm (Tio a) x (cond b (CswStored csw, with_csw csw (idle m)) (WithCode Two, pending m p csw))

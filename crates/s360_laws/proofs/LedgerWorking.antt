@@ -1,5 +1,6 @@
 -- An event while a program runs keeps the ledger in balance.
 use Rattle.std.proofs.Common.{◌≡◌, ℕ, ◌+◌, ◌*◌, ◌/◌, ◌%◌, refl, sym, ap, ◌∙◌, true, false, Bool, cond, not, ◌&&◌, ◌==◌, ◌++◌, Option, Some, None, zero-add}
+use Rattle.std.proofs.Math.Bool.{and-true}
 use Rattle.std.proofs.lemmas.Bool.{eq-eqb}
 use Rattle.std.specs.Prelude.{option_map}
 use Rattle.s360_words.specs.Storage.{Storage, is_within, Bytes, KeyOf}
@@ -29,10 +30,6 @@ ended_owes true c motion w y q k z =
     ap (λ y. 0 + (cond c 1 0 + device_owes (option_map (set_both (cond motion InMotion AtRest) w) y))) (k refl).1 ∙ zero-add _ ∙ end_owes c motion q ∙ sym (ap (λ n. 1 + n) (z refl))
 ended_owes false c motion w y q k z = zero-add _
 
-pub once_told : (b : Bool) → ◌≡◌ {A = ℕ} (cond (b && true) 1 0) (cond b 1 0)
-once_told true = refl
-once_told false = refl
-
 pub over_rest : (m : Machine) (d : ℕ) (st : Storage) (e : Ending) (v : Device) → device_at m d ≡ Some v → IsGood e → Rest (ended d st e m) (Pending d e.csw)
 over_rest m d st e v at g = (
   g.channel_end,
@@ -46,7 +43,7 @@ over_rest m d st e v at g = (
 pub over_balance : (m : Machine) (d u : ℕ) (s : Script) (st : Storage) (e : Ending) (v : Device) → device_at m d ≡ Some v → device_owes (device_at m d) ≡ 0 → IsGood e
     → (0 + owes_channel_end u (ended d st e m) ≡ owes_channel_end u (working m d s)) × (0 + owes_device_end u (ended d st e m) ≡ owes_device_end u (working m d s))
 over_balance m d u s st e v at z g = (
-  zero-add _ ∙ ap (λ c. cond ((address_of m d == u) && c) 1 0) g.channel_end ∙ once_told (address_of m d == u),
+  zero-add _ ∙ ap (λ c. cond ((address_of m d == u) && c) 1 0) g.channel_end ∙ ap (λ b. cond b 1 0) (and-true (address_of m d == u)),
   ap (λ y. 0 + (cond ((address_of m d == u) && tells e.csw.unit DEVICE_END) 1 0 + device_owes y)) (end_set m (arm_after e) e.drive d (address_of m d) u st refl)
       ∙ ended_owes (address_of m d == u) (tells e.csw.unit DEVICE_END) e.motion e.drive (device_for m u) g.device_end
       (λ b. (v, sound_device m (address_of m d) d u v refl at b)) (λ b. ap device_owes (sound_device m (address_of m d) d u v refl at b ∙ sym at) ∙ z),
