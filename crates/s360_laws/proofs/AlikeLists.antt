@@ -1,15 +1,15 @@
 -- The acts of the serial list are the acts of the list.
-use Rattle.std.proofs.Common.{◌≡◌, ℕ, zero, suc, ◌+◌, ◌*◌, ◌/◌, ◌%◌, refl, sym, ap, subst, ◌∙◌, arith, true, false, Bool, cond, not, ◌&&◌, ◌||◌, ◌==◌, List, [], ◌∷◌, ◌++◌, Option, Some, None, zero-add, append_assoc, append-nil}
-use Rattle.std.proofs.lemmas.Bool.{eqb-true}
+use Rattle.std.proofs.Common.{◌≡◌, ℕ, zero, suc, ◌+◌, ◌*◌, ◌/◌, ◌%◌, refl, sym, ap, subst, ◌∙◌, arith, true, false, Bool, not, ◌&&◌, ◌||◌, ◌==◌, List, [], ◌∷◌, ◌++◌, Option, Some, None, zero-add, append_assoc, append-nil}
+use Rattle.std.proofs.lemmas.Bool.{and_parts, cond_both, eqb-true, not-false}
 use Rattle.std.specs.Prelude.{replicate, filter}
 use Rattle.s360_words.specs.Storage.{Change, csw_stored, Bytes, KeyOf}
-use Rattle.s360_runs.specs.Scripts.{units, OneUnit, Script}
-use Rattle.s360_laws.specs.Events.{Exchange, Hio, WithCode, Reset, Sio, StepBy, Stepped, Interrupt, Interrupted, Store, WasKept, SetKey, Tio, CswStored, StatusStored, Tch, Answer, HasArrived, Arrive, WasReset, Show, Shown, FaultAfter}
+use Rattle.s360_runs.specs.Scripts.{units, OneUnit}
+use Rattle.s360_laws.specs.Events.{Exchange, Hio, WithCode, Reset, Sio, StepBy, Stepped, Interrupt, Interrupted, Store, WasKept, SetKey, Tio, CswStored, StatusStored, Tch, HasArrived, Arrive, Show, FaultAfter}
 use Rattle.s360_laws.specs.History.{units_ahead, script_ahead, fate_ahead, acts, own_change, where_over, Changes, acts_of, Program, turns_of}
 use Rattle.s360_laws.specs.Machine.{units_with}
 use Rattle.s360_laws.specs.SerialLists.{changes_nothing, is_arrival, arrivals_last, steps_ahead, is_step, is_between, whole_step, steps_of, ArePlain, steps_joined, SameActs}
-use Rattle.s360_laws.specs.declared.condition.ConditionCode.TheVariants.{Two, Zero, One, Three}
-use Rattle.s360_laws.proofs.Ahead.{same_script, quiet_script}
+use Rattle.s360_laws.specs.declared.condition.ConditionCode.TheVariants.{Two, Zero}
+use Rattle.s360_laws.proofs.Ahead.{step_script, same_script}
 use Rattle.s360_laws.proofs.StepLaws.{plain_two}
 
 record Alike (x y : List Exchange) : Type 0 where
@@ -68,9 +68,6 @@ all_behind (t ∷ z) x y h = behind t (z ++ x) (z ++ y) (all_behind z x y h)
 
 -- What changed nothing.
 
-no : {P : Type 0} → false ≡ true → P
-no h = absurd (cc)
-
 gone : (x : List Exchange) → (t : Exchange) → units_ahead (t ∷ x) ≡ units_ahead x → turns_of t ≡ [] → fate_ahead (t ∷ x) ≡ fate_ahead x → acts_of t x ≡ [] → Alike (t ∷ x) x
 gone x t u s f a = record {
   ahead = u;
@@ -80,25 +77,12 @@ gone x t u s f a = record {
 }
 
 left_out : (t : Exchange) (x : List Exchange) → changes_nothing t ≡ true → Alike (t ∷ x) x
-left_out (Sio a, m, WithCode One) x h = gone x (Sio a, m, WithCode One) refl refl refl refl
-left_out (Sio a, m, WithCode Two) x h = gone x (Sio a, m, WithCode Two) refl refl refl refl
-left_out (Sio a, m, WithCode Three) x h = gone x (Sio a, m, WithCode Three) refl refl refl refl
+left_out (Sio a, m, WithCode Zero) x h = absurd (cc)
+left_out (Sio a, m, WithCode code) x h = gone x (Sio a, m, WithCode code) refl refl refl refl
 left_out (Tio a, m, WithCode n) x h = gone x (Tio a, m, WithCode n) refl refl refl refl
-left_out (Hio a, m, WithCode Zero) x h = gone x (Hio a, m, WithCode Zero) refl refl refl refl
-left_out (Hio a, m, WithCode One) x h = gone x (Hio a, m, WithCode One) refl refl refl refl
-left_out (Hio a, m, WithCode Three) x h = gone x (Hio a, m, WithCode Three) refl refl refl refl
-left_out (Tch, m, r) x h = go r
-  where
-    go : (r : Answer) → Alike ((Tch, m, r) ∷ x) x
-    go (WithCode n) = gone x (Tch, m, WithCode n) refl refl refl refl
-    go (StatusStored a b) = gone x (Tch, m, StatusStored a b) refl refl refl refl
-    go (CswStored c) = gone x (Tch, m, CswStored c) refl refl refl refl
-    go (Stepped k) = gone x (Tch, m, Stepped k) refl refl refl refl
-    go (HasArrived b) = gone x (Tch, m, HasArrived b) refl refl refl refl
-    go (Interrupted i) = gone x (Tch, m, Interrupted i) refl refl refl refl
-    go (WasReset w) = gone x (Tch, m, WasReset w) refl refl refl refl
-    go (WasKept b) = gone x (Tch, m, WasKept b) refl refl refl refl
-    go (Shown s) = gone x (Tch, m, Shown s) refl refl refl refl
+left_out (Hio a, m, WithCode Two) x h = absurd (cc)
+left_out (Hio a, m, WithCode code) x h = gone x (Hio a, m, WithCode code) refl refl refl refl
+left_out (Tch, m, r) x h = gone x (Tch, m, r) refl refl refl refl
 left_out (StepBy k, m, Stepped zero) x h = gone x (StepBy k, m, Stepped zero) (zero-add (units_ahead x)) (none k m) refl refl
   where
     none : (k : ℕ) (m : Option FaultAfter) → units_with 0 m ≡ []
@@ -108,45 +92,20 @@ left_out (Arrive a, m, HasArrived false) x h = gone x (Arrive a, m, HasArrived f
 left_out (Interrupt, m, Interrupted None) x h = gone x (Interrupt, m, Interrupted None) refl refl refl refl
 left_out (Store at bytes, m, WasKept false) x h = gone x (Store at bytes, m, WasKept false) refl refl refl refl
 left_out (SetKey at key, m, WasKept false) x h = gone x (SetKey at key, m, WasKept false) refl refl refl refl
-left_out (Show at len, m, r) x h = go r
-  where
-    go : (r : Answer) → Alike ((Show at len, m, r) ∷ x) x
-    go (WithCode n) = gone x (Show at len, m, WithCode n) refl refl refl refl
-    go (StatusStored a b) = gone x (Show at len, m, StatusStored a b) refl refl refl refl
-    go (CswStored c) = gone x (Show at len, m, CswStored c) refl refl refl refl
-    go (Stepped k) = gone x (Show at len, m, Stepped k) refl refl refl refl
-    go (HasArrived b) = gone x (Show at len, m, HasArrived b) refl refl refl refl
-    go (Interrupted i) = gone x (Show at len, m, Interrupted i) refl refl refl refl
-    go (WasReset w) = gone x (Show at len, m, WasReset w) refl refl refl refl
-    go (WasKept b) = gone x (Show at len, m, WasKept b) refl refl refl refl
-    go (Shown s) = gone x (Show at len, m, Shown s) refl refl refl refl
-left_out t x h = no h
+left_out (Show at len, m, r) x h = gone x (Show at len, m, r) refl refl refl refl
+left_out t x h = absurd (cc)
 
 filtered : (list : List Exchange) → Alike (filter (λ t. not (changes_nothing t)) list) list
 filtered [] = same []
-filtered (t ∷ list) = go (changes_nothing t) refl (filtered list)
-  where
-    go : (b : Bool) → changes_nothing t ≡ b → Alike (filter (λ t. not (changes_nothing t)) list) list
-        → Alike (cond (not b) (t ∷ filter (λ t. not (changes_nothing t)) list) (filter (λ t. not (changes_nothing t)) list)) (t ∷ list)
-    go true h k = then k (back (left_out t list h))
-    go false h k = behind t _ list k
+filtered (t ∷ list) =
+    let rest = filter (λ t. not (changes_nothing t)) list in
+    cond_both (not (changes_nothing t)) (t ∷ rest) rest (λ l. Alike l (t ∷ list)) (λ h. behind t rest list (filtered list)) (λ h. then (filtered list) (back (left_out t list (not-false _ h))))
 
 -- Arrivals.
 
 arrival_gone : (t : Exchange) (x : List Exchange) → is_arrival t ≡ true → Alike (t ∷ x) x
-arrival_gone (Arrive a, m, r) x h = go r
-  where
-    go : (r : Answer) → Alike ((Arrive a, m, r) ∷ x) x
-    go (WithCode n) = gone x (Arrive a, m, WithCode n) refl refl refl refl
-    go (StatusStored b c) = gone x (Arrive a, m, StatusStored b c) refl refl refl refl
-    go (CswStored c) = gone x (Arrive a, m, CswStored c) refl refl refl refl
-    go (Stepped k) = gone x (Arrive a, m, Stepped k) refl refl refl refl
-    go (HasArrived b) = gone x (Arrive a, m, HasArrived b) refl refl refl refl
-    go (Interrupted i) = gone x (Arrive a, m, Interrupted i) refl refl refl refl
-    go (WasReset w) = gone x (Arrive a, m, WasReset w) refl refl refl refl
-    go (WasKept b) = gone x (Arrive a, m, WasKept b) refl refl refl refl
-    go (Shown s) = gone x (Arrive a, m, Shown s) refl refl refl refl
-arrival_gone t x h = no h
+arrival_gone (Arrive a, m, r) x h = gone x (Arrive a, m, r) refl refl refl refl
+arrival_gone t x h = absurd (cc)
 
 abbrev AreArrivals : List Exchange → Type 0
 AreArrivals [] = Unit {0}
@@ -163,77 +122,57 @@ held_gone (t ∷ held) x h = then (arrival_gone t (held ++ x) h.0) (held_gone he
 held_alone : (held : List Exchange) → AreArrivals held → Alike held []
 held_alone held h = subst (λ l. Alike l []) (append-nil held) (held_gone held [] h)
 
-first_true : (a b : Bool) → (a && b) ≡ true → a ≡ true
-first_true true b h = refl
-first_true false b h = no h
-
 shifted : (list : List Exchange) (inside : Bool) (held : List Exchange) → AreArrivals held → Alike (arrivals_last inside held list) list
 shifted [] inside held h = held_alone held h
-shifted (t ∷ rest) inside held h = go (is_arrival t && (inside && steps_ahead rest)) (is_step t && not (steps_ahead rest)) refl
-    (λ held h. shifted rest inside held h) (shifted rest false [] tt) (shifted rest (is_step t || (inside && not (is_between t))) held h)
-  where
-    go : (b c : Bool) → (is_arrival t && (inside && steps_ahead rest)) ≡ b
-        → ((held : List Exchange) → AreArrivals held → Alike (arrivals_last inside held rest) rest)
-        → Alike (arrivals_last false [] rest) rest → Alike (arrivals_last (is_step t || (inside && not (is_between t))) held rest) rest
-        → Alike (cond b (arrivals_last inside (held ++ t ∷ []) rest) (cond c (t ∷ (held ++ arrivals_last false [] rest)) (t ∷ arrivals_last (is_step t || (inside && not (is_between t))) held rest))) (t ∷ rest)
-    go true c e k l n = let a = first_true (is_arrival t) _ e in then (k (held ++ t ∷ []) (one_more held t h a)) (back (arrival_gone t rest a))
-    go false true e k l n = behind t _ rest (then (held_gone held _ h) l)
-    go false false e k l n = behind t _ rest n
+shifted (t ∷ rest) inside held h =
+    cond_both (is_arrival t && (inside && steps_ahead rest)) _ _ (λ l. Alike l (t ∷ rest))
+    (λ e. let a = (and_parts (is_arrival t) _ e).0 in then (shifted rest inside (held ++ t ∷ []) (one_more held t h a)) (back (arrival_gone t rest a)))
+    (λ e. cond_both (is_step t && not (steps_ahead rest)) _ _ (λ l. Alike l (t ∷ rest))
+    (λ e. behind t _ rest (then (held_gone held _ h) (shifted rest false [] tt)))
+    (λ e. behind t _ rest (shifted rest (is_step t || (inside && not (is_between t))) held h)))
 
 -- Steps.
 
 two_steps : (a b : ℕ) (x : List Exchange) → Alike (whole_step a ∷ whole_step b ∷ x) (whole_step (a + b) ∷ x)
-two_steps a b x = record {
-  ahead = more a b (units_ahead x);
-  script = go (units_ahead x) (units_ahead x) refl (script_ahead x) (λ h. quiet_script x h);
-  ends = refl;
-  does = refl;
-}
-  where
-    more : (a b n : ℕ) → a + (b + n) ≡ a + b + n
-    more a b n = omega arith
-
-    go : (n k : ℕ) → n ≡ k → (s : Script) → (n ≡ 0 → s ≡ [])
-        → where_over (a + (b + n)) [] (units a ++ where_over (b + n) [] (units b ++ s))
-        ≡ where_over (a + b + n) [] (units (a + b) ++ s)
-    go n k e s h = ap (λ l. where_over (a + (b + n)) [] (units a ++ l)) (sym (opened b n s h)) ∙ ap (λ k. where_over k [] (units a ++ (units b ++ s))) (more a b n)
-        ∙ ap (λ l. where_over (a + b + n) [] l) (sym (append_assoc (units a) (units b) s) ∙ ap (λ l. l ++ s) (plain_two a b))
-      where
-        opened : (b n : ℕ) (s : Script) → (n ≡ 0 → s ≡ []) → units b ++ s ≡ where_over (b + n) [] (units b ++ s)
-        opened b n s h = cases (b + n) refl
-          where
-            cases : (k : ℕ) → b + n ≡ k → units b ++ s ≡ where_over k [] (units b ++ s)
-            cases (suc k) e = refl
-            cases zero e = let z : b ≡ 0 = omega (arith, e) in ap (λ b. units b ++ s) z ∙ h (omega (arith, e))
+two_steps a b x =
+    let n = units_ahead x in
+    let s = script_ahead x in
+    let more : a + (b + n) ≡ a + b + n = omega arith in
+    record {
+      ahead = more;
+      script = ap (λ l. where_over (a + (b + n)) [] (units a ++ l)) (sym (step_script b None x)) ∙ ap (λ k. where_over k [] (units a ++ (units b ++ s))) more
+          ∙ ap (λ l. where_over (a + b + n) [] l) (sym (append_assoc (units a) (units b) s) ∙ ap (λ l. l ++ s) (plain_two a b));
+      ends = refl;
+      does = refl;
+    }
 
 no_step : (x : List Exchange) → Alike (whole_step 0 ∷ x) x
 no_step x = left_out (whole_step 0) x refl
 
 many : (q n : ℕ) (x : List Exchange) → Alike (replicate q (whole_step n) ++ x) (whole_step (q * n) ∷ x)
-many zero n x = subst (λ k. Alike x (whole_step k ∷ x)) (nothing n) (back (no_step x))
-  where
-    nothing : (n : ℕ) → 0 ≡ 0 * n
-    nothing n = omega arith
-many (suc q) n x = subst (λ k. Alike (replicate (suc q) (whole_step n) ++ x) (whole_step k ∷ x)) (next q n) (then (behind (whole_step n) _ _ (many q n x)) (two_steps n (q * n) x))
-  where
-    next : (q n : ℕ) → n + q * n ≡ suc q * n
-    next q n = grind arith
+many zero n x = let none : 0 ≡ 0 * n = omega arith in subst (λ k. Alike x (whole_step k ∷ x)) none (back (no_step x))
+many (suc q) n x =
+    let next : n + q * n ≡ suc q * n = grind arith in
+    subst (λ k. Alike (replicate (suc q) (whole_step n) ++ x) (whole_step k ∷ x)) next (then (behind (whole_step n) _ _ (many q n x)) (two_steps n (q * n) x))
 
 steps_alike : (n : ℕ) (x : List Exchange) → Alike (steps_of n ++ x) (whole_step n ∷ x)
-steps_alike n x = go (n % 65535 == 0) refl
+steps_alike n x = cond_both (n % 65535 == 0) [] (whole_step (n % 65535) ∷ []) (λ l. Alike ((whole_steps ++ l) ++ x) (whole_step n ∷ x)) even uneven
   where
-    whole : (n : ℕ) → n / 65535 * 65535 + n % 65535 ≡ n
-    whole n = omega arith
+    whole_steps : List Exchange
+    whole_steps = replicate (n / 65535) (whole_step 65535)
 
-    even : (n : ℕ) → n % 65535 ≡ 0 → n / 65535 * 65535 ≡ n
-    even n h = omega arith
+    even : (n % 65535 == 0) ≡ true → Alike ((whole_steps ++ []) ++ x) (whole_step n ∷ x)
+    even h =
+        let none : n % 65535 ≡ 0 = eqb-true _ _ h in
+        let all : n / 65535 * 65535 ≡ n = omega arith in
+        subst (λ l. Alike (l ++ x) (whole_step n ∷ x)) (sym (append-nil whole_steps)) (subst (λ k. Alike (whole_steps ++ x) (whole_step k ∷ x)) all (many (n / 65535) 65535 x))
 
-    go : (b : Bool) → (n % 65535 == 0) ≡ b → Alike ((replicate (n / 65535) (whole_step 65535) ++ cond b [] (whole_step (n % 65535) ∷ [])) ++ x) (whole_step n ∷ x)
-    go true h = subst (λ l. Alike (l ++ x) (whole_step n ∷ x)) (sym (append-nil (replicate (n / 65535) (whole_step 65535))))
-        (subst (λ k. Alike (replicate (n / 65535) (whole_step 65535) ++ x) (whole_step k ∷ x)) (even n (eqb-true _ _ h)) (many (n / 65535) 65535 x))
-    go false h = subst (λ l. Alike l (whole_step n ∷ x)) (sym (append_assoc (replicate (n / 65535) (whole_step 65535)) (whole_step (n % 65535) ∷ []) x))
-        (subst (λ k. Alike (replicate (n / 65535) (whole_step 65535) ++ (whole_step (n % 65535) ∷ x)) (whole_step k ∷ x)) (whole n)
-        (then (many (n / 65535) 65535 (whole_step (n % 65535) ∷ x)) (two_steps (n / 65535 * 65535) (n % 65535) x)))
+    uneven : (n % 65535 == 0) ≡ false → Alike ((whole_steps ++ whole_step (n % 65535) ∷ []) ++ x) (whole_step n ∷ x)
+    uneven h =
+        let all : n / 65535 * 65535 + n % 65535 ≡ n = omega arith in
+        let rest = whole_step (n % 65535) ∷ x in
+        subst (λ l. Alike l (whole_step n ∷ x)) (sym (append_assoc whole_steps (whole_step (n % 65535) ∷ []) x))
+        (subst (λ k. Alike (whole_steps ++ rest) (whole_step k ∷ x)) all (then (many (n / 65535) 65535 rest) (two_steps (n / 65535 * 65535) (n % 65535) x)))
 
 plain_step : (k d : ℕ) (m : Option FaultAfter) (x : List Exchange) → m ≡ None → Alike (whole_step d ∷ x) ((StepBy k, m, Stepped d) ∷ x)
 plain_step k d m x h = subst (λ m. Alike (whole_step d ∷ x) ((StepBy k, m, Stepped d) ∷ x)) (sym h) (record { ahead = refl; script = refl; ends = refl; does = refl })
@@ -247,11 +186,7 @@ joined (t ∷ rest) n h =
 
 plain_filter : (p : Exchange → Bool) (list : List Exchange) → ArePlain list → ArePlain (filter p list)
 plain_filter p [] h = tt
-plain_filter p (t ∷ list) h = go (p t) (plain_filter p list h.1)
-  where
-    go : (b : Bool) → ArePlain (filter p list) → ArePlain (cond b (t ∷ filter p list) (filter p list))
-    go true k = (h.0, k)
-    go false k = k
+plain_filter p (t ∷ list) h = cond_both (p t) (t ∷ filter p list) (filter p list) ArePlain (λ e. (h.0, plain_filter p list h.1)) (λ e. plain_filter p list h.1)
 
 plain_append : (x y : List Exchange) → ArePlain x → ArePlain y → ArePlain (x ++ y)
 plain_append [] y h k = k
@@ -259,14 +194,11 @@ plain_append (t ∷ x) y h k = (h.0, plain_append x y h.1 k)
 
 plain_last : (list : List Exchange) (inside : Bool) (held : List Exchange) → ArePlain held → ArePlain list → ArePlain (arrivals_last inside held list)
 plain_last [] inside held h k = h
-plain_last (t ∷ rest) inside held h k = go (is_arrival t && (inside && steps_ahead rest)) (is_step t && not (steps_ahead rest))
-    (plain_last rest inside (held ++ t ∷ []) (plain_append held (t ∷ []) h (k.0, tt)) k.1) (plain_last rest false [] tt k.1) (plain_last rest (is_step t || (inside && not (is_between t))) held h k.1)
-  where
-    go : (b c : Bool) → ArePlain (arrivals_last inside (held ++ t ∷ []) rest) → ArePlain (arrivals_last false [] rest) → ArePlain (arrivals_last (is_step t || (inside && not (is_between t))) held rest)
-        → ArePlain (cond b (arrivals_last inside (held ++ t ∷ []) rest) (cond c (t ∷ (held ++ arrivals_last false [] rest)) (t ∷ arrivals_last (is_step t || (inside && not (is_between t))) held rest)))
-    go true c x y z = x
-    go false true x y z = (k.0, plain_append held _ h y)
-    go false false x y z = (k.0, z)
+plain_last (t ∷ rest) inside held h k =
+    cond_both (is_arrival t && (inside && steps_ahead rest)) _ _ ArePlain (λ e. plain_last rest inside (held ++ t ∷ []) (plain_append held (t ∷ []) h (k.0, tt)) k.1)
+    (λ e. cond_both (is_step t && not (steps_ahead rest)) _ _ ArePlain
+    (λ e. (k.0, plain_append held _ h (plain_last rest false [] tt k.1)))
+    (λ e. (k.0, plain_last rest (is_step t || (inside && not (is_between t))) held h k.1)))
 
 pub same_acts : SameActs
 same_acts list h =

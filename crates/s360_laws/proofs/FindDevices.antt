@@ -1,6 +1,6 @@
 -- Numbers, tests and devices that are found by their addresses.
-use Rattle.std.proofs.Common.{◌≡◌, ℕ, ◌+◌, ◌*◌, refl, sym, ap, ◌∙◌, arith, true, false, Bool, cond, ◌==◌, List, [], ◌∷◌, map, Option, Some, None}
-use Rattle.std.proofs.lemmas.Bool.{eq-eqb, eqb-true, eqb-false}
+use Rattle.std.proofs.Common.{subst, ◌≡◌, ℕ, ◌+◌, ◌*◌, refl, sym, ap, ◌∙◌, arith, true, false, Bool, cond, ◌==◌, List, [], ◌∷◌, map, Option, Some, None}
+use Rattle.std.proofs.lemmas.Bool.{ne_eqb, eq-eqb, eqb-true, eqb-false, cond_both, cond-true, cond-false}
 use Rattle.std.specs.Prelude.{find, option_map}
 use Rattle.ckd_command.specs.Drive.{IdleDrive}
 use Rattle.s360_laws.specs.Machine.{Device, Machine, address_of, device_at}
@@ -10,24 +10,14 @@ use Rattle.s360_laws.specs.declared.arm.Arm.{Arm}
 -- Numbers and tests.
 
 pub different : (a b : ℕ) → (a ≡ b → ⊥) → (a == b) ≡ false
-different a b f = go (a == b) refl
-  where
-    go : (c : Bool) → (a == b) ≡ c → (a == b) ≡ false
-    go true h = absurd (f (eqb-true a b h))
-    go false h = h
+different a b f = ne_eqb a b f
 
 pub add_same : (n x y : ℕ) → (256 * n + x == 256 * n + y) ≡ (x == y)
 add_same n x y = go (x == y) refl
   where
-    back : (n x y : ℕ) → 256 * n + x ≡ 256 * n + y → x ≡ y
-    back n x y e = omega arith
-
     go : (b : Bool) → (x == y) ≡ b → (256 * n + x == 256 * n + y) ≡ b
     go true h = eq-eqb _ _ (ap (λ k. 256 * n + k) (eqb-true x y h))
-    go false h = different _ _ (λ e. eqb-false x y h (back n x y e))
-
-pub no : {P : Type 0} → false ≡ true → P
-no h = absurd (cc)
+    go false h = ne_eqb _ _ (λ e. let back : x ≡ y = omega arith in eqb-false x y h back)
 
 -- Finding devices.
 
@@ -37,11 +27,7 @@ Has p (Some v) = p v ≡ true
 
 pub has_found : (p : Device → Bool) (vs : List Device) → Has p (find p vs)
 has_found p [] = tt
-has_found p (v ∷ vs) = go (p v) refl (has_found p vs)
-  where
-    go : (b : Bool) → p v ≡ b → Has p (find p vs) → Has p (cond b (Some v) (find p vs))
-    go true h k = h
-    go false h k = k
+has_found p (v ∷ vs) = cond_both (p v) (Some v) (find p vs) (Has p) (λ e. e) (λ e. has_found p vs)
 
 pub found_same : (n d : ℕ) (vs : List Device) → find (λ v. 256 * n + v.device == 256 * n + d) vs ≡ find (λ v. v.device == d) vs
 found_same n d [] = refl
@@ -51,13 +37,17 @@ found_same n d (v ∷ vs) = ap (λ b. cond b (Some v) (find (λ v. 256 * n + v.d
 abbrev pub Keeps : (Device → Device) → Type 0
 Keeps g = (v : Device) → (g v).device ≡ v.device
 
-pub found_map : (p : ℕ → Bool) (g : Device → Device) → Keeps g → (vs : List Device) → find (λ w. p w.device) (map g vs) ≡ option_map g (find (λ w. p w.device) vs)
-found_map p g k [] = refl
-found_map p g k (v ∷ vs) = ap (λ d. cond (p d) (Some (g v)) (find (λ w. p w.device) (map g vs))) (k v) ∙ go (p v.device) (found_map p g k vs)
+-- what is found of a list that was changed element by element
+pub find_map : {X Y : Type 0} (p : Y → Bool) (q : X → Bool) (g : X → Y) → ((x : X) → p (g x) ≡ q x) → (xs : List X) → find p (map g xs) ≡ option_map g (find q xs)
+find_map p q g k [] = refl
+find_map {X} {Y} p q g k (x ∷ xs) = ap (λ b. cond b (Some (g x)) (find p (map g xs))) (k x) ∙ go (q x) (find_map p q g k xs)
   where
-    go : (b : Bool) {x : Option Device} → x ≡ option_map g (find (λ w. p w.device) vs) → cond b (Some (g v)) x ≡ option_map g (cond b (Some v) (find (λ w. p w.device) vs))
+    go : (b : Bool) {y : Option Y} → y ≡ option_map g (find q xs) → cond b (Some (g x)) y ≡ option_map g (cond b (Some x) (find q xs))
     go true h = refl
     go false h = h
+
+pub found_map : (p : ℕ → Bool) (g : Device → Device) → Keeps g → (vs : List Device) → find (λ w. p w.device) (map g vs) ≡ option_map g (find (λ w. p w.device) vs)
+found_map p g k vs = find_map (λ w. p w.device) (λ w. p w.device) g (λ v. ap p (k v)) vs
 
 pub distinct_map : (g : Device → Device) → Keeps g → (vs : List Device) → AreDistinct vs → AreDistinct (map g vs)
 distinct_map g k [] h = tt
@@ -74,11 +64,14 @@ abbrev pub set_drive : IdleDrive → Device → Device
 set_drive d v = record v { drive = d }
 
 pub keeps_one : (d : ℕ) (f : Device → Device) → Keeps f → Keeps (λ v. cond (v.device == d) (f v) v)
-keeps_one d f k v = go (v.device == d)
-  where
-    go : (b : Bool) → (cond b (f v) v).device ≡ v.device
-    go true = k v
-    go false = refl
+keeps_one d f k v = cond_both (v.device == d) (f v) v (λ w. w.device ≡ v.device) (λ e. k v) (λ e. refl)
+
+-- the device that is changed
+pub changed_device : (d : ℕ) (f : Device → Device) → Keeps f → (vs : List Device) (v : Device) → find (λ w. w.device == d) vs ≡ Some v
+    → find (λ w. w.device == d) (map (λ w. cond (w.device == d) (f w) w) vs) ≡ Some (f v)
+changed_device d f k vs v at =
+    found_map (λ n. n == d) _ (keeps_one d f k) vs ∙ ap (option_map (λ w. cond (w.device == d) (f w) w)) at
+    ∙ ap (λ b. Some (cond b (f v) v)) (subst (Has (λ w. w.device == d)) at (has_found (λ w. w.device == d) vs))
 
 -- the device of an address, after a change of one device
 pub device_after : (n d u : ℕ) (f : Device → Device) → Keeps f → (vs : List Device)
@@ -86,27 +79,19 @@ pub device_after : (n d u : ℕ) (f : Device → Device) → Keeps f → (vs : L
     ≡ cond (256 * n + d == u) (option_map f (find (λ v. 256 * n + v.device == u) vs)) (find (λ v. 256 * n + v.device == u) vs)
 device_after n d u f k vs = found_map (λ d. 256 * n + d == u) _ (keeps_one d f k) vs ∙ go (find (λ v. 256 * n + v.device == u) vs) (has_found (λ v. 256 * n + v.device == u) vs)
   where
-    same_test : (v : Device) → (256 * n + v.device == u) ≡ true → (v.device == d) ≡ (256 * n + d == u)
-    same_test v h = sym (add_same n v.device d) ∙ ap (λ k. k == 256 * n + d) (eqb-true _ _ h) ∙ turn u (256 * n + d)
-      where
-        turn : (a b : ℕ) → (a == b) ≡ (b == a)
-        turn a b = go (b == a) refl
-          where
-            go : (c : Bool) → (b == a) ≡ c → (a == b) ≡ c
-            go true h = eq-eqb _ _ (sym (eqb-true b a h))
-            go false h = different _ _ (λ e. eqb-false b a h (sym e))
-
-    both : (b : Bool) (x y : Device) → Some (cond b x y) ≡ cond b (Some x) (Some y)
-    both true x y = refl
-    both false x y = refl
-
-    none : (b : Bool) → ◌≡◌ {A = Option Device} None (cond b None None)
-    none true = refl
-    none false = refl
-
     go : (x : Option Device) → Has (λ v. 256 * n + v.device == u) x → option_map (λ v. cond (v.device == d) (f v) v) x ≡ cond (256 * n + d == u) (option_map f x) x
-    go None h = none (256 * n + d == u)
-    go (Some v) h = ap (λ b. Some (cond b (f v) v)) (same_test v h) ∙ both (256 * n + d == u) (f v) v
+    go None h = cond_both (256 * n + d == u) None None (λ y. None ≡ y) (λ e. refl) (λ e. refl)
+    go (Some v) h = cond_both (256 * n + d == u) (Some (f v)) (Some v) (λ y. Some (cond (v.device == d) (f v) v) ≡ y) here there
+      where
+        here : (256 * n + d == u) ≡ true → Some (cond (v.device == d) (f v) v) ≡ Some (f v)
+        here e =
+            let one = eqb-true (256 * n + d) u e in
+            let two = eqb-true (256 * n + v.device) u h in
+            let same : v.device ≡ d = omega arith in
+            ap Some (cond-true (v.device == d) (f v) v (eq-eqb _ _ same))
+
+        there : (256 * n + d == u) ≡ false → Some (cond (v.device == d) (f v) v) ≡ Some v
+        there e = ap Some (cond-false (v.device == d) (f v) v (ne_eqb _ _ (λ k. eqb-false (256 * n + d) u e (ap (λ k. 256 * n + k) (sym k) ∙ eqb-true _ _ h))))
 
 -- the device at an address, by the low byte of it
 pub at_device : (m : Machine) (d u : ℕ) (y : Option Device) → address_of m d ≡ u → device_at m d ≡ y → device_for m u ≡ y

@@ -1,6 +1,6 @@
 -- The headline, from the laws that it joins.
 use Rattle.std.proofs.Common.{refl, List}
-use Rattle.s360_laws.specs.Events.{Event, FaultAfter, Input, Sio, Tio, Hio, Tch, StepBy, Arrive, Interrupt, Reset, Store, SetKey, Show}
+use Rattle.s360_laws.specs.Events.{Event, FaultAfter, Input, Hio, StepBy, Reset}
 use Rattle.s360_laws.specs.Headline.{HeadlineHolds}
 use Rattle.s360_laws.specs.History.{Runs}
 use Rattle.s360_laws.specs.Machine.{Machine, after_all}
@@ -22,14 +22,7 @@ fault_does : (m : Machine) (e : Event) (x : FaultAfter) → Runs m m.subchannel 
 fault_does m (StepBy k) x r = fault_ends_step m k x r
 fault_does m (Hio a) x r = fault_ends_halt m a x r
 fault_does m Reset x r = fault_told_by_reset m x r
-fault_does m (Sio a) x r = refl
-fault_does m (Tio a) x r = refl
-fault_does m Tch x r = refl
-fault_does m (Arrive a) x r = refl
-fault_does m Interrupt x r = refl
-fault_does m (Store at bytes) x r = refl
-fault_does m (SetKey at key) x r = refl
-fault_does m (Show at len) x r = refl
+fault_does m e x r = refl
 
 pub headline : HeadlineHolds
 headline m es sound = record {

@@ -1,42 +1,29 @@
 -- What is answered while the channel end of a program that ended is owed.
-use Rattle.std.proofs.Common.{◌≡◌, ℕ, ◌+◌, ◌*◌, ◌/◌, ◌%◌, refl, sym, ap, subst, ◌∙◌, true, false, Bool, cond, ◌&&◌, ◌==◌, List, [], ◌∷◌, Option, Some, None}
-use Rattle.std.proofs.lemmas.Bool.{eq-eqb, eqb-true}
-use Rattle.s360_words.specs.Storage.{Change, Bytes, is_within, KeyOf}
+use Rattle.std.proofs.Common.{◌≡◌, ℕ, ◌+◌, ◌*◌, ◌/◌, ◌%◌, refl, sym, ap, subst, ◌∙◌, true, false, Bool, cond, ◌==◌, List, [], ◌∷◌, Option, Some, None}
+use Rattle.std.proofs.lemmas.Bool.{and_from, cond-false, cond-true, cond_both, false≢true, eq-eqb, eqb-true}
+use Rattle.s360_words.specs.Storage.{Bytes, is_within, KeyOf}
 use Rattle.s360_words.specs.declared.flags.TheConstants.UnitStatus.{CHANNEL_END}
 use Rattle.s360_words.specs.declared.words.Csw.{Csw}
 use Rattle.s360_runs.specs.Status.{tells}
-use Rattle.s360_laws.specs.Events.{Answer, Event, FaultAfter, Sio, WithCode, Tio, CswStored, Store, Hio, Tch, StepBy, Arrive, Interrupt, Reset, SetKey, Show, HasArrived, WasKept, Input}
+use Rattle.s360_laws.specs.Events.{Answer, Event, FaultAfter, Sio, WithCode, Tio, CswStored, Store, Hio, Tch, Arrive, Interrupt, Reset, SetKey, Input}
 use Rattle.s360_laws.specs.Ledger.{HeldAnswer, ends_holding, HeldAnswers, HeldUntilStored}
 use Rattle.s360_laws.specs.Machine.{Machine, react, test_io, Pending, with_csw, arrive, Device, is_in_motion, with_arm, with_change, device_at, exchanges}
 use Rattle.s360_laws.specs.Soundness.{IsSoundIn}
 use Rattle.s360_laws.specs.declared.arm.Arm.TheVariants.{Arrived}
-use Rattle.s360_laws.specs.declared.condition.ConditionCode.TheVariants.{Two, Three, Zero}
-use Rattle.s360_laws.proofs.FindDevices.{no, different}
+use Rattle.s360_laws.specs.declared.condition.ConditionCode.TheVariants.{Two, Three}
+use Rattle.s360_laws.proofs.FindDevices.{different}
 use Rattle.s360_laws.proofs.LedgerIdle.{whole}
 use Rattle.s360_laws.proofs.Shapes.{pending, idle}
 
-on_this : (b : Bool) (y z : Answer × Machine) → b ≡ true → (cond b y z).0 ≡ y.0
-on_this true y z h = refl
-on_this false y z h = no h
-
-on_other : (b : Bool) (y z : Answer × Machine) → b ≡ false → (cond b y z).0 ≡ z.0
-on_other true y z h = no (sym h)
-on_other false y z h = refl
-
 -- each answer is that of an ending that pends
 held_answer : (m : Machine) (p : ℕ) (csw : Csw) (e : Event) (x : Option FaultAfter) → HeldAnswer m.channel p csw (e, x, (react e x (pending m p csw)).0)
-held_answer m p csw (Sio a) x = λ e. on_this (a / 256 == m.channel) (WithCode Two, pending m p csw) (WithCode Three, pending m p csw) (eq-eqb _ _ e)
-held_answer m p csw (Tio a) x = λ e other. on_this (a / 256 == m.channel) (test_io (a % 256) (pending m p csw) (Pending p csw)) (WithCode Three, pending m p csw) (eq-eqb _ _ e)
-    ∙ on_other (a % 256 == p) (CswStored csw, with_csw csw (idle m)) (WithCode Two, pending m p csw) (different _ _ other)
-held_answer m p csw (Hio a) x = tt
+held_answer m p csw (Sio a) x = λ e. ap (λ (r : Answer × Machine). r.0) (cond-true (a / 256 == m.channel) (WithCode Two, pending m p csw) (WithCode Three, pending m p csw) (eq-eqb _ _ e))
+held_answer m p csw (Tio a) x = λ e other.
+    ap (λ (r : Answer × Machine). r.0) (cond-true (a / 256 == m.channel) (test_io (a % 256) (pending m p csw) (Pending p csw)) (WithCode Three, pending m p csw) (eq-eqb _ _ e)
+    ∙ cond-false (a % 256 == p) (CswStored csw, with_csw csw (idle m)) (WithCode Two, pending m p csw) (different _ _ other))
 held_answer m p csw Tch x = refl
-held_answer m p csw (StepBy k) x = tt
-held_answer m p csw (Arrive a) x = tt
 held_answer m p csw Interrupt x = refl
-held_answer m p csw Reset x = tt
-held_answer m p csw (Store at bytes) x = tt
-held_answer m p csw (SetKey at key) x = tt
-held_answer m p csw (Show at len) x = tt
+held_answer m p csw e x = tt
 
 -- the machine that follows has it still, unless it was stored or reset
 abbrev StillHeld : Machine → ℕ → Csw → Machine → Type 0
@@ -49,42 +36,26 @@ same : (m : Machine) (p : ℕ) (csw : Csw) → StillHeld m p csw (pending m p cs
 same m p csw = (m, refl, refl)
 
 either_next : (m : Machine) (p : ℕ) (csw : Csw) (e : Event) (x : Option FaultAfter) (b : Bool) (y z : Answer × Machine) → (b ≡ true → HeldNext m p csw e x y) → HeldNext m p csw e x z → HeldNext m p csw e x (cond b y z)
-either_next m p csw e x true y z f g = f refl
-either_next m p csw e x false y z f g = g
-
--- the CSW that was stored for its own address has channel end
-stored_now : (b c : Bool) → b ≡ true → c ≡ true → (b && c) ≡ true
-stored_now true c h k = k
-stored_now false c h k = no h
+either_next m p csw e x b y z f g = cond_both b y z (HeldNext m p csw e x) f (λ h. g)
 
 arrive_next : (m : Machine) (p : ℕ) (csw : Csw) (a d : ℕ) (x : Option FaultAfter) (y : Option Device) → HeldNext m p csw (Arrive a) x (arrive d (pending m p csw) y)
 arrive_next m p csw a d x None h = same m p csw
-arrive_next m p csw a d x (Some v) h = go (is_in_motion v.arm)
-  where
-    go : (b : Bool) → StillHeld m p csw (cond {A = Answer × Machine} b (HasArrived true, with_arm Arrived d (pending m p csw)) (HasArrived false, pending m p csw)).1
-    go true = (with_arm Arrived d m, refl, refl)
-    go false = same m p csw
-
-kept_next : (m : Machine) (p : ℕ) (csw : Csw) (c : Change) (b : Bool) → StillHeld m p csw (cond {A = Answer × Machine} b (WasKept true, with_change c (pending m p csw)) (WasKept false, pending m p csw)).1
-kept_next m p csw c true = (with_change c m, refl, refl)
-kept_next m p csw c false = same m p csw
+arrive_next m p csw a d x (Some v) h = either_next m p csw (Arrive a) x (is_in_motion v.arm) _ _ (λ b h. (with_arm Arrived d m, refl, refl)) (λ h. same m p csw) h
 
 held_next : (m : Machine) (p : ℕ) (csw : Csw) (e : Event) (x : Option FaultAfter) → tells csw.unit CHANNEL_END ≡ true → HeldNext m p csw e x (react e x (pending m p csw))
-held_next m p csw (Sio a) x c = either_next m p csw (Sio a) x (a / 256 == m.channel) (WithCode Two, pending m p csw) (WithCode Three, pending m p csw) (λ e h. same m p csw) (λ h. same m p csw)
+held_next m p csw (Sio a) x c = either_next m p csw (Sio a) x (a / 256 == m.channel) _ _ (λ e h. same m p csw) (λ h. same m p csw)
 held_next m p csw (Tio a) x c =
-    either_next m p csw (Tio a) x (a / 256 == m.channel) (test_io (a % 256) (pending m p csw) (Pending p csw)) (WithCode Three, pending m p csw)
-    (λ e. either_next m p csw (Tio a) x (a % 256 == p) (CswStored csw, with_csw csw (idle m)) (WithCode Two, pending m p csw)
-    (λ f h. no (sym h ∙ stored_now (a == 256 * m.channel + p) (tells csw.unit CHANNEL_END) (eq-eqb _ _ (sym (whole m.channel a e) ∙ ap (λ n. 256 * m.channel + n) (eqb-true _ _ f))) c)) (λ h. same m p csw))
+    either_next m p csw (Tio a) x (a / 256 == m.channel) _ _
+    (λ e. either_next m p csw (Tio a) x (a % 256 == p) _ _
+    (λ f h. absurd (false≢true (sym h ∙ and_from (a == 256 * m.channel + p) (tells csw.unit CHANNEL_END) (eq-eqb _ _ (sym (whole m.channel a e) ∙ ap (λ n. 256 * m.channel + n) (eqb-true _ _ f))) c))) (λ h. same m p csw))
     (λ h. same m p csw)
-held_next m p csw (Hio a) x c = either_next m p csw (Hio a) x (a / 256 == m.channel) (WithCode Zero, pending m p csw) (WithCode Three, pending m p csw) (λ e h. same m p csw) (λ h. same m p csw)
-held_next m p csw Tch x c = λ h. same m p csw
-held_next m p csw (StepBy k) x c = λ h. same m p csw
-held_next m p csw (Arrive a) x c = either_next m p csw (Arrive a) x (a / 256 == m.channel) (arrive (a % 256) (pending m p csw) (device_at m (a % 256))) (HasArrived false, pending m p csw) (λ e. arrive_next m p csw a (a % 256) x (device_at m (a % 256))) (λ h. same m p csw)
-held_next m p csw Interrupt x c = λ h. no (sym h ∙ stored_now (256 * m.channel + p == 256 * m.channel + p) (tells csw.unit CHANNEL_END) (eq-eqb _ _ refl) c)
-held_next m p csw Reset x c = λ h. no (sym h)
-held_next m p csw (Store at bytes) x c = λ h. kept_next m p csw (Bytes at bytes) (is_within (Bytes at bytes) m.storage)
-held_next m p csw (SetKey at key) x c = λ h. kept_next m p csw (KeyOf at key) (is_within (KeyOf at key) m.storage)
-held_next m p csw (Show at len) x c = λ h. same m p csw
+held_next m p csw (Hio a) x c = either_next m p csw (Hio a) x (a / 256 == m.channel) _ _ (λ e h. same m p csw) (λ h. same m p csw)
+held_next m p csw (Arrive a) x c = either_next m p csw (Arrive a) x (a / 256 == m.channel) _ _ (λ e. arrive_next m p csw a (a % 256) x (device_at m (a % 256))) (λ h. same m p csw)
+held_next m p csw Interrupt x c = λ h. absurd (false≢true (sym h ∙ and_from (256 * m.channel + p == 256 * m.channel + p) (tells csw.unit CHANNEL_END) (eq-eqb _ _ refl) c))
+held_next m p csw Reset x c = λ h. absurd (cc)
+held_next m p csw (Store at bytes) x c = either_next m p csw (Store at bytes) x (is_within (Bytes at bytes) m.storage) _ _ (λ b h. (with_change (Bytes at bytes) m, refl, refl)) (λ h. same m p csw)
+held_next m p csw (SetKey at key) x c = either_next m p csw (SetKey at key) x (is_within (KeyOf at key) m.storage) _ _ (λ b h. (with_change (KeyOf at key) m, refl, refl)) (λ h. same m p csw)
+held_next m p csw e x c = λ h. same m p csw
 
 held_list : (es : List Input) (m : Machine) (p : ℕ) (csw : Csw) → tells csw.unit CHANNEL_END ≡ true → HeldAnswers m.channel p csw (exchanges es (pending m p csw))
 held_list [] m p csw c = tt

@@ -1,26 +1,26 @@
 -- A slot that no program of a list may write keeps its bytes.
-use Rattle.std.proofs.Common.{◌≡◌, ℕ, refl, ap, sym, ◌∙◌, true, false, Bool, cond, ◌&&◌, ◌||◌, ◌==◌, List, [], ◌∷◌, map, Option, Some, None}
-use Rattle.std.proofs.lemmas.Bool.{eqb-true}
+use Rattle.std.proofs.Common.{◌≡◌, ℕ, refl, ap, subst, sym, ◌∙◌, true, false, Bool, cond, ◌&&◌, ◌==◌, List, [], ◌∷◌, map, Option, Some, None}
+use Rattle.std.proofs.lemmas.Bool.{cond_both, false≢true, eqb-true, or_parts}
 use Rattle.std.specs.Prelude.{find, option_map}
 use Rattle.s360_words.specs.Words.{caw_of, chains_command}
 use Rattle.s360_words.specs.declared.words.Caw.{Caw}
-use Rattle.ckd_command.specs.Drive.{AfterBegin, Rejected, Immediate, Started, IdleDrive, begin, drive_of, no_sense}
+use Rattle.ckd_command.specs.Drive.{Volume, AfterBegin, Rejected, Immediate, Started, IdleDrive, begin, no_sense}
 use Rattle.s360_runs.specs.Commands.{Point, requested}
-use Rattle.s360_runs.specs.Endings.{Ending, Outcome, Ended, NotEnded, ending, immediate}
-use Rattle.s360_runs.specs.Places.{fetch, Fetched, GoodCcw, NoCcw, TransferTo}
+use Rattle.s360_runs.specs.Endings.{Outcome, Ended, NotEnded, ending, immediate}
+use Rattle.s360_runs.specs.Places.{fetch, Fetched, GoodCcw}
 use Rattle.s360_runs.specs.Runs.{Start, run, start_point}
 use Rattle.s360_runs.specs.Scripts.{Script}
-use Rattle.s360_runs.specs.Starts.{First, BadStart, RejectedStart, ImmediateStart, AcceptedStart, first, first_from, first_fetched, first_begun}
+use Rattle.s360_runs.specs.Starts.{First, RejectedStart, ImmediateStart, AcceptedStart, first, first_from, first_fetched, first_begun}
 use Rattle.s360_runs.specs.Status.{no_channel_status}
 use Rattle.s360_runs.specs.Transfers.{Request}
 use Rattle.s360_runs.specs.Writes.{OutcomeKeeps, slot_in}
-use Rattle.s360_runs.proofs.DriveFacts.{begin_keeps}
-use Rattle.s360_runs.proofs.DriveTerms.{BegunKeeps}
-use Rattle.s360_runs.proofs.KeptTracks.{run_keeps}
+use Rattle.s360_runs.proofs.DriveFacts.{VolumeClosed, VolumeIn, begin_keeps}
+use Rattle.s360_runs.proofs.Units.{BegunIs}
+use Rattle.s360_runs.proofs.Writes.{run_keeps}
 use Rattle.s360_laws.specs.History.{Act, Program, RejectedCommand, Changes, ClearsSense, Fate, ByItself, IsCut, World, after_first, after_program, after_rejection, after_run, does, drive_in, history, start_in, with_drive, world_of, all_acts}
 use Rattle.s360_laws.specs.Machine.{exchanges}
 use Rattle.s360_laws.specs.Writes.{KeepsUnwritten, act_writes, acts_write, program_writes, slot_at}
-use Rattle.s360_laws.proofs.FindDevices.{no}
+use Rattle.s360_laws.proofs.FindDevices.{find_map}
 use Rattle.s360_laws.proofs.Serial.{serial}
 
 abbrev Drives : Type 0
@@ -42,7 +42,7 @@ with_slot track device p drive [] h = refl
 with_slot track device p drive (x ∷ xs) h = go (x.0 == p) refl (x.0 == device) refl h (with_slot track device p drive xs)
   where
     apart : (x.0 == p) ≡ true → (x.0 == device) ≡ false → (p == device) ≡ true → ⊥
-    apart e k l = no (sym k ∙ ap (λ n. n == device) (eqb-true _ _ e) ∙ l)
+    apart e k l = false≢true (sym k ∙ ap (λ n. n == device) (eqb-true _ _ e) ∙ l)
 
     -- the first drive, and whether it is the one that is changed, and the one that is looked at
     go : (b : Bool) → (x.0 == p) ≡ b → (c : Bool) → (x.0 == device) ≡ c
@@ -60,90 +60,61 @@ with_slot track device p drive (x ∷ xs) h = go (x.0 == p) refl (x.0 == device)
 
 -- a change of sense bytes
 cleared : (track device : ℕ) (ds : Drives) → slot track (at device (map (λ d. (d.0, record d.1 { sense = no_sense })) ds)) ≡ slot track (at device ds)
-cleared track device [] = refl
-cleared track device (x ∷ xs) = go (x.0 == device) (cleared track device xs)
+cleared track device ds = ap (slot track) (find_map (λ d. d.0 == device) (λ d. d.0 == device) (λ d. (d.0, record d.1 { sense = no_sense })) (λ d. refl) ds) ∙ go (at device ds)
   where
-    go : (b : Bool) → slot track (at device (map (λ d. (d.0, record d.1 { sense = no_sense })) xs)) ≡ slot track (at device xs)
-        → slot track (cond b (Some (x.0, record x.1 { sense = no_sense })) (at device (map (λ d. (d.0, record d.1 { sense = no_sense })) xs))) ≡ slot track (cond b (Some x) (at device xs))
-    go true h = refl
-    go false h = h
+    go : (y : Option (ℕ × IdleDrive)) → slot track (option_map (λ d. (d.0, record d.1 { sense = no_sense })) y) ≡ slot track y
+    go None = refl
+    go (Some d) = refl
 
 -- A command that is rejected changes no slot.
 
-rejected_keeps : (s : Start) (d : IdleDrive) → first s ≡ RejectedStart d → d.volume ≡ s.drive.volume
-rejected_keeps s d h = from (caw_of s.caw) h
+abbrev FirstKeeps : Volume → First → Type 0
+FirstKeeps v (RejectedStart drive) = drive.volume ≡ v
+FirstKeeps v f = Unit {0}
+
+first_keeps : (s : Start) → FirstKeeps s.drive.volume (first s)
+first_keeps s = from (caw_of s.caw)
   where
-    the : (a b : IdleDrive) → RejectedStart a ≡ RejectedStart b → a ≡ b
-    the a b h = cc
+    Same : Volume → Type 0
+    Same v = v ≡ s.drive.volume
 
-    bad : BadStart ≡ RejectedStart d → ⊥
-    bad h = cc
+    begun : (key : ℕ) (r : Request) (b : AfterBegin) → BegunIs (VolumeClosed Same) (VolumeIn Same) b → FirstKeeps s.drive.volume (first_begun key r b)
+    begun key r (Rejected t) k = k
+    begun key r (Started o) k = tt
+    begun key r (Immediate t motion) k = cond_both (chains_command r.ccw) AcceptedStart (ImmediateStart (ending None key r.place (immediate t motion) no_channel_status)) (FirstKeeps s.drive.volume) (λ e. tt) (λ e. tt)
 
-    accepted : AcceptedStart ≡ RejectedStart d → ⊥
-    accepted h = cc
+    fetched : (key : ℕ) (p : Point) (w : Fetched) → Same p.state.volume → FirstKeeps s.drive.volume (first_fetched key p w)
+    fetched key p (GoodCcw ccw) h = begun key (requested p ccw) (begin None ccw.code p.state) (begin_keeps Same ccw.code p.state h)
+    fetched key p w h = tt
 
-    at_once : (e : Ending) → ImmediateStart e ≡ RejectedStart d → ⊥
-    at_once e h = cc
-
-    begun : (key : ℕ) (r : Request) (b : AfterBegin) → BegunKeeps s.drive b → first_begun key r b ≡ RejectedStart d → d.volume ≡ s.drive.volume
-    begun key r (Rejected t) k h = ap (λ d. d.volume) (sym (the _ _ h)) ∙ k
-    begun key r (Started o) k h = absurd (accepted h)
-    begun key r (Immediate t motion) k h = chained (ending None key r.place (immediate t motion) no_channel_status) (chains_command r.ccw) h
-      where
-        chained : (e : Ending) (b : Bool) → cond b AcceptedStart (ImmediateStart e) ≡ RejectedStart d → d.volume ≡ s.drive.volume
-        chained e true h = absurd (accepted h)
-        chained e false h = absurd (at_once e h)
-
-    fetched : (key : ℕ) (p : Point) (w : Fetched) → p.state.volume ≡ s.drive.volume → first_fetched key p w ≡ RejectedStart d → d.volume ≡ s.drive.volume
-    fetched key p NoCcw e h = absurd (bad h)
-    fetched key p (TransferTo address) e h = absurd (bad h)
-    fetched key p (GoodCcw ccw) e h = begun key (requested p ccw) (begin None ccw.code p.state) (keeps (begin None ccw.code p.state) (begin_keeps ccw.code p.state)) h
-      where
-        keeps : (b : AfterBegin) → BegunKeeps (drive_of p.state) b → BegunKeeps s.drive b
-        keeps (Rejected t) k = k ∙ e
-        keeps (Immediate t motion) k = k ∙ e
-        keeps (Started o) k = k ∙ e
-
-    from : (c : Option Caw) → first_from s c ≡ RejectedStart d → d.volume ≡ s.drive.volume
-    from None h = absurd (bad h)
-    from (Some caw) h = fetched caw.key (start_point caw s) (fetch s.storage (start_point caw s).place true) refl h
+    from : (c : Option Caw) → FirstKeeps s.drive.volume (first_from s c)
+    from None = tt
+    from (Some caw) = fetched caw.key (start_point caw s) (fetch s.storage (start_point caw s).place true) refl
 
 -- Acts.
+
+agrees : (track device p : ℕ) (drive : IdleDrive) (ds : Drives) (d : ℕ × IdleDrive) → at p ds ≡ Some d → ((p == device) ≡ true → slot_in drive.volume track ≡ slot_in d.1.volume track) → Agrees track device p drive ds
+agrees track device p drive ds d e k c f l = let q = sym e ∙ f in let same : d ≡ c = cc in k l ∙ ap (λ d. slot_in d.1.volume track) same
 
 program_keeps : (w : World) (p device track : ℕ) (script : Script) (fate : Fate) (y : Option (ℕ × IdleDrive)) → drive_in w p ≡ y → ((p == device) && program_writes w track script y) ≡ false
     → slot track (at device (after_program w p script fate y).drives) ≡ slot track (at device w.drives)
 program_keeps w p device track script fate None e h = refl
-program_keeps w p device track script fate (Some d) e h = go fate (run script (start_in w d.1)) (λ k. run_keeps (start_in w d.1) script track (not_written (p == device) _ k h))
+program_keeps w p device track script fate (Some d) e h =
+    go fate (run script (start_in w d.1)) (λ k. run_keeps (start_in w d.1) script track (subst (λ b. (b && program_writes w track script (Some d)) ≡ false) k h))
   where
-    not_written : (a b : Bool) → a ≡ true → (a && b) ≡ false → b ≡ false
-    not_written true b k h = h
-    not_written false b k h = no k
-
-    the : (d c : ℕ × IdleDrive) → Some d ≡ Some c → d ≡ c
-    the d c h = cc
-
-    agrees : (drive : IdleDrive) → ((p == device) ≡ true → slot_in drive.volume track ≡ slot_in d.1.volume track) → Agrees track device p drive w.drives
-    agrees drive k c f l = k l ∙ ap (λ d. slot_in d.1.volume track) (the d c (sym e ∙ f))
-
     go : (fate : Fate) (o : Outcome) → ((p == device) ≡ true → OutcomeKeeps track d.1.volume o) → slot track (at device (after_run w p fate o).drives) ≡ slot track (at device w.drives)
-    go ByItself (Ended used s z) k = with_slot track device p z.drive w.drives (agrees z.drive k)
-    go (IsCut fault) (Ended used s z) k = with_slot track device p z.drive w.drives (agrees z.drive k)
-    go (IsCut fault) (NotEnded seen) k = with_slot track device p (seen.cut fault).drive w.drives (agrees (seen.cut fault).drive (λ l. k l fault))
+    go ByItself (Ended used s z) k = with_slot track device p z.drive w.drives (agrees track device p z.drive w.drives d e k)
+    go (IsCut fault) (Ended used s z) k = with_slot track device p z.drive w.drives (agrees track device p z.drive w.drives d e k)
+    go (IsCut fault) (NotEnded seen) k = with_slot track device p (seen.cut fault).drive w.drives (agrees track device p (seen.cut fault).drive w.drives d e (λ l. k l fault))
     go ByItself (NotEnded seen) k = refl
 
 rejection_keeps : (w : World) (p device track : ℕ) (y : Option (ℕ × IdleDrive)) → drive_in w p ≡ y → slot track (at device (after_rejection w p y).drives) ≡ slot track (at device w.drives)
 rejection_keeps w p device track None e = refl
 rejection_keeps w p device track (Some d) e = go (first (start_in w d.1)) refl
   where
-    the : (d c : ℕ × IdleDrive) → Some d ≡ Some c → d ≡ c
-    the d c h = cc
-
     go : (f : First) → first (start_in w d.1) ≡ f → slot track (at device (after_first w p f).drives) ≡ slot track (at device w.drives)
-    go (RejectedStart drive) k =
-        with_slot track device p drive w.drives (λ c f l. ap (λ v. slot_in v track) (rejected_keeps (start_in w d.1) drive k) ∙ ap (λ d. slot_in d.1.volume track) (the d c (sym e ∙ f)))
-    go BadStart k = refl
-    go (ImmediateStart z) k = refl
-    go AcceptedStart k = refl
+    go (RejectedStart drive) k = with_slot track device p drive w.drives (agrees track device p drive w.drives d e (λ l. ap (λ v. slot_in v track) (subst (FirstKeeps d.1.volume) k (first_keeps (start_in w d.1)))))
+    go f k = refl
 
 act_keeps : (w : World) (device track : ℕ) (act : Act) → act_writes w device track act ≡ false → slot_at (does w act) device track ≡ slot_at w device track
 act_keeps w device track (Program p script fate) h = program_keeps w p device track script fate (drive_in w p) refl h
@@ -151,14 +122,10 @@ act_keeps w device track (RejectedCommand p) h = rejection_keeps w p device trac
 act_keeps w device track (Changes c) h = refl
 act_keeps w device track ClearsSense h = cleared track device w.drives
 
-or_false : (a b : Bool) → (a || b) ≡ false → (a ≡ false) × (b ≡ false)
-or_false true b h = no (sym h)
-or_false false b h = (refl, h)
-
 history_keeps : (w : World) (device track : ℕ) (list : List Act) → acts_write w device track list ≡ false → slot_at (history w list) device track ≡ slot_at w device track
 history_keeps w device track [] h = refl
 history_keeps w device track (act ∷ rest) h =
-    let k = or_false (act_writes w device track act) (acts_write (does w act) device track rest) h in
+    let k = or_parts (act_writes w device track act) (acts_write (does w act) device track rest) h in
     history_keeps (does w act) device track rest k.1 ∙ act_keeps w device track act k.0
 
 pub keeps_unwritten : KeepsUnwritten

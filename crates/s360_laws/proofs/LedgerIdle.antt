@@ -1,29 +1,29 @@
--- An event at an idle machine keeps the ledger in balance.
-use Rattle.std.proofs.Common.{◌≡◌, ℕ, ◌+◌, ◌*◌, ◌/◌, ◌%◌, refl, sym, ap, subst, ◌∙◌, arith, true, false, Bool, cond, not, ◌&&◌, ◌==◌, List, [], ◌∷◌, map, Option, Some, None, zero-add, ◌⊎◌, inl, inr}
-use Rattle.std.proofs.lemmas.Bool.{eq-eqb, eqb-true}
+-- An event where no program runs keeps the ledger in balance.
+use Rattle.std.proofs.Common.{◌≡◌, ℕ, ◌+◌, ◌*◌, ◌/◌, ◌%◌, refl, sym, ap, subst, ◌∙◌, arith, true, false, Bool, cond, ◌&&◌, ◌==◌, List, [], ◌∷◌, map, Option, Some, None, zero-add, ◌⊎◌, inl, inr, add-zero}
+use Rattle.std.proofs.lemmas.Bool.{ne_eqb, eq-eqb, eqb-true}
 use Rattle.std.specs.Prelude.{find, option_map, is_some, filter, nat_lt}
-use Rattle.s360_words.specs.Storage.{Storage, changed, status_stored, Change, Bytes, is_within, KeyOf}
+use Rattle.s360_words.specs.Storage.{Storage, changed, status_stored, Bytes, is_within, KeyOf}
 use Rattle.s360_words.specs.declared.flags.ChannelStatus.{ChannelStatus}
 use Rattle.s360_words.specs.declared.flags.TheConstants.UnitStatus.{CHANNEL_END, DEVICE_END}
-use Rattle.s360_words.specs.declared.flags.UnitStatus.{UnitStatus}
+use Rattle.s360_words.specs.declared.words.Csw.{Csw}
 use Rattle.ckd_command.specs.Drive.{unsaved, IdleDrive}
 use Rattle.s360_runs.specs.Endings.{Ending}
 use Rattle.s360_runs.specs.Laws.{IsFirstUnit}
 use Rattle.s360_runs.specs.Runs.{Start, run}
 use Rattle.s360_runs.specs.Scripts.{units}
 use Rattle.s360_runs.specs.Starts.{first, First, ImmediateStart, BadStart, RejectedStart, AcceptedStart}
-use Rattle.s360_runs.specs.Status.{normal_end, tells, no_unit_status, no_channel_status}
+use Rattle.s360_runs.specs.Status.{normal_end, tells}
 use Rattle.s360_runs.proofs.EndStatus.{IsGood, RunGood, good_run}
 use Rattle.s360_runs.proofs.FirstUnits.{first_is_unit}
-use Rattle.s360_laws.specs.Events.{FaultAfter, Reset, WasReset, Sio, StatusStored, Store, Arrive, Tio, Interrupt, Hio, WithCode, WasKept, SetKey, Event, Tch, StepBy, HasArrived, Show}
-use Rattle.s360_laws.specs.Machine.{Device, at_rest, Machine, all_at_rest, address_of, device_at, with_device, arm_after, start_of, started, start_device, test_device, lowest, has_arrived, arrive, lower, interrupt_device, with_status, with_change, react, start_io, Idle, test_io, halt_io, fault_in}
+use Rattle.s360_laws.specs.Events.{FaultAfter, Reset, WasReset, Sio, StatusStored, Store, Arrive, Tio, Interrupt, Hio, SetKey, Event, CswStored, WithCode}
+use Rattle.s360_laws.specs.Machine.{Device, at_rest, Machine, all_at_rest, address_of, device_at, with_device, arm_after, start_of, started, start_device, test_device, lowest, has_arrived, lower, interrupt_device, react, Idle, Pending, with_csw}
 use Rattle.s360_laws.specs.Soundness.{device_for, device_owes, AreDistinct, arm_owes}
 use Rattle.s360_laws.specs.declared.arm.Arm.{Arm}
 use Rattle.s360_laws.specs.declared.arm.Arm.TheVariants.{AtRest, InMotion, Arrived}
-use Rattle.s360_laws.specs.declared.condition.ConditionCode.TheVariants.{Three}
-use Rattle.s360_laws.proofs.FindDevices.{found_map, distinct_map, no, at_device, set_both, device_after, keeps_one, set_drive}
-use Rattle.s360_laws.proofs.Owing.{Fine, Balance, silent, same_owed, nothing, distinct_arm, device_end_told, either_fine, arrive_fine}
-use Rattle.s360_laws.proofs.Shapes.{idle}
+use Rattle.s360_laws.specs.declared.condition.ConditionCode.TheVariants.{Two}
+use Rattle.s360_laws.proofs.FindDevices.{found_map, distinct_map, at_device, set_both, device_after, keeps_one, set_drive}
+use Rattle.s360_laws.proofs.Owing.{end_owes, Fine, Balance, silent, same_owed, nothing, distinct_arm, device_end_told, either_fine, arrive_fine, Rest}
+use Rattle.s360_laws.proofs.Shapes.{idle, pending}
 
 -- Reset.
 
@@ -35,7 +35,7 @@ rest_owes n u vs = ap device_owes (found_map (λ d. 256 * n + d == u) at_rest (�
     free (Some v) = refl
 
 pub reset_fine : (m w : Machine) (x : Option FaultAfter) (unsaved : _) → AreDistinct w.devices → Fine m Reset x (WasReset unsaved, all_at_rest w)
-reset_fine m w x unsaved ds = (distinct_map at_rest (λ v. refl) w.devices ds, tt, λ u. (zero-add 0, zero-add _ ∙ zero-add _ ∙ rest_owes w.channel u w.devices, λ b. no b))
+reset_fine m w x unsaved ds = (distinct_map at_rest (λ v. refl) w.devices ds, tt, λ u. (zero-add 0, zero-add _ ∙ zero-add _ ∙ rest_owes w.channel u w.devices, λ b. absurd (cc)))
 
 -- A start.
 
@@ -61,23 +61,15 @@ due_one false = refl
 pub free_due : (m : Machine) (a d u : ℕ) (v : Device) → address_of m d ≡ a → device_at m d ≡ Some v → v.arm ≡ AtRest → (a == u) ≡ true → ◌≡◌ {A = ℕ} 0 0 × (0 + device_owes (device_for m u) ≡ 0)
 free_due m a d u v e at free h = (refl, zero-add _ ∙ ap device_owes (sound_device m a d u v e at h) ∙ ap arm_owes free)
 
-pub at_once_balance : (m : Machine) (a d u : ℕ) (unit : UnitStatus) (channel : ChannelStatus) (x : Option FaultAfter) (v : Device) (e : Ending) (s : Storage) → address_of m d ≡ a → device_at m d ≡ Some v → v.arm ≡ AtRest → IsGood e
-    → e.csw.unit ≡ unit → ((unit ≡ CHANNEL_END) ⊎ (unit ≡ normal_end))
-    → Balance u (Sio a, x, StatusStored unit channel) (idle m) (record (with_device d (set_both (arm_after e) e.drive) (idle m)) { storage = s })
-at_once_balance m a d u unit channel x v e s at_a at free g h (inl k) =
+pub at_once_balance : (m : Machine) (a d u : ℕ) (channel : ChannelStatus) (x : Option FaultAfter) (v : Device) (e : Ending) (s : Storage) → address_of m d ≡ a → device_at m d ≡ Some v → v.arm ≡ AtRest → IsGood e
+    → (e.csw.unit ≡ CHANNEL_END) ⊎ (e.csw.unit ≡ normal_end)
+    → Balance u (Sio a, x, StatusStored e.csw.unit channel) (idle m) (record (with_device d (set_both (arm_after e) e.drive) (idle m)) { storage = s })
+at_once_balance m a d u channel x v e s at_a at free g (inl k) =
     subst (λ unit. Balance u (Sio a, x, StatusStored unit channel) (idle m) (record (with_device d (set_both (arm_after e) e.drive) (idle m)) { storage = s })) (sym k)
-    (due_one (a == u), ap (λ y. cond ((a == u) && false) 1 0 + (0 + device_owes y)) (end_set m (arm_after e) e.drive d a u s at_a) ∙ first_owes (a == u) false (arm_after e) e.drive (device_for m u) (moves e.motion (sym (ap (λ n. tells n DEVICE_END) (h ∙ k)) ∙ g.device_end)) (λ b. (v, sound_device m a d u v at_a at b)), free_due m a d u v at_a at free)
-  where
-    moves : (motion : Bool) → false ≡ not motion → 0 + arm_owes (cond motion InMotion AtRest) ≡ 1
-    moves true q = refl
-    moves false q = no q
-at_once_balance m a d u unit channel x v e s at_a at free g h (inr k) =
+    (due_one (a == u), ap (λ y. cond ((a == u) && false) 1 0 + (0 + device_owes y)) (end_set m (arm_after e) e.drive d a u s at_a) ∙ first_owes (a == u) false (arm_after e) e.drive (device_for m u) (end_owes false e.motion (sym (ap (λ n. tells n DEVICE_END) k) ∙ g.device_end)) (λ b. (v, sound_device m a d u v at_a at b)), free_due m a d u v at_a at free)
+at_once_balance m a d u channel x v e s at_a at free g (inr k) =
     subst (λ unit. Balance u (Sio a, x, StatusStored unit channel) (idle m) (record (with_device d (set_both (arm_after e) e.drive) (idle m)) { storage = s })) (sym k)
-    (due_one (a == u), ap (λ y. cond ((a == u) && true) 1 0 + (0 + device_owes y)) (end_set m (arm_after e) e.drive d a u s at_a) ∙ first_owes (a == u) true (arm_after e) e.drive (device_for m u) (rests e.motion (sym (ap (λ n. tells n DEVICE_END) (h ∙ k)) ∙ g.device_end)) (λ b. (v, sound_device m a d u v at_a at b)), free_due m a d u v at_a at free)
-  where
-    rests : (motion : Bool) → true ≡ not motion → 1 + arm_owes (cond motion InMotion AtRest) ≡ 1
-    rests true q = no (sym q)
-    rests false q = refl
+    (due_one (a == u), ap (λ y. cond ((a == u) && true) 1 0 + (0 + device_owes y)) (end_set m (arm_after e) e.drive d a u s at_a) ∙ first_owes (a == u) true (arm_after e) e.drive (device_for m u) (end_owes true e.motion (sym (ap (λ n. tells n DEVICE_END) k) ∙ g.device_end)) (λ b. (v, sound_device m a d u v at_a at b)), free_due m a d u v at_a at free)
 
 abbrev pub FirstGood : Start → First → Type 0
 FirstGood s (ImmediateStart e) = IsGood e × ((e.csw.unit ≡ CHANNEL_END) ⊎ (e.csw.unit ≡ normal_end))
@@ -87,21 +79,19 @@ pub first_good : (s : Start) (f : First) → first s ≡ f → FirstGood s f
 first_good s f h = go f (subst (λ f. IsFirstUnit s f (run (units 1) s)) h (first_is_unit s).unit_is)
   where
     go : (f : First) → IsFirstUnit s f (run (units 1) s) → FirstGood s f
-    go BadStart r = tt
-    go (RejectedStart d) r = tt
-    go AcceptedStart r = tt
     go (ImmediateStart e) r = (subst RunGood r.0 (good_run s (units 1)), r.1)
+    go f r = tt
 
 pub begin_fine : (m : Machine) (a d : ℕ) (x : Option FaultAfter) (v : Device) (f : First) → address_of m d ≡ a → device_at m d ≡ Some v → v.arm ≡ AtRest → AreDistinct m.devices → FirstGood (start_of m v.drive) f
     → Fine (idle m) (Sio a) x (started d (idle m) f)
-begin_fine m a d x v BadStart e at free ds g = (ds, tt, λ u. (silent (a == u) 0, silent (a == u) _, λ b. no b))
+begin_fine m a d x v BadStart e at free ds g = (ds, tt, λ u. (silent (a == u) 0, silent (a == u) _, λ b. absurd (cc)))
 begin_fine m a d x v (RejectedStart w) e at free ds g = (
   distinct_map _ (keeps_one d (set_drive w) (λ v. refl)) m.devices ds,
   tt,
   λ u. (
     silent (a == u) 0,
     silent (a == u) _ ∙ ap (λ n. 0 + n) (ap device_owes (device_after m.channel d u (set_drive w) (λ v. refl) m.devices) ∙ same_owed (set_drive w) (address_of m d == u) (device_for m u) (λ b. same (device_for m u))),
-    λ b. no b,
+    λ b. absurd (cc),
   ),
 )
   where
@@ -122,15 +112,15 @@ begin_fine m a d x v AcceptedStart e at free ds g = (
     takes true n h = ap (λ n. 1 + n) (h refl)
     takes false n h = refl
 begin_fine m a d x v (ImmediateStart z) e at free ds g =
-    (distinct_map _ (keeps_one d (set_both (arm_after z) z.drive) (λ v. refl)) m.devices ds, tt, λ u. at_once_balance m a d u z.csw.unit z.csw.channel x v z (changed (status_stored z.csw.unit.0 z.csw.channel.0) m.storage) e at free g.0 refl g.1)
+    (distinct_map _ (keeps_one d (set_both (arm_after z) z.drive) (λ v. refl)) m.devices ds, tt, λ u. at_once_balance m a d u z.csw.channel x v z (changed (status_stored z.csw.unit.0 z.csw.channel.0) m.storage) e at free g.0 g.1)
 
 pub start_fine : (m : Machine) (a d : ℕ) (x : Option FaultAfter) (y : Option Device) → address_of m d ≡ a → device_at m d ≡ y → AreDistinct m.devices → Fine (idle m) (Sio a) x (start_device d (idle m) y)
 start_fine m a d x None e at ds = (ds, tt, λ u. nothing _ _)
 start_fine m a d x (Some v) e at ds = go v.arm refl
   where
     go : (arm : Arm) → v.arm ≡ arm → Fine (idle m) (Sio a) x (start_device d (idle m) (Some (record v { arm = arm })))
-    go InMotion h = (ds, tt, λ u. (silent (a == u) 0, silent (a == u) _, λ b. no b))
-    go Arrived h = (distinct_arm m AtRest d ds, tt, λ u. (silent (a == u) 0, device_end_told m d a u v at h e, λ b. no b))
+    go InMotion h = (ds, tt, λ u. (silent (a == u) 0, silent (a == u) _, λ b. absurd (cc)))
+    go Arrived h = (distinct_arm m AtRest d ds, tt, λ u. (silent (a == u) 0, device_end_told m d a u v at h e, λ b. absurd (cc)))
     go AtRest h = begin_fine m a d x v (first (start_of m v.drive)) e at h ds (first_good (start_of m v.drive) (first (start_of m v.drive)) refl)
 
 pub test_fine : (m : Machine) (a d : ℕ) (x : Option FaultAfter) (y : Option Device) → address_of m d ≡ a → device_at m d ≡ y → AreDistinct m.devices → Fine (idle m) (Tio a) x (test_device d (idle m) y)
@@ -138,8 +128,8 @@ test_fine m a d x None e at ds = (ds, tt, λ u. nothing _ _)
 test_fine m a d x (Some v) e at ds = go v.arm refl
   where
     go : (arm : Arm) → v.arm ≡ arm → Fine (idle m) (Tio a) x (test_device d (idle m) (Some (record v { arm = arm })))
-    go InMotion h = (ds, tt, λ u. (silent (a == u) 0, silent (a == u) _, λ b. no b))
-    go Arrived h = (distinct_arm m AtRest d ds, tt, λ u. (silent (a == u) 0, device_end_told m d a u v at h e, λ b. no b))
+    go InMotion h = (ds, tt, λ u. (silent (a == u) 0, silent (a == u) _, λ b. absurd (cc)))
+    go Arrived h = (distinct_arm m AtRest d ds, tt, λ u. (silent (a == u) 0, device_end_told m d a u v at h e, λ b. absurd (cc)))
     go AtRest h = (ds, tt, λ u. nothing _ _)
 
 -- The lowest device end.
@@ -148,76 +138,76 @@ abbrev pub Lowest : ℕ → List Device → Type 0
 Lowest d vs = (v : Device) × (find (λ w. w.device == d) vs ≡ Some v) × (v.arm ≡ Arrived)
 
 pub lowest_found : (vs : List Device) → AreDistinct vs → (d : ℕ) → lowest (filter has_arrived vs) ≡ Some d → Lowest d vs
-lowest_found [] ds d h = absurd (none h)
+lowest_found [] ds d h = absurd (cc)
+lowest_found (v ∷ vs) ds d h = go v.arm refl h (lowest_found vs ds.1)
   where
-    none : None ≡ Some d → ⊥
-    none h = cc
-lowest_found (v ∷ vs) ds d h = go v.arm refl h (λ d h. lowest_found vs ds.1 d h)
-  where
-    the : (b c : ℕ) → Some b ≡ Some c → b ≡ c
-    the b c h = cc
+    here : v.arm ≡ Arrived → Some v.device ≡ Some d → Lowest d (v ∷ vs)
+    here arm h = let e : v.device ≡ d = cc in (v, ap (λ b. cond b (Some v) (find (λ w. w.device == d) vs)) (eq-eqb _ _ e), arm)
 
-    here : v.arm ≡ Arrived → v.device ≡ d → Lowest d (v ∷ vs)
-    here arm h = (v, ap (λ b. cond b (Some v) (find (λ w. w.device == d) vs)) (eq-eqb _ _ h), arm)
+    -- no two devices have one address
+    there : Lowest d vs → Lowest d (v ∷ vs)
+    there r = (r.0, ap (λ b. cond b (Some v) (find (λ w. w.device == d) vs)) (ne_eqb v.device d apart) ∙ r.1, r.2)
+      where
+        apart : v.device ≡ d → ⊥
+        apart e = let q = sym ds.0 ∙ ap (λ k. find (λ w. w.device == k) vs) e ∙ r.1 in cc
 
-    there : (v.device == d) ≡ false → Lowest d vs → Lowest d (v ∷ vs)
-    there h r = (r.0, ap (λ b. cond b (Some v) (find (λ w. w.device == d) vs)) h ∙ r.1, r.2)
-
-    either : v.arm ≡ Arrived → Lowest d vs → (b : Bool) → (v.device == d) ≡ b → Lowest d (v ∷ vs)
-    either arm r true h = here arm (eqb-true _ _ h)
-    either arm r false h = there h r
-
-    one : v.arm ≡ Arrived → (l : Option ℕ) → lowest (filter has_arrived vs) ≡ l → lower v.device l ≡ Some d → ((d : ℕ) → lowest (filter has_arrived vs) ≡ Some d → Lowest d vs) → Lowest d (v ∷ vs)
-    one arm None e h k = here arm (the _ _ h)
-    one arm (Some c) e h k = least (nat_lt v.device c) h
+    lower_of : v.arm ≡ Arrived → (l : Option ℕ) → lowest (filter has_arrived vs) ≡ l → lower v.device l ≡ Some d → ((d : ℕ) → lowest (filter has_arrived vs) ≡ Some d → Lowest d vs) → Lowest d (v ∷ vs)
+    lower_of arm None e h k = here arm h
+    lower_of arm (Some c) e h k = least (nat_lt v.device c) h
       where
         least : (b : Bool) → cond b (Some v.device) (Some c) ≡ Some d → Lowest d (v ∷ vs)
-        least true h = here arm (the _ _ h)
-        least false h = either arm (k d (e ∙ h)) (v.device == d) refl
-
-    other : (w : Device) → find (λ w. w.device == d) vs ≡ Some w → (b : Bool) → (v.device == d) ≡ b → Lowest d vs → Lowest d (v ∷ vs)
-    other w f true h r = absurd (none (sym ds.0 ∙ ap (λ k. find (λ w. w.device == k) vs) (eqb-true _ _ h) ∙ f))
-      where
-        none : None ≡ Some w → ⊥
-        none h = cc
-    other w f false h r = there h r
+        least true h = here arm h
+        least false h = there (k d (e ∙ h))
 
     go : (arm : Arm) → v.arm ≡ arm → lowest (cond (has_arrived (record v { arm = arm })) (v ∷ filter has_arrived vs) (filter has_arrived vs)) ≡ Some d
         → ((d : ℕ) → lowest (filter has_arrived vs) ≡ Some d → Lowest d vs) → Lowest d (v ∷ vs)
-    go Arrived a h k = one a (lowest (filter has_arrived vs)) refl h k
-    go AtRest a h k = let r = k d h in other r.0 r.1 (v.device == d) refl r
-    go InMotion a h k = let r = k d h in other r.0 r.1 (v.device == d) refl r
+    go Arrived a h k = lower_of a (lowest (filter has_arrived vs)) refl h k
+    go arm a h k = there (k d h)
 
 pub interrupt_fine : (m : Machine) (x : Option FaultAfter) (l : Option ℕ) → lowest (filter has_arrived m.devices) ≡ l → AreDistinct m.devices → Fine (idle m) Interrupt x (interrupt_device (idle m) l)
 interrupt_fine m x None h ds = (ds, tt, λ u. nothing _ _)
 interrupt_fine m x (Some d) h ds =
     let r = lowest_found m.devices ds d h in
-    (distinct_arm m AtRest d ds, tt, λ u. (silent (address_of m d == u) 0, device_end_told m d (address_of m d) u r.0 r.1 r.2 refl, λ b. no b))
+    (distinct_arm m AtRest d ds, tt, λ u. (silent (address_of m d == u) 0, device_end_told m d (address_of m d) u r.0 r.1 r.2 refl, λ b. absurd (cc)))
 
 -- Idle.
 
 pub whole : (n a : ℕ) → (a / 256 == n) ≡ true → 256 * n + a % 256 ≡ a
 whole n a h = let e : a / 256 ≡ n = eqb-true _ _ h in omega arith
 
-pub idle_halt : (m : Machine) (a : ℕ) (x : Option FaultAfter) (b : Bool) → AreDistinct m.devices → Fine (idle m) (Hio a) x (cond b (StatusStored no_unit_status no_channel_status, with_status no_unit_status no_channel_status (idle m)) (WithCode Three, idle m))
-idle_halt m a x true ds = (ds, tt, λ u. nothing _ _)
-idle_halt m a x false ds = (ds, tt, λ u. nothing _ _)
-
-pub idle_keep : (m : Machine) (c : Change) (x : Option FaultAfter) (b : Bool) → AreDistinct m.devices
-    → ((at : ℕ) (bytes : List ℕ) → Fine (idle m) (Store at bytes) x (cond b (WasKept true, with_change c (idle m)) (WasKept false, idle m)))
-    × ((at key : ℕ) → Fine (idle m) (SetKey at key) x (cond b (WasKept true, with_change c (idle m)) (WasKept false, idle m)))
-idle_keep m c x true ds = (λ at bytes. (ds, tt, λ u. nothing _ _), λ at key. (ds, tt, λ u. nothing _ _))
-idle_keep m c x false ds = (λ at bytes. (ds, tt, λ u. nothing _ _), λ at key. (ds, tt, λ u. nothing _ _))
-
 pub idle_fine : (m : Machine) (e : Event) (x : Option FaultAfter) → AreDistinct m.devices → Fine (idle m) e x (react e x (idle m))
-idle_fine m (Sio a) x ds = either_fine (idle m) (Sio a) x (a / 256 == m.channel) (start_io (a % 256) (idle m) Idle) (WithCode Three, idle m) (λ h. start_fine m a (a % 256) x (device_at m (a % 256)) (whole m.channel a h) refl ds) (ds, tt, λ u. nothing _ _)
-idle_fine m (Tio a) x ds = either_fine (idle m) (Tio a) x (a / 256 == m.channel) (test_io (a % 256) (idle m) Idle) (WithCode Three, idle m) (λ h. test_fine m a (a % 256) x (device_at m (a % 256)) (whole m.channel a h) refl ds) (ds, tt, λ u. nothing _ _)
-idle_fine m (Hio a) x ds = either_fine (idle m) (Hio a) x (a / 256 == m.channel) (halt_io (fault_in x) (a % 256) (idle m) Idle) (WithCode Three, idle m) (λ h. idle_halt m a x (is_some (device_at m (a % 256))) ds) (ds, tt, λ u. nothing _ _)
-idle_fine m Tch x ds = (ds, tt, λ u. nothing _ _)
-idle_fine m (StepBy k) x ds = (ds, tt, λ u. nothing _ _)
-idle_fine m (Arrive a) x ds = either_fine (idle m) (Arrive a) x (a / 256 == m.channel) (arrive (a % 256) (idle m) (device_at m (a % 256))) (HasArrived false, idle m) (λ h. arrive_fine m Idle a (a % 256) x (device_at m (a % 256)) refl ds tt) (ds, tt, λ u. nothing _ _)
+idle_fine m (Sio a) x ds = either_fine (idle m) (Sio a) x (a / 256 == m.channel) _ _ (λ h. start_fine m a (a % 256) x (device_at m (a % 256)) (whole m.channel a h) refl ds) (ds, tt, λ u. nothing _ _)
+idle_fine m (Tio a) x ds = either_fine (idle m) (Tio a) x (a / 256 == m.channel) _ _ (λ h. test_fine m a (a % 256) x (device_at m (a % 256)) (whole m.channel a h) refl ds) (ds, tt, λ u. nothing _ _)
+idle_fine m (Hio a) x ds = either_fine (idle m) (Hio a) x (a / 256 == m.channel) _ _ (λ h. either_fine (idle m) (Hio a) x (is_some (device_at m (a % 256))) _ _ (λ h. (ds, tt, λ u. nothing _ _)) (ds, tt, λ u. nothing _ _)) (ds, tt, λ u. nothing _ _)
+idle_fine m (Arrive a) x ds = either_fine (idle m) (Arrive a) x (a / 256 == m.channel) _ _ (λ h. arrive_fine m Idle a (a % 256) x (device_at m (a % 256)) refl ds tt) (ds, tt, λ u. nothing _ _)
 idle_fine m Interrupt x ds = interrupt_fine m x (lowest (filter has_arrived m.devices)) refl ds
 idle_fine m Reset x ds = reset_fine (idle m) (idle m) x None ds
-idle_fine m (Store at bytes) x ds = (idle_keep m (Bytes at bytes) x (is_within (Bytes at bytes) m.storage) ds).0 at bytes
-idle_fine m (SetKey at key) x ds = (idle_keep m (KeyOf at key) x (is_within (KeyOf at key) m.storage) ds).1 at key
-idle_fine m (Show at len) x ds = (ds, tt, λ u. nothing _ _)
+idle_fine m (Store at bytes) x ds = either_fine (idle m) (Store at bytes) x (is_within (Bytes at bytes) m.storage) _ _ (λ h. (ds, tt, λ u. nothing _ _)) (ds, tt, λ u. nothing _ _)
+idle_fine m (SetKey at key) x ds = either_fine (idle m) (SetKey at key) x (is_within (KeyOf at key) m.storage) _ _ (λ h. (ds, tt, λ u. nothing _ _)) (ds, tt, λ u. nothing _ _)
+idle_fine m e x ds = (ds, tt, λ u. nothing _ _)
+
+-- Pending.
+
+pub told_csw : (m : Machine) (p a u : ℕ) (csw : Csw) → address_of m p ≡ a
+    → (cond ((a == u) && tells csw.unit CHANNEL_END) 1 0 + 0 ≡ cond ((address_of m p == u) && tells csw.unit CHANNEL_END) 1 0)
+    × (cond ((a == u) && tells csw.unit DEVICE_END) 1 0 + (0 + device_owes (device_for m u)) ≡ cond ((address_of m p == u) && tells csw.unit DEVICE_END) 1 0 + device_owes (device_for m u))
+told_csw m p a u csw e = (
+  add-zero _ ∙ ap (λ b. cond (b && tells csw.unit CHANNEL_END) 1 0) (sym (tested m a p u e)),
+  ap (λ n. cond ((a == u) && tells csw.unit DEVICE_END) 1 0 + n) (zero-add _) ∙ ap (λ b. cond (b && tells csw.unit DEVICE_END) 1 0 + device_owes (device_for m u)) (sym (tested m a p u e)),
+)
+
+pub pending_test : (m : Machine) (p a : ℕ) (csw : Csw) (x : Option FaultAfter) (b : Bool) → (a % 256 == p) ≡ b → address_of m (a % 256) ≡ a → AreDistinct m.devices → Rest m (Pending p csw)
+    → Fine (pending m p csw) (Tio a) x (cond b (CswStored csw, with_csw csw (idle m)) (WithCode Two, pending m p csw))
+pending_test m p a csw x true h e ds r = (ds, tt, λ u. let t = told_csw m p a u csw (ap (address_of m) (sym (eqb-true _ _ h)) ∙ e) in (t.0, t.1, λ b. absurd (cc)))
+pending_test m p a csw x false h e ds r = (ds, r, λ u. nothing _ _)
+
+pub pending_fine : (m : Machine) (p : ℕ) (csw : Csw) (e : Event) (x : Option FaultAfter) → AreDistinct m.devices → Rest m (Pending p csw) → Fine (pending m p csw) e x (react e x (pending m p csw))
+pending_fine m p csw (Sio a) x ds r = either_fine (pending m p csw) (Sio a) x (a / 256 == m.channel) _ _ (λ h. (ds, r, λ u. nothing _ _)) (ds, r, λ u. nothing _ _)
+pending_fine m p csw (Tio a) x ds r = either_fine (pending m p csw) (Tio a) x (a / 256 == m.channel) _ _ (λ h. pending_test m p a csw x (a % 256 == p) refl (whole m.channel a h) ds r) (ds, r, λ u. nothing _ _)
+pending_fine m p csw (Hio a) x ds r = either_fine (pending m p csw) (Hio a) x (a / 256 == m.channel) _ _ (λ h. (ds, r, λ u. nothing _ _)) (ds, r, λ u. nothing _ _)
+pending_fine m p csw (Arrive a) x ds r = either_fine (pending m p csw) (Arrive a) x (a / 256 == m.channel) _ _ (λ h. arrive_fine m (Pending p csw) a (a % 256) x (device_at m (a % 256)) refl ds r) (ds, r, λ u. nothing _ _)
+pending_fine m p csw Interrupt x ds r = (ds, tt, λ u. let t = told_csw m p (address_of m p) u csw refl in (t.0, t.1, λ b. absurd (cc)))
+pending_fine m p csw Reset x ds r = reset_fine (pending m p csw) (pending m p csw) x None ds
+pending_fine m p csw (Store at bytes) x ds r = either_fine (pending m p csw) (Store at bytes) x (is_within (Bytes at bytes) m.storage) _ _ (λ h. (ds, r, λ u. nothing _ _)) (ds, r, λ u. nothing _ _)
+pending_fine m p csw (SetKey at key) x ds r = either_fine (pending m p csw) (SetKey at key) x (is_within (KeyOf at key) m.storage) _ _ (λ h. (ds, r, λ u. nothing _ _)) (ds, r, λ u. nothing _ _)
+pending_fine m p csw e x ds r = (ds, r, λ u. nothing _ _)

@@ -10,10 +10,9 @@ use Rattle.s360_laws.specs.Ledger.{Since, SinceBeginning, SinceAcceptance, Since
 use Rattle.s360_laws.specs.Machine.{Machine, Subchannel, Idle, Working, Pending, react, exchanges, after_all, Device, address_of, device_at}
 use Rattle.s360_laws.specs.Soundness.{owes_channel_end, owes_device_end, channel_owes, device_for, IsSound, IsSoundIn, AreDistinct, StaysSound, device_owes, arm_owes, IdleIsSound}
 use Rattle.s360_laws.specs.declared.arm.Arm.{Arm}
-use Rattle.s360_laws.specs.declared.arm.Arm.TheVariants.{AtRest, InMotion, Arrived}
+use Rattle.s360_laws.specs.declared.arm.Arm.TheVariants.{AtRest}
 use Rattle.s360_laws.proofs.FindDevices.{at_device}
-use Rattle.s360_laws.proofs.LedgerIdle.{idle_fine}
-use Rattle.s360_laws.proofs.LedgerPending.{pending_fine}
+use Rattle.s360_laws.proofs.LedgerIdle.{pending_fine, idle_fine}
 use Rattle.s360_laws.proofs.LedgerWorking.{working_fine}
 use Rattle.s360_laws.proofs.Owing.{Rest, Fine}
 use Rattle.s360_laws.proofs.Serial.{good}
@@ -42,7 +41,7 @@ pub stays : (m : Machine) (e : Event) (x : Option FaultAfter) → IsSound m → 
 stays m e x h =
     let p = sound_parts m m.subchannel h.1 in
     let f = fine m e x h in
-    (f.0, sound_whole (react e x m).1 (react e x m).1.subchannel (good m m.subchannel e x p.0).0 f.1)
+    (f.0, sound_whole (react e x m).1 (react e x m).1.subchannel (good m m.subchannel e x p.0).runs f.1)
 
 -- Lists.
 
@@ -84,8 +83,7 @@ arm_most (Some v) = go v.arm
   where
     go : (arm : Arm) → arm_owes arm ≤ 1
     go AtRest = omega arith
-    go InMotion = omega arith
-    go Arrived = omega arith
+    go arm = omega arith
 
 -- the owed channel end and device end of a device
 pub owed : (m : Machine) (c : Subchannel) (u : ℕ) → Rest m c
@@ -118,10 +116,8 @@ pub at_most_once : AtMostOnce
 at_most_once m es u h =
     let k = ends_pend m es u h in
     let o = owed_by m u h in
-    (most _ _ _ _ (both _ _ o.0 o.1) k.0, most _ _ _ _ o.1 k.1)
-  where
-    both : (c d : ℕ) → c ≤ d → d ≤ 1 → c ≤ 1
-    both c d p q = omega arith
+    let few : owes_channel_end u m ≤ 1 = omega arith in
+    (most _ _ _ _ few k.0, most _ _ _ _ o.1 k.1)
 
 pub exactly : (b : ℕ) (s : Since) (n o : ℕ) → Holds b s n o → s ≡ SinceAcceptance → n + o ≡ 1
 exactly b s n o h e = subst (λ s. Holds b s n o) e h
@@ -130,18 +126,17 @@ pub exactly_once : ExactlyOnce
 exactly_once m es e u h s a =
     let k = ends_pend m es u h in
     let z = ((fine (after_all es m) e.0 e.1 (stays_sound m es h)).2 u).2 a in
-    (full _ _ (exactly _ _ _ _ k.0 s) z.0, full _ _ (exactly _ _ _ _ k.1 s) z.1)
-  where
-    full : (n o : ℕ) → n + o ≡ 1 → o ≡ 0 → n ≡ 1
-    full n o p q = omega arith
+    let channel = exactly _ _ _ _ k.0 s in
+    let device = exactly _ _ _ _ k.1 s in
+    (omega arith, omega arith)
 
 pub channel_end_first : ChannelEndFirst
 channel_end_first m es u h s =
     let k = ends_pend m es u h in
-    not_after _ _ _ _ (exactly _ _ _ _ k.0 s) (exactly _ _ _ _ k.1 s) (owed_by (after_all es m) u (stays_sound m es h)).0
-  where
-    not_after : (c d o p : ℕ) → c + o ≡ 1 → d + p ≡ 1 → o ≤ p → d ≤ c
-    not_after c d o p x y z = omega arith
+    let channel = exactly _ _ _ _ k.0 s in
+    let device = exactly _ _ _ _ k.1 s in
+    let owes = owed_by (after_all es m) u (stays_sound m es h) in
+    omega arith
 
 pub none_after_reset : NoneAfterReset
 none_after_reset m es u h s = let k = ends_pend m es u h in (none _ _ _ _ k.0 s, none _ _ _ _ k.1 s)

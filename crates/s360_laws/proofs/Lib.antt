@@ -3,13 +3,11 @@ pub mod Ahead
 pub mod StepUnits
 pub mod SeenDevices
 pub mod SerialIdle
-pub mod SerialPending
 pub mod SerialWorking
 pub mod Serial
 pub mod FindDevices
 pub mod Owing
 pub mod LedgerIdle
-pub mod LedgerPending
 pub mod LedgerWorking
 pub mod LedgerLists
 pub mod StepLaws

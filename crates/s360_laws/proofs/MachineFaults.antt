@@ -1,26 +1,25 @@
 -- What a fault of the store does in a step, at Halt I/O and at a reset.
 use Rattle.std.proofs.Common.{◌≡◌, ℕ, zero, suc, ◌+◌, ◌-◌, ◌/◌, refl, sym, ap, subst, ◌∙◌, arith, true, false, Bool, cond, ◌==◌, List, [], ◌∷◌, ◌++◌, Option, Some, None, ◌⊎◌, inl, inr, append_assoc}
-use Rattle.std.specs.Prelude.{find, option_map, map}
+use Rattle.std.specs.Prelude.{option_map, map}
 use Rattle.s360_words.specs.Storage.{Storage}
 use Rattle.ckd_command.specs.Drive.{Fault, IdleDrive, SaveFails, LoadFails}
 use Rattle.s360_runs.specs.Endings.{Outcome, Ended, Ending, NotEnded, Standing}
-use Rattle.s360_runs.specs.Faults.{OutcomeByFault, NextByFault, EndsByFault}
+use Rattle.s360_runs.specs.Faults.{cut_drive, OutcomeByFault, EndsByFault}
 use Rattle.s360_runs.specs.Runs.{Start, run}
 use Rattle.s360_runs.specs.Scripts.{Script, OneUnit, units, units_in}
-use Rattle.s360_runs.specs.Units.{unit, ProgramPhase, StandsAt, Next, standing_in, outcome_of, on_next, walk, GoesOn, EndsIn}
-use Rattle.s360_runs.proofs.FaultsMet.{same_outcome, fault_or_not, fault_ends_cut}
+use Rattle.s360_runs.specs.Units.{unit, ProgramPhase, StandsAt, Next, outcome_of, on_next, walk, GoesOn, EndsIn}
+use Rattle.s360_runs.proofs.FaultsMet.{fault_ends_cut, run_by_fault}
 use Rattle.s360_runs.proofs.Standing.{goes_by}
 use Rattle.s360_runs.proofs.Walks.{units_in_two}
 use Rattle.s360_laws.specs.Events.{Answer, FaultAfter, Stepped, StepBy, WithCode, Hio, WasReset, Reset, Sio, Tio, Tch, Arrive, Interrupt, Store, SetKey, Show}
 use Rattle.s360_laws.specs.History.{Runs}
-use Rattle.s360_laws.specs.Machine.{cut, ended, units_failing, Device, Machine, device_at, arm_after, stepped, start_of, react, Subchannel, Idle, Pending, Working, run_of, unsaved_at, address_of, all_at_rest, at_rest}
+use Rattle.s360_laws.specs.Machine.{cut, ended, units_failing, Device, Machine, device_at, arm_after, stepped, start_of, react, Subchannel, Working, run_of, unsaved_at, address_of, all_at_rest, at_rest}
 use Rattle.s360_laws.specs.Soundness.{IsRunning}
 use Rattle.s360_laws.specs.Steps.{EndedByFault, FaultEndsStep, FaultEndsHalt, ToldByReset, FaultToldByReset, OthersMeetNone}
 use Rattle.s360_laws.specs.declared.condition.ConditionCode.TheVariants.{Two, Three}
-use Rattle.s360_laws.proofs.FindDevices.{Keeps, found_map, keeps_one, Has, has_found, set_both, no}
+use Rattle.s360_laws.proofs.FindDevices.{changed_device, found_map, set_both}
 use Rattle.s360_laws.proofs.SeenDevices.{seen}
-use Rattle.s360_laws.proofs.Shapes.{working}
-use Rattle.s360_laws.proofs.StepLaws.{run_at, working_device}
+use Rattle.s360_laws.proofs.Shapes.{run_at, working_device, working}
 use Rattle.s360_laws.proofs.StepUnits.{units_count, stood}
 
 -- The units of a step in which a fault stands.
@@ -32,57 +31,34 @@ MetAt f n o = (before : IdleDrive) × OutcomeByFault f n before o
 abbrev MetOr : Start → Script → Script → Fault → ℕ → Type 0
 MetOr s with_fault without f n = (run with_fault s ≡ run without s) ⊎ MetAt f n (run with_fault s)
 
--- over a unit that is met, or is not
-by_unit : (s : Start) (script rest : Script) (f : Fault) (key : ℕ) (g : ProgramPhase) → StandsAt s script key g
-    → (unit (Some f) key g ≡ unit None key g) ⊎ NextByFault f key g (unit (Some f) key g)
-    → MetOr s (script ++ OneUnit (Some f) ∷ rest) (script ++ OneUnit None ∷ rest) f (units_in script + 1)
-by_unit s script rest f key g st (inl same) = inl (st (OneUnit (Some f) ∷ rest) ∙ ap (λ n. outcome_of (script ++ OneUnit (Some f) ∷ rest) key (on_next rest n (walk rest key))) same
-    ∙ same_outcome (script ++ OneUnit (Some f) ∷ rest) (script ++ OneUnit None ∷ rest) key (on_next rest (unit None key g) (walk rest key)) counts ∙ sym (st (OneUnit None ∷ rest)))
-  where
-    counts : units_in (script ++ OneUnit (Some f) ∷ rest) ≡ units_in (script ++ OneUnit None ∷ rest)
-    counts = let a = units_in_two script (OneUnit (Some f) ∷ rest) in let b = units_in_two script (OneUnit None ∷ rest) in omega arith
-by_unit s script rest f key g st (inr met) = inr (ended (unit (Some f) key g) met (st (OneUnit (Some f) ∷ rest)))
-  where
-    before : IdleDrive
-    before = ((standing_in key g).cut None).drive
-
-    used : units_in (script ++ OneUnit (Some f) ∷ rest) - units_in rest ≡ units_in script + 1
-    used = let a = units_in_two script (OneUnit (Some f) ∷ rest) in omega arith
-
-    ended : (n : Next) → NextByFault f key g n
-        → run (script ++ OneUnit (Some f) ∷ rest) s ≡ outcome_of (script ++ OneUnit (Some f) ∷ rest) key (on_next rest n (walk rest key))
-        → MetAt f (units_in script + 1) (run (script ++ OneUnit (Some f) ∷ rest) s)
-    ended (GoesOn p) met r = absurd met
-    ended (EndsIn st_two e) met r = (((standing_in key g).cut None).drive, subst (OutcomeByFault f (units_in script + 1) ((standing_in key g).cut None).drive) (sym r) (used, met.0))
-
 -- over the units before it
 failing_or : (k after : ℕ) (s : Start) (script : Script) (f : Fault) (key : ℕ) (g : ProgramPhase) → StandsAt s script key g
     → MetOr s (script ++ units_failing k after f) (script ++ units k) f (units_in script + suc after)
 failing_or zero after s script f key g st = inl refl
-failing_or (suc k) zero s script f key g st = by_unit s script (units k) f key g st (fault_or_not f key g)
+failing_or (suc k) zero s script f key g st = met (run_by_fault s script (units k) f key g st)
+  where
+    first : suc (units_in script) ≡ units_in script + suc 0
+    first = omega arith
+
+    met : (run (script ++ OneUnit (Some f) ∷ units k) s ≡ run (script ++ OneUnit None ∷ units k) s) ⊎ OutcomeByFault f (suc (units_in script)) (cut_drive key g) (run (script ++ OneUnit (Some f) ∷ units k) s)
+        → MetOr s (script ++ units_failing (suc k) zero f) (script ++ units (suc k)) f (units_in script + suc 0)
+    met (inl same) = inl same
+    met (inr o) = inr (cut_drive key g, subst (λ n. OutcomeByFault f n (cut_drive key g) (run (script ++ OneUnit (Some f) ∷ units k) s)) first o)
 failing_or (suc k) (suc after) s script f key g st = go (unit None key g) refl (λ p st. failing_or k after s (script ++ OneUnit None ∷ []) f key p st)
   where
-    same_number : units_in (script ++ OneUnit None ∷ []) + suc after ≡ units_in script + suc (suc after)
-    same_number = let a = units_in_two script (OneUnit None ∷ []) in omega arith
+    one : units_in (script ++ OneUnit None ∷ []) + suc after ≡ units_in script + suc (suc after)
+    one = omega (arith, units_in_two)
 
     counts : units_in (script ++ OneUnit None ∷ units_failing k after f) - units_in (units_failing k after f) ≡ units_in (script ++ OneUnit None ∷ units k) - units_in (units k)
-    counts =
-        let a = units_in_two script (OneUnit None ∷ units_failing k after f) in
-        let b = units_in_two script (OneUnit None ∷ units k) in
-        let c = units_count k (Some (record { units = after; fault = f })) in
-        let d = units_count k None in
-        omega arith
-
-    shifted : MetOr s ((script ++ OneUnit None ∷ []) ++ units_failing k after f) ((script ++ OneUnit None ∷ []) ++ units k) f (units_in (script ++ OneUnit None ∷ []) + suc after)
-        → MetOr s (script ++ OneUnit None ∷ units_failing k after f) (script ++ OneUnit None ∷ units k) f (units_in script + suc (suc after))
-    shifted h = subst (λ l. MetOr s l (script ++ OneUnit None ∷ units k) f (units_in script + suc (suc after))) (append_assoc script (OneUnit None ∷ []) (units_failing k after f))
-        (subst (λ l. MetOr s ((script ++ OneUnit None ∷ []) ++ units_failing k after f) l f (units_in script + suc (suc after))) (append_assoc script (OneUnit None ∷ []) (units k))
-        (subst (MetOr s ((script ++ OneUnit None ∷ []) ++ units_failing k after f) ((script ++ OneUnit None ∷ []) ++ units k) f) same_number h))
+    counts = omega (arith, units_in_two, units_count k (Some (record { units = after; fault = f })), units_count k None)
 
     go : (n : Next) → unit None key g ≡ n → ((p : ProgramPhase) → StandsAt s (script ++ OneUnit None ∷ []) key p
         → MetOr s ((script ++ OneUnit None ∷ []) ++ units_failing k after f) ((script ++ OneUnit None ∷ []) ++ units k) f (units_in (script ++ OneUnit None ∷ []) + suc after))
         → MetOr s (script ++ OneUnit None ∷ units_failing k after f) (script ++ OneUnit None ∷ units k) f (units_in script + suc (suc after))
-    go (GoesOn p) at next = shifted (next p (goes_by s script (OneUnit None ∷ []) key g p st (ap (λ n. on_next [] n (walk [] key)) at)))
+    go (GoesOn p) at next =
+        let h = next p (goes_by s script (OneUnit None ∷ []) key g p st (ap (λ n. on_next [] n (walk [] key)) at)) in
+        subst (MetOr s (script ++ OneUnit None ∷ units_failing k after f) (script ++ OneUnit None ∷ units k) f) one
+        (simp append_assoc at h)
     go (EndsIn st_two e) at next = inl (
         st (OneUnit None ∷ units_failing k after f)
         ∙ ap (λ n. outcome_of (script ++ OneUnit None ∷ units_failing k after f) key (on_next (units_failing k after f) n (walk (units_failing k after f) key))) at
@@ -91,12 +67,6 @@ failing_or (suc k) (suc after) s script f key g st = go (unit None key g) refl (
         )
 
 -- The device whose program is over.
-
-device_after : (d : ℕ) (f : Device → Device) → Keeps f → (vs : List Device) (v : Device) → find (λ w. w.device == d) vs ≡ Some v
-    → find (λ w. w.device == d) (map (λ w. cond (w.device == d) (f w) w) vs) ≡ Some (f v)
-device_after d f k vs v at =
-    found_map (λ n. n == d) _ (keeps_one d f k) vs ∙ ap (option_map (λ w. cond (w.device == d) (f w) w)) at
-    ∙ ap (λ b. Some (cond b (f v) v)) (subst (Has (λ w. w.device == d)) at (has_found (λ w. w.device == d) vs))
 
 ended_by_fault : (m : Machine) (d : ℕ) (st : Storage) (e : Ending) (v : Device) (answer : Answer) (fault : Fault) (before : IdleDrive) → device_at m d ≡ Some v → EndsByFault fault before e
     → EndedByFault (answer, ended d st e m) answer
@@ -107,7 +77,7 @@ ended_by_fault m d st e v answer fault before at h = record {
   pends = refl;
   unit_check = h.unit_check;
   drive = set_both (arm_after e) e.drive v;
-  is_there = device_after d (set_both (arm_after e) e.drive) (λ w. refl) m.devices v at;
+  is_there = changed_device d (set_both (arm_after e) e.drive) (λ w. refl) m.devices v at;
   equipment_check = h.equipment_check;
 }
 
@@ -141,9 +111,8 @@ pub fault_ends_step : FaultEndsStep
 fault_ends_step m k x r = go m.subchannel r
   where
     go : (c : Subchannel) → Runs m c → FaultOr (λ r. EndedByFault r (Stepped (suc x.units))) (react (StepBy k) (Some x) (record m { subchannel = c })) (react (StepBy k) None (record m { subchannel = c }))
-    go Idle r = inl refl
-    go (Pending p csw) r = inl refl
     go (Working d s) r = let v = working_device m d s (device_at m d) refl r in step_faults m d s k x v.0 v.1 v.2
+    go c r = inl refl
 
 -- Cuts.
 
@@ -189,11 +158,10 @@ pub fault_ends_halt : FaultEndsHalt
 fault_ends_halt m a x r = go m.subchannel r
   where
     go : (c : Subchannel) → Runs m c → FaultOr (λ r. EndedByFault r (WithCode Two)) (react (Hio a) (Some x) (record m { subchannel = c })) (react (Hio a) None (record m { subchannel = c }))
-    go Idle r = inl refl
-    go (Pending p csw) r = inl refl
     go (Working d s) r =
         let v = working_device m d s (device_at m d) refl r in
         either_halt (a / 256 == m.channel) (working m d s) (halted (Some x.fault) (working m d s) d (run_of m d s)) (halted None (working m d s) d (run_of m d s)) (halt_faults m d s x.fault v.0 v.1 v.2)
+    go c r = inl refl
 
 -- Resets.
 
@@ -204,7 +172,7 @@ told_by_reset : (m : Machine) (d : ℕ) (s : Script) (seen : Standing) (f : Faul
     → EndsByFault f (seen.cut None).drive (seen.cut (Some f)) → ToldByReset (working m d s) (reset_by (Some f) (working m d s) d (Some (NotEnded seen)))
 told_by_reset m d s seen f left v at is h =
     let e = seen.cut (Some f) in
-    let there = device_after d (set_both (arm_after e) e.drive) (λ w. refl) m.devices v at in
+    let there = changed_device d (set_both (arm_after e) e.drive) (λ w. refl) m.devices v at in
     let unsaved = (subst (λ f. EndsByFault f (seen.cut None).drive e) is h).slots.0 in
     record {
       device = d;
@@ -224,24 +192,23 @@ fault_told_by_reset m x r = go m.subchannel r
     either d s seen v at (inr met) = inr (told_by_reset m d s seen x.fault met.0 v at met.1 met.2)
 
     go : (c : Subchannel) → Runs m c → FaultOr (ToldByReset (record m { subchannel = c })) (react Reset (Some x) (record m { subchannel = c })) (react Reset None (record m { subchannel = c }))
-    go Idle r = inl refl
-    go (Pending p csw) r = inl refl
     go (Working d s) r =
         let v = working_device m d s (device_at m d) refl r in
         let y = seen_in m d s v.0 v.1 v.2 in
         subst (λ o. FaultOr (ToldByReset (working m d s)) (reset_by (Some x.fault) (working m d s) d o) (reset_by None (working m d s) d o)) (sym y.2) (either d s y.0 v.0 v.1 (cut_or (start_of m v.0.drive) s y.0 x.fault y.1))
+    go c r = inl refl
 
 -- Other events.
 
 pub others_meet_none : OthersMeetNone
 others_meet_none m (Sio a) x h = refl
 others_meet_none m (Tio a) x h = refl
-others_meet_none m (Hio a) x h = no (sym h)
+others_meet_none m (Hio a) x h = absurd (cc)
 others_meet_none m Tch x h = refl
-others_meet_none m (StepBy k) x h = no (sym h)
+others_meet_none m (StepBy k) x h = absurd (cc)
 others_meet_none m (Arrive a) x h = refl
 others_meet_none m Interrupt x h = refl
-others_meet_none m Reset x h = no (sym h)
+others_meet_none m Reset x h = absurd (cc)
 others_meet_none m (Store at bytes) x h = refl
 others_meet_none m (SetKey at key) x h = refl
 others_meet_none m (Show at len) x h = refl

@@ -1,6 +1,6 @@
 -- Without a fault no event reports one; and a reset reports a track only where the program had written it.
 use Rattle.std.proofs.Common.{◌≡◌, ℕ, zero, suc, ◌/◌, ◌%◌, refl, sym, ap, subst, ◌∙◌, true, false, Bool, cond, ◌==◌, [], ◌∷◌, ◌++◌, map, Option, Some, None, append-nil}
-use Rattle.std.proofs.lemmas.Bool.{eqb-true}
+use Rattle.std.proofs.lemmas.Bool.{cond_both, eqb-true}
 use Rattle.std.specs.Prelude.{find, filter, option_map, is_some}
 use Rattle.s360_words.specs.Storage.{Storage, Change, Bytes, KeyOf, is_within}
 use Rattle.s360_words.specs.Words.{caw_of}
@@ -11,23 +11,22 @@ use Rattle.s360_runs.specs.Endings.{Outcome, Ended, Ending, NotEnded}
 use Rattle.s360_runs.specs.Faults.{without_faults}
 use Rattle.s360_runs.specs.Runs.{Start, run, run_from, start_point}
 use Rattle.s360_runs.specs.Scripts.{Script, OneUnit, Outside, TakesInterruption, units}
-use Rattle.s360_runs.specs.Starts.{First, BadStart, RejectedStart, ImmediateStart, AcceptedStart, first}
+use Rattle.s360_runs.specs.Starts.{First, RejectedStart, ImmediateStart, first}
 use Rattle.s360_runs.specs.Units.{Between, walk, Walk, StandsIn, EndsWith, outcome_of, standing_in}
 use Rattle.s360_runs.specs.Unsaved.{GainsNoCheck, TellsNoFault, OutcomeTellsNoFault, FirstTellsNoFault}
 use Rattle.s360_runs.proofs.FaultsMet.{goes_on_without_faults}
 use Rattle.s360_runs.proofs.UnsavedTracks.{no_fault_nothing_told, unsaved_was_written}
 use Rattle.s360_runs.proofs.Walks.{run_walk}
-use Rattle.s360_laws.specs.Events.{Answer, Event, StepBy, WithCode, Hio, WasReset, Reset, Sio, Tio, Tch, Arrive, HasArrived, Interrupt, Store, WasKept, SetKey, Show}
+use Rattle.s360_laws.specs.Events.{Answer, StepBy, WithCode, Hio, WasReset, Reset, Sio, Tio, Tch, Arrive, Interrupt, Store, WasKept, SetKey, Show}
 use Rattle.s360_laws.specs.History.{Runs}
-use Rattle.s360_laws.specs.Machine.{cut, Device, Machine, device_at, arm_after, started, start_device, test_device, test_io, tested, with_arm, with_ending, stepped, start_of, react, Subchannel, Idle, Pending, Working, run_of, unsaved_at, address_of, all_at_rest, at_rest, arrive, is_in_motion, has_arrived, lowest, interrupt_device, interrupt_program, asked_by, change, keep, fault_in, halt_io}
+use Rattle.s360_laws.specs.Machine.{interrupt, reset, start_io, step, test_io, halt_io, cut, Device, Machine, device_at, arm_after, started, start_device, test_device, with_arm, with_ending, stepped, start_of, react, Subchannel, Idle, Pending, Working, run_of, unsaved_at, address_of, all_at_rest, at_rest, arrive, is_in_motion, has_arrived, lowest, interrupt_device, interrupt_program, asked_by, change, keep, fault_in}
 use Rattle.s360_laws.specs.NothingTold.{TellsNoTrack, NoneGainsCheck, NoFaultNoneTold, HadWritten, ResetTellsWritten}
 use Rattle.s360_laws.specs.Soundness.{IsRunning}
 use Rattle.s360_laws.specs.declared.arm.Arm.{Arm}
 use Rattle.s360_laws.specs.declared.arm.Arm.TheVariants.{AtRest, InMotion, Arrived}
-use Rattle.s360_laws.specs.declared.condition.ConditionCode.TheVariants.{Zero, Two, Three}
+use Rattle.s360_laws.specs.declared.condition.ConditionCode.TheVariants.{Three}
 use Rattle.s360_laws.proofs.FindDevices.{Keeps, found_map, keeps_one, Has, has_found, set_arm, set_both, set_drive}
-use Rattle.s360_laws.proofs.Shapes.{working}
-use Rattle.s360_laws.proofs.StepLaws.{run_at, working_device}
+use Rattle.s360_laws.proofs.Shapes.{run_at, working_device}
 
 -- Changes of devices.
 
@@ -43,17 +42,14 @@ same_devices x d e h k = subst (λ e. GainsNoCheck d.drive e.drive) (the_device 
 -- where one device is changed, and gains nothing
 one_changed : (m : Machine) (d : ℕ) (f : Device → Device) → Keeps f → ((v : Device) → device_at m d ≡ Some v → GainsNoCheck v.drive (f v).drive)
     → (n : ℕ) → Quietly (device_at m n) (find (λ w. w.device == n) (map (λ w. cond (w.device == d) (f w) w) m.devices))
-one_changed m d f k h n v e at after = subst (λ e. GainsNoCheck v.drive e.drive) changed (go (v.device == d) refl)
+one_changed m d f k h n v e at after = subst (λ e. GainsNoCheck v.drive e.drive) changed
+    (cond_both (v.device == d) (f v) v (λ w. GainsNoCheck v.drive w.drive) (λ e. h v (subst (λ n. device_at m n ≡ Some v) (sym (eqb-true v.device n is_n) ∙ eqb-true v.device d e) at)) (λ e q. q))
   where
     changed : cond (v.device == d) (f v) v ≡ e
     changed = the_device _ _ (sym (ap (option_map (λ w. cond (w.device == d) (f w) w)) at) ∙ sym (found_map (λ b. b == n) _ (keeps_one d f k) m.devices) ∙ after)
 
     is_n : (v.device == n) ≡ true
     is_n = subst (Has (λ w. w.device == n)) at (has_found (λ w. w.device == n) m.devices)
-
-    go : (b : Bool) → (v.device == d) ≡ b → GainsNoCheck v.drive (cond b (f v) v).drive
-    go true e = h v (subst (λ n. device_at m n ≡ Some v) (sym (eqb-true v.device n is_n) ∙ eqb-true v.device d e) at)
-    go false e = λ q. q
 
 abbrev Calm : Machine → Answer × Machine → Type 0
 Calm m r = TellsNoTrack r.0 × NoneGainsCheck m r.1
@@ -99,10 +95,9 @@ start_calm m d None at = (tt, none_changed m)
 start_calm m d (Some v) at = by_arm v.arm
   where
     by_first : (f : First) → FirstTellsNoFault v.drive f → Calm m (started d m f)
-    by_first BadStart h = (tt, none_changed m)
     by_first (RejectedStart drive) h = (tt, one_changed m d (set_drive drive) (λ w. refl) (λ w there. subst (λ w. GainsNoCheck w.drive drive) (the_device v w (sym at ∙ there)) h))
     by_first (ImmediateStart e) h = (tt, ending_calm m d m.storage e v at h)
-    by_first AcceptedStart h = (tt, none_changed m)
+    by_first f h = (tt, none_changed m)
 
     by_arm : (arm : Arm) → Calm m (start_device d m (Some (set_arm arm v)))
     by_arm InMotion = (tt, none_changed m)
@@ -114,16 +109,14 @@ test_calm m d None = (tt, none_changed m)
 test_calm m d (Some v) = by_arm v.arm
   where
     by_arm : (arm : Arm) → Calm m (test_device d m (Some (set_arm arm v)))
-    by_arm InMotion = (tt, none_changed m)
     by_arm Arrived = (tt, armed m AtRest d)
-    by_arm AtRest = (tt, none_changed m)
+    by_arm arm = (tt, none_changed m)
 
 either : (m : Machine) (b : Bool) (y z : Answer × Machine) → Calm m y → Calm m z → Calm m (cond b y z)
-either m true y z h k = h
-either m false y z h k = k
+either m b y z h k = cond_both b y z (Calm m) (λ e. h) (λ e. k)
 
 on_this : (m : Machine) (a : ℕ) (r : Answer × Machine) → Calm m r → Calm m (cond (a / 256 == m.channel) r (WithCode Three, m))
-on_this m a r h = either m (a / 256 == m.channel) r (WithCode Three, m) h (tt, none_changed m)
+on_this m a r h = either m (a / 256 == m.channel) r _ h (tt, none_changed m)
 
 -- the program that runs
 abbrev OutcomeFor : IdleDrive → Option Outcome → Type 0
@@ -141,24 +134,20 @@ step_calm m d s k v at (Some (Ended used st e)) h = (tt, ending_calm m d st e v 
 step_calm m d s k v at (Some (NotEnded seen)) h = (tt, none_changed m)
 
 told_calm : (m : Machine) (d : ℕ) (v : Device) (o : Option Outcome) → OutcomeFor v.drive o → unsaved_at (address_of m d) None o ≡ None
-told_calm m d v None h = refl
-told_calm m d v (Some (Ended used st e)) h = refl
 told_calm m d v (Some (NotEnded seen)) h = ap (option_map (λ t. (address_of m d, t.0, t.1))) h.saved
+told_calm m d v o h = refl
 
 -- at rest no sense reports anything
 rests_calm : (m n : Machine) → NoneGainsCheck m (all_at_rest n)
 rests_calm m n d v e at after = λ q. go (device_at n d) (sym (found_map (λ b. b == d) at_rest (λ w. refl) n.devices) ∙ after)
   where
-    never : (P : Type 0) → None ≡ Some e → P
-    never P h = absurd (cc)
-
     go : (y : Option Device) → option_map at_rest y ≡ Some e → tells_equipment_check e.drive.sense ≡ false
-    go None h = never _ h
+    go None h = absurd (cc)
     go (Some w) h = subst (λ e. tells_equipment_check e.drive.sense ≡ false) (the_device (at_rest w) e h) refl
 
 arrive_calm : (m : Machine) (d : ℕ) (y : Option Device) → Calm m (arrive d m y)
 arrive_calm m d None = (tt, none_changed m)
-arrive_calm m d (Some v) = either m (is_in_motion v.arm) (HasArrived true, with_arm Arrived d m) (HasArrived false, m) (tt, armed m Arrived d) (tt, none_changed m)
+arrive_calm m d (Some v) = either m (is_in_motion v.arm) _ _ (tt, armed m Arrived d) (tt, none_changed m)
 
 interrupts_calm : (m : Machine) (y : Option ℕ) → Calm m (interrupt_device m y)
 interrupts_calm m None = (tt, none_changed m)
@@ -173,8 +162,7 @@ kept_calm m c = either m (is_within c m.storage) (WasKept true, change c m m.sub
   where
     go : (s : Subchannel) → NoneGainsCheck m (change c m s)
     go Idle = none_changed m
-    go (Working d s) = none_changed m
-    go (Pending p csw) = none_changed m
+    go s = none_changed m
 
 -- of the run of the program that runs
 run_calm : (m : Machine) (d : ℕ) (s : Script) (k : ℕ) (v : Device) → device_at m d ≡ Some v → IsRunning (Some (run s (start_of m v.drive))) → OutcomeFor v.drive (run_of m d (s ++ units k))
@@ -183,39 +171,46 @@ run_calm m d s k v at r = subst (OutcomeFor v.drive) (sym (run_at m d v (s ++ un
 stand_calm : (m : Machine) (d : ℕ) (s : Script) (v : Device) → device_at m d ≡ Some v → IsRunning (Some (run s (start_of m v.drive))) → OutcomeFor v.drive (run_of m d s)
 stand_calm m d s v at r = subst (OutcomeFor v.drive) (sym (run_at m d v s at)) (stands_calm (start_of m v.drive) s r)
 
-abbrev with_sub : Machine → Subchannel → Machine
-with_sub m c = record m { subchannel = c }
+-- by the subchannel
+start_io_calm : (m : Machine) (d : ℕ) (c : Subchannel) → Calm m (start_io d m c)
+start_io_calm m d Idle = start_calm m d (device_at m d) refl
+start_io_calm m d c = (tt, none_changed m)
 
-by_event : (m : Machine) (e : Event) (c : Subchannel) → Runs m c → Calm (with_sub m c) (react e None (with_sub m c))
-by_event m (Sio a) Idle r = on_this (with_sub m Idle) a (start_device (a % 256) (with_sub m Idle) (device_at m (a % 256))) (start_calm (with_sub m Idle) (a % 256) (device_at m (a % 256)) refl)
-by_event m (Sio a) (Working d s) r = on_this (working m d s) a (WithCode Two, working m d s) (tt, none_changed (working m d s))
-by_event m (Sio a) (Pending p csw) r = on_this (with_sub m (Pending p csw)) a (WithCode Two, with_sub m (Pending p csw)) (tt, none_changed m)
-by_event m (Tio a) Idle r = on_this (with_sub m Idle) a (test_device (a % 256) (with_sub m Idle) (device_at m (a % 256))) (test_calm (with_sub m Idle) (a % 256) (device_at m (a % 256)))
-by_event m (Tio a) (Working d s) r = on_this (working m d s) a (WithCode Two, working m d s) (tt, none_changed m)
-by_event m (Tio a) (Pending p csw) r = on_this (with_sub m (Pending p csw)) a (test_io (a % 256) (with_sub m (Pending p csw)) (Pending p csw))
-    (either (with_sub m (Pending p csw)) (a % 256 == p) (tested csw (with_sub m Idle)) (WithCode Two, with_sub m (Pending p csw)) (tt, none_changed m) (tt, none_changed m))
-by_event m (Hio a) Idle r = on_this (with_sub m Idle) a (halt_io None (a % 256) (with_sub m Idle) Idle) (either (with_sub m Idle) (is_some (device_at m (a % 256))) _ (WithCode Three, with_sub m Idle) (tt, none_changed m) (tt, none_changed m))
-by_event m (Hio a) (Working d s) r =
-    let v = working_device m d s (device_at m d) refl r in
-    on_this (working m d s) a (halt_io None (a % 256) (working m d s) (Working d s)) (tt, cut_calm (working m d s) d v.0 v.1 (run_of m d s) (stand_calm m d s v.0 v.1 v.2))
-by_event m (Hio a) (Pending p csw) r = on_this (with_sub m (Pending p csw)) a (WithCode Zero, with_sub m (Pending p csw)) (tt, none_changed m)
-by_event m Tch c r = (tt, none_changed m)
-by_event m (StepBy k) Idle r = (tt, none_changed m)
-by_event m (StepBy k) (Working d s) r = let v = working_device m d s (device_at m d) refl r in step_calm (working m d s) d s k v.0 v.1 (run_of m d (s ++ units k)) (run_calm m d s k v.0 v.1 v.2)
-by_event m (StepBy k) (Pending p csw) r = (tt, none_changed m)
-by_event m (Arrive a) c r = either (with_sub m c) (a / 256 == m.channel) (arrive (a % 256) (with_sub m c) (device_at m (a % 256))) (HasArrived false, with_sub m c) (arrive_calm (with_sub m c) (a % 256) (device_at m (a % 256))) (tt, none_changed m)
-by_event m Interrupt Idle r = interrupts_calm (with_sub m Idle) (lowest (filter has_arrived m.devices))
-by_event m Interrupt (Working d s) r = asks_calm (working m d s) d s (asked_by (run_of m d s))
-by_event m Interrupt (Pending p csw) r = (tt, none_changed m)
-by_event m Reset Idle r = (refl, rests_calm m (with_sub m Idle))
-by_event m Reset (Working d s) r = let v = working_device m d s (device_at m d) refl r in (told_calm m d v.0 (run_of m d s) (stand_calm m d s v.0 v.1 v.2), rests_calm m (cut None d (working m d s) (run_of m d s)))
-by_event m Reset (Pending p csw) r = (refl, rests_calm m (with_sub m (Pending p csw)))
-by_event m (Store at bytes) c r = kept_calm (with_sub m c) (Bytes at bytes)
-by_event m (SetKey at key) c r = kept_calm (with_sub m c) (KeyOf at key)
-by_event m (Show at len) c r = (tt, none_changed m)
+test_io_calm : (m : Machine) (d : ℕ) (c : Subchannel) → Calm m (test_io d m c)
+test_io_calm m d Idle = test_calm m d (device_at m d)
+test_io_calm m d (Working p s) = (tt, none_changed m)
+test_io_calm m d (Pending p csw) = either m (d == p) _ _ (tt, none_changed m) (tt, none_changed m)
+
+halt_io_calm : (m : Machine) (d : ℕ) (c : Subchannel) → Runs m c → Calm m (halt_io None d m c)
+halt_io_calm m d Idle r = either m (is_some (device_at m d)) _ _ (tt, none_changed m) (tt, none_changed m)
+halt_io_calm m d (Pending p csw) r = (tt, none_changed m)
+halt_io_calm m d (Working p s) r = let v = working_device m p s (device_at m p) refl r in (tt, cut_calm m p v.0 v.1 (run_of m p s) (stand_calm m p s v.0 v.1 v.2))
+
+stepping_calm : (m : Machine) (k : ℕ) (c : Subchannel) → Runs m c → Calm m (step k None m c)
+stepping_calm m k (Working d s) r = let v = working_device m d s (device_at m d) refl r in step_calm m d s k v.0 v.1 (run_of m d (s ++ units k)) (run_calm m d s k v.0 v.1 v.2)
+stepping_calm m k c r = (tt, none_changed m)
+
+interrupt_calm : (m : Machine) (c : Subchannel) → Calm m (interrupt m c)
+interrupt_calm m Idle = interrupts_calm m (lowest (filter has_arrived m.devices))
+interrupt_calm m (Working d s) = asks_calm m d s (asked_by (run_of m d s))
+interrupt_calm m (Pending p csw) = (tt, none_changed m)
+
+reset_calm : (m : Machine) (c : Subchannel) → Runs m c → Calm m (reset None m c)
+reset_calm m (Working d s) r = let v = working_device m d s (device_at m d) refl r in (told_calm m d v.0 (run_of m d s) (stand_calm m d s v.0 v.1 v.2), rests_calm m (cut None d m (run_of m d s)))
+reset_calm m c r = (refl, rests_calm m m)
 
 pub no_fault_none_told : NoFaultNoneTold
-no_fault_none_told m e r = by_event m e m.subchannel r
+no_fault_none_told m (Sio a) r = on_this m a _ (start_io_calm m (a % 256) m.subchannel)
+no_fault_none_told m (Tio a) r = on_this m a _ (test_io_calm m (a % 256) m.subchannel)
+no_fault_none_told m (Hio a) r = on_this m a _ (halt_io_calm m (a % 256) m.subchannel r)
+no_fault_none_told m Tch r = (tt, none_changed m)
+no_fault_none_told m (StepBy k) r = stepping_calm m k m.subchannel r
+no_fault_none_told m (Arrive a) r = either m (a / 256 == m.channel) _ _ (arrive_calm m (a % 256) (device_at m (a % 256))) (tt, none_changed m)
+no_fault_none_told m Interrupt r = interrupt_calm m m.subchannel
+no_fault_none_told m Reset r = reset_calm m m.subchannel r
+no_fault_none_told m (Store at bytes) r = kept_calm m (Bytes at bytes)
+no_fault_none_told m (SetKey at key) r = kept_calm m (KeyOf at key)
+no_fault_none_told m (Show at len) r = (tt, none_changed m)
 
 -- Resets that report a track.
 
@@ -223,15 +218,12 @@ told_some : (address : ℕ) (y : Option (ℕ × ℕ)) (track : ℕ × ℕ × ℕ
 told_some address None track h = absurd (cc)
 told_some address (Some t) track h = refl
 
-no_track : {P : Type 0} (track : ℕ × ℕ × ℕ) → WasReset None ≡ WasReset (Some track) → P
-no_track track h = absurd (cc)
-
 pub reset_tells_written : ResetTellsWritten
 reset_tells_written m x track h = go m.subchannel refl h
   where
     by_walk : (d : ℕ) (s : Script) (v : Device) (caw : Caw) → m.subchannel ≡ Working d s → device_at m d ≡ Some v → (w : Walk) → walk s caw.key (Between (start_point caw (start_of m v.drive))) ≡ w
         → WasReset (unsaved_at (address_of m d) (fault_in x) (Some (outcome_of s caw.key w))) ≡ WasReset (Some track) → HadWritten m
-    by_walk d s v caw is at (EndsWith rest st e) k h = no_track track h
+    by_walk d s v caw is at (EndsWith rest st e) k h = absurd (cc)
     by_walk d s v caw is at (StandsIn g) k h = record {
       device = d;
       script = s;
@@ -246,16 +238,15 @@ reset_tells_written m x track h = go m.subchannel refl h
 
     by_caw : (d : ℕ) (s : Script) (v : Device) → m.subchannel ≡ Working d s → device_at m d ≡ Some v → (c : Option Caw)
         → WasReset (unsaved_at (address_of m d) (fault_in x) (Some (run_from s (start_of m v.drive) c))) ≡ WasReset (Some track) → HadWritten m
-    by_caw d s v is at None h = no_track track h
+    by_caw d s v is at None h = absurd (cc)
     by_caw d s v is at (Some caw) h = by_walk d s v caw is at (walk s caw.key (Between (start_point caw (start_of m v.drive)))) refl
         (ap (λ o. WasReset (unsaved_at (address_of m d) (fault_in x) (Some o))) (sym (run_walk (start_of m v.drive) caw s)) ∙ h)
 
     by_device : (d : ℕ) (s : Script) → m.subchannel ≡ Working d s → (y : Option Device) → device_at m d ≡ y
         → WasReset (unsaved_at (address_of m d) (fault_in x) (option_map (λ v. run s (start_of m v.drive)) y)) ≡ WasReset (Some track) → HadWritten m
-    by_device d s is None at h = no_track track h
+    by_device d s is None at h = absurd (cc)
     by_device d s is (Some v) at h = by_caw d s v is at (caw_of (start_of m v.drive).caw) h
 
     go : (c : Subchannel) → m.subchannel ≡ c → (react Reset x (record m { subchannel = c })).0 ≡ WasReset (Some track) → HadWritten m
-    go Idle is h = no_track track h
-    go (Pending p csw) is h = no_track track h
     go (Working d s) is h = by_device d s is (device_at m d) refl h
+    go c is h = absurd (cc)

@@ -1,16 +1,16 @@
 -- How an event keeps what is stored and what is owed in balance.
-use Rattle.std.proofs.Common.{◌≡◌, ℕ, ◌+◌, refl, sym, ap, ◌∙◌, arith, true, false, Bool, cond, ◌&&◌, ◌==◌, Option, Some, None, zero-add}
-use Rattle.std.proofs.lemmas.Bool.{eqb-true}
+use Rattle.std.proofs.Common.{not, ◌≡◌, ℕ, ◌+◌, refl, sym, ap, ◌∙◌, arith, true, false, Bool, cond, ◌&&◌, ◌==◌, Option, Some, None, zero-add}
+use Rattle.std.proofs.lemmas.Bool.{cond_both, eqb-true}
 use Rattle.std.specs.Prelude.{option_map}
 use Rattle.s360_words.specs.declared.flags.TheConstants.UnitStatus.{CHANNEL_END, DEVICE_END}
 use Rattle.s360_runs.specs.Status.{tells}
 use Rattle.s360_laws.specs.Events.{Exchange, Event, FaultAfter, Answer, Arrive, HasArrived}
 use Rattle.s360_laws.specs.Ledger.{is_reset, is_accepted, stores_end}
 use Rattle.s360_laws.specs.Machine.{Machine, Subchannel, Idle, Working, address_of, Pending, device_at, Device, with_arm, is_in_motion, arrive}
-use Rattle.s360_laws.specs.Soundness.{device_owes, device_for, owes_channel_end, owes_device_end, AreDistinct, arm_owes}
+use Rattle.s360_laws.specs.Soundness.{channel_owes, device_owes, device_for, owes_channel_end, owes_device_end, AreDistinct, arm_owes}
 use Rattle.s360_laws.specs.declared.arm.Arm.{Arm}
 use Rattle.s360_laws.specs.declared.arm.Arm.TheVariants.{AtRest, Arrived, InMotion}
-use Rattle.s360_laws.proofs.FindDevices.{no, set_arm, device_after, distinct_map, keeps_one, at_device, device_of}
+use Rattle.s360_laws.proofs.FindDevices.{set_arm, device_after, distinct_map, keeps_one, at_device, device_of}
 
 -- What each event owes.
 
@@ -32,17 +32,21 @@ abbrev pub Fine : Machine → Event → Option FaultAfter → Answer × Machine 
 Fine m e x r = AreDistinct r.1.devices × Rest r.1 r.1.subchannel × ((u : ℕ) → Balance u (e, x, r.0) m r.1)
 
 pub either_fine : (m : Machine) (e : Event) (x : Option FaultAfter) (b : Bool) (y z : Answer × Machine) → (b ≡ true → Fine m e x y) → Fine m e x z → Fine m e x (cond b y z)
-either_fine m e x true y z f g = f refl
-either_fine m e x false y z f g = g
+either_fine m e x b y z f g = cond_both b y z (Fine m e x) f (λ h. g)
 
 -- nothing stored, nothing owed more or less
 pub nothing : {P : Type 0} (c d : ℕ) → (0 + c ≡ c) × (0 + d ≡ d) × (false ≡ true → P)
-nothing c d = (zero-add c, zero-add d, λ h. no h)
+nothing c d = (zero-add c, zero-add d, λ h. absurd (cc))
 
 -- a status without this end
 pub silent : (b : Bool) (c : ℕ) → cond (b && false) 1 0 + c ≡ c
 silent true c = zero-add c
 silent false c = zero-add c
+
+-- a program that ended: its device end, or the motion of its arm
+pub end_owes : (c motion : Bool) → c ≡ not motion → cond c 1 0 + arm_owes (cond motion InMotion AtRest) ≡ 1
+end_owes c true h = ap (λ c. cond c 1 0 + 1) h
+end_owes c false h = ap (λ c. cond c 1 0 + 0) h
 
 -- the device end of an arm, list
 pub clears : (b : Bool) (x : Option Device) → (b ≡ true → device_owes x ≡ 1) → cond (b && true) 1 0 + (0 + device_owes (cond b (option_map (set_arm AtRest) x) x)) ≡ 0 + device_owes x
@@ -76,27 +80,23 @@ arrival_owes m d u v at h =
   where
     moves : (arm : Arm) → is_in_motion arm ≡ true → 1 ≡ arm_owes arm
     moves InMotion h = refl
-    moves AtRest h = no h
-    moves Arrived h = no h
+    moves arm h = absurd (cc)
 
 pub arrival_rest : (m : Machine) (c : Subchannel) (d : ℕ) (v : Device) → device_at m d ≡ Some v → is_in_motion v.arm ≡ true → Rest m c → Rest (with_arm Arrived d m) c
 arrival_rest m Idle d v at h r = tt
 arrival_rest m (Working p s) d v at h r = ap device_owes (device_of (with_arm Arrived d m) p) ∙ arrival_owes m d (address_of m p) v at h ∙ sym (ap device_owes (device_of m p)) ∙ r
 arrival_rest m (Pending p csw) d v at h r = (r.0, ap (λ n. cond (tells csw.unit DEVICE_END) 1 0 + n) (ap device_owes (device_of (with_arm Arrived d m) p) ∙ arrival_owes m d (address_of m p) v at h ∙ sym (ap device_owes (device_of m p))) ∙ r.1)
 
+-- an arrival that moves nothing
+same_rest : (m : Machine) (c : Subchannel) (a : ℕ) (x : Option FaultAfter) → AreDistinct m.devices → Rest m c → Fine (record m { subchannel = c }) (Arrive a) x (HasArrived false, record m { subchannel = c })
+same_rest m Idle a x ds r = (ds, r, λ u. nothing _ _)
+same_rest m c a x ds r = (ds, r, λ u. nothing _ _)
+
 pub arrive_fine : (m : Machine) (c : Subchannel) (a d : ℕ) (x : Option FaultAfter) (y : Option Device) → device_at m d ≡ y → AreDistinct m.devices → Rest m c → Fine (record m { subchannel = c }) (Arrive a) x (arrive d (record m { subchannel = c }) y)
-arrive_fine m c a d x None at ds r = (ds, rest_in c r, λ u. nothing _ _)
+arrive_fine m c a d x None at ds r = same_rest m c a x ds r
+arrive_fine m c a d x (Some v) at ds r = either_fine (record m { subchannel = c }) (Arrive a) x (is_in_motion v.arm) _ _ (λ h. (distinct_arm m Arrived d ds, arrival_rest m c d v at h r, λ u. (zero-add _, zero-add _ ∙ owes h u c, λ b. absurd (cc)))) (same_rest m c a x ds r)
   where
-    rest_in : (c : Subchannel) → Rest m c → Rest (record m { subchannel = c }) c
-    rest_in Idle r = r
-    rest_in (Working p s) r = r
-    rest_in (Pending p csw) r = r
-arrive_fine m c a d x (Some v) at ds r = go c r (is_in_motion v.arm) refl
-  where
-    go : (c : Subchannel) → Rest m c → (b : Bool) → is_in_motion v.arm ≡ b → Fine (record m { subchannel = c }) (Arrive a) x (cond b (HasArrived true, with_arm Arrived d (record m { subchannel = c })) (HasArrived false, record m { subchannel = c }))
-    go Idle r false h = (ds, tt, λ u. nothing _ _)
-    go (Working p s) r false h = (ds, r, λ u. nothing _ _)
-    go (Pending p csw) r false h = (ds, r, λ u. nothing _ _)
-    go Idle r true h = (distinct_arm m Arrived d ds, tt, λ u. (zero-add 0, zero-add _ ∙ ap (λ n. 0 + n) (arrival_owes m d u v at h), λ b. no b))
-    go (Working p s) r true h = (distinct_arm m Arrived d ds, arrival_rest m (Working p s) d v at h r, λ u. (zero-add _, zero-add _ ∙ ap (λ n. cond (address_of m p == u) 1 0 + n) (arrival_owes m d u v at h), λ b. no b))
-    go (Pending p csw) r true h = (distinct_arm m Arrived d ds, arrival_rest m (Pending p csw) d v at h r, λ u. (zero-add _, zero-add _ ∙ ap (λ n. cond (address_of m p == u && tells csw.unit DEVICE_END) 1 0 + n) (arrival_owes m d u v at h), λ b. no b))
+    owes : is_in_motion v.arm ≡ true → (u : ℕ) (c : Subchannel) → channel_owes DEVICE_END u (with_arm Arrived d m) c + device_owes (device_for (with_arm Arrived d m) u) ≡ channel_owes DEVICE_END u m c + device_owes (device_for m u)
+    owes h u Idle = ap (λ n. 0 + n) (arrival_owes m d u v at h)
+    owes h u (Working p s) = ap (λ n. cond (address_of m p == u) 1 0 + n) (arrival_owes m d u v at h)
+    owes h u (Pending p csw) = ap (λ n. cond (address_of m p == u && tells csw.unit DEVICE_END) 1 0 + n) (arrival_owes m d u v at h)

@@ -1,5 +1,5 @@
 -- What a machine does while a program runs, the serial history does.
-use Rattle.std.proofs.Common.{◌≡◌, ℕ, zero, suc, ◌+◌, ◌-◌, ◌*◌, ◌/◌, ◌%◌, refl, sym, ap, subst, ◌∙◌, true, false, Bool, cond, ◌==◌, List, [], ◌∷◌, ◌++◌, map, Option, Some, None, append_assoc, append-nil}
+use Rattle.std.proofs.Common.{◌≡◌, ℕ, zero, suc, ◌+◌, ◌-◌, ◌*◌, ◌/◌, ◌%◌, refl, sym, ap, subst, ◌∙◌, cond, ◌==◌, List, [], ◌∷◌, ◌++◌, map, Option, Some, None, append_assoc, append-nil}
 use Rattle.std.specs.Prelude.{find, option_map}
 use Rattle.s360_words.specs.Storage.{Storage, Change, changed, Bytes, KeyOf, csw_stored, is_within}
 use Rattle.s360_words.specs.declared.words.Csw.{Csw}
@@ -9,18 +9,18 @@ use Rattle.s360_runs.specs.Runs.{run}
 use Rattle.s360_runs.specs.Scripts.{Script, units, units_in, Outside, TakesInterruption}
 use Rattle.s360_runs.specs.Units.{ProgramPhase, walk, StandsIn, standing_in, Between, phase_past, Looking, Moving, StandsAt}
 use Rattle.s360_runs.proofs.Standing.{seen_there, goes_by}
-use Rattle.s360_laws.specs.Events.{Exchange, FaultAfter, Hio, WithCode, Reset, WasReset, StepBy, Interrupt, Sio, Tio, Event, Answer, Arrive, HasArrived, Store, WasKept, SetKey, Tch, Show}
+use Rattle.s360_laws.specs.Events.{Exchange, FaultAfter, Hio, WithCode, Reset, WasReset, StepBy, Interrupt, Sio, Tio, Event, Arrive, Store, SetKey}
 use Rattle.s360_laws.specs.History.{Fate, does, world_of, Program, after_run, after_program, after_end, World, history, script_ahead, fate_ahead, acts, where_over, units_ahead, IsCut, ClearsSense, Changes, ByItself, own_change}
 use Rattle.s360_laws.specs.Ledger.{later}
-use Rattle.s360_laws.specs.Machine.{Machine, Device, device_at, start_of, with_ending, arm_after, run_of, cut, fault_in, reset, unsaved_at, all_at_rest, units_with, stepped, with_arm, arrive, is_in_motion, Working, goes_on, interrupt_program, react, asked_by}
+use Rattle.s360_laws.specs.Machine.{Machine, Device, device_at, start_of, with_ending, arm_after, run_of, cut, fault_in, reset, unsaved_at, all_at_rest, units_with, stepped, with_arm, arrive, is_in_motion, Working, interrupt_program, react, asked_by}
 use Rattle.s360_laws.specs.Soundness.{IsRunning}
 use Rattle.s360_laws.specs.declared.arm.Arm.{Arm}
 use Rattle.s360_laws.specs.declared.arm.Arm.TheVariants.{Arrived}
-use Rattle.s360_laws.specs.declared.condition.ConditionCode.TheVariants.{Two, Three}
+use Rattle.s360_laws.specs.declared.condition.ConditionCode.TheVariants.{Two}
 use Rattle.s360_laws.proofs.Ahead.{same_script, step_script, quiet_script}
 use Rattle.s360_laws.proofs.SeenDevices.{ends, Good, same_after, seen, found, arms, with_world, either_good}
 use Rattle.s360_laws.proofs.SerialIdle.{look_up, clear}
-use Rattle.s360_laws.proofs.Shapes.{working}
+use Rattle.s360_laws.proofs.Shapes.{by_device, working_device, working}
 use Rattle.s360_laws.proofs.StepUnits.{stood, unmet, ended_there}
 
 -- Working.
@@ -42,40 +42,41 @@ still m d s ahead w = ap (λ l. history w (Program d (s ++ l) (fate_ahead ahead)
 pub cut_good : (a : ℕ) (x : Option FaultAfter) (m : Machine) (d : ℕ) (s : Script) (u : Device) (o : Outcome) → device_at m d ≡ Some u → run s (start_of m u.drive) ≡ o → IsRunning (Some o)
     → Good (working m d s) (Hio a) x (WithCode Two, cut (fault_in x) d (working m d s) (Some o))
 cut_good a x m d s u (Ended used st e) at h r = absurd r
-cut_good a x m d s u (NotEnded st) at h r = (
-  tt,
-  λ ahead q. same_after ahead _ _
-      (end_world m d st.storage (st.cut (fault_in x)) ∙ sym (program_world m d (s ++ []) (IsCut (fault_in x)) u (NotEnded st) at (ap (λ l. run l (start_of m u.drive)) (append-nil s) ∙ h))),
-)
+cut_good a x m d s u (NotEnded st) at h r = record {
+  runs = tt;
+  follows = λ ahead q. same_after ahead _ _
+      (end_world m d st.storage (st.cut (fault_in x)) ∙ sym (program_world m d (s ++ []) (IsCut (fault_in x)) u (NotEnded st) at (ap (λ l. run l (start_of m u.drive)) (append-nil s) ∙ h)));
+}
 
 pub reset_good : (x : Option FaultAfter) (m : Machine) (d : ℕ) (s : Script) (u : Device) (o : Outcome) → device_at m d ≡ Some u → run s (start_of m u.drive) ≡ o → IsRunning (Some o)
     → Good (working m d s) Reset x (WasReset (unsaved_at (256 * m.channel + d) (fault_in x) (Some o)), all_at_rest (cut (fault_in x) d (working m d s) (Some o)))
 reset_good x m d s u (Ended used st e) at h r = absurd r
-reset_good x m d s u (NotEnded st) at h r = (
-  tt,
-  λ ahead q. clear (with_ending d st.storage (st.cut (fault_in x)) m) ahead ∙ same_after ahead _ _
-      (ap (λ w. does w ClearsSense) (end_world m d st.storage (st.cut (fault_in x)) ∙ sym (program_world m d (s ++ []) (IsCut (fault_in x)) u (NotEnded st) at (ap (λ l. run l (start_of m u.drive)) (append-nil s) ∙ h)))),
-)
+reset_good x m d s u (NotEnded st) at h r = record {
+  runs = tt;
+  follows = λ ahead q. clear (with_ending d st.storage (st.cut (fault_in x)) m) ahead ∙ same_after ahead _ _
+      (ap (λ w. does w ClearsSense) (end_world m d st.storage (st.cut (fault_in x)) ∙ sym (program_world m d (s ++ []) (IsCut (fault_in x)) u (NotEnded st) at (ap (λ l. run l (start_of m u.drive)) (append-nil s) ∙ h))));
+}
 
 pub step_good : (x : Option FaultAfter) (m : Machine) (d : ℕ) (s : Script) (k : ℕ) (u : Device) (o : Outcome) → device_at m d ≡ Some u → IsRunning (Some (run s (start_of m u.drive))) → run (s ++ units_with k x) (start_of m u.drive) ≡ o
     → Good (working m d s) (StepBy k) x (stepped d s k (working m d s) (Some o))
 step_good x m d s k u (NotEnded st) at r h =
     let y = stood (start_of m u.drive) s r in
-    let plain = unmet (start_of m u.drive) s y.0 y.1 k x st y.2 h in (
-      runs_at m d (s ++ units k) u (NotEnded st) at (ap (λ l. run l (start_of m u.drive)) (sym (append-nil (s ++ units k))) ∙ plain [] ∙ ap (λ l. run l (start_of m u.drive)) (append-nil (s ++ units_with k x)) ∙ h) tt,
-      λ ahead q. same_after ahead _ _
+    let plain = unmet (start_of m u.drive) s y.0 y.1 k x st y.2 h in
+    record {
+      runs = runs_at m d (s ++ units k) u (NotEnded st) at (ap (λ l. run l (start_of m u.drive)) (sym (append-nil (s ++ units k))) ∙ plain [] ∙ ap (λ l. run l (start_of m u.drive)) (append-nil (s ++ units_with k x)) ∙ h) tt;
+      follows = λ ahead q. same_after ahead _ _
           (program_world m d ((s ++ units k) ++ script_ahead ahead) (fate_ahead ahead) u _ at (plain (script_ahead ahead))
           ∙ sym (program_world m d ((s ++ units_with k x) ++ script_ahead ahead) (fate_ahead ahead) u _ at refl))
-          ∙ ap (λ l. history (world_of m) (Program d l (fate_ahead ahead) ∷ acts ahead)) (append_assoc s (units_with k x) (script_ahead ahead) ∙ ap (λ l. s ++ l) (step_script k x ahead)),
-    )
+          ∙ ap (λ l. history (world_of m) (Program d l (fate_ahead ahead) ∷ acts ahead)) (append_assoc s (units_with k x) (script_ahead ahead) ∙ ap (λ l. s ++ l) (step_script k x ahead));
+    }
 step_good x m d s k u (Ended used st e) at r h =
-    let y = stood (start_of m u.drive) s r in (
-      tt,
-      λ ahead q. same_after ahead _ _
+    let y = stood (start_of m u.drive) s r in record {
+      runs = tt;
+      follows = λ ahead q. same_after ahead _ _
           (end_world m d st e ∙ sym (program_world m d (s ++ units_with (used - units_in s) x) (fate_ahead ahead) u (Ended used st e) at (ended_there (start_of m u.drive) s y.0 y.1 k used x st e y.2 h)))
           ∙ ap (λ l. history (world_of m) (Program d (s ++ l) (fate_ahead ahead) ∷ acts ahead))
-          (sym (ap (λ l. units_with (used - units_in s) x ++ l) (quiet_script ahead (q refl)) ∙ append-nil (units_with (used - units_in s) x)) ∙ step_script (used - units_in s) x ahead),
-    )
+          (sym (ap (λ l. units_with (used - units_in s) x ++ l) (quiet_script ahead (q refl)) ∙ append-nil (units_with (used - units_in s) x)) ∙ step_script (used - units_in s) x ahead);
+    }
 
 -- what comes between two units
 
@@ -119,30 +120,6 @@ between_good m d s more c u at r later =
         ∙ changed_run (world_of m) d (fate_ahead ahead) c (standing_in y.0 y.1) (standing_in y.0 l.0) l.2 l.3
         ∙ ap (λ w. does w (Changes c)) (sym (program_world m d (s ++ []) (fate_ahead ahead) u (NotEnded (standing_in y.0 y.1)) at (ap (λ x. run x (start_of m u.drive)) (append-nil s) ∙ seen_there (start_of m u.drive) s y.0 y.1 y.2))))
 
-pub working_sio : (a : ℕ) (x : Option FaultAfter) (m : Machine) (d : ℕ) (s : Script) (b : Bool) → IsRunning (run_of m d s) → Good (working m d s) (Sio a) x (cond b (WithCode Two, working m d s) (WithCode Three, working m d s))
-working_sio a x m d s true r = (r, λ ahead q. still m d s ahead (world_of m))
-working_sio a x m d s false r = (r, λ ahead q. still m d s ahead (world_of m))
-
-pub working_tio : (a : ℕ) (x : Option FaultAfter) (m : Machine) (d : ℕ) (s : Script) (b : Bool) → IsRunning (run_of m d s) → Good (working m d s) (Tio a) x (cond b (WithCode Two, working m d s) (WithCode Three, working m d s))
-working_tio a x m d s true r = (r, λ ahead q. still m d s ahead (world_of m))
-working_tio a x m d s false r = (r, λ ahead q. still m d s ahead (world_of m))
-
--- the device that works, and its run so far
-pub in_run : (m : Machine) (d : ℕ) (s : Script) (x : Option Device) → device_at m d ≡ x → IsRunning (option_map (λ u. run s (start_of m u.drive)) x)
-    → (u : Device) × (device_at m d ≡ Some u) × IsRunning (Some (run s (start_of m u.drive)))
-in_run m d s None at r = absurd r
-in_run m d s (Some u) at r = (u, at, r)
-
-pub on_device : (m : Machine) (e : Event) (x : Option FaultAfter) (f : Option Outcome → Answer × Machine) (d : ℕ) (s : Script) (u : Device) → device_at m d ≡ Some u → (w : Machine)
-    → Good w e x (f (Some (run s (start_of m u.drive)))) → Good w e x (f (run_of m d s))
-on_device m e x f d s u at w g = subst (λ y. Good w e x (f (option_map (λ u. run s (start_of m u.drive)) y))) (sym at) g
-
-pub working_hio : (a : ℕ) (x : Option FaultAfter) (m : Machine) (d : ℕ) (s : Script) (b : Bool) → IsRunning (run_of m d s) → Good (working m d s) (Hio a) x (cond b (WithCode Two, cut (fault_in x) d (working m d s) (run_of m d s)) (WithCode Three, working m d s))
-working_hio a x m d s true r =
-    let y = in_run m d s (device_at m d) refl r in
-    on_device m (Hio a) x (λ o. (WithCode Two, cut (fault_in x) d (working m d s) o)) d s y.0 y.1 (working m d s) (cut_good a x m d s y.0 (run s (start_of m y.0.drive)) y.1 refl y.2)
-working_hio a x m d s false r = (r, λ ahead q. still m d s ahead (world_of m))
-
 pub still_runs : (m : Machine) (arm : Arm) (device d : ℕ) (s : Script) → IsRunning (run_of m d s) → IsRunning (run_of (with_arm arm device m) d s)
 still_runs m arm device d s r = subst IsRunning (sym (same m.devices)) r
   where
@@ -154,56 +131,50 @@ still_runs m arm device d s r = subst IsRunning (sym (same m.devices)) r
         ≡ option_map (λ u. run s (start_of m u.drive)) (find (λ u. u.device == d) us)
     same us = by_seen _ ∙ ap (option_map (λ p. run s (start_of m p.1))) (sym (found d (map (λ u. cond (u.device == device) (record u { arm = arm }) u) us)) ∙ ap (find (λ p. p.0 == d)) (arms arm device us) ∙ found d us) ∙ sym (by_seen _)
 
-pub working_arrive : (a device : ℕ) (x : Option FaultAfter) (m : Machine) (d : ℕ) (s : Script) (u : Option Device) → IsRunning (run_of m d s) → Good (working m d s) (Arrive a) x (arrive device (working m d s) u)
-working_arrive a device x m d s None r = (r, λ ahead q. still m d s ahead (world_of m))
-working_arrive a device x m d s (Some u) r = go (is_in_motion u.arm)
-  where
-    go : (b : Bool) → Good (working m d s) (Arrive a) x (cond b (HasArrived true, with_arm Arrived device (working m d s)) (HasArrived false, working m d s))
-    go true = (still_runs m Arrived device d s r, λ ahead q. ap (λ ds. history (with_world (world_of m) ds) (Program d (s ++ script_ahead ahead) (fate_ahead ahead) ∷ acts ahead)) (arms Arrived device m.devices) ∙ still m d s ahead (world_of m))
-    go false = (r, λ ahead q. still m d s ahead (world_of m))
+module _ (x : Option FaultAfter) (m : Machine) (d : ℕ) (s : Script) (r : IsRunning (run_of m d s)) where
+  -- an event that changes nothing
+  nothing_good : (ahead : List Exchange) → history (world_of m) (Program d (s ++ script_ahead ahead) (fate_ahead ahead) ∷ acts ahead) ≡ history (world_of m) (Program d (s ++ where_over (units_ahead ahead) [] (script_ahead ahead)) (fate_ahead ahead) ∷ acts ahead)
+  nothing_good ahead = still m d s ahead (world_of m)
 
-pub working_step : (x : Option FaultAfter) (m : Machine) (d : ℕ) (s : Script) (k : ℕ) → IsRunning (run_of m d s) → Good (working m d s) (StepBy k) x (stepped d s k (working m d s) (run_of m d (s ++ units_with k x)))
-working_step x m d s k r =
-    let y = in_run m d s (device_at m d) refl r in
-    on_device m (StepBy k) x (stepped d s k (working m d s)) d (s ++ units_with k x) y.0 y.1 (working m d s) (step_good x m d s k y.0 (run (s ++ units_with k x) (start_of m y.0.drive)) y.1 y.2 refl)
+  working_hio : (a : ℕ) → Good (working m d s) (Hio a) x (WithCode Two, cut (fault_in x) d (working m d s) (run_of m d s))
+  working_hio a =
+      let y = working_device m d s (device_at m d) refl r in
+      by_device m d s y.0 (λ o. Good (working m d s) (Hio a) x (WithCode Two, cut (fault_in x) d (working m d s) o)) y.1 (cut_good a x m d s y.0 (run s (start_of m y.0.drive)) y.1 refl y.2)
 
-pub working_reset : (x : Option FaultAfter) (m : Machine) (d : ℕ) (s : Script) → IsRunning (run_of m d s) → Good (working m d s) Reset x (reset (fault_in x) (working m d s) (Working d s))
-working_reset x m d s r =
-    let y = in_run m d s (device_at m d) refl r in
-    on_device m Reset x (λ o. (WasReset (unsaved_at (256 * m.channel + d) (fault_in x) o), all_at_rest (cut (fault_in x) d (working m d s) o))) d s y.0 y.1 (working m d s) (reset_good x m d s y.0 (run s (start_of m y.0.drive)) y.1 refl y.2)
+  working_arrive : (a device : ℕ) (u : Option Device) → Good (working m d s) (Arrive a) x (arrive device (working m d s) u)
+  working_arrive a device None = record { runs = r; follows = λ ahead q. nothing_good ahead }
+  working_arrive a device (Some u) = either_good (is_in_motion u.arm)
+      (record { runs = still_runs m Arrived device d s r; follows = λ ahead q. ap (λ ds. history (with_world (world_of m) ds) (Program d (s ++ script_ahead ahead) (fate_ahead ahead) ∷ acts ahead)) (arms Arrived device m.devices) ∙ nothing_good ahead })
+      (record { runs = r; follows = λ ahead q. nothing_good ahead })
 
-pub working_store : (x : Option FaultAfter) (m : Machine) (d : ℕ) (s : Script) (at : ℕ) (bytes : List ℕ) (b : Bool) → IsRunning (run_of m d s)
-    → Good (working m d s) (Store at bytes) x (cond b (WasKept true, goes_on d s (Outside (Bytes at bytes) ∷ []) (working m d s)) (WasKept false, working m d s))
-working_store x m d s at bytes true r =
-    let y = in_run m d s (device_at m d) refl r in
-    let g = between_good m d s (Outside (Bytes at bytes) ∷ []) (Bytes at bytes) y.0 y.1 y.2 (λ key g. later_change key (Bytes at bytes) g) in
-    (g.0, λ ahead q. g.1 ahead)
-working_store x m d s at bytes false r = (r, λ ahead q. still m d s ahead (world_of m))
+  working_step : (k : ℕ) → Good (working m d s) (StepBy k) x (stepped d s k (working m d s) (run_of m d (s ++ units_with k x)))
+  working_step k =
+      let y = working_device m d s (device_at m d) refl r in
+      by_device m d (s ++ units_with k x) y.0 (λ o. Good (working m d s) (StepBy k) x (stepped d s k (working m d s) o)) y.1 (step_good x m d s k y.0 (run (s ++ units_with k x) (start_of m y.0.drive)) y.1 y.2 refl)
 
-pub working_key : (x : Option FaultAfter) (m : Machine) (d : ℕ) (s : Script) (at key : ℕ) (b : Bool) → IsRunning (run_of m d s)
-    → Good (working m d s) (SetKey at key) x (cond b (WasKept true, goes_on d s (Outside (KeyOf at key) ∷ []) (working m d s)) (WasKept false, working m d s))
-working_key x m d s at key true r =
-    let y = in_run m d s (device_at m d) refl r in
-    let g = between_good m d s (Outside (KeyOf at key) ∷ []) (KeyOf at key) y.0 y.1 y.2 (λ k g. later_change k (KeyOf at key) g) in
-    (g.0, λ ahead q. g.1 ahead)
-working_key x m d s at key false r = (r, λ ahead q. still m d s ahead (world_of m))
+  working_reset : Good (working m d s) Reset x (reset (fault_in x) (working m d s) (Working d s))
+  working_reset =
+      let y = working_device m d s (device_at m d) refl r in
+      by_device m d s y.0 (λ o. Good (working m d s) Reset x (WasReset (unsaved_at (256 * m.channel + d) (fault_in x) o), all_at_rest (cut (fault_in x) d (working m d s) o))) y.1 (reset_good x m d s y.0 (run s (start_of m y.0.drive)) y.1 refl y.2)
 
-pub working_interrupt : (x : Option FaultAfter) (m : Machine) (d : ℕ) (s : Script) (c : Option Csw) → IsRunning (run_of m d s) → Good (working m d s) Interrupt x (interrupt_program d s (working m d s) c)
-working_interrupt x m d s None r = (r, λ ahead q. still m d s ahead (world_of m))
-working_interrupt x m d s (Some c) r =
-    let y = in_run m d s (device_at m d) refl r in
-    let g = between_good m d s (TakesInterruption ∷ Outside (csw_stored c) ∷ []) (csw_stored c) y.0 y.1 y.2 (λ key g. later_mark key (csw_stored c) g) in
-    (g.0, λ ahead q. g.1 ahead)
+  -- a change of storage between two units
+  working_change : (more : Script) (c : Change) → ((key : ℕ) (g : ProgramPhase) → Later key more c g)
+      → IsRunning (run_of m d (s ++ more)) × ((ahead : List Exchange) → history (world_of m) (Program d ((s ++ more) ++ script_ahead ahead) (fate_ahead ahead) ∷ acts ahead)
+      ≡ history (world_of m) (Program d (s ++ where_over (units_ahead ahead) [] (more ++ script_ahead ahead)) (fate_ahead ahead) ∷ (own_change ahead c ++ acts ahead)))
+  working_change more c later = let y = working_device m d s (device_at m d) refl r in between_good m d s more c y.0 y.1 y.2 later
 
-pub working_good : (m : Machine) (d : ℕ) (s : Script) (e : Event) (x : Option FaultAfter) → IsRunning (run_of m d s) → Good (working m d s) e x (react e x (working m d s))
-working_good m d s (Sio a) x r = working_sio a x m d s (a / 256 == m.channel) r
-working_good m d s (Tio a) x r = working_tio a x m d s (a / 256 == m.channel) r
-working_good m d s (Hio a) x r = working_hio a x m d s (a / 256 == m.channel) r
-working_good m d s Tch x r = (r, λ ahead q. still m d s ahead (world_of m))
-working_good m d s (StepBy k) x r = working_step x m d s k r
-working_good m d s (Arrive a) x r = either_good (working m d s) (Arrive a) x (a / 256 == m.channel) (arrive (a % 256) (working m d s) (device_at m (a % 256))) (HasArrived false, working m d s) (working_arrive a (a % 256) x m d s (device_at m (a % 256)) r) (r, λ ahead q. still m d s ahead (world_of m))
-working_good m d s Interrupt x r = working_interrupt x m d s (asked_by (run_of m d s)) r
-working_good m d s Reset x r = working_reset x m d s r
-working_good m d s (Store at bytes) x r = working_store x m d s at bytes (is_within (Bytes at bytes) m.storage) r
-working_good m d s (SetKey at key) x r = working_key x m d s at key (is_within (KeyOf at key) m.storage) r
-working_good m d s (Show at len) x r = (r, λ ahead q. still m d s ahead (world_of m))
+  working_interrupt : (c : Option Csw) → Good (working m d s) Interrupt x (interrupt_program d s (working m d s) c)
+  working_interrupt None = record { runs = r; follows = λ ahead q. nothing_good ahead }
+  working_interrupt (Some c) = let g = working_change (TakesInterruption ∷ Outside (csw_stored c) ∷ []) (csw_stored c) (λ key g. later_mark key (csw_stored c) g) in record { runs = g.0; follows = λ ahead q. g.1 ahead }
+
+  pub working_good : (e : Event) → Good (working m d s) e x (react e x (working m d s))
+  working_good (Sio a) = either_good (a / 256 == m.channel) (record { runs = r; follows = λ ahead q. nothing_good ahead }) (record { runs = r; follows = λ ahead q. nothing_good ahead })
+  working_good (Tio a) = either_good (a / 256 == m.channel) (record { runs = r; follows = λ ahead q. nothing_good ahead }) (record { runs = r; follows = λ ahead q. nothing_good ahead })
+  working_good (Hio a) = either_good (a / 256 == m.channel) (working_hio a) (record { runs = r; follows = λ ahead q. nothing_good ahead })
+  working_good (StepBy k) = working_step k
+  working_good (Arrive a) = either_good (a / 256 == m.channel) (working_arrive a (a % 256) (device_at m (a % 256))) (record { runs = r; follows = λ ahead q. nothing_good ahead })
+  working_good Interrupt = working_interrupt (asked_by (run_of m d s))
+  working_good Reset = working_reset
+  working_good (Store at bytes) = let g = working_change (Outside (Bytes at bytes) ∷ []) (Bytes at bytes) (λ key g. later_change key (Bytes at bytes) g) in either_good (is_within (Bytes at bytes) m.storage) (record { runs = g.0; follows = λ ahead q. g.1 ahead }) (record { runs = r; follows = λ ahead q. nothing_good ahead })
+  working_good (SetKey at key) = let g = working_change (Outside (KeyOf at key) ∷ []) (KeyOf at key) (λ k g. later_change k (KeyOf at key) g) in either_good (is_within (KeyOf at key) m.storage) (record { runs = g.0; follows = λ ahead q. g.1 ahead }) (record { runs = r; follows = λ ahead q. nothing_good ahead })
+  working_good e = record { runs = r; follows = λ ahead q. nothing_good ahead }

@@ -1,24 +1,23 @@
 -- How the units of a program are cut into steps does not matter.
 use Rattle.std.proofs.Common.{true, ◌≡◌, ℕ, zero, suc, ◌+◌, ◌-◌, ◌≤◌, refl, sym, ap, subst, ◌∙◌, arith, [], ◌∷◌, ◌++◌, Option, Some, None, zero-add, add-zero, suc-add, append_assoc, append-nil}
 use Rattle.std.proofs.lemmas.List.Sums.{sum_by-cons}
-use Rattle.std.specs.Prelude.{option_map, sum}
+use Rattle.std.specs.Prelude.{sum}
 use Rattle.s360_words.specs.Storage.{Storage}
 use Rattle.ckd_command.specs.Drive.{Fault}
 use Rattle.s360_runs.specs.Endings.{Outcome, Ending, Ended, NotEnded}
 use Rattle.s360_runs.specs.Runs.{run}
 use Rattle.s360_runs.specs.Scripts.{units, OneUnit, Script, units_in}
-use Rattle.s360_runs.specs.Units.{walk, ProgramPhase, StandsAt, Walk, StandsIn, outcome_of, standing_in, EndsWith}
 use Rattle.s360_runs.proofs.Walks.{ended_stays, units_in_two}
 use Rattle.s360_laws.specs.Events.{FaultAfter, Answer, StepBy, Stepped}
 use Rattle.s360_laws.specs.History.{Runs}
-use Rattle.s360_laws.specs.Machine.{units_failing, units_with, Machine, react, run_of, Device, device_at, start_of, stepped, Subchannel, Idle, Pending, Working, is_working}
+use Rattle.s360_laws.specs.Machine.{units_failing, units_with, Machine, react, run_of, Device, device_at, start_of, stepped, Subchannel, Working, is_working}
 use Rattle.s360_laws.specs.Soundness.{IsRunning}
 use Rattle.s360_laws.specs.Steps.{after_units, units_of, StepsJoin, StepsSplit, StepsAtMost}
-use Rattle.s360_laws.proofs.FindDevices.{no}
 use Rattle.s360_laws.proofs.SeenDevices.{seen}
 use Rattle.s360_laws.proofs.Serial.{good}
 use Rattle.s360_laws.proofs.Shapes.{working}
-use Rattle.s360_laws.proofs.StepUnits.{stood, used_most, units_count}
+use Rattle.s360_laws.proofs.StepUnits.{ended_in, stood, units_count}
+pub use Rattle.s360_laws.proofs.Shapes.{run_at, working_device}
 
 pub plain_two : (j k : ℕ) → units j ++ units k ≡ units (j + k)
 plain_two zero k = ap units (sym (zero-add k))
@@ -41,13 +40,6 @@ Joined m j k x a =
 together : (m : Machine) (d : ℕ) (s : Script) (j k : ℕ) (x : Option FaultAfter) → run_of m d ((s ++ units j) ++ units_with k x) ≡ run_of m d (s ++ units_with (j + k) (after_units j x))
 together m d s j k x = ap (run_of m d) (append_assoc s (units j) (units_with k x) ∙ ap (λ l. s ++ l) (units_two j k x))
 
-pub working_device : (m : Machine) (d : ℕ) (s : Script) (y : Option Device) → device_at m d ≡ y → IsRunning (option_map (λ v. run s (start_of m v.drive)) y) → (v : Device) × (device_at m d ≡ Some v) × IsRunning (Some (run s (start_of m v.drive)))
-working_device m d s None at r = absurd r
-working_device m d s (Some v) at r = (v, at, r)
-
-pub run_at : (m : Machine) (d : ℕ) (v : Device) (s : Script) → device_at m d ≡ Some v → run_of m d s ≡ Some (run s (start_of m v.drive))
-run_at m d v s at = ap (option_map (λ v. run s (start_of m v.drive))) at
-
 the_run : (a b : Outcome) → Some a ≡ Some b → a ≡ b
 the_run a b h = cc
 
@@ -60,26 +52,18 @@ joined_second : (m : Machine) (d : ℕ) (s : Script) (j k : ℕ) (x : Option Fau
     → let b = stepped d (s ++ units j) k (working m d (s ++ units j)) o in
     let c = stepped d s (j + k) (working m d s) o in
     (b.1 ≡ c.1) × (c.0 ≡ Stepped (j + units_of b.0))
-joined_second m d s j k x v at r None h = absurd (none (sym (run_at m d v ((s ++ units j) ++ units_with k x) at) ∙ h))
-  where
-    none : Some (run ((s ++ units j) ++ units_with k x) (start_of m v.drive)) ≡ None → ⊥
-    none h = cc
+joined_second m d s j k x v at r None h = absurd (cc (sym (run_at m d v ((s ++ units j) ++ units_with k x) at) ∙ h))
 joined_second m d s j k x v at r (Some (NotEnded st)) h = (ap (λ l. working m d l) (append_assoc s (units j) (units k) ∙ ap (λ l. s ++ l) (plain_two j k)), refl)
 joined_second m d s j k x v at r (Some (Ended u st e)) h =
     let y = stood (start_of m v.drive) (s ++ units j) r in
     let q = the_run _ _ (sym (run_at m d v ((s ++ units j) ++ units_with k x) at) ∙ h) in
-    let most = used_most (start_of m v.drive) (s ++ units j) (units_with k x) y.0 y.1 u st e y.2 q in
-    (refl, ap Stepped (counts u (units_in s) j _ _ (units_in_two s (units j)) (units_count j None) most))
-  where
-    counts : (u n j p i : ℕ) → p ≡ n + i → i ≡ j → p ≤ u → u - n ≡ j + (u - p)
-    counts u n j p i a b c = omega arith
+    let z = ended_in (start_of m v.drive) (s ++ units j) (units_with k x) y.0 y.1 u st e y.2 q in
+    let count : u - units_in s ≡ j + (u - units_in (s ++ units j)) = omega (arith, units_in_two, units_count j None) in
+    (refl, ap Stepped count)
 
 joined_first : (m : Machine) (d : ℕ) (s : Script) (j k : ℕ) (x : Option FaultAfter) (v : Device) → device_at m d ≡ Some v
     → (o : Option Outcome) → run_of m d (s ++ units j) ≡ o → Joined (working m d s) j k x (stepped d s j (working m d s) o)
-joined_first m d s j k x v at None h = absurd (none (sym (run_at m d v (s ++ units j) at) ∙ h))
-  where
-    none : Some (run (s ++ units j) (start_of m v.drive)) ≡ None → ⊥
-    none h = cc
+joined_first m d s j k x v at None h = absurd (cc (sym (run_at m d v (s ++ units j) at) ∙ h))
 joined_first m d s j k x v at (Some (Ended u st e)) h =
     let q = ap (stepped d s (j + k) (working m d s)) (sym (together m d s j k x) ∙ stays_over m d v (s ++ units j) (units_with k x) u st e at h) in
     (sym (ap (λ r. r.1) q), ap (λ r. r.0) q ∙ ap Stepped (sym (add-zero _)))
@@ -90,9 +74,8 @@ joined_first m d s j k x v at (Some (NotEnded st)) h =
     (y.0 ∙ ap (λ r. r.1) q, sym (ap (λ r. r.0) q) ∙ y.1)
 
 joined : (m : Machine) (c : Subchannel) (j k : ℕ) (x : Option FaultAfter) → Runs m c → Joined (record m { subchannel = c }) j k x (react (StepBy j) None (record m { subchannel = c }))
-joined m Idle j k x r = (refl, refl)
-joined m (Pending p csw) j k x r = (refl, refl)
 joined m (Working d s) j k x r = let v = working_device m d s (device_at m d) refl r in joined_first m d s j k x v.0 v.1 (run_of m d (s ++ units j)) refl
+joined m c j k x r = (refl, refl)
 
 pub joins : StepsJoin
 joins m j k x r = joined m m.subchannel j k x r
@@ -100,19 +83,17 @@ joins m j k x r = joined m m.subchannel j k x r
 -- Lists of steps.
 
 none_first : (m : Machine) (d : ℕ) (s : Script) → (o : Option Outcome) → IsRunning o → (working m d s ≡ (stepped d s 0 (working m d s) o).1) × ((stepped d s 0 (working m d s) o).0 ≡ Stepped 0)
-none_first m d s None r = absurd r
-none_first m d s (Some (Ended u st e)) r = absurd r
 none_first m d s (Some (NotEnded st)) r = (ap (working m d) (sym (append-nil s)), refl)
+none_first m d s o r = absurd r
 
 no_step : (m : Machine) (c : Subchannel) → Runs m c → (record m { subchannel = c } ≡ (react (StepBy 0) None (record m { subchannel = c })).1) × ((react (StepBy 0) None (record m { subchannel = c })).0 ≡ Stepped 0)
-no_step m Idle r = (refl, refl)
-no_step m (Pending p csw) r = (refl, refl)
 no_step m (Working d s) r = none_first m d s (run_of m d (s ++ [])) (subst (λ l. IsRunning (run_of m d l)) (sym (append-nil s)) r)
+no_step m c r = (refl, refl)
 
 pub splits : StepsSplit
 splits m [] r = no_step m m.subchannel r
 splits m (j ∷ ks) r =
-    let n = (good m m.subchannel (StepBy j) None r).0 in
+    let n = (good m m.subchannel (StepBy j) None r).runs in
     let h = splits (react (StepBy j) None m).1 ks n in
     let t = joins m j (sum ks) None r in
     let c : j + sum ks ≡ sum (j ∷ ks) = sym (sum_by-cons (λ x. x) j ks) in
@@ -125,40 +106,20 @@ AtMost k r = (units_of r.0 ≤ k) × (is_working r.1.subchannel ≡ true → r.0
 
 most_stepped : (m : Machine) (d : ℕ) (s : Script) (k : ℕ) (x : Option FaultAfter) (v : Device) → IsRunning (Some (run s (start_of m v.drive)))
     → (o : Outcome) → run (s ++ units_with k x) (start_of m v.drive) ≡ o → AtMost k (stepped d s k (working m d s) (Some o))
-most_stepped m d s k x v r (NotEnded seen) h = (le k, λ w. refl)
-  where
-    le : (n : ℕ) → n ≤ n
-    le n = omega arith
+most_stepped m d s k x v r (NotEnded seen) h = (omega arith, λ w. refl)
 most_stepped m d s k x v r (Ended used st e) h =
-    (at_most (walk_of (stood (start_of m v.drive) s r)), λ w. no w)
-  where
-    used_in : Outcome → ℕ
-    used_in (Ended u a b) = u
-    used_in (NotEnded a) = 0
-
-    few : (u a b k n : ℕ) → u ≡ a - n → a ≡ b + k → u - b ≤ k
-    few u a b k n p q = omega arith
-
-    walk_of : ((key : ℕ) × (g : ProgramPhase) × StandsAt (start_of m v.drive) s key g) → (n : ℕ) × (used ≡ units_in (s ++ units_with k x) - n)
-    walk_of y = go (walk (units_with k x) y.0 y.1) refl
-      where
-        go : (w : Walk) → walk (units_with k x) y.0 y.1 ≡ w → (n : ℕ) × (used ≡ units_in (s ++ units_with k x) - n)
-        go (StandsIn g) w = absurd (never (sym h ∙ y.2 (units_with k x) ∙ ap (outcome_of (s ++ units_with k x) y.0) w))
-          where
-            never : Ended used st e ≡ NotEnded (standing_in y.0 g) → ⊥
-            never q = cc
-        go (EndsWith rest st_two e_two) w = (units_in rest, ap used_in (sym h ∙ y.2 (units_with k x) ∙ ap (outcome_of (s ++ units_with k x) y.0) w))
-
-    at_most : (n : ℕ) × (used ≡ units_in (s ++ units_with k x) - n) → used - units_in s ≤ k
-    at_most y = few used (units_in (s ++ units_with k x)) (units_in s) k y.0 y.1 (units_in_two s (units_with k x) ∙ ap (λ n. units_in s + n) (units_count k x))
+    let y = stood (start_of m v.drive) s r in
+    let z = ended_in (start_of m v.drive) s (units_with k x) y.0 y.1 used st e y.2 h in
+    let split = ap units_in z.parts in
+    let few : used - units_in s ≤ k = omega (arith, units_in_two, units_count k x) in
+    (few, λ w. absurd (cc))
 
 pub steps_at_most : StepsAtMost
 steps_at_most m k x r = go m.subchannel r
   where
     go : (c : Subchannel) → Runs m c → AtMost k (react (StepBy k) x (record m { subchannel = c }))
-    go Idle r = (omega arith, λ w. no w)
-    go (Pending p csw) r = (omega arith, λ w. no w)
     go (Working d s) r =
         let v = working_device m d s (device_at m d) refl r in
         subst (λ o. AtMost k (stepped d s k (working m d s) o)) (sym (run_at m d v.0 (s ++ units_with k x) v.1))
         (most_stepped m d s k x v.0 v.2 (run (s ++ units_with k x) (start_of m v.0.drive)) refl)
+    go c r = (omega arith, λ w. absurd (cc))

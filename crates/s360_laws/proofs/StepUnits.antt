@@ -1,12 +1,12 @@
 -- The units of a step, and the programs that end in one.
-use Rattle.std.proofs.Common.{◌≡◌, ℕ, zero, suc, ◌+◌, ◌-◌, ◌≤◌, refl, sym, ap, ◌∙◌, arith, [], ◌∷◌, ◌++◌, length, Option, Some, None}
+use Rattle.std.proofs.Common.{◌≡◌, ℕ, zero, suc, ◌+◌, ◌-◌, refl, sym, ap, ◌∙◌, arith, [], ◌∷◌, ◌++◌, length, Option, Some, None}
 use Rattle.s360_words.specs.Storage.{Storage}
 use Rattle.ckd_command.specs.Drive.{Fault}
 use Rattle.s360_runs.specs.Endings.{Outcome, Ended, NotEnded, Ending, Standing}
 use Rattle.s360_runs.specs.Faults.{without_faults}
 use Rattle.s360_runs.specs.Runs.{Start, run}
-use Rattle.s360_runs.specs.Scripts.{Script, units, Turn, units_in, OneUnit}
-use Rattle.s360_runs.specs.Units.{ProgramPhase, StandsAt, walk, Walk, StandsIn, outcome_of, standing_in, EndsWith}
+use Rattle.s360_runs.specs.Scripts.{Script, units, units_in, OneUnit}
+use Rattle.s360_runs.specs.Units.{ProgramPhase, StandsAt, walk, Walk, StandsIn, outcome_of, EndsWith}
 use Rattle.s360_runs.proofs.FaultsMet.{unmet_walk, same_outcome}
 use Rattle.s360_runs.proofs.Standing.{stands_somewhere, ends_by, goes_by}
 use Rattle.s360_runs.proofs.Walks.{exact, units_in_two}
@@ -19,47 +19,14 @@ use Rattle.s360_laws.proofs.SeenDevices.{seen}
 
 plain_front : (k : ℕ) (front rest : Script) → units k ≡ front ++ rest → units (length front) ≡ front
 plain_front k [] rest h = refl
-plain_front zero (t ∷ front) rest h = absurd (no_list h)
-  where
-    no_list : [] ≡ t ∷ (front ++ rest) → ⊥
-    no_list h = cc
-plain_front (suc k) (t ∷ front) rest h = same_cons _ _ _ _ (head_of _ _ _ _ h) (plain_front k front rest (tail_of _ _ _ _ h))
-  where
-    head_of : (a b : Turn) (x y : Script) → a ∷ x ≡ b ∷ y → a ≡ b
-    head_of a b x y h = cc
-
-    tail_of : (a b : Turn) (x y : Script) → a ∷ x ≡ b ∷ y → x ≡ y
-    tail_of a b x y h = cc
-
-    same_cons : (a b : Turn) (x y : Script) → a ≡ b → x ≡ y → a ∷ x ≡ b ∷ y
-    same_cons a b x y p q = cc
+plain_front zero (t ∷ front) rest h = absurd (cc)
+plain_front (suc k) (t ∷ front) rest h = let e : units k ≡ front ++ rest = cc in let next = plain_front k front rest e in cc
 
 failing_front : (k b : ℕ) (f : Fault) (front rest : Script) → units_failing k b f ≡ front ++ rest → units_failing (length front) b f ≡ front
 failing_front k b f [] rest h = refl
-failing_front zero b f (t ∷ front) rest h = absurd (no_list h)
-  where
-    no_list : [] ≡ t ∷ (front ++ rest) → ⊥
-    no_list h = cc
-failing_front (suc k) zero f (t ∷ front) rest h = same_cons _ _ _ _ (head_of _ _ _ _ h) (plain_front k front rest (tail_of _ _ _ _ h))
-  where
-    head_of : (a b : Turn) (x y : Script) → a ∷ x ≡ b ∷ y → a ≡ b
-    head_of a b x y h = cc
-
-    tail_of : (a b : Turn) (x y : Script) → a ∷ x ≡ b ∷ y → x ≡ y
-    tail_of a b x y h = cc
-
-    same_cons : (a b : Turn) (x y : Script) → a ≡ b → x ≡ y → a ∷ x ≡ b ∷ y
-    same_cons a b x y p q = cc
-failing_front (suc k) (suc b) f (t ∷ front) rest h = same_cons _ _ _ _ (head_of _ _ _ _ h) (failing_front k b f front rest (tail_of _ _ _ _ h))
-  where
-    head_of : (a b : Turn) (x y : Script) → a ∷ x ≡ b ∷ y → a ≡ b
-    head_of a b x y h = cc
-
-    tail_of : (a b : Turn) (x y : Script) → a ∷ x ≡ b ∷ y → x ≡ y
-    tail_of a b x y h = cc
-
-    same_cons : (a b : Turn) (x y : Script) → a ≡ b → x ≡ y → a ∷ x ≡ b ∷ y
-    same_cons a b x y p q = cc
+failing_front zero b f (t ∷ front) rest h = absurd (cc)
+failing_front (suc k) zero f (t ∷ front) rest h = let e : units k ≡ front ++ rest = cc in let next = plain_front k front rest e in cc
+failing_front (suc k) (suc b) f (t ∷ front) rest h = let e : units_failing k b f ≡ front ++ rest = cc in let next = failing_front k b f front rest e in cc
 
 pub units_front : (k : ℕ) (x : Option FaultAfter) (front rest : Script) → units_with k x ≡ front ++ rest → units_with (length front) x ≡ front
 units_front k None front rest h = plain_front k front rest h
@@ -87,60 +54,38 @@ stood s script r = go (run script s) refl r
     go (Ended used st e) h r = absurd r
     go (NotEnded seen) h r = let y = stands_somewhere s script seen h in (y.0, y.1, y.2)
 
--- what ends after a script that did not has used its units
-pub used_most : (s : Start) (script more : Script) (key : ℕ) (g : ProgramPhase) (used : ℕ) (st : Storage) (e : Ending) → StandsAt s script key g
-    → run (script ++ more) s ≡ Ended used st e → units_in script ≤ used
-used_most s script more key g used st e h r = go (walk more key g) refl
-  where
-    used_of : Outcome → ℕ
-    used_of (Ended u a b) = u
-    used_of (NotEnded a) = 0
+-- a program that stood behind a script, and ended behind more of it
+pub record EndedIn (script more : Script) (key : ℕ) (g : ProgramPhase) (used : ℕ) (st : Storage) (e : Ending) : Type 0 where
+  pub front : Script
+  pub rest : Script
+  pub parts : more ≡ front ++ rest
+  pub walked : walk front key g ≡ EndsWith [] st e
+  pub all_used : used ≡ units_in script + units_in front
 
-    go : (w : Walk) → walk more key g ≡ w → units_in script ≤ used
-    go (StandsIn f) w = absurd (no (sym r ∙ h more ∙ ap (outcome_of (script ++ more) key) w))
-      where
-        no : Ended used st e ≡ NotEnded (standing_in key f) → ⊥
-        no q = cc
-    go (EndsWith rest st_two e_two) w =
-        let y = exact more key rest st_two e_two g w in
+pub ended_in : (s : Start) (script more : Script) (key : ℕ) (g : ProgramPhase) (used : ℕ) (st : Storage) (e : Ending) → StandsAt s script key g
+    → run (script ++ more) s ≡ Ended used st e → EndedIn script more key g used st e
+ended_in s script more key g used st e h r = go (walk more key g) refl
+  where
+    go : (w : Walk) → walk more key g ≡ w → EndedIn script more key g used st e
+    go (StandsIn f) w = let q = sym r ∙ h more ∙ ap (outcome_of (script ++ more) key) w in absurd (cc)
+    go (EndsWith rest a b) w =
+        let y = exact more key rest a b g w in
         let q = sym (ap (outcome_of (script ++ more) key) w) ∙ sym (h more) ∙ r in
-        enough (units_in script) (units_in y.0) (units_in rest) (units_in more) _ used (ap units_in y.1 ∙ units_in_two y.0 rest) (units_in_two script more) (ap used_of q)
-      where
-        enough : (a f r u t used : ℕ) → u ≡ f + r → t ≡ a + u → t - r ≡ used → a ≤ used
-        enough a f r u t used p q w = omega arith
+        let same : EndsWith [] a b ≡ EndsWith [] st e = cc in
+        let count : units_in (script ++ more) - units_in rest ≡ used = cc in
+        let split = ap units_in y.1 in
+        record { front = y.0; rest = rest; parts = y.1; walked = y.2 ∙ same; all_used = omega (arith, units_in_two) }
 
 -- A program that ended in a step ended at its last unit that counts.
 pub ended_there : (s : Start) (script : Script) (key : ℕ) (g : ProgramPhase) (k used : ℕ) (x : Option FaultAfter) (st : Storage) (e : Ending) → StandsAt s script key g
     → run (script ++ units_with k x) s ≡ Ended used st e → run (script ++ units_with (used - units_in script) x) s ≡ Ended used st e
-ended_there s script key g k used x st e h r = go (walk (units_with k x) key g) refl
-  where
-    used_of : Outcome → ℕ
-    used_of (Ended u a b) = u
-    used_of (NotEnded a) = 0
-
-    other : (u : ℕ) (st_two : Storage) (e_two : Ending) → Ended u st_two e_two ≡ Ended used st e → Ended used st_two e_two ≡ Ended used st e
-    other u st_two e_two q = cc
-
-    go : (w : Walk) → walk (units_with k x) key g ≡ w → run (script ++ units_with (used - units_in script) x) s ≡ Ended used st e
-    go (StandsIn f) w = absurd (no (sym r ∙ h (units_with k x) ∙ ap (outcome_of (script ++ units_with k x) key) w))
-      where
-        no : Ended used st e ≡ NotEnded (standing_in key f) → ⊥
-        no q = cc
-    go (EndsWith rest st_two e_two) w =
-        let y = exact (units_with k x) key rest st_two e_two g w in
-        let q = sym (ap (outcome_of (script ++ units_with k x) key) w) ∙ sym (h (units_with k x)) ∙ r in
-        let front = units_front k x y.0 rest y.1 in
-        let count = ap units_in (sym front) ∙ units_count (length y.0) x in
-        let split = ap units_in y.1 ∙ units_in_two y.0 rest in
-        let both = units_in_two script (units_with k x) in
-        let ended = units_in_two script y.0 in
-        let now = same_use (units_in script) (units_in y.0) (units_in rest) (units_in (units_with k x)) _ used (length y.0) split both (ap used_of q) count in
-        ap (λ j. run (script ++ units_with j x) s) now.0 ∙ ap (λ l. run (script ++ l) s) front
-        ∙ ends_by s script y.0 key g st_two e_two h y.2
-        ∙ ap (λ u. Ended u st_two e_two) (ended ∙ now.1) ∙ other _ st_two e_two q
-      where
-        same_use : (a f r u t used l : ℕ) → u ≡ f + r → t ≡ a + u → t - r ≡ used → f ≡ l → (used - a ≡ l) × (a + f ≡ used)
-        same_use a f r u t used l p q w c = (omega arith, omega arith)
+ended_there s script key g k used x st e h r =
+    let y = ended_in s script (units_with k x) key g used st e h r in
+    let front = units_front k x y.front y.rest y.parts in
+    let count = ap units_in (sym front) ∙ units_count (length y.front) x in
+    let steps : used - units_in script ≡ length y.front = omega arith in
+    let all : units_in (script ++ y.front) ≡ used = omega (arith, units_in_two) in
+    ap (λ j. run (script ++ units_with j x) s) steps ∙ ap (λ l. run (script ++ l) s) front ∙ ends_by s script y.front key g st e h y.walked ∙ ap (λ u. Ended u st e) all
 
 -- A step that the program outlives has met no fault.
 
@@ -162,21 +107,11 @@ pub unmet : (s : Start) (script : Script) (key : ℕ) (g : ProgramPhase) (k : �
     → (more : Script) → run ((script ++ units k) ++ more) s ≡ run ((script ++ units_with k x) ++ more) s
 unmet s script key g k x seen st r more = go (walk (units_with k x) key g) refl
   where
-    never : {A : Type 0} (u : ℕ) (st_two : Storage) (e : Ending) → Ended u st_two e ≡ NotEnded seen → A
-    never u st_two e h = absurd (cc)
-
     counts : units_in ((script ++ units k) ++ more) ≡ units_in ((script ++ units_with k x) ++ more)
-    counts =
-        let a = units_in_two (script ++ units k) more in
-        let b = units_in_two script (units k) in
-        let c = units_in_two (script ++ units_with k x) more in
-        let d = units_in_two script (units_with k x) in
-        let e = units_count k x in
-        let f = plain_count k in
-        omega arith
+    counts = omega (arith, units_in_two, units_count k x, plain_count k)
 
     go : (w : Walk) → walk (units_with k x) key g ≡ w → run ((script ++ units k) ++ more) s ≡ run ((script ++ units_with k x) ++ more) s
-    go (EndsWith rest st_two e) w = never _ _ _ (sym (ap (outcome_of (script ++ units_with k x) key) w) ∙ sym (st (units_with k x)) ∙ r)
+    go (EndsWith rest st_two e) w = let q = sym (ap (outcome_of (script ++ units_with k x) key) w) ∙ sym (st (units_with k x)) ∙ r in absurd (cc)
     go (StandsIn h) w =
         goes_by s script (units k) key g h st (ap (λ l. walk l key g) (sym (plain_step k x)) ∙ unmet_walk (units_with k x) key g h w) more
         ∙ same_outcome ((script ++ units k) ++ more) ((script ++ units_with k x) ++ more) key (walk more key h) counts

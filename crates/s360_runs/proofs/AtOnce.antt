@@ -5,21 +5,17 @@ use Rattle.std.proofs.lemmas.List.{drop-drop, append_assoc, append-nil, length-a
 use Rattle.std.specs.Prelude.{None}
 use Rattle.s360_words.specs.Storage.{overwritten, Storage, stored}
 use Rattle.s360_words.specs.Words.{skips}
+use Rattle.s360_words.proofs.Overwriting.{overwritten-none}
 use Rattle.ckd_command.specs.Drive.{given, Open, gives}
 use Rattle.s360_runs.specs.Laws.{MoveAtOnce}
-use Rattle.s360_runs.specs.Scripts.{Script, units}
-use Rattle.s360_runs.specs.Transfers.{Transfer, next_bytes, after_bytes, TransferUnit, Moves, transfer_unit}
+use Rattle.s360_runs.specs.Scripts.{units}
+use Rattle.s360_runs.specs.Transfers.{Transfer, next_bytes, after_bytes}
 use Rattle.s360_runs.specs.Units.{on_next, next_moved, walk, Moving}
-
-nothing_written : (b : List ℕ) (a : ℕ) → overwritten b a [] ≡ b
-nothing_written [] a = refl
-nothing_written (x ∷ b) zero = refl
-nothing_written (x ∷ b) (suc a) = ap (λ r. x ∷ r) (nothing_written b a)
 
 -- a byte, and the others behind it
 written_in_two : (b : List ℕ) (a x : ℕ) (ys : List ℕ) → overwritten (overwritten b a (x ∷ [])) (suc a) ys ≡ overwritten b a (x ∷ ys)
 written_in_two [] a x ys = refl
-written_in_two (c ∷ b) zero x ys = ap (λ r. x ∷ overwritten r zero ys) (nothing_written b zero)
+written_in_two (c ∷ b) zero x ys = ap (λ r. x ∷ overwritten r zero ys) (overwritten-none b zero [] refl)
 written_in_two (c ∷ b) (suc a) x ys = ap (λ r. c ∷ r) (written_in_two b a x ys)
 
 -- What moves, by its parts: whether the drive gives, whether it stores, the bytes given, those so far, the address and storage.
@@ -30,12 +26,10 @@ nexts g m given bytes a storage = cond g (take m (drop (length bytes) given)) (t
 abbrev after : Bool → Storage → ℕ → List ℕ → Storage
 after w s a new = cond w (stored s a new) s
 
-one_and_more : (m : ℕ) → 1 + m ≡ suc m
-one_and_more m = omega arith
-
 taken_in_two : (m i : ℕ) (l : List ℕ) → take (suc m) (drop i l) ≡ take 1 (drop i l) ++ take m (drop (i + 1) l)
 taken_in_two m i l =
-    ap (λ n. take n (drop i l)) (sym (one_and_more m)) ∙ take-add 1 m (drop i l) ∙ ap (λ r. take 1 (drop i l) ++ take m r) (drop-drop 1 i l)
+    let e : suc m ≡ 1 + m = omega arith in
+    ap (λ n. take n (drop i l)) e ∙ take-add 1 m (drop i l) ∙ ap (λ r. take 1 (drop i l) ++ take m r) (drop-drop 1 i l)
 
 one_longer : (bytes new : List ℕ) → 1 ≡ length new → length bytes + 1 ≡ length (bytes ++ new)
 one_longer bytes new h = ap (λ n. length bytes + n) h ∙ sym (length-append bytes new)
@@ -49,77 +43,51 @@ nexts_in_two true k m given bytes a s new e h =
 nexts_in_two false k m given bytes a s new e h = taken_in_two m a s.bytes ∙ ap (λ r. r ++ take m (drop (a + 1) s.bytes)) (sym e)
 
 one_byte : (new : List ℕ) → 1 ≡ length new → (P : List ℕ → Type 0) → ((x : ℕ) → P (x ∷ [])) → P new
-one_byte [] h P f = absurd (zero_one h)
-  where
-    zero_one : ◌≡◌ {A = ℕ} 1 0 → ⊥
-    zero_one h = omega arith
+one_byte [] h P f = absurd (omega arith)
 one_byte (x ∷ []) h P f = f x
-one_byte (x ∷ y ∷ new) h P f = absurd (no (length new) h)
-  where
-    no : (n : ℕ) → ◌≡◌ {A = ℕ} 1 (suc (suc n)) → ⊥
-    no n h = omega arith
+one_byte (x ∷ y ∷ new) h P f = absurd (omega arith)
 
 stored_in_two : (w : Bool) (s : Storage) (a : ℕ) (new more : List ℕ) → 1 ≡ length new → after w (after w s a new) (a + 1) more ≡ after w s a (new ++ more)
 stored_in_two false s a new more h = refl
 stored_in_two true s a new more h =
+    let e : a + 1 ≡ suc a = omega arith in
     one_byte new h (λ new. stored (stored s a new) (a + 1) more ≡ stored s a (new ++ more))
-    (λ x. ap (λ b. record s { bytes = b }) (ap (λ n. overwritten (overwritten s.bytes a (x ∷ [])) n more) (plus_one a) ∙ written_in_two s.bytes a x more))
-  where
-    plus_one : (a : ℕ) → a + 1 ≡ suc a
-    plus_one a = omega arith
+    (λ x. ap (λ b. record s { bytes = b }) (ap (λ n. overwritten (overwritten s.bytes a (x ∷ [])) n more) e ∙ written_in_two s.bytes a x more))
 
 abbrev made : Transfer → Storage → ℕ → ℕ → List ℕ → Transfer
 made p s left a bytes = record { storage = s; ccw = p.ccw; place = record p.place { residual = left }; address = a; bytes = bytes }
 
 same_move : (p : Transfer) (s s_two : Storage) (left left_two a a_two : ℕ) (b b_two : List ℕ) → s ≡ s_two → left ≡ left_two → a ≡ a_two → b ≡ b_two → made p s left a b ≡ made p s_two left_two a_two b_two
-same_move p s s_two left left_two a a_two b b_two es el ea eb =
-    ap (λ x. made p x left a b) es ∙ ap (λ x. made p s_two x a b) el ∙ ap (λ x. made p s_two left_two x b) ea ∙ ap (λ x. made p s_two left_two a_two x) eb
+same_move p s s_two left left_two a a_two b b_two es el ea eb = cc
 
 moved_in_two : (m : ℕ) (o : Open) (p : Transfer) → 1 ≡ length (next_bytes 1 o p) → after_bytes m o (after_bytes 1 o p) ≡ after_bytes (suc m) o p
 moved_in_two m o p h =
-    let g = gives o in
-    let k = not (skips p.ccw) in
+    let w = gives o && not (skips p.ccw) in
     let new = next_bytes 1 o p in
-    let two = nexts_in_two g k m (given o) p.bytes p.address p.storage new refl h in
-    same_move p _ _ _ _ _ _ _ _
-    (stored_in_two (g && k) p.storage p.address new _ h ∙ ap (after (g && k) p.storage p.address) (sym two))
-    (less p.place.residual m) (more p.address m) (append_assoc p.bytes new _ ∙ ap (λ r. p.bytes ++ r) (sym two))
-  where
-    less : (l m : ℕ) → l - 1 - m ≡ l - suc m
-    less l m = omega arith
-
-    more : (a m : ℕ) → a + 1 + m ≡ a + suc m
-    more a m = omega arith
+    let two = nexts_in_two (gives o) (not (skips p.ccw)) m (given o) p.bytes p.address p.storage new refl h in
+    let less : p.place.residual - 1 - m ≡ p.place.residual - suc m = omega arith in
+    let more : p.address + 1 + m ≡ p.address + suc m = omega arith in
+    same_move p _ _ _ _ _ _ _ _ (stored_in_two w p.storage p.address new _ h ∙ ap (after w p.storage p.address) (sym two)) less more (append_assoc p.bytes new _ ∙ ap (λ r. p.bytes ++ r) (sym two))
 
 none_next : (g : Bool) → ◌≡◌ {A = List ℕ} (cond g [] []) []
 none_next true = refl
 none_next false = refl
 
 none_stored : (w : Bool) (s : Storage) (a : ℕ) → after w s a [] ≡ s
-none_stored true s a = ap (λ b. record s { bytes = b }) (nothing_written s.bytes a)
+none_stored true s a = ap (λ b. record s { bytes = b }) (overwritten-none s.bytes a [] refl)
 none_stored false s a = refl
 
 moved_none : (o : Open) (p : Transfer) → after_bytes 0 o p ≡ p
 moved_none o p =
-    let g = gives o in
-    let w = g && not (skips p.ccw) in
-    same_move p _ _ _ _ _ _ _ _
-    (ap (after w p.storage p.address) (none_next g) ∙ none_stored w p.storage p.address)
-    (less p.place.residual) (more p.address) (ap (λ r. p.bytes ++ r) (none_next g) ∙ append-nil p.bytes)
-  where
-    less : (l : ℕ) → l - 0 ≡ l
-    less l = omega arith
-
-    more : (a : ℕ) → a + 0 ≡ a
-    more a = omega arith
-
-on_moves : (rest : Script) (key : ℕ) (o : Open) (p q : Transfer) (u : TransferUnit) → u ≡ Moves q → on_next rest (next_moved None key o p u) (walk rest key) ≡ walk rest key (Moving o q)
-on_moves rest key o p q u e = ap (λ u. on_next rest (next_moved None key o p u) (walk rest key)) e
+    let w = gives o && not (skips p.ccw) in
+    let less : p.place.residual - 0 ≡ p.place.residual = omega arith in
+    let more : p.address + 0 ≡ p.address = omega arith in
+    same_move p _ _ _ _ _ _ _ _ (ap (after w p.storage p.address) (none_next (gives o)) ∙ none_stored w p.storage p.address) less more (ap (λ r. p.bytes ++ r) (none_next (gives o)) ∙ append-nil p.bytes)
 
 -- m bytes that may move one after another move at once
 pub at_once : MoveAtOnce
 at_once zero key rest o p h = ap (λ q. walk rest key (Moving o q)) (sym (moved_none o p))
 at_once (suc m) key rest o p h =
-    on_moves (units m ++ rest) key o p (after_bytes 1 o p) (transfer_unit key o p) h.0
+    ap (λ u. on_next (units m ++ rest) (next_moved None key o p u) (walk (units m ++ rest) key)) h.0
     ∙ at_once m key rest o (after_bytes 1 o p) h.2
     ∙ ap (λ q. walk rest key (Moving o q)) (moved_in_two m o p (sym h.1))

@@ -1,72 +1,52 @@
 -- The first unit of a program, as Start I/O and as the run has it.
-use Rattle.std.proofs.Common.{◌≡◌, ◌≤◌, ℕ, refl, sym, ap, ◌∙◌, arith, true, false, Bool, cond, not, ◌&&◌, [], Option, Some, None, inl, inr, ◌⊎◌}
+use Rattle.std.proofs.Common.{◌≡◌, ◌≤◌, ℕ, refl, arith, true, false, Bool, cond, not, ◌&&◌, [], Option, Some, None, inl, inr, ◌⊎◌}
 use Rattle.s360_words.specs.Words.{chains_command, caw_of}
-use Rattle.s360_words.specs.declared.flags.ChannelStatus.{ChannelStatus}
 use Rattle.s360_words.specs.declared.flags.TheConstants.ChannelStatus.{PROGRAM_CHECK}
 use Rattle.s360_words.specs.declared.flags.TheConstants.UnitStatus.{CHANNEL_END}
 use Rattle.s360_words.specs.declared.words.Caw.{Caw}
 use Rattle.s360_words.specs.declared.words.Ccw.{Ccw}
-use Rattle.ckd_command.specs.Drive.{Closed, State, Immediate, begin, begin_program, drive_of, AfterBegin, Rejected, Started}
+use Rattle.ckd_command.specs.Drive.{State, Immediate, begin, begin_program, drive_of, AfterBegin, Rejected, Started}
 use Rattle.s360_runs.specs.Commands.{chained, Chains, past_modifier, Ends, begun, Point, fetched}
-use Rattle.s360_runs.specs.Endings.{Ended, Outcome, ending, failed, immediate, settled_ending, untouched}
+use Rattle.s360_runs.specs.Endings.{Ended, Outcome, ending, failed, immediate, untouched}
 use Rattle.s360_runs.specs.Laws.{FirstIsUnit, IsFirstUnit, first_of}
-use Rattle.s360_runs.specs.Places.{Place, Fetched, NoCcw, TransferTo, GoodCcw, past_ccw, past_no_ccw, fetched_at, unless_transfer}
+use Rattle.s360_runs.specs.Places.{Place, Fetched, GoodCcw, past_ccw, past_no_ccw, fetched_at, unless_transfer}
 use Rattle.s360_runs.specs.Runs.{Start, outcome, commands, first_place, run_from, start_point}
 use Rattle.s360_runs.specs.Scripts.{units}
 use Rattle.s360_runs.specs.Starts.{AcceptedStart, BadStart, First, ImmediateStart, RejectedStart, first_begun, first_fetched, first_from}
 use Rattle.s360_runs.specs.Status.{no_channel_status, normal_end, stops_chaining, is_clear}
 use Rattle.s360_runs.specs.Transfers.{Request}
-use Rattle.s360_runs.proofs.DriveFacts.{settle_none}
 
 -- what is said of a start and the outcome of its first unit
 abbrev Is : Start → First → Outcome → Type 0
 Is s f o = (f ≡ first_of o) × IsFirstUnit s f o
 
--- an ending as the drive is settled without a fault
-ends_so : (key : ℕ) (p : Place) (c : Closed) (channel : ChannelStatus) → ending None key p c channel ≡ settled_ending key p c channel
-ends_so key p c channel = ap (λ c. settled_ending key p c channel) (settle_none c)
-
--- bad starts
-
-bad : (s : Start) (used key : ℕ) (p : Place) → used ≤ 1 → p.interruption ≡ false → Is s BadStart (Ended used s.storage (ending None key p (untouched (begin_program s.drive)) PROGRAM_CHECK))
-bad s used key p few asked = (
-  sym (ap (λ e. first_of (Ended used s.storage e)) (ends_so key p (untouched (begin_program s.drive)) PROGRAM_CHECK) ∙ told p.interruption),
-  (used, ending None key p (untouched (begin_program s.drive)) PROGRAM_CHECK, refl, few, ap (λ e. e.drive) (ends_so key p (untouched (begin_program s.drive)) PROGRAM_CHECK)),
-)
+bad : (s : Start) (used key : ℕ) (p : Place) → used ≤ 1 → Is s BadStart (Ended used s.storage (ending None key p (untouched (begin_program s.drive)) PROGRAM_CHECK))
+bad s used key p few = (told p.interruption, (used, ending None key p (untouched (begin_program s.drive)) PROGRAM_CHECK, refl, few, refl))
   where
-    told : (asked : Bool) → first_of (Ended used s.storage (settled_ending key (record p { interruption = asked }) (untouched (begin_program s.drive)) PROGRAM_CHECK)) ≡ BadStart
+    told : (asked : Bool) → BadStart ≡ first_of (Ended used s.storage (ending None key (record p { interruption = asked }) (untouched (begin_program s.drive)) PROGRAM_CHECK))
     told true = refl
     told false = refl
 
--- a rejected start
-
 rejected : (s : Start) (key : ℕ) (p : Place) (t : State) → Is s (RejectedStart (drive_of t)) (Ended 1 s.storage (ending None key p (failed t) no_channel_status))
-rejected s key p t = (
-  sym (ap (λ e. first_of (Ended 1 s.storage e)) (ends_so key p (failed t) no_channel_status) ∙ told p.interruption),
-  (ending None key p (failed t) no_channel_status, refl, ap (λ e. e.csw.unit) (ends_so key p (failed t) no_channel_status), ap (λ e. e.drive) (ends_so key p (failed t) no_channel_status)),
-)
+rejected s key p t = (told p.interruption, (ending None key p (failed t) no_channel_status, refl, refl, refl))
   where
-    told : (asked : Bool) → first_of (Ended 1 s.storage (settled_ending key (record p { interruption = asked }) (failed t) no_channel_status)) ≡ RejectedStart (drive_of t)
+    told : (asked : Bool) → RejectedStart (drive_of t) ≡ first_of (Ended 1 s.storage (ending None key (record p { interruption = asked }) (failed t) no_channel_status))
     told true = refl
     told false = refl
 
 -- a start that is over at once
-
 over : (s : Start) (key : ℕ) (p : Place) (t : State) (motion : Bool) → let e = ending None key p (immediate t motion) no_channel_status in Is s (ImmediateStart e) (Ended 1 s.storage e)
-over s key p t motion = (
-  sym (ap (λ e. first_of (Ended 1 s.storage e)) (ends_so key p (immediate t motion) no_channel_status) ∙ told motion p.interruption ∙ ap ImmediateStart (sym (ends_so key p (immediate t motion) no_channel_status))),
-  (refl, unit_of motion),
-)
+over s key p t motion = (told motion p.interruption, (refl, unit_of motion))
   where
-    told : (motion asked : Bool) → let e = settled_ending key (record p { interruption = asked }) (immediate t motion) no_channel_status in first_of (Ended 1 s.storage e) ≡ ImmediateStart e
+    told : (motion asked : Bool) → let e = ending None key (record p { interruption = asked }) (immediate t motion) no_channel_status in ImmediateStart e ≡ first_of (Ended 1 s.storage e)
     told true true = refl
     told true false = refl
     told false true = refl
     told false false = refl
 
     unit_of : (motion : Bool) → let e = ending None key p (immediate t motion) no_channel_status in (e.csw.unit ≡ CHANNEL_END) ⊎ (e.csw.unit ≡ normal_end)
-    unit_of true = inl (ap (λ c. c.unit) (settle_none (immediate t true)))
-    unit_of false = inr (ap (λ c. c.unit) (settle_none (immediate t false)))
+    unit_of true = inl refl
+    unit_of false = inr refl
 
 -- The first unit.
 
@@ -86,16 +66,15 @@ first_begin s key ccw p (Immediate state motion) = first_choice s key p state mo
 first_begin s key ccw p (Started o) = (refl, tt)
 
 -- the first CCW may be no transfer in channel
-first_fetch : (s : Start) (key : ℕ) (p : Place) (w : Fetched) → p.interruption ≡ false
+first_fetch : (s : Start) (key : ℕ) (p : Place) (w : Fetched)
     → let q : Point = record { storage = s.storage; place = p; state = begin_program s.drive } in
     Is s (first_fetched key q (unless_transfer false w)) (outcome (units 1) key (commands 1 key (fetched None [] key q (unless_transfer false w))))
-first_fetch s key p NoCcw asked = bad s 1 key (past_no_ccw p) (omega arith) asked
-first_fetch s key p (TransferTo address) asked = bad s 1 key (past_no_ccw p) (omega arith) asked
-first_fetch s key p (GoodCcw ccw) asked = first_begin s key ccw (past_ccw p ccw) (begin None ccw.code (begin_program s.drive))
+first_fetch s key p (GoodCcw ccw) = first_begin s key ccw (past_ccw p ccw) (begin None ccw.code (begin_program s.drive))
+first_fetch s key p w = bad s 1 key (past_no_ccw p) (omega arith)
 
 first_caw : (s : Start) (c : Option Caw) → Is s (first_from s c) (run_from (units 1) s c)
-first_caw s None = bad s 0 0 (first_place 0) (omega arith) refl
-first_caw s (Some caw) = let p = start_point caw s in first_fetch s caw.key p.place (fetched_at p.storage p.place.next true) refl
+first_caw s None = bad s 0 0 (first_place 0) (omega arith)
+first_caw s (Some caw) = let p = start_point caw s in first_fetch s caw.key p.place (fetched_at p.storage p.place.next true)
 
 -- what Start I/O makes of a start is the first unit of its run
 pub first_is_unit : FirstIsUnit

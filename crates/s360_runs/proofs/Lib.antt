@@ -1,13 +1,12 @@
 pub mod Walks
+pub mod Units
 pub mod Standing
 pub mod AtOnce
-pub mod DriveTerms
 pub mod DriveFacts
 pub mod EndStatus
 pub mod FaultsMet
 pub mod FirstUnits
 pub mod UnsavedTracks
 pub mod FailedLoads
-pub mod KeptTracks
-pub mod ScriptMarks
+pub mod Writes
 pub mod Sizes

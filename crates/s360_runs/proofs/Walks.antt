@@ -5,7 +5,7 @@ use Rattle.s360_words.specs.Words.{caw_of}
 use Rattle.s360_words.specs.declared.words.Caw.{Caw}
 use Rattle.ckd_command.specs.Drive.{AfterLook, look, Fault, Open, close, Ready, Failed, Passed, AfterBegin, Rejected, Immediate, Started, begin}
 use Rattle.s360_runs.specs.Commands.{Step, Spent, Ends, Over, command, after_look, after_move, Point, Goes, choice, Choice, chained, Chains, completed, begun, fetched, requested}
-use Rattle.s360_runs.specs.Endings.{Ending, Standing, immediate, Outcome, Ended, NotEnded}
+use Rattle.s360_runs.specs.Endings.{Ending, immediate, Outcome, Ended, NotEnded}
 use Rattle.s360_runs.specs.Laws.{walked_on, WalkGoesOn, WalkEndsAtUnit, RunIsWalk, EndedStays}
 use Rattle.s360_runs.specs.Places.{fetch, Fetched, NoCcw, TransferTo, past_transfer, GoodCcw}
 use Rattle.s360_runs.specs.Runs.{commands, Start, outcome, run, run_from, start_point}
@@ -29,73 +29,64 @@ resume script key (Moving o p) = after_move key o (moved script key o p)
 abbrev Same : Script → ℕ → Type 0
 Same script key = (most : ℕ) (f : ProgramPhase) → length script ≤ most → commands most key (resume script key f) ≡ step_of key (walk script key f)
 
-over_stays : (most key : ℕ) (rest : Script) (s : Storage) (e : Ending) → commands most key (Over rest s e) ≡ Over rest s e
-over_stays zero key rest s e = refl
-over_stays (suc most) key rest s e = refl
+step_stays : (most key : ℕ) (w : Walk) → commands most key (step_of key w) ≡ step_of key w
+step_stays zero key w = refl
+step_stays (suc most) key (StandsIn f) = refl
+step_stays (suc most) key (EndsWith rest s e) = refl
 
-out_stays : (most key : ℕ) (s : Standing) → commands most key (Spent s) ≡ Spent s
-out_stays zero key s = refl
-out_stays (suc most) key s = refl
+module _ (rest : Script) (key most : ℕ) (same : Same rest key) (h : length rest < most) where
+  goes_on : (p : Point) → commands most key (Goes rest p) ≡ step_of key (walk rest key (Between p))
+  goes_on p = go most h
+    where
+      go : (most : ℕ) → length rest < most → commands most key (Goes rest p) ≡ step_of key (walk rest key (Between p))
+      go zero h = absurd (omega arith)
+      go (suc most) h = same most (Between p) (omega arith)
 
-goes_on : (rest : Script) (key most : ℕ) (p : Point) → Same rest key → length rest < most → commands most key (Goes rest p) ≡ step_of key (walk rest key (Between p))
-goes_on rest key zero p same h = absurd (no (length rest) h)
-  where
-    no : (n : ℕ) → n < 0 → ⊥
-    no n h = omega arith
-goes_on rest key (suc most) p same h = same most (Between p) (omega arith)
+  by_choice : (c : Choice) → commands most key (chained rest c) ≡ step_of key (on_next rest (next_chosen c) (walk rest key))
+  by_choice (Chains p) = goes_on p
+  by_choice (Ends s e) = step_stays most key (EndsWith rest s e)
 
-by_choice : (rest : Script) (key most : ℕ) (c : Choice) → Same rest key → length rest < most → commands most key (chained rest c) ≡ step_of key (on_next rest (next_chosen c) (walk rest key))
-by_choice rest key most (Chains p) same h = goes_on rest key most p same h
-by_choice rest key most (Ends s e) same h = over_stays most key rest s e
+  by_unit : (f : Option Fault) (o : Open) (p : Transfer) (u : TransferUnit) → commands most key (after_move key o (on_unit f rest p u (moved rest key o))) ≡ step_of key (on_next rest (next_moved f key o p u) (walk rest key))
+  by_unit f o p (Moves q) = same most (Moving o q) (omega arith)
+  by_unit f o p (Stops q channel) = step_stays most key (EndsWith rest _ _)
+  by_unit f o p Completes = by_choice (completed f key p o (close f o p.bytes))
 
-by_unit : (f : Option Fault) (rest : Script) (key most : ℕ) (o : Open) (p : Transfer) (u : TransferUnit) → Same rest key → length rest < most
-    → commands most key (after_move key o (on_unit f rest p u (moved rest key o))) ≡ step_of key (on_next rest (next_moved f key o p u) (walk rest key))
-by_unit f rest key most o p (Moves q) same h = same most (Moving o q) (omega arith)
-by_unit f rest key most o p (Stops q channel) same h = over_stays most key rest _ _
-by_unit f rest key most o p Completes same h = by_choice rest key most (completed f key p o (close f o p.bytes)) same h
+  by_look : (f : Option Fault) (p : Request) (l : AfterLook) → commands most key (after_look key (on_look f rest p l (looked rest p))) ≡ step_of key (on_next rest (next_looked f key p l) (walk rest key))
+  by_look f p (Ready o) = by_unit f o (first_transfer p) (transfer_unit key o (first_transfer p))
+  by_look f p (Failed s) = step_stays most key (EndsWith rest _ _)
+  by_look f p (Passed o) = same most (Looking o p) (omega arith)
 
-by_look : (f : Option Fault) (rest : Script) (key most : ℕ) (p : Request) (l : AfterLook) → Same rest key → length rest < most
-    → commands most key (after_look key (on_look f rest p l (looked rest p))) ≡ step_of key (on_next rest (next_looked f key p l) (walk rest key))
-by_look f rest key most p (Ready o) same h = by_unit f rest key most o (first_transfer p) (transfer_unit key o (first_transfer p)) same h
-by_look f rest key most p (Failed s) same h = over_stays most key rest _ _
-by_look f rest key most p (Passed o) same h = same most (Looking o p) (omega arith)
+  by_begun : (f : Option Fault) (r : Request) (b : AfterBegin) → commands most key (begun f rest key r b) ≡ step_of key (on_next rest (next_begun f key r b) (walk rest key))
+  by_begun f r (Rejected state) = step_stays most key (EndsWith rest _ _)
+  by_begun f r (Immediate state motion) = by_choice (choice f key r (immediate state motion) no_channel_status)
+  by_begun f r (Started o) = same most (Looking o r) (omega arith)
 
-by_begun : (f : Option Fault) (rest : Script) (key most : ℕ) (r : Request) (b : AfterBegin) → Same rest key → length rest < most
-    → commands most key (begun f rest key r b) ≡ step_of key (on_next rest (next_begun f key r b) (walk rest key))
-by_begun f rest key most r (Rejected state) same h = over_stays most key rest _ _
-by_begun f rest key most r (Immediate state motion) same h = by_choice rest key most (choice f key r (immediate state motion) no_channel_status) same h
-by_begun f rest key most r (Started o) same h = same most (Looking o r) (omega arith)
+  by_fetch : (f : Option Fault) (p : Point) (w : Fetched) → commands most key (fetched f rest key p w) ≡ step_of key (on_next rest (next_fetched f key p w) (walk rest key))
+  by_fetch f p NoCcw = step_stays most key (EndsWith rest _ _)
+  by_fetch f p (TransferTo address) = goes_on (record p { place = past_transfer p.place address })
+  by_fetch f p (GoodCcw ccw) = by_begun f (requested p ccw) (begin f ccw.code p.state)
 
-by_fetch : (f : Option Fault) (rest : Script) (key most : ℕ) (p : Point) (w : Fetched) → Same rest key → length rest < most
-    → commands most key (fetched f rest key p w) ≡ step_of key (on_next rest (next_fetched f key p w) (walk rest key))
-by_fetch f rest key most p NoCcw same h = over_stays most key rest _ _
-by_fetch f rest key most p (TransferTo address) same h = goes_on rest key most (record p { place = past_transfer p.place address }) same h
-by_fetch f rest key most p (GoodCcw ccw) same h = by_begun f rest key most (requested p ccw) (begin f ccw.code p.state) same h
-
-by_phase : (f : Option Fault) (rest : Script) (key most : ℕ) (g : ProgramPhase) → Same rest key → length rest < most
-    → commands most key (resume (OneUnit f ∷ rest) key g) ≡ step_of key (walk (OneUnit f ∷ rest) key g)
-by_phase f rest key most (Between p) same h = by_fetch f rest key most p (fetch p.storage p.place true) same h
-by_phase f rest key most (Looking o p) same h = by_look f rest key most p (look f o) same h
-by_phase f rest key most (Moving o p) same h = by_unit f rest key most o p (transfer_unit key o p) same h
+  by_phase : (f : Option Fault) (g : ProgramPhase) → commands most key (resume (OneUnit f ∷ rest) key g) ≡ step_of key (walk (OneUnit f ∷ rest) key g)
+  by_phase f (Between p) = by_fetch f p (fetch p.storage p.place true)
+  by_phase f (Looking o p) = by_look f p (look f o)
+  by_phase f (Moving o p) = by_unit f o p (transfer_unit key o p)
 
 resume_outside : (c : _) (rest : Script) (key : ℕ) (f : ProgramPhase) → resume (Outside c ∷ rest) key f ≡ resume rest key (phase_past (Outside c) f)
 resume_outside c rest key (Between p) = refl
-resume_outside c rest key (Looking o p) = refl
-resume_outside c rest key (Moving o p) = refl
+resume_outside c rest key f = refl
 
 resume_taking : (rest : Script) (key : ℕ) (f : ProgramPhase) → resume (TakesInterruption ∷ rest) key f ≡ resume rest key (phase_past TakesInterruption f)
 resume_taking rest key (Between p) = refl
-resume_taking rest key (Looking o p) = refl
-resume_taking rest key (Moving o p) = refl
+resume_taking rest key f = refl
 
 at_end : (key most : ℕ) (f : ProgramPhase) → commands most key (resume [] key f) ≡ step_of key (walk [] key f)
-at_end key most (Between p) = out_stays most key _
-at_end key most (Looking o p) = out_stays most key _
-at_end key most (Moving o p) = out_stays most key _
+at_end key most (Between p) = step_stays most key (StandsIn (Between p))
+at_end key most (Looking o p) = step_stays most key (StandsIn (Looking o p))
+at_end key most (Moving o p) = step_stays most key (StandsIn (Moving o p))
 
 pub same_way : (script : Script) (key : ℕ) → Same script key
 same_way [] key most f h = at_end key most f
-same_way (OneUnit a ∷ rest) key most f h = by_phase a rest key most f (same_way rest key) (omega arith)
+same_way (OneUnit a ∷ rest) key most f h = by_phase rest key most (same_way rest key) (omega arith) a f
 same_way (Outside c ∷ rest) key most f h = ap (commands most key) (resume_outside c rest key f) ∙ same_way rest key most (phase_past (Outside c) f) (omega arith)
 same_way (TakesInterruption ∷ rest) key most f h = ap (commands most key) (resume_taking rest key f) ∙ same_way rest key most (phase_past TakesInterruption f) (omega arith)
 
@@ -117,16 +108,6 @@ walks_on (TakesInterruption ∷ rest) more key f = walks_on rest more key (phase
 abbrev pub Exact : Script → ℕ → ProgramPhase → Script → Storage → Ending → Type 0
 Exact script key f rest s e = (front : Script) × (script ≡ front ++ rest) × (walk front key f ≡ EndsWith [] s e)
 
-abbrev left_in : Walk → Script
-left_in (EndsWith rest s e) = rest
-left_in (StandsIn f) = []
-
-same_end : (a rest : Script) (s s_two : Storage) (e e_two : Ending) → EndsWith a s e ≡ EndsWith rest s_two e_two → EndsWith [] s e ≡ EndsWith [] s_two e_two
-same_end a rest s s_two e e_two h = cc
-
-no_stand : {A : Type 0} (f : ProgramPhase) (rest : Script) (s : Storage) (e : Ending) → StandsIn f ≡ EndsWith rest s e → A
-no_stand f rest s e h = absurd (cc)
-
 ends_exactly : (a : Option Fault) (more : Script) (key : ℕ) (rest : Script) (s : Storage) (e : Ending) (f : ProgramPhase) (x : Next) → unit a key f ≡ x
     → ((g : ProgramPhase) → walk more key g ≡ EndsWith rest s e → Exact more key g rest s e)
     → on_next more x (walk more key) ≡ EndsWith rest s e → Exact (OneUnit a ∷ more) key f rest s e
@@ -134,18 +115,17 @@ ends_exactly a more key rest s e f (GoesOn g) at ih h =
     let r = ih g h in
     (OneUnit a ∷ r.0, ap (λ l. OneUnit a ∷ l) r.1, ap (λ x. on_next r.0 x (walk r.0 key)) at ∙ r.2)
 ends_exactly a more key rest s e f (EndsIn s_two e_two) at ih h =
-    (OneUnit a ∷ [], ap (λ l. OneUnit a ∷ l) (ap left_in h), ap (λ x. on_next [] x (walk [] key)) at ∙ same_end more rest s_two s e_two e h)
+    let same : more ≡ rest = cc in
+    let end : EndsWith [] s_two e_two ≡ EndsWith [] s e = cc in
+    (OneUnit a ∷ [], ap (λ l. OneUnit a ∷ l) same, ap (λ x. on_next [] x (walk [] key)) at ∙ end)
 
 pub exact : WalkEndsAtUnit
-exact [] key rest s e f h = no_stand f rest s e h
+exact [] key rest s e f h = absurd (cc)
 exact (OneUnit a ∷ more) key rest s e f h = ends_exactly a more key rest s e f (unit a key f) refl (λ g h. exact more key rest s e g h) h
 exact (Outside c ∷ more) key rest s e f h = let r = exact more key rest s e (phase_past (Outside c) f) h in (Outside c ∷ r.0, ap (λ l. Outside c ∷ l) r.1, r.2)
 exact (TakesInterruption ∷ more) key rest s e f h = let r = exact more key rest s e (phase_past TakesInterruption f) h in (TakesInterruption ∷ r.0, ap (λ l. TakesInterruption ∷ l) r.1, r.2)
 
 -- Runs by walks.
-
-le_self : (n : ℕ) → n ≤ n
-le_self n = omega arith
 
 outcome_step : (script : Script) (key : ℕ) (w : Walk) → outcome script key (step_of key w) ≡ outcome_of script key w
 outcome_step script key (StandsIn f) = refl
@@ -154,7 +134,8 @@ outcome_step script key (EndsWith rest s e) = refl
 pub run_walk : (s : Start) (caw : Caw) (script : Script) → run_from script s (Some caw) ≡ outcome_of script caw.key (walk script caw.key (Between (start_point caw s)))
 run_walk s caw script =
     let f = Between (start_point caw s) in
-    ap (outcome script caw.key) (same_way script caw.key (length script) f (le_self (length script))) ∙ outcome_step script caw.key (walk script caw.key f)
+    let all : length script ≤ length script = omega arith in
+    ap (outcome script caw.key) (same_way script caw.key (length script) f all) ∙ outcome_step script caw.key (walk script caw.key f)
 
 pub run_is_walk : RunIsWalk
 run_is_walk s caw script h = ap (run_from script s) h ∙ run_walk s caw script
@@ -173,10 +154,9 @@ Stays (NotEnded s) after = Unit {0}
 
 stays_walk : (script more : Script) (key : ℕ) (w : Walk) → Stays (outcome_of script key w) (outcome_of (script ++ more) key (walked_on w key more))
 stays_walk script more key (StandsIn f) = tt
-stays_walk script more key (EndsWith rest s e) = ap (λ u. Ended u s e) (same_use (units_in script) (units_in rest) (units_in more) _ _ (units_in_two script more) (units_in_two rest more))
-  where
-    same_use : (a r m x y : ℕ) → x ≡ a + m → y ≡ r + m → x - y ≡ a - r
-    same_use a r m x y p q = omega arith
+stays_walk script more key (EndsWith rest s e) =
+    let used : units_in (script ++ more) - units_in (rest ++ more) ≡ units_in script - units_in rest = omega (arith, units_in_two) in
+    ap (λ u. Ended u s e) used
 
 stays_from : (s : Start) (script more : Script) (c : Option Caw) → Stays (run_from script s c) (run_from (script ++ more) s c)
 stays_from s script more None = refl

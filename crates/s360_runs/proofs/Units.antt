@@ -1,0 +1,147 @@
+-- What holds of a program from unit to unit: one analysis of a unit for all such properties, and one induction over scripts.
+use Rattle.std.proofs.Common.{◌≡◌, ℕ, refl, sym, subst, true, false, Bool, cond, List, [], ◌∷◌, Option, Some, None}
+use Rattle.s360_words.specs.Storage.{Storage}
+use Rattle.s360_words.specs.declared.flags.ChannelStatus.{ChannelStatus}
+use Rattle.s360_words.specs.declared.flags.TheConstants.ChannelStatus.{PROGRAM_CHECK}
+use Rattle.s360_words.specs.declared.words.Caw.{Caw}
+use Rattle.ckd_command.specs.Drive.{AfterBegin, AfterLook, Closed, Failed, Fault, Immediate, Open, Passed, Ready, Rejected, Started, State, begin, close, look, state_of}
+use Rattle.s360_runs.specs.Commands.{Chains, Ends, Point, choice, goes_on_chaining, length_status, past_modifier, requested}
+use Rattle.s360_runs.specs.Endings.{Ended, Ending, NotEnded, Outcome, closed_by_cut, ending, failed, immediate, untouched}
+use Rattle.s360_runs.specs.Faults.{without_faults}
+use Rattle.s360_runs.specs.Places.{Fetched, GoodCcw, NoCcw, Place, TransferTo, fetch, past_no_ccw}
+use Rattle.s360_runs.specs.Runs.{Start, run_from, start_point}
+use Rattle.s360_runs.specs.Scripts.{OneUnit, Outside, Script, TakesInterruption, Turn}
+use Rattle.s360_runs.specs.Status.{is_clear, no_channel_status}
+use Rattle.s360_runs.specs.Transfers.{Completes, Moves, Request, Stops, Transfer, TransferUnit, after_bytes, chained_data, check_of, first_transfer, needs_byte, needs_ccw, request_of, transfer_unit}
+use Rattle.s360_runs.specs.Units.{Between, EndsIn, EndsWith, GoesOn, Looking, Moving, Next, ProgramPhase, StandsIn, Walk, next_begun, next_chosen, next_fetched, next_looked, next_moved, on_next, outcome_of, phase_past, standing_in, state_in, unit, walk}
+use Rattle.s360_runs.proofs.Walks.{run_walk}
+
+-- Walks.
+
+-- by a property of phases and one of endings
+abbrev pub NextIs : (ProgramPhase → Type 0) → (Storage → Ending → Type 0) → Next → Type 0
+NextIs P E (GoesOn g) = P g
+NextIs P E (EndsIn s e) = E s e
+
+abbrev pub WalkIs : (ProgramPhase → Type 0) → (Storage → Ending → Type 0) → Walk → Type 0
+WalkIs P E (StandsIn g) = P g
+WalkIs P E (EndsWith rest s e) = E s e
+
+module _ (P : ProgramPhase → Type 0) (E : Storage → Ending → Type 0) (key : ℕ) (past : (turn : Turn) (g : ProgramPhase) → P g → P (phase_past turn g)) where
+  next_holds : (rest : Script) (n : Next) → NextIs P E n → ((g : ProgramPhase) → P g → WalkIs P E (walk rest key g)) → WalkIs P E (on_next rest n (walk rest key))
+  next_holds rest (GoesOn g) h k = k g h
+  next_holds rest (EndsIn s e) h k = h
+
+  -- what each unit and each other turn keeps, a walk keeps
+  pub walk_holds : ((f : Option Fault) (g : ProgramPhase) → P g → NextIs P E (unit f key g)) → (script : Script) (g : ProgramPhase) → P g → WalkIs P E (walk script key g)
+  walk_holds step [] g h = h
+  walk_holds step (OneUnit f ∷ rest) g h = next_holds rest (unit f key g) (step f g h) (walk_holds step rest)
+  walk_holds step (Outside c ∷ rest) g h = walk_holds step rest (phase_past (Outside c) g) (past (Outside c) g h)
+  walk_holds step (TakesInterruption ∷ rest) g h = walk_holds step rest (phase_past TakesInterruption g) (past TakesInterruption g h)
+
+  -- and so it is without faults
+  pub plain_walk_holds : ((g : ProgramPhase) → P g → NextIs P E (unit None key g)) → (script : Script) (g : ProgramPhase) → P g → WalkIs P E (walk (without_faults script) key g)
+  plain_walk_holds step [] g h = h
+  plain_walk_holds step (OneUnit f ∷ rest) g h = next_holds (without_faults rest) (unit None key g) (step g h) (plain_walk_holds step rest)
+  plain_walk_holds step (Outside c ∷ rest) g h = plain_walk_holds step rest (phase_past (Outside c) g) (past (Outside c) g h)
+  plain_walk_holds step (TakesInterruption ∷ rest) g h = plain_walk_holds step rest (phase_past TakesInterruption g) (past TakesInterruption g h)
+
+-- what holds of a walk from its start holds of the run
+pub run_holds : {P : ProgramPhase → Type 0} {E : Storage → Ending → Type 0} (O : Outcome → Type 0) (s : Start) (caw : Caw) (script : Script)
+    → ((g : ProgramPhase) → P g → O (NotEnded (standing_in caw.key g))) → ((used : ℕ) (st : Storage) (e : Ending) → E st e → O (Ended used st e))
+    → WalkIs P E (walk script caw.key (Between (start_point caw s))) → O (run_from script s (Some caw))
+run_holds {P} {E} O s caw script stands ends h = subst O (sym (run_walk s caw script)) (go (walk script caw.key (Between (start_point caw s))) h)
+  where
+    go : (w : Walk) → WalkIs P E w → O (outcome_of script caw.key w)
+    go (StandsIn g) h = stands g h
+    go (EndsWith rest st e) h = ends _ st e h
+
+-- a turn that is no unit leaves the drive
+pub past_state : (turn : Turn) (g : ProgramPhase) → state_in (phase_past turn g) ≡ state_in g
+past_state turn (Between p) = refl
+past_state turn g = refl
+
+-- A check stops a command with the bytes that it has.
+
+abbrev pub StopsWith : List ℕ → TransferUnit → Type 0
+StopsWith bytes (Stops next check) = next.bytes ≡ bytes
+StopsWith bytes u = Unit {0}
+
+pub stops_with : (key : ℕ) (o : Open) (t : Transfer) → StopsWith t.bytes (transfer_unit key o t)
+stops_with key o t = go (needs_ccw t) (needs_byte o t) (is_clear (check_of key o t)) (fetch t.storage t.place false)
+  where
+    go : (a b c : Bool) (w : Fetched) → StopsWith t.bytes (cond a (chained_data t w) (cond b (cond c (Moves (after_bytes 1 o t)) (Stops t (check_of key o t))) Completes))
+    go true b c NoCcw = refl
+    go true b c (TransferTo address) = tt
+    go true b c (GoodCcw ccw) = tt
+    go false true true w = tt
+    go false true false w = refl
+    go false false c w = tt
+
+-- A unit, by a property of commands that are closed and one of the drive where the program goes on.
+
+abbrev pub BegunIs : (Closed → Type 0) → (State → Type 0) → AfterBegin → Type 0
+BegunIs C Q (Rejected s) = C (failed s)
+BegunIs C Q (Immediate s motion) = C (immediate s motion)
+BegunIs C Q (Started o) = Q (state_of o)
+
+abbrev pub LookIs : (Closed → Type 0) → (State → Type 0) → (Open → Type 0) → AfterLook → Type 0
+LookIs C Q R (Failed s) = C (failed s)
+LookIs C Q R (Passed o) = Q (state_of o)
+LookIs C Q R (Ready o) = R o
+
+-- a command whose area was found goes on, or is closed with no byte
+abbrev pub FoundIs : (Closed → Type 0) → (State → Type 0) → Option Fault → Open → Type 0
+FoundIs C Q f o = Q (state_of o) × C (close f o [])
+
+-- what the open command, or the next one, is to keep in a unit
+abbrev pub OpenIs : (Closed → Type 0) → (State → Type 0) → Option Fault → ProgramPhase → Type 0
+OpenIs C Q f (Between p) = (code : ℕ) → BegunIs C Q (begin f code p.state)
+OpenIs C Q f (Looking o r) = LookIs C Q (FoundIs C Q f) (look f o)
+OpenIs C Q f (Moving o t) = C (close f o t.bytes)
+
+abbrev pub NextHas : (State → Type 0) → (Ending → Type 0) → Next → Type 0
+NextHas Q E n = NextIs (λ g. Q (state_in g)) (λ s e. E e) n
+
+module _ (C : Closed → Type 0) (Q : State → Type 0) (E : Ending → Type 0) (f : Option Fault) (key : ℕ) (goes : (c : Closed) → C c → Q c.state)
+    (ends : (p : Place) (c : Closed) (channel : ChannelStatus) → C c → E (ending f key p c channel)) where
+  pub choice_holds : (r : Request) (c : Closed) (channel : ChannelStatus) → C c → NextHas Q E (next_chosen (choice f key r c channel))
+  choice_holds r c channel h = go (goes_on_chaining r c channel) (record { storage = r.storage; place = past_modifier r.place c; state = c.state }) (goes c h)
+    where
+      go : (b : Bool) (q : Point) → Q q.state → NextHas Q E (next_chosen (cond b (Chains q) (Ends r.storage (ending f key r.place c channel))))
+      go true q k = k
+      go false q k = ends r.place c channel h
+
+  pub begun_holds : (r : Request) (b : AfterBegin) → BegunIs C Q b → NextHas Q E (next_begun f key r b)
+  begun_holds r (Rejected s) h = ends r.place (failed s) no_channel_status h
+  begun_holds r (Immediate s motion) h = choice_holds r (immediate s motion) no_channel_status h
+  begun_holds r (Started o) h = h
+
+  pub moved_holds : (o : Open) (t : Transfer) (u : TransferUnit) → StopsWith t.bytes u → Q (state_of o) → C (close f o t.bytes) → NextHas Q E (next_moved f key o t u)
+  moved_holds o t (Moves next) e h k = h
+  moved_holds o t (Stops next check) e h k = ends next.place (close f o next.bytes) check (subst (λ b. C (close f o b)) (sym e) k)
+  moved_holds o t Completes e h k = choice_holds (request_of t) (close f o t.bytes) (length_status o t (close f o t.bytes)) k
+
+  pub looked_holds : (r : Request) (l : AfterLook) → LookIs C Q (FoundIs C Q f) l → NextHas Q E (next_looked f key r l)
+  looked_holds r (Failed s) h = ends r.place (failed s) no_channel_status h
+  looked_holds r (Passed o) h = h
+  looked_holds r (Ready o) h = let t = first_transfer r in moved_holds o t (transfer_unit key o t) (stops_with key o t) h.0 h.1
+
+  pub unit_holds : (g : ProgramPhase) → C (untouched (state_in g)) → Q (state_in g) → OpenIs C Q f g → NextHas Q E (unit f key g)
+  unit_holds (Looking o r) c q h = looked_holds r (look f o) h
+  unit_holds (Moving o t) c q h = moved_holds o t (transfer_unit key o t) (stops_with key o t) q h
+  unit_holds (Between p) c q h = go (fetch p.storage p.place true)
+    where
+      go : (w : Fetched) → NextHas Q E (next_fetched f key p w)
+      go NoCcw = ends (past_no_ccw p.place) (untouched p.state) PROGRAM_CHECK c
+      go (TransferTo address) = q
+      go (GoodCcw ccw) = begun_holds (requested p ccw) (begin f ccw.code p.state) (h ccw.code)
+
+  pub cut_holds : (g : ProgramPhase) → C (untouched (state_in g)) → OpenIs C Q f g → E ((standing_in key g).cut f)
+  cut_holds (Between p) c h = ends p.place (untouched p.state) no_channel_status c
+  cut_holds (Looking o r) c h = ends r.place (untouched (state_of o)) no_channel_status c
+  cut_holds (Moving o t) c h = ends t.place (closed_by_cut f o t.bytes) no_channel_status (go t.bytes h)
+    where
+      go : (b : List ℕ) → C (close f o b) → C (closed_by_cut f o b)
+      go [] h = c
+      go (x ∷ b) h = h

@@ -1,5 +1,0 @@
-use Rattle.s360_runs.proofs.laws.fault_ends_phase.Goals as goal
-use Rattle.s360_runs.proofs.FaultsMet.{fault_ends_phase}
-
-pub returns : goal.returns
-returns c = fault_ends_phase
