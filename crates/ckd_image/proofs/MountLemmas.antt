@@ -1,7 +1,7 @@
 -- What the headers of files that are mounted say.
 use Rattle.std.proofs.Common.{◌≡◌, ℕ, ◌+◌, ◌-◌, ◌*◌, ◌/◌, ◌<◌, ◌≤◌, ◌^◌, Bool, true, false, not, ◌&&◌, ◌||◌, ◌==◌, nat_lt, nat_le, if◌then◌else◌, List, [], ◌∷◌, ◌++◌, length, take, map, Option, Some, None, Result, Ok, Err, bytes_eq, codes, refl, sym, ap, ◌∙◌, subst, lit<, lit≤, arith, length-append, length-drop}
 use Rattle.std.proofs.Math.Nat.{zero-add, zero-mul, mul_assoc, mul-div_cancel, add-mul, mul-le-mul_right}
-use Rattle.std.proofs.lemmas.Bool.{and_parts, or_parts, eqb-true, ltb-false, ltb-true, leb-true, eq-eqb, le-leb, lt-ltb, le-ltb}
+use Rattle.std.proofs.lemmas.Bool.{and_parts, or_parts, not-false, eqb-true, ltb-false, ltb-true, leb-true, eq-eqb, le-leb, lt-ltb, le-ltb}
 use Rattle.std.proofs.lemmas.List.{append_assoc, append-nil}
 use Rattle.std.specs.List.{AllByRecursion}
 use Rattle.ckd_track.specs.declared.model.DriveModel.{DriveModel}
@@ -10,10 +10,10 @@ use Rattle.ckd_track.specs.Model.{heads_of}
 use Rattle.ckd_track.specs.declared.geometries.Geometry.{Geometry}
 use Rattle.ckd_image.specs.declared.header.FileHeader.{FileHeader}
 use Rattle.ckd_image.specs.declared.fault.MountFault.{MountFault}
-use Rattle.ckd_image.specs.declared.fault.MountFault.TheVariants.{NotCkdP370, Compressed, DeviceType, Heads, TrackSize, Split, Length, StoreFault}
+use Rattle.ckd_image.specs.declared.fault.MountFault.TheVariants.{NotCkdP370, Compressed, Heads, TrackSize, Split, Length, StoreFault}
 use Rattle.ckd_track.specs.Geometry.{IsGeometry, tracks_of, least_track_size, new_geometry}
 use Rattle.ckd_image.specs.Layout.{image_length}
-use Rattle.ckd_image.specs.Header.{image_id, heads_field, track_size_field, device_type_field, file_sequence_field, highest_cylinder_field, model_of, Head, head_of, is_compressed, on_model, fields_of, header_of, is_part, are_parts, are_together, cylinders_of, cylinders_in, with_cylinders, with_model, volume_of, then_with, headers_of, mount_of, new_header}
+use Rattle.ckd_image.specs.Header.{image_id, heads_field, track_size_field, device_type_field, file_sequence_field, highest_cylinder_field, model_of, Head, head_of, is_compressed, on_model, fields_of, header_of, is_part, are_parts, are_together, cylinders_of, cylinders_in, with_cylinders, volume_of, then_with, headers_of, mount_of, new_header}
 use Rattle.ckd_image.specs.Files.{slot_bytes, HoldsWhole}
 use Rattle.ckd_image.specs.Image.{MountRefused, FilesRefused}
 
@@ -28,44 +28,29 @@ past : {A E : Type 0} (refused : Bool) (e : E) (r : Result A E) (g : A) → (if 
 past true e r g h = cc
 past false e r g h = (refl, h)
 
-some_if : (b : Bool) (c n : ℕ) → (if b then Some c else None) ≡ Some n → (b ≡ true) × (c ≡ n)
-some_if true c n h = (refl, cc)
-some_if false c n h = cc
+kept_if : (b : Bool) (o : Option ℕ) (n : ℕ) → (if b then o else None) ≡ Some n → (b ≡ true) × (o ≡ Some n)
+kept_if true o n e = (refl, e)
+kept_if false o n e = cc
 
 -- One file.
 
 -- what is known of a header that keeps the rules on one file
 record IsHeader (h : FileHeader) (len : ℕ) : Type 0 where
   pub is_len : h.len ≡ len
-  pub room : (model : DriveModel) → model_of h.device_type ≡ Some model → least_track_size model ≤ h.track_size
+  pub room : least_track_size h.model ≤ h.track_size
   pub limit : h.track_size ≤ 65536
-  pub some : 0 < h.track_size
 
-least_above : (model : DriveModel) → 0 < least_track_size model
-least_above D2311 = lit< tt
-least_above D2314 = lit< tt
-
-same_model : (o : Option DriveModel) (a b : DriveModel) → o ≡ Some a → o ≡ Some b → a ≡ b
-same_model o a b e f = cc
-
-on_model_header : (header : List ℕ) (len : ℕ) (o : Option DriveModel) (h : FileHeader) → model_of (device_type_field header) ≡ o → on_model header len o ≡ Ok h → IsHeader h len
-on_model_header header len None h found e = cc
-on_model_header header len (Some model) h found e =
+on_model_header : (header : List ℕ) (len : ℕ) (o : Option DriveModel) (h : FileHeader) → on_model header len o ≡ Ok h → IsHeader h len
+on_model_header header len None h e = cc
+on_model_header header len (Some model) h e =
     let size = track_size_field header in
-    let fields : FileHeader = record { device_type = device_type_field header; track_size = size; sequence = file_sequence_field header; highest_cylinder = highest_cylinder_field header; len = len } in
+    let fields : FileHeader = record { model = model; track_size = size; sequence = file_sequence_field header; highest_cylinder = highest_cylinder_field header; len = len } in
     let misfit = nat_lt size (least_track_size model) || nat_lt 65536 size in
     let a = past (not (heads_field header == heads_of model)) Heads (if misfit then Err TrackSize else Ok fields) h e in
     let b = past misfit TrackSize (Ok fields) h a.1 in
     let sizes = or_parts (nat_lt size (least_track_size model)) (nat_lt 65536 size) b.0 in
-    let least = ltb-false size (least_track_size model) sizes.0 in
-    let above = least_above model in
     let is : fields ≡ h = cc in
-    subst (λ (k : FileHeader). IsHeader k len) is (record {
-      is_len = refl;
-      room = λ other e. subst (λ (m : DriveModel). least_track_size m ≤ size) (same_model (model_of (device_type_field header)) model other found e) least;
-      limit = ltb-false 65536 size sizes.1;
-      some = omega arith;
-    })
+    subst (λ (k : FileHeader). IsHeader k len) is (record { is_len = refl; room = ltb-false size (least_track_size model) sizes.0; limit = ltb-false 65536 size sizes.1 })
 
 header_is : (f : Head) (h : FileHeader) → header_of f ≡ Ok h → IsHeader h f.len
 header_is f h e =
@@ -73,10 +58,7 @@ header_is f h e =
     let a = past (nat_lt f.len 512) Length (fields_of f.header f.len) h e in
     let b = past (is_compressed f.header) Compressed (if not (bytes_eq (image_id f.header) (codes "CKD_P370")) then Err NotCkdP370 else rest) h a.1 in
     let d = past (not (bytes_eq (image_id f.header) (codes "CKD_P370"))) NotCkdP370 rest h b.1 in
-    on_model_header f.header f.len (model_of (device_type_field f.header)) h refl d.1
-
-pub header_size : (f : Head) (h : FileHeader) → header_of f ≡ Ok h → 0 < h.track_size
-header_size f h e = (header_is f h e).some
+    on_model_header f.header f.len (model_of (device_type_field f.header)) h d.1
 
 -- All files.
 
@@ -102,10 +84,7 @@ read_by (Ok header) read headers file files found h next =
     }
 
 all_read : (files : List (List ℕ)) (read headers : List FileHeader) → headers_of read (map head_of files) ≡ Ok headers → AreRead read files headers
-all_read [] read headers h = record { rest = []; is = nil_behind read headers h; those = tt }
-  where
-    nil_behind : (read headers : List FileHeader) → ◌≡◌ {A = Result (List FileHeader) MountFault} (Ok read) (Ok headers) → headers ≡ read ++ []
-    nil_behind read headers e = let is : read ≡ headers = cc in sym is ∙ sym (append-nil read)
+all_read [] read headers h = record { rest = []; is = (let same : read ≡ headers = cc in sym same ∙ sym (append-nil read)); those = tt }
 all_read (file ∷ files) read headers h = read_by (header_of (head_of file)) read headers file files refl h (λ more e. all_read files more headers e)
 
 -- lengths of files that hold these cylinders together, of this many bytes each
@@ -126,13 +105,13 @@ record Joined (size before total : ℕ) (headers : List FileHeader) : Type 0 whe
 joined_last : (size before total : ℕ) (h : FileHeader) → cylinders_of size before h.len ≡ Some total → Joined size before total (h ∷ [])
 joined_last size before total h e =
     let c = (h.len - 512) / size in
-    let it = some_if ((512 + c * size == h.len) && (nat_le 1 c && nat_lt (before + c) 65536)) (before + c) total e in
+    let it = kept_if ((512 + c * size == h.len) && (nat_le 1 c && nat_lt (before + c) 65536)) (Some (before + c)) total e in
     let parts = and_parts (512 + c * size == h.len) (nat_le 1 c && nat_lt (before + c) 65536) it.0 in
     let rest = and_parts (nat_le 1 c) (nat_lt (before + c) 65536) parts.1 in
     let whole = eqb-true (512 + c * size) h.len parts.0 in
     let some = leb-true 1 c rest.0 in
     let limit = ltb-true (before + c) 65536 rest.1 in
-    let is = it.1 in
+    let is : before + c ≡ total = cc in
     record {
       above = omega arith;
       most = omega arith;
@@ -171,10 +150,6 @@ joined first n previous size before total (h ∷ g ∷ rest) order parts found =
     let it = kept_if (h.len == 512 + (h.highest_cylinder + 1 - before) * size) (cylinders_in size (h.highest_cylinder + 1) (g ∷ rest)) total found in
     joined_next size before total h (g ∷ rest) (omega arith) (eqb-true h.len (512 + (h.highest_cylinder + 1 - before) * size) it.0)
     (joined first (n + 1) h.highest_cylinder size (h.highest_cylinder + 1) total (g ∷ rest) (omega arith) b.1 it.1)
-  where
-    kept_if : (b : Bool) (o : Option ℕ) (n : ℕ) → (if b then o else None) ≡ Some n → (b ≡ true) × (o ≡ Some n)
-    kept_if true o n e = (refl, e)
-    kept_if false o n e = cc
 
 together : (size total : ℕ) (headers : List FileHeader) → are_together headers ≡ true → cylinders_in size 0 headers ≡ Some total → Joined size 0 total headers
 together size total [] is found = cc
@@ -234,17 +209,9 @@ volume_fits : (headers : List FileHeader) (files : List (List ℕ)) (g : Geometr
 volume_fits [] files g are e = cc
 volume_fits (first ∷ rest) [] g are e = absurd are
 volume_fits (first ∷ rest) (f ∷ fs) g are e =
-    let a = past (not (are_together (first ∷ rest))) Split (with_model first.track_size (first ∷ rest) (model_of first.device_type)) g e in
-    by (model_of first.device_type) refl (not_false (are_together (first ∷ rest)) a.0) a.1
-  where
-    not_false : (b : Bool) → not b ≡ false → b ≡ true
-    not_false true e = refl
-    not_false false e = cc
-
-    by : (o : Option DriveModel) → model_of first.device_type ≡ o → are_together (first ∷ rest) ≡ true → with_model first.track_size (first ∷ rest) o ≡ Ok g → FitsFiles g (f ∷ fs)
-    by None found is e = cc
-    by (Some model) found is e =
-        volume_by first.track_size (first ∷ rest) (f ∷ fs) model (cylinders_in (heads_of model * first.track_size) 0 (first ∷ rest)) g (are.0.room model found) are.0.limit is are refl e
+    let all = cylinders_in (heads_of first.model * first.track_size) 0 (first ∷ rest) in
+    let a = past (not (are_together (first ∷ rest))) Split (with_cylinders first.model first.track_size all) g e in
+    volume_by first.track_size (first ∷ rest) (f ∷ fs) first.model all g are.0.room are.0.limit (not-false (are_together (first ∷ rest)) a.0) are refl a.1
 
 mount_by : (o : Result (List FileHeader) MountFault) (files : List (List ℕ)) (g : Geometry) → headers_of [] (map head_of files) ≡ o → then_with o volume_of ≡ Ok g → FitsFiles g files
 mount_by (Err fault) files g found e = cc
@@ -261,54 +228,22 @@ size_some files g e = let room = (mount_fits files g e).is_geometry.room in omeg
 
 -- A refusal.
 
-no_fault : (model : DriveModel) (size : ℕ) (o : Option ℕ) → with_cylinders model size o ≡ Err StoreFault → ⊥
-no_fault model size None e = cc
-no_fault model size (Some n) e = cc
-
 rules_alone : (headers : List FileHeader) → volume_of headers ≡ Err StoreFault → ⊥
 rules_alone [] e = cc
-rules_alone (first ∷ rest) e = by (not (are_together (first ∷ rest))) (model_of first.device_type) e
+rules_alone (first ∷ rest) e = by (not (are_together (first ∷ rest))) (cylinders_in (heads_of first.model * first.track_size) 0 (first ∷ rest)) e
   where
-    by : (b : Bool) (o : Option DriveModel) → (if b then Err Split else with_model first.track_size (first ∷ rest) o) ≡ Err StoreFault → ⊥
+    by : (b : Bool) (o : Option ℕ) → (if b then Err Split else with_cylinders first.model first.track_size o) ≡ Err StoreFault → ⊥
     by true o e = cc
     by false None e = cc
-    by false (Some model) e = no_fault model first.track_size (cylinders_in (heads_of model * first.track_size) 0 (first ∷ rest)) e
-
-pub volume_refused : (files : List (List ℕ)) (headers : List FileHeader) (fault : MountFault) → headers_of [] (map head_of files) ≡ Ok headers → volume_of headers ≡ Err fault → (mount_of files ≡ Err fault) × (fault ≡ StoreFault → ⊥)
-volume_refused files headers fault found refused =
-    (ap (λ o. then_with o volume_of) found ∙ refused, λ is. rules_alone headers (refused ∙ ap Err is))
+    by false (Some n) e = cc
 
 pub one_refused : (file : List ℕ) (before now : ℕ) (header : FileHeader) (fault : MountFault) → header_of (head_of file) ≡ Ok header → volume_of (header ∷ []) ≡ Err fault → now ≡ before → MountRefused fault file before now
-one_refused file before now header fault found refused same = by fault both.0 both.1
-  where
-    both : (mount_of (file ∷ []) ≡ Err fault) × (fault ≡ StoreFault → ⊥)
-    both = volume_refused (file ∷ []) (header ∷ []) fault (ap (λ o. then_with o (λ h. Ok (h ∷ []))) found) refused
-
-    by : (fault : MountFault) → mount_of (file ∷ []) ≡ Err fault → (fault ≡ StoreFault → ⊥) → MountRefused fault file before now
-    by NotCkdP370 e other = (e, same)
-    by Compressed e other = (e, same)
-    by DeviceType e other = (e, same)
-    by Heads e other = (e, same)
-    by TrackSize e other = (e, same)
-    by Split e other = (e, same)
-    by Length e other = (e, same)
-    by StoreFault e other = absurd (other refl)
+one_refused file before now header StoreFault found refused same = absurd (rules_alone (header ∷ []) refused)
+one_refused file before now header fault found refused same = (ap (λ o. then_with (then_with o (λ h. Ok (h ∷ []))) volume_of) found ∙ refused, same)
 
 pub files_refused : (files : List (List ℕ)) (before now : List ℕ) (headers : List FileHeader) (fault : MountFault) → headers_of [] (map head_of files) ≡ Ok headers → volume_of headers ≡ Err fault → now ≡ before → FilesRefused fault files before now
-files_refused files before now headers fault found refused same = by fault both.0 both.1
-  where
-    both : (mount_of files ≡ Err fault) × (fault ≡ StoreFault → ⊥)
-    both = volume_refused files headers fault found refused
-
-    by : (fault : MountFault) → mount_of files ≡ Err fault → (fault ≡ StoreFault → ⊥) → FilesRefused fault files before now
-    by NotCkdP370 e other = (e, same)
-    by Compressed e other = (e, same)
-    by DeviceType e other = (e, same)
-    by Heads e other = (e, same)
-    by TrackSize e other = (e, same)
-    by Split e other = (e, same)
-    by Length e other = (e, same)
-    by StoreFault e other = absurd (other refl)
+files_refused files before now headers StoreFault found refused same = absurd (rules_alone headers refused)
+files_refused files before now headers fault found refused same = (ap (λ o. then_with o volume_of) found ∙ refused, same)
 
 -- A new file is mounted.
 

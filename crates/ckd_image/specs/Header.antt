@@ -75,7 +75,7 @@ on_model header len (Some model) =
     if not (heads_field header == heads_of model) then Err Heads
     else (if nat_lt size (least_track_size model) || nat_lt 65536 size then Err TrackSize
     else Ok (record {
-      device_type = device_type_field header;
+      model = model;
       track_size = size;
       sequence = file_sequence_field header;
       highest_cylinder = highest_cylinder_field header;
@@ -97,7 +97,7 @@ header_of f = if nat_lt f.len 512 then Err Length else fields_of f.header f.len
 
 -- this file belongs to the image of the first one, as the n-th
 abbrev pub is_part : FileHeader → ℕ → FileHeader → Bool
-is_part first n f = (f.sequence == n) && ((f.device_type == first.device_type) && (f.track_size == first.track_size))
+is_part first n f = (f.sequence == n) && ((device_type_of f.model == device_type_of first.model) && (f.track_size == first.track_size))
 
 -- these are the files of the first one's image from the n-th to the last; the one before them has
 -- this highest cylinder
@@ -134,16 +134,12 @@ with_cylinders model size None = Err Length
 with_cylinders model size (Some cylinders) =
     Ok (record { model = model; cylinders = cylinders; track_size = size })
 
-abbrev pub with_model : ℕ → List FileHeader → Option DriveModel → Result Geometry MountFault
-with_model size headers None = Err DeviceType
-with_model size headers (Some model) = with_cylinders model size (cylinders_in (heads_of model * size) 0 headers)
-
 -- the geometry of the image in these files, or the first rule on all of them that is broken
 abbrev pub volume_of : List FileHeader → Result Geometry MountFault
 volume_of [] = Err Split
 volume_of (first ∷ rest) =
     if not (are_together (first ∷ rest)) then Err Split
-    else with_model first.track_size (first ∷ rest) (model_of first.device_type)
+    else with_cylinders first.model first.track_size (cylinders_in (heads_of first.model * first.track_size) 0 (first ∷ rest))
 
 -- Mount.
 
