@@ -226,6 +226,9 @@ mount_fits files g e = mount_by (headers_of [] (map head_of files)) files g refl
 pub size_some : (files : List (List ℕ)) (g : Geometry) → mount_of files ≡ Ok g → 0 < g.track_size
 size_some files g e = let room = (mount_fits files g e).is_geometry.room in omega arith
 
+pub mounts_by : (files : List (List ℕ)) (headers : List FileHeader) (g : Geometry) → headers_of [] (map head_of files) ≡ Ok headers → volume_of headers ≡ Ok g → mount_of files ≡ Ok g
+mounts_by files headers g found e = ap (λ o. then_with o volume_of) found ∙ e
+
 -- A refusal.
 
 rules_alone : (headers : List FileHeader) → volume_of headers ≡ Err StoreFault → ⊥

@@ -2,6 +2,7 @@
 use Rattle.std.proofs.Common.{◌≡◌, Ok, ℕ, zero, suc, ◌+◌, ◌*◌, ◌≤◌, ◌<◌, max, List, [], ◌∷◌, ◌++◌, length, take, drop, map, All, refl, sym, lit≤, ap, ◌∙◌, subst, arith, length-append, length-drop}
 use Rattle.std.proofs.Math.Nat.{zero-add, zero-mul, suc-mul, mul-le-mul_right}
 use Rattle.std.proofs.lemmas.List.{append_assoc, append-nil, length-replicate, take_at, drop_at, drop-drop, drop_all}
+use Rattle.std.proofs.lemmas.List.Folds.{concat-append}
 use Rattle.std.proofs.lemmas.List.FromFn.{map-range_with_len_more, length-map-range_with_len, get_or-map-range_with_len}
 use Rattle.std.specs.List.{concat, range_with_len}
 use Rattle.ckd_track.specs.declared.model.DriveModel.{DriveModel}
@@ -31,10 +32,6 @@ length-new_header D2314 = refl
 pub length-new_slot : (g : Geometry) (n : ℕ) → 29 ≤ g.track_size → length (new_slot g n) ≡ g.track_size
 unfolding slot_of
 length-new_slot g n h = simp (length-append, length-replicate) (omega arith)
-
-concat-append : (xs ys : List (List ℕ)) → concat (xs ++ ys) ≡ concat xs ++ concat ys
-concat-append [] ys = refl
-concat-append (x ∷ xs) ys = ap (λ (s : List ℕ). x ++ s) (concat-append xs ys) ∙ sym (append_assoc x (concat xs) (concat ys))
 
 abbrev slots_begun : Geometry → ℕ → List ℕ
 slots_begun g n = concat (map (new_slot g) (range_with_len 0 n))
@@ -142,9 +139,9 @@ new_file_mounted model cylinders least most =
     let g = new_geometry model cylinders in
     new_file_mounts model cylinders (new_file g) least most (header-new_file g) (length-begun g (tracks_of g) (slot_room g refl))
 
-pub new_image_seen : (model : DriveModel) (cylinders : ℕ) (origin : List ℕ) (failures loads saves : ℕ) → loads ≡ 0 → saves ≡ 0 → seen (new_geometry model cylinders) (new_file (new_geometry model cylinders) ∷ []) (origin ∷ []) failures loads saves ≡ new_image model cylinders origin failures
-new_image_seen model cylinders origin failures loads saves no_loads no_saves =
+pub new_image_seen : (model : DriveModel) (cylinders : ℕ) (origin : List ℕ) (failures : ℕ) → seen (new_geometry model cylinders) (new_file (new_geometry model cylinders) ∷ []) (origin ∷ []) failures 0 0 ≡ new_image model cylinders origin failures
+new_image_seen model cylinders origin failures =
     let g = new_geometry model cylinders in
     let bytes : slot_bytes (new_file g ∷ []) ≡ drop 512 (new_file g) = append-nil (drop 512 (new_file g)) in
     let header : take 512 (new_file g) ++ [] ≡ new_header model = append-nil (take 512 (new_file g)) ∙ header-new_file g in
-    rw (bytes, slots-new_file g (slot_room g refl), header, no_loads, no_saves) refl
+    rw (bytes, slots-new_file g (slot_room g refl), header) refl

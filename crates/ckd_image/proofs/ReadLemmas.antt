@@ -86,56 +86,69 @@ module _ {S : Type 0} where
     pub there : All IsSome now
     pub same_length : length now ≡ length old
 
-  -- the head at the place of the file that is read now
-  record ReadNow (content : S → List ℕ) (old now : List (Option S)) (place : ℕ) : Type 0 where
+  -- what is known when the file at a place was read behind those before it
+  record ReadNow (content : S → List ℕ) (old now next : List (Option S)) (place : ℕ) : Type 0 where
     pub here : slice_index_or (map head_of (each content old)) place no_head ≡ head_of (held content [] (file_at now place))
     pub long : place < length (map head_of (each content old))
+    pub changed : Changed now next place
+    pub there : All IsSome next
 
-  read_now : (content origin : S → List ℕ) (failures : S → ℕ) (old now : List (Option S)) (place : ℕ) (read : List FileHeader) → All IsSome old → HeadersRead content origin failures old now place read → place < length now → ReadNow content old now place
-  read_now content origin failures old now place read all r below = record {
-    here = ap (λ (cs : List (List ℕ)). slice_index_or (map head_of cs) place no_head) (sym r.kept) ∙ head-each content now place r.there below;
-    long = rw (length-heads content old all, sym r.same_length) below;
-  }
+  read_now : (content origin : S → List ℕ) (failures : S → ℕ) (old now next : List (Option S)) (place : ℕ) (read : List FileHeader) → All IsSome old → HeadersRead content origin failures old now place read → place < length old → next ≡ set now place (file_at next place) → IsSome (file_at next place) → ReadNow content old now next place
+  read_now content origin failures old now next place read all r exists is some =
+      let below : place < length now = rw r.same_length exists in
+      record {
+        here = ap (λ (cs : List (List ℕ)). slice_index_or (map head_of cs) place no_head) (sym r.kept) ∙ head-each content now place r.there below;
+        long = rw (length-heads content old all) exists;
+        changed = record { exists = below; there = there_at now place r.there below; stays = some; is = is };
+        there = rw is (All-set IsSome now place (file_at next place) some r.there);
+      }
 
-  pub one_more_header : (content origin : S → List ℕ) (failures : S → ℕ) (old now next : List (Option S)) (place : ℕ) (read : List FileHeader) (h : FileHeader) → All IsSome old → HeadersRead content origin failures old now place read → Changed now next place → held content [] (file_at next place) ≡ held content [] (file_at now place) → held origin [] (file_at next place) ≡ held origin [] (file_at now place) → held failures 0 (file_at next place) ≡ held failures 0 (file_at now place) → header_of (head_of (held content [] (file_at now place))) ≡ Ok h → 0 < h.track_size → HeadersRead content origin failures old next (place + 1) (read ++ h ∷ [])
-  one_more_header content origin failures old now next place read h all r x same_content same_origin same_failures header size =
-      let n = read_now content origin failures old now place read all r x.exists in
+  pub one_more_header : (content origin : S → List ℕ) (failures : S → ℕ) (old now next : List (Option S)) (place : ℕ) (read : List FileHeader) (h : FileHeader) → All IsSome old → HeadersRead content origin failures old now place read → place < length old → next ≡ set now place (file_at next place) → IsSome (file_at next place) → held content [] (file_at next place) ≡ held content [] (file_at now place) → held origin [] (file_at next place) ≡ held origin [] (file_at now place) → held failures 0 (file_at next place) ≡ held failures 0 (file_at now place) → header_of (head_of (held content [] (file_at now place))) ≡ Ok h → 0 < h.track_size → HeadersRead content origin failures old next (place + 1) (read ++ h ∷ [])
+  one_more_header content origin failures old now next place read h all r exists is some same_content same_origin same_failures header size =
+      let n = read_now content origin failures old now next place read all r exists is some in
       let count = r.count in
       record {
-        kept = each_same content [] now next place x same_content ∙ r.kept;
-        same = each_same origin [] now next place x same_origin ∙ r.same;
-        none = each_same failures 0 now next place x same_failures ∙ r.none;
+        kept = each_same content [] now next place n.changed same_content ∙ r.kept;
+        same = each_same origin [] now next place n.changed same_origin ∙ r.same;
+        none = each_same failures 0 now next place n.changed same_failures ∙ r.none;
         front = rw add-one (headers_next (map head_of (each content old)) place [] read h n.long r.front (rw n.here header));
         sizes = All-push (λ h. 0 < h.track_size) read h r.sizes size;
         count = simp length-append (omega arith);
-        there = rw x.is (All-set IsSome now place (file_at next place) x.stays r.there);
-        same_length = rw x.is (length-set now place (file_at next place)) ∙ r.same_length;
+        there = n.there;
+        same_length = ap length is ∙ length-set now place (file_at next place) ∙ r.same_length;
       }
 
-  pub headers_refused : (content origin : S → List ℕ) (failures : S → ℕ) (old now next : List (Option S)) (place : ℕ) (read : List FileHeader) (fault : MountFault) → All IsSome old → HeadersRead content origin failures old now place read → Changed now next place → HeaderRefused fault (held content [] (file_at now place)) (held failures 0 (file_at now place)) (held failures 0 (file_at next place)) → HeadersRefused fault (map head_of (each content old)) (each failures old) (each failures next)
-  headers_refused content origin failures old now next place read StoreFault all r x refused =
-      let n = read_now content origin failures old now place read all r x.exists in
-      record {
+  -- after a header that was not read
+  pub record HeaderMissed (content origin : S → List ℕ) (failures : S → ℕ) (old next : List (Option S)) (fault : MountFault) : Type 0 where
+    pub err : HeadersRefused fault (map head_of (each content old)) (each failures old) (each failures next)
+    pub kept : each content next ≡ each content old
+    pub same : each origin next ≡ each origin old
+    pub there : All IsSome next
+
+  pub header_missed : (content origin : S → List ℕ) (failures : S → ℕ) (old now next : List (Option S)) (place : ℕ) (read : List FileHeader) (fault : MountFault) → All IsSome old → HeadersRead content origin failures old now place read → place < length old → next ≡ set now place (file_at next place) → IsSome (file_at next place) → held content [] (file_at next place) ≡ held content [] (file_at now place) → held origin [] (file_at next place) ≡ held origin [] (file_at now place) → HeaderRefused fault (held content [] (file_at now place)) (held failures 0 (file_at now place)) (held failures 0 (file_at next place)) → HeaderMissed content origin failures old next fault
+  header_missed content origin failures old now next place read fault all r exists is some same_content same_origin refused = record {
+    err = by fault refused;
+    kept = each_same content [] now next place n.changed same_content ∙ r.kept;
+    same = each_same origin [] now next place n.changed same_origin ∙ r.same;
+    there = n.there;
+  }
+    where
+      n : ReadNow content old now next place
+      n = read_now content origin failures old now next place read all r exists is some
+
+      by : (fault : MountFault) → HeaderRefused fault (held content [] (file_at now place)) (held failures 0 (file_at now place)) (held failures 0 (file_at next place)) → HeadersRefused fault (map head_of (each content old)) (each failures old) (each failures next)
+      by StoreFault e = record {
         place = place;
         there = n.long;
         front = rw r.front refl;
-        long = rw n.here refused.0;
-        counted = ap (each failures) x.is ∙ put-each failures 0 now place (file_at next place) r.there x.stays x.exists
-            ∙ ap (set (each failures now) place) (refused.1 ∙ ap (λ (n : ℕ). n + 1) (sym (get-each failures 0 now place r.there x.exists)))
+        long = rw n.here e.0;
+        counted = ap (each failures) is ∙ put-each failures 0 now place (file_at next place) r.there some n.changed.exists
+            ∙ ap (set (each failures now) place) (e.1 ∙ ap (λ (k : ℕ). k + 1) (sym (get-each failures 0 now place r.there n.changed.exists)))
             ∙ ap (λ (ns : List ℕ). set ns place (slice_index_or ns place 0 + 1)) r.none;
       }
-  headers_refused content origin failures old now next place read fault all r x refused =
-      let n = read_now content origin failures old now place read all r x.exists in
-      (headers_fault (map head_of (each content old)) place [] read fault n.long r.front (rw n.here refused.0), each_same failures 0 now next place x refused.1 ∙ r.none)
+      by fault e = (headers_fault (map head_of (each content old)) place [] read fault n.long r.front (rw n.here e.0), each_same failures 0 now next place n.changed e.1 ∙ r.none)
 
   -- Counting, and lists.
-
-  pub whole_at : (content : S → List ℕ) (size : ℕ) (files : List (Option S)) (place : ℕ) → AllByRecursion (HoldsWhole size) (each content files) → place < length files → AllByRecursion (HoldsWhole size) (each content (file_at files place ∷ []))
-  whole_at content size [] place whole h = absurd (omega arith)
-  whole_at content size (None ∷ files) zero whole h = tt
-  whole_at content size (Some s ∷ files) zero whole h = (whole.0, tt)
-  whole_at content size (None ∷ files) (suc place) whole h = whole_at content size files place whole (omega arith)
-  whole_at content size (Some s ∷ files) (suc place) whole h = whole_at content size files place whole.1 (omega arith)
 
   pub counted_one : (content : S → List ℕ) (size len : ℕ) (f : Option S) (s : S) → f ≡ Some s → len ≡ length (content s) → 0 < size → AllByRecursion (HoldsWhole size) (each content (f ∷ [])) → HoldTracks content size (f ∷ []) ((len - 512) / size ∷ [])
   counted_one content size len None s is long some whole = cc
@@ -154,6 +167,9 @@ module _ {S : Type 0} where
   each-append f (None ∷ xs) ys = each-append f xs ys
   each-append f (Some s ∷ xs) ys = ap (λ ts. f s ∷ ts) (each-append f xs ys)
 
+  pub each_pushed : {T : Type 0} (f : S → T) (old now : List (Option S)) (file : Option S) → now ≡ old ++ file ∷ [] → each f now ≡ each f old ++ each f (file ∷ [])
+  each_pushed f old now file is = ap (each f) is ∙ each-append f old (file ∷ [])
+
   -- the files of a list and none behind them
   pub each-filled : {T : Type 0} (f : S → T) (xs : List (Option S)) (n : ℕ) → each f (xs ++ replicate n None) ≡ each f xs
   each-filled f xs n = each-append f xs (replicate n None) ∙ ap (λ ts. each f xs ++ ts) (none_each n) ∙ append-nil (each f xs)
@@ -167,9 +183,9 @@ module _ {S : Type 0} where
       now_is ∙ ap (λ xs. xs ++ each f (file ∷ [])) so_far ∙ ap (λ x. each f (take place files) ++ each f (x ∷ [])) is
       ∙ sym (ap (λ (k : ℕ). each f (take k files)) (add-one place) ∙ ap (each f) (take-suc files place None below) ∙ each-append f (take place files) (file_at files place ∷ []))
 
-  -- the files of a list once its slice was changed, and none behind them
-  pub each-array : {T : Type 0} (f : S → T) (old new : List (Option S)) (n : ℕ) → length new ≡ length old → each f (take (length old) (new ++ drop (length new) old) ++ replicate n None) ≡ each f new
-  each-array f old new n long = each-filled f (take (length old) (new ++ drop (length new) old)) n ∙ ap (each f) (take_at new (drop (length new) old) (length old) long)
+  -- the files of a list whose slice was lent and may have changed; and with none behind them
+  pub each-lent : {T : Type 0} (f : S → T) (items lent new : List (Option S)) → lent ≡ items → length new ≡ length lent → each f new ≡ each f lent → each f (take (length items) (new ++ drop (length new) items)) ≡ each f items
+  each-lent f items lent new is long kept = ap (each f) (take_at new (drop (length new) items) (length items) (long ∙ ap length is)) ∙ kept ∙ ap (each f) is
 
-  pub each-slice : {T : Type 0} (f : S → T) (old new : List (Option S)) → length new ≡ length old → each f (take (length old) (new ++ drop (length new) old)) ≡ each f new
-  each-slice f old new long = ap (each f) (take_at new (drop (length new) old) (length old) long)
+  pub each-array : {T : Type 0} (f : S → T) (items lent new files : List (Option S)) (n : ℕ) → lent ≡ items → length new ≡ length lent → each f new ≡ each f lent → files ≡ take (length items) (new ++ drop (length new) items) ++ replicate n None → each f files ≡ each f items
+  each-array f items lent new files n is long kept files_are = rw files_are (each-filled f (take (length items) (new ++ drop (length new) items)) n) ∙ each-lent f items lent new is long kept

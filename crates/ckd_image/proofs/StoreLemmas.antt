@@ -1,6 +1,7 @@
 -- The stores of an image's files, each in a field of its own.
 use Rattle.std.proofs.Common.{◌≡◌, ◌∙◌, ℕ, ◌+◌, ◌≤◌, List, [], ◌∷◌, length, Option, Some, None, set, refl, arith}
-use Rattle.ckd_image.specs.Files.{file_at, HoldTracks}
+use Rattle.std.specs.List.{AllByRecursion}
+use Rattle.ckd_image.specs.Files.{file_at, each, HoldTracks, HoldsWhole}
 use Rattle.ckd_image.proofs.ReadLemmas.{others-set}
 
 module _ {S : Type 0} where
@@ -25,3 +26,12 @@ module _ {S : Type 0} where
   pub holds_more : (content : S → List ℕ) (size : ℕ) (file : Option S) (n : ℕ) (files : List (Option S)) (tracks : List ℕ) → HoldTracks content size (file ∷ []) (n ∷ []) → HoldTracks content size files tracks → HoldTracks content size (file ∷ files) (n ∷ tracks)
   holds_more content size None n files tracks one rest = (one.0, rest)
   holds_more content size (Some s) n files tracks one rest = (one.0, rest)
+
+  -- Each of several files is whole.
+  pub first_whole : (content : S → List ℕ) (size : ℕ) (f : Option S) (files : List (Option S)) → AllByRecursion (HoldsWhole size) (each content (f ∷ files)) → AllByRecursion (HoldsWhole size) (each content (f ∷ []))
+  first_whole content size None files whole = tt
+  first_whole content size (Some s) files whole = (whole.0, tt)
+
+  pub others_whole : (content : S → List ℕ) (size : ℕ) (f : Option S) (files : List (Option S)) → AllByRecursion (HoldsWhole size) (each content (f ∷ files)) → AllByRecursion (HoldsWhole size) (each content files)
+  others_whole content size None files whole = whole
+  others_whole content size (Some s) files whole = whole.1

@@ -175,6 +175,7 @@ pub(crate) fn in_array<S: ImageStore>(
 }
 
 /// Appends a file to a list, if it is there.
+#[tactic(auto, using(crate::proofs::ReadLemmas::each_pushed))]
 fn append<S: ImageStore>(stores: &mut ArrayVec<Option<S>, MOST_FILES>, file: Option<S>)
     requires room { array_vec_len stores.old < 8 }
     requires there { All IsSome stores.old.items }

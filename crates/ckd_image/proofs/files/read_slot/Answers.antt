@@ -1,12 +1,8 @@
-use Rattle.std.proofs.Common.{◌≡◌, ◌∙◌, ◌+◌, ℕ, List, length, ap, sym, [], slice_range, Result, Ok, Err, OnOk}
-use Rattle.ckd_image.specs.declared.store.StoreFault.{StoreFault}
+use Rattle.std.proofs.Common.{◌∙◌, ◌+◌, ℕ, length, ap, sym, [], slice_range}
+use Rattle.std.proofs.lemmas.Result.{on_ok_weaker}
 use Rattle.ckd_image.specs.Files.{file_at, held, listed}
 use Rattle.ckd_image.proofs.FileLemmas.{located_at, range_located, Changed, each_same, tracks_same, counted_all}
 use Rattle.ckd_image.proofs.files.read_slot.Goals as goal
-
-read_part : (r : Result (Unit {0}) StoreFault) (read part slot : List ℕ) → part ≡ slot → OnOk r (read ≡ part) → OnOk r (read ≡ slot)
-read_part (Ok v) read part slot is given = given ∙ is
-read_part (Err e) read part slot is given = tt
 
 pub read_store-requires : goal.read_store-requires
 read_store-requires g c =
@@ -24,7 +20,7 @@ returns g c =
     let x : Changed files new p.file = record { exists = l.exists; there = l.there; stays = e.there; is = e.files } in
     let range = ap (λ (n : ℕ). slice_range (held content [] (file_at files p.file)) c.slot_start.result (c.slot_start.result + n)) c.requires.whole ∙ range_located content c.args.size files c.args.track c.slot_start.result p l c.slot_start.ensures in
     record {
-      read = read_part c.read_store.result c.read_store.new.into _ _ range e.read;
+      read = on_ok_weaker c.read_store.result (λ read. read ∙ range) e.read;
       one = rw (← c.place_of-place.ensures.place) e.files;
       kept = each_same content [] files new p.file x e.kept;
       held = tracks_same content c.args.size files new c.args.tracks.now p.file x c.requires.held (ap length e.kept);
