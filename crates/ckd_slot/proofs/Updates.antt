@@ -1,6 +1,6 @@
 -- Slots whose area is written bit by bit.
 use Rattle.std.proofs.Common.{◌≡◌, ◌∙◌, ap, sym, subst, refl, ℕ, zero, suc, ◌+◌, ◌-◌, ◌≤◌, ◌<◌, max, false, Option, Some, None, List, ◌∷◌, ◌++◌, length, take, drop, flat_map, replicate, length-append, append_assoc, Ok, arith}
-use Rattle.std.proofs.lemmas.List.{length-replicate, drop_at, take-append-drop}
+use Rattle.std.proofs.lemmas.List.{length-replicate, replicate-append-replicate, drop_at, take-append-drop}
 use Rattle.ckd_track.specs.Track.{Track, track_of, track_in, track_or_none, record_in, record_bytes, spelling, slot_of, end_mark}
 use Rattle.ckd_track.specs.Changes.{end_offset, overwritten, ended_at}
 use Rattle.ckd_track.proofs.Slots.{slot_of_spells, slot_of_reads, length-slot_of}
@@ -71,7 +71,7 @@ padded_on head tail passed more room le =
     let m = length passed in
     let k = length more in
     let rest = room - m - k in
-    let split : replicate (room - m) 0 ≡ replicate k 0 ++ replicate rest 0 = (let e : room - m ≡ k + rest = omega (arith, le) in ap (λ (n : ℕ). replicate n 0) e ∙ replicate-add k rest 0) in
+    let split : replicate (room - m) 0 ≡ replicate k 0 ++ replicate rest 0 = (let e : room - m ≡ k + rest = omega (arith, le) in ap (λ (n : ℕ). replicate n 0) e ∙ sym (replicate-append-replicate k rest 0)) in
     let old : head ++ (padded passed room ++ tail) ≡ (head ++ passed) ++ (replicate k 0 ++ (replicate rest 0 ++ tail)) =
     ap (λ (z : List ℕ). head ++ ((passed ++ z) ++ tail)) split ∙ regroup_old head passed (replicate k 0) (replicate rest 0) tail in
     let front : length (head ++ passed) ≡ length head + m = length-append head passed in
@@ -84,10 +84,6 @@ padded_on head tail passed more room le =
 
     regroup_new : (h p m y t : List ℕ) → (h ++ p) ++ (m ++ (y ++ t)) ≡ h ++ (((p ++ m) ++ y) ++ t)
     regroup_new h p m y t = simp append_assoc
-
-    replicate-add : (a b x : ℕ) → replicate (a + b) x ≡ replicate a x ++ replicate b x
-    replicate-add zero b x = (let e : 0 + b ≡ b = omega arith in rw e refl)
-    replicate-add (suc a) b x = (let e : suc a + b ≡ suc (a + b) = omega arith in rw e (ap (λ (z : List ℕ). x ∷ z) (replicate-add a b x)))
 
 -- A slot of this size that was made of a track whose records are as long as those of another.
 pub same_records : (size : ℕ) (old new : List ℕ) (t : Track) → track_of old ≡ Ok (track_in old) → FitsSlot size t → new ≡ slot_of size t → lengths_on t ≡ lengths_on (track_in old) → SameRecords old new
