@@ -1,8 +1,7 @@
 -- What writes leave of the slot and of the table.
 use Rattle.std.proofs.Common.{◌≡◌, ◌∙◌, ap, sym, subst, refl, inl, inr, ◌⊎◌, ℕ, zero, suc, ◌+◌, ◌-◌, ◌/◌, ◌^◌, ◌≤◌, ◌<◌, min, List, [], ◌∷◌, ◌++◌, Bool, true, false, length, take, drop, set, flat_map, replicate, slice_index, bytes_eq, length-append, length-take, length-set, append-nil, Option, Some, None, Ok, unwrap_or, All, sum_by, add-one, arith}
 use Rattle.std.specs.Option.{ForSome}
-use Rattle.std.proofs.lemmas.Bool.{cases_lt}
-use Rattle.std.proofs.lemmas.List.{length-replicate, take_all, take_at, take-take, take_more_set, get_or_at}
+use Rattle.std.proofs.lemmas.List.{length-replicate, take_min, take_at, take-take, take_more_set, get_or_at}
 use Rattle.std.proofs.lemmas.List.Folds.{length-flat_map-take}
 use Rattle.std.proofs.Math.Seq.{map-set_same}
 use Rattle.std.proofs.lemmas.List.Elements.{All-set, All-nil, All-take, All-push, All-replicate}
@@ -51,15 +50,6 @@ later_end slot k at r some there =
 pub end_room : (slot : List ℕ) (k : ℕ) → Reads slot → end_of_records (track_in slot) k + 8 ≤ length slot
 end_room slot k r = place-le slot (track_in slot) r.spells k
 
--- The kept records.
-
-pub take_min : (rs : List Record) (i : ℕ) → 0 < length rs → take (min i (length rs - 1) + 1) rs ≡ take (i + 1) rs
-take_min rs i some = by_order (cases_lt i (length rs))
-  where
-    by_order : (i < length rs) ⊎ (length rs ≤ i) → take (min i (length rs - 1) + 1) rs ≡ take (i + 1) rs
-    by_order (inl lt) = (let e : min i (length rs - 1) ≡ i = omega arith in rw e refl)
-    by_order (inr le) = (let e : min i (length rs - 1) + 1 ≡ length rs = omega arith in rw (e, take_all (length rs) rs (omega arith)) (sym (take_all (i + 1) rs (omega arith))))
-
 -- A slot that was made of a track.
 
 pub indexed_slot : (size : ℕ) (t : Track) (offsets : List ℕ) (n : ℕ) → FitsSlot size t → (size - 5) / 8 ≤ length offsets → size < 2 ^ 32 → n ≤ length offsets → take n offsets ≡ record_offsets t → IsIndexed (slot_of size t) offsets (Some n)
@@ -90,8 +80,9 @@ pub records_are : (slot offsets : List ℕ) (records : Option ℕ) (m : ℕ) →
 records_are slot offsets (Some n) m x r e = e ∙ how_many slot offsets n x.read
 records_are slot offsets None m x r e = absurd (let no : is_readable (track_of slot) ≡ false = x.read in cc)
 
-pub kept_least : (slot : List ℕ) (n i m : ℕ) → n ≡ length (track_in slot).records → (n ≡ 0 → ⊥) → m ≡ min i (n - 1) → take (m + 1) (track_in slot).records ≡ take (i + 1) (track_in slot).records
-kept_least slot n i m e some least = (let same : m ≡ min i (length (track_in slot).records - 1) = rw e at least in rw same (take_min (track_in slot).records i (omega (arith, e, some))))
+-- where it would be behind the last one, it is the last one that a record is kept up to
+pub kept_least : (rs : List Record) (n i m : ℕ) → n ≡ length rs → (n ≡ 0 → ⊥) → m ≡ min i (n - 1) → take (m + 1) rs ≡ take (i + 1) rs
+kept_least rs n i m e some least = (let last : m + 1 ≡ min (i + 1) (length rs) = omega (arith, e, some, least) in rw last (take_min (i + 1) rs))
 
 -- A new record.
 
@@ -281,16 +272,6 @@ record_end : (slot : List ℕ) (t : Track) (i : ℕ) → Spells slot t → i < l
 record_end slot t i s lt =
     omega (arith, offset_is slot t s i lt, length-flat_map-take record_bytes t.records i no_record lt, length-record_bytes (record_in t i) (s.records i no_record lt))
 
-pub data_updated : (slot : List ℕ) (t : Track) (i : ℕ) (body : List ℕ) → Spells slot t → i < length t.records → length body ≡ length (record_in t i).data_area → IsUpdated slot t (data_offset t i) body (with_data i body t)
-data_updated slot t i body s lt same =
-    updated_by slot t i (data_offset t i) body (record (record_in t i) { data_area = body }) s lt (omega (arith, record_end slot t i s lt, same)) (data_is_record slot t s i lt body same) (ap (λ (n : ℕ). let l : ℕ × ℕ = (length (record_in t i).key_area, n) in l) same) (data_slot slot t s i lt body same)
-
-pub key_data_updated : (slot : List ℕ) (t : Track) (i : ℕ) (body : List ℕ) → Spells slot t → i < length t.records → length body ≡ length (record_in t i).key_area + length (record_in t i).data_area
-    → IsUpdated slot t (slice_index (record_offsets t) i + 8) body (with_key_data i body t)
-key_data_updated slot t i body s lt same =
-    let l = body_lengths slot t s i lt body same in
-    updated_by slot t i (slice_index (record_offsets t) i + 8) body (with_body body (record_in t i)) s lt (omega (arith, record_end slot t i s lt, same)) (body_is_record slot t s i lt body same) (rw (l.key_area, l.data_area) refl) (key_data_slot slot t s i lt body same)
-
 -- The window of an update, and the record with other bytes in it.
 abbrev pub update_offset : Extent → Track → ℕ → ℕ
 update_offset extent.KeyAndData t i = slice_index (record_offsets t) i + 8
@@ -306,8 +287,13 @@ padded_whole b n e = (let z : n - length b ≡ 0 = omega (arith, e) in rw z (app
 -- a record that gets all the bytes of its area
 pub update_is : (e : Extent) (slot : List ℕ) (t : Track) (part : Part) (i : ℕ) (body : List ℕ) → IsUpdate e → Spells slot t → i < length t.records → length body ≡ update_length e (record_in t i)
     → IsUpdated slot t (update_offset e t i) body (with_record_changed (replaced e body) (Of part i) t)
-update_is extent.Data slot t part i body u s lt same = rw (padded_whole body (length (record_in t i).data_area) same) (data_updated slot t i body s lt same)
-update_is extent.KeyAndData slot t part i body u s lt same = rw (padded_whole body (length (record_in t i).key_area + length (record_in t i).data_area) same) (key_data_updated slot t i body s lt same)
+update_is extent.Data slot t part i body u s lt same =
+    rw (padded_whole body (length (record_in t i).data_area) same)
+    (updated_by slot t i (data_offset t i) body (record (record_in t i) { data_area = body }) s lt (omega (arith, record_end slot t i s lt, same)) (data_is_record slot t s i lt body same) (ap (λ (n : ℕ). let l : ℕ × ℕ = (length (record_in t i).key_area, n) in l) same) (data_slot slot t s i lt body same))
+update_is extent.KeyAndData slot t part i body u s lt same =
+    let l = body_lengths slot t s i lt body same in
+    rw (padded_whole body (length (record_in t i).key_area + length (record_in t i).data_area) same)
+    (updated_by slot t i (slice_index (record_offsets t) i + 8) body (with_body body (record_in t i)) s lt (omega (arith, record_end slot t i s lt, same)) (body_is_record slot t s i lt body same) (rw (l.key_area, l.data_area) refl) (key_data_slot slot t s i lt body same))
 update_is e slot t part i body u s lt same = absurd u
 
 pub update_place : (e : Extent) (t : Track) (part : Part) (i : ℕ) (w : Window) → IsUpdate e → i < length t.records → IsPlaceOf e t (Of part i) w → (w.start ≡ update_offset e t i) × (w.len ≡ update_length e (record_in t i))

@@ -250,6 +250,14 @@ impl TrackBuffer {
         }
     }
 
+    // How many records there are.
+    fn count(&self) -> usize
+        requires { is_readable (track_of self.now) ≡ true }
+        ensures { result ≡ length (track_in self.now).records }
+    {
+        self.records.unwrap_or(0)
+    }
+
     // Where record `i` stands, if it is there.
     fn offset_of(&self, i: usize) -> Option<usize>
         requires { is_readable (track_of self.now) ≡ true }
@@ -291,7 +299,7 @@ impl TrackBuffer {
         let Some(i) = record_before(after) else {
             return None;
         };
-        let n = self.records.unwrap_or(0);
+        let n = self.count();
         if n == 0 {
             return None;
         }
@@ -350,7 +358,7 @@ impl TrackBuffer {
         ensures size { length self.new ≡ length self.old }
     {
         let window = self.window(extent, area);
-        let end = self.end_of(self.records.unwrap_or(0));
+        let end = self.end_of(self.count());
         clear_area(
             &mut self.slot,
             window.start,

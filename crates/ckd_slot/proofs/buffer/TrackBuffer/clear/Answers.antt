@@ -4,35 +4,22 @@ use Rattle.std.proofs.lemmas.List.{with_items_is, length-replicate}
 use Rattle.ckd_track.specs.Track.{track_in, slot_of}
 use Rattle.ckd_position.specs.Contents.{with_record_changed, replaced}
 use Rattle.ckd_slot.proofs.AreaPlaces.{reads}
-use Rattle.ckd_slot.proofs.Writes.{records_are, Clears, clear_is, same_indexed, same_charged}
+use Rattle.ckd_slot.proofs.Writes.{Clears, clear_is, same_indexed, same_charged}
 use Rattle.ckd_track.proofs.Zeros.{ended_zeros}
 use Rattle.ckd_slot.proofs.buffer.TrackBuffer.clear.Goals as goal
 
-pub end_of-end-requires-clause-there : goal.end_of-end-requires-clause-there
-end_of-end-requires-clause-there c =
-    let i = c.self.inside in
-    let s = c.args.self.now in
-    let x = rw c.self.view_is at c.self.invariant in
-    omega (arith, records_are s i.offsets.items i.records c.unwrap_or.result x.indexed c.requires.readable c.unwrap_or.ensures)
-
 pub clear_area-requires-clause-area : goal.clear_area-requires-clause-area
 clear_area-requires-clause-area c =
-    let i = c.self.inside in
-    let s = c.args.self.now in
     let x = rw c.self.view_is at c.self.invariant in
-    let r = reads s i.offsets.items i.records x.indexed c.requires.readable in
-    let n = records_are s i.offsets.items i.records c.unwrap_or.result x.indexed c.requires.readable c.unwrap_or.ensures in
-    (clear_is c.args.extent s c.args.area c.window-window.result c.end_of-end.result c.requires.update r.spells c.requires.there c.window-window.ensures.place (rw n at c.end_of-end.ensures.place)).within
+    let r = reads c.args.self.now c.self.inside.offsets.items c.self.inside.records x.indexed c.requires.readable in
+    (clear_is c.args.extent c.args.self.now c.args.area c.window-window.result c.end_of-end.result c.requires.update r.spells c.requires.there c.window-window.ensures.place (rw c.count.ensures at c.end_of-end.ensures.place)).within
 
 -- the slot of the changed track, which was written
 cleared : (c : goal.After-self-2-1) → Clears c.args.extent c.args.self.now c.args.area c.window-window.result c.end_of-end.result
 cleared c =
-    let i = c.self.inside in
-    let s = c.args.self.now in
     let x = rw c.self.view_is at c.self.invariant in
-    let r = reads s i.offsets.items i.records x.indexed c.requires.readable in
-    let n = records_are s i.offsets.items i.records c.unwrap_or.result x.indexed c.requires.readable c.unwrap_or.ensures in
-    clear_is c.args.extent s c.args.area c.window-window.result c.end_of-end.result c.requires.update r.spells c.requires.there c.window-window.ensures.place (rw n at c.end_of-end.ensures.place)
+    let r = reads c.args.self.now c.self.inside.offsets.items c.self.inside.records x.indexed c.requires.readable in
+    clear_is c.args.extent c.args.self.now c.args.area c.window-window.result c.end_of-end.result c.requires.update r.spells c.requires.there c.window-window.ensures.place (rw c.count.ensures at c.end_of-end.ensures.place)
 
 made : (c : goal.After-self-2-1) → c.clear_area.new.slot ≡ slot_of (length c.args.self.now) (with_record_changed (replaced c.args.extent []) c.args.area (track_in c.args.self.now))
 made c = rw (c.deref_mut.ensures.value ∙ c.self.view_is) at c.clear_area.ensures ∙ (cleared c).law
