@@ -9,13 +9,14 @@ use Rattle.std.proofs.lemmas.List.{take_at, drop_at, get_or_past, get_or-take}
 use Rattle.std.proofs.lemmas.Grind.{get_or_default_zero}
 use Rattle.ckd_track.specs.Track.{Record, Track, Spells, track_of, track_in, record_in, no_record, record_bytes, count_area, key_length, data_length}
 use Rattle.ckd_track.proofs.Spelled.{reads_back}
-use Rattle.ckd_track.proofs.Offsets.{stands, parts_at, StandsAt, home_is, length-offsets_from}
+use Rattle.ckd_track.proofs.Offsets.{stands, parts_at, PartsAt, StandsAt, home_is, length-offsets_from}
+use Rattle.ckd_slot.specs.declared.charges.Charged.{Charged}
 use Rattle.ckd_position.specs.declared.areas.Area.TheVariants.{HomeAddress, Of}
 use Rattle.ckd_position.specs.declared.areas.Part.{Part}
 use Rattle.ckd_position.specs.declared.extents.Extent.{Extent}
 use Rattle.ckd_position.specs.declared.extents.Extent.TheVariants as extent
 use Rattle.ckd_position.specs.Contents.{Sighted, bytes_of, record_on, records_on, is_readable}
-use Rattle.ckd_slot.specs.Buffer.{Lies, Tabled, IsRead, IsIndexed, HasBytes, StandsThere, home_address_place, record_place}
+use Rattle.ckd_slot.specs.Buffer.{Lies, Tabled, IsRead, IsBuffer, HasBytes, StandsThere, home_address_place, record_place}
 
 pub read_as : (slot : List ℕ) → Spells slot (track_in slot) → 5 ≤ length slot
 read_as slot s = omega (arith, ap length (home_is slot (track_in slot) s), length-take 5 slot, s.home_address)
@@ -75,28 +76,32 @@ pub record Reads (slot : List ℕ) : Type 0 where
   pub read : track_of slot ≡ Ok (track_in slot)
   pub spells : Spells slot (track_in slot)
 
-pub reads : (slot offsets : List ℕ) (records : Option ℕ) → IsIndexed slot offsets records → is_readable (track_of slot) ≡ true → Reads slot
-reads slot offsets (Some n) i e = record { read = i.read.read; spells = i.read.spells }
-reads slot offsets None i e = absurd (let no : is_readable (track_of slot) ≡ false = i.read in cc)
+pub reads : {slot offsets : List ℕ} {records : Option ℕ} {zeros_from : ℕ} {charged : Charged} → IsBuffer slot offsets records zeros_from charged → is_readable (track_of slot) ≡ true → Reads slot
+reads {slot} {offsets} {records = Some n} x e = record { read = x.indexed.read.read; spells = x.indexed.read.spells }
+reads {slot} {offsets} {records = None} x e = absurd (let no : is_readable (track_of slot) ≡ false = x.indexed.read in cc)
 
-pub home_window : (slot : List ℕ) (e : Extent) → Reads slot → Lies slot (home_address_place e) (bytes_of e (track_of slot) HomeAddress)
-home_window slot e r =
+pub home_window : {slot : List ℕ} (e : Extent) → Reads slot → Lies slot (home_address_place e) (bytes_of e (track_of slot) HomeAddress)
+home_window {slot} e r =
     let P : Sighted → Type 0 = λ t. Lies slot (home_address_place e) (bytes_of e t HomeAddress) in
     subst P (sym r.read) (home_lies slot (track_in slot) e r.spells)
 
-pub standing : (slot : List ℕ) (i at : ℕ) → Reads slot → StandsThere slot i (Some at) → StandsAt slot at (record_in (track_in slot) i)
-standing slot i at r there =
+pub standing : {slot : List ℕ} (i at : ℕ) → Reads slot → StandsThere slot i (Some at) → StandsAt slot at (record_in (track_in slot) i)
+standing {slot} i at r there =
     let P : ℕ → Type 0 = λ a. StandsAt slot a (record_in (track_in slot) i) in
     subst P (sym there.1) (stands slot (track_in slot) i r.spells there.0)
 
-pub room_there : (slot : List ℕ) (i at : ℕ) → Reads slot → StandsThere slot i (Some at) → at + 8 ≤ length slot
-room_there slot i at r there = omega (arith, (parts_at slot at (record_in (track_in slot) i) (standing slot i at r there)).within)
+-- what its count area says
+pub parts_there : {slot : List ℕ} (i at : ℕ) → Reads slot → StandsThere slot i (Some at) → PartsAt slot at (record_in (track_in slot) i)
+parts_there {slot} i at r there = parts_at slot at (record_in (track_in slot) i) (standing i at r there)
 
-pub record_window : (slot : List ℕ) (e : Extent) (part : Part) (i at : ℕ) → Reads slot → StandsThere slot i (Some at)
+pub room_there : {slot : List ℕ} (i at : ℕ) → Reads slot → StandsThere slot i (Some at) → at + 8 ≤ length slot
+room_there i at r there = omega (arith, (parts_there i at r there).within)
+
+pub record_window : {slot : List ℕ} (e : Extent) (part : Part) (i at : ℕ) → Reads slot → StandsThere slot i (Some at)
     → Lies slot (record_place e at (key_length (drop at slot)) (data_length (drop at slot))) (bytes_of e (track_of slot) (Of part i))
-record_window slot e part i at r there =
+record_window {slot} e part i at r there =
     let P : Sighted → Type 0 = λ t. Lies slot (record_place e at (key_length (drop at slot)) (data_length (drop at slot))) (bytes_of e t (Of part i)) in
-    subst P (sym r.read) (record_lies slot (record_in (track_in slot) i) at e part i (Ok (track_in slot)) (standing slot i at r there) refl)
+    subst P (sym r.read) (record_lies slot (record_in (track_in slot) i) at e part i (Ok (track_in slot)) (standing i at r there) refl)
 
 not_there : (t : Sighted) (i : ℕ) → length (records_on t) ≤ i → record_on t i ≡ no_record
 not_there t i le = get_or_past (records_on t) i no_record le
@@ -114,27 +119,27 @@ no_window slot extent.CountKeyAndData part i le on = absurd (omega (arith, le, o
 no_window slot e part i le on = lies_nowhere slot _ refl
 
 -- whether a record has data is read off its count area
-pub no_data_there : (slot : List ℕ) (i at : ℕ) → Reads slot → StandsThere slot i (Some at) → data_length (drop at slot) ≡ length (record_on (track_of slot) i).data_area
-no_data_there slot i at r there =
+pub no_data_there : {slot : List ℕ} (i at : ℕ) → Reads slot → StandsThere slot i (Some at) → data_length (drop at slot) ≡ length (record_on (track_of slot) i).data_area
+no_data_there {slot} i at r there =
     let P : Sighted → Type 0 = λ t. data_length (drop at slot) ≡ length (record_on t i).data_area in
-    subst P (sym r.read) (parts_at slot at (record_in (track_in slot) i) (standing slot i at r there)).data_size
+    subst P (sym r.read) (parts_there i at r there).data_size
 
 pub no_data_nowhere : (slot : List ℕ) (i : ℕ) → StandsThere slot i None → (length (record_on (track_of slot) i).data_area == 0) ≡ true
 no_data_nowhere slot i le = rw (not_there (track_of slot) i le) refl
 
 -- the table has where a record stands
-pub how_many : (slot offsets : List ℕ) (n : ℕ) → Tabled slot offsets n → n ≡ length (track_in slot).records
-how_many slot offsets n t = omega (arith, ap length t.table, length-offsets_from 5 (track_in slot).records, length-take n offsets, t.within)
+pub how_many : {slot offsets : List ℕ} {n : ℕ} → Tabled slot offsets n → n ≡ length (track_in slot).records
+how_many {slot} {offsets} {n} t = omega (arith, ap length t.table, length-offsets_from 5 (track_in slot).records, length-take n offsets, t.within)
 
-pub table_there : (slot offsets : List ℕ) (n i at : ℕ) → Tabled slot offsets n → i < n → at ≡ get_or offsets i at → StandsThere slot i (Some at)
-table_there slot offsets n i at t lt e =
+pub table_there : {slot offsets : List ℕ} {n : ℕ} (i at : ℕ) → Tabled slot offsets n → i < n → at ≡ get_or offsets i at → StandsThere slot i (Some at)
+table_there {slot} {offsets} {n} i at t lt e =
     let is : at ≡ get_or offsets i 0 = e ∙ get_or_default_zero offsets i at (omega (arith, t.within)) in
-    (omega (arith, how_many slot offsets n t), is ∙ sym (get_or-take n offsets i 0 lt) ∙ ap (λ (xs : List ℕ). slice_index xs i) t.table)
+    (omega (arith, how_many t), is ∙ sym (get_or-take n offsets i 0 lt) ∙ ap (λ (xs : List ℕ). slice_index xs i) t.table)
 
-pub table_past : (slot offsets : List ℕ) (n i : ℕ) → Tabled slot offsets n → n ≤ i → StandsThere slot i None
-table_past slot offsets n i t le =
+pub table_past : {slot offsets : List ℕ} {n : ℕ} (i : ℕ) → Tabled slot offsets n → n ≤ i → StandsThere slot i None
+table_past {slot} i t le =
     let P : Sighted → Type 0 = λ x. length (records_on x) ≤ i in
-    subst P (sym t.read) (omega (arith, how_many slot offsets n t))
+    subst P (sym t.read) (omega (arith, how_many t))
 
 -- what the answer of an index says of the slot
 pub read_by : (slot table : List ℕ) (answer : Result ℕ SlotFault) (t : Sighted) → ((i : ℕ) → Fits w8 (get_or slot i 0)) → track_of slot ≡ t → answer ≡ number_of_records t

@@ -55,22 +55,18 @@ form_of size t0 e part i body u f lt same =
 pub padded_on : (head tail passed more : List ℕ) (room : ℕ) → length passed + length more ≤ room
     → overwritten (head ++ (padded passed room ++ tail)) (length head + length passed) more ≡ head ++ (padded (passed ++ more) room ++ tail)
 padded_on head tail passed more room le =
-    let m = length passed in
     let k = length more in
-    let rest = room - m - k in
-    let split : replicate (room - m) 0 ≡ replicate k 0 ++ replicate rest 0 = (let e : room - m ≡ k + rest = omega (arith, le) in ap (λ (n : ℕ). replicate n 0) e ∙ sym (replicate-append-replicate {A = ℕ} k rest 0)) in
-    let old : head ++ (padded passed room ++ tail) ≡ (head ++ passed) ++ (replicate k 0 ++ (replicate rest 0 ++ tail)) =
-    ap (λ (z : List ℕ). head ++ ((passed ++ z) ++ tail)) split ∙ regroup_old head passed (replicate k 0) (replicate rest 0) tail in
-    let front : length (head ++ passed) ≡ length head + m = length-append head passed in
+    let rest = room - length passed - k in
+    let all : room - length passed ≡ k + rest = omega (arith, le) in
+    let split : replicate {A = ℕ} (room - length passed) 0 ≡ replicate k 0 ++ replicate rest 0 = ap (λ (n : ℕ). replicate n 0) all ∙ sym (replicate-append-replicate {A = ℕ} k rest 0) in
     let left : room - length (passed ++ more) ≡ rest = omega (arith, length-append passed more) in
-    rw old (overwritten-middle (head ++ passed) (replicate k 0) (replicate rest 0 ++ tail) more (length head + m) front (sym (length-replicate {A = ℕ} k 0)))
-    ∙ regroup_new head passed more (replicate rest 0) tail ∙ ap (λ (n : ℕ). head ++ (((passed ++ more) ++ replicate n 0) ++ tail)) (sym left)
+    rw (split, left) (in_middle head passed (replicate k 0) (replicate rest 0) tail more (sym (length-replicate {A = ℕ} k 0)))
   where
-    regroup_old : (h p z y t : List ℕ) → h ++ ((p ++ (z ++ y)) ++ t) ≡ (h ++ p) ++ (z ++ (y ++ t))
-    regroup_old h p z y t = simp append_assoc
-
-    regroup_new : (h p m y t : List ℕ) → (h ++ p) ++ (m ++ (y ++ t)) ≡ h ++ (((p ++ m) ++ y) ++ t)
-    regroup_new h p m y t = simp append_assoc
+    in_middle : (h p z y t m : List ℕ) → length m ≡ length z → overwritten (h ++ ((p ++ (z ++ y)) ++ t)) (length h + length p) m ≡ h ++ (((p ++ m) ++ y) ++ t)
+    in_middle h p z y t m same =
+        let old : h ++ ((p ++ (z ++ y)) ++ t) ≡ (h ++ p) ++ (z ++ (y ++ t)) = simp append_assoc in
+        let new : (h ++ p) ++ (m ++ (y ++ t)) ≡ h ++ (((p ++ m) ++ y) ++ t) = simp append_assoc in
+        rw old (overwritten-middle (h ++ p) z (y ++ t) m (length h + length p) (length-append h p) same ∙ new)
 
 -- A slot of this size that was made of a track whose records are as long as those of another.
 pub same_records : (size : ℕ) (old new : List ℕ) (t : Track) → track_of old ≡ Ok (track_in old) → FitsSlot size t → new ≡ slot_of size t → lengths_on t ≡ lengths_on (track_in old) → SameRecords old new
@@ -81,18 +77,18 @@ same_records size old new t reads f is long =
     subst P (sym is) (record { old_read = reads; spells = rw same (slot_of_spells size t f.home_address f.records); read = rw same read; lengths = rw same long })
 
 -- A slot and its table where other bytes were put that leave the records in their places.
-pub put_indexed : (old new offsets : List ℕ) (records : Option ℕ) → IsIndexed old offsets records → SameRecords old new → length new ≡ length old → IsIndexed new offsets records
-put_indexed old new offsets (Some n) x s long = record {
+put_indexed : {old new offsets : List ℕ} {records : Option ℕ} → IsIndexed old offsets records → SameRecords old new → length new ≡ length old → IsIndexed new offsets records
+put_indexed {old} {new} {offsets} {records = Some n} x s long = record {
   room = rw long x.room;
   size = rw long x.size;
   read = record { read = s.read; spells = s.spells; within = x.read.within; table = x.read.table ∙ sym (same_offsets (track_in new) (track_in old) s.lengths) };
 }
-put_indexed old new offsets None x s long = absurd (let no : is_readable (track_of old) ≡ false = x.read in let yes = ap is_readable s.old_read in cc)
+put_indexed {old} {new} {offsets} {records = None} x s long = absurd (let no : is_readable (track_of old) ≡ false = x.read in let yes = ap is_readable s.old_read in cc)
 
-pub put_buffer : (old offsets : List ℕ) (records : Option ℕ) (zeros_from at : ℕ) (b : List ℕ) (charged : Charged) → IsBuffer old offsets records zeros_from charged → at + length b ≤ length old → SameRecords old (overwritten old at b)
+pub put_buffer : {old offsets : List ℕ} {records : Option ℕ} {zeros_from : ℕ} {charged : Charged} (at : ℕ) (b : List ℕ) → IsBuffer old offsets records zeros_from charged → at + length b ≤ length old → SameRecords old (overwritten old at b)
     → IsBuffer (overwritten old at b) offsets records (max zeros_from (at + length b)) charged
-put_buffer old offsets records zeros_from at b charged x room s = record {
-  indexed = put_indexed old (overwritten old at b) offsets records x.indexed s (length-overwritten old at b room);
+put_buffer {old} {offsets} {records} {zeros_from} {charged} at b x room s = record {
+  indexed = put_indexed x.indexed s (length-overwritten old at b room);
   cleared = zero_over old at b zeros_from (max zeros_from (at + length b)) x.cleared (omega arith) (omega arith) (omega (arith, x.cleared.within, room));
   charges = x.charges ∙ sym (same_left charged.model (track_in (overwritten old at b)) (track_in old) charged.records s.lengths);
 }

@@ -9,7 +9,7 @@ use Rattle.ckd_track.specs.Track.{Record, Track, IsRecord, Spells, track_of, tra
 use Rattle.ckd_track.specs.Changes.{bare_track, kept_records, with_record, with_data, with_key_data, with_body, offset_behind, end_offset, data_offset, overwritten, ended_at}
 use Rattle.ckd_track.proofs.Laws.{AreBytes}
 use Rattle.ckd_track.proofs.Places.{length-record_bytes, place, place-one, offset_is, place-le, end_is}
-use Rattle.ckd_track.proofs.Offsets.{parts_at, length-offsets_from, few_records}
+use Rattle.ckd_track.proofs.Offsets.{few_records}
 use Rattle.ckd_track.proofs.Slots.{slot_of_spells, slot_of_reads, length-slot_of, length-spelling, offsets-append, offsets-take}
 use Rattle.ckd_track.proofs.Rewritten.{length-overwritten, data_is_record, body_is_record, body_lengths}
 use Rattle.ckd_track.proofs.Writing.{Makes, makes, new_slot, new_room, data_slot, key_data_slot}
@@ -22,33 +22,34 @@ use Rattle.ckd_position.specs.declared.areas.Area.TheVariants.{HomeAddress, Of}
 use Rattle.ckd_position.specs.declared.areas.Part.{Part}
 use Rattle.ckd_position.specs.declared.areas.Part.TheVariants as part
 use Rattle.ckd_position.specs.Contents.{is_readable, padded, new_record, formatted, kept, replaced, with_record_changed}
-use Rattle.ckd_slot.specs.Buffer.{Tabled, IsIndexed, StandsThere, number_up_to, FitsSlot, IsUpdate, IsRecordOf, IsPlaceOf, end_of_records, record_place, lengths_on, IsCharged, fits_track}
+use Rattle.ckd_slot.specs.Buffer.{Tabled, IsIndexed, IsBuffer, StandsThere, number_up_to, FitsSlot, IsUpdate, IsRecordOf, IsPlaceOf, end_of_records, record_place, lengths_on, IsCharged, fits_track}
 use Rattle.ckd_slot.specs.declared.charges.Charged.{Charged}
 use Rattle.ckd_position.specs.declared.extents.Extent.{Extent}
 use Rattle.ckd_position.specs.declared.extents.Extent.TheVariants as extent
 use Rattle.ckd_slot.specs.declared.windows.Window.{Window}
-use Rattle.ckd_slot.proofs.AreaPlaces.{Reads, standing, how_many}
+use Rattle.ckd_slot.proofs.AreaPlaces.{Reads, parts_there, how_many}
 use Rattle.ckd_slot.proofs.Lengths.{lengths_of, same_offsets, same_left}
 
 -- The table.
 
-pub place_there : (slot : List ℕ) (e : Extent) (i at : ℕ) → Reads slot → StandsThere slot i (Some at)
+pub place_there : {slot : List ℕ} (e : Extent) (i at : ℕ) → Reads slot → StandsThere slot i (Some at)
     → record_place e at (key_length (drop at slot)) (data_length (drop at slot)) ≡ record_place e (slice_index (record_offsets (track_in slot)) i) (length (record_in (track_in slot) i).key_area) (length (record_in (track_in slot) i).data_area)
-place_there slot e i at r there =
-    let p = parts_at slot at (record_in (track_in slot) i) (standing slot i at r there) in
-    rw (p.key_size, p.data_size, there.1) refl
+place_there e i at r there = (let p = parts_there i at r there in rw (p.key_size, p.data_size, there.1) refl)
 
-pub later_end : (slot : List ℕ) (k at : ℕ) → Reads slot → 0 < k → StandsThere slot (k - 1) (Some at) → at + (8 + key_length (drop at slot) + data_length (drop at slot)) ≡ end_of_records (track_in slot) k
-later_end slot k at r some there =
+-- where the first records end, and that the end mark has room behind them
+pub record EndsThere (slot : List ℕ) (k end : ℕ) : Type 0 where
+  pub place : end ≡ end_of_records (track_in slot) k
+  pub room : end + 8 ≤ length slot
+
+pub ends_there : {slot : List ℕ} (k at : ℕ) → Reads slot → 0 < k → StandsThere slot (k - 1) (Some at) → EndsThere slot k (at + (8 + key_length (drop at slot) + data_length (drop at slot)))
+ends_there {slot} k at r some there =
     let t = track_in slot in
-    let p = parts_at slot at (record_in t (k - 1)) (standing slot (k - 1) at r there) in
+    let p = parts_there (k - 1) at r there in
     let one = place-one slot t r.spells (k - 1) there.0 in
     let at_place : at ≡ place t (k - 1) = there.1 ∙ offset_is slot t r.spells (k - 1) there.0 in
     let same : k - 1 + 1 ≡ k = omega arith in
-    omega (arith, at_place, p.key_size, p.data_size, rw same at one)
-
-pub end_room : (slot : List ℕ) (k : ℕ) → Reads slot → end_of_records (track_in slot) k + 8 ≤ length slot
-end_room slot k r = place-le slot (track_in slot) r.spells k
+    let place : at + (8 + key_length (drop at slot) + data_length (drop at slot)) ≡ end_of_records t k = omega (arith, at_place, p.key_size, p.data_size, rw same at one) in
+    record { place = place; room = omega (arith, place, place-le slot t r.spells k) }
 
 -- A slot that was made of a track.
 
@@ -76,9 +77,9 @@ not_both slot i there lt = omega (arith, there, lt)
 
 -- The buffer's records.
 
-pub records_are : (slot offsets : List ℕ) (records : Option ℕ) (m : ℕ) → IsIndexed slot offsets records → is_readable (track_of slot) ≡ true → m ≡ unwrap_or records 0 → m ≡ length (track_in slot).records
-records_are slot offsets (Some n) m x r e = e ∙ how_many slot offsets n x.read
-records_are slot offsets None m x r e = absurd (let no : is_readable (track_of slot) ≡ false = x.read in cc)
+pub records_are : {slot offsets : List ℕ} {records : Option ℕ} {zeros_from : ℕ} {charged : Charged} (m : ℕ) → IsBuffer slot offsets records zeros_from charged → is_readable (track_of slot) ≡ true → m ≡ unwrap_or records 0 → m ≡ length (track_in slot).records
+records_are {slot} {offsets} {records = Some n} m x r e = e ∙ how_many x.indexed.read
+records_are {slot} {offsets} {records = None} m x r e = absurd (let no : is_readable (track_of slot) ≡ false = x.indexed.read in cc)
 
 -- where it would be behind the last one, it is the last one that a record is kept up to
 pub kept_least : (rs : List Record) (n i m : ℕ) → n ≡ length rs → (n ≡ 0 → ⊥) → m ≡ min i (n - 1) → take (m + 1) rs ≡ take (i + 1) rs
@@ -206,7 +207,7 @@ module _ {slot : List ℕ} {model : DriveModel} {before : Option ℕ} {after : O
       let room = kept_room offsets x.room in
       let size = length-set offsets (number_up_to before) at in
       indexed_slot (length slot) made (set offsets (number_up_to before) at) (number_up_to before + 1) format_fits (omega (arith, x.room, size)) x.size (omega (arith, room, size))
-      (format_table offsets n at x.read.table (omega (arith, up_to_le (track_in slot) before k.there, how_many slot offsets n x.read)) (omega (arith, room)) e)
+      (format_table offsets n at x.read.table (omega (arith, up_to_le (track_in slot) before k.there, how_many x.read)) (omega (arith, room)) e)
 
   -- the kept records stay, and the new one stands where they end
   kept_made : take (number_up_to before) made.records ≡ take (number_up_to before) (track_in slot).records

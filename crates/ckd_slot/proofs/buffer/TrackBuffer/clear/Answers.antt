@@ -10,15 +10,13 @@ use Rattle.ckd_slot.proofs.buffer.TrackBuffer.clear.Goals as goal
 
 pub clear_area-requires-clause-area : goal.clear_area-requires-clause-area
 clear_area-requires-clause-area c =
-    let x = rw c.self.view_is at c.self.invariant in
-    let r = reads c.args.self.now c.self.inside.offsets.items c.self.inside.records x.indexed c.requires.readable in
+    let r = reads (rw c.self.view_is at c.self.invariant) c.requires.readable in
     (clear_is c.args.extent c.args.self.now c.args.area c.window-window.result c.end_of-end.result c.requires.update r.spells c.requires.there c.window-window.ensures.place (rw c.count.ensures at c.end_of-end.ensures.place)).within
 
 -- the slot of the changed track, which was written
 cleared : (c : goal.After-self-2-1) → Clears c.args.extent c.args.self.now c.args.area c.window-window.result c.end_of-end.result
 cleared c =
-    let x = rw c.self.view_is at c.self.invariant in
-    let r = reads c.args.self.now c.self.inside.offsets.items c.self.inside.records x.indexed c.requires.readable in
+    let r = reads (rw c.self.view_is at c.self.invariant) c.requires.readable in
     clear_is c.args.extent c.args.self.now c.args.area c.window-window.result c.end_of-end.result c.requires.update r.spells c.requires.there c.window-window.ensures.place (rw c.count.ensures at c.end_of-end.ensures.place)
 
 made : (c : goal.After-self-2-1) → c.clear_area.new.slot ≡ slot_of (length c.args.self.now) (with_record_changed (replaced c.args.extent []) c.args.area (track_in c.args.self.now))

@@ -12,19 +12,16 @@ use Rattle.ckd_slot.proofs.buffer.TrackBuffer.format.Goals as goal
 
 pub records_up_to-kept-requires : goal.records_up_to-kept-requires
 records_up_to-kept-requires c =
-    let i = c.self.inside in
     let s = c.args.self.now in
     let x = rw c.self.view_is at c.self.invariant in
-    let few = few_records s (track_in s) (reads s i.offsets.items i.records x.indexed c.requires.readable).spells in
+    let few = few_records s (track_in s) (reads x c.requires.readable).spells in
     λ k e. (let lt = c.before-2.ensures.there k e in omega (arith, lt, few, x.indexed.size))
 
 pub format_record-requires-clause-room : goal.format_record-requires-clause-room
 format_record-requires-clause-room c =
-    let i = c.self.inside in
     let s = c.args.self.now in
-    let x = rw c.self.view_is at c.self.invariant in
     let b = c.before-2.result in
-    let r = reads s i.offsets.items i.records x.indexed c.requires.readable in
+    let r = reads (rw c.self.view_is at c.self.invariant) c.requires.readable in
     let seen = ap track_of (sym (c.deref.ensures.value ∙ c.self.view_is)) ∙ c.view_at-view.ensures.track in
     let k = fitting s c.args.model b c.args.after c.args.count c.view_at-view.result c.records_up_to-kept.result c.fits.result r.spells (are_bytes c.args.count (search rules)) (search rules) c.before-2.ensures.kept c.before-2.ensures.there seen c.records_up_to-kept.ensures c.fits.ensures.fits c.if-not-fits.false c.requires.size in
     let at : c.end_of-at.result ≡ end_of_records (track_in s) (number_up_to b) = rw c.records_up_to-kept.ensures at c.end_of-at.ensures.place in
@@ -32,22 +29,20 @@ format_record-requires-clause-room c =
 
 pub index_mut-requires : goal.index_mut-requires
 index_mut-requires c =
-    let i = c.self.inside in
     let s = c.args.self.now in
     let x = rw c.self.view_is at c.self.invariant in
     let b = c.before-2.result in
-    let r = reads s i.offsets.items i.records x.indexed c.requires.readable in
+    let r = reads (rw c.self.view_is at c.self.invariant) c.requires.readable in
     let seen = ap track_of (sym (c.deref.ensures.value ∙ c.self.view_is)) ∙ c.view_at-view.ensures.track in
     let k = fitting s c.args.model b c.args.after c.args.count c.view_at-view.result c.records_up_to-kept.result c.fits.result r.spells (are_bytes c.args.count (search rules)) (search rules) c.before-2.ensures.kept c.before-2.ensures.there seen c.records_up_to-kept.ensures c.fits.ensures.fits c.if-not-fits.false c.requires.size in
-    let room = kept_room k i.offsets.items x.indexed.room in
+    let room = kept_room k c.self.inside.offsets.items x.indexed.room in
     rw c.records_up_to-kept.ensures (omega (arith, room))
 
 pub overflow_add-self : goal.overflow_add-self
 overflow_add-self c =
-    let i = c.self.inside in
     let s = c.args.self.now in
     let x = rw c.self.view_is at c.self.invariant in
-    let few = few_records s (track_in s) (reads s i.offsets.items i.records x.indexed c.requires.readable).spells in
+    let few = few_records s (track_in s) (reads x c.requires.readable).spells in
     rw c.records_up_to-kept.ensures (omega (arith, up_to_le (track_in s) c.before-2.result c.before-2.ensures.there, few, x.indexed.size))
 
 -- that the record fits, once it is written
@@ -57,11 +52,9 @@ record Fits (c : goal.After-self-4-1) : Type 0 where
 
 fits_at : (c : goal.After-self-4-1) → Fits c
 fits_at c =
-    let i = c.self.inside in
     let s = c.args.self.now in
-    let x = rw c.self.view_is at c.self.invariant in
     let b = c.before-2.result in
-    let r = reads s i.offsets.items i.records x.indexed c.requires.readable in
+    let r = reads (rw c.self.view_is at c.self.invariant) c.requires.readable in
     let seen = ap track_of (sym (c.deref.ensures.value ∙ c.self.view_is)) ∙ c.view_at-view.ensures.track in
     let k = fitting s c.args.model b c.args.after c.args.count c.view_at-view.result c.records_up_to-kept.result c.fits.result r.spells (are_bytes c.args.count (search rules)) (search rules) c.before-2.ensures.kept c.before-2.ensures.there seen c.records_up_to-kept.ensures c.fits.ensures.fits c.if-not-fits.false c.requires.size in
     record { fitting = k; at = rw c.records_up_to-kept.ensures at c.end_of-at.ensures.place }

@@ -8,31 +8,22 @@ use Rattle.ckd_slot.proofs.buffer.TrackBuffer.part.Goals as goal
 
 pub record_part-requires-clause-room : goal.record_part-requires-clause-room
 record_part-requires-clause-room c =
-    let i = c.self.inside in
-    let s = c.args.self.now in
-    let x = rw c.self.view_is at c.self.invariant in
-    let r = reads s i.offsets.items i.records x.indexed c.requires.readable in
-    rw (c.deref.ensures.value ∙ c.self.view_is) (room_there s c.in-Of.i c.in-Some.at r (rw c.in-Some.is at c.offset_of.ensures))
+    let r = reads (rw c.self.view_is at c.self.invariant) c.requires.readable in
+    rw (c.deref.ensures.value ∙ c.self.view_is) (room_there c.in-Of.i c.in-Some.at r (rw c.in-Some.is at c.offset_of.ensures))
 
 pub returns-in-HomeAddress : goal.returns-in-HomeAddress
 returns-in-HomeAddress c =
-    let i = c.self.inside in
-    let s = c.args.self.now in
-    let x = rw c.self.view_is at c.self.invariant in
-    let r = reads s i.offsets.items i.records x.indexed c.requires.readable in
-    rw (c.in-HomeAddress.is, c.home_address_window.ensures) (record { lies = home_window s c.args.extent r; place = tt; no_data = refl })
+    let r = reads (rw c.self.view_is at c.self.invariant) c.requires.readable in
+    rw (c.in-HomeAddress.is, c.home_address_window.ensures) (record { lies = home_window c.args.extent r; place = tt; no_data = refl })
 
 pub returns-in-Some : goal.returns-in-Some
 returns-in-Some c =
-    let i = c.self.inside in
-    let s = c.args.self.now in
-    let x = rw c.self.view_is at c.self.invariant in
-    let r = reads s i.offsets.items i.records x.indexed c.requires.readable in
+    let r = reads (rw c.self.view_is at c.self.invariant) c.requires.readable in
     let there = rw c.in-Some.is at c.offset_of.ensures in
     rw (c.in-Of.is, c.record_part.ensures.place, c.record_part.ensures.no_data, c.deref.ensures.value ∙ c.self.view_is) (record {
-      lies = record_window s c.args.extent c.in-Of.field-0 c.in-Of.i c.in-Some.at r there;
-      place = λ _. place_there s c.args.extent c.in-Of.i c.in-Some.at r there;
-      no_data = rw (no_data_there s c.in-Of.i c.in-Some.at r there) refl;
+      lies = record_window c.args.extent c.in-Of.field-0 c.in-Of.i c.in-Some.at r there;
+      place = λ _. place_there c.args.extent c.in-Of.i c.in-Some.at r there;
+      no_data = rw (no_data_there c.in-Of.i c.in-Some.at r there) refl;
     })
 
 pub returns-in-None : goal.returns-in-None
