@@ -1,12 +1,13 @@
 -- Files one behind the other, of which one changes.
 use Rattle.std.proofs.Common.{◌≡◌, ℕ, zero, suc, ◌+◌, ◌-◌, ◌*◌, ◌<◌, ◌≤◌, nat_lt, Bool, true, false, if◌then◌else◌, List, [], ◌∷◌, ◌++◌, length, take, drop, map, set, slice_range, Option, Some, None, IsSome, Result, Ok, Err, OnOk, OnErr, refl, sym, ap, ◌∙◌, subst, add-one, arith, length-append, length-drop}
-use Rattle.std.proofs.lemmas.List.{take-append-le, drop-append-le, append_assoc, drop-drop}
+use Rattle.std.proofs.lemmas.List.{take-append-le, drop-append-le, append_assoc, drop-drop, map-append, set_split, set-get_or}
 use Rattle.std.proofs.lemmas.List.Edits.{length-between}
 use Rattle.std.proofs.lemmas.Bool.{ltb-true, ltb-false}
-use Rattle.std.proofs.lemmas.List.Sums.{sum_by-cons}
+use Rattle.std.proofs.lemmas.List.Sums.{sum_by-cons, sum_by-append}
+use Rattle.std.proofs.lemmas.List.Folds.{concat-append}
 use Rattle.std.proofs.Math.Seq.{take-append-add, drop-append-add}
 use Rattle.std.proofs.Math.Nat.{zero-add, zero-mul, add-mul}
-use Rattle.std.specs.List.{sum}
+use Rattle.std.specs.List.{concat, sum}
 use Rattle.ckd_image.specs.declared.store.StoreFault.{StoreFault}
 use Rattle.ckd_image.specs.declared.files.SlotPlace.{SlotPlace}
 use Rattle.ckd_image.specs.Store.{overwritten, Torn, Counts}
@@ -41,15 +42,15 @@ range_middle front mid back at n h =
 pub sum_cons : (n : ℕ) (ns : List ℕ) → sum (n ∷ ns) ≡ n + sum ns
 sum_cons n ns = sum_by-cons (λ (k : ℕ). k) n ns
 
+slot_bytes-middle : (xs : List (List ℕ)) (file : List ℕ) (ys : List (List ℕ)) → slot_bytes (xs ++ file ∷ ys) ≡ slot_bytes xs ++ (drop 512 file ++ slot_bytes ys)
+slot_bytes-middle xs file ys = ap concat (map-append (drop 512) xs (file ∷ ys)) ∙ concat-append (map (drop 512) xs) (drop 512 file ∷ map (drop 512) ys)
+
 -- One of several stores.
 module _ {S : Type 0} where
-  each-set : {T : Type 0} (f : S → T) (d : T) (files : List (Option S)) (place : ℕ) (x : Option S) → place < length files → IsSome (file_at files place) → IsSome x → held f d x ≡ held f d (file_at files place) → each f (set files place x) ≡ each f files
-  each-set f d [] place x h a b e = absurd (omega arith)
-  each-set f d (None ∷ files) zero x h a b e = cc
-  each-set f d (Some s ∷ files) zero None h a b e = cc
-  each-set f d (Some s ∷ files) zero (Some y) h a b e = ap (λ t. t ∷ each f files) e
-  each-set f d (None ∷ files) (suc place) x h a b e = each-set f d files place x (omega arith) a b e
-  each-set f d (Some s ∷ files) (suc place) x h a b e = ap (λ ts. f s ∷ ts) (each-set f d files place x (omega arith) a b e)
+  pub each-append : {T : Type 0} (f : S → T) (xs ys : List (Option S)) → each f (xs ++ ys) ≡ each f xs ++ each f ys
+  each-append f [] ys = refl
+  each-append f (None ∷ xs) ys = each-append f xs ys
+  each-append f (Some s ∷ xs) ys = ap (λ ts. f s ∷ ts) (each-append f xs ys)
 
   pub map-each : {T U : Type 0} (h : T → U) (f : S → T) (files : List (Option S)) → map h (each f files) ≡ each (λ s. h (f s)) files
   map-each h f [] = refl
@@ -61,28 +62,17 @@ module _ {S : Type 0} where
   held_by h f d None = refl
   held_by h f d (Some s) = refl
 
-  sum-set : (f : S → ℕ) (files : List (Option S)) (place : ℕ) (x : Option S) → place < length files → IsSome (file_at files place) → IsSome x → sum (each f (set files place x)) + held f 0 (file_at files place) ≡ sum (each f files) + held f 0 x
-  sum-set f [] place x h a b = absurd (omega arith)
-  sum-set f (None ∷ files) zero x h a b = cc
-  sum-set f (Some s ∷ files) zero None h a b = cc
-  sum-set f (Some s ∷ files) zero (Some y) h a b = rw (sum_cons (f s) (each f files), sum_cons (f y) (each f files)) (swap (f s) (f y) (sum (each f files)))
+  -- a store that is there stands between those before it and those behind it
+  each_put : {T : Type 0} (f : S → T) (d : T) (files : List (Option S)) (place : ℕ) (x : Option S) → place < length files → IsSome x → each f (set files place x) ≡ each f (take place files) ++ held f d x ∷ each f (drop (suc place) files)
+  each_put f d files place x exists some =
+      ap (each f) (set_split files place x exists) ∙ each-append f (take place files) (x ∷ drop (suc place) files) ∙ ap (λ ts. each f (take place files) ++ ts) (first x some)
     where
-      swap : (a b r : ℕ) → b + r + a ≡ a + r + b
-      swap a b r = omega arith
-  sum-set f (None ∷ files) (suc place) x h a b = sum-set f files place x (omega arith) a b
-  sum-set f (Some s ∷ files) (suc place) x h a b = rw (sum_cons (f s) (each f files), sum_cons (f s) (each f (set files place x))) (more (f s) (sum (each f (set files place x))) (held f 0 (file_at files place)) (sum (each f files)) (held f 0 x) (sum-set f files place x (omega arith) a b))
-    where
-      more : (k a b c d : ℕ) → a + b ≡ c + d → k + a + b ≡ k + c + d
-      more k a b c d e = omega arith
+      first : (x : Option S) → IsSome x → each f (x ∷ drop (suc place) files) ≡ held f d x ∷ each f (drop (suc place) files)
+      first None some = cc
+      first (Some s) some = refl
 
-  tracks-set : (content : S → List ℕ) (size : ℕ) (files : List (Option S)) (tracks : List ℕ) (place : ℕ) (x : Option S) → HoldTracks content size files tracks → place < length files → IsSome (file_at files place) → IsSome x → length (held content [] x) ≡ length (held content [] (file_at files place)) → HoldTracks content size (set files place x) tracks
-  tracks-set content size [] tracks place x holds h a b e = absurd (omega arith)
-  tracks-set content size (f ∷ files) [] place x holds h a b e = absurd holds
-  tracks-set content size (None ∷ files) (n ∷ tracks) zero x holds h a b e = cc
-  tracks-set content size (Some s ∷ files) (n ∷ tracks) zero None holds h a b e = cc
-  tracks-set content size (Some s ∷ files) (n ∷ tracks) zero (Some y) holds h a b e = (e ∙ holds.0, holds.1)
-  tracks-set content size (None ∷ files) (n ∷ tracks) (suc place) x holds h a b e = (holds.0, tracks-set content size files tracks place x holds.1 (omega arith) a b e)
-  tracks-set content size (Some s ∷ files) (n ∷ tracks) (suc place) x holds h a b e = (holds.0, tracks-set content size files tracks place x holds.1 (omega arith) a b e)
+  each_at : {T : Type 0} (f : S → T) (d : T) (files : List (Option S)) (place : ℕ) → place < length files → IsSome (file_at files place) → each f files ≡ each f (take place files) ++ held f d (file_at files place) ∷ each f (drop (suc place) files)
+  each_at f d files place exists some = ap (each f) (sym (set-get_or files place None)) ∙ each_put f d files place (file_at files place) exists some
 
   -- one of these files was read or written, and no other
   pub record Changed (files new : List (Option S)) (place : ℕ) : Type 0 where
@@ -91,20 +81,40 @@ module _ {S : Type 0} where
     pub stays : IsSome (file_at new place)
     pub is : new ≡ set files place (file_at new place)
 
+  each_now : {T : Type 0} (f : S → T) (d : T) (files new : List (Option S)) (place : ℕ) → Changed files new place → each f new ≡ each f (take place files) ++ held f d (file_at new place) ∷ each f (drop (suc place) files)
+  each_now f d files new place x = ap (each f) x.is ∙ each_put f d files place (file_at new place) x.exists x.stays
+
   pub each_same : {T : Type 0} (f : S → T) (d : T) (files new : List (Option S)) (place : ℕ) → Changed files new place → held f d (file_at new place) ≡ held f d (file_at files place) → each f new ≡ each f files
-  each_same f d files new place x e = rw x.is (each-set f d files place (file_at new place) x.exists x.there x.stays e)
+  each_same f d files new place x e =
+      each_now f d files new place x ∙ ap (λ t. each f (take place files) ++ t ∷ each f (drop (suc place) files)) e ∙ sym (each_at f d files place x.exists x.there)
 
   -- the failures of all stores count as those of the one that was called
   pub counted_all : (f : S → ℕ) (files new : List (Option S)) (place : ℕ) (r : Result (Unit {0}) StoreFault) → Changed files new place → Counts (held f 0 (file_at files place)) (held f 0 (file_at new place)) r → Counts (sum (each f files)) (sum (each f new)) r
   counted_all f files new place r x counted =
-      rw x.is (by (held f 0 (file_at files place)) (held f 0 (file_at new place)) (sum (each f (set files place (file_at new place)))) (sum (each f files)) r (sum-set f files place (file_at new place) x.exists x.there x.stays) counted)
+      let ts = each f (take place files) in
+      let us = each f (drop (suc place) files) in
+      let a = held f 0 (file_at files place) in
+      let b = held f 0 (file_at new place) in
+      by a b (sum (each f files)) (sum (each f new)) (sum ts) (sum us) r (ap sum (each_at f 0 files place x.exists x.there) ∙ total ts us a) (ap sum (each_now f 0 files new place x) ∙ total ts us b) counted
     where
-      by : (a b c d : ℕ) (r : Result (Unit {0}) StoreFault) → c + a ≡ d + b → Counts a b r → Counts d c r
-      by a b c d (Ok v) e counted = omega arith
-      by a b c d (Err v) e counted = omega arith
+      total : (ts us : List ℕ) (n : ℕ) → sum (ts ++ n ∷ us) ≡ sum ts + n + sum us
+      total ts us n = sum_by-append (λ (k : ℕ). k) ts (n ∷ us) ∙ omega (arith, sum_cons n us)
+
+      by : (a b c d t u : ℕ) (r : Result (Unit {0}) StoreFault) → c ≡ t + a + u → d ≡ t + b + u → Counts a b r → Counts c d r
+      by a b c d t u (Ok v) was now counted = omega arith
+      by a b c d t u (Err e) was now counted = omega arith
 
   pub tracks_same : (content : S → List ℕ) (size : ℕ) (files new : List (Option S)) (tracks : List ℕ) (place : ℕ) → Changed files new place → HoldTracks content size files tracks → length (held content [] (file_at new place)) ≡ length (held content [] (file_at files place)) → HoldTracks content size new tracks
-  tracks_same content size files new tracks place x holds e = rw x.is (tracks-set content size files tracks place (file_at new place) holds x.exists x.there x.stays e)
+  tracks_same content size files new tracks place x holds e = rw x.is (put files tracks place (file_at new place) holds x.exists x.there x.stays e)
+    where
+      put : (files : List (Option S)) (tracks : List ℕ) (place : ℕ) (x : Option S) → HoldTracks content size files tracks → place < length files → IsSome (file_at files place) → IsSome x → length (held content [] x) ≡ length (held content [] (file_at files place)) → HoldTracks content size (set files place x) tracks
+      put [] tracks place x holds h a b e = absurd (omega arith)
+      put (f ∷ files) [] place x holds h a b e = absurd holds
+      put (None ∷ files) (n ∷ tracks) zero x holds h a b e = cc
+      put (Some s ∷ files) (n ∷ tracks) zero None holds h a b e = cc
+      put (Some s ∷ files) (n ∷ tracks) zero (Some y) holds h a b e = (e ∙ holds.0, holds.1)
+      put (None ∷ files) (n ∷ tracks) (suc place) x holds h a b e = (holds.0, put files tracks place x holds.1 (omega arith) a b e)
+      put (Some s ∷ files) (n ∷ tracks) (suc place) x holds h a b e = (holds.0, put files tracks place x holds.1 (omega arith) a b e)
 
   -- the first of several files, which need not be there
   pub slot_bytes-cons : (content : S → List ℕ) (f : Option S) (files : List (Option S)) → slot_bytes (each content (f ∷ files)) ≡ drop 512 (held content [] f) ++ slot_bytes (each content files)
@@ -115,49 +125,41 @@ module _ {S : Type 0} where
   tracks_behind content size None files n tracks holds = (rw holds.0 (sym (zero-mul size)), holds.1)
   tracks_behind content size (Some s) files n tracks holds = ((let long = holds.0 in simp length-drop (omega arith)), holds.1)
 
-  -- the slot of a track is in this file, with these bytes before its slots and behind them
+  -- the bytes of the slots before those of a file, and of those behind them
+  abbrev before_file : (S → List ℕ) → List (Option S) → ℕ → List ℕ
+  before_file content files place = slot_bytes (each content (take place files))
+
+  abbrev behind_file : (S → List ℕ) → List (Option S) → ℕ → List ℕ
+  behind_file content files place = slot_bytes (each content (drop (suc place) files))
+
+  -- the slot of a track is in this file
   pub record Located (content : S → List ℕ) (size : ℕ) (files : List (Option S)) (track : ℕ) (p : SlotPlace) : Type 0 where
-    pub front : List ℕ
-    pub back : List ℕ
     pub exists : p.file < length files
     pub there : IsSome (file_at files p.file)
     pub within : 512 + p.track * size + size ≤ length (held content [] (file_at files p.file))
-    pub before : track * size ≡ length front + p.track * size
-    pub whole : slot_bytes (each content files) ≡ front ++ (drop 512 (held content [] (file_at files p.file)) ++ back)
-    pub split : (x : Option S) → IsSome x → slot_bytes (each content (set files p.file x)) ≡ front ++ (drop 512 (held content [] x) ++ back)
+    pub before : track * size ≡ length (before_file content files p.file) + p.track * size
 
-  split_first : (content : S → List ℕ) (s : S) (files : List (Option S)) (x : Option S) → IsSome x → slot_bytes (each content (set (Some s ∷ files) 0 x)) ≡ [] ++ (drop 512 (held content [] x) ++ slot_bytes (each content files))
-  split_first content s files None is = cc
-  split_first content s files (Some y) is = refl
+  whole : (content : S → List ℕ) (size : ℕ) (files : List (Option S)) (track : ℕ) (p : SlotPlace) → Located content size files track p → slot_bytes (each content files) ≡ before_file content files p.file ++ (drop 512 (held content [] (file_at files p.file)) ++ behind_file content files p.file)
+  whole content size files track p l = ap slot_bytes (each_at content [] files p.file l.exists l.there) ∙ slot_bytes-middle (each content (take p.file files)) (held content [] (file_at files p.file)) (each content (drop (suc p.file) files))
 
   first_located : (content : S → List ℕ) (size : ℕ) (f : Option S) (files : List (Option S)) (n : ℕ) (tracks : List ℕ) (track : ℕ) → HoldTracks content size (f ∷ files) (n ∷ tracks) → track < n → Located content size (f ∷ files) track (record { file = 0; track = track })
   first_located content size None files n tracks track holds h = let none = holds.0 in absurd (omega arith)
   first_located content size (Some s) files n tracks track holds h = record {
-    front = [];
-    back = slot_bytes (each content files);
     exists = omega arith;
     there = refl;
     within = let long = holds.0 in let ends = slot_within size n track h in omega arith;
     before = sym (zero-add (track * size));
-    whole = refl;
-    split = split_first content s files;
   }
 
   next_located : (content : S → List ℕ) (size : ℕ) (f : Option S) (files : List (Option S)) (n : ℕ) (tracks : List ℕ) (track : ℕ) (p : SlotPlace) → HoldTracks content size (f ∷ files) (n ∷ tracks) → n ≤ track → Located content size files (track - n) p → Located content size (f ∷ files) track (behind p)
   next_located content size f files n tracks track p holds h l = record {
-    front = first ++ l.front;
-    back = l.back;
     exists = let e = l.exists in omega arith;
     there = rw (add-one p.file) l.there;
     within = rw (add-one p.file) l.within;
-    before = moved track n (length first) (length l.front) (p.track * size) h (tracks_behind content size f files n tracks holds).0 l.before ∙ ap (λ (k : ℕ). k + p.track * size) (sym (length-append first l.front));
-    whole = rw (add-one p.file) (slot_bytes-cons content f files ∙ ap (λ (r : List ℕ). first ++ r) l.whole ∙ sym (append_assoc first l.front (drop 512 (held content [] (file_at files p.file)) ++ l.back)));
-    split = rw (add-one p.file) (λ x is. slot_bytes-cons content f (set files p.file x) ∙ ap (λ (r : List ℕ). first ++ r) (l.split x is) ∙ sym (append_assoc first l.front (drop 512 (held content [] x) ++ l.back)));
+    before = rw (add-one p.file, slot_bytes-cons content f (take p.file files), length-append (drop 512 (held content [] f)) (before_file content files p.file))
+        (moved track n (length (drop 512 (held content [] f))) (length (before_file content files p.file)) (p.track * size) h (tracks_behind content size f files n tracks holds).0 l.before);
   }
     where
-      first : List ℕ
-      first = drop 512 (held content [] f)
-
       moved : (track n a b c : ℕ) → n ≤ track → a ≡ n * size → (track - n) * size ≡ b + c → track * size ≡ a + b + c
       moved track n a b c above long before =
           let less : track ≡ n + (track - n) = omega arith in
@@ -188,8 +190,8 @@ module _ {S : Type 0} where
   range_located content size files track at p l is =
       let file = held content [] (file_at files p.file) in
       let within = l.within in
-      rw (l.whole, l.before) (behind_header file (p.track * size) at is
-      ∙ sym (range_middle l.front (drop 512 file) l.back (p.track * size) size (simp length-drop (omega arith))))
+      rw (whole content size files track p l, l.before) (behind_header file (p.track * size) at is
+      ∙ sym (range_middle (before_file content files p.file) (drop 512 file) (behind_file content files p.file) (p.track * size) size (simp length-drop (omega arith))))
     where
       behind_header : (file : List ℕ) (k at : ℕ) → at ≡ 512 + k → slice_range file at (at + size) ≡ slice_range (drop 512 file) k (k + size)
       behind_header file k at e =
@@ -199,13 +201,17 @@ module _ {S : Type 0} where
 
   -- A write.
 
+  -- what a write into a slot leaves of the headers and of the files' lengths
+  pub record KeepsHeads (content : S → List ℕ) (size : ℕ) (files : List (Option S)) (tracks : List ℕ) (new : List (Option S)) : Type 0 where
+    pub heads : map head_of (each content new) ≡ map head_of (each content files)
+    pub headers : map (take 512) (each content new) ≡ map (take 512) (each content files)
+    pub tracks_held : HoldTracks content size new tracks
+
   -- what a write of these bytes into the slot of a track leaves
   record Written (content : S → List ℕ) (size : ℕ) (files : List (Option S)) (tracks : List ℕ) (track : ℕ) (new : List (Option S)) (bytes : List ℕ) : Type 0 where
     pub slots : slot_bytes (each content new) ≡ overwritten (slot_bytes (each content files)) (track * size) bytes
     pub room : track * size + length bytes ≤ length (slot_bytes (each content files))
-    pub heads : map head_of (each content new) ≡ map head_of (each content files)
-    pub headers : map (take 512) (each content new) ≡ map (take 512) (each content files)
-    pub tracks_held : HoldTracks content size new tracks
+    pub keeps : KeepsHeads content size files tracks new
 
   written_at : (content : S → List ℕ) (size : ℕ) (files new : List (Option S)) (tracks : List ℕ) (track : ℕ) (p : SlotPlace) (bytes : List ℕ) → HoldTracks content size files tracks → Located content size files track p → Changed files new p.file → length bytes ≡ size → held content [] (file_at new p.file) ≡ overwritten (held content [] (file_at files p.file)) (512 + p.track * size) bytes → Written content size files tracks track new bytes
   written_at content size files new tracks track p bytes holds l x long is =
@@ -217,13 +223,14 @@ module _ {S : Type 0} where
       let same : length now ≡ length file = ap length is ∙ length-overwritten file bytes (512 + at) (omega arith) in
       let rest : drop 512 now ≡ overwritten (drop 512 file) at bytes = ap (drop 512) is ∙ drop-overwritten_before file bytes 512 at (omega arith) in
       let inside : at + length bytes ≤ length (drop 512 file) = simp length-drop (omega arith) in
-      let middle = overwritten_middle l.front (drop 512 file) l.back bytes at inside in
+      let front = before_file content files p.file in
+      let back = behind_file content files p.file in
+      let all = whole content size files track p l in
+      let changed = ap slot_bytes (each_now content [] files new p.file x) ∙ slot_bytes-middle (each content (take p.file files)) now (each content (drop (suc p.file) files)) in
       record {
-        slots = rw (x.is, l.before, l.whole) (l.split (file_at new p.file) x.stays ∙ ap (λ (r : List ℕ). l.front ++ (r ++ l.back)) rest ∙ sym middle);
-        room = rw (l.whole, l.before) (simp length-append (omega arith));
-        heads = map_same head_of (rw (header, same) refl);
-        headers = map_same (take 512) header;
-        tracks_held = tracks_same content size files new tracks p.file x holds same;
+        slots = rw (l.before, all) (changed ∙ ap (λ (r : List ℕ). front ++ (r ++ back)) rest ∙ sym (overwritten_middle front (drop 512 file) back bytes at inside));
+        room = rw (all, l.before) (simp length-append (omega arith));
+        keeps = record { heads = map_same head_of (rw (header, same) refl); headers = map_same (take 512) header; tracks_held = tracks_same content size files new tracks p.file x holds same };
       }
     where
       map_same : {T : Type 0} (h : List ℕ → T) → h (held content [] (file_at new p.file)) ≡ h (held content [] (file_at files p.file)) → map h (each content new) ≡ map h (each content files)
@@ -236,14 +243,12 @@ module _ {S : Type 0} where
   pub record Stored (content : S → List ℕ) (size : ℕ) (files : List (Option S)) (tracks : List ℕ) (track : ℕ) (new : List (Option S)) (bytes : List ℕ) (r : Result (Unit {0}) StoreFault) : Type 0 where
     pub written : OnOk r (slot_bytes (each content new) ≡ overwritten (slot_bytes (each content files)) (track * size) bytes)
     pub torn : OnErr r (Torn (slot_bytes (each content files)) (slot_bytes (each content new)) (track * size) size)
-    pub heads : map head_of (each content new) ≡ map head_of (each content files)
-    pub headers : map (take 512) (each content new) ≡ map (take 512) (each content files)
-    pub tracks_held : HoldTracks content size new tracks
+    pub keeps : KeepsHeads content size files tracks new
 
   pub stored_at : (content : S → List ℕ) (size : ℕ) (files new : List (Option S)) (tracks : List ℕ) (track at : ℕ) (p : SlotPlace) (bytes : List ℕ) (r : Result (Unit {0}) StoreFault) → HoldTracks content size files tracks → Located content size files track p → Changed files new p.file → length bytes ≡ size → at ≡ 512 + p.track * size → OnOk r (held content [] (file_at new p.file) ≡ overwritten (held content [] (file_at files p.file)) at bytes) → OnErr r (Torn (held content [] (file_at files p.file)) (held content [] (file_at new p.file)) at (length bytes)) → Stored content size files tracks track new bytes r
   stored_at content size files new tracks track at p bytes (Ok v) holds l x long is written torn =
       let w = written_at content size files new tracks track p bytes holds l x long (written ∙ ap (λ (n : ℕ). overwritten (held content [] (file_at files p.file)) n bytes) is) in
-      record { written = w.slots; torn = tt; heads = w.heads; headers = w.headers; tracks_held = w.tracks_held }
+      record { written = w.slots; torn = tt; keeps = w.keeps }
   stored_at content size files new tracks track at p bytes (Err e) holds l x long is written torn =
       let file = held content [] (file_at files p.file) in
       let now = held content [] (file_at new p.file) in
@@ -253,10 +258,4 @@ module _ {S : Type 0} where
       let size_is : length part ≡ size = length-between now at (at + length bytes) (rw torn.same_length ends) ∙ omega arith in
       let w = written_at content size files new tracks track p part holds l x size_is (torn_is file now at (length bytes) torn ends ∙ ap (λ (n : ℕ). overwritten file n part) is) in
       let room = w.room in
-      record {
-        written = tt;
-        torn = rw w.slots (torn_within (slot_bytes (each content files)) part (track * size) size room (omega arith));
-        heads = w.heads;
-        headers = w.headers;
-        tracks_held = w.tracks_held;
-      }
+      record { written = tt; torn = rw w.slots (torn_within (slot_bytes (each content files)) part (track * size) size room (omega arith)); keeps = w.keeps }

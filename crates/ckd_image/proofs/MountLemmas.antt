@@ -65,8 +65,7 @@ header_is f h e =
 abbrev AreHeaders : List FileHeader → List (List ℕ) → Type 0
 AreHeaders [] [] = Unit {0}
 AreHeaders (h ∷ hs) (f ∷ fs) = IsHeader h (length f) × AreHeaders hs fs
-AreHeaders [] (f ∷ fs) = ⊥
-AreHeaders (h ∷ hs) [] = ⊥
+AreHeaders _ _ = ⊥
 
 record AreRead (read : List FileHeader) (files : List (List ℕ)) (headers : List FileHeader) : Type 0 where
   pub rest : List FileHeader
@@ -162,8 +161,6 @@ few_heads D2314 = lit≤ tt
 
 whole_files : (model : DriveModel) (size most : ℕ) (headers : List FileHeader) (files : List (List ℕ)) → most < 65536 → AreHeaders headers files → AreParts (heads_of model * size) most headers → AllByRecursion (HoldsWhole size) files
 whole_files model size most [] [] limit are parts = tt
-whole_files model size most [] (f ∷ fs) limit are parts = absurd are
-whole_files model size most (h ∷ hs) [] limit are parts = absurd are
 whole_files model size most (h ∷ hs) (f ∷ fs) limit are parts =
     let c = parts.0.0 in (
       record {
@@ -179,15 +176,15 @@ whole_files model size most (h ∷ hs) (f ∷ fs) limit are parts =
         let heads = few_heads model in
         let a : c * heads_of model ≤ 65536 * heads_of model = mul-le-mul_right {m = c} {n = 65536} (heads_of model) (omega arith) in
         omega arith
+whole_files model size most hs fs limit are parts = absurd are
 
 slot_bytes_of : (headers : List FileHeader) (files : List (List ℕ)) → AreHeaders headers files → length (slot_bytes files) ≡ bytes_in headers
 slot_bytes_of [] [] are = refl
-slot_bytes_of [] (f ∷ fs) are = absurd are
-slot_bytes_of (h ∷ hs) [] are = absurd are
 slot_bytes_of (h ∷ hs) (f ∷ fs) are =
     let ih = slot_bytes_of hs fs are.1 in
     let len = are.0.is_len in
     simp (length-append, length-drop) (omega (arith, ih, len))
+slot_bytes_of hs fs are = absurd are
 
 volume_by : (size : ℕ) (headers : List FileHeader) (files : List (List ℕ)) (model : DriveModel) (o : Option ℕ) (g : Geometry) → least_track_size model ≤ size → size ≤ 65536 → are_together headers ≡ true → AreHeaders headers files → cylinders_in (heads_of model * size) 0 headers ≡ o → with_cylinders model size o ≡ Ok g → FitsFiles g files
 volume_by size headers files model None g least limit is are found e = cc

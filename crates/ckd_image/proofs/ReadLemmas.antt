@@ -3,7 +3,7 @@ use Rattle.std.proofs.Common.{◌≡◌, ℕ, zero, suc, ◌+◌, ◌-◌, ◌*�
 use Rattle.std.proofs.lemmas.List.{append-nil, length-set, get_or-set_other, take_at, drop_at}
 use Rattle.std.proofs.Math.Seq.{take-suc}
 use Rattle.std.proofs.Math.Nat.{mul-div_cancel}
-use Rattle.std.proofs.lemmas.List.Elements.{All-push, All-set}
+use Rattle.std.proofs.lemmas.List.Elements.{All-push, All-set, All-head, All-tail}
 use Rattle.std.specs.List.{AllByRecursion}
 use Rattle.ckd_image.specs.declared.header.FileHeader.{FileHeader}
 use Rattle.ckd_image.specs.declared.fault.MountFault.{MountFault}
@@ -11,6 +11,8 @@ use Rattle.ckd_image.specs.declared.fault.MountFault.TheVariants.{NotCkdP370, Co
 use Rattle.ckd_image.specs.Header.{Head, no_head, head_of, header_of, then_with, headers_of}
 use Rattle.ckd_image.specs.Files.{file_at, held, each, HoldTracks, HoldsWhole, HeaderRefused, HeadersRefused, FailedRead}
 use Rattle.ckd_image.proofs.FileLemmas.{map-each, held_by, Changed, each_same}
+-- this lemma is passed on
+pub use Rattle.ckd_image.proofs.FileLemmas.{each-append}
 
 -- One more header.
 
@@ -37,32 +39,23 @@ headers_fault heads place read r fault there e is =
 
 -- One store of several that are all there.
 module _ {S : Type 0} where
-  tail_there : (f : Option S) (files : List (Option S)) → All IsSome (f ∷ files) → All IsSome files
-  tail_there f files all = λ k d h. all (suc k) d (omega arith)
-
-  head_there : (f : Option S) (files : List (Option S)) → All IsSome (f ∷ files) → IsSome f
-  head_there f files all = all 0 None (omega arith)
-
   pub length-each : {T : Type 0} (f : S → T) (files : List (Option S)) → All IsSome files → length (each f files) ≡ length files
   length-each f [] all = refl
-  length-each f (None ∷ files) all = let h = head_there None files all in cc
-  length-each f (Some s ∷ files) all = let ih = length-each f files (tail_there (Some s) files all) in omega arith
+  length-each f (None ∷ files) all = let h = All-head IsSome None files all in cc
+  length-each f (Some s ∷ files) all = let ih = length-each f files (All-tail IsSome (Some s) files all) in omega arith
 
   pub get-each : {T : Type 0} (f : S → T) (d : T) (files : List (Option S)) (place : ℕ) → All IsSome files → place < length files → slice_index_or (each f files) place d ≡ held f d (file_at files place)
   get-each f d [] place all h = absurd (omega arith)
-  get-each f d (None ∷ files) place all h = let n = head_there None files all in cc
+  get-each f d (None ∷ files) place all h = let n = All-head IsSome None files all in cc
   get-each f d (Some s ∷ files) zero all h = refl
-  get-each f d (Some s ∷ files) (suc place) all h = get-each f d files place (tail_there (Some s) files all) (omega arith)
+  get-each f d (Some s ∷ files) (suc place) all h = get-each f d files place (All-tail IsSome (Some s) files all) (omega arith)
 
   pub put-each : {T : Type 0} (f : S → T) (d : T) (files : List (Option S)) (place : ℕ) (x : Option S) → All IsSome files → IsSome x → place < length files → each f (set files place x) ≡ set (each f files) place (held f d x)
   put-each f d [] place x all some h = absurd (omega arith)
-  put-each f d (None ∷ files) place x all some h = let n = head_there None files all in cc
+  put-each f d (None ∷ files) place x all some h = let n = All-head IsSome None files all in cc
   put-each f d (Some s ∷ files) zero None all some h = cc
   put-each f d (Some s ∷ files) zero (Some y) all some h = refl
-  put-each f d (Some s ∷ files) (suc place) x all some h = ap (λ ts. f s ∷ ts) (put-each f d files place x (tail_there (Some s) files all) some (omega arith))
-
-  pub there_at : (files : List (Option S)) (place : ℕ) → All IsSome files → place < length files → IsSome (file_at files place)
-  there_at files place all h = all place None h
+  put-each f d (Some s ∷ files) (suc place) x all some h = ap (λ ts. f s ∷ ts) (put-each f d files place x (All-tail IsSome (Some s) files all) some (omega arith))
 
   pub head-each : (content : S → List ℕ) (files : List (Option S)) (place : ℕ) → All IsSome files → place < length files → slice_index_or (map head_of (each content files)) place no_head ≡ head_of (held content [] (file_at files place))
   head-each content files place all h =
@@ -99,7 +92,7 @@ module _ {S : Type 0} where
       record {
         here = ap (λ (cs : List (List ℕ)). slice_index_or (map head_of cs) place no_head) (sym r.kept) ∙ head-each content now place r.there below;
         long = rw (length-heads content old all) exists;
-        changed = record { exists = below; there = there_at now place r.there below; stays = some; is = is };
+        changed = record { exists = below; there = r.there place None below; stays = some; is = is };
         there = rw is (All-set IsSome now place (file_at next place) some r.there);
       }
 
@@ -161,11 +154,6 @@ module _ {S : Type 0} where
 
   pub others-set : (files now : List (Option S)) (place k : ℕ) (x : Option S) → now ≡ set files place x → place + 1 ≤ k → file_at now k ≡ file_at files k
   others-set files now place k x is h = rw is (get_or-set_other files place k x None (λ e. absurd (omega arith)))
-
-  pub each-append : {T : Type 0} (f : S → T) (xs ys : List (Option S)) → each f (xs ++ ys) ≡ each f xs ++ each f ys
-  each-append f [] ys = refl
-  each-append f (None ∷ xs) ys = each-append f xs ys
-  each-append f (Some s ∷ xs) ys = ap (λ ts. f s ∷ ts) (each-append f xs ys)
 
   pub each_pushed : {T : Type 0} (f : S → T) (old now : List (Option S)) (file : Option S) → now ≡ old ++ file ∷ [] → each f now ≡ each f old ++ each f (file ∷ [])
   each_pushed f old now file is = ap (each f) is ∙ each-append f old (file ∷ [])

@@ -11,16 +11,8 @@ module _ {S : Type 0} where
 
   -- A list of eight is its elements.
   pub eight : (files : List (Option S)) → length files ≡ 8 → file_at files 0 ∷ file_at files 1 ∷ file_at files 2 ∷ file_at files 3 ∷ file_at files 4 ∷ file_at files 5 ∷ file_at files 6 ∷ file_at files 7 ∷ [] ≡ files
-  eight [] long = absurd (omega (arith, long))
-  eight (a ∷ []) long = absurd (omega (arith, long))
-  eight (a ∷ b ∷ []) long = absurd (omega (arith, long))
-  eight (a ∷ b ∷ c ∷ []) long = absurd (omega (arith, long))
-  eight (a ∷ b ∷ c ∷ d ∷ []) long = absurd (omega (arith, long))
-  eight (a ∷ b ∷ c ∷ d ∷ e ∷ []) long = absurd (omega (arith, long))
-  eight (a ∷ b ∷ c ∷ d ∷ e ∷ f ∷ []) long = absurd (omega (arith, long))
-  eight (a ∷ b ∷ c ∷ d ∷ e ∷ f ∷ g ∷ []) long = absurd (omega (arith, long))
   eight (a ∷ b ∷ c ∷ d ∷ e ∷ f ∷ g ∷ h ∷ []) long = refl
-  eight (a ∷ b ∷ c ∷ d ∷ e ∷ f ∷ g ∷ h ∷ i ∷ more) long = absurd (omega (arith, long))
+  eight files long = absurd (omega (arith, long))
 
   -- One more file before those that hold these tracks.
   pub holds_more : (content : S → List ℕ) (size : ℕ) (file : Option S) (n : ℕ) (files : List (Option S)) (tracks : List ℕ) → HoldTracks content size (file ∷ []) (n ∷ []) → HoldTracks content size files tracks → HoldTracks content size (file ∷ files) (n ∷ tracks)

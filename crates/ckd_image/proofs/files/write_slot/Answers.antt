@@ -22,9 +22,9 @@ returns g c =
       written = s.written;
       torn = s.torn;
       one = rw (← c.place_of-place.ensures.place) e.files;
-      heads = s.heads;
-      headers = s.headers;
-      held = s.tracks_held;
+      heads = s.keeps.heads;
+      headers = s.keeps.headers;
+      held = s.keeps.tracks_held;
       same = each_same g.S.ImageStore.origin [] files new p.file x e.same;
       counted = counted_all g.S.ImageStore.failures files new p.file c.write_store.result x e.counted;
     }
