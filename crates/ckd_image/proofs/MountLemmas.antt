@@ -86,121 +86,85 @@ all_read : (files : List (List ℕ)) (read headers : List FileHeader) → header
 all_read [] read headers h = record { rest = []; is = (let same : read ≡ headers = cc in sym same ∙ sym (append-nil read)); those = tt }
 all_read (file ∷ files) read headers h = read_by (header_of (head_of file)) read headers file files refl h (λ more e. all_read files more headers e)
 
--- lengths of files that hold these cylinders together, of this many bytes each
-abbrev AreParts : ℕ → ℕ → List FileHeader → Type 0
-AreParts size most [] = Unit {0}
-AreParts size most (h ∷ hs) = ((c : ℕ) × (c ≤ most) × (h.len ≡ 512 + c * size)) × AreParts size most hs
-
-abbrev bytes_in : List FileHeader → ℕ
-bytes_in [] = 0
-bytes_in (h ∷ hs) = h.len - 512 + bytes_in hs
-
-record Joined (size before total : ℕ) (headers : List FileHeader) : Type 0 where
-  pub above : before < total
-  pub most : total < 65536
-  pub parts : AreParts size total headers
-  pub bytes : before * size + bytes_in headers ≡ total * size
-
-joined_last : (size before total : ℕ) (h : FileHeader) → cylinders_of size before h.len ≡ Some total → Joined size before total (h ∷ [])
-joined_last size before total h e =
-    let c = (h.len - 512) / size in
-    let it = kept_if ((512 + c * size == h.len) && (nat_le 1 c && nat_lt (before + c) 65536)) (Some (before + c)) total e in
-    let parts = and_parts (512 + c * size == h.len) (nat_le 1 c && nat_lt (before + c) 65536) it.0 in
-    let rest = and_parts (nat_le 1 c) (nat_lt (before + c) 65536) parts.1 in
-    let whole = eqb-true (512 + c * size) h.len parts.0 in
-    let some = leb-true 1 c rest.0 in
-    let limit = ltb-true (before + c) 65536 rest.1 in
-    let is : before + c ≡ total = cc in
-    record {
-      above = omega arith;
-      most = omega arith;
-      parts = ((c, omega arith, sym whole), tt);
-      bytes = sums before c total h.len whole is;
-    }
-  where
-    sums : (before c total len : ℕ) → 512 + c * size ≡ len → before + c ≡ total → before * size + (len - 512 + 0) ≡ total * size
-    sums before c total len whole is = rw (sym is, add-mul before c size) (omega arith)
-
-joined_next : (size before total : ℕ) (h : FileHeader) (rest : List FileHeader) → before ≤ h.highest_cylinder + 1 → h.len ≡ 512 + (h.highest_cylinder + 1 - before) * size → Joined size (h.highest_cylinder + 1) total rest → Joined size before total (h ∷ rest)
-joined_next size before total h rest in_order long j =
-    let above = j.above in
-    record {
-      above = omega arith;
-      most = j.most;
-      parts = ((h.highest_cylinder + 1 - before, omega arith, long), j.parts);
-      bytes = sums before (h.highest_cylinder + 1) h.len (bytes_in rest) in_order long j.bytes;
-    }
-  where
-    split : (before next : ℕ) → before ≤ next → before + (next - before) ≡ next
-    split before next h = omega arith
-
-    sums : (before next len behind : ℕ) → before ≤ next → len ≡ 512 + (next - before) * size → next * size + behind ≡ total * size → before * size + (len - 512 + behind) ≡ total * size
-    sums before next len behind order long all =
-        let whole : next * size ≡ before * size + (next - before) * size = ap (λ (k : ℕ). k * size) (sym (split before next order)) ∙ add-mul before (next - before) size in
-        omega (arith, whole, long, all)
-
-joined : (first : FileHeader) (n previous size before total : ℕ) (headers : List FileHeader) → before ≤ previous + 1 → are_parts first n previous headers ≡ true → cylinders_in size before headers ≡ Some total → Joined size before total headers
-joined first n previous size before total [] order parts found = cc
-joined first n previous size before total (last ∷ []) order parts found = joined_last size before total last found
-joined first n previous size before total (h ∷ g ∷ rest) order parts found =
-    let a = and_parts (is_part first n h) (nat_lt previous h.highest_cylinder && are_parts first (n + 1) h.highest_cylinder (g ∷ rest)) parts in
-    let b = and_parts (nat_lt previous h.highest_cylinder) (are_parts first (n + 1) h.highest_cylinder (g ∷ rest)) a.1 in
-    let up = ltb-true previous h.highest_cylinder b.0 in
-    let it = kept_if (h.len == 512 + (h.highest_cylinder + 1 - before) * size) (cylinders_in size (h.highest_cylinder + 1) (g ∷ rest)) total found in
-    joined_next size before total h (g ∷ rest) (omega arith) (eqb-true h.len (512 + (h.highest_cylinder + 1 - before) * size) it.0)
-    (joined first (n + 1) h.highest_cylinder size (h.highest_cylinder + 1) total (g ∷ rest) (omega arith) b.1 it.1)
-
-together : (size total : ℕ) (headers : List FileHeader) → are_together headers ≡ true → cylinders_in size 0 headers ≡ Some total → Joined size 0 total headers
-together size total [] is found = cc
-together size total (only ∷ []) is found = joined_last size 0 total only found
-together size total (first ∷ second ∷ rest) is found = joined first 1 0 size 0 total (first ∷ second ∷ rest) (omega arith) is found
-
+-- one file that holds so many cylinders is whole
 few_heads : (model : DriveModel) → heads_of model ≤ 20
 few_heads D2311 = lit≤ tt
 few_heads D2314 = lit≤ tt
 
-whole_files : (model : DriveModel) (size most : ℕ) (headers : List FileHeader) (files : List (List ℕ)) → most < 65536 → AreHeaders headers files → AreParts (heads_of model * size) most headers → AllByRecursion (HoldsWhole size) files
-whole_files model size most [] [] limit are parts = tt
-whole_files model size most (h ∷ hs) (f ∷ fs) limit are parts =
-    let c = parts.0.0 in (
-      record {
-        tracks = c * heads_of model;
-        most = bounded c parts.0.1;
-        is_length = sym are.0.is_len ∙ parts.0.2 ∙ ap (λ (k : ℕ). 512 + k) (sym (mul_assoc c (heads_of model) size));
-      },
-      whole_files model size most hs fs limit are.1 parts.1,
-    )
-  where
-    bounded : (c : ℕ) → c ≤ most → c * heads_of model < 2 ^ 32
-    bounded c h =
-        let heads = few_heads model in
-        let a : c * heads_of model ≤ 65536 * heads_of model = mul-le-mul_right {m = c} {n = 65536} (heads_of model) (omega arith) in
-        omega arith
-whole_files model size most hs fs limit are parts = absurd are
+one_whole : (model : DriveModel) (size c : ℕ) (file : List ℕ) → c < 65536 → length file ≡ 512 + c * (heads_of model * size) → HoldsWhole size file
+one_whole model size c file most long = record {
+  tracks = c * heads_of model;
+  most = (let heads = few_heads model in let a : c * heads_of model ≤ 65536 * heads_of model = mul-le-mul_right {m = c} {n = 65536} (heads_of model) (omega arith) in omega arith);
+  is_length = long ∙ ap (λ (k : ℕ). 512 + k) (sym (mul_assoc c (heads_of model) size));
+}
 
-slot_bytes_of : (headers : List FileHeader) (files : List (List ℕ)) → AreHeaders headers files → length (slot_bytes files) ≡ bytes_in headers
-slot_bytes_of [] [] are = refl
-slot_bytes_of (h ∷ hs) (f ∷ fs) are =
-    let ih = slot_bytes_of hs fs are.1 in
-    let len = are.0.is_len in
-    simp (length-append, length-drop) (omega (arith, ih, len))
-slot_bytes_of hs fs are = absurd are
+-- files that hold the cylinders up to this total, behind so many in the files before them
+record Joined (model : DriveModel) (size before total : ℕ) (files : List (List ℕ)) : Type 0 where
+  pub above : before < total
+  pub most : total < 65536
+  pub whole : AllByRecursion (HoldsWhole size) files
+  pub bytes : before * (heads_of model * size) + length (slot_bytes files) ≡ total * (heads_of model * size)
+
+joined_last : (model : DriveModel) (size before total : ℕ) (h : FileHeader) (file : List ℕ) → h.len ≡ length file → cylinders_of (heads_of model * size) before h.len ≡ Some total → Joined model size before total (file ∷ [])
+joined_last model size before total h file len e =
+    let bytes = heads_of model * size in
+    let c = (h.len - 512) / bytes in
+    let it = kept_if ((512 + c * bytes == h.len) && (nat_le 1 c && nat_lt (before + c) 65536)) (Some (before + c)) total e in
+    let parts = and_parts (512 + c * bytes == h.len) (nat_le 1 c && nat_lt (before + c) 65536) it.0 in
+    let rest = and_parts (nat_le 1 c) (nat_lt (before + c) 65536) parts.1 in
+    let long : length file ≡ 512 + c * bytes = sym len ∙ sym (eqb-true (512 + c * bytes) h.len parts.0) in
+    let some = leb-true 1 c rest.0 in
+    let limit = ltb-true (before + c) 65536 rest.1 in
+    let is : before + c ≡ total = cc in
+    record { above = omega arith; most = omega arith; whole = (one_whole model size c file (omega arith) long, tt); bytes = sums before c total long is }
+  where
+    sums : (before c total : ℕ) → length file ≡ 512 + c * (heads_of model * size) → before + c ≡ total → before * (heads_of model * size) + length (slot_bytes (file ∷ [])) ≡ total * (heads_of model * size)
+    sums before c total long is = rw (sym is, add-mul before c (heads_of model * size)) (simp (length-append, length-drop) (omega arith))
+
+joined_next : (model : DriveModel) (size before next total : ℕ) (file : List ℕ) (files : List (List ℕ)) → before ≤ next → length file ≡ 512 + (next - before) * (heads_of model * size) → Joined model size next total files → Joined model size before total (file ∷ files)
+joined_next model size before next total file files in_order long j =
+    let above = j.above in
+    let most = j.most in
+    record { above = omega arith; most = most; whole = (one_whole model size (next - before) file (omega arith) long, j.whole); bytes = sums before next in_order long j.bytes }
+  where
+    sums : (before next : ℕ) → before ≤ next → length file ≡ 512 + (next - before) * (heads_of model * size) → next * (heads_of model * size) + length (slot_bytes files) ≡ total * (heads_of model * size) → before * (heads_of model * size) + length (slot_bytes (file ∷ files)) ≡ total * (heads_of model * size)
+    sums before next order long all =
+        let split : before + (next - before) ≡ next = omega arith in
+        let whole : next * (heads_of model * size) ≡ before * (heads_of model * size) + (next - before) * (heads_of model * size) = ap (λ (k : ℕ). k * (heads_of model * size)) (sym split) ∙ add-mul before (next - before) (heads_of model * size) in
+        simp (length-append, length-drop) (omega (arith, whole, long, all))
+
+joined : (first : FileHeader) (n previous : ℕ) (model : DriveModel) (size before total : ℕ) (headers : List FileHeader) (files : List (List ℕ)) → before ≤ previous + 1 → are_parts first n previous headers ≡ true → AreHeaders headers files → cylinders_in (heads_of model * size) before headers ≡ Some total → Joined model size before total files
+joined first n previous model size before total [] files order parts are found = cc
+joined first n previous model size before total (last ∷ []) (file ∷ []) order parts are found = joined_last model size before total last file are.0.is_len found
+joined first n previous model size before total (h ∷ g ∷ rest) (file ∷ files) order parts are found =
+    let next = h.highest_cylinder + 1 in
+    let a = and_parts (is_part first n h) (nat_lt previous h.highest_cylinder && are_parts first (n + 1) h.highest_cylinder (g ∷ rest)) parts in
+    let b = and_parts (nat_lt previous h.highest_cylinder) (are_parts first (n + 1) h.highest_cylinder (g ∷ rest)) a.1 in
+    let up = ltb-true previous h.highest_cylinder b.0 in
+    let it = kept_if (h.len == 512 + (next - before) * (heads_of model * size)) (cylinders_in (heads_of model * size) next (g ∷ rest)) total found in
+    joined_next model size before next total file files (omega arith) (sym are.0.is_len ∙ eqb-true h.len (512 + (next - before) * (heads_of model * size)) it.0)
+    (joined first (n + 1) h.highest_cylinder model size next total (g ∷ rest) files (omega arith) b.1 are.1 it.1)
+joined first n previous model size before total (h ∷ rest) [] order parts are found = absurd are
+joined first n previous model size before total (h ∷ []) (file ∷ more ∷ files) order parts are found = absurd are.1
+
+together : (model : DriveModel) (size total : ℕ) (headers : List FileHeader) (files : List (List ℕ)) → are_together headers ≡ true → AreHeaders headers files → cylinders_in (heads_of model * size) 0 headers ≡ Some total → Joined model size 0 total files
+together model size total [] files is are found = cc
+together model size total (only ∷ []) (file ∷ []) is are found = joined_last model size 0 total only file are.0.is_len found
+together model size total (first ∷ second ∷ rest) files is are found = joined first 1 0 model size 0 total (first ∷ second ∷ rest) files (omega arith) is are found
+together model size total (only ∷ []) [] is are found = absurd are
+together model size total (only ∷ []) (file ∷ more ∷ files) is are found = absurd are.1
 
 volume_by : (size : ℕ) (headers : List FileHeader) (files : List (List ℕ)) (model : DriveModel) (o : Option ℕ) (g : Geometry) → least_track_size model ≤ size → size ≤ 65536 → are_together headers ≡ true → AreHeaders headers files → cylinders_in (heads_of model * size) 0 headers ≡ o → with_cylinders model size o ≡ Ok g → FitsFiles g files
 volume_by size headers files model None g least limit is are found e = cc
 volume_by size headers files model (Some n) g least limit is are found e =
-    let j = together (heads_of model * size) n headers is found in
+    let j = together model size n headers files is are found in
     let above = j.above in
-    let bytes = j.bytes in
     let same : record { model = model; cylinders = n; track_size = size } ≡ g = cc in
     subst (λ (k : Geometry). FitsFiles k files) same (record {
       is_geometry = record { cylinders = omega arith; room = least; limit = limit };
-      whole = whole_files model size n headers files j.most are j.parts;
-      is_length = slot_bytes_of headers files are ∙ bytes_are n bytes ∙ sym (mul_assoc n (heads_of model) size);
+      whole = j.whole;
+      is_length = sym (zero-add (length (slot_bytes files))) ∙ rw zero-mul at j.bytes ∙ sym (mul_assoc n (heads_of model) size);
     })
-  where
-    bytes_are : (n : ℕ) → 0 * (heads_of model * size) + bytes_in headers ≡ n * (heads_of model * size) → bytes_in headers ≡ n * (heads_of model * size)
-    bytes_are n e = sym (rw zero-mul (zero-add (bytes_in headers))) ∙ e
 
 volume_fits : (headers : List FileHeader) (files : List (List ℕ)) (g : Geometry) → AreHeaders headers files → volume_of headers ≡ Ok g → FitsFiles g files
 volume_fits [] files g are e = cc

@@ -1,6 +1,7 @@
 -- Files that are gone through in order.
 use Rattle.std.proofs.Common.{◌≡◌, ℕ, zero, suc, ◌+◌, ◌-◌, ◌*◌, ◌/◌, ◌<◌, ◌≤◌, List, [], ◌∷◌, ◌++◌, length, take, drop, map, set, replicate, slice_index_or, Option, Some, None, IsSome, Result, Ok, Err, All, refl, sym, ap, ◌∙◌, add-one, arith, length-append, length-take, drop-cons}
-use Rattle.std.proofs.lemmas.List.{append-nil, length-set, get_or-set_other, take_at, drop_at}
+use Rattle.std.proofs.lemmas.List.{append-nil, length-set, length-map, map-set, get_or-set_other, take_at, drop_at}
+use Rattle.std.proofs.Math.ListN.{get_or-map}
 use Rattle.std.proofs.Math.Seq.{take-suc}
 use Rattle.std.proofs.Math.Nat.{mul-div_cancel}
 use Rattle.std.proofs.lemmas.List.Elements.{All-push, All-set, All-head, All-tail}
@@ -10,7 +11,7 @@ use Rattle.ckd_image.specs.declared.fault.MountFault.{MountFault}
 use Rattle.ckd_image.specs.declared.fault.MountFault.TheVariants.{NotCkdP370, Compressed, DeviceType, Heads, TrackSize, Split, Length, StoreFault}
 use Rattle.ckd_image.specs.Header.{Head, no_head, head_of, header_of, then_with, headers_of}
 use Rattle.ckd_image.specs.Files.{file_at, held, each, HoldTracks, HoldsWhole, HeaderRefused, HeadersRefused, FailedRead}
-use Rattle.ckd_image.proofs.FileLemmas.{map-each, held_by, Changed, each_same}
+use Rattle.ckd_image.proofs.FileLemmas.{Changed, each_same}
 -- this lemma is passed on
 pub use Rattle.ckd_image.proofs.FileLemmas.{each-append}
 
@@ -39,32 +40,25 @@ headers_fault heads place read r fault there e is =
 
 -- One store of several that are all there.
 module _ {S : Type 0} where
-  pub length-each : {T : Type 0} (f : S → T) (files : List (Option S)) → All IsSome files → length (each f files) ≡ length files
-  length-each f [] all = refl
-  length-each f (None ∷ files) all = let h = All-head IsSome None files all in cc
-  length-each f (Some s ∷ files) all = let ih = length-each f files (All-tail IsSome (Some s) files all) in omega arith
+  -- what is made of each file is what is made of the one at each place
+  each_all : {T : Type 0} (f : S → T) (d : T) (files : List (Option S)) → All IsSome files → each f files ≡ map (held f d) files
+  each_all f d [] all = refl
+  each_all f d (None ∷ files) all = let none = All-head IsSome None files all in cc
+  each_all f d (Some s ∷ files) all = ap (λ ts. f s ∷ ts) (each_all f d files (All-tail IsSome (Some s) files all))
 
-  pub get-each : {T : Type 0} (f : S → T) (d : T) (files : List (Option S)) (place : ℕ) → All IsSome files → place < length files → slice_index_or (each f files) place d ≡ held f d (file_at files place)
-  get-each f d [] place all h = absurd (omega arith)
-  get-each f d (None ∷ files) place all h = let n = All-head IsSome None files all in cc
-  get-each f d (Some s ∷ files) zero all h = refl
-  get-each f d (Some s ∷ files) (suc place) all h = get-each f d files place (All-tail IsSome (Some s) files all) (omega arith)
+  get-each : {T : Type 0} (f : S → T) (d : T) (files : List (Option S)) (place : ℕ) → All IsSome files → slice_index_or (each f files) place d ≡ held f d (file_at files place)
+  get-each f d files place all = ap (λ ts. slice_index_or ts place d) (each_all f d files all) ∙ get_or-map (held f d) files place None
 
-  pub put-each : {T : Type 0} (f : S → T) (d : T) (files : List (Option S)) (place : ℕ) (x : Option S) → All IsSome files → IsSome x → place < length files → each f (set files place x) ≡ set (each f files) place (held f d x)
-  put-each f d [] place x all some h = absurd (omega arith)
-  put-each f d (None ∷ files) place x all some h = let n = All-head IsSome None files all in cc
-  put-each f d (Some s ∷ files) zero None all some h = cc
-  put-each f d (Some s ∷ files) zero (Some y) all some h = refl
-  put-each f d (Some s ∷ files) (suc place) x all some h = ap (λ ts. f s ∷ ts) (put-each f d files place x (All-tail IsSome (Some s) files all) some (omega arith))
+  put-each : {T : Type 0} (f : S → T) (d : T) (files : List (Option S)) (place : ℕ) (x : Option S) → All IsSome files → IsSome x → each f (set files place x) ≡ set (each f files) place (held f d x)
+  put-each f d files place x all some =
+      each_all f d (set files place x) (All-set IsSome files place x some all) ∙ map-set (held f d) files place x ∙ ap (λ ts. set ts place (held f d x)) (sym (each_all f d files all))
 
-  pub head-each : (content : S → List ℕ) (files : List (Option S)) (place : ℕ) → All IsSome files → place < length files → slice_index_or (map head_of (each content files)) place no_head ≡ head_of (held content [] (file_at files place))
-  head-each content files place all h =
-      ap (λ hs. slice_index_or hs place no_head) (map-each head_of content files)
-      ∙ get-each (λ s. head_of (content s)) no_head files place all h
-      ∙ held_by head_of content [] (file_at files place)
+  head-each : (content : S → List ℕ) (files : List (Option S)) (place : ℕ) → All IsSome files → slice_index_or (map head_of (each content files)) place no_head ≡ head_of (held content [] (file_at files place))
+  head-each content files place all =
+      ap (λ cs. slice_index_or (map head_of cs) place no_head) (each_all content [] files all) ∙ get_or-map head_of (map (held content []) files) place [] ∙ ap head_of (get_or-map (held content []) files place None)
 
   pub length-heads : (content : S → List ℕ) (files : List (Option S)) → All IsSome files → length (map head_of (each content files)) ≡ length files
-  length-heads content files all = ap length (map-each head_of content files) ∙ length-each (λ s. head_of (content s)) files all
+  length-heads content files all = ap (λ cs. length (map head_of cs)) (each_all content [] files all) ∙ length-map (map (held content []) files) head_of ∙ length-map files (held content [])
 
   -- The reading of headers.
 
@@ -90,7 +84,7 @@ module _ {S : Type 0} where
   read_now content origin failures old now next place read all r exists is some =
       let below : place < length now = rw r.same_length exists in
       record {
-        here = ap (λ (cs : List (List ℕ)). slice_index_or (map head_of cs) place no_head) (sym r.kept) ∙ head-each content now place r.there below;
+        here = ap (λ (cs : List (List ℕ)). slice_index_or (map head_of cs) place no_head) (sym r.kept) ∙ head-each content now place r.there;
         long = rw (length-heads content old all) exists;
         changed = record { exists = below; there = r.there place None below; stays = some; is = is };
         there = rw is (All-set IsSome now place (file_at next place) some r.there);
@@ -135,8 +129,8 @@ module _ {S : Type 0} where
         there = n.long;
         front = rw r.front refl;
         long = rw n.here e.0;
-        counted = ap (each failures) is ∙ put-each failures 0 now place (file_at next place) r.there some n.changed.exists
-            ∙ ap (set (each failures now) place) (e.1 ∙ ap (λ (k : ℕ). k + 1) (sym (get-each failures 0 now place r.there n.changed.exists)))
+        counted = ap (each failures) is ∙ put-each failures 0 now place (file_at next place) r.there some
+            ∙ ap (set (each failures now) place) (e.1 ∙ ap (λ (k : ℕ). k + 1) (sym (get-each failures 0 now place r.there)))
             ∙ ap (λ (ns : List ℕ). set ns place (slice_index_or ns place 0 + 1)) r.none;
       }
       by fault e = (headers_fault (map head_of (each content old)) place [] read fault n.long r.front (rw n.here e.0), each_same failures 0 now next place n.changed e.1 ∙ r.none)
