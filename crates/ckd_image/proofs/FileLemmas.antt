@@ -11,7 +11,7 @@ use Rattle.std.specs.List.{concat, sum}
 use Rattle.ckd_image.specs.declared.store.StoreFault.{StoreFault}
 use Rattle.ckd_image.specs.declared.files.SlotPlace.{SlotPlace}
 use Rattle.ckd_image.specs.Store.{overwritten, Torn, Counts}
-use Rattle.ckd_image.specs.Header.{no_head, head_of}
+use Rattle.ckd_image.specs.Header.{head_of}
 use Rattle.ckd_image.specs.Files.{slot_bytes, behind, place_in, file_at, held, each, HoldTracks}
 use Rattle.ckd_image.proofs.SlotLemmas.{slot_within}
 use Rattle.ckd_image.proofs.Writes.{length-overwritten, take-overwritten_before, drop-overwritten_before, torn_within, torn_is}

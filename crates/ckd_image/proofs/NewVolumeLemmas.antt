@@ -1,5 +1,5 @@
 -- A new volume, written piece by piece.
-use Rattle.std.proofs.Common.{◌≡◌, Ok, ℕ, zero, suc, ◌+◌, ◌*◌, ◌≤◌, ◌<◌, max, List, [], ◌∷◌, ◌++◌, length, take, drop, map, All, refl, sym, lit≤, ap, ◌∙◌, subst, arith, length-append, length-drop}
+use Rattle.std.proofs.Common.{◌≡◌, Ok, ℕ, zero, suc, ◌+◌, ◌*◌, ◌≤◌, ◌<◌, max, List, [], ◌∷◌, ◌++◌, length, take, drop, map, All, refl, sym, lit≤, ap, ◌∙◌, arith, length-append, length-drop}
 use Rattle.std.proofs.Math.Nat.{zero-add, zero-mul, suc-mul, mul-le-mul_right}
 use Rattle.std.proofs.lemmas.List.{append_assoc, append-nil, length-replicate, take_at, drop_at, drop-drop, drop_all}
 use Rattle.std.proofs.lemmas.List.Folds.{concat-append}

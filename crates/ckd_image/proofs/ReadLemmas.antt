@@ -8,9 +8,9 @@ use Rattle.std.proofs.lemmas.List.Elements.{All-push, All-set, All-head, All-tai
 use Rattle.std.specs.List.{AllByRecursion}
 use Rattle.ckd_image.specs.declared.header.FileHeader.{FileHeader}
 use Rattle.ckd_image.specs.declared.fault.MountFault.{MountFault}
-use Rattle.ckd_image.specs.declared.fault.MountFault.TheVariants.{NotCkdP370, Compressed, DeviceType, Heads, TrackSize, Split, Length, StoreFault}
+use Rattle.ckd_image.specs.declared.fault.MountFault.TheVariants.{StoreFault}
 use Rattle.ckd_image.specs.Header.{Head, no_head, head_of, header_of, then_with, headers_of}
-use Rattle.ckd_image.specs.Files.{file_at, held, each, HoldTracks, HoldsWhole, HeaderRefused, HeadersRefused, FailedRead}
+use Rattle.ckd_image.specs.Files.{file_at, held, each, HoldTracks, HoldsWhole, HeaderRefused, HeadersRefused}
 use Rattle.ckd_image.proofs.FileLemmas.{Changed, each_same}
 -- this lemma is passed on
 pub use Rattle.ckd_image.proofs.FileLemmas.{each-append}

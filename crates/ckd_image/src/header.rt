@@ -121,7 +121,8 @@ pub(crate) fn volume_of_files(headers: &[FileHeader]) -> Result<Geometry, MountF
     if !are_files_of_one(headers) {
         return Err(MountFault::Split);
     }
-    match cylinders_of_files(headers, first.model.heads() as u64 * first.track_size as u64, 0) {
+    let size = first.model.heads() as u64 * first.track_size as u64;
+    match cylinders_of_files(headers, size, 0) {
         None => Err(MountFault::Length),
         Some(cylinders) => Ok(Geometry {
             model: first.model,

@@ -8,8 +8,8 @@ ghost use Rattle.ckd_image.specs.Files.{held, file_at, each, listed, alone, Hold
 use crate::layout::HEADER_LENGTH;
 use crate::store::{ImageStore, StoreFault};
 
-/// The most files of one image. Contracts and definitions have the number 8 in its place; it is what is proved to be one with
-/// it, since the lists of eight are as long as the arrays of this many.
+/// The most files of one image. Contracts and definitions have the number 8 for it, and are proved of the code that has
+/// this name.
 pub const MOST_FILES: usize = 8;
 
 /// The stores that hold the files of an image, in order, and none behind them. Each has a field of
