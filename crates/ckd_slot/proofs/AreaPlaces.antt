@@ -5,7 +5,8 @@ use Rattle.ckd_track.specs.declared.fault.SlotFault.{SlotFault}
 use Rattle.ckd_track.specs.Track.{number_of_records, offsets_of}
 use Rattle.ckd_track.proofs.Laws.{read_is_spelled}
 use Rattle.ckd_track.proofs.Offsets.{has_offsets, are_bytes}
-use Rattle.std.proofs.lemmas.List.{take_at, drop_at, get_or_past, get_or-take}
+use Rattle.std.proofs.lemmas.List.{take_at, take-take, get_or_past, get_or-take}
+use Rattle.std.proofs.Math.Seq.{take-add}
 use Rattle.std.proofs.lemmas.Grind.{get_or_default_zero}
 use Rattle.ckd_track.specs.Track.{Record, Track, Spells, track_of, track_in, record_in, no_record, record_bytes, count_area, key_length, data_length}
 use Rattle.ckd_track.proofs.Spelled.{reads_back}
@@ -17,9 +18,6 @@ use Rattle.ckd_position.specs.declared.extents.Extent.{Extent}
 use Rattle.ckd_position.specs.declared.extents.Extent.TheVariants as extent
 use Rattle.ckd_position.specs.Contents.{Sighted, bytes_of, record_on, records_on, is_readable}
 use Rattle.ckd_slot.specs.Buffer.{Lies, Tabled, IsRead, IsBuffer, HasBytes, StandsThere, home_address_place, record_place}
-
-pub read_as : (slot : List ℕ) → Spells slot (track_in slot) → 5 ≤ length slot
-read_as slot s = omega (arith, ap length (home_is slot (track_in slot) s), length-take 5 slot, s.home_address)
 
 take_five : (slot ha : List ℕ) → take 5 slot ≡ ha → take 4 (drop 1 slot) ≡ drop 1 ha
 take_five [] ha e = rw (← e) refl
@@ -34,16 +32,12 @@ home_lies slot t e s = record { within = omega arith; size = refl; here = refl }
 lies_by : (slot bytes : List ℕ) (at n : ℕ) → at + n ≤ length slot → length bytes ≡ n → take n (drop at slot) ≡ bytes → Lies slot (record { start = at; len = n }) bytes
 lies_by slot bytes at n room size here = let e : at + n - at ≡ n = omega arith in record { within = room; size = size; here = rw e here }
 
-first_of : (slot all first others : List ℕ) (at : ℕ) → drop at slot ≡ all → all ≡ first ++ others → take (length first) (drop at slot) ≡ first
-first_of slot all first others at e is = rw (e, is) (take_at first others (length first) refl)
-
 pub record_lies : (slot : List ℕ) (r : Record) (at : ℕ) (e : Extent) (part : Part) (i : ℕ) (t : Sighted) → StandsAt slot at r → record_on t i ≡ r
     → Lies slot (record_place e at (key_length (drop at slot)) (data_length (drop at slot))) (bytes_of e t (Of part i))
 record_lies slot r at extent.Identifier part i t s is =
     let p = parts_at slot at r s in
-    let b : drop at slot ≡ r.id ++ ((length r.key_area ∷ length r.data_area / 256 ∷ length r.data_area % 256 ∷ []) ++ (r.key_area ++ (r.data_area ++ s.rest))) =
-    s.bytes ∙ append_assoc (count_area r ++ r.key_area) r.data_area s.rest ∙ append_assoc (count_area r) r.key_area (r.data_area ++ s.rest) ∙ append_assoc r.id _ (r.key_area ++ (r.data_area ++ s.rest)) in
-    rw (is, bytes_of) (lies_by slot r.id at 5 (omega (arith, p.within)) s.is_record.id (let h : take (length r.id) (drop at slot) ≡ r.id = first_of slot _ r.id _ at b refl in rw s.is_record.id at h))
+    let id : take 5 (drop at slot) ≡ r.id = sym (take-take 5 8 (drop at slot) (omega arith)) ∙ ap (take 5) p.count ∙ take_at r.id (length r.key_area ∷ length r.data_area / 256 ∷ length r.data_area % 256 ∷ []) 5 s.is_record.id in
+    rw (is, bytes_of) (lies_by slot r.id at 5 (omega (arith, p.within)) s.is_record.id id)
 record_lies slot r at extent.Count part i t s is =
     let p = parts_at slot at r s in
     rw (is, bytes_of) (lies_by slot (count_area r) at 8 (omega (arith, p.within)) (omega (arith, ap length p.count, length-take 8 (drop at slot), length-drop at slot, p.within)) p.count)
@@ -55,20 +49,14 @@ record_lies slot r at extent.Data part i t s is =
     rw (is, bytes_of, p.key_size, p.data_size) (lies_by slot r.data_area (at + 8 + length r.key_area) (length r.data_area) (omega (arith, p.within)) refl p.data_area)
 record_lies slot r at extent.KeyAndData part i t s is =
     let p = parts_at slot at r s in
-    let whole : drop at slot ≡ count_area r ++ ((r.key_area ++ r.data_area) ++ s.rest) =
-    s.bytes ∙ append_assoc (count_area r ++ r.key_area) r.data_area s.rest ∙ append_assoc (count_area r) r.key_area (r.data_area ++ s.rest) ∙ ap (λ (xs : List ℕ). count_area r ++ xs) (sym (append_assoc r.key_area r.data_area s.rest)) in
-    let b : drop (at + 8) slot ≡ (r.key_area ++ r.data_area) ++ s.rest =
-    sym (drop-drop 8 at slot) ∙ ap (drop 8) whole
-    ∙ drop_at (count_area r) ((r.key_area ++ r.data_area) ++ s.rest) 8 (omega (arith, ap length p.count, length-take 8 (drop at slot), length-drop at slot, p.within)) in
-    let n : length (r.key_area ++ r.data_area) ≡ length r.key_area + length r.data_area = length-append r.key_area r.data_area in
-    rw (is, bytes_of, p.key_size, p.data_size) (lies_by slot (r.key_area ++ r.data_area) (at + 8) (length r.key_area + length r.data_area) (omega (arith, p.within)) n
-    (rw (← n) (first_of slot _ (r.key_area ++ r.data_area) s.rest (at + 8) b refl)))
+    let n = length r.key_area + length r.data_area in
+    let both : take n (drop (at + 8) slot) ≡ r.key_area ++ r.data_area = take-add (length r.key_area) (length r.data_area) (drop (at + 8) slot) ∙ rw (p.key_area, drop-drop (length r.key_area) (at + 8) slot, p.data_area) refl in
+    rw (is, bytes_of, p.key_size, p.data_size) (lies_by slot (r.key_area ++ r.data_area) (at + 8) n (omega (arith, p.within)) (length-append r.key_area r.data_area) both)
 record_lies slot r at extent.CountKeyAndData part i t s is =
     let p = parts_at slot at r s in
-    let back = reads_back r [] s.is_record in
-    let n : length (record_bytes r) ≡ 8 + length r.key_area + length r.data_area = omega (arith, back.own) in
-    rw (is, bytes_of, p.key_size, p.data_size) (lies_by slot (record_bytes r) at (8 + length r.key_area + length r.data_area) (omega (arith, p.within)) n
-    (rw (← n) (first_of slot _ (record_bytes r) s.rest at s.bytes refl)))
+    let n = 8 + length r.key_area + length r.data_area in
+    let own : length (record_bytes r) ≡ n = omega (arith, (reads_back r [] s.is_record).own) in
+    rw (is, bytes_of, p.key_size, p.data_size) (lies_by slot (record_bytes r) at n (omega (arith, p.within)) own (ap (take n) s.bytes ∙ take_at (record_bytes r) s.rest n own))
 record_lies slot r at e part i t s is = record { within = omega arith; size = refl; here = refl }
 
 -- a slot that reads whole spells the track that is read of it

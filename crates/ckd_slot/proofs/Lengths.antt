@@ -1,5 +1,5 @@
 -- What follows from the lengths of keys and data: where records stand, and what they take.
-use Rattle.std.proofs.Common.{◌≡◌, ◌∙◌, ap, sym, refl, ℕ, zero, suc, ◌+◌, ◌-◌, List, [], ◌∷◌, length, take, map, sum_by, nat_le, if◌then◌else◌, Some, None, arith}
+use Rattle.std.proofs.Common.{◌≡◌, ◌∙◌, ap, sym, refl, ℕ, ◌+◌, ◌-◌, List, [], ◌∷◌, length, take, map, sum_by, nat_le, if◌then◌else◌, Some, None, arith}
 use Rattle.std.proofs.lemmas.List.{take-map}
 use Rattle.std.proofs.lemmas.List.Sums.{sum_by-cons}
 use Rattle.ckd_track.specs.declared.model.DriveModel.{DriveModel}

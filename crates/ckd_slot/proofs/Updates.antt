@@ -1,7 +1,7 @@
 -- Slots whose area is written bit by bit.
-use Rattle.std.proofs.Common.{◌≡◌, ◌∙◌, ap, sym, subst, refl, ℕ, zero, suc, ◌+◌, ◌-◌, ◌≤◌, ◌<◌, max, false, Option, Some, None, List, ◌∷◌, ◌++◌, length, take, drop, flat_map, replicate, length-append, append_assoc, Ok, arith}
+use Rattle.std.proofs.Common.{◌≡◌, ◌∙◌, ap, sym, subst, ℕ, ◌+◌, ◌-◌, ◌≤◌, ◌<◌, max, false, Option, Some, None, List, ◌++◌, length, take, drop, replicate, length-append, append_assoc, Ok, arith}
 use Rattle.std.proofs.lemmas.List.{length-replicate, replicate-append-replicate, length-take-le, drop_at, take-append-drop}
-use Rattle.ckd_track.specs.Track.{Track, Spells, track_of, track_in, track_or_none, record_in, record_bytes, spelling, slot_of, end_mark}
+use Rattle.ckd_track.specs.Track.{Track, Spells, track_of, track_in, track_or_none, record_in, slot_of, end_mark}
 use Rattle.ckd_track.specs.Changes.{end_offset, overwritten, ended_at}
 use Rattle.ckd_track.proofs.Slots.{slot_of_spells, slot_of_reads, length-slot_of}
 use Rattle.ckd_track.proofs.Places.{place-le, end_is}

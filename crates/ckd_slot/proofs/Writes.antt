@@ -1,12 +1,12 @@
 -- What writes leave of the slot and of the table.
-use Rattle.std.proofs.Common.{◌≡◌, ◌∙◌, ap, sym, subst, refl, inl, inr, ◌⊎◌, ℕ, zero, suc, ◌+◌, ◌-◌, ◌/◌, ◌^◌, ◌≤◌, ◌<◌, min, List, [], ◌∷◌, ◌++◌, Bool, true, false, length, take, drop, set, flat_map, replicate, slice_index, bytes_eq, length-append, length-take, length-set, append-nil, Option, Some, None, Ok, unwrap_or, All, sum_by, add-one, arith}
+use Rattle.std.proofs.Common.{◌≡◌, ◌∙◌, ap, sym, subst, refl, ℕ, ◌+◌, ◌-◌, ◌/◌, ◌^◌, ◌≤◌, ◌<◌, min, List, [], ◌∷◌, ◌++◌, Bool, true, false, length, take, drop, set, flat_map, replicate, slice_index, bytes_eq, length-append, length-take, length-set, append-nil, Option, Some, None, Ok, unwrap_or, All, sum_by, arith}
 use Rattle.std.specs.Option.{ForSome}
 use Rattle.std.proofs.lemmas.List.{length-replicate, take_min, take_at, take-take, take_more_set, get_or_at}
 use Rattle.std.proofs.lemmas.List.Folds.{length-flat_map-take}
 use Rattle.std.proofs.Math.Seq.{map-set_same}
 use Rattle.std.proofs.lemmas.List.Elements.{All-set, All-nil, All-take, All-push, All-replicate}
 use Rattle.ckd_track.specs.Track.{Record, Track, IsRecord, Spells, track_of, track_in, track_or_none, record_in, no_record, record_offsets, offsets_from, record_size, record_bytes, record_at, body_length, key_length, data_length, spelling, slot_of, end_mark}
-use Rattle.ckd_track.specs.Changes.{bare_track, kept_records, with_record, with_data, with_key_data, with_body, offset_behind, end_offset, data_offset, overwritten, ended_at}
+use Rattle.ckd_track.specs.Changes.{bare_track, kept_records, with_record, with_body, offset_behind, end_offset, data_offset, overwritten, ended_at}
 use Rattle.ckd_track.proofs.Laws.{AreBytes}
 use Rattle.ckd_track.proofs.Places.{length-record_bytes, place, place-one, offset_is, place-le, end_is}
 use Rattle.ckd_track.proofs.Offsets.{few_records}
@@ -22,7 +22,7 @@ use Rattle.ckd_position.specs.declared.areas.Area.TheVariants.{HomeAddress, Of}
 use Rattle.ckd_position.specs.declared.areas.Part.{Part}
 use Rattle.ckd_position.specs.declared.areas.Part.TheVariants as part
 use Rattle.ckd_position.specs.Contents.{is_readable, padded, new_record, formatted, kept, replaced, with_record_changed}
-use Rattle.ckd_slot.specs.Buffer.{Tabled, IsIndexed, IsBuffer, StandsThere, number_up_to, FitsSlot, IsUpdate, IsRecordOf, IsPlaceOf, end_of_records, record_place, lengths_on, IsCharged, fits_track}
+use Rattle.ckd_slot.specs.Buffer.{IsIndexed, IsBuffer, StandsThere, number_up_to, FitsSlot, IsUpdate, IsRecordOf, IsPlaceOf, end_of_records, record_place, lengths_on, IsCharged, fits_track}
 use Rattle.ckd_slot.specs.declared.charges.Charged.{Charged}
 use Rattle.ckd_position.specs.declared.extents.Extent.{Extent}
 use Rattle.ckd_position.specs.declared.extents.Extent.TheVariants as extent
@@ -71,9 +71,6 @@ indexed_slot size t offsets n f room small within table =
 
 pub bare_fits : (size : ℕ) (ha : List ℕ) → length ha ≡ 5 → 13 ≤ size → FitsSlot size (bare_track ha)
 bare_fits size ha five room = record { home_address = five; records = All-nil IsRecord; room = omega (arith, length-spelling (bare_track ha) five (All-nil IsRecord)) }
-
-pub not_both : (slot : List ℕ) (i : ℕ) → StandsThere slot i None → i < length (track_in slot).records → ⊥
-not_both slot i there lt = omega (arith, there, lt)
 
 -- The buffer's records.
 
@@ -303,14 +300,12 @@ update_place extent.KeyAndData t part i w u lt p = (let e = p lt in (rw e refl, 
 update_place e t part i w u lt p = absurd u
 
 -- no bytes, and bytes that are all zero, are the same
-nothing_is_zeros : (n : ℕ) → padded [] n ≡ replicate n 0
-nothing_is_zeros n = (let e : n - 0 ≡ n = omega arith in rw e refl)
+padded_zeros : (n : ℕ) → padded (replicate n 0) n ≡ padded [] n
+padded_zeros n = padded_whole (replicate n 0) n (length-replicate {A = ℕ} n 0) ∙ (let e : n - 0 ≡ n = omega arith in rw e refl)
 
 pub zeros_replace : (e : Extent) (r : Record) → IsUpdate e → replaced e (replicate (update_length e r) 0) r ≡ replaced e [] r
-zeros_replace extent.Data r u = rw (padded_whole (replicate (length r.data_area) 0) (length r.data_area) (length-replicate {A = ℕ} (length r.data_area) 0), nothing_is_zeros (length r.data_area)) refl
-zeros_replace extent.KeyAndData r u =
-    let n = length r.key_area + length r.data_area in
-    rw (padded_whole (replicate n 0) n (length-replicate {A = ℕ} n 0), nothing_is_zeros n) refl
+zeros_replace extent.Data r u = rw (padded_zeros (length r.data_area)) refl
+zeros_replace extent.KeyAndData r u = rw (padded_zeros (length r.key_area + length r.data_area)) refl
 zeros_replace e r u = absurd u
 
 -- what is left where the bytes of a record's area are cleared, and where that is

@@ -1,8 +1,8 @@
-use Rattle.std.proofs.Common.{◌∙◌, sym, refl, subst}
+use Rattle.std.proofs.Common.{◌∙◌, sym, refl, subst, arith}
 use Rattle.ckd_position.specs.declared.areas.Area.{Area}
 use Rattle.ckd_slot.specs.Buffer.{HasBytes}
 use Rattle.ckd_track.specs.Track.{track_of}
-use Rattle.ckd_slot.proofs.Writes.{place_there, not_both}
+use Rattle.ckd_slot.proofs.Writes.{place_there}
 use Rattle.ckd_slot.proofs.AreaPlaces.{reads, home_window, record_window, no_window, room_there, no_data_there, no_data_nowhere}
 use Rattle.ckd_slot.proofs.buffer.TrackBuffer.part.Goals as goal
 
@@ -32,6 +32,6 @@ returns-in-None c =
     let P = λ (a : Area). HasBytes c.args.extent (track_of c.args.self.now) a in
     rw c.in-Of.is (record {
       lies = no_window c.args.self.now c.args.extent c.in-Of.field-0 c.in-Of.i there (subst P c.in-Of.is c.requires.on_track);
-      place = λ lt. absurd (not_both c.args.self.now c.in-Of.i there lt);
+      place = λ lt. absurd (omega (arith, there, lt));
       no_data = sym (no_data_nowhere c.args.self.now c.in-Of.i there);
     })
