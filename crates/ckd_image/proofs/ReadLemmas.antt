@@ -38,6 +38,13 @@ pub headers_fault : (heads : List Head) (place : ℕ) (read r : List FileHeader)
 headers_fault heads place read r fault there e is =
     read_behind heads place read r e ∙ ap (headers_of r) (drop-cons heads place no_head there) ∙ ap (λ o. then_with o (λ x. headers_of (r ++ x ∷ []) (drop (suc place) heads))) is
 
+-- how many tracks a whole file has
+pub counted_one : (size len : ℕ) (file : List ℕ) → len ≡ length file → 0 < size → HoldsWhole size file → length file ≡ 512 + (len - 512) / size * size
+counted_one size len file is some w =
+    let long = w.is_length in
+    let behind : len - 512 ≡ w.tracks * size = omega arith in
+    rw (behind, mul-div_cancel w.tracks some) long
+
 -- One store of several that are all there.
 module _ {S : Type 0} where
   -- what is made of each file is what is made of the one at each place
@@ -135,16 +142,7 @@ module _ {S : Type 0} where
       }
       by fault e = (headers_fault (map head_of (each content old)) place [] read fault n.long r.front (rw n.here e.0), each_same failures 0 now next place n.changed e.1 ∙ r.none)
 
-  -- Counting, and lists.
-
-  pub counted_one : (content : S → List ℕ) (size len : ℕ) (f : Option S) (s : S) → f ≡ Some s → len ≡ length (content s) → 0 < size → AllByRecursion (HoldsWhole size) (each content (f ∷ [])) → HoldTracks content size (f ∷ []) ((len - 512) / size ∷ [])
-  counted_one content size len None s is long some whole = cc
-  counted_one content size len (Some t) s is long some whole =
-      let same : t ≡ s = cc in
-      let w = whole.0 in
-      let length_is : length (content t) ≡ 512 + w.tracks * size = w.is_length in
-      let behind : len - 512 ≡ w.tracks * size = let e = ap (λ u. length (content u)) same in omega arith in
-      (rw (behind, mul-div_cancel w.tracks some) length_is, tt)
+  -- Lists.
 
   pub others-set : (files now : List (Option S)) (place k : ℕ) (x : Option S) → now ≡ set files place x → place + 1 ≤ k → file_at now k ≡ file_at files k
   others-set files now place k x is h = rw is (get_or-set_other files place k x None (λ e. absurd (omega arith)))
@@ -160,10 +158,9 @@ module _ {S : Type 0} where
       none_each zero = refl
       none_each (suc n) = none_each n
 
-  pub one_more_each : {T : Type 0} (f : S → T) (files : List (Option S)) (place : ℕ) (ts now : List T) (file : Option S) → ts ≡ each f (take place files) → place < length files → file ≡ file_at files place → now ≡ ts ++ each f (file ∷ []) → now ≡ each f (take (place + 1) files)
-  one_more_each f files place ts now file so_far below is now_is =
-      now_is ∙ ap (λ xs. xs ++ each f (file ∷ [])) so_far ∙ ap (λ x. each f (take place files) ++ each f (x ∷ [])) is
-      ∙ sym (ap (λ (k : ℕ). each f (take k files)) (add-one place) ∙ ap (each f) (take-suc files place None below) ∙ each-append f (take place files) (file_at files place ∷ []))
+  pub one_more_each : {T : Type 0} (f : S → T) (files : List (Option S)) (place : ℕ) (old now : List (Option S)) (file : Option S) → each f old ≡ each f (take place files) → place < length files → file ≡ file_at files place → each f now ≡ each f old ++ each f (file ∷ []) → each f now ≡ each f (take (place + 1) files)
+  one_more_each f files place old now file so_far below is now_is =
+      rw (add-one place, take-suc files place None below, ← is) (now_is ∙ ap (λ ts. ts ++ each f (file ∷ [])) so_far ∙ sym (each-append f (take place files) (file ∷ [])))
 
   -- the files of a list whose slice was lent and may have changed; and with none behind them
   pub each-lent : {T : Type 0} (f : S → T) (items lent new : List (Option S)) → lent ≡ items → length new ≡ length lent → each f new ≡ each f lent → each f (take (length items) (new ++ drop (length new) items)) ≡ each f items
