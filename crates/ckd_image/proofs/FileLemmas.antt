@@ -28,9 +28,7 @@ overwritten_middle front mid back bytes at h =
     ap (λ (n : ℕ). drop n (front ++ (mid ++ back))) place
     ∙ drop-append-add front (mid ++ back) (at + length bytes)
     ∙ drop-append-le (at + length bytes) mid back h in
-    rw (before, after) (append_assoc (front ++ take at mid) bytes (drop (at + length bytes) mid ++ back)
-    ∙ append_assoc front (take at mid) (bytes ++ (drop (at + length bytes) mid ++ back))
-    ∙ ap (λ (s : List ℕ). front ++ s) (sym (append_assoc (take at mid ++ bytes) (drop (at + length bytes) mid) back ∙ append_assoc (take at mid) bytes (drop (at + length bytes) mid ++ back))))
+    rw (before, after) (simp append_assoc)
 
 range_middle : (front mid back : List ℕ) (at n : ℕ) → at + n ≤ length mid → slice_range (front ++ (mid ++ back)) (length front + at) (length front + at + n) ≡ slice_range mid at (at + n)
 range_middle front mid back at n h =

@@ -154,35 +154,35 @@ together model size total (first ∷ second ∷ rest) files is are found = joine
 together model size total (only ∷ []) [] is are found = absurd are
 together model size total (only ∷ []) (file ∷ more ∷ files) is are found = absurd are.1
 
-volume_by : (size : ℕ) (headers : List FileHeader) (files : List (List ℕ)) (model : DriveModel) (o : Option ℕ) (g : Geometry) → least_track_size model ≤ size → size ≤ 65536 → are_together headers ≡ true → AreHeaders headers files → cylinders_in (heads_of model * size) 0 headers ≡ o → with_cylinders model size o ≡ Ok g → FitsFiles g files
-volume_by size headers files model None g least limit is are found e = cc
-volume_by size headers files model (Some n) g least limit is are found e =
-    let j = together model size n headers files is are found in
-    let above = j.above in
-    let same : record { model = model; cylinders = n; track_size = size } ≡ g = cc in
-    subst (λ (k : Geometry). FitsFiles k files) same (record {
-      is_geometry = record { cylinders = omega arith; room = least; limit = limit };
-      whole = j.whole;
-      is_length = sym (zero-add (length (slot_bytes files))) ∙ rw zero-mul at j.bytes ∙ sym (mul_assoc n (heads_of model) size);
-    })
-
 volume_fits : (headers : List FileHeader) (files : List (List ℕ)) (g : Geometry) → AreHeaders headers files → volume_of headers ≡ Ok g → FitsFiles g files
 volume_fits [] files g are e = cc
 volume_fits (first ∷ rest) [] g are e = absurd are
 volume_fits (first ∷ rest) (f ∷ fs) g are e =
     let all = cylinders_in (heads_of first.model * first.track_size) 0 (first ∷ rest) in
     let a = past (not (are_together (first ∷ rest))) Split (with_cylinders first.model first.track_size all) g e in
-    volume_by first.track_size (first ∷ rest) (f ∷ fs) first.model all g are.0.room are.0.limit (not-false (are_together (first ∷ rest)) a.0) are refl a.1
-
-mount_by : (o : Result (List FileHeader) MountFault) (files : List (List ℕ)) (g : Geometry) → headers_of [] (map head_of files) ≡ o → then_with o volume_of ≡ Ok g → FitsFiles g files
-mount_by (Err fault) files g found e = cc
-mount_by (Ok headers) files g found e =
-    let r = all_read files [] headers found in
-    volume_fits headers files g (subst (λ (hs : List FileHeader). AreHeaders hs files) (sym r.is) r.those) e
+    by (not-false (are_together (first ∷ rest)) a.0) all refl a.1
+  where
+    by : are_together (first ∷ rest) ≡ true → (o : Option ℕ) → cylinders_in (heads_of first.model * first.track_size) 0 (first ∷ rest) ≡ o → with_cylinders first.model first.track_size o ≡ Ok g → FitsFiles g (f ∷ fs)
+    by is None found e = cc
+    by is (Some n) found e =
+        let j = together first.model first.track_size n (first ∷ rest) (f ∷ fs) is are found in
+        let above = j.above in
+        let same : record { model = first.model; cylinders = n; track_size = first.track_size } ≡ g = cc in
+        subst (λ (k : Geometry). FitsFiles k (f ∷ fs)) same (record {
+          is_geometry = record { cylinders = omega arith; room = are.0.room; limit = are.0.limit };
+          whole = j.whole;
+          is_length = sym (zero-add (length (slot_bytes (f ∷ fs)))) ∙ rw zero-mul at j.bytes ∙ sym (mul_assoc n (heads_of first.model) first.track_size);
+        })
 
 -- what is mounted has a geometry, and holds its tracks
 pub mount_fits : (files : List (List ℕ)) (g : Geometry) → mount_of files ≡ Ok g → FitsFiles g files
-mount_fits files g e = mount_by (headers_of [] (map head_of files)) files g refl e
+mount_fits files g e = by (headers_of [] (map head_of files)) refl e
+  where
+    by : (o : Result (List FileHeader) MountFault) → headers_of [] (map head_of files) ≡ o → then_with o volume_of ≡ Ok g → FitsFiles g files
+    by (Err fault) found e = cc
+    by (Ok headers) found e =
+        let r = all_read files [] headers found in
+        volume_fits headers files g (subst (λ (hs : List FileHeader). AreHeaders hs files) (sym r.is) r.those) e
 
 pub size_some : (files : List (List ℕ)) (g : Geometry) → mount_of files ≡ Ok g → 0 < g.track_size
 size_some files g e = let room = (mount_fits files g e).is_geometry.room in omega arith
