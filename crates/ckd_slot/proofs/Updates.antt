@@ -2,7 +2,7 @@
 use Rattle.std.proofs.Common.{◌≡◌, ◌∙◌, ap, sym, subst, ℕ, ◌+◌, ◌-◌, ◌≤◌, ◌<◌, max, false, Option, Some, None, List, ◌++◌, length, take, drop, replicate, length-append, append_assoc, Ok, arith}
 use Rattle.std.proofs.lemmas.List.{length-replicate, replicate-append-replicate, length-take-le, drop_at, take-append-drop}
 use Rattle.ckd_track.specs.Track.{Track, Spells, track_of, track_in, track_or_none, record_in, slot_of, end_mark}
-use Rattle.ckd_track.specs.Changes.{end_offset, overwritten, ended_at}
+use Rattle.ckd_track.specs.Changes.{end_offset, overwritten, ended_at, IsZeroFrom}
 use Rattle.ckd_track.proofs.Slots.{slot_of_spells, slot_of_reads, length-slot_of}
 use Rattle.ckd_track.proofs.Places.{place-le, end_is}
 use Rattle.ckd_track.proofs.Rewritten.{length-overwritten, overwritten-middle, ended}
@@ -85,10 +85,14 @@ put_indexed {old} {new} {offsets} {records = Some n} x s long = record {
 }
 put_indexed {old} {new} {offsets} {records = None} x s long = absurd (let no : is_readable (track_of old) ≡ false = x.read in let yes = ap is_readable s.old_read in cc)
 
+pub kept_buffer : {old new offsets : List ℕ} {records : Option ℕ} {zeros_from z : ℕ} {charged : Charged} → IsBuffer old offsets records zeros_from charged → SameRecords old new → length new ≡ length old → IsZeroFrom new z → IsBuffer new offsets records z charged
+kept_buffer {old} {new} {charged} x s long cleared = record {
+  indexed = put_indexed x.indexed s long;
+  cleared = cleared;
+  charges = x.charges ∙ sym (same_left charged.model (track_in new) (track_in old) charged.records s.lengths);
+}
+
 pub put_buffer : {old offsets : List ℕ} {records : Option ℕ} {zeros_from : ℕ} {charged : Charged} (at : ℕ) (b : List ℕ) → IsBuffer old offsets records zeros_from charged → at + length b ≤ length old → SameRecords old (overwritten old at b)
     → IsBuffer (overwritten old at b) offsets records (max zeros_from (at + length b)) charged
-put_buffer {old} {offsets} {records} {zeros_from} {charged} at b x room s = record {
-  indexed = put_indexed x.indexed s (length-overwritten old at b room);
-  cleared = zero_over old at b zeros_from (max zeros_from (at + length b)) x.cleared (omega arith) (omega arith) (omega (arith, x.cleared.within, room));
-  charges = x.charges ∙ sym (same_left charged.model (track_in (overwritten old at b)) (track_in old) charged.records s.lengths);
-}
+put_buffer {old} {zeros_from} at b x room s =
+    kept_buffer x s (length-overwritten old at b room) (zero_over old at b zeros_from (max zeros_from (at + length b)) x.cleared (omega arith) (omega arith) (omega (arith, x.cleared.within, room)))

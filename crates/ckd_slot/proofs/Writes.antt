@@ -28,7 +28,7 @@ use Rattle.ckd_position.specs.declared.extents.Extent.{Extent}
 use Rattle.ckd_position.specs.declared.extents.Extent.TheVariants as extent
 use Rattle.ckd_slot.specs.declared.windows.Window.{Window}
 use Rattle.ckd_slot.proofs.AreaPlaces.{Reads, parts_there, how_many}
-use Rattle.ckd_slot.proofs.Lengths.{lengths_of, same_offsets, same_left}
+use Rattle.ckd_slot.proofs.Lengths.{lengths_of}
 
 -- The table.
 
@@ -227,16 +227,6 @@ module _ {slot : List ℕ} {model : DriveModel} {before : Option ℕ} {after : O
       ap record_size there ∙ sym (length-record_bytes (record_at (count ++ zeros)) makes_new.is_record) ∙ ap length makes_new.all ∙ all in
       let long : length (record_in made number).key_area + length (record_in made number).data_area ≡ body_length count = omega (arith, size) in
       rw (offset, long) refl)
-
--- A slot and its table where only an area's bytes change.
-pub same_charged : (slot : List ℕ) (t' : Track) (charged : Charged) → FitsSlot (length slot) t' → lengths_on t' ≡ lengths_on (track_in slot) → IsCharged (track_in slot).records charged → IsCharged (track_in (slot_of (length slot) t')).records charged
-same_charged slot t' charged f long is =
-    let made : track_in (slot_of (length slot) t') ≡ t' = ap track_or_none (slot_of_reads (length slot) t' f.home_address f.records) in
-    is ∙ sym (same_left charged.model (track_in (slot_of (length slot) t')) (track_in slot) charged.records (ap lengths_on made ∙ long))
-
-pub same_indexed : (slot offsets : List ℕ) (records : Option ℕ) (t' : Track) → IsIndexed slot offsets records → is_readable (track_of slot) ≡ true → FitsSlot (length slot) t' → lengths_on t' ≡ lengths_on (track_in slot) → IsIndexed (slot_of (length slot) t') offsets records
-same_indexed slot offsets (Some n) t' x r f e = indexed_slot (length slot) t' offsets n f x.room x.size x.read.within (x.read.table ∙ sym (same_offsets t' (track_in slot) e))
-same_indexed slot offsets None t' x r f e = absurd (let no : is_readable (track_of slot) ≡ false = x.read in cc)
 
 -- Other bytes in a record's areas.
 

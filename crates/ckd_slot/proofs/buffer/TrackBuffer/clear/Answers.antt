@@ -1,10 +1,12 @@
-use Rattle.std.proofs.Common.{[], ◌≡◌, ◌∙◌, ℕ, length, replicate, arith, rules}
+use Rattle.std.proofs.Common.{[], ◌≡◌, ◌∙◌, ap, ℕ, length, replicate, arith, rules}
 use Rattle.std.specs.Vec.{with_items}
 use Rattle.std.proofs.lemmas.List.{with_items_is, length-replicate}
 use Rattle.ckd_track.specs.Track.{track_in, slot_of}
 use Rattle.ckd_position.specs.Contents.{with_record_changed, replaced}
 use Rattle.ckd_slot.proofs.AreaPlaces.{reads}
-use Rattle.ckd_slot.proofs.Writes.{Clears, clear_is, same_indexed, same_charged}
+use Rattle.ckd_slot.proofs.Writes.{Clears, clear_is}
+use Rattle.ckd_slot.proofs.Updates.{same_records, kept_buffer}
+use Rattle.ckd_track.proofs.Slots.{length-slot_of}
 use Rattle.ckd_track.proofs.Zeros.{ended_zeros}
 use Rattle.ckd_slot.proofs.buffer.TrackBuffer.clear.Goals as goal
 
@@ -27,18 +29,14 @@ items c = with_items_is c.self.inside.slot c.clear_area.new.slot (search rules)
 
 pub invariant_of-self : goal.invariant_of-self
 invariant_of-self c =
-    let i = c.self.inside in
     let s = c.args.self.now in
     let x = rw c.self.view_is at c.self.invariant in
     let k = cleared c in
-    let t = with_record_changed (replaced c.args.extent []) c.args.area (track_in s) in
+    let same = same_records (length s) s c.clear_area.new.slot (with_record_changed (replaced c.args.extent []) c.args.area (track_in s)) (reads x c.requires.readable).read k.fits (made c) k.lengths in
     let many = length-replicate {A = ℕ} c.window-window.result.len 0 in
     let end = c.end_of-end.ensures.room in
-    rw (items c) (record {
-      indexed = rw (made c) (same_indexed s i.offsets.items i.records t x.indexed c.requires.readable k.fits k.lengths);
-      cleared = ended_zeros s c.window-window.result.start (replicate c.window-window.result.len 0) c.end_of-end.result c.clear_area.new.slot (omega (arith, many, k.within, end)) end (rw (c.deref_mut.ensures.value ∙ c.self.view_is) at c.clear_area.ensures);
-      charges = rw (made c) (same_charged s t i.charged k.fits k.lengths x.charges);
-    })
+    let zeros = ended_zeros s c.window-window.result.start (replicate c.window-window.result.len 0) c.end_of-end.result c.clear_area.new.slot (omega (arith, many, k.within, end)) end (rw (c.deref_mut.ensures.value ∙ c.self.view_is) at c.clear_area.ensures) in
+    rw (items c) (kept_buffer x same (ap length (made c) ∙ length-slot_of (length s) _ k.fits.room) zeros)
 
 pub returns-clause-slot : goal.returns-clause-slot
 returns-clause-slot c = rw (items c) (made c)
