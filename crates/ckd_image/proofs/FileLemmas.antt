@@ -243,6 +243,7 @@ module _ {S : Type 0} where
     pub torn : OnErr r (Torn (slot_bytes (each content files)) (slot_bytes (each content new)) (track * size) size)
     pub keeps : KeepsHeads content size files tracks new
 
+  -- with all that says where the slot is, and what the call of the one store answered
   pub stored_at : (content : S → List ℕ) (size : ℕ) (files new : List (Option S)) (tracks : List ℕ) (track at : ℕ) (p : SlotPlace) (bytes : List ℕ) (r : Result (Unit {0}) StoreFault) → HoldTracks content size files tracks → Located content size files track p → Changed files new p.file → length bytes ≡ size → at ≡ 512 + p.track * size → OnOk r (held content [] (file_at new p.file) ≡ overwritten (held content [] (file_at files p.file)) at bytes) → OnErr r (Torn (held content [] (file_at files p.file)) (held content [] (file_at new p.file)) at (length bytes)) → Stored content size files tracks track new bytes r
   stored_at content size files new tracks track at p bytes (Ok v) holds l x long is written torn =
       let w = written_at content size files new tracks track p bytes holds l x long (written ∙ ap (λ (n : ℕ). overwritten (held content [] (file_at files p.file)) n bytes) is) in

@@ -98,7 +98,7 @@ pub record Saved (was now : ImageState) (slot : List ℕ) (track : ℕ) (r : Res
   pub err : OnErr r (now ≡ record was { saves = was.saves + 1; failures = was.failures + 1; slots = set was.slots track (get_or now.slots track []) })
   pub size : length (get_or now.slots track []) ≡ was.geometry.track_size
 
--- of all that an image has, but for its saves, since each of it stays
+-- with all that is seen of an image before and now, since each of it stays or is counted
 pub saved : (g : Geometry) (files new origins : List (List ℕ)) (slot : List ℕ) (track before now loads saves : ℕ) (r : Result (Unit {0}) StoreFault) → mount_of files ≡ Ok g → mount_of new ≡ Ok g → track < tracks_of g → length slot ≡ g.track_size → map (take 512) new ≡ map (take 512) files → OnOk r (slot_bytes new ≡ overwritten (slot_bytes files) (track * g.track_size) slot) → OnErr r (Torn (slot_bytes files) (slot_bytes new) (track * g.track_size) g.track_size) → Counts before now r → Saved (seen g files origins before loads saves) (seen g new origins now loads (saves + 1)) slot track r
 saved g files new origins slot track before now loads saves r mounts mounts_now exists size headers written torn counted = by r written torn counted
   where

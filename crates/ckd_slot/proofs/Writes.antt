@@ -117,7 +117,7 @@ pub record Fitting (slot : List ℕ) (model : DriveModel) (before : Option ℕ) 
   pub there : ForSome before (λ i. i < length (track_in slot).records)
   pub room : length (spelling (formatted (track_of slot) after count)) ≤ length slot
 
--- by the answer for the first records of the track as it is seen, which has this number and takes part in many steps
+-- by what the code asked of the track as it sees it, and by the answer
 pub fitting : (slot : List ℕ) (model : DriveModel) (before : Option ℕ) (after : Option Area) (count : List ℕ) (seen : Track) (n : ℕ) (answer : Bool) → Spells slot (track_in slot) → AreBytes count → length count ≡ 8
     → kept_records before (track_in slot) ≡ kept (track_of slot) after → ForSome before (λ i. i < length (track_in slot).records) → track_of slot ≡ Ok seen → n ≡ number_up_to before
     → answer ≡ has_room model (take n seen.records) (key_length count) (data_length count) → answer ≡ true → capacity_of model + 37 ≤ length slot → Fitting slot model before after count
