@@ -1,16 +1,17 @@
 -- Files one behind the other, of which one changes.
-use Rattle.std.proofs.Common.{◌≡◌, ℕ, zero, suc, ◌+◌, ◌-◌, ◌*◌, ◌<◌, ◌≤◌, nat_lt, Bool, true, false, if◌then◌else◌, List, [], ◌∷◌, ◌++◌, length, take, drop, map, set, slice_range, Option, Some, None, IsSome, Result, Ok, Err, OnOk, OnErr, refl, sym, ap, ◌∙◌, subst, arith, length-append, length-drop}
-use Rattle.std.proofs.lemmas.List.{take-append-le, drop-append-le, append_assoc, drop-drop}
+use Rattle.std.proofs.Common.{◌≡◌, ℕ, zero, suc, ◌+◌, ◌-◌, ◌*◌, ◌<◌, ◌≤◌, nat_lt, Bool, true, false, if◌then◌else◌, List, [], ◌∷◌, ◌++◌, length, take, drop, map, set, slice_range, Option, Some, None, IsSome, Result, Ok, Err, OnOk, OnErr, refl, sym, ap, ◌∙◌, subst, add-one, arith, length-append, length-drop}
+use Rattle.std.proofs.lemmas.List.{take-append-le, drop-append-le, append_assoc, drop-drop, map-append, set_split, set-get_or}
 use Rattle.std.proofs.lemmas.List.Edits.{length-between}
 use Rattle.std.proofs.lemmas.Bool.{ltb-true, ltb-false}
-use Rattle.std.proofs.lemmas.List.Sums.{sum_by-cons}
+use Rattle.std.proofs.lemmas.List.Sums.{sum_by-cons, sum_by-append}
+use Rattle.std.proofs.lemmas.List.Folds.{concat-append}
 use Rattle.std.proofs.Math.Seq.{take-append-add, drop-append-add}
-use Rattle.std.proofs.Math.Nat.{zero-add, add-mul}
-use Rattle.std.specs.List.{sum}
+use Rattle.std.proofs.Math.Nat.{zero-add, zero-mul, add-mul}
+use Rattle.std.specs.List.{concat, sum}
 use Rattle.ckd_image.specs.declared.store.StoreFault.{StoreFault}
 use Rattle.ckd_image.specs.declared.files.SlotPlace.{SlotPlace}
 use Rattle.ckd_image.specs.Store.{overwritten, Torn, Counts}
-use Rattle.ckd_image.specs.Header.{no_head, head_of}
+use Rattle.ckd_image.specs.Header.{head_of}
 use Rattle.ckd_image.specs.Files.{slot_bytes, behind, place_in, file_at, held, each, HoldTracks}
 use Rattle.ckd_image.proofs.SlotLemmas.{slot_within}
 use Rattle.ckd_image.proofs.Writes.{length-overwritten, take-overwritten_before, drop-overwritten_before, torn_within, torn_is}
@@ -18,7 +19,7 @@ use Rattle.ckd_image.proofs.Writes.{length-overwritten, take-overwritten_before,
 -- Parts of a list.
 
 -- bytes in the middle are written over
-pub overwritten_middle : (front mid back bytes : List ℕ) (at : ℕ) → at + length bytes ≤ length mid → overwritten (front ++ (mid ++ back)) (length front + at) bytes ≡ front ++ (overwritten mid at bytes ++ back)
+overwritten_middle : (front mid back bytes : List ℕ) (at : ℕ) → at + length bytes ≤ length mid → overwritten (front ++ (mid ++ back)) (length front + at) bytes ≡ front ++ (overwritten mid at bytes ++ back)
 overwritten_middle front mid back bytes at h =
     let place : length front + at + length bytes ≡ length front + (at + length bytes) = omega arith in
     let before : take (length front + at) (front ++ (mid ++ back)) ≡ front ++ take at mid =
@@ -27,139 +28,149 @@ overwritten_middle front mid back bytes at h =
     ap (λ (n : ℕ). drop n (front ++ (mid ++ back))) place
     ∙ drop-append-add front (mid ++ back) (at + length bytes)
     ∙ drop-append-le (at + length bytes) mid back h in
-    rw (before, after) (append_assoc (front ++ take at mid) bytes (drop (at + length bytes) mid ++ back)
-    ∙ append_assoc front (take at mid) (bytes ++ (drop (at + length bytes) mid ++ back))
-    ∙ ap (λ (s : List ℕ). front ++ s) (sym (append_assoc (take at mid ++ bytes) (drop (at + length bytes) mid) back ∙ append_assoc (take at mid) bytes (drop (at + length bytes) mid ++ back))))
+    rw (before, after) (simp append_assoc)
 
-pub range_middle : (front mid back : List ℕ) (at n : ℕ) → at + n ≤ length mid → slice_range (front ++ (mid ++ back)) (length front + at) (length front + at + n) ≡ slice_range mid at (at + n)
+range_middle : (front mid back : List ℕ) (at n : ℕ) → at + n ≤ length mid → slice_range (front ++ (mid ++ back)) (length front + at) (length front + at + n) ≡ slice_range mid at (at + n)
 range_middle front mid back at n h =
     let count : length front + at + n - (length front + at) ≡ n = omega arith in
     let fewer : at + n - at ≡ n = omega arith in
     let room : n ≤ length (drop at mid) = simp length-drop (omega arith) in
     rw (count, fewer) (ap (take n) (drop-append-add front (mid ++ back) at ∙ drop-append-le at mid back (omega arith)) ∙ take-append-le n (drop at mid) back room)
 
-sum_cons : (n : ℕ) (ns : List ℕ) → sum (n ∷ ns) ≡ n + sum ns
+pub sum_cons : (n : ℕ) (ns : List ℕ) → sum (n ∷ ns) ≡ n + sum ns
 sum_cons n ns = sum_by-cons (λ (k : ℕ). k) n ns
+
+slot_bytes-middle : (xs : List (List ℕ)) (file : List ℕ) (ys : List (List ℕ)) → slot_bytes (xs ++ file ∷ ys) ≡ slot_bytes xs ++ (drop 512 file ++ slot_bytes ys)
+slot_bytes-middle xs file ys = ap concat (map-append (drop 512) xs (file ∷ ys)) ∙ concat-append (map (drop 512) xs) (drop 512 file ∷ map (drop 512) ys)
 
 -- One of several stores.
 module _ {S : Type 0} where
-  pub each-set : {T : Type 0} (f : S → T) (d : T) (files : List (Option S)) (place : ℕ) (x : Option S) → place < length files → IsSome (file_at files place) → IsSome x → held f d x ≡ held f d (file_at files place) → each f (set files place x) ≡ each f files
-  each-set f d [] place x h a b e = absurd (omega arith)
-  each-set f d (None ∷ files) zero x h a b e = cc
-  each-set f d (Some s ∷ files) zero None h a b e = cc
-  each-set f d (Some s ∷ files) zero (Some y) h a b e = ap (λ t. t ∷ each f files) e
-  each-set f d (None ∷ files) (suc place) x h a b e = each-set f d files place x (omega arith) a b e
-  each-set f d (Some s ∷ files) (suc place) x h a b e = ap (λ ts. f s ∷ ts) (each-set f d files place x (omega arith) a b e)
+  pub each-append : {T : Type 0} (f : S → T) (xs ys : List (Option S)) → each f (xs ++ ys) ≡ each f xs ++ each f ys
+  each-append f [] ys = refl
+  each-append f (None ∷ xs) ys = each-append f xs ys
+  each-append f (Some s ∷ xs) ys = ap (λ ts. f s ∷ ts) (each-append f xs ys)
 
   pub map-each : {T U : Type 0} (h : T → U) (f : S → T) (files : List (Option S)) → map h (each f files) ≡ each (λ s. h (f s)) files
   map-each h f [] = refl
   map-each h f (None ∷ files) = map-each h f files
   map-each h f (Some s ∷ files) = ap (λ ts. h (f s) ∷ ts) (map-each h f files)
 
-  pub sum-set : (f : S → ℕ) (files : List (Option S)) (place : ℕ) (x : Option S) → place < length files → IsSome (file_at files place) → IsSome x → sum (each f (set files place x)) + held f 0 (file_at files place) ≡ sum (each f files) + held f 0 x
-  sum-set f [] place x h a b = absurd (omega arith)
-  sum-set f (None ∷ files) zero x h a b = cc
-  sum-set f (Some s ∷ files) zero None h a b = cc
-  sum-set f (Some s ∷ files) zero (Some y) h a b = rw (sum_cons (f s) (each f files), sum_cons (f y) (each f files)) (swap (f s) (f y) (sum (each f files)))
-    where
-      swap : (a b r : ℕ) → b + r + a ≡ a + r + b
-      swap a b r = omega arith
-  sum-set f (None ∷ files) (suc place) x h a b = sum-set f files place x (omega arith) a b
-  sum-set f (Some s ∷ files) (suc place) x h a b = rw (sum_cons (f s) (each f files), sum_cons (f s) (each f (set files place x))) (more (f s) (sum (each f (set files place x))) (held f 0 (file_at files place)) (sum (each f files)) (held f 0 x) (sum-set f files place x (omega arith) a b))
-    where
-      more : (k a b c d : ℕ) → a + b ≡ c + d → k + a + b ≡ k + c + d
-      more k a b c d e = omega arith
+  -- what is made of the content of a file that need not be there
+  pub held_by : {T U : Type 0} (h : T → U) (f : S → T) (d : T) (file : Option S) → held (λ s. h (f s)) (h d) file ≡ h (held f d file)
+  held_by h f d None = refl
+  held_by h f d (Some s) = refl
 
-  pub tracks-set : (content : S → List ℕ) (size : ℕ) (files : List (Option S)) (tracks : List ℕ) (place : ℕ) (x : Option S) → HoldTracks content size files tracks → place < length files → IsSome (file_at files place) → IsSome x → length (held content [] x) ≡ length (held content [] (file_at files place)) → HoldTracks content size (set files place x) tracks
-  tracks-set content size [] tracks place x holds h a b e = absurd (omega arith)
-  tracks-set content size (f ∷ files) [] place x holds h a b e = absurd holds
-  tracks-set content size (None ∷ files) (n ∷ tracks) zero x holds h a b e = cc
-  tracks-set content size (Some s ∷ files) (n ∷ tracks) zero None holds h a b e = cc
-  tracks-set content size (Some s ∷ files) (n ∷ tracks) zero (Some y) holds h a b e = (e ∙ holds.0, holds.1)
-  tracks-set content size (None ∷ files) (n ∷ tracks) (suc place) x holds h a b e = (holds.0, tracks-set content size files tracks place x holds.1 (omega arith) a b e)
-  tracks-set content size (Some s ∷ files) (n ∷ tracks) (suc place) x holds h a b e = (holds.0, tracks-set content size files tracks place x holds.1 (omega arith) a b e)
+  -- a store that is there stands between those before it and those behind it
+  each_put : {T : Type 0} (f : S → T) (d : T) (files : List (Option S)) (place : ℕ) (x : Option S) → place < length files → IsSome x → each f (set files place x) ≡ each f (take place files) ++ held f d x ∷ each f (drop (suc place) files)
+  each_put f d files place x exists some =
+      ap (each f) (set_split files place x exists) ∙ each-append f (take place files) (x ∷ drop (suc place) files) ∙ ap (λ ts. each f (take place files) ++ ts) (first x some)
+    where
+      first : (x : Option S) → IsSome x → each f (x ∷ drop (suc place) files) ≡ held f d x ∷ each f (drop (suc place) files)
+      first None some = cc
+      first (Some s) some = refl
 
-  -- the slot of a track is in this file, with these bytes before its slots and behind them
+  each_at : {T : Type 0} (f : S → T) (d : T) (files : List (Option S)) (place : ℕ) → place < length files → IsSome (file_at files place) → each f files ≡ each f (take place files) ++ held f d (file_at files place) ∷ each f (drop (suc place) files)
+  each_at f d files place exists some = ap (each f) (sym (set-get_or files place None)) ∙ each_put f d files place (file_at files place) exists some
+
+  -- one of these files was read or written, and no other
+  pub record Changed (files new : List (Option S)) (place : ℕ) : Type 0 where
+    pub exists : place < length files
+    pub there : IsSome (file_at files place)
+    pub stays : IsSome (file_at new place)
+    pub is : new ≡ set files place (file_at new place)
+
+  each_now : {T : Type 0} (f : S → T) (d : T) (files new : List (Option S)) (place : ℕ) → Changed files new place → each f new ≡ each f (take place files) ++ held f d (file_at new place) ∷ each f (drop (suc place) files)
+  each_now f d files new place x = ap (each f) x.is ∙ each_put f d files place (file_at new place) x.exists x.stays
+
+  pub each_same : {T : Type 0} (f : S → T) (d : T) (files new : List (Option S)) (place : ℕ) → Changed files new place → held f d (file_at new place) ≡ held f d (file_at files place) → each f new ≡ each f files
+  each_same f d files new place x e =
+      each_now f d files new place x ∙ ap (λ t. each f (take place files) ++ t ∷ each f (drop (suc place) files)) e ∙ sym (each_at f d files place x.exists x.there)
+
+  -- the failures of all stores count as those of the one that was called
+  pub counted_all : (f : S → ℕ) (files new : List (Option S)) (place : ℕ) (r : Result (Unit {0}) StoreFault) → Changed files new place → Counts (held f 0 (file_at files place)) (held f 0 (file_at new place)) r → Counts (sum (each f files)) (sum (each f new)) r
+  counted_all f files new place r x counted =
+      let ts = each f (take place files) in
+      let us = each f (drop (suc place) files) in
+      let a = held f 0 (file_at files place) in
+      let b = held f 0 (file_at new place) in
+      by a b (sum (each f files)) (sum (each f new)) (sum ts) (sum us) r (ap sum (each_at f 0 files place x.exists x.there) ∙ total ts us a) (ap sum (each_now f 0 files new place x) ∙ total ts us b) counted
+    where
+      total : (ts us : List ℕ) (n : ℕ) → sum (ts ++ n ∷ us) ≡ sum ts + n + sum us
+      total ts us n = sum_by-append (λ (k : ℕ). k) ts (n ∷ us) ∙ omega (arith, sum_cons n us)
+
+      by : (a b c d t u : ℕ) (r : Result (Unit {0}) StoreFault) → c ≡ t + a + u → d ≡ t + b + u → Counts a b r → Counts c d r
+      by a b c d t u (Ok v) was now counted = omega arith
+      by a b c d t u (Err e) was now counted = omega arith
+
+  pub tracks_same : (content : S → List ℕ) (size : ℕ) (files new : List (Option S)) (tracks : List ℕ) (place : ℕ) → Changed files new place → HoldTracks content size files tracks → length (held content [] (file_at new place)) ≡ length (held content [] (file_at files place)) → HoldTracks content size new tracks
+  tracks_same content size files new tracks place x holds e = rw x.is (put files tracks place (file_at new place) holds x.exists x.there x.stays e)
+    where
+      put : (files : List (Option S)) (tracks : List ℕ) (place : ℕ) (x : Option S) → HoldTracks content size files tracks → place < length files → IsSome (file_at files place) → IsSome x → length (held content [] x) ≡ length (held content [] (file_at files place)) → HoldTracks content size (set files place x) tracks
+      put [] tracks place x holds h a b e = absurd (omega arith)
+      put (f ∷ files) [] place x holds h a b e = absurd holds
+      put (None ∷ files) (n ∷ tracks) zero x holds h a b e = cc
+      put (Some s ∷ files) (n ∷ tracks) zero None holds h a b e = cc
+      put (Some s ∷ files) (n ∷ tracks) zero (Some y) holds h a b e = (e ∙ holds.0, holds.1)
+      put (None ∷ files) (n ∷ tracks) (suc place) x holds h a b e = (holds.0, put files tracks place x holds.1 (omega arith) a b e)
+      put (Some s ∷ files) (n ∷ tracks) (suc place) x holds h a b e = (holds.0, put files tracks place x holds.1 (omega arith) a b e)
+
+  -- the first of several files, which need not be there
+  pub slot_bytes-cons : (content : S → List ℕ) (f : Option S) (files : List (Option S)) → slot_bytes (each content (f ∷ files)) ≡ drop 512 (held content [] f) ++ slot_bytes (each content files)
+  slot_bytes-cons content None files = refl
+  slot_bytes-cons content (Some s) files = refl
+
+  pub tracks_behind : (content : S → List ℕ) (size : ℕ) (f : Option S) (files : List (Option S)) (n : ℕ) (tracks : List ℕ) → HoldTracks content size (f ∷ files) (n ∷ tracks) → (length (drop 512 (held content [] f)) ≡ n * size) × HoldTracks content size files tracks
+  tracks_behind content size None files n tracks holds = (rw holds.0 (sym (zero-mul size)), holds.1)
+  tracks_behind content size (Some s) files n tracks holds = ((let long = holds.0 in simp length-drop (omega arith)), holds.1)
+
+  -- the bytes of the slots before those of a file, and of those behind them
+  abbrev before_file : (S → List ℕ) → List (Option S) → ℕ → List ℕ
+  before_file content files place = slot_bytes (each content (take place files))
+
+  abbrev behind_file : (S → List ℕ) → List (Option S) → ℕ → List ℕ
+  behind_file content files place = slot_bytes (each content (drop (suc place) files))
+
+  -- the slot of a track is in this file
   pub record Located (content : S → List ℕ) (size : ℕ) (files : List (Option S)) (track : ℕ) (p : SlotPlace) : Type 0 where
-    pub front : List ℕ
-    pub back : List ℕ
     pub exists : p.file < length files
     pub there : IsSome (file_at files p.file)
     pub within : 512 + p.track * size + size ≤ length (held content [] (file_at files p.file))
-    pub before : track * size ≡ length front + p.track * size
-    pub whole : slot_bytes (each content files) ≡ front ++ (drop 512 (held content [] (file_at files p.file)) ++ back)
-    pub split : (x : Option S) → IsSome x → slot_bytes (each content (set files p.file x)) ≡ front ++ (drop 512 (held content [] x) ++ back)
+    pub before : track * size ≡ length (before_file content files p.file) + p.track * size
 
-  split_first : (content : S → List ℕ) (s : S) (files : List (Option S)) (x : Option S) → IsSome x → slot_bytes (each content (set (Some s ∷ files) 0 x)) ≡ [] ++ (drop 512 (held content [] x) ++ slot_bytes (each content files))
-  split_first content s files None is = cc
-  split_first content s files (Some y) is = refl
+  whole : (content : S → List ℕ) (size : ℕ) (files : List (Option S)) (track : ℕ) (p : SlotPlace) → Located content size files track p → slot_bytes (each content files) ≡ before_file content files p.file ++ (drop 512 (held content [] (file_at files p.file)) ++ behind_file content files p.file)
+  whole content size files track p l = ap slot_bytes (each_at content [] files p.file l.exists l.there) ∙ slot_bytes-middle (each content (take p.file files)) (held content [] (file_at files p.file)) (each content (drop (suc p.file) files))
 
   first_located : (content : S → List ℕ) (size : ℕ) (f : Option S) (files : List (Option S)) (n : ℕ) (tracks : List ℕ) (track : ℕ) → HoldTracks content size (f ∷ files) (n ∷ tracks) → track < n → Located content size (f ∷ files) track (record { file = 0; track = track })
   first_located content size None files n tracks track holds h = let none = holds.0 in absurd (omega arith)
   first_located content size (Some s) files n tracks track holds h = record {
-    front = [];
-    back = slot_bytes (each content files);
     exists = omega arith;
     there = refl;
     within = let long = holds.0 in let ends = slot_within size n track h in omega arith;
     before = sym (zero-add (track * size));
-    whole = refl;
-    split = split_first content s files;
   }
 
   next_located : (content : S → List ℕ) (size : ℕ) (f : Option S) (files : List (Option S)) (n : ℕ) (tracks : List ℕ) (track : ℕ) (p : SlotPlace) → HoldTracks content size (f ∷ files) (n ∷ tracks) → n ≤ track → Located content size files (track - n) p → Located content size (f ∷ files) track (behind p)
-  next_located content size None files n tracks track p holds h l = record {
-    front = l.front;
-    back = l.back;
+  next_located content size f files n tracks track p holds h l = record {
     exists = let e = l.exists in omega arith;
-    there = rw (add_one p.file) l.there;
-    within = rw (add_one p.file) l.within;
-    before = ap (λ (k : ℕ). k * size) (none_less track n holds.0) ∙ l.before;
-    whole = rw (add_one p.file) l.whole;
-    split = rw (add_one p.file) l.split;
+    there = rw (add-one p.file) l.there;
+    within = rw (add-one p.file) l.within;
+    before = rw (add-one p.file, slot_bytes-cons content f (take p.file files), length-append (drop 512 (held content [] f)) (before_file content files p.file))
+        (moved track n (length (drop 512 (held content [] f))) (length (before_file content files p.file)) (p.track * size) h (tracks_behind content size f files n tracks holds).0 l.before);
   }
     where
-      add_one : (k : ℕ) → k + 1 ≡ suc k
-      add_one k = omega arith
+      moved : (track n a b c : ℕ) → n ≤ track → a ≡ n * size → (track - n) * size ≡ b + c → track * size ≡ a + b + c
+      moved track n a b c above long before =
+          let less : track ≡ n + (track - n) = omega arith in
+          let all : track * size ≡ n * size + (track - n) * size = ap (λ (k : ℕ). k * size) less ∙ add-mul n (track - n) size in
+          omega (arith, all, long, before)
 
-      none_less : (track n : ℕ) → n ≡ 0 → track ≡ track - n
-      none_less track n e = omega arith
-  next_located content size (Some s) files n tracks track p holds h l = record {
-    front = drop 512 (content s) ++ l.front;
-    back = l.back;
-    exists = let e = l.exists in omega arith;
-    there = rw (add_one p.file) l.there;
-    within = rw (add_one p.file) l.within;
-    before = moved track n h (holds_length (content s) holds.0) l.before;
-    whole = rw (add_one p.file) (ap (λ (r : List ℕ). drop 512 (content s) ++ r) l.whole ∙ sym (append_assoc (drop 512 (content s)) l.front (drop 512 (held content [] (file_at files p.file)) ++ l.back)));
-    split = rw (add_one p.file) (λ x is. ap (λ (r : List ℕ). drop 512 (content s) ++ r) (l.split x is) ∙ sym (append_assoc (drop 512 (content s)) l.front (drop 512 (held content [] x) ++ l.back)));
-  }
-    where
-      add_one : (k : ℕ) → k + 1 ≡ suc k
-      add_one k = omega arith
-
-      holds_length : (file : List ℕ) → length file ≡ 512 + n * size → length (drop 512 file) ≡ n * size
-      holds_length file e = simp length-drop (omega arith)
-
-      sum_of : (track n : ℕ) → n ≤ track → track ≡ n + (track - n)
-      sum_of track n h = omega arith
-
-      moved : (track n : ℕ) → n ≤ track → length (drop 512 (content s)) ≡ n * size → (track - n) * size ≡ length l.front + p.track * size → track * size ≡ length (drop 512 (content s) ++ l.front) + p.track * size
-      moved track n above long before =
-          let all : track * size ≡ n * size + (track - n) * size = ap (λ (k : ℕ). k * size) (sum_of track n above) ∙ add-mul n (track - n) size in
-          simp length-append (omega (arith, all, long, before))
-
-  pub located : (content : S → List ℕ) (size : ℕ) (files : List (Option S)) (tracks : List ℕ) (track : ℕ) → HoldTracks content size files tracks → length files ≡ length tracks → track < sum tracks → Located content size files track (place_in tracks track)
+  located : (content : S → List ℕ) (size : ℕ) (files : List (Option S)) (tracks : List ℕ) (track : ℕ) → HoldTracks content size files tracks → length files ≡ length tracks → track < sum tracks → Located content size files track (place_in tracks track)
   located content size [] [] track holds count h = absurd (omega arith)
   located content size [] (n ∷ tracks) track holds count h = absurd (omega arith)
   located content size (f ∷ files) [] track holds count h = absurd (omega arith)
   located content size (f ∷ files) (n ∷ tracks) track holds count h =
-      by (nat_lt track n) refl (λ above. located content size files tracks (track - n) (rest f holds) (omega arith) (below above (subst (λ (k : ℕ). track < k) (sum_cons n tracks) h)))
+      by (nat_lt track n) refl (λ above. located content size files tracks (track - n) (tracks_behind content size f files n tracks holds).1 (omega arith) (below above (subst (λ (k : ℕ). track < k) (sum_cons n tracks) h)))
     where
-      rest : (f : Option S) → HoldTracks content size (f ∷ files) (n ∷ tracks) → HoldTracks content size files tracks
-      rest None holds = holds.1
-      rest (Some s) holds = holds.1
-
       below : n ≤ track → track < n + sum tracks → track - n < sum tracks
       below above h = omega arith
 
@@ -177,8 +188,8 @@ module _ {S : Type 0} where
   range_located content size files track at p l is =
       let file = held content [] (file_at files p.file) in
       let within = l.within in
-      rw (l.whole, l.before) (behind_header file (p.track * size) at is
-      ∙ sym (range_middle l.front (drop 512 file) l.back (p.track * size) size (simp length-drop (omega arith))))
+      rw (whole content size files track p l, l.before) (behind_header file (p.track * size) at is
+      ∙ sym (range_middle (before_file content files p.file) (drop 512 file) (behind_file content files p.file) (p.track * size) size (simp length-drop (omega arith))))
     where
       behind_header : (file : List ℕ) (k at : ℕ) → at ≡ 512 + k → slice_range file at (at + size) ≡ slice_range (drop 512 file) k (k + size)
       behind_header file k at e =
@@ -188,77 +199,62 @@ module _ {S : Type 0} where
 
   -- A write.
 
-  -- what a write of these bytes into the slot of a track leaves
-  pub record Written (content : S → List ℕ) (size : ℕ) (files : List (Option S)) (tracks : List ℕ) (track : ℕ) (new : List (Option S)) (bytes : List ℕ) : Type 0 where
-    pub slots : slot_bytes (each content new) ≡ overwritten (slot_bytes (each content files)) (track * size) bytes
-    pub room : track * size + length bytes ≤ length (slot_bytes (each content files))
+  -- what a write into a slot leaves of the headers and of the files' lengths
+  pub record KeepsHeads (content : S → List ℕ) (size : ℕ) (files : List (Option S)) (tracks : List ℕ) (new : List (Option S)) : Type 0 where
     pub heads : map head_of (each content new) ≡ map head_of (each content files)
     pub headers : map (take 512) (each content new) ≡ map (take 512) (each content files)
     pub tracks_held : HoldTracks content size new tracks
 
-  pub written_at : (content : S → List ℕ) (size : ℕ) (files : List (Option S)) (tracks : List ℕ) (track : ℕ) (p : SlotPlace) (x : Option S) (bytes : List ℕ) → HoldTracks content size files tracks → Located content size files track p → IsSome x → length bytes ≡ size → held content [] x ≡ overwritten (held content [] (file_at files p.file)) (512 + p.track * size) bytes → Written content size files tracks track (set files p.file x) bytes
-  written_at content size files tracks track p x bytes holds l some long is =
+  -- what a write of these bytes into the slot of a track leaves
+  record Written (content : S → List ℕ) (size : ℕ) (files : List (Option S)) (tracks : List ℕ) (track : ℕ) (new : List (Option S)) (bytes : List ℕ) : Type 0 where
+    pub slots : slot_bytes (each content new) ≡ overwritten (slot_bytes (each content files)) (track * size) bytes
+    pub room : track * size + length bytes ≤ length (slot_bytes (each content files))
+    pub keeps : KeepsHeads content size files tracks new
+
+  written_at : (content : S → List ℕ) (size : ℕ) (files new : List (Option S)) (tracks : List ℕ) (track : ℕ) (p : SlotPlace) (bytes : List ℕ) → HoldTracks content size files tracks → Located content size files track p → Changed files new p.file → length bytes ≡ size → held content [] (file_at new p.file) ≡ overwritten (held content [] (file_at files p.file)) (512 + p.track * size) bytes → Written content size files tracks track new bytes
+  written_at content size files new tracks track p bytes holds l x long is =
       let file = held content [] (file_at files p.file) in
+      let now = held content [] (file_at new p.file) in
       let at = p.track * size in
       let within = l.within in
-      let header : take 512 (held content [] x) ≡ take 512 file = ap (take 512) is ∙ take-overwritten_before file bytes (512 + at) 512 (omega arith) (omega arith) in
-      let same : length (held content [] x) ≡ length file = ap length is ∙ length-overwritten file bytes (512 + at) (omega arith) in
-      let rest : drop 512 (held content [] x) ≡ overwritten (drop 512 file) at bytes = ap (drop 512) is ∙ drop-overwritten_before file bytes 512 at (omega arith) in
+      let header : take 512 now ≡ take 512 file = ap (take 512) is ∙ take-overwritten_before file bytes (512 + at) 512 (omega arith) (omega arith) in
+      let same : length now ≡ length file = ap length is ∙ length-overwritten file bytes (512 + at) (omega arith) in
+      let rest : drop 512 now ≡ overwritten (drop 512 file) at bytes = ap (drop 512) is ∙ drop-overwritten_before file bytes 512 at (omega arith) in
       let inside : at + length bytes ≤ length (drop 512 file) = simp length-drop (omega arith) in
-      let middle = overwritten_middle l.front (drop 512 file) l.back bytes at inside in
+      let front = before_file content files p.file in
+      let back = behind_file content files p.file in
+      let all = whole content size files track p l in
+      let changed = ap slot_bytes (each_now content [] files new p.file x) ∙ slot_bytes-middle (each content (take p.file files)) now (each content (drop (suc p.file) files)) in
       record {
-        slots = l.split x some ∙ ap (λ (r : List ℕ). l.front ++ (r ++ l.back)) rest ∙ sym middle ∙ ap2 l.before l.whole;
-        room = rw (l.whole, l.before) (simp length-append (omega arith));
-        heads = map-each head_of content (set files p.file x) ∙ each-set (λ s. head_of (content s)) no_head files p.file x l.exists l.there some (heads_same (file_at files p.file) x header same) ∙ sym (map-each head_of content files);
-        headers = map-each (take 512) content (set files p.file x) ∙ each-set (λ s. take 512 (content s)) [] files p.file x l.exists l.there some (headers_same (file_at files p.file) x header) ∙ sym (map-each (take 512) content files);
-        tracks_held = tracks-set content size files tracks p.file x holds l.exists l.there some same;
+        slots = rw (l.before, all) (changed ∙ ap (λ (r : List ℕ). front ++ (r ++ back)) rest ∙ sym (overwritten_middle front (drop 512 file) back bytes at inside));
+        room = rw (all, l.before) (simp length-append (omega arith));
+        keeps = record { heads = map_same head_of (rw (header, same) refl); headers = map_same (take 512) header; tracks_held = tracks_same content size files new tracks p.file x holds same };
       }
     where
-      ap2 : {a b : ℕ} {xs ys : List ℕ} → a ≡ b → xs ≡ ys → overwritten ys b bytes ≡ overwritten xs a bytes
-      ap2 e f = rw (e, f) refl
-
-      headers_same : (f x : Option S) → take 512 (held content [] x) ≡ take 512 (held content [] f) → held (λ s. take 512 (content s)) [] x ≡ held (λ s. take 512 (content s)) [] f
-      headers_same None None e = refl
-      headers_same None (Some y) e = e
-      headers_same (Some s) None e = e
-      headers_same (Some s) (Some y) e = e
-
-      heads_same : (f x : Option S) → take 512 (held content [] x) ≡ take 512 (held content [] f) → length (held content [] x) ≡ length (held content [] f) → held (λ s. head_of (content s)) no_head x ≡ held (λ s. head_of (content s)) no_head f
-      heads_same None None e h = refl
-      heads_same None (Some y) e h = rw (e, h) refl
-      heads_same (Some s) None e h = sym (rw (sym e, sym h) refl)
-      heads_same (Some s) (Some y) e h = rw (e, h) refl
+      map_same : {T : Type 0} (h : List ℕ → T) → h (held content [] (file_at new p.file)) ≡ h (held content [] (file_at files p.file)) → map h (each content new) ≡ map h (each content files)
+      map_same h e =
+          map-each h content new
+          ∙ each_same (λ s. h (content s)) (h []) files new p.file x (held_by h content [] (file_at new p.file) ∙ e ∙ sym (held_by h content [] (file_at files p.file)))
+          ∙ sym (map-each h content files)
 
   -- what a write leaves that may have failed
   pub record Stored (content : S → List ℕ) (size : ℕ) (files : List (Option S)) (tracks : List ℕ) (track : ℕ) (new : List (Option S)) (bytes : List ℕ) (r : Result (Unit {0}) StoreFault) : Type 0 where
     pub written : OnOk r (slot_bytes (each content new) ≡ overwritten (slot_bytes (each content files)) (track * size) bytes)
     pub torn : OnErr r (Torn (slot_bytes (each content files)) (slot_bytes (each content new)) (track * size) size)
-    pub heads : map head_of (each content new) ≡ map head_of (each content files)
-    pub headers : map (take 512) (each content new) ≡ map (take 512) (each content files)
-    pub tracks_held : HoldTracks content size new tracks
+    pub keeps : KeepsHeads content size files tracks new
 
-  pub stored_at : (content : S → List ℕ) (size : ℕ) (files : List (Option S)) (tracks : List ℕ) (track at : ℕ) (p : SlotPlace) (x : Option S) (bytes : List ℕ) (r : Result (Unit {0}) StoreFault) → HoldTracks content size files tracks → Located content size files track p → IsSome x → length bytes ≡ size → at ≡ 512 + p.track * size → OnOk r (held content [] x ≡ overwritten (held content [] (file_at files p.file)) at bytes) → OnErr r (Torn (held content [] (file_at files p.file)) (held content [] x) at (length bytes)) → Stored content size files tracks track (set files p.file x) bytes r
-  stored_at content size files tracks track at p x bytes (Ok v) holds l some long is written torn =
-      let w = written_at content size files tracks track p x bytes holds l some long (written ∙ ap (λ (n : ℕ). overwritten (held content [] (file_at files p.file)) n bytes) is) in
-      record { written = w.slots; torn = tt; heads = w.heads; headers = w.headers; tracks_held = w.tracks_held }
-  stored_at content size files tracks track at p x bytes (Err e) holds l some long is written torn =
+  -- with all that says where the slot is, and what the call of the one store answered
+  pub stored_at : (content : S → List ℕ) (size : ℕ) (files new : List (Option S)) (tracks : List ℕ) (track at : ℕ) (p : SlotPlace) (bytes : List ℕ) (r : Result (Unit {0}) StoreFault) → HoldTracks content size files tracks → Located content size files track p → Changed files new p.file → length bytes ≡ size → at ≡ 512 + p.track * size → OnOk r (held content [] (file_at new p.file) ≡ overwritten (held content [] (file_at files p.file)) at bytes) → OnErr r (Torn (held content [] (file_at files p.file)) (held content [] (file_at new p.file)) at (length bytes)) → Stored content size files tracks track new bytes r
+  stored_at content size files new tracks track at p bytes (Ok v) holds l x long is written torn =
+      let w = written_at content size files new tracks track p bytes holds l x long (written ∙ ap (λ (n : ℕ). overwritten (held content [] (file_at files p.file)) n bytes) is) in
+      record { written = w.slots; torn = tt; keeps = w.keeps }
+  stored_at content size files new tracks track at p bytes (Err e) holds l x long is written torn =
       let file = held content [] (file_at files p.file) in
+      let now = held content [] (file_at new p.file) in
       let within = l.within in
       let ends : at + length bytes ≤ length file = omega arith in
-      let part = slice_range (held content [] x) at (at + length bytes) in
-      let size_is : length part ≡ size = length-between (held content [] x) at (at + length bytes) (rw torn.same_length ends) ∙ omega arith in
-      let now = torn_is file (held content [] x) at (length bytes) torn ends in
-      let w = written_at content size files tracks track p x part holds l some size_is (now ∙ ap (λ (n : ℕ). overwritten file n part) is) in
+      let part = slice_range now at (at + length bytes) in
+      let size_is : length part ≡ size = length-between now at (at + length bytes) (rw torn.same_length ends) ∙ omega arith in
+      let w = written_at content size files new tracks track p part holds l x size_is (torn_is file now at (length bytes) torn ends ∙ ap (λ (n : ℕ). overwritten file n part) is) in
       let room = w.room in
-      record {
-        written = tt;
-        torn = rw w.slots (torn_within (slot_bytes (each content files)) part (track * size) size room (omega arith));
-        heads = w.heads;
-        headers = w.headers;
-        tracks_held = w.tracks_held;
-      }
-
--- the sum of the failures counts as the one that changed
-pub counted_sum : (a b c d : ℕ) (r : Result (Unit {0}) StoreFault) → c + a ≡ d + b → Counts a b r → Counts d c r
-counted_sum a b c d (Ok v) e counted = omega arith
-counted_sum a b c d (Err v) e counted = omega arith
+      record { written = tt; torn = rw w.slots (torn_within (slot_bytes (each content files)) part (track * size) size room (omega arith)); keeps = w.keeps }

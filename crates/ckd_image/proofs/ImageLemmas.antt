@@ -1,8 +1,6 @@
 -- An image and its files.
-use Rattle.std.proofs.Common.{◌≡◌, ℕ, ◌+◌, ◌-◌, ◌*◌, ◌/◌, ◌<◌, ◌≤◌, List, [], ◌∷◌, length, take, map, get_or, set, slice_range, Option, Some, None, Result, Ok, Err, OnOk, OnErr, refl, sym, ap, ◌∙◌, arith, length-append, length-drop}
-use Rattle.std.proofs.lemmas.List.{get_or-set_same}
+use Rattle.std.proofs.Common.{◌≡◌, ℕ, ◌+◌, ◌-◌, ◌*◌, ◌/◌, ◌<◌, ◌≤◌, List, [], ◌∷◌, length, take, drop, map, get_or, set, slice_range, Option, Result, Ok, Err, OnOk, OnErr, refl, sym, ap, ◌∙◌, arith, length-append}
 use Rattle.std.proofs.lemmas.List.Edits.{length-between}
-use Rattle.std.proofs.lemmas.List.Sums.{sum_by-cons}
 use Rattle.std.proofs.Math.Nat.{add-mul, zero-mul, mul-div_cancel}
 use Rattle.std.specs.List.{concat, sum}
 use Rattle.ckd_track.specs.declared.geometries.Geometry.{Geometry}
@@ -12,8 +10,9 @@ use Rattle.ckd_image.specs.Store.{overwritten, Torn, Counts}
 use Rattle.ckd_image.specs.Slots.{slots_in}
 use Rattle.ckd_image.specs.Image.{ImageState, IsImage, Holds, HoldsImage}
 use Rattle.ckd_image.specs.Header.{mount_of}
-use Rattle.ckd_image.specs.Files.{slot_bytes, each, HoldTracks}
+use Rattle.ckd_image.specs.Files.{slot_bytes, held, each, HoldTracks}
 use Rattle.ckd_image.proofs.MountLemmas.{mount_fits}
+use Rattle.ckd_image.proofs.FileLemmas.{sum_cons, slot_bytes-cons, tracks_behind}
 use Rattle.ckd_image.proofs.Writes.{torn_is}
 use Rattle.ckd_image.proofs.SlotLemmas.{length-slots_in, get_or-slots_in, slot_within, length-slot, sizes-slots_in, concat-slots_in, slots_in-overwritten}
 
@@ -66,36 +65,17 @@ module _ {S : Type 0} where
   bytes_held content size [] [] holds count = sym (zero-mul size)
   bytes_held content size [] (n ∷ tracks) holds count = absurd (omega arith)
   bytes_held content size (f ∷ files) [] holds count = absurd (omega arith)
-  bytes_held content size (None ∷ files) (n ∷ tracks) holds count =
-      bytes_held content size files tracks holds.1 (omega arith)
-      ∙ ap (λ (k : ℕ). k * size) (sym (sum_by-cons (λ (k : ℕ). k) n tracks ∙ ap (λ (k : ℕ). k + sum tracks) holds.0 ∙ none_more (sum tracks)))
-    where
-      none_more : (k : ℕ) → 0 + k ≡ k
-      none_more k = omega arith
-  bytes_held content size (Some s ∷ files) (n ∷ tracks) holds count =
-      let ih = bytes_held content size files tracks holds.1 (omega arith) in
-      let long = holds.0 in
-      let all : sum (n ∷ tracks) * size ≡ n * size + sum tracks * size = ap (λ (k : ℕ). k * size) (sum_by-cons (λ (k : ℕ). k) n tracks) ∙ add-mul n (sum tracks) size in
-      simp (length-append, length-drop) (omega (arith, ih, long, all))
+  bytes_held content size (f ∷ files) (n ∷ tracks) holds count =
+      let first = tracks_behind content size f files n tracks holds in
+      let ih = bytes_held content size files tracks first.1 (omega arith) in
+      let all : sum (n ∷ tracks) * size ≡ n * size + sum tracks * size = ap (λ (k : ℕ). k * size) (sum_cons n tracks) ∙ add-mul n (sum tracks) size in
+      rw slot_bytes-cons (length-append (drop 512 (held content [] f)) (slot_bytes (each content files)) ∙ omega (arith, ih, first.0, all))
 
   pub tracks_held : (content : S → List ℕ) (g : Geometry) (files : List (Option S)) (tracks : List ℕ) → mount_of (each content files) ≡ Ok g → HoldTracks content g.track_size files tracks → length files ≡ length tracks → sum tracks ≡ tracks_of g
   tracks_held content g files tracks mounts holds count =
       let fits = mount_fits (each content files) g mounts in
       let some = fits.is_geometry.room in
       cancel (sum tracks) (tracks_of g) g.track_size (omega arith) (sym (bytes_held content g.track_size files tracks holds count) ∙ fits.is_length)
-
-  -- a track of the image is one of its files
-  pub in_files : (content : S → List ℕ) (g : Geometry) (files : List (Option S)) (tracks : List ℕ) (origins : List (List ℕ)) (failures loads saves track : ℕ) (v : ImageState) → seen g (each content files) origins failures loads saves ≡ v → mount_of (each content files) ≡ Ok g → HoldTracks content g.track_size files tracks → length files ≡ length tracks → track < tracks_of v.geometry → track < sum tracks
-  in_files content g files tracks origins failures loads saves track v is mounts holds count exists =
-      let same = ap (λ (w : ImageState). w.geometry) is in
-      rw (tracks_held content g files tracks mounts holds count, same) exists
-
--- a track of what is seen
-pub seen_track : (g : Geometry) (files origins : List (List ℕ)) (failures loads saves track : ℕ) (v : ImageState) → seen g files origins failures loads saves ≡ v → track < tracks_of v.geometry → track < tracks_of g
-seen_track g files origins failures loads saves track v is exists = let same = ap (λ (w : ImageState). w.geometry) is in rw same exists
-
-pub seen_size : (g : Geometry) (files origins : List (List ℕ)) (failures loads saves size : ℕ) (v : ImageState) → seen g files origins failures loads saves ≡ v → size ≡ v.geometry.track_size → size ≡ g.track_size
-seen_size g files origins failures loads saves size v is e = let same = ap (λ (w : ImageState). w.geometry) is in rw same e
 
 -- One slot.
 
@@ -105,39 +85,35 @@ slot_is g files track exists =
     let count : track * g.track_size + g.track_size - track * g.track_size ≡ g.track_size = omega arith in
     rw count (sym (get_or-slots_in g.track_size (tracks_of g) track (slot_bytes files) exists))
 
--- a slot lies within the slots' bytes
-pub slot_ends : (g : Geometry) (files : List (List ℕ)) (track : ℕ) → mount_of files ≡ Ok g → track < tracks_of g → track * g.track_size + g.track_size ≤ length (slot_bytes files)
-slot_ends g files track mounts exists =
-    let behind = (mount_fits files g mounts).is_length in
-    let within = slot_within g.track_size (tracks_of g) track exists in
-    omega arith
-
 slots_put : (g : Geometry) (files new : List (List ℕ)) (bytes : List ℕ) (track : ℕ) → mount_of files ≡ Ok g → track < tracks_of g → length bytes ≡ g.track_size → slot_bytes new ≡ overwritten (slot_bytes files) (track * g.track_size) bytes → slots_of g new ≡ set (slots_of g files) track bytes
 slots_put g files new bytes track mounts exists size is =
     let behind = (mount_fits files g mounts).is_length in
     ap (slots_in g.track_size (tracks_of g)) is
     ∙ slots_in-overwritten g.track_size (tracks_of g) track (slot_bytes files) bytes exists size (omega arith)
 
-pub saved : (g : Geometry) (files new origins : List (List ℕ)) (bytes : List ℕ) (track before now loads saves once_more : ℕ) (r : Result (Unit {0}) StoreFault) → mount_of files ≡ Ok g → track < tracks_of g → length bytes ≡ g.track_size → once_more ≡ saves + 1 → map (take 512) new ≡ map (take 512) files → OnOk r (slot_bytes new ≡ overwritten (slot_bytes files) (track * g.track_size) bytes) → Counts before now r → OnOk r (seen g new origins now loads once_more ≡ record (seen g files origins before loads saves) { saves = saves + 1; slots = set (slots_of g files) track bytes })
-saved g files new origins bytes track before now loads saves once_more (Ok v) mounts exists size counts headers written counted =
-    let slots = slots_put g files new bytes track mounts exists size written in
-    rw (headers, slots, counted, counts) refl
-saved g files new origins bytes track before now loads saves once_more (Err e) mounts exists size counts headers written counted = tt
+-- an image once a slot was saved, or was not
+pub record Saved (was now : ImageState) (slot : List ℕ) (track : ℕ) (r : Result (Unit {0}) StoreFault) : Type 0 where
+  pub geometry : now.geometry ≡ was.geometry
+  pub ok : OnOk r (now ≡ record was { saves = was.saves + 1; slots = set was.slots track slot })
+  pub err : OnErr r (now ≡ record was { saves = was.saves + 1; failures = was.failures + 1; slots = set was.slots track (get_or now.slots track []) })
+  pub size : length (get_or now.slots track []) ≡ was.geometry.track_size
 
-pub save_torn : (g : Geometry) (files new origins : List (List ℕ)) (track before now loads saves once_more : ℕ) (r : Result (Unit {0}) StoreFault) → mount_of files ≡ Ok g → track < tracks_of g → once_more ≡ saves + 1 → map (take 512) new ≡ map (take 512) files → OnErr r (Torn (slot_bytes files) (slot_bytes new) (track * g.track_size) g.track_size) → Counts before now r → OnErr r (seen g new origins now loads once_more ≡ record (seen g files origins before loads saves) { saves = saves + 1; failures = before + 1; slots = set (slots_of g files) track (get_or (slots_of g new) track []) })
-save_torn g files new origins track before now loads saves once_more (Ok v) mounts exists counts headers torn counted = tt
-save_torn g files new origins track before now loads saves once_more (Err e) mounts exists counts headers torn counted =
-    let at = track * g.track_size in
-    let ends = slot_ends g files track mounts exists in
-    let part = slice_range (slot_bytes new) at (at + g.track_size) in
-    let size : length part ≡ g.track_size = length-between (slot_bytes new) at (at + g.track_size) (rw torn.same_length ends) ∙ omega arith in
-    let is : slot_bytes new ≡ overwritten (slot_bytes files) at part = torn_is (slot_bytes files) (slot_bytes new) at g.track_size torn ends in
-    let slots : slots_of g new ≡ set (slots_of g files) track part = slots_put g files new part track mounts exists size is in
-    let place : track < length (slots_of g files) = rw (length-slots_in g.track_size (tracks_of g) (slot_bytes files)) exists in
-    let there : get_or (slots_of g new) track [] ≡ part = ap (λ (s : List (List ℕ)). get_or s track []) slots ∙ get_or-set_same (slots_of g files) track part [] place in
-    rw (there, headers, slots, counted, counts) refl
+-- with all that is seen of an image before and now, since each of it stays or is counted
+pub saved : (g : Geometry) (files new origins : List (List ℕ)) (slot : List ℕ) (track before now loads saves : ℕ) (r : Result (Unit {0}) StoreFault) → mount_of files ≡ Ok g → mount_of new ≡ Ok g → track < tracks_of g → length slot ≡ g.track_size → map (take 512) new ≡ map (take 512) files → OnOk r (slot_bytes new ≡ overwritten (slot_bytes files) (track * g.track_size) slot) → OnErr r (Torn (slot_bytes files) (slot_bytes new) (track * g.track_size) g.track_size) → Counts before now r → Saved (seen g files origins before loads saves) (seen g new origins now loads (saves + 1)) slot track r
+saved g files new origins slot track before now loads saves r mounts mounts_now exists size headers written torn counted = by r written torn counted
+  where
+    long : length (get_or (slots_of g new) track []) ≡ g.track_size
+    long = length-slot g.track_size (tracks_of g) track (slot_bytes new) exists (let behind = (mount_fits new g mounts_now).is_length in omega arith)
 
--- whatever bytes it is, a slot has the track size
-pub length-slot_of : (g : Geometry) (files : List (List ℕ)) (track : ℕ) → mount_of files ≡ Ok g → track < tracks_of g → length (get_or (slots_of g files) track []) ≡ g.track_size
-length-slot_of g files track mounts exists =
-    length-slot g.track_size (tracks_of g) track (slot_bytes files) exists (let behind = (mount_fits files g mounts).is_length in omega arith)
+    by : (r : Result (Unit {0}) StoreFault) → OnOk r (slot_bytes new ≡ overwritten (slot_bytes files) (track * g.track_size) slot) → OnErr r (Torn (slot_bytes files) (slot_bytes new) (track * g.track_size) g.track_size) → Counts before now r → Saved (seen g files origins before loads saves) (seen g new origins now loads (saves + 1)) slot track r
+    by (Ok v) written torn counted = record { geometry = refl; ok = rw (headers, slots_put g files new slot track mounts exists size written, counted) refl; err = tt; size = long }
+    by (Err e) written torn counted =
+        let at = track * g.track_size in
+        let behind = (mount_fits files g mounts).is_length in
+        let within = slot_within g.track_size (tracks_of g) track exists in
+        let ends : at + g.track_size ≤ length (slot_bytes files) = omega arith in
+        let part = slice_range (slot_bytes new) at (at + g.track_size) in
+        let part_size : length part ≡ g.track_size = length-between (slot_bytes new) at (at + g.track_size) (rw torn.same_length ends) ∙ omega arith in
+        let slots : slots_of g new ≡ set (slots_of g files) track part = slots_put g files new part track mounts exists part_size (torn_is (slot_bytes files) (slot_bytes new) at g.track_size torn ends) in
+        let there : get_or (slots_of g new) track [] ≡ part = sym (slot_is g new track exists) in
+        record { geometry = refl; ok = tt; err = rw (there, headers, slots, counted) refl; size = long }

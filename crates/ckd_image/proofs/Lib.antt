@@ -1,4 +1,3 @@
-pub mod Walks
 pub mod Writes
 pub mod FailingWrites
 pub mod SlotLemmas

@@ -1,7 +1,7 @@
 -- What the headers of files that are mounted say.
-use Rattle.std.proofs.Common.{◌≡◌, ℕ, ◌+◌, ◌-◌, ◌*◌, ◌/◌, ◌<◌, ◌≤◌, ◌^◌, Bool, true, false, not, ◌&&◌, ◌||◌, ◌==◌, nat_lt, nat_le, if◌then◌else◌, List, [], ◌∷◌, ◌++◌, length, take, map, Option, Some, None, Result, Ok, Err, bytes_eq, codes, refl, sym, ap, ◌∙◌, subst, lit<, lit≤, arith, length-append, length-drop}
+use Rattle.std.proofs.Common.{◌≡◌, ℕ, ◌+◌, ◌-◌, ◌*◌, ◌/◌, ◌<◌, ◌≤◌, Bool, true, false, not, ◌&&◌, ◌||◌, ◌==◌, nat_lt, nat_le, if◌then◌else◌, List, [], ◌∷◌, ◌++◌, length, take, map, Option, Some, None, Result, Ok, Err, bytes_eq, codes, refl, sym, ap, ◌∙◌, subst, lit<, lit≤, arith, length-append, length-drop}
 use Rattle.std.proofs.Math.Nat.{zero-add, zero-mul, mul_assoc, mul-div_cancel, add-mul, mul-le-mul_right}
-use Rattle.std.proofs.lemmas.Bool.{and_parts, or_parts, eqb-true, ltb-false, ltb-true, leb-true, eq-eqb, le-leb, lt-ltb, le-ltb}
+use Rattle.std.proofs.lemmas.Bool.{and_parts, or_parts, not-false, eqb-true, ltb-false, ltb-true, leb-true, eq-eqb, le-leb, lt-ltb, le-ltb}
 use Rattle.std.proofs.lemmas.List.{append_assoc, append-nil}
 use Rattle.std.specs.List.{AllByRecursion}
 use Rattle.ckd_track.specs.declared.model.DriveModel.{DriveModel}
@@ -10,10 +10,10 @@ use Rattle.ckd_track.specs.Model.{heads_of}
 use Rattle.ckd_track.specs.declared.geometries.Geometry.{Geometry}
 use Rattle.ckd_image.specs.declared.header.FileHeader.{FileHeader}
 use Rattle.ckd_image.specs.declared.fault.MountFault.{MountFault}
-use Rattle.ckd_image.specs.declared.fault.MountFault.TheVariants.{NotCkdP370, Compressed, DeviceType, Heads, TrackSize, Split, Length, StoreFault}
+use Rattle.ckd_image.specs.declared.fault.MountFault.TheVariants.{NotCkdP370, Compressed, Heads, TrackSize, Split, Length, StoreFault}
 use Rattle.ckd_track.specs.Geometry.{IsGeometry, tracks_of, least_track_size, new_geometry}
 use Rattle.ckd_image.specs.Layout.{image_length}
-use Rattle.ckd_image.specs.Header.{image_id, heads_field, track_size_field, device_type_field, file_sequence_field, highest_cylinder_field, model_of, Head, head_of, is_compressed, on_model, fields_of, header_of, is_part, are_parts, are_together, cylinders_of, cylinders_in, with_cylinders, with_model, volume_of, then_with, headers_of, mount_of, new_header}
+use Rattle.ckd_image.specs.Header.{image_id, heads_field, track_size_field, device_type_field, file_sequence_field, highest_cylinder_field, model_of, Head, head_of, is_compressed, on_model, fields_of, header_of, is_part, are_parts, are_together, cylinders_of, cylinders_in, with_cylinders, volume_of, then_with, headers_of, mount_of, new_header}
 use Rattle.ckd_image.specs.Files.{slot_bytes, HoldsWhole}
 use Rattle.ckd_image.specs.Image.{MountRefused, FilesRefused}
 
@@ -28,44 +28,29 @@ past : {A E : Type 0} (refused : Bool) (e : E) (r : Result A E) (g : A) → (if 
 past true e r g h = cc
 past false e r g h = (refl, h)
 
-some_if : (b : Bool) (c n : ℕ) → (if b then Some c else None) ≡ Some n → (b ≡ true) × (c ≡ n)
-some_if true c n h = (refl, cc)
-some_if false c n h = cc
+kept_if : (b : Bool) (o : Option ℕ) (n : ℕ) → (if b then o else None) ≡ Some n → (b ≡ true) × (o ≡ Some n)
+kept_if true o n e = (refl, e)
+kept_if false o n e = cc
 
 -- One file.
 
 -- what is known of a header that keeps the rules on one file
 record IsHeader (h : FileHeader) (len : ℕ) : Type 0 where
   pub is_len : h.len ≡ len
-  pub room : (model : DriveModel) → model_of h.device_type ≡ Some model → least_track_size model ≤ h.track_size
+  pub room : least_track_size h.model ≤ h.track_size
   pub limit : h.track_size ≤ 65536
-  pub some : 0 < h.track_size
 
-least_above : (model : DriveModel) → 0 < least_track_size model
-least_above D2311 = lit< tt
-least_above D2314 = lit< tt
-
-same_model : (o : Option DriveModel) (a b : DriveModel) → o ≡ Some a → o ≡ Some b → a ≡ b
-same_model o a b e f = cc
-
-on_model_header : (header : List ℕ) (len : ℕ) (o : Option DriveModel) (h : FileHeader) → model_of (device_type_field header) ≡ o → on_model header len o ≡ Ok h → IsHeader h len
-on_model_header header len None h found e = cc
-on_model_header header len (Some model) h found e =
+on_model_header : (header : List ℕ) (len : ℕ) (o : Option DriveModel) (h : FileHeader) → on_model header len o ≡ Ok h → IsHeader h len
+on_model_header header len None h e = cc
+on_model_header header len (Some model) h e =
     let size = track_size_field header in
-    let fields : FileHeader = record { device_type = device_type_field header; track_size = size; sequence = file_sequence_field header; highest_cylinder = highest_cylinder_field header; len = len } in
+    let fields : FileHeader = record { model = model; track_size = size; sequence = file_sequence_field header; highest_cylinder = highest_cylinder_field header; len = len } in
     let misfit = nat_lt size (least_track_size model) || nat_lt 65536 size in
     let a = past (not (heads_field header == heads_of model)) Heads (if misfit then Err TrackSize else Ok fields) h e in
     let b = past misfit TrackSize (Ok fields) h a.1 in
     let sizes = or_parts (nat_lt size (least_track_size model)) (nat_lt 65536 size) b.0 in
-    let least = ltb-false size (least_track_size model) sizes.0 in
-    let above = least_above model in
     let is : fields ≡ h = cc in
-    subst (λ (k : FileHeader). IsHeader k len) is (record {
-      is_len = refl;
-      room = λ other e. subst (λ (m : DriveModel). least_track_size m ≤ size) (same_model (model_of (device_type_field header)) model other found e) least;
-      limit = ltb-false 65536 size sizes.1;
-      some = omega arith;
-    })
+    subst (λ (k : FileHeader). IsHeader k len) is (record { is_len = refl; room = ltb-false size (least_track_size model) sizes.0; limit = ltb-false 65536 size sizes.1 })
 
 header_is : (f : Head) (h : FileHeader) → header_of f ≡ Ok h → IsHeader h f.len
 header_is f h e =
@@ -73,18 +58,14 @@ header_is f h e =
     let a = past (nat_lt f.len 512) Length (fields_of f.header f.len) h e in
     let b = past (is_compressed f.header) Compressed (if not (bytes_eq (image_id f.header) (codes "CKD_P370")) then Err NotCkdP370 else rest) h a.1 in
     let d = past (not (bytes_eq (image_id f.header) (codes "CKD_P370"))) NotCkdP370 rest h b.1 in
-    on_model_header f.header f.len (model_of (device_type_field f.header)) h refl d.1
-
-pub header_size : (f : Head) (h : FileHeader) → header_of f ≡ Ok h → 0 < h.track_size
-header_size f h e = (header_is f h e).some
+    on_model_header f.header f.len (model_of (device_type_field f.header)) h d.1
 
 -- All files.
 
 abbrev AreHeaders : List FileHeader → List (List ℕ) → Type 0
 AreHeaders [] [] = Unit {0}
 AreHeaders (h ∷ hs) (f ∷ fs) = IsHeader h (length f) × AreHeaders hs fs
-AreHeaders [] (f ∷ fs) = ⊥
-AreHeaders (h ∷ hs) [] = ⊥
+AreHeaders _ _ = ⊥
 
 record AreRead (read : List FileHeader) (files : List (List ℕ)) (headers : List FileHeader) : Type 0 where
   pub rest : List FileHeader
@@ -102,213 +83,131 @@ read_by (Ok header) read headers file files found h next =
     }
 
 all_read : (files : List (List ℕ)) (read headers : List FileHeader) → headers_of read (map head_of files) ≡ Ok headers → AreRead read files headers
-all_read [] read headers h = record { rest = []; is = nil_behind read headers h; those = tt }
-  where
-    nil_behind : (read headers : List FileHeader) → ◌≡◌ {A = Result (List FileHeader) MountFault} (Ok read) (Ok headers) → headers ≡ read ++ []
-    nil_behind read headers e = let is : read ≡ headers = cc in sym is ∙ sym (append-nil read)
+all_read [] read headers h = record { rest = []; is = (let same : read ≡ headers = cc in sym same ∙ sym (append-nil read)); those = tt }
 all_read (file ∷ files) read headers h = read_by (header_of (head_of file)) read headers file files refl h (λ more e. all_read files more headers e)
 
--- lengths of files that hold these cylinders together, of this many bytes each
-abbrev AreParts : ℕ → ℕ → List FileHeader → Type 0
-AreParts size most [] = Unit {0}
-AreParts size most (h ∷ hs) = ((c : ℕ) × (c ≤ most) × (h.len ≡ 512 + c * size)) × AreParts size most hs
-
-abbrev bytes_in : List FileHeader → ℕ
-bytes_in [] = 0
-bytes_in (h ∷ hs) = h.len - 512 + bytes_in hs
-
-record Joined (size before total : ℕ) (headers : List FileHeader) : Type 0 where
-  pub above : before < total
-  pub most : total < 65536
-  pub parts : AreParts size total headers
-  pub bytes : before * size + bytes_in headers ≡ total * size
-
-joined_last : (size before total : ℕ) (h : FileHeader) → cylinders_of size before h.len ≡ Some total → Joined size before total (h ∷ [])
-joined_last size before total h e =
-    let c = (h.len - 512) / size in
-    let it = some_if ((512 + c * size == h.len) && (nat_le 1 c && nat_lt (before + c) 65536)) (before + c) total e in
-    let parts = and_parts (512 + c * size == h.len) (nat_le 1 c && nat_lt (before + c) 65536) it.0 in
-    let rest = and_parts (nat_le 1 c) (nat_lt (before + c) 65536) parts.1 in
-    let whole = eqb-true (512 + c * size) h.len parts.0 in
-    let some = leb-true 1 c rest.0 in
-    let limit = ltb-true (before + c) 65536 rest.1 in
-    let is = it.1 in
-    record {
-      above = omega arith;
-      most = omega arith;
-      parts = ((c, omega arith, sym whole), tt);
-      bytes = sums before c total h.len whole is;
-    }
-  where
-    sums : (before c total len : ℕ) → 512 + c * size ≡ len → before + c ≡ total → before * size + (len - 512 + 0) ≡ total * size
-    sums before c total len whole is = rw (sym is, add-mul before c size) (omega arith)
-
-joined_next : (size before total : ℕ) (h : FileHeader) (rest : List FileHeader) → before ≤ h.highest_cylinder + 1 → h.len ≡ 512 + (h.highest_cylinder + 1 - before) * size → Joined size (h.highest_cylinder + 1) total rest → Joined size before total (h ∷ rest)
-joined_next size before total h rest in_order long j =
-    let above = j.above in
-    record {
-      above = omega arith;
-      most = j.most;
-      parts = ((h.highest_cylinder + 1 - before, omega arith, long), j.parts);
-      bytes = sums before (h.highest_cylinder + 1) h.len (bytes_in rest) in_order long j.bytes;
-    }
-  where
-    split : (before next : ℕ) → before ≤ next → before + (next - before) ≡ next
-    split before next h = omega arith
-
-    sums : (before next len behind : ℕ) → before ≤ next → len ≡ 512 + (next - before) * size → next * size + behind ≡ total * size → before * size + (len - 512 + behind) ≡ total * size
-    sums before next len behind order long all =
-        let whole : next * size ≡ before * size + (next - before) * size = ap (λ (k : ℕ). k * size) (sym (split before next order)) ∙ add-mul before (next - before) size in
-        omega (arith, whole, long, all)
-
-joined : (first : FileHeader) (n previous size before total : ℕ) (headers : List FileHeader) → before ≤ previous + 1 → are_parts first n previous headers ≡ true → cylinders_in size before headers ≡ Some total → Joined size before total headers
-joined first n previous size before total [] order parts found = cc
-joined first n previous size before total (last ∷ []) order parts found = joined_last size before total last found
-joined first n previous size before total (h ∷ g ∷ rest) order parts found =
-    let a = and_parts (is_part first n h) (nat_lt previous h.highest_cylinder && are_parts first (n + 1) h.highest_cylinder (g ∷ rest)) parts in
-    let b = and_parts (nat_lt previous h.highest_cylinder) (are_parts first (n + 1) h.highest_cylinder (g ∷ rest)) a.1 in
-    let up = ltb-true previous h.highest_cylinder b.0 in
-    let it = kept_if (h.len == 512 + (h.highest_cylinder + 1 - before) * size) (cylinders_in size (h.highest_cylinder + 1) (g ∷ rest)) total found in
-    joined_next size before total h (g ∷ rest) (omega arith) (eqb-true h.len (512 + (h.highest_cylinder + 1 - before) * size) it.0)
-    (joined first (n + 1) h.highest_cylinder size (h.highest_cylinder + 1) total (g ∷ rest) (omega arith) b.1 it.1)
-  where
-    kept_if : (b : Bool) (o : Option ℕ) (n : ℕ) → (if b then o else None) ≡ Some n → (b ≡ true) × (o ≡ Some n)
-    kept_if true o n e = (refl, e)
-    kept_if false o n e = cc
-
-together : (size total : ℕ) (headers : List FileHeader) → are_together headers ≡ true → cylinders_in size 0 headers ≡ Some total → Joined size 0 total headers
-together size total [] is found = cc
-together size total (only ∷ []) is found = joined_last size 0 total only found
-together size total (first ∷ second ∷ rest) is found = joined first 1 0 size 0 total (first ∷ second ∷ rest) (omega arith) is found
-
+-- one file that holds so many cylinders is whole
 few_heads : (model : DriveModel) → heads_of model ≤ 20
 few_heads D2311 = lit≤ tt
 few_heads D2314 = lit≤ tt
 
-whole_files : (model : DriveModel) (size most : ℕ) (headers : List FileHeader) (files : List (List ℕ)) → most < 65536 → AreHeaders headers files → AreParts (heads_of model * size) most headers → AllByRecursion (HoldsWhole size) files
-whole_files model size most [] [] limit are parts = tt
-whole_files model size most [] (f ∷ fs) limit are parts = absurd are
-whole_files model size most (h ∷ hs) [] limit are parts = absurd are
-whole_files model size most (h ∷ hs) (f ∷ fs) limit are parts =
-    let c = parts.0.0 in (
-      record {
-        tracks = c * heads_of model;
-        most = bounded c parts.0.1;
-        is_length = sym are.0.is_len ∙ parts.0.2 ∙ ap (λ (k : ℕ). 512 + k) (sym (mul_assoc c (heads_of model) size));
-      },
-      whole_files model size most hs fs limit are.1 parts.1,
-    )
+one_whole : (model : DriveModel) (size c : ℕ) (file : List ℕ) → c < 65536 → length file ≡ 512 + c * (heads_of model * size) → HoldsWhole size file
+one_whole model size c file most long = record {
+  tracks = c * heads_of model;
+  most = (let heads = few_heads model in let a : c * heads_of model ≤ 65536 * heads_of model = mul-le-mul_right {m = c} {n = 65536} (heads_of model) (omega arith) in omega arith);
+  is_length = long ∙ ap (λ (k : ℕ). 512 + k) (sym (mul_assoc c (heads_of model) size));
+}
+
+-- files that hold the cylinders up to this total, behind so many in the files before them
+record Joined (model : DriveModel) (size before total : ℕ) (files : List (List ℕ)) : Type 0 where
+  pub above : before < total
+  pub most : total < 65536
+  pub whole : AllByRecursion (HoldsWhole size) files
+  pub bytes : before * (heads_of model * size) + length (slot_bytes files) ≡ total * (heads_of model * size)
+
+joined_last : (model : DriveModel) (size before total : ℕ) (h : FileHeader) (file : List ℕ) → h.len ≡ length file → cylinders_of (heads_of model * size) before h.len ≡ Some total → Joined model size before total (file ∷ [])
+joined_last model size before total h file len e =
+    let bytes = heads_of model * size in
+    let c = (h.len - 512) / bytes in
+    let it = kept_if ((512 + c * bytes == h.len) && (nat_le 1 c && nat_lt (before + c) 65536)) (Some (before + c)) total e in
+    let parts = and_parts (512 + c * bytes == h.len) (nat_le 1 c && nat_lt (before + c) 65536) it.0 in
+    let rest = and_parts (nat_le 1 c) (nat_lt (before + c) 65536) parts.1 in
+    let long : length file ≡ 512 + c * bytes = sym len ∙ sym (eqb-true (512 + c * bytes) h.len parts.0) in
+    let some = leb-true 1 c rest.0 in
+    let limit = ltb-true (before + c) 65536 rest.1 in
+    let is : before + c ≡ total = cc in
+    record { above = omega arith; most = omega arith; whole = (one_whole model size c file (omega arith) long, tt); bytes = sums before c total long is }
   where
-    bounded : (c : ℕ) → c ≤ most → c * heads_of model < 2 ^ 32
-    bounded c h =
-        let heads = few_heads model in
-        let a : c * heads_of model ≤ 65536 * heads_of model = mul-le-mul_right {m = c} {n = 65536} (heads_of model) (omega arith) in
-        omega arith
+    sums : (before c total : ℕ) → length file ≡ 512 + c * (heads_of model * size) → before + c ≡ total → before * (heads_of model * size) + length (slot_bytes (file ∷ [])) ≡ total * (heads_of model * size)
+    sums before c total long is = rw (sym is, add-mul before c (heads_of model * size)) (simp (length-append, length-drop) (omega arith))
 
-slot_bytes_of : (headers : List FileHeader) (files : List (List ℕ)) → AreHeaders headers files → length (slot_bytes files) ≡ bytes_in headers
-slot_bytes_of [] [] are = refl
-slot_bytes_of [] (f ∷ fs) are = absurd are
-slot_bytes_of (h ∷ hs) [] are = absurd are
-slot_bytes_of (h ∷ hs) (f ∷ fs) are =
-    let ih = slot_bytes_of hs fs are.1 in
-    let len = are.0.is_len in
-    simp (length-append, length-drop) (omega (arith, ih, len))
-
-volume_by : (size : ℕ) (headers : List FileHeader) (files : List (List ℕ)) (model : DriveModel) (o : Option ℕ) (g : Geometry) → least_track_size model ≤ size → size ≤ 65536 → are_together headers ≡ true → AreHeaders headers files → cylinders_in (heads_of model * size) 0 headers ≡ o → with_cylinders model size o ≡ Ok g → FitsFiles g files
-volume_by size headers files model None g least limit is are found e = cc
-volume_by size headers files model (Some n) g least limit is are found e =
-    let j = together (heads_of model * size) n headers is found in
+joined_next : (model : DriveModel) (size before next total : ℕ) (file : List ℕ) (files : List (List ℕ)) → before ≤ next → length file ≡ 512 + (next - before) * (heads_of model * size) → Joined model size next total files → Joined model size before total (file ∷ files)
+joined_next model size before next total file files in_order long j =
     let above = j.above in
-    let bytes = j.bytes in
-    let same : record { model = model; cylinders = n; track_size = size } ≡ g = cc in
-    subst (λ (k : Geometry). FitsFiles k files) same (record {
-      is_geometry = record { cylinders = omega arith; room = least; limit = limit };
-      whole = whole_files model size n headers files j.most are j.parts;
-      is_length = slot_bytes_of headers files are ∙ bytes_are n bytes ∙ sym (mul_assoc n (heads_of model) size);
-    })
+    let most = j.most in
+    record { above = omega arith; most = most; whole = (one_whole model size (next - before) file (omega arith) long, j.whole); bytes = sums before next in_order long j.bytes }
   where
-    bytes_are : (n : ℕ) → 0 * (heads_of model * size) + bytes_in headers ≡ n * (heads_of model * size) → bytes_in headers ≡ n * (heads_of model * size)
-    bytes_are n e = sym (rw zero-mul (zero-add (bytes_in headers))) ∙ e
+    sums : (before next : ℕ) → before ≤ next → length file ≡ 512 + (next - before) * (heads_of model * size) → next * (heads_of model * size) + length (slot_bytes files) ≡ total * (heads_of model * size) → before * (heads_of model * size) + length (slot_bytes (file ∷ files)) ≡ total * (heads_of model * size)
+    sums before next order long all =
+        let split : before + (next - before) ≡ next = omega arith in
+        let whole : next * (heads_of model * size) ≡ before * (heads_of model * size) + (next - before) * (heads_of model * size) = ap (λ (k : ℕ). k * (heads_of model * size)) (sym split) ∙ add-mul before (next - before) (heads_of model * size) in
+        simp (length-append, length-drop) (omega (arith, whole, long, all))
+
+joined : (first : FileHeader) (n previous : ℕ) (model : DriveModel) (size before total : ℕ) (headers : List FileHeader) (files : List (List ℕ)) → before ≤ previous + 1 → are_parts first n previous headers ≡ true → AreHeaders headers files → cylinders_in (heads_of model * size) before headers ≡ Some total → Joined model size before total files
+joined first n previous model size before total [] files order parts are found = cc
+joined first n previous model size before total (last ∷ []) (file ∷ []) order parts are found = joined_last model size before total last file are.0.is_len found
+joined first n previous model size before total (h ∷ g ∷ rest) (file ∷ files) order parts are found =
+    let next = h.highest_cylinder + 1 in
+    let a = and_parts (is_part first n h) (nat_lt previous h.highest_cylinder && are_parts first (n + 1) h.highest_cylinder (g ∷ rest)) parts in
+    let b = and_parts (nat_lt previous h.highest_cylinder) (are_parts first (n + 1) h.highest_cylinder (g ∷ rest)) a.1 in
+    let up = ltb-true previous h.highest_cylinder b.0 in
+    let it = kept_if (h.len == 512 + (next - before) * (heads_of model * size)) (cylinders_in (heads_of model * size) next (g ∷ rest)) total found in
+    joined_next model size before next total file files (omega arith) (sym are.0.is_len ∙ eqb-true h.len (512 + (next - before) * (heads_of model * size)) it.0)
+    (joined first (n + 1) h.highest_cylinder model size next total (g ∷ rest) files (omega arith) b.1 are.1 it.1)
+joined first n previous model size before total (h ∷ rest) [] order parts are found = absurd are
+joined first n previous model size before total (h ∷ []) (file ∷ more ∷ files) order parts are found = absurd are.1
+
+together : (model : DriveModel) (size total : ℕ) (headers : List FileHeader) (files : List (List ℕ)) → are_together headers ≡ true → AreHeaders headers files → cylinders_in (heads_of model * size) 0 headers ≡ Some total → Joined model size 0 total files
+together model size total [] files is are found = cc
+together model size total (only ∷ []) (file ∷ []) is are found = joined_last model size 0 total only file are.0.is_len found
+together model size total (first ∷ second ∷ rest) files is are found = joined first 1 0 model size 0 total (first ∷ second ∷ rest) files (omega arith) is are found
+together model size total (only ∷ []) [] is are found = absurd are
+together model size total (only ∷ []) (file ∷ more ∷ files) is are found = absurd are.1
 
 volume_fits : (headers : List FileHeader) (files : List (List ℕ)) (g : Geometry) → AreHeaders headers files → volume_of headers ≡ Ok g → FitsFiles g files
 volume_fits [] files g are e = cc
 volume_fits (first ∷ rest) [] g are e = absurd are
 volume_fits (first ∷ rest) (f ∷ fs) g are e =
-    let a = past (not (are_together (first ∷ rest))) Split (with_model first.track_size (first ∷ rest) (model_of first.device_type)) g e in
-    by (model_of first.device_type) refl (not_false (are_together (first ∷ rest)) a.0) a.1
+    let all = cylinders_in (heads_of first.model * first.track_size) 0 (first ∷ rest) in
+    let a = past (not (are_together (first ∷ rest))) Split (with_cylinders first.model first.track_size all) g e in
+    by (not-false (are_together (first ∷ rest)) a.0) all refl a.1
   where
-    not_false : (b : Bool) → not b ≡ false → b ≡ true
-    not_false true e = refl
-    not_false false e = cc
-
-    by : (o : Option DriveModel) → model_of first.device_type ≡ o → are_together (first ∷ rest) ≡ true → with_model first.track_size (first ∷ rest) o ≡ Ok g → FitsFiles g (f ∷ fs)
-    by None found is e = cc
-    by (Some model) found is e =
-        volume_by first.track_size (first ∷ rest) (f ∷ fs) model (cylinders_in (heads_of model * first.track_size) 0 (first ∷ rest)) g (are.0.room model found) are.0.limit is are refl e
-
-mount_by : (o : Result (List FileHeader) MountFault) (files : List (List ℕ)) (g : Geometry) → headers_of [] (map head_of files) ≡ o → then_with o volume_of ≡ Ok g → FitsFiles g files
-mount_by (Err fault) files g found e = cc
-mount_by (Ok headers) files g found e =
-    let r = all_read files [] headers found in
-    volume_fits headers files g (subst (λ (hs : List FileHeader). AreHeaders hs files) (sym r.is) r.those) e
+    by : are_together (first ∷ rest) ≡ true → (o : Option ℕ) → cylinders_in (heads_of first.model * first.track_size) 0 (first ∷ rest) ≡ o → with_cylinders first.model first.track_size o ≡ Ok g → FitsFiles g (f ∷ fs)
+    by is None found e = cc
+    by is (Some n) found e =
+        let j = together first.model first.track_size n (first ∷ rest) (f ∷ fs) is are found in
+        let above = j.above in
+        let same : record { model = first.model; cylinders = n; track_size = first.track_size } ≡ g = cc in
+        subst (λ (k : Geometry). FitsFiles k (f ∷ fs)) same (record {
+          is_geometry = record { cylinders = omega arith; room = are.0.room; limit = are.0.limit };
+          whole = j.whole;
+          is_length = sym (zero-add (length (slot_bytes (f ∷ fs)))) ∙ rw zero-mul at j.bytes ∙ sym (mul_assoc n (heads_of first.model) first.track_size);
+        })
 
 -- what is mounted has a geometry, and holds its tracks
 pub mount_fits : (files : List (List ℕ)) (g : Geometry) → mount_of files ≡ Ok g → FitsFiles g files
-mount_fits files g e = mount_by (headers_of [] (map head_of files)) files g refl e
+mount_fits files g e = by (headers_of [] (map head_of files)) refl e
+  where
+    by : (o : Result (List FileHeader) MountFault) → headers_of [] (map head_of files) ≡ o → then_with o volume_of ≡ Ok g → FitsFiles g files
+    by (Err fault) found e = cc
+    by (Ok headers) found e =
+        let r = all_read files [] headers found in
+        volume_fits headers files g (subst (λ (hs : List FileHeader). AreHeaders hs files) (sym r.is) r.those) e
 
 pub size_some : (files : List (List ℕ)) (g : Geometry) → mount_of files ≡ Ok g → 0 < g.track_size
 size_some files g e = let room = (mount_fits files g e).is_geometry.room in omega arith
 
--- A refusal.
+pub mounts_by : (files : List (List ℕ)) (headers : List FileHeader) (g : Geometry) → headers_of [] (map head_of files) ≡ Ok headers → volume_of headers ≡ Ok g → mount_of files ≡ Ok g
+mounts_by files headers g found e = ap (λ o. then_with o volume_of) found ∙ e
 
-no_fault : (model : DriveModel) (size : ℕ) (o : Option ℕ) → with_cylinders model size o ≡ Err StoreFault → ⊥
-no_fault model size None e = cc
-no_fault model size (Some n) e = cc
+-- A refusal.
 
 rules_alone : (headers : List FileHeader) → volume_of headers ≡ Err StoreFault → ⊥
 rules_alone [] e = cc
-rules_alone (first ∷ rest) e = by (not (are_together (first ∷ rest))) (model_of first.device_type) e
+rules_alone (first ∷ rest) e = by (not (are_together (first ∷ rest))) (cylinders_in (heads_of first.model * first.track_size) 0 (first ∷ rest)) e
   where
-    by : (b : Bool) (o : Option DriveModel) → (if b then Err Split else with_model first.track_size (first ∷ rest) o) ≡ Err StoreFault → ⊥
+    by : (b : Bool) (o : Option ℕ) → (if b then Err Split else with_cylinders first.model first.track_size o) ≡ Err StoreFault → ⊥
     by true o e = cc
     by false None e = cc
-    by false (Some model) e = no_fault model first.track_size (cylinders_in (heads_of model * first.track_size) 0 (first ∷ rest)) e
-
-pub volume_refused : (files : List (List ℕ)) (headers : List FileHeader) (fault : MountFault) → headers_of [] (map head_of files) ≡ Ok headers → volume_of headers ≡ Err fault → (mount_of files ≡ Err fault) × (fault ≡ StoreFault → ⊥)
-volume_refused files headers fault found refused =
-    (ap (λ o. then_with o volume_of) found ∙ refused, λ is. rules_alone headers (refused ∙ ap Err is))
+    by false (Some n) e = cc
 
 pub one_refused : (file : List ℕ) (before now : ℕ) (header : FileHeader) (fault : MountFault) → header_of (head_of file) ≡ Ok header → volume_of (header ∷ []) ≡ Err fault → now ≡ before → MountRefused fault file before now
-one_refused file before now header fault found refused same = by fault both.0 both.1
-  where
-    both : (mount_of (file ∷ []) ≡ Err fault) × (fault ≡ StoreFault → ⊥)
-    both = volume_refused (file ∷ []) (header ∷ []) fault (ap (λ o. then_with o (λ h. Ok (h ∷ []))) found) refused
-
-    by : (fault : MountFault) → mount_of (file ∷ []) ≡ Err fault → (fault ≡ StoreFault → ⊥) → MountRefused fault file before now
-    by NotCkdP370 e other = (e, same)
-    by Compressed e other = (e, same)
-    by DeviceType e other = (e, same)
-    by Heads e other = (e, same)
-    by TrackSize e other = (e, same)
-    by Split e other = (e, same)
-    by Length e other = (e, same)
-    by StoreFault e other = absurd (other refl)
+one_refused file before now header StoreFault found refused same = absurd (rules_alone (header ∷ []) refused)
+one_refused file before now header fault found refused same = (ap (λ o. then_with (then_with o (λ h. Ok (h ∷ []))) volume_of) found ∙ refused, same)
 
 pub files_refused : (files : List (List ℕ)) (before now : List ℕ) (headers : List FileHeader) (fault : MountFault) → headers_of [] (map head_of files) ≡ Ok headers → volume_of headers ≡ Err fault → now ≡ before → FilesRefused fault files before now
-files_refused files before now headers fault found refused same = by fault both.0 both.1
-  where
-    both : (mount_of files ≡ Err fault) × (fault ≡ StoreFault → ⊥)
-    both = volume_refused files headers fault found refused
-
-    by : (fault : MountFault) → mount_of files ≡ Err fault → (fault ≡ StoreFault → ⊥) → FilesRefused fault files before now
-    by NotCkdP370 e other = (e, same)
-    by Compressed e other = (e, same)
-    by DeviceType e other = (e, same)
-    by Heads e other = (e, same)
-    by TrackSize e other = (e, same)
-    by Split e other = (e, same)
-    by Length e other = (e, same)
-    by StoreFault e other = absurd (other refl)
+files_refused files before now headers StoreFault found refused same = absurd (rules_alone headers refused)
+files_refused files before now headers fault found refused same = (ap (λ o. then_with o volume_of) found ∙ refused, same)
 
 -- A new file is mounted.
 

@@ -1,7 +1,8 @@
 -- A new volume, written piece by piece.
-use Rattle.std.proofs.Common.{◌≡◌, Ok, ℕ, zero, suc, ◌+◌, ◌*◌, ◌≤◌, ◌<◌, max, List, [], ◌∷◌, ◌++◌, length, take, drop, map, All, refl, sym, lit≤, ap, ◌∙◌, subst, arith, length-append, length-drop}
+use Rattle.std.proofs.Common.{◌≡◌, Ok, ℕ, zero, suc, ◌+◌, ◌*◌, ◌≤◌, ◌<◌, max, List, [], ◌∷◌, ◌++◌, length, take, drop, map, All, refl, sym, lit≤, ap, ◌∙◌, arith, length-append, length-drop}
 use Rattle.std.proofs.Math.Nat.{zero-add, zero-mul, suc-mul, mul-le-mul_right}
 use Rattle.std.proofs.lemmas.List.{append_assoc, append-nil, length-replicate, take_at, drop_at, drop-drop, drop_all}
+use Rattle.std.proofs.lemmas.List.Folds.{concat-append}
 use Rattle.std.proofs.lemmas.List.FromFn.{map-range_with_len_more, length-map-range_with_len, get_or-map-range_with_len}
 use Rattle.std.specs.List.{concat, range_with_len}
 use Rattle.ckd_track.specs.declared.model.DriveModel.{DriveModel}
@@ -32,37 +33,18 @@ pub length-new_slot : (g : Geometry) (n : ℕ) → 29 ≤ g.track_size → lengt
 unfolding slot_of
 length-new_slot g n h = simp (length-append, length-replicate) (omega arith)
 
-concat-append : (xs ys : List (List ℕ)) → concat (xs ++ ys) ≡ concat xs ++ concat ys
-concat-append [] ys = refl
-concat-append (x ∷ xs) ys = ap (λ (s : List ℕ). x ++ s) (concat-append xs ys) ∙ sym (append_assoc x (concat xs) (concat ys))
-
-abbrev slots_begun : Geometry → ℕ → List ℕ
-slots_begun g n = concat (map (new_slot g) (range_with_len 0 n))
-
-slots_begun_more : (g : Geometry) (n : ℕ) → slots_begun g (n + 1) ≡ slots_begun g n ++ new_slot g n
-slots_begun_more g n =
-    ap concat (map-range_with_len_more (new_slot g) 0 n n (zero-add n))
-    ∙ concat-append (map (new_slot g) (range_with_len 0 n)) (new_slot g n ∷ [])
-    ∙ ap (λ (bytes : List ℕ). slots_begun g n ++ bytes) (append-nil (new_slot g n))
-
-length-slots_begun : (g : Geometry) (n : ℕ) → 29 ≤ g.track_size → length (slots_begun g n) ≡ n * g.track_size
-length-slots_begun g zero h = sym (zero-mul g.track_size)
-length-slots_begun g (suc n) h =
-    let ih = length-slots_begun g n h in
-    let slot = length-new_slot g n h in
-    let next : suc n ≡ n + 1 = omega arith in
-    ap (λ (m : ℕ). length (slots_begun g m)) next ∙ ap length (slots_begun_more g n) ∙ length-append (slots_begun g n) (new_slot g n) ∙ omega (arith, suc-mul n g.track_size)
-
-pub begun_more : (g : Geometry) (n : ℕ) → begun g (n + 1) ≡ begun g n ++ new_slot g n
+begun_more : (g : Geometry) (n : ℕ) → begun g (n + 1) ≡ begun g n ++ new_slot g n
 begun_more g n =
-    ap (λ (bytes : List ℕ). new_header g.model ++ bytes) (slots_begun_more g n)
-    ∙ sym (append_assoc (new_header g.model) (slots_begun g n) (new_slot g n))
+    let slots = map (new_slot g) (range_with_len 0 n) in
+    ap (λ (all : List (List ℕ)). new_header g.model ++ concat all) (map-range_with_len_more (new_slot g) 0 n n (zero-add n))
+    ∙ ap (λ (bytes : List ℕ). new_header g.model ++ bytes) (concat-append slots (new_slot g n ∷ []) ∙ ap (λ (bytes : List ℕ). concat slots ++ bytes) (append-nil (new_slot g n)))
+    ∙ sym (append_assoc (new_header g.model) (concat slots) (new_slot g n))
 
 pub length-begun : (g : Geometry) (n : ℕ) → 29 ≤ g.track_size → length (begun g n) ≡ 512 + n * g.track_size
-length-begun g n h =
-    length-append (new_header g.model) (slots_begun g n)
-    ∙ ap (λ (m : ℕ). m + length (slots_begun g n)) (length-new_header g.model)
-    ∙ ap (λ (m : ℕ). 512 + m) (length-slots_begun g n h)
+length-begun g zero h = length-append (new_header g.model) [] ∙ omega (arith, length-new_header g.model, zero-mul g.track_size)
+length-begun g (suc n) h =
+    let next : suc n ≡ n + 1 = omega arith in
+    ap (λ (m : ℕ). length (begun g m)) next ∙ ap length (begun_more g n) ∙ length-append (begun g n) (new_slot g n) ∙ omega (arith, length-begun g n h, length-new_slot g n h, suc-mul n g.track_size)
 
 -- one write behind the other
 pub overwritten_more : (old xs ys : List ℕ) (at : ℕ) → at ≡ length xs → overwritten (overwritten old 0 xs) at ys ≡ overwritten old 0 (xs ++ ys)
@@ -130,21 +112,20 @@ one_more g old now next n size is written =
 
 -- A new volume, written whole.
 
-pub written_whole : (model : DriveModel) (cylinders : ℕ) (g : Geometry) (old now : List ℕ) → g ≡ new_geometry model cylinders → length old ≤ image_length g → now ≡ overwritten old 0 (new_file g) → now ≡ new_file (new_geometry model cylinders)
-written_whole model cylinders g old now same =
+pub written_whole : (model : DriveModel) (cylinders : ℕ) (old now : List ℕ) → length old ≤ image_length (new_geometry model cylinders) → now ≡ overwritten old 0 (new_file (new_geometry model cylinders)) → now ≡ new_file (new_geometry model cylinders)
+written_whole model cylinders old now short is =
     let new = new_geometry model cylinders in
     let long = length-begun new (tracks_of new) (slot_room new refl) in
-    subst (λ (k : Geometry). length old ≤ image_length k → now ≡ overwritten old 0 (new_file k) → now ≡ new_file new) (sym same)
-    (λ short is. is ∙ overwritten_whole old (new_file new) (omega arith))
+    is ∙ overwritten_whole old (new_file new) (omega arith)
 
 pub new_file_mounted : (model : DriveModel) (cylinders : ℕ) → 1 ≤ cylinders → cylinders < 65536 → mount_of (new_file (new_geometry model cylinders) ∷ []) ≡ Ok (new_geometry model cylinders)
 new_file_mounted model cylinders least most =
     let g = new_geometry model cylinders in
     new_file_mounts model cylinders (new_file g) least most (header-new_file g) (length-begun g (tracks_of g) (slot_room g refl))
 
-pub new_image_seen : (model : DriveModel) (cylinders : ℕ) (origin : List ℕ) (failures loads saves : ℕ) → loads ≡ 0 → saves ≡ 0 → seen (new_geometry model cylinders) (new_file (new_geometry model cylinders) ∷ []) (origin ∷ []) failures loads saves ≡ new_image model cylinders origin failures
-new_image_seen model cylinders origin failures loads saves no_loads no_saves =
+pub new_image_seen : (model : DriveModel) (cylinders : ℕ) (origin : List ℕ) (failures : ℕ) → seen (new_geometry model cylinders) (new_file (new_geometry model cylinders) ∷ []) (origin ∷ []) failures 0 0 ≡ new_image model cylinders origin failures
+new_image_seen model cylinders origin failures =
     let g = new_geometry model cylinders in
     let bytes : slot_bytes (new_file g ∷ []) ≡ drop 512 (new_file g) = append-nil (drop 512 (new_file g)) in
     let header : take 512 (new_file g) ++ [] ≡ new_header model = append-nil (take 512 (new_file g)) ∙ header-new_file g in
-    rw (bytes, slots-new_file g (slot_room g refl), header, no_loads, no_saves) refl
+    rw (bytes, slots-new_file g (slot_room g refl), header) refl

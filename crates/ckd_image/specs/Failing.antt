@@ -2,6 +2,7 @@
 use Rattle.std.specs.Prelude.{ℕ, ◌+◌, ◌-◌, ◌^◌, min, Bool, not, ◌&&◌, ◌||◌, ◌==◌, nat_lt, List, length, take, if◌then◌else◌}
 use Rattle.ckd_image.specs.Store.{Stored, overwritten, after_write}
 
+-- a store in memory, and which of its calls fail
 pub record Failing : Type 0 where
   -- the store within
   pub store : Stored

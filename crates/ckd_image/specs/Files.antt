@@ -11,11 +11,12 @@ use Rattle.ckd_image.specs.Header.{Head, no_head, head_of, header_of, headers_of
 abbrev pub slot_bytes : List (List ℕ) → List ℕ
 slot_bytes files = concat (map (drop 512) files)
 
--- where the slot of a track is, in files of so many tracks each: the file's place, and the track's
--- number in that file
+-- the same place, where one more file stands before
 abbrev pub behind : SlotPlace → SlotPlace
 behind p = record p { file = p.file + 1 }
 
+-- where the slot of a track is, in files of so many tracks each: the file's place, and the track's
+-- number in that file
 abbrev pub place_in : List ℕ → ℕ → SlotPlace
 place_in [] track = record { file = 0; track = track }
 place_in (n ∷ tracks) track = if nat_lt track n then record { file = 0; track = track } else behind (place_in tracks (track - n))

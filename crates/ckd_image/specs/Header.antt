@@ -12,22 +12,27 @@ use Rattle.ckd_track.specs.Geometry.{least_track_size}
 
 -- The fields. Numbers are little-endian.
 
+-- what tells this layout from others
 abbrev pub image_id : List ℕ → List ℕ
 image_id header = take 8 header
 
+-- the heads of a cylinder
 abbrev pub heads_field : List ℕ → ℕ
 heads_field header = little_number 4 (slice_range header 8 12)
 
+-- the bytes of each slot
 abbrev pub track_size_field : List ℕ → ℕ
 track_size_field header = little_number 4 (slice_range header 12 16)
 
+-- which drive it is
 abbrev pub device_type_field : List ℕ → ℕ
 device_type_field header = slice_index header 16
 
+-- the file's number among those of its image; 0 or 1 in an only one
 abbrev pub file_sequence_field : List ℕ → ℕ
 file_sequence_field header = slice_index header 17
 
--- of a file that is not the last of its image; 0 in the last or only one
+-- the last cylinder of a file that is not the last of its image; 0 in the last or only one
 abbrev pub highest_cylinder_field : List ℕ → ℕ
 highest_cylinder_field header = little_number 2 (slice_range header 18 20)
 
@@ -36,6 +41,7 @@ abbrev pub device_type_of : DriveModel → ℕ
 device_type_of D2311 = 0x11
 device_type_of D2314 = 0x14
 
+-- the drive that a device type names, if there is one
 abbrev pub model_of : ℕ → Option DriveModel
 model_of device = if device == 0x11 then Some D2311 else (if device == 0x14 then Some D2314 else None)
 
@@ -57,9 +63,11 @@ pub record Head : Type 0 where
   pub header : List ℕ
   pub len : ℕ
 
+-- that of a file
 abbrev pub head_of : List ℕ → Head
 head_of file = record { header = take 512 file; len = length file }
 
+-- that of no file
 abbrev pub no_head : Head
 no_head = record { header = []; len = 0 }
 
@@ -75,7 +83,7 @@ on_model header len (Some model) =
     if not (heads_field header == heads_of model) then Err Heads
     else (if nat_lt size (least_track_size model) || nat_lt 65536 size then Err TrackSize
     else Ok (record {
-      device_type = device_type_field header;
+      model = model;
       track_size = size;
       sequence = file_sequence_field header;
       highest_cylinder = highest_cylinder_field header;
@@ -97,7 +105,7 @@ header_of f = if nat_lt f.len 512 then Err Length else fields_of f.header f.len
 
 -- this file belongs to the image of the first one, as the n-th
 abbrev pub is_part : FileHeader → ℕ → FileHeader → Bool
-is_part first n f = (f.sequence == n) && ((f.device_type == first.device_type) && (f.track_size == first.track_size))
+is_part first n f = (f.sequence == n) && ((device_type_of f.model == device_type_of first.model) && (f.track_size == first.track_size))
 
 -- these are the files of the first one's image from the n-th to the last; the one before them has
 -- this highest cylinder
@@ -129,21 +137,18 @@ cylinders_in size before (last ∷ []) = cylinders_of size before last.len
 cylinders_in size before (f ∷ g ∷ rest) =
     if f.len == 512 + (f.highest_cylinder + 1 - before) * size then cylinders_in size (f.highest_cylinder + 1) (g ∷ rest) else None
 
+-- the geometry of this drive with these cylinders, where there are such
 abbrev pub with_cylinders : DriveModel → ℕ → Option ℕ → Result Geometry MountFault
 with_cylinders model size None = Err Length
 with_cylinders model size (Some cylinders) =
     Ok (record { model = model; cylinders = cylinders; track_size = size })
-
-abbrev pub with_model : ℕ → List FileHeader → Option DriveModel → Result Geometry MountFault
-with_model size headers None = Err DeviceType
-with_model size headers (Some model) = with_cylinders model size (cylinders_in (heads_of model * size) 0 headers)
 
 -- the geometry of the image in these files, or the first rule on all of them that is broken
 abbrev pub volume_of : List FileHeader → Result Geometry MountFault
 volume_of [] = Err Split
 volume_of (first ∷ rest) =
     if not (are_together (first ∷ rest)) then Err Split
-    else with_model first.track_size (first ∷ rest) (model_of first.device_type)
+    else with_cylinders first.model first.track_size (cylinders_in (heads_of first.model * first.track_size) 0 (first ∷ rest))
 
 -- Mount.
 

@@ -18,6 +18,7 @@ pub record Lasting : Type 0 where
   -- what each file's store held when it was made, in order
   pub origins : List (List ℕ)
 
+-- an image, as the layers above see it
 pub record ImageState : Type 0 where
   pub geometry : Geometry
   -- a slot for each track, cylinder by cylinder and head by head

@@ -9,7 +9,7 @@ ghost use Rattle.ckd_image.specs.Files.{held, file_at, each, slot_bytes, place_i
 
 use crate::fault::MountFault;
 use crate::header::{FileHeader, read_fields};
-use crate::layout::HEADER_LENGTH;
+use crate::layout::{HEADER_LENGTH, slot_start};
 use crate::store::{ImageStore, StoreFault};
 use crate::stores::{MOST_FILES, Stores, read_store, take_file, write_store};
 use arrayvec::ArrayVec;
@@ -41,13 +41,6 @@ fn place_of(tracks: &[u32], track: u32) -> SlotPlace
     }
 }
 
-/// Where the slot of a track begins in its file; the track is counted from the file's first one.
-fn slot_at(size: u32, track: u32) -> u64
-    ensures { result ≡ 512 + track * size }
-{
-    HEADER_LENGTH as u64 + track as u64 * size as u64
-}
-
 /// Reads the slot of a track from the file that holds it, and no other file is touched.
 pub(crate) fn read_slot<S: ImageStore>(
     stores: &mut Stores<S>,
@@ -69,7 +62,7 @@ pub(crate) fn read_slot<S: ImageStore>(
     ensures counted { Counts (sum (each S.failures (listed stores.old))) (sum (each S.failures (listed stores.new))) result }
 {
     let place = place_of(tracks, track);
-    read_store(stores, place.file, slot_at(size, place.track), slot)
+    read_store(stores, place.file, slot_start(size, place.track), slot)
 }
 
 /// Writes the slot of a track into the file that holds it, and no other file is touched.
@@ -96,7 +89,7 @@ pub(crate) fn write_slot<S: ImageStore>(
     ensures counted { Counts (sum (each S.failures (listed stores.old))) (sum (each S.failures (listed stores.new))) result }
 {
     let place = place_of(tracks, track);
-    write_store(stores, place.file, slot_at(size, place.track), slot)
+    write_store(stores, place.file, slot_start(size, place.track), slot)
 }
 
 /// Reads the header of a file, unless it is below 512 bytes.
@@ -182,6 +175,7 @@ pub(crate) fn in_array<S: ImageStore>(
 }
 
 /// Appends a file to a list, if it is there.
+#[tactic(auto, using(crate::proofs::ReadLemmas::each_pushed))]
 fn append<S: ImageStore>(stores: &mut ArrayVec<Option<S>, MOST_FILES>, file: Option<S>)
     requires room { array_vec_len stores.old < 8 }
     requires there { All IsSome stores.old.items }

@@ -21,10 +21,10 @@ const BESIDES_CAPACITY: u32 = 37;
 const GREATEST_TRACK_SIZE: u32 = 65_536;
 
 /// What the header of a file says, as far as one file can keep the rules, and the file's length.
-#[derive(Clone, Copy, Debug, Default)]
+#[derive(Clone, Copy, Debug)]
 pub(crate) struct FileHeader {
-    /// The drive's device type.
-    pub(crate) device_type: u8,
+    /// The drive, by its device type.
+    pub(crate) model: DriveModel,
     /// The bytes of a track's slot.
     pub(crate) track_size: u32,
     /// The file's number among those of its image.
@@ -33,6 +33,19 @@ pub(crate) struct FileHeader {
     pub(crate) highest_cylinder: u16,
     /// The file's length, in bytes.
     pub(crate) len: u64,
+}
+
+// What stands in a list of headers behind those that were read.
+impl Default for FileHeader {
+    fn default() -> FileHeader {
+        FileHeader {
+            model: DriveModel::D2311,
+            track_size: 0,
+            sequence: 0,
+            highest_cylinder: 0,
+            len: 0,
+        }
+    }
 }
 
 /// What the header of a file of this length says, or the first rule on one file that is broken.
@@ -87,7 +100,7 @@ fn read_fields_of(header: &[u8], len: u64, model: DriveModel) -> Result<FileHead
         return Err(MountFault::TrackSize);
     }
     Ok(FileHeader {
-        device_type: header[16],
+        model,
         track_size,
         sequence: header[17],
         highest_cylinder: LittleEndian::read_u16(&header[18..20]),
@@ -108,13 +121,11 @@ pub(crate) fn volume_of_files(headers: &[FileHeader]) -> Result<Geometry, MountF
     if !are_files_of_one(headers) {
         return Err(MountFault::Split);
     }
-    let Some(model) = model_of_device(first.device_type) else {
-        return Err(MountFault::DeviceType);
-    };
-    match cylinders_of_files(headers, model.heads() as u64 * first.track_size as u64, 0) {
+    let size = first.model.heads() as u64 * first.track_size as u64;
+    match cylinders_of_files(headers, size, 0) {
         None => Err(MountFault::Length),
         Some(cylinders) => Ok(Geometry {
-            model,
+            model: first.model,
             cylinders,
             track_size: first.track_size,
         }),
@@ -138,7 +149,7 @@ fn is_part_of(first: &FileHeader, n: u8, file: &FileHeader) -> bool
     ensures { result ≡ is_part first.now n file.now }
 {
     file.sequence == n
-        && file.device_type == first.device_type
+        && device_type(file.model) == device_type(first.model)
         && file.track_size == first.track_size
 }
 
@@ -198,7 +209,7 @@ fn cylinders_with_last(size: u64, before: u64, len: u64) -> Option<u16>
 }
 
 /// The header of a new image in one file.
-pub fn new_header_of(model: DriveModel) -> [u8; HEADER_LENGTH]
+pub(crate) fn new_header_of(model: DriveModel) -> [u8; HEADER_LENGTH]
     ensures { result ≡ new_header model }
 {
     let mut header = [0; HEADER_LENGTH];

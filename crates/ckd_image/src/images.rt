@@ -166,10 +166,10 @@ impl<S: ImageStore> Image<S> {
         if cylinders == 0 || store.len() > file_length(geometry) {
             return Err((MountFault::Length, store));
         }
-        if write_new_volume(&mut store, geometry).is_err() {
-            return Err((MountFault::StoreFault, store));
+        match write_new_volume(&mut store, geometry) {
+            Ok(()) => Ok(image_of_one(store, geometry)),
+            Err(_) => Err((MountFault::StoreFault, store)),
         }
-        Ok(image_of_one(store, geometry))
     }
 
     /// What the headers say.

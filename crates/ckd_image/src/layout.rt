@@ -9,18 +9,18 @@ use ckd_track::{DriveModel, Geometry};
 /// The length of an image's header, in bytes. The slots follow it.
 pub(crate) const HEADER_LENGTH: usize = 512;
 
-/// Where a track's slot begins in the image's file.
-pub(crate) fn slot_start(geometry: Geometry, track: u32) -> u64
-    ensures { result ≡ 512 + track * geometry.track_size }
+/// Where a slot of this size begins in its file; the track is counted from the file's first one.
+pub(crate) fn slot_start(size: u32, track: u32) -> u64
+    ensures { result ≡ 512 + track * size }
 {
-    HEADER_LENGTH as u64 + track as u64 * geometry.track_size as u64
+    HEADER_LENGTH as u64 + track as u64 * size as u64
 }
 
 /// The length of an image's file with this geometry, in bytes.
 pub(crate) fn file_length(geometry: Geometry) -> u64
     ensures { result ≡ image_length geometry }
 {
-    slot_start(geometry, geometry.tracks())
+    slot_start(geometry.track_size, geometry.tracks())
 }
 
 /// The length of a new image's file, in bytes.

@@ -19,3 +19,4 @@ pub use crate::layout::image_len;
 pub use crate::memory::MemoryStore;
 pub use crate::new_volume::write_new_volume;
 pub use crate::store::{ImageStore, StoreFault};
+pub use crate::stores::MOST_FILES;

@@ -59,7 +59,7 @@ fn write_new_slot<S: ImageStore>(
 {
     let heads = geometry.model.heads() as u32;
     spell_new_track(slot, (track / heads) as u16, (track % heads) as u16);
-    store.write_at(slot_start(geometry, track), slot)
+    store.write_at(slot_start(geometry.track_size, track), slot)
 }
 
 /// Spells a track of a new volume.

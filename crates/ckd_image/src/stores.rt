@@ -8,8 +8,9 @@ ghost use Rattle.ckd_image.specs.Files.{held, file_at, each, listed, alone, Hold
 use crate::layout::HEADER_LENGTH;
 use crate::store::{ImageStore, StoreFault};
 
-/// The most files of one image.
-pub(crate) const MOST_FILES: usize = 8;
+/// The most files of one image. Contracts and definitions have the number 8 for it, and are proved of the code that has
+/// this name.
+pub const MOST_FILES: usize = 8;
 
 /// The stores that hold the files of an image, in order, and none behind them. Each has a field of
 /// its own: what the prover is given of an array of them is so long that searches above stop at it.

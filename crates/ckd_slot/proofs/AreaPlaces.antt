@@ -5,21 +5,19 @@ use Rattle.ckd_track.specs.declared.fault.SlotFault.{SlotFault}
 use Rattle.ckd_track.specs.Track.{number_of_records, offsets_of}
 use Rattle.ckd_track.proofs.Laws.{read_is_spelled}
 use Rattle.ckd_track.proofs.Offsets.{has_offsets, are_bytes}
-use Rattle.std.proofs.lemmas.List.{take_at, drop_at, get_or_past, get_or-take}
+use Rattle.std.proofs.lemmas.List.{take_at, take-take, get_or_past, get_or-take}
+use Rattle.std.proofs.Math.Seq.{take-add}
 use Rattle.std.proofs.lemmas.Grind.{get_or_default_zero}
 use Rattle.ckd_track.specs.Track.{Record, Track, Spells, track_of, track_in, record_in, no_record, record_bytes, count_area, key_length, data_length}
 use Rattle.ckd_track.proofs.Spelled.{reads_back}
-use Rattle.ckd_track.proofs.Offsets.{stands, parts_at, StandsAt, home_is, length-offsets_from}
+use Rattle.ckd_track.proofs.Offsets.{stands, parts_at, PartsAt, StandsAt, home_is, length-offsets_from}
 use Rattle.ckd_slot.specs.declared.charges.Charged.{Charged}
 use Rattle.ckd_position.specs.declared.areas.Area.TheVariants.{HomeAddress, Of}
 use Rattle.ckd_position.specs.declared.areas.Part.{Part}
 use Rattle.ckd_position.specs.declared.extents.Extent.{Extent}
 use Rattle.ckd_position.specs.declared.extents.Extent.TheVariants as extent
 use Rattle.ckd_position.specs.Contents.{Sighted, bytes_of, record_on, records_on, is_readable}
-use Rattle.ckd_slot.specs.Buffer.{Lies, Tabled, IsRead, IsIndexed, IsBuffer, HasBytes, StandsThere, home_address_place, record_place}
-
-pub read_as : (slot : List ℕ) → Spells slot (track_in slot) → 5 ≤ length slot
-read_as slot s = omega (arith, ap length (home_is slot (track_in slot) s), length-take 5 slot, s.home_address)
+use Rattle.ckd_slot.specs.Buffer.{Lies, Tabled, IsRead, IsBuffer, HasBytes, StandsThere, home_address_place, record_place}
 
 take_five : (slot ha : List ℕ) → take 5 slot ≡ ha → take 4 (drop 1 slot) ≡ drop 1 ha
 take_five [] ha e = rw (← e) refl
@@ -28,28 +26,18 @@ take_five (x ∷ slot) ha e = rw (← e) refl
 pub home_lies : (slot : List ℕ) (t : Track) (e : Extent) → Spells slot t → Lies slot (home_address_place e) (bytes_of e (Ok t) HomeAddress)
 home_lies slot t extent.HomeAddress s = let h = home_is slot t s in record { within = omega (arith, ap length h, length-take 5 slot, s.home_address); size = s.home_address; here = h }
 home_lies slot t extent.CylinderAndHead s = let h = home_is slot t s in record { within = omega (arith, ap length h, length-take 5 slot, s.home_address); size = omega (arith, length-drop 1 t.home_address, s.home_address); here = take_five slot t.home_address h }
-home_lies slot t extent.Nothing s = record { within = omega arith; size = refl; here = refl }
-home_lies slot t extent.Identifier s = record { within = omega arith; size = refl; here = refl }
-home_lies slot t extent.Count s = record { within = omega arith; size = refl; here = refl }
-home_lies slot t extent.Key s = record { within = omega arith; size = refl; here = refl }
-home_lies slot t extent.Data s = record { within = omega arith; size = refl; here = refl }
-home_lies slot t extent.KeyAndData s = record { within = omega arith; size = refl; here = refl }
-home_lies slot t extent.CountKeyAndData s = record { within = omega arith; size = refl; here = refl }
+home_lies slot t e s = record { within = omega arith; size = refl; here = refl }
 
 -- bytes that are so many of those behind an offset
 lies_by : (slot bytes : List ℕ) (at n : ℕ) → at + n ≤ length slot → length bytes ≡ n → take n (drop at slot) ≡ bytes → Lies slot (record { start = at; len = n }) bytes
 lies_by slot bytes at n room size here = let e : at + n - at ≡ n = omega arith in record { within = room; size = size; here = rw e here }
 
-first_of : (slot all first others : List ℕ) (at : ℕ) → drop at slot ≡ all → all ≡ first ++ others → take (length first) (drop at slot) ≡ first
-first_of slot all first others at e is = rw (e, is) (take_at first others (length first) refl)
-
 pub record_lies : (slot : List ℕ) (r : Record) (at : ℕ) (e : Extent) (part : Part) (i : ℕ) (t : Sighted) → StandsAt slot at r → record_on t i ≡ r
     → Lies slot (record_place e at (key_length (drop at slot)) (data_length (drop at slot))) (bytes_of e t (Of part i))
 record_lies slot r at extent.Identifier part i t s is =
     let p = parts_at slot at r s in
-    let b : drop at slot ≡ r.id ++ ((length r.key_area ∷ length r.data_area / 256 ∷ length r.data_area % 256 ∷ []) ++ (r.key_area ++ (r.data_area ++ s.rest))) =
-    s.bytes ∙ append_assoc (count_area r ++ r.key_area) r.data_area s.rest ∙ append_assoc (count_area r) r.key_area (r.data_area ++ s.rest) ∙ append_assoc r.id _ (r.key_area ++ (r.data_area ++ s.rest)) in
-    rw (is, bytes_of) (lies_by slot r.id at 5 (omega (arith, p.within)) s.is_record.id (let h : take (length r.id) (drop at slot) ≡ r.id = first_of slot _ r.id _ at b refl in rw s.is_record.id at h))
+    let id : take 5 (drop at slot) ≡ r.id = sym (take-take 5 8 (drop at slot) (omega arith)) ∙ ap (take 5) p.count ∙ take_at r.id (length r.key_area ∷ length r.data_area / 256 ∷ length r.data_area % 256 ∷ []) 5 s.is_record.id in
+    rw (is, bytes_of) (lies_by slot r.id at 5 (omega (arith, p.within)) s.is_record.id id)
 record_lies slot r at extent.Count part i t s is =
     let p = parts_at slot at r s in
     rw (is, bytes_of) (lies_by slot (count_area r) at 8 (omega (arith, p.within)) (omega (arith, ap length p.count, length-take 8 (drop at slot), length-drop at slot, p.within)) p.count)
@@ -61,49 +49,47 @@ record_lies slot r at extent.Data part i t s is =
     rw (is, bytes_of, p.key_size, p.data_size) (lies_by slot r.data_area (at + 8 + length r.key_area) (length r.data_area) (omega (arith, p.within)) refl p.data_area)
 record_lies slot r at extent.KeyAndData part i t s is =
     let p = parts_at slot at r s in
-    let whole : drop at slot ≡ count_area r ++ ((r.key_area ++ r.data_area) ++ s.rest) =
-    s.bytes ∙ append_assoc (count_area r ++ r.key_area) r.data_area s.rest ∙ append_assoc (count_area r) r.key_area (r.data_area ++ s.rest) ∙ ap (λ (xs : List ℕ). count_area r ++ xs) (sym (append_assoc r.key_area r.data_area s.rest)) in
-    let b : drop (at + 8) slot ≡ (r.key_area ++ r.data_area) ++ s.rest =
-    sym (drop-drop 8 at slot) ∙ ap (drop 8) whole
-    ∙ drop_at (count_area r) ((r.key_area ++ r.data_area) ++ s.rest) 8 (omega (arith, ap length p.count, length-take 8 (drop at slot), length-drop at slot, p.within)) in
-    let n : length (r.key_area ++ r.data_area) ≡ length r.key_area + length r.data_area = length-append r.key_area r.data_area in
-    rw (is, bytes_of, p.key_size, p.data_size) (lies_by slot (r.key_area ++ r.data_area) (at + 8) (length r.key_area + length r.data_area) (omega (arith, p.within)) n
-    (rw (← n) (first_of slot _ (r.key_area ++ r.data_area) s.rest (at + 8) b refl)))
+    let n = length r.key_area + length r.data_area in
+    let both : take n (drop (at + 8) slot) ≡ r.key_area ++ r.data_area = take-add (length r.key_area) (length r.data_area) (drop (at + 8) slot) ∙ rw (p.key_area, drop-drop (length r.key_area) (at + 8) slot, p.data_area) refl in
+    rw (is, bytes_of, p.key_size, p.data_size) (lies_by slot (r.key_area ++ r.data_area) (at + 8) n (omega (arith, p.within)) (length-append r.key_area r.data_area) both)
 record_lies slot r at extent.CountKeyAndData part i t s is =
     let p = parts_at slot at r s in
-    let back = reads_back r [] s.is_record in
-    let n : length (record_bytes r) ≡ 8 + length r.key_area + length r.data_area = omega (arith, back.own) in
-    rw (is, bytes_of, p.key_size, p.data_size) (lies_by slot (record_bytes r) at (8 + length r.key_area + length r.data_area) (omega (arith, p.within)) n
-    (rw (← n) (first_of slot _ (record_bytes r) s.rest at s.bytes refl)))
-record_lies slot r at extent.Nothing part i t s is = record { within = omega arith; size = refl; here = refl }
-record_lies slot r at extent.CylinderAndHead part i t s is = record { within = omega arith; size = refl; here = refl }
-record_lies slot r at extent.HomeAddress part i t s is = record { within = omega arith; size = refl; here = refl }
+    let n = 8 + length r.key_area + length r.data_area in
+    let own : length (record_bytes r) ≡ n = omega (arith, (reads_back r [] s.is_record).own) in
+    rw (is, bytes_of, p.key_size, p.data_size) (lies_by slot (record_bytes r) at n (omega (arith, p.within)) own (ap (take n) s.bytes ∙ take_at (record_bytes r) s.rest n own))
+record_lies slot r at e part i t s is = record { within = omega arith; size = refl; here = refl }
 
-pub spelled : (slot offsets : List ℕ) (records : Option ℕ) → IsIndexed slot offsets records → is_readable (track_of slot) ≡ true → (track_of slot ≡ Ok (track_in slot)) × Spells slot (track_in slot)
-spelled slot offsets (Some n) i e = (i.read.read, i.read.spells)
-spelled slot offsets None i e = absurd (let no : is_readable (track_of slot) ≡ false = i.read in cc)
+-- a slot that reads whole spells the track that is read of it
+pub record Reads (slot : List ℕ) : Type 0 where
+  pub read : track_of slot ≡ Ok (track_in slot)
+  pub spells : Spells slot (track_in slot)
 
-pub home_window : (slot offsets : List ℕ) (records : Option ℕ) (e : Extent) → IsIndexed slot offsets records → is_readable (track_of slot) ≡ true → Lies slot (home_address_place e) (bytes_of e (track_of slot) HomeAddress)
-home_window slot offsets records e i r =
-    let s = spelled slot offsets records i r in
+pub reads : {slot offsets : List ℕ} {records : Option ℕ} {zeros_from : ℕ} {charged : Charged} → IsBuffer slot offsets records zeros_from charged → is_readable (track_of slot) ≡ true → Reads slot
+reads {slot} {offsets} {records = Some n} x e = record { read = x.indexed.read.read; spells = x.indexed.read.spells }
+reads {slot} {offsets} {records = None} x e = absurd (let no : is_readable (track_of slot) ≡ false = x.indexed.read in cc)
+
+pub home_window : {slot : List ℕ} (e : Extent) → Reads slot → Lies slot (home_address_place e) (bytes_of e (track_of slot) HomeAddress)
+home_window {slot} e r =
     let P : Sighted → Type 0 = λ t. Lies slot (home_address_place e) (bytes_of e t HomeAddress) in
-    subst P (sym s.0) (home_lies slot (track_in slot) e s.1)
+    subst P (sym r.read) (home_lies slot (track_in slot) e r.spells)
 
-pub standing : (slot offsets : List ℕ) (records : Option ℕ) (i at : ℕ) → IsIndexed slot offsets records → is_readable (track_of slot) ≡ true → StandsThere slot i (Some at) → StandsAt slot at (record_in (track_in slot) i)
-standing slot offsets records i at x r there =
-    let s = spelled slot offsets records x r in
+pub standing : {slot : List ℕ} (i at : ℕ) → Reads slot → StandsThere slot i (Some at) → StandsAt slot at (record_in (track_in slot) i)
+standing {slot} i at r there =
     let P : ℕ → Type 0 = λ a. StandsAt slot a (record_in (track_in slot) i) in
-    subst P (sym there.1) (stands slot (track_in slot) i s.1 there.0)
+    subst P (sym there.1) (stands slot (track_in slot) i r.spells there.0)
 
-pub room_there : (slot : List ℕ) (r : Record) (at : ℕ) → StandsAt slot at r → at + 8 ≤ length slot
-room_there slot r at s = omega (arith, (parts_at slot at r s).within)
+-- what its count area says
+pub parts_there : {slot : List ℕ} (i at : ℕ) → Reads slot → StandsThere slot i (Some at) → PartsAt slot at (record_in (track_in slot) i)
+parts_there {slot} i at r there = parts_at slot at (record_in (track_in slot) i) (standing i at r there)
 
-pub record_window : (slot offsets : List ℕ) (records : Option ℕ) (e : Extent) (part : Part) (i at : ℕ) → IsIndexed slot offsets records → is_readable (track_of slot) ≡ true → StandsThere slot i (Some at)
+pub room_there : {slot : List ℕ} (i at : ℕ) → Reads slot → StandsThere slot i (Some at) → at + 8 ≤ length slot
+room_there i at r there = omega (arith, (parts_there i at r there).within)
+
+pub record_window : {slot : List ℕ} (e : Extent) (part : Part) (i at : ℕ) → Reads slot → StandsThere slot i (Some at)
     → Lies slot (record_place e at (key_length (drop at slot)) (data_length (drop at slot))) (bytes_of e (track_of slot) (Of part i))
-record_window slot offsets records e part i at x r there =
-    let s = spelled slot offsets records x r in
+record_window {slot} e part i at r there =
     let P : Sighted → Type 0 = λ t. Lies slot (record_place e at (key_length (drop at slot)) (data_length (drop at slot))) (bytes_of e t (Of part i)) in
-    subst P (sym s.0) (record_lies slot (record_in (track_in slot) i) at e part i (Ok (track_in slot)) (standing slot offsets records i at x r there) refl)
+    subst P (sym r.read) (record_lies slot (record_in (track_in slot) i) at e part i (Ok (track_in slot)) (standing i at r there) refl)
 
 not_there : (t : Sighted) (i : ℕ) → length (records_on t) ≤ i → record_on t i ≡ no_record
 not_there t i le = get_or_past (records_on t) i no_record le
@@ -112,50 +98,38 @@ lies_nowhere : (slot bytes : List ℕ) → bytes ≡ [] → Lies slot (record { 
 lies_nowhere slot bytes e = rw e (record { within = omega arith; size = refl; here = refl })
 
 pub no_window : (slot : List ℕ) (e : Extent) (part : Part) (i : ℕ) → StandsThere slot i None → HasBytes e (track_of slot) (Of part i) → Lies slot (record { start = 0; len = 0 }) (bytes_of e (track_of slot) (Of part i))
-no_window slot extent.Nothing part i le on = lies_nowhere slot _ refl
-no_window slot extent.CylinderAndHead part i le on = lies_nowhere slot _ refl
-no_window slot extent.HomeAddress part i le on = lies_nowhere slot _ refl
 no_window slot extent.Identifier part i le on = lies_nowhere slot _ (ap (λ (r : Record). r.id) (not_there (track_of slot) i le))
 no_window slot extent.Count part i le on = absurd (omega (arith, le, on))
 no_window slot extent.Key part i le on = lies_nowhere slot _ (ap (λ (r : Record). r.key_area) (not_there (track_of slot) i le))
 no_window slot extent.Data part i le on = lies_nowhere slot _ (ap (λ (r : Record). r.data_area) (not_there (track_of slot) i le))
 no_window slot extent.KeyAndData part i le on = lies_nowhere slot _ (ap (λ (r : Record). r.key_area ++ r.data_area) (not_there (track_of slot) i le))
 no_window slot extent.CountKeyAndData part i le on = absurd (omega (arith, le, on))
+no_window slot e part i le on = lies_nowhere slot _ refl
 
 -- whether a record has data is read off its count area
-pub no_data_there : (slot offsets : List ℕ) (records : Option ℕ) (i at : ℕ) → IsIndexed slot offsets records → is_readable (track_of slot) ≡ true → StandsThere slot i (Some at)
-    → data_length (drop at slot) ≡ length (record_on (track_of slot) i).data_area
-no_data_there slot offsets records i at x r there =
-    let s = spelled slot offsets records x r in
+pub no_data_there : {slot : List ℕ} (i at : ℕ) → Reads slot → StandsThere slot i (Some at) → data_length (drop at slot) ≡ length (record_on (track_of slot) i).data_area
+no_data_there {slot} i at r there =
     let P : Sighted → Type 0 = λ t. data_length (drop at slot) ≡ length (record_on t i).data_area in
-    subst P (sym s.0) (parts_at slot at (record_in (track_in slot) i) (standing slot offsets records i at x r there)).data_size
+    subst P (sym r.read) (parts_there i at r there).data_size
 
 pub no_data_nowhere : (slot : List ℕ) (i : ℕ) → StandsThere slot i None → (length (record_on (track_of slot) i).data_area == 0) ≡ true
 no_data_nowhere slot i le = rw (not_there (track_of slot) i le) refl
 
 -- the table has where a record stands
-pub table_there : (slot offsets : List ℕ) (n i : ℕ) → Tabled slot offsets n → i < n → StandsThere slot i (Some (get_or offsets i 0))
-table_there slot offsets n i t lt =
-    let same : length (take n offsets) ≡ length (track_in slot).records = ap length t.table ∙ length-offsets_from 5 (track_in slot).records in
-    (omega (arith, same, length-take n offsets, t.within), sym (get_or-take n offsets i 0 lt) ∙ ap (λ (xs : List ℕ). slice_index xs i) t.table)
+pub how_many : {slot offsets : List ℕ} {n : ℕ} → Tabled slot offsets n → n ≡ length (track_in slot).records
+how_many {slot} {offsets} {n} t = omega (arith, ap length t.table, length-offsets_from 5 (track_in slot).records, length-take n offsets, t.within)
 
-pub table_past : (slot offsets : List ℕ) (n i : ℕ) → Tabled slot offsets n → n ≤ i → StandsThere slot i None
-table_past slot offsets n i t le =
-    let same : length (take n offsets) ≡ length (track_in slot).records = ap length t.table ∙ length-offsets_from 5 (track_in slot).records in
+pub table_there : {slot offsets : List ℕ} {n : ℕ} (i at : ℕ) → Tabled slot offsets n → i < n → at ≡ get_or offsets i at → StandsThere slot i (Some at)
+table_there {slot} {offsets} {n} i at t lt e =
+    let is : at ≡ get_or offsets i 0 = e ∙ get_or_default_zero offsets i at (omega (arith, t.within)) in
+    (omega (arith, how_many t), is ∙ sym (get_or-take n offsets i 0 lt) ∙ ap (λ (xs : List ℕ). slice_index xs i) t.table)
+
+pub table_past : {slot offsets : List ℕ} {n : ℕ} (i : ℕ) → Tabled slot offsets n → n ≤ i → StandsThere slot i None
+table_past {slot} i t le =
     let P : Sighted → Type 0 = λ x. length (records_on x) ≤ i in
-    subst P (sym t.read) (omega (arith, same, length-take n offsets, t.within))
+    subst P (sym t.read) (omega (arith, how_many t))
 
--- the buffer's facts, of the slot as callers see it
-pub seen_index : (slot now offsets : List ℕ) (records : Option ℕ) → slot ≡ now → IsIndexed slot offsets records → IsIndexed now offsets records
-seen_index slot now offsets records e i = (let P : List ℕ → Type 0 = λ s. IsIndexed s offsets records in subst P e i)
-
--- what a slot that reads whole spells, as callers see it
-pub spelled_now : (slot now offsets : List ℕ) (records : Option ℕ) → slot ≡ now → IsIndexed slot offsets records → is_readable (track_of now) ≡ true → Spells now (track_in now)
-spelled_now slot now offsets records e i r = (spelled now offsets records (seen_index slot now offsets records e i) r).1
-
-pub seen_buffer : (slot now offsets : List ℕ) (records : Option ℕ) (zeros_from : ℕ) (charged : Charged) → slot ≡ now → IsBuffer slot offsets records zeros_from charged → IsBuffer now offsets records zeros_from charged
-seen_buffer slot now offsets records zeros_from charged e i = (let P : List ℕ → Type 0 = λ s. IsBuffer s offsets records zeros_from charged in subst P e i)
-
+-- what the answer of an index says of the slot
 pub read_by : (slot table : List ℕ) (answer : Result ℕ SlotFault) (t : Sighted) → ((i : ℕ) → Fits w8 (get_or slot i 0)) → track_of slot ≡ t → answer ≡ number_of_records t
     → IfOk answer (λ n. offsets_of slot ≡ Ok (take n table)) → IfOk answer (λ n. n ≤ length table) → IsRead slot table (result_ok answer)
 read_by slot table (Ok n) (Ok t) fit is number offs within =
@@ -164,9 +138,3 @@ read_by slot table (Ok n) (Ok t) fit is number offs within =
 read_by slot table (Err fault) (Err f) fit is number offs within = rw is refl
 read_by slot table (Ok n) (Err f) fit is number offs within = absurd cc
 read_by slot table (Err fault) (Ok t) fit is number offs within = absurd cc
-
-pub table_index : (slot offsets : List ℕ) (n i at : ℕ) → Tabled slot offsets n → i < n → at ≡ get_or offsets i at → StandsThere slot i (Some at)
-table_index slot offsets n i at t lt e =
-    let is : at ≡ get_or offsets i 0 = e ∙ get_or_default_zero offsets i at (omega (arith, t.within)) in
-    let there = table_there slot offsets n i t lt in
-    (there.0, is ∙ there.1)

@@ -1,10 +1,11 @@
 -- Slots whose area is written bit by bit.
-use Rattle.std.proofs.Common.{◌≡◌, ◌∙◌, ap, sym, subst, refl, ℕ, zero, suc, ◌+◌, ◌-◌, ◌≤◌, ◌<◌, max, false, Option, Some, None, List, ◌∷◌, ◌++◌, length, take, drop, flat_map, replicate, length-append, append_assoc, Ok, arith}
-use Rattle.std.proofs.lemmas.List.{length-replicate, drop_at, take-append-drop}
-use Rattle.ckd_track.specs.Track.{Track, track_of, track_in, track_or_none, record_in, record_bytes, spelling, slot_of, end_mark}
-use Rattle.ckd_track.specs.Changes.{end_offset, overwritten, ended_at}
+use Rattle.std.proofs.Common.{◌≡◌, ◌∙◌, ap, sym, subst, ℕ, ◌+◌, ◌-◌, ◌≤◌, ◌<◌, max, false, Option, Some, None, List, ◌++◌, length, take, drop, replicate, length-append, append_assoc, Ok, arith}
+use Rattle.std.proofs.lemmas.List.{length-replicate, replicate-append-replicate, length-take-le, drop_at, take-append-drop}
+use Rattle.ckd_track.specs.Track.{Track, Spells, track_of, track_in, track_or_none, record_in, slot_of, end_mark}
+use Rattle.ckd_track.specs.Changes.{end_offset, overwritten, ended_at, IsZeroFrom}
 use Rattle.ckd_track.proofs.Slots.{slot_of_spells, slot_of_reads, length-slot_of}
-use Rattle.ckd_track.proofs.Rewritten.{length-overwritten, overwritten-middle}
+use Rattle.ckd_track.proofs.Places.{place-le, end_is}
+use Rattle.ckd_track.proofs.Rewritten.{length-overwritten, overwritten-middle, ended}
 use Rattle.ckd_position.specs.declared.areas.Area.TheVariants.{Of}
 use Rattle.ckd_position.specs.declared.areas.Part.{Part}
 use Rattle.ckd_position.specs.declared.extents.Extent.{Extent}
@@ -15,30 +16,16 @@ use Rattle.ckd_slot.proofs.Lengths.{same_offsets, same_left}
 use Rattle.ckd_track.proofs.Zeros.{drop_over, zero_over}
 use Rattle.ckd_slot.proofs.Writes.{update_is, update_offset, update_length}
 
--- Behind its records a slot that was made of a track has the end mark and zeros.
-end_of_slot : (size : ℕ) (t : Track) → drop (end_offset t) (slot_of size t) ≡ end_mark ++ replicate (size - length (spelling t)) 0
-unfolding slot_of
-end_of_slot size t =
-    let F = flat_map record_bytes t.records in
-    let zeros = replicate (size - length (spelling t)) 0 in
-    let front : length (t.home_address ++ F) ≡ end_offset t = length-append t.home_address F in
-    let is : spelling t ++ zeros ≡ (t.home_address ++ F) ++ (end_mark ++ zeros) =
-    ap (λ (x : List ℕ). x ++ zeros) (sym (append_assoc t.home_address F end_mark)) ∙ append_assoc (t.home_address ++ F) end_mark zeros in
-    rw is (drop_at (t.home_address ++ F) (end_mark ++ zeros) (end_offset t) front)
-
-spelled_length : (t : Track) → length (spelling t) ≡ end_offset t + 8
-spelled_length t =
-    let F = flat_map record_bytes t.records in
-    omega (arith, length-append t.home_address (F ++ end_mark), length-append F end_mark)
-
-ended_same : (size : ℕ) (t : Track) (off : ℕ) (b : List ℕ) → length (slot_of size t) ≡ size → off + length b ≤ end_offset t → end_offset t + 8 ≤ size
-    → ended_at (overwritten (slot_of size t) off b) (end_offset t) ≡ overwritten (slot_of size t) off b
-ended_same size t off b long within room =
-    let x = overwritten (slot_of size t) off b in
+-- A write before the end mark leaves the end mark and the zeros behind it.
+ended_same : (s : List ℕ) (t : Track) (off : ℕ) (b : List ℕ) → Spells s t → s ≡ slot_of (length s) t → off + length b ≤ end_offset t → ended_at (overwritten s off b) (end_offset t) ≡ overwritten s off b
+ended_same s t off b spells is within =
     let e = end_offset t in
-    let same : length x ≡ size = length-overwritten (slot_of size t) off b (omega (arith, long, within, room)) ∙ long in
-    let zeros : size - length (spelling t) ≡ length x - (e + 8) = omega (arith, spelled_length t, same) in
-    let tail : drop e x ≡ end_mark ++ replicate (length x - (e + 8)) 0 = drop_over (slot_of size t) off e b within (omega (arith, long, room)) ∙ end_of_slot size t ∙ ap (λ (n : ℕ). end_mark ++ replicate n 0) zeros in
+    let x = overwritten s off b in
+    let last : e + 8 ≤ length s = omega (arith, place-le s t spells (length t.records), end_is t) in
+    let same : length x ≡ length s = length-overwritten s off b (omega (arith, within, last)) in
+    let tail : drop e x ≡ end_mark ++ replicate (length x - (e + 8)) 0 =
+    drop_over s off e b within (omega (arith, last)) ∙ ap (drop e) (is ∙ sym (ended s t spells)) ∙ drop_at (take e s) (end_mark ++ replicate (length s - (e + 8)) 0) e (length-take-le e s (omega (arith, last)))
+    ∙ ap (λ (n : ℕ). end_mark ++ replicate (n - (e + 8)) 0) (sym same) in
     rw (← tail) (take-append-drop e x)
 
 -- All slots that a record's area makes with other bytes: the same before it and behind it.
@@ -53,41 +40,33 @@ pub form_of : (size : ℕ) (t0 : Track) (e : Extent) (part : Part) (i : ℕ) (bo
 form_of size t0 e part i body u f lt same =
     let s0 = slot_of size t0 in
     let long = length-slot_of size t0 f.room in
-    let k = update_is e s0 t0 part i body u (slot_of_spells size t0 f.home_address f.records) lt same in
-    let room : end_offset t0 + 8 ≤ size = omega (arith, f.room, spelled_length t0) in
+    let spells = slot_of_spells size t0 f.home_address f.records in
+    let k = update_is e s0 t0 part i body u spells lt same in
     let t' = with_record_changed (replaced e body) (Of part i) t0 in
     let F : ℕ → Type 0 = λ m. FitsSlot m t' in
     record {
       fits = subst F long k.fits;
       lengths = k.lengths;
-      within = omega (arith, k.within, room);
-      slot = ap (λ (m : ℕ). slot_of m t') (sym long) ∙ sym k.law ∙ ended_same size t0 (update_offset e t0 i) body long k.within room;
+      within = omega (arith, k.within, long, place-le s0 t0 spells (length t0.records), end_is t0);
+      slot = ap (λ (m : ℕ). slot_of m t') (sym long) ∙ sym k.law ∙ ended_same s0 t0 (update_offset e t0 i) body spells (ap (λ (m : ℕ). slot_of m t0) (sym long)) k.within;
     }
 
 -- more bytes in their place
 pub padded_on : (head tail passed more : List ℕ) (room : ℕ) → length passed + length more ≤ room
     → overwritten (head ++ (padded passed room ++ tail)) (length head + length passed) more ≡ head ++ (padded (passed ++ more) room ++ tail)
 padded_on head tail passed more room le =
-    let m = length passed in
     let k = length more in
-    let rest = room - m - k in
-    let split : replicate (room - m) 0 ≡ replicate k 0 ++ replicate rest 0 = (let e : room - m ≡ k + rest = omega (arith, le) in ap (λ (n : ℕ). replicate n 0) e ∙ replicate-add k rest 0) in
-    let old : head ++ (padded passed room ++ tail) ≡ (head ++ passed) ++ (replicate k 0 ++ (replicate rest 0 ++ tail)) =
-    ap (λ (z : List ℕ). head ++ ((passed ++ z) ++ tail)) split ∙ regroup_old head passed (replicate k 0) (replicate rest 0) tail in
-    let front : length (head ++ passed) ≡ length head + m = length-append head passed in
+    let rest = room - length passed - k in
+    let all : room - length passed ≡ k + rest = omega (arith, le) in
+    let split : replicate {A = ℕ} (room - length passed) 0 ≡ replicate k 0 ++ replicate rest 0 = ap (λ (n : ℕ). replicate n 0) all ∙ sym (replicate-append-replicate {A = ℕ} k rest 0) in
     let left : room - length (passed ++ more) ≡ rest = omega (arith, length-append passed more) in
-    rw old (overwritten-middle (head ++ passed) (replicate k 0) (replicate rest 0 ++ tail) more (length head + m) front (sym (length-replicate {A = ℕ} k 0)))
-    ∙ regroup_new head passed more (replicate rest 0) tail ∙ ap (λ (n : ℕ). head ++ (((passed ++ more) ++ replicate n 0) ++ tail)) (sym left)
+    rw (split, left) (in_middle head passed (replicate k 0) (replicate rest 0) tail more (sym (length-replicate {A = ℕ} k 0)))
   where
-    regroup_old : (h p z y t : List ℕ) → h ++ ((p ++ (z ++ y)) ++ t) ≡ (h ++ p) ++ (z ++ (y ++ t))
-    regroup_old h p z y t = simp append_assoc
-
-    regroup_new : (h p m y t : List ℕ) → (h ++ p) ++ (m ++ (y ++ t)) ≡ h ++ (((p ++ m) ++ y) ++ t)
-    regroup_new h p m y t = simp append_assoc
-
-    replicate-add : (a b x : ℕ) → replicate (a + b) x ≡ replicate a x ++ replicate b x
-    replicate-add zero b x = (let e : 0 + b ≡ b = omega arith in rw e refl)
-    replicate-add (suc a) b x = (let e : suc a + b ≡ suc (a + b) = omega arith in rw e (ap (λ (z : List ℕ). x ∷ z) (replicate-add a b x)))
+    in_middle : (h p z y t m : List ℕ) → length m ≡ length z → overwritten (h ++ ((p ++ (z ++ y)) ++ t)) (length h + length p) m ≡ h ++ (((p ++ m) ++ y) ++ t)
+    in_middle h p z y t m same =
+        let old : h ++ ((p ++ (z ++ y)) ++ t) ≡ (h ++ p) ++ (z ++ (y ++ t)) = simp append_assoc in
+        let new : (h ++ p) ++ (m ++ (y ++ t)) ≡ h ++ (((p ++ m) ++ y) ++ t) = simp append_assoc in
+        rw old (overwritten-middle (h ++ p) z (y ++ t) m (length h + length p) (length-append h p) same ∙ new)
 
 -- A slot of this size that was made of a track whose records are as long as those of another.
 pub same_records : (size : ℕ) (old new : List ℕ) (t : Track) → track_of old ≡ Ok (track_in old) → FitsSlot size t → new ≡ slot_of size t → lengths_on t ≡ lengths_on (track_in old) → SameRecords old new
@@ -98,18 +77,22 @@ same_records size old new t reads f is long =
     subst P (sym is) (record { old_read = reads; spells = rw same (slot_of_spells size t f.home_address f.records); read = rw same read; lengths = rw same long })
 
 -- A slot and its table where other bytes were put that leave the records in their places.
-pub put_indexed : (old new offsets : List ℕ) (records : Option ℕ) → IsIndexed old offsets records → SameRecords old new → length new ≡ length old → IsIndexed new offsets records
-put_indexed old new offsets (Some n) x s long = record {
+put_indexed : {old new offsets : List ℕ} {records : Option ℕ} → IsIndexed old offsets records → SameRecords old new → length new ≡ length old → IsIndexed new offsets records
+put_indexed {old} {new} {offsets} {records = Some n} x s long = record {
   room = rw long x.room;
   size = rw long x.size;
   read = record { read = s.read; spells = s.spells; within = x.read.within; table = x.read.table ∙ sym (same_offsets (track_in new) (track_in old) s.lengths) };
 }
-put_indexed old new offsets None x s long = absurd (let no : is_readable (track_of old) ≡ false = x.read in let yes = ap is_readable s.old_read in cc)
+put_indexed {old} {new} {offsets} {records = None} x s long = absurd (let no : is_readable (track_of old) ≡ false = x.read in let yes = ap is_readable s.old_read in cc)
 
-pub put_buffer : (old offsets : List ℕ) (records : Option ℕ) (zeros_from at : ℕ) (b : List ℕ) (charged : Charged) → IsBuffer old offsets records zeros_from charged → at + length b ≤ length old → SameRecords old (overwritten old at b)
-    → IsBuffer (overwritten old at b) offsets records (max zeros_from (at + length b)) charged
-put_buffer old offsets records zeros_from at b charged x room s = record {
-  indexed = put_indexed old (overwritten old at b) offsets records x.indexed s (length-overwritten old at b room);
-  cleared = zero_over old at b zeros_from (max zeros_from (at + length b)) x.cleared (omega arith) (omega arith) (omega (arith, x.cleared.within, room));
-  charges = x.charges ∙ sym (same_left charged.model (track_in (overwritten old at b)) (track_in old) charged.records s.lengths);
+pub kept_buffer : {old new offsets : List ℕ} {records : Option ℕ} {zeros_from z : ℕ} {charged : Charged} → IsBuffer old offsets records zeros_from charged → SameRecords old new → length new ≡ length old → IsZeroFrom new z → IsBuffer new offsets records z charged
+kept_buffer {old} {new} {charged} x s long cleared = record {
+  indexed = put_indexed x.indexed s long;
+  cleared = cleared;
+  charges = x.charges ∙ sym (same_left charged.model (track_in new) (track_in old) charged.records s.lengths);
 }
+
+pub put_buffer : {old offsets : List ℕ} {records : Option ℕ} {zeros_from : ℕ} {charged : Charged} (at : ℕ) (b : List ℕ) → IsBuffer old offsets records zeros_from charged → at + length b ≤ length old → SameRecords old (overwritten old at b)
+    → IsBuffer (overwritten old at b) offsets records (max zeros_from (at + length b)) charged
+put_buffer {old} {zeros_from} at b x room s =
+    kept_buffer x s (length-overwritten old at b room) (zero_over old at b zeros_from (max zeros_from (at + length b)) x.cleared (omega arith) (omega arith) (omega (arith, x.cleared.within, room)))

@@ -213,22 +213,14 @@ impl TrackBuffer {
         }
     }
 
-    /// Where these bytes of an area stand; an empty part where there are none.
-    pub fn window(&self, extent: Extent, area: Area) -> Window
+    // Where these bytes of an area stand; an empty part where there are none.
+    fn window(&self, extent: Extent, area: Area) -> Window
         requires readable { is_readable (track_of self.now) ≡ true }
         requires on_track { HasBytes extent (track_of self.now) area }
         ensures lies { Lies self.now result (bytes_of extent (track_of self.now) area) }
         ensures place { IsPlaceOf extent (track_in self.now) area result }
     {
         self.part(extent, area).0
-    }
-
-    /// Whether the area's record has no data, or is not there.
-    pub fn has_no_data(&self, area: Area) -> bool
-        requires { is_readable (track_of self.now) ≡ true }
-        ensures { result ≡ has_no_data (track_of self.now) (Some area) }
-    {
-        self.part(Extent::Nothing, area).1
     }
 
     /// Where these bytes of an area stand, an empty part where there are none; and whether its record has no data, or is
@@ -248,6 +240,14 @@ impl TrackBuffer {
                 None => (Window { start: 0, len: 0 }, true),
             },
         }
+    }
+
+    // How many records there are.
+    fn count(&self) -> usize
+        requires { is_readable (track_of self.now) ≡ true }
+        ensures { result ≡ length (track_in self.now).records }
+    {
+        self.records.unwrap_or(0)
     }
 
     // Where record `i` stands, if it is there.
@@ -291,7 +291,7 @@ impl TrackBuffer {
         let Some(i) = record_before(after) else {
             return None;
         };
-        let n = self.records.unwrap_or(0);
+        let n = self.count();
         if n == 0 {
             return None;
         }
@@ -350,7 +350,7 @@ impl TrackBuffer {
         ensures size { length self.new ≡ length self.old }
     {
         let window = self.window(extent, area);
-        let end = self.end_of(self.records.unwrap_or(0));
+        let end = self.end_of(self.count());
         clear_area(
             &mut self.slot,
             window.start,

@@ -1,70 +1,45 @@
-use Rattle.std.proofs.Common.{[], ◌≡◌, ◌∙◌, ℕ, length, replicate, arith, rules}
+use Rattle.std.proofs.Common.{[], ◌≡◌, ◌∙◌, ap, ℕ, length, replicate, arith, rules}
 use Rattle.std.specs.Vec.{with_items}
 use Rattle.std.proofs.lemmas.List.{with_items_is, length-replicate}
 use Rattle.ckd_track.specs.Track.{track_in, slot_of}
 use Rattle.ckd_position.specs.Contents.{with_record_changed, replaced}
-use Rattle.ckd_track.specs.Changes.{overwritten, ended_at}
-use Rattle.ckd_slot.specs.Buffer.{FitsSlot, end_of_records, lengths_on}
-use Rattle.ckd_slot.proofs.AreaPlaces.{seen_index, seen_buffer, spelled_now}
-use Rattle.ckd_slot.proofs.Writes.{records_are, clear_is, same_indexed, same_charged, window_within}
+use Rattle.ckd_slot.proofs.AreaPlaces.{reads}
+use Rattle.ckd_slot.proofs.Writes.{Clears, clear_is}
+use Rattle.ckd_slot.proofs.Updates.{same_records, kept_buffer}
+use Rattle.ckd_track.proofs.Slots.{length-slot_of}
 use Rattle.ckd_track.proofs.Zeros.{ended_zeros}
 use Rattle.ckd_slot.proofs.buffer.TrackBuffer.clear.Goals as goal
 
-pub end_of-end-requires-clause-there : goal.end_of-end-requires-clause-there
-end_of-end-requires-clause-there c =
-    let i = c.self.inside in
-    let x = seen_index i.slot.items c.args.self.now i.offsets.items i.records c.self.view_is c.self.invariant.indexed in
-    omega (arith, records_are c.args.self.now i.offsets.items i.records c.unwrap_or.result x c.requires.readable c.unwrap_or.ensures)
-
 pub clear_area-requires-clause-area : goal.clear_area-requires-clause-area
 clear_area-requires-clause-area c =
-    let i = c.self.inside in
-    let s = c.args.self.now in
-    let sp = spelled_now i.slot.items s i.offsets.items i.records c.self.view_is c.self.invariant.indexed c.requires.readable in
-    let x = seen_index i.slot.items s i.offsets.items i.records c.self.view_is c.self.invariant.indexed in
-    let n = records_are s i.offsets.items i.records c.unwrap_or.result x c.requires.readable c.unwrap_or.ensures in
-    let end : c.end_of-end.result ≡ end_of_records (track_in s) (length (track_in s).records) = rw n at c.end_of-end.ensures.place in
-    window_within c.args.extent s c.args.area c.window-window.result c.end_of-end.result c.requires.update sp c.requires.there c.window-window.ensures.place end
+    let r = reads (rw c.self.view_is at c.self.invariant) c.requires.readable in
+    (clear_is c.args.extent c.args.self.now c.args.area c.window-window.result c.end_of-end.result c.requires.update r.spells c.requires.there c.window-window.ensures.place (rw c.count.ensures at c.end_of-end.ensures.place)).within
 
 -- the slot of the changed track, which was written
-cleared : (c : goal.After-self-2-1) → (let s = c.args.self.now in let t = with_record_changed (replaced c.args.extent []) c.args.area (track_in s) in
-    (ended_at (overwritten s c.window-window.result.start (replicate c.window-window.result.len 0)) c.end_of-end.result ≡ slot_of (length s) t) × FitsSlot (length s) t × (lengths_on t ≡ lengths_on (track_in s)))
+cleared : (c : goal.After-self-2-1) → Clears c.args.extent c.args.self.now c.args.area c.window-window.result c.end_of-end.result
 cleared c =
-    let i = c.self.inside in
-    let s = c.args.self.now in
-    let x = seen_index i.slot.items s i.offsets.items i.records c.self.view_is c.self.invariant.indexed in
-    let sp = spelled_now i.slot.items s i.offsets.items i.records c.self.view_is c.self.invariant.indexed c.requires.readable in
-    let n = records_are s i.offsets.items i.records c.unwrap_or.result x c.requires.readable c.unwrap_or.ensures in
-    clear_is c.args.extent s c.args.area c.window-window.result c.end_of-end.result c.requires.update sp c.requires.there c.window-window.ensures.place (rw n at c.end_of-end.ensures.place)
+    let r = reads (rw c.self.view_is at c.self.invariant) c.requires.readable in
+    clear_is c.args.extent c.args.self.now c.args.area c.window-window.result c.end_of-end.result c.requires.update r.spells c.requires.there c.window-window.ensures.place (rw c.count.ensures at c.end_of-end.ensures.place)
 
 made : (c : goal.After-self-2-1) → c.clear_area.new.slot ≡ slot_of (length c.args.self.now) (with_record_changed (replaced c.args.extent []) c.args.area (track_in c.args.self.now))
-made c =
-    let old : c.deref_mut.result.now ≡ c.args.self.now = c.deref_mut.ensures.value ∙ c.self.view_is in
-    rw old at c.clear_area.ensures ∙ (cleared c).0
+made c = rw (c.deref_mut.ensures.value ∙ c.self.view_is) at c.clear_area.ensures ∙ (cleared c).law
 
 items : (c : goal.After-self-2-1) → (with_items c.self.inside.slot c.clear_area.new.slot).items ≡ c.clear_area.new.slot
 items c = with_items_is c.self.inside.slot c.clear_area.new.slot (search rules)
 
 pub invariant_of-self : goal.invariant_of-self
 invariant_of-self c =
-    let i = c.self.inside in
     let s = c.args.self.now in
-    let x = seen_buffer i.slot.items s i.offsets.items i.records i.zeros_from i.charged c.self.view_is c.self.invariant in
-    let sp = spelled_now i.slot.items s i.offsets.items i.records c.self.view_is c.self.invariant.indexed c.requires.readable in
-    let n = records_are s i.offsets.items i.records c.unwrap_or.result x.indexed c.requires.readable c.unwrap_or.ensures in
-    let old : c.deref_mut.result.now ≡ s = c.deref_mut.ensures.value ∙ c.self.view_is in
+    let x = rw c.self.view_is at c.self.invariant in
     let k = cleared c in
-    let t = with_record_changed (replaced c.args.extent []) c.args.area (track_in s) in
-    let within = window_within c.args.extent s c.args.area c.window-window.result c.end_of-end.result c.requires.update sp c.requires.there c.window-window.ensures.place (rw n at c.end_of-end.ensures.place) in
+    let same = same_records (length s) s c.clear_area.new.slot (with_record_changed (replaced c.args.extent []) c.args.area (track_in s)) (reads x c.requires.readable).read k.fits (made c) k.lengths in
     let many = length-replicate {A = ℕ} c.window-window.result.len 0 in
-    rw (items c) (record {
-      indexed = rw (made c) (same_indexed s i.offsets.items i.records t x.indexed c.requires.readable k.1 k.2);
-      cleared = ended_zeros s c.window-window.result.start (replicate c.window-window.result.len 0) c.end_of-end.result c.clear_area.new.slot (omega (arith, many, within, c.end_of-end.ensures.room)) c.end_of-end.ensures.room (rw old at c.clear_area.ensures);
-      charges = rw (made c) (same_charged s t i.charged k.1 k.2 x.charges);
-    })
+    let end = c.end_of-end.ensures.room in
+    let zeros = ended_zeros s c.window-window.result.start (replicate c.window-window.result.len 0) c.end_of-end.result c.clear_area.new.slot (omega (arith, many, k.within, end)) end (rw (c.deref_mut.ensures.value ∙ c.self.view_is) at c.clear_area.ensures) in
+    rw (items c) (kept_buffer x same (ap length (made c) ∙ length-slot_of (length s) _ k.fits.room) zeros)
 
 pub returns-clause-slot : goal.returns-clause-slot
 returns-clause-slot c = rw (items c) (made c)
 
 pub returns-clause-fits : goal.returns-clause-fits
-returns-clause-fits c = (cleared c).1
+returns-clause-fits c = (cleared c).fits

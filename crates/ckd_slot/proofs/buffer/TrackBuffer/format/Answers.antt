@@ -5,72 +5,61 @@ use Rattle.ckd_track.specs.Track.{Record, track_in, track_of, track_or_none, slo
 use Rattle.ckd_track.proofs.Offsets.{are_bytes, few_records}
 use Rattle.ckd_position.specs.Contents.{formatted}
 use Rattle.ckd_slot.specs.Buffer.{end_of_records, number_up_to}
-use Rattle.ckd_slot.proofs.AreaPlaces.{seen_index, seen_buffer, spelled_now}
-use Rattle.ckd_slot.proofs.Writes.{read_records, format_room, format_slot, format_fits, format_indexed, format_keeps, format_place, Fitting, fitting, kept_room, length-kept, up_to_le}
+use Rattle.ckd_slot.proofs.AreaPlaces.{reads}
+use Rattle.ckd_slot.proofs.Writes.{Fitting, fitting, format_room, format_slot, format_fits, format_indexed, format_keeps, format_place, kept_room, length-kept, up_to_le}
 use Rattle.ckd_track.proofs.Zeros.{new_zeros}
 use Rattle.ckd_slot.proofs.buffer.TrackBuffer.format.Goals as goal
 
 pub records_up_to-kept-requires : goal.records_up_to-kept-requires
 records_up_to-kept-requires c =
-    let i = c.self.inside in
     let s = c.args.self.now in
-    let x = seen_index i.slot.items s i.offsets.items i.records c.self.view_is c.self.invariant.indexed in
-    let sp = spelled_now i.slot.items s i.offsets.items i.records c.self.view_is c.self.invariant.indexed c.requires.readable in
-    λ k e. (let lt = c.before-2.ensures.there k e in let few = few_records s (track_in s) sp in omega (arith, lt, few, x.size))
+    let x = rw c.self.view_is at c.self.invariant in
+    let few = few_records s (track_in s) (reads x c.requires.readable).spells in
+    λ k e. (let lt = c.before-2.ensures.there k e in omega (arith, lt, few, x.indexed.size))
 
 pub format_record-requires-clause-room : goal.format_record-requires-clause-room
 format_record-requires-clause-room c =
-    let i = c.self.inside in
     let s = c.args.self.now in
-    let sp = spelled_now i.slot.items s i.offsets.items i.records c.self.view_is c.self.invariant.indexed c.requires.readable in
+    let b = c.before-2.result in
+    let r = reads (rw c.self.view_is at c.self.invariant) c.requires.readable in
     let seen = ap track_of (sym (c.deref.ensures.value ∙ c.self.view_is)) ∙ c.view_at-view.ensures.track in
-    let k = fitting s c.args.model c.before-2.result c.args.after c.args.count c.view_at-view.result c.records_up_to-kept.result c.fits.result sp (are_bytes c.args.count (search rules)) (search rules) c.before-2.ensures.kept seen c.records_up_to-kept.ensures c.fits.ensures.fits c.if-not-fits.false c.requires.size in
-    let at : c.end_of-at.result ≡ end_of_records (track_in s) (number_up_to c.before-2.result) = rw c.records_up_to-kept.ensures at c.end_of-at.ensures.place in
-    let old : c.deref_mut.result.now ≡ s = c.deref_mut.ensures.value ∙ c.self.view_is in
-    let r = format_room s c.before-2.result c.args.after c.args.count k.spells k.bytes k.eight k.no_mark c.before-2.ensures.kept k.room in
-    rw (old, at, c.body_length-body.ensures) r
+    let k = fitting s c.args.model b c.args.after c.args.count c.view_at-view.result c.records_up_to-kept.result c.fits.result r.spells (are_bytes c.args.count (search rules)) (search rules) c.before-2.ensures.kept c.before-2.ensures.there seen c.records_up_to-kept.ensures c.fits.ensures.fits c.if-not-fits.false c.requires.size in
+    let at : c.end_of-at.result ≡ end_of_records (track_in s) (number_up_to b) = rw c.records_up_to-kept.ensures at c.end_of-at.ensures.place in
+    rw (c.deref_mut.ensures.value ∙ c.self.view_is, at, c.body_length-body.ensures) (format_room k)
 
 pub index_mut-requires : goal.index_mut-requires
 index_mut-requires c =
-    let i = c.self.inside in
     let s = c.args.self.now in
-    let sp = spelled_now i.slot.items s i.offsets.items i.records c.self.view_is c.self.invariant.indexed c.requires.readable in
+    let x = rw c.self.view_is at c.self.invariant in
+    let b = c.before-2.result in
+    let r = reads (rw c.self.view_is at c.self.invariant) c.requires.readable in
     let seen = ap track_of (sym (c.deref.ensures.value ∙ c.self.view_is)) ∙ c.view_at-view.ensures.track in
-    let k = fitting s c.args.model c.before-2.result c.args.after c.args.count c.view_at-view.result c.records_up_to-kept.result c.fits.result sp (are_bytes c.args.count (search rules)) (search rules) c.before-2.ensures.kept seen c.records_up_to-kept.ensures c.fits.ensures.fits c.if-not-fits.false c.requires.size in
-    let x = seen_index i.slot.items s i.offsets.items i.records c.self.view_is c.self.invariant.indexed in
-    let r = kept_room s i.offsets.items c.before-2.result c.args.after c.args.count k.spells k.bytes k.eight k.no_mark c.before-2.ensures.kept k.room c.before-2.ensures.there x.room in
-    rw c.records_up_to-kept.ensures (omega (arith, r))
+    let k = fitting s c.args.model b c.args.after c.args.count c.view_at-view.result c.records_up_to-kept.result c.fits.result r.spells (are_bytes c.args.count (search rules)) (search rules) c.before-2.ensures.kept c.before-2.ensures.there seen c.records_up_to-kept.ensures c.fits.ensures.fits c.if-not-fits.false c.requires.size in
+    let room = kept_room k c.self.inside.offsets.items x.indexed.room in
+    rw c.records_up_to-kept.ensures (omega (arith, room))
 
 pub overflow_add-self : goal.overflow_add-self
 overflow_add-self c =
-    let i = c.self.inside in
     let s = c.args.self.now in
-    let x = seen_index i.slot.items s i.offsets.items i.records c.self.view_is c.self.invariant.indexed in
-    let few = few_records s (track_in s) (spelled_now i.slot.items s i.offsets.items i.records c.self.view_is c.self.invariant.indexed c.requires.readable) in
-    let le = up_to_le (track_in s) c.before-2.result c.before-2.ensures.there in
-    rw c.records_up_to-kept.ensures (omega (arith, le, few, x.size))
+    let x = rw c.self.view_is at c.self.invariant in
+    let few = few_records s (track_in s) (reads x c.requires.readable).spells in
+    rw c.records_up_to-kept.ensures (omega (arith, up_to_le (track_in s) c.before-2.result c.before-2.ensures.there, few, x.indexed.size))
 
 -- that the record fits, once it is written
-record Fits (c : goal.After-self-4-1) : Type 0 where
-  pub fitting : Fitting c.args.self.now c.args.model c.before-2.result c.args.after c.args.count
-  pub at : c.end_of-at.result ≡ end_of_records (track_in c.args.self.now) (number_up_to c.before-2.result)
-
-fits_at : (c : goal.After-self-4-1) → Fits c
+fits_at : (c : goal.After-self-4-1) → Fitting c.args.self.now c.args.model c.before-2.result c.args.after c.args.count
 fits_at c =
-    let i = c.self.inside in
     let s = c.args.self.now in
-    let sp = spelled_now i.slot.items s i.offsets.items i.records c.self.view_is c.self.invariant.indexed c.requires.readable in
+    let b = c.before-2.result in
+    let r = reads (rw c.self.view_is at c.self.invariant) c.requires.readable in
     let seen = ap track_of (sym (c.deref.ensures.value ∙ c.self.view_is)) ∙ c.view_at-view.ensures.track in
-    let k = fitting s c.args.model c.before-2.result c.args.after c.args.count c.view_at-view.result c.records_up_to-kept.result c.fits.result sp (are_bytes c.args.count (search rules)) (search rules) c.before-2.ensures.kept seen c.records_up_to-kept.ensures c.fits.ensures.fits c.if-not-fits.false c.requires.size in
-    record { fitting = k; at = rw c.records_up_to-kept.ensures at c.end_of-at.ensures.place }
+    fitting s c.args.model b c.args.after c.args.count c.view_at-view.result c.records_up_to-kept.result c.fits.result r.spells (are_bytes c.args.count (search rules)) (search rules) c.before-2.ensures.kept c.before-2.ensures.there seen c.records_up_to-kept.ensures c.fits.ensures.fits c.if-not-fits.false c.requires.size
+
+stands : (c : goal.After-self-4-1) → c.end_of-at.result ≡ end_of_records (track_in c.args.self.now) (number_up_to c.before-2.result)
+stands c = rw c.records_up_to-kept.ensures at c.end_of-at.ensures.place
 
 -- what was written is the slot of the formatted track
 made : (c : goal.After-self-4-1) → c.format_record.new.slot ≡ slot_of (length c.args.self.now) (formatted (track_of c.args.self.now) c.args.after c.args.count)
-made c =
-    let s = c.args.self.now in
-    let k = (fits_at c).fitting in
-    let old : c.deref_mut.result.now ≡ s = c.deref_mut.ensures.value ∙ c.self.view_is in
-    rw (old, (fits_at c).at, c.body_length-body.ensures) at c.format_record.ensures ∙ format_slot s c.before-2.result c.args.after c.args.count k.spells k.bytes k.eight k.no_mark c.before-2.ensures.kept k.room
+made c = rw (c.deref_mut.ensures.value ∙ c.self.view_is, stands c, c.body_length-body.ensures) at c.format_record.ensures ∙ format_slot (fits_at c)
 
 -- and stands in the buffer
 items : (c : goal.After-self-4-1) → (with_items c.self.inside.slot c.format_record.new.slot).items ≡ c.format_record.new.slot
@@ -80,33 +69,26 @@ pub invariant_of-self-2 : goal.invariant_of-self-2
 invariant_of-self-2 c =
     let i = c.self.inside in
     let s = c.args.self.now in
-    let x = seen_buffer i.slot.items s i.offsets.items i.records i.zeros_from i.charged c.self.view_is c.self.invariant in
-    let b = c.before-2.result in
-    let k = (fits_at c).fitting in
+    let x = rw c.self.view_is at c.self.invariant in
+    let f = fits_at c in
+    let old = c.deref_mut.ensures.value ∙ c.self.view_is in
     let seen : c.view_at-view.result ≡ track_in s = sym (ap track_or_none (ap track_of (sym (c.deref.ensures.value ∙ c.self.view_is)) ∙ c.view_at-view.ensures.track)) in
-    let old : c.deref_mut.result.now ≡ s = c.deref_mut.ensures.value ∙ c.self.view_is in
-    let n = read_records s i.offsets.items i.records x.indexed c.requires.readable in
-    let room : c.end_of-at.result + 8 + c.body_length-body.result + 8 ≤ length s = rw ((fits_at c).at, c.body_length-body.ensures) (format_room s b c.args.after c.args.count k.spells k.bytes k.eight k.no_mark c.before-2.ensures.kept k.room) in
-    let f = format_fits s b c.args.after c.args.count k.spells k.bytes k.eight k.no_mark c.before-2.ensures.kept k.room in
-    let stays = format_keeps s b c.args.after c.args.count k.eight c.before-2.ensures.kept f c.before-2.ensures.there in
+    let room : c.end_of-at.result + 8 + c.body_length-body.result + 8 ≤ length s = rw (stands c, c.body_length-body.ensures) (format_room f) in
     rw (items c) (record {
-      indexed = rw (made c, c.records_up_to-kept.ensures)
-          (format_indexed s i.offsets.items n.0 c.end_of-at.result b c.args.after c.args.count (rw n.1 at x.indexed) k.bytes k.eight k.no_mark c.before-2.ensures.kept k.room c.before-2.ensures.there (fits_at c).at);
-      cleared = new_zeros s c.end_of-at.result c.args.count c.body_length-body.result c.format_record.new.slot k.eight room (rw old at c.format_record.ensures);
-      charges = rw (made c, c.fits.ensures.reached, c.records_up_to-kept.ensures, seen, stays) refl;
+      indexed = rw (made c, c.records_up_to-kept.ensures) (format_indexed f i.offsets.items i.records c.end_of-at.result x.indexed c.requires.readable (stands c));
+      cleared = new_zeros s c.end_of-at.result c.args.count c.body_length-body.result c.format_record.new.slot f.eight room (rw old at c.format_record.ensures);
+      charges = rw (made c, c.fits.ensures.reached, c.records_up_to-kept.ensures, seen, format_keeps f) refl;
     })
 
 pub returns-clause-formats : goal.returns-clause-formats
 returns-clause-formats c =
-    let s = c.args.self.now in
-    let b = c.before-2.result in
-    let k = (fits_at c).fitting in
-    let f = format_fits s b c.args.after c.args.count k.spells k.bytes k.eight k.no_mark c.before-2.ensures.kept k.room in (
+    let k = fits_at c in
+    let number = c.records_up_to-kept.ensures in (
       record {
         fits = k.fits;
-        is_last = c.records_up_to-kept.ensures ∙ sym (length-kept (track_in s) b c.before-2.ensures.there) ∙ ap (λ (rs : List Record). length rs) c.before-2.ensures.kept;
-        spelled = f;
-        place = rw c.body_length-body.ensures (format_place s b c.args.after c.args.count c.records_up_to-kept.result c.end_of-at.result k.spells k.bytes k.eight k.no_mark c.before-2.ensures.kept c.before-2.ensures.there f c.records_up_to-kept.ensures (fits_at c).at);
+        is_last = number ∙ sym (length-kept (track_in c.args.self.now) c.before-2.result k.there) ∙ ap (λ (rs : List Record). length rs) k.same;
+        spelled = format_fits k;
+        place = rw c.body_length-body.ensures (format_place k c.records_up_to-kept.result c.end_of-at.result number (stands c));
       },
       rw (items c) (made c),
     )
