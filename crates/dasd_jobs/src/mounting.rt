@@ -11,10 +11,10 @@ ghost use Rattle.dasd_jobs.specs.Back.{AreAsMade, WritesBack, WritesStores, Writ
 use crate::faults::{JobFault, of_read, of_write};
 use crate::files::{FileFault, ImageFiles, OpenedFile};
 use crate::headers::{HEADER, is_header};
-use crate::opened::{MOST_FILES, read_head};
+use crate::opened::read_head;
 use crate::reasons::{Head, remark_on};
 use arrayvec::ArrayVec;
-use ckd_image::{Image, ImageStore, MountFault, StoreFault, image_len};
+use ckd_image::{Image, ImageStore, MOST_FILES, MountFault, StoreFault, image_len};
 use ckd_track::DriveModel;
 use dasd_files::VolumeFile;
 use std::alloc::Global;

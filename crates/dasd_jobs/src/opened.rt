@@ -9,15 +9,12 @@ use crate::files::{ImageFiles, OpenedFile};
 use crate::headers::{HEADER, HeaderStore};
 use crate::reasons::{Head, remark_on};
 use arrayvec::ArrayVec;
-use ckd_image::{Image, MountFault, StoreFault};
+use ckd_image::{Image, MOST_FILES, MountFault, StoreFault};
 use ckd_track::Geometry;
 use dasd_volumes::SlotReader;
 use ghost_data::Count;
 use std::alloc::Global;
 use std::marker::Model;
-
-/// The most files of one image.
-pub(crate) const MOST_FILES: usize = 8;
 
 /// A file of an image, and how many tracks it holds.
 #[derive(Drop)]

@@ -3,7 +3,7 @@
 use crate::commands::{NO_PATH, wrong};
 use crate::listings;
 use crate::requests::{DumpedPart, Numbers, Request, WordFault};
-use crate::volumes::MOST_FILES;
+use ckd_image::MOST_FILES;
 use clap::{Arg, ArgAction, ArgMatches, Command};
 use std::alloc::{AllocError, Global};
 

@@ -20,4 +20,4 @@ pub use crate::requests::{
     Asked, DeckRun, DumpedPart, ExtractedSet, ExtractedVolume, ListedPart, Noted, Numbers, Request,
     SetName, TraceTarget, WordFault,
 };
-pub use crate::volumes::{MOST_FILES, Volume, VolumeSource};
+pub use crate::volumes::{Volume, VolumeSource};

@@ -2,10 +2,8 @@
 
 use crate::requests::WordFault;
 use arrayvec::ArrayVec;
+use ckd_image::MOST_FILES;
 use ckd_track::DriveModel;
-
-/// The most files of one image.
-pub const MOST_FILES: usize = 8;
 
 /// Where the volume of a drive comes from.
 #[derive(Debug, Drop)]
