@@ -2,7 +2,7 @@ use Rattle.std.proofs.Common.{◌≡◌, ◌∙◌, sym, ap, ℕ, ◌<◌, ◌+�
 use Rattle.std.proofs.lemmas.List.{take_more_set, drop-set-lt}
 use Rattle.std.proofs.lemmas.Result.{err_from_is_err_and}
 use Rattle.ckd_track.specs.Track.{number_of_records, size_at}
-use Rattle.ckd_track.proofs.Reading.{short_slot, count_from, note_from, count_on, note_on, counted_fault, counted_all, noted_all, size_is}
+use Rattle.ckd_track.proofs.Reading.{short_slot, count_from, note_from, count_on, note_on, counted_fault, counted_all, noted_all, size_tells}
 use Rattle.ckd_track.proofs.index.index_slot.Goals as goal
 
 kept_behind : (n : ℕ) (new old : List ℕ) → drop n new ≡ drop n old → drop (n + 1) new ≡ drop (n + 1) old
@@ -41,14 +41,14 @@ pub bounds-table-records : goal.bounds-table-records
 bounds-table-records c =
     let s = c.args.slot.now in
     let there : size_at c.loop-size.at (drop c.loop-size.at s) ≡ Ok (Some c.in-Some.size) = sym c.record_size_at.ensures ∙ c.in_ok-size.was ∙ ap Ok c.in-Some.is in
-    let is = size_is c.loop-size.at c.in-Some.size (drop c.loop-size.at s) there in
+    let is = size_tells c.loop-size.at (drop c.loop-size.at s) _ there in
     omega (arith, is.is, is.fits, length-drop c.loop-size.at s, c.requires.room)
 
 pub loop-size-preserved : goal.loop-size-preserved
 loop-size-preserved c =
     let s = c.args.slot.now in
     let there : size_at c.loop-size.at (drop c.loop-size.at s) ≡ Ok (Some c.in-Some.size) = sym c.record_size_at.ensures ∙ c.in_ok-size.was ∙ ap Ok c.in-Some.is in
-    let is = size_is c.loop-size.at c.in-Some.size (drop c.loop-size.at s) there in
+    let is = size_tells c.loop-size.at (drop c.loop-size.at s) _ there in
     let n = c.loop-size.records in
     let table = c.loop-size.table in
     let in_table : n < length table = omega (arith, is.is, is.fits, length-drop c.loop-size.at s, c.requires.room) in

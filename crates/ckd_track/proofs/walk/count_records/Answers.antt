@@ -1,7 +1,7 @@
 use Rattle.std.proofs.Common.{◌≡◌, ◌∙◌, sym, ap, Ok, Err, Some, None, drop, arith, length-drop}
 use Rattle.std.proofs.lemmas.Result.{err_from_is_err_and}
 use Rattle.ckd_track.specs.Track.{number_of_records, size_at}
-use Rattle.ckd_track.proofs.Reading.{short_slot, count_from, count_on, counted_fault, counted_all, size_is}
+use Rattle.ckd_track.proofs.Reading.{short_slot, count_from, count_on, counted_fault, counted_all, size_tells}
 use Rattle.ckd_track.proofs.walk.count_records.Goals as goal
 
 pub returns-then-slot-lt-RECORDS_START : goal.returns-then-slot-lt-RECORDS_START
@@ -24,7 +24,7 @@ pub loop-size-preserved : goal.loop-size-preserved
 loop-size-preserved c =
     let s = c.args.slot.now in
     let there : size_at c.loop-size.at (drop c.loop-size.at s) ≡ Ok (Some c.in-Some.size) = sym c.record_size_at.ensures ∙ c.in_ok-size.was ∙ ap Ok c.in-Some.is in
-    let is = size_is c.loop-size.at c.in-Some.size (drop c.loop-size.at s) there in
+    let is = size_tells c.loop-size.at (drop c.loop-size.at s) _ there in
     record {
       within = omega (arith, is.fits, length-drop c.loop-size.at s);
       long = omega (arith, is.is);
