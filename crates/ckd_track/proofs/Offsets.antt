@@ -101,6 +101,13 @@ with_record s fit i lt = whole s fit (has_record (track_of s) i lt)
 pub parts_in : (slot : List ℕ) (i at : ℕ) → ((i : ℕ) → Fits w8 (get_or slot i 0)) → at ≡ slice_index (record_offsets (track_in slot)) i → i < length (track_in slot).records → PartsAt slot at (record_in (track_in slot) i)
 parts_in slot i at fit e lt = rw e (parts_at slot _ _ (stands slot (track_in slot) i (with_record slot fit i lt) lt))
 
+-- the record lies within the slot, with an end mark behind it; and so by its count area
+pub record_within : (slot : List ℕ) (i at : ℕ) → ((i : ℕ) → Fits w8 (get_or slot i 0)) → at ≡ slice_index (record_offsets (track_in slot)) i → i < length (track_in slot).records → at + record_size (record_in (track_in slot) i) + 8 ≤ length slot
+record_within slot i at fit e lt = (parts_in slot i at fit e lt).within
+
+pub bytes_within : (slot : List ℕ) (i at : ℕ) → ((i : ℕ) → Fits w8 (get_or slot i 0)) → at ≡ slice_index (record_offsets (track_in slot)) i → i < length (track_in slot).records → at + (8 + body_length (drop at slot)) + 8 ≤ length slot
+bytes_within slot i at fit e lt = let parts = parts_in slot i at fit e lt in omega (arith, parts.within, parts.key_size, parts.data_size)
+
 -- the next record's offset
 pub next_is : (slot : List ℕ) (i at size : ℕ) → ((i : ℕ) → Fits w8 (get_or slot i 0)) → at ≡ slice_index (record_offsets (track_in slot)) i → i + 1 < length (track_in slot).records
     → size ≡ 8 + body_length (drop at slot) → at + size ≡ slice_index (record_offsets (track_in slot)) (i + 1)
@@ -109,6 +116,8 @@ next_is slot i at size fit e lt is =
     let spells = with_record slot fit i (omega (arith, lt)) in
     let parts = parts_in slot i at fit e (omega (arith, lt)) in
     omega (arith, e, is, parts.key_size, parts.data_size, offset_is slot t spells i (omega (arith, lt)), offset_is slot t spells (i + 1) lt, place-one slot t spells i (omega (arith, lt)))
+
+pub ruleset walking = (first_offset, bytes_within, next_is)
 
 -- the bytes at a record's offset, by a view's value
 pub begins_in : (slot : List ℕ) (t : Track) (i at : ℕ) → Spells slot (track_in slot) → track_in slot ≡ t → at ≡ slice_index (record_offsets t) i → i < length t.records → BeginsWith (drop at slot) (record_in t i) × (at ≤ length slot)

@@ -95,13 +95,19 @@ count_from s long = rw (← (whole_slot s long)) (number_on (take 5 s) (records_
 pub count_on : (s : List ℕ) (n at size : ℕ) → n < length s → size_at at (drop at s) ≡ Ok (Some size) → counts n (walk s n at) ≡ counts (n + 1) (walk s (n + 1) (at + size))
 count_on s n at size lt e = ap (counts n) (step_on s n at size lt e) ∙ counts-followed_by n _ _
 
-pub counted_fault : (s : List ℕ) (n at : ℕ) (fault : SlotFault) (all : Result ℕ SlotFault) → n < length s → size_at at (drop at s) ≡ Err fault → counts n (walk s n at) ≡ all → Err fault ≡ all
-counted_fault s n at fault all lt e rest = sym (ap (counts n) (step s n at _ lt e)) ∙ rest
+pub count_stops : (s : List ℕ) (n at : ℕ) → n < length s → size_at at (drop at s) ≡ Ok None → counts n (walk s n at) ≡ Ok n
+count_stops s n at lt e = ap (counts n) (step s n at _ lt e) ∙ ap Ok (omega arith)
 
-pub counted_all : (s : List ℕ) (n at : ℕ) (all : Result ℕ SlotFault) → n < length s → size_at at (drop at s) ≡ Ok None → counts n (walk s n at) ≡ all → Ok n ≡ all
-counted_all s n at all lt e rest =
-    let none : n + 0 ≡ n = omega arith in
-    rw none at (sym (ap (counts n) (step s n at _ lt e)) ∙ rest)
+pub count_fails : (s : List ℕ) (n at : ℕ) (fault : SlotFault) → n < length s → size_at at (drop at s) ≡ Err fault → counts n (walk s n at) ≡ Err fault
+count_fails s n at fault lt e = ap (counts n) (step s n at _ lt e)
+
+pub short_number : (s : List ℕ) → length s < 5 → number_of_records (track_of s) ≡ Err (NoEnd 0)
+short_number s short = ap number_of_records (short_slot s short)
+
+pub size_within : (s : List ℕ) (at size : ℕ) → at ≤ length s → size_at at (drop at s) ≡ Ok (Some size) → (size_at at (drop at s) ≡ Ok (Some size)) × (8 ≤ size) × (at + size ≤ length s)
+size_within s at size le e = let t = size_tells at (drop at s) _ e in (e, omega (arith, t.is), omega (arith, t.fits, length-drop at s))
+
+pub ruleset counting = (short_number, size_within, count_from, count_on, count_stops, count_fails)
 
 -- Noting the offsets.
 
@@ -129,5 +135,7 @@ note_on s so_far n at size lt e =
     let is = size_of_record_at size (drop at s) (size_tells at (drop at s) _ e) in
     ap (noted so_far at) (step_on s n at size lt e) ∙ rw (← is) (noted-followed_by so_far at (record_at (drop at s)) _)
 
-pub noted_all : (s so_far : List ℕ) (n at : ℕ) (all : Result (List ℕ) SlotFault) → n < length s → size_at at (drop at s) ≡ Ok None → noted so_far at (walk s n at) ≡ all → all ≡ Ok so_far
-noted_all s so_far n at all lt e rest = sym rest ∙ ap (noted so_far at) (step s n at _ lt e) ∙ ap Ok (append-nil so_far)
+pub note_stops : (s so_far : List ℕ) (n at : ℕ) → n < length s → size_at at (drop at s) ≡ Ok None → noted so_far at (walk s n at) ≡ Ok so_far
+note_stops s so_far n at lt e = ap (noted so_far at) (step s n at _ lt e) ∙ ap Ok (append-nil so_far)
+
+pub ruleset noting = (note_from, note_on, note_stops)
