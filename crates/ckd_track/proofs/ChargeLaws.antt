@@ -1,5 +1,5 @@
 -- What fits a track's capacity fits its slot.
-use Rattle.std.proofs.Common.{◌≡◌, ap, ℕ, zero, suc, ◌+◌, ◌*◌, ◌/◌, ◌≤◌, ◌<◌, true, false, Option, None, Some, List, [], ◌∷◌, ◌++◌, length, length-append, take, slice_index, slice_index_or, All, sum_by, flat_map, bytes_eq, arith}
+use Rattle.std.proofs.Common.{◌≡◌, ap, ℕ, zero, suc, ◌+◌, ◌≤◌, ◌<◌, true, false, Option, None, Some, List, [], ◌∷◌, ◌++◌, length, length-append, take, slice_index, slice_index_or, All, sum_by, flat_map, bytes_eq, arith}
 use Rattle.std.proofs.lemmas.Bool.Decides.{nat_tests}
 use Rattle.std.proofs.lemmas.Grind.{flat_map-append}
 use Rattle.std.proofs.lemmas.List.{take_more, take-take, take_all, length-take, length-drop, get_or_append_left}
@@ -17,19 +17,13 @@ use Rattle.ckd_track.proofs.Places.{length-record_bytes}
 
 -- No charge is below the bytes that it is for.
 
-times-2311 : (n : ℕ) → n ≤ n * 537 / 512
-times-2311 n = omega arith
-
-times-2314 : (n : ℕ) → n ≤ n * 2137 / 2048
-times-2314 n = omega arith
-
 charge-le : (model : DriveModel) (kl dl : ℕ) → 8 + (kl + dl) ≤ charge_of model kl dl
-charge-le D2311 kl dl = omega (arith, times-2311 (kl + dl))
-charge-le D2314 kl dl = omega (arith, times-2314 (kl + dl))
+charge-le D2311 kl dl = omega arith
+charge-le D2314 kl dl = omega arith
 
 r0_charge-le : (model : DriveModel) (kl dl : ℕ) → kl + dl ≤ 8 + r0_charge_of model kl dl
-r0_charge-le D2311 kl dl = omega (arith, times-2311 (kl + dl))
-r0_charge-le D2314 kl dl = omega (arith, times-2314 (kl + dl))
+r0_charge-le D2311 kl dl = omega arith
+r0_charge-le D2314 kl dl = omega arith
 
 last_charge-le : (model : DriveModel) (kl dl : ℕ) → kl + dl ≤ last_charge_of model kl dl
 last_charge-le D2311 kl dl = omega arith

@@ -7,7 +7,7 @@ use Rattle.std.proofs.lemmas.Bool.{cases_lt}
 use Rattle.std.proofs.lemmas.Slice.Eq.{bytes_eq-Decides}
 use Rattle.ckd_track.specs.declared.fault.SlotFault.{SlotFault}
 use Rattle.ckd_track.specs.declared.fault.SlotFault.TheVariants.{NoEnd, RecordPastEnd}
-use Rattle.ckd_track.specs.Track.{Record, Track, IsRecord, Spells, HasFault, RecordsUpTo, end_mark, record_bytes, count_area, records_from, records_of, followed_by, behind_home_address, record_at, record_size, body_length, key_length, data_length, size_at, track_of}
+use Rattle.ckd_track.specs.Track.{Record, Track, IsRecord, Spells, HasFault, RecordsUpTo, end_mark, record_bytes, count_area, records_from, followed_by, behind_home_address, record_at, record_size, body_length, key_length, data_length, size_at, track_of}
 use Rattle.ckd_track.proofs.Spelled.{reads_back}
 use Rattle.ckd_track.proofs.Reading.{IsSize, size_tells, told_size, size_of_record_at, read_on, read_step, short_slot, whole_slot}
 
@@ -142,10 +142,12 @@ long_enough (r ∷ rs) are =
     let more = long_enough rs (All-tail IsRecord r rs are) in
     omega (arith, own, more, length-append (record_bytes r) (flat_map record_bytes rs))
 
-slot_read : (slot : List ℕ) → 5 ≤ length slot → (p : Parsed 5 (drop 5 slot)) → records_of slot ≡ outcome p.records p.stop
+slot_read : (slot : List ℕ) → 5 ≤ length slot → (p : Parsed 5 (drop 5 slot)) → track_of slot ≡ behind_home_address (take 5 slot) (outcome p.records p.stop)
+unfolding track_of
 slot_read slot long p =
     let few : length p.records < length slot - 0 = omega (arith, long_enough p.records p.are_records, ap length p.bytes_are, length-drop 5 slot, length-append (flat_map record_bytes p.records) p.rest) in
-    whole_slot slot long ∙ ap (records_from (length slot - 0) 5) p.bytes_are ∙ read_over p.records p.rest p.stop (length slot - 0) 5 p.are_records p.stops few
+    ap (behind_home_address (take 5 slot)) (whole_slot slot long ∙ ap (records_from (length slot - 0) 5) p.bytes_are
+    ∙ read_over p.records p.rest p.stop (length slot - 0) 5 p.are_records p.stops few)
 
 slot_parsed : (slot : List ℕ) → AreBytes slot → Parsed 5 (drop 5 slot)
 slot_parsed slot small = parsed (length slot) 5 (drop 5 slot) (All-drop (λ b. b < 256) 5 slot small) (omega (arith, length-drop 5 slot))
@@ -153,7 +155,6 @@ slot_parsed slot small = parsed (length slot) 5 (drop 5 slot) (All-drop (λ b. b
 -- The relation and the function are the same.
 
 pub spelled_is_read : (slot : List ℕ) (t : Track) → Spells slot t → track_of slot ≡ Ok t
-unfolding track_of
 spelled_is_read slot t is =
     let F = flat_map record_bytes t.records in
     let tail = end_mark ++ is.rest in
@@ -168,7 +169,7 @@ spelled_is_read slot t is =
       bytes_are = ap (drop 5) whole ∙ drop_at t.home_address (F ++ tail) 5 is.home_address;
       stops = told_size (5 + length F) tail (Ok None) (omega (arith, length-append end_mark is.rest), refl);
     } in
-    ap (behind_home_address (take 5 slot)) (slot_read slot long p) ∙ rw ha refl
+    slot_read slot long p ∙ rw ha refl
 
 spelled_by : (slot : List ℕ) (t : Track) (p : Parsed 5 (drop 5 slot)) (stop : Option SlotFault) → 5 ≤ length slot → p.stop ≡ stop → behind_home_address (take 5 slot) (outcome p.records stop) ≡ Ok t → Spells slot t
 spelled_by slot t p (Some fault) long is e = absurd cc
@@ -185,12 +186,11 @@ spelled_by slot t p None long is e =
     })
 
 pub read_is_spelled : (slot : List ℕ) (t : Track) → AreBytes slot → track_of slot ≡ Ok t → Spells slot t
-unfolding track_of
 read_is_spelled slot t small e = by (cases_lt (length slot) 5)
   where
     by : (length slot < 5) ⊎ (5 ≤ length slot) → Spells slot t
     by (inl short) = absurd (let f = short_slot slot short in cc)
-    by (inr long) = let p = slot_parsed slot small in spelled_by slot t p p.stop long refl (sym (ap (behind_home_address (take 5 slot)) (slot_read slot long p)) ∙ e)
+    by (inr long) = let p = slot_parsed slot small in spelled_by slot t p p.stop long refl (sym (slot_read slot long p) ∙ e)
 
 -- The relation of a fault and the function's fault are the same.
 
@@ -217,42 +217,33 @@ stops_at slot p offset long is =
       size = size;
     }
 
-fault_by : (slot : List ℕ) (p : Parsed 5 (drop 5 slot)) (stop : Option SlotFault) (fault : SlotFault) → 5 ≤ length slot → p.stop ≡ stop → outcome p.records stop ≡ Err fault → HasFault slot fault
-fault_by slot p None fault long is e = absurd cc
-fault_by slot p (Some (NoEnd at)) (RecordPastEnd offset) long is e = absurd cc
-fault_by slot p (Some (RecordPastEnd at)) (NoEnd offset) long is e = absurd cc
-fault_by slot p (Some (NoEnd at)) (NoEnd offset) long is e =
-    let t = size_tells _ p.rest (Err (NoEnd at)) (p.stops ∙ ap stopped is) in
-    let same : at ≡ offset = cc in
-    let short : length p.rest < 8 = t.1 in
-    let s = stops_at slot p offset long (sym same ∙ t.0) in
+fault_by : (slot : List ℕ) (p : Parsed 5 (drop 5 slot)) (fault : SlotFault) → 5 ≤ length slot → p.stop ≡ Some fault → HasFault slot fault
+fault_by slot p (NoEnd offset) long is =
+    let told = size_tells _ p.rest (Err (NoEnd offset)) (p.stops ∙ ap stopped is) in
+    let short : length p.rest < 8 = told.1 in
+    let s = stops_at slot p offset long told.0 in
     inr (s.up_to, omega (arith, s.size, short))
-fault_by slot p (Some (RecordPastEnd at)) (RecordPastEnd offset) long is e =
-    let t = size_tells _ p.rest (Err (RecordPastEnd at)) (p.stops ∙ ap stopped is) in
-    let same : at ≡ offset = cc in
-    let s = stops_at slot p offset long (sym same ∙ t.0) in
-    let room : 8 ≤ length p.rest = t.1 in
-    let past : length p.rest < 8 + body_length p.rest = t.3 in
-    (s.up_to, omega (arith, s.size, room), rw s.rest t.2, rw s.rest (omega (arith, s.size, past)))
+fault_by slot p (RecordPastEnd offset) long is =
+    let told = size_tells _ p.rest (Err (RecordPastEnd offset)) (p.stops ∙ ap stopped is) in
+    let room : 8 ≤ length p.rest = told.1 in
+    let past : length p.rest < 8 + body_length p.rest = told.3 in
+    let s = stops_at slot p offset long told.0 in
+    (s.up_to, omega (arith, s.size, room), rw s.rest told.2, rw s.rest (omega (arith, s.size, past)))
+
+fault_read : (ha : List ℕ) (rs : List Record) (stop : Option SlotFault) (fault : SlotFault) → behind_home_address ha (outcome rs stop) ≡ Err fault → stop ≡ Some fault
+fault_read ha rs None fault e = absurd cc
+fault_read ha rs (Some other) fault e = cc
 
 pub read_has_fault : (slot : List ℕ) (fault : SlotFault) → AreBytes slot → track_of slot ≡ Err fault → HasFault slot fault
-unfolding track_of
 read_has_fault slot fault small e = by fault (cases_lt (length slot) 5) e
   where
-    read_not : (ha : List ℕ) (read : Result (List Record) SlotFault) (fault : SlotFault) → behind_home_address ha read ≡ Err fault → read ≡ Err fault
-    read_not ha (Ok rs) fault e = absurd cc
-    read_not ha (Err other) fault e = let same : other ≡ fault = cc in ap Err same
-
     by : (fault : SlotFault) → (length slot < 5) ⊎ (5 ≤ length slot) → track_of slot ≡ Err fault → HasFault slot fault
     by (NoEnd offset) (inl short) e = inl (short, (let f = short_slot slot short in cc))
     by (RecordPastEnd offset) (inl short) e = absurd (let f = short_slot slot short in cc)
-    by fault (inr long) e =
-        let p = slot_parsed slot small in
-        fault_by slot p p.stop fault long refl (sym (slot_read slot long p) ∙ read_not (take 5 slot) (records_of slot) fault e)
+    by fault (inr long) e = let p = slot_parsed slot small in fault_by slot p fault long (fault_read (take 5 slot) p.records p.stop fault (sym (slot_read slot long p) ∙ e))
 
 -- a fault behind records that stand one after another is the fault of the whole
 read_up_to : (slot : List ℕ) (offset : ℕ) (fault : SlotFault) → RecordsUpTo slot offset → size_at offset (drop offset slot) ≡ Err fault → track_of slot ≡ Err fault
-unfolding track_of
 read_up_to slot offset fault up there =
     let F = flat_map record_bytes up.records in
     let further : drop (offset - 5) (drop 5 slot) ≡ drop offset slot = (let e : 5 + (offset - 5) ≡ offset = omega (arith, up.behind_home_address) in rw e at (drop-drop (offset - 5) 5 slot)) in
@@ -265,7 +256,7 @@ read_up_to slot offset fault up there =
       bytes_are = sym (take-append-drop (offset - 5) (drop 5 slot)) ∙ rw (up.bytes, further) refl;
       stops = rw here there;
     } in
-    ap (behind_home_address (take 5 slot)) (slot_read slot (omega (arith, up.within, up.behind_home_address)) p)
+    slot_read slot (omega (arith, up.within, up.behind_home_address)) p
 
 pub fault_is_read : (slot : List ℕ) (fault : SlotFault) → HasFault slot fault → track_of slot ≡ Err fault
 fault_is_read slot (NoEnd offset) (inl short) = short_slot slot short.0 ∙ (let e : offset ≡ 0 = short.1 in rw e refl)
