@@ -1,6 +1,6 @@
 -- What stands at an offset of a slot, and one record further in a walk over it.
-use Rattle.std.proofs.Common.{◌≡◌, ◌∙◌, ap, sym, refl, ℕ, suc, ◌+◌, ◌-◌, ◌≤◌, ◌<◌, true, false, List, [], ◌∷◌, ◌++◌, length, drop, take, length-drop, length-take, drop-drop, append_assoc, Option, Some, None, Result, Ok, Err, arith}
-use Rattle.std.proofs.lemmas.Bool.Decides.{nat_tests}
+use Rattle.std.proofs.Common.{◌≡◌, subst, Bool, if◌then◌else◌, nat_lt, ◌∙◌, ap, sym, refl, ℕ, suc, ◌+◌, ◌-◌, ◌≤◌, ◌<◌, true, false, List, [], ◌∷◌, ◌++◌, length, drop, take, length-drop, length-take, drop-drop, append_assoc, Option, Some, None, Result, Ok, Err, arith}
+use Rattle.std.proofs.lemmas.Bool.{ltb-true, ltb-false, lt-ltb, le-ltb}
 use Rattle.std.proofs.lemmas.List.{append-nil}
 use Rattle.ckd_track.specs.declared.fault.SlotFault.{SlotFault}
 use Rattle.ckd_track.specs.declared.fault.SlotFault.TheVariants.{NoEnd, RecordPastEnd}
@@ -23,16 +23,22 @@ Tells at bytes (Err (RecordPastEnd offset)) =
     (offset ≡ at) × (8 ≤ length bytes) × (begins_with_end_mark bytes ≡ false) × (length bytes < 8 + body_length bytes)
 
 pub size_tells : (at : ℕ) (bytes : List ℕ) (there : Result (Option ℕ) SlotFault) → size_at at bytes ≡ there → Tells at bytes there
-size_tells at bytes (Ok (Some size)) e = record { is = grind (arith, nat_tests); fits = grind (arith, nat_tests); no_end_mark = grind (arith, nat_tests) }
-size_tells at bytes (Ok None) e = (grind (arith, nat_tests), grind (arith, nat_tests))
-size_tells at bytes (Err (NoEnd offset)) e = (grind (arith, nat_tests), grind (arith, nat_tests))
-size_tells at bytes (Err (RecordPastEnd offset)) e = (grind (arith, nat_tests), grind (arith, nat_tests), grind (arith, nat_tests), grind (arith, nat_tests))
+size_tells at bytes there e =
+    subst (Tells at bytes) e (by (nat_lt (length bytes) 8) (begins_with_end_mark bytes) (nat_lt (length bytes) (8 + body_length bytes)) refl refl refl)
+  where
+    by : (short mark past : Bool) → nat_lt (length bytes) 8 ≡ short → begins_with_end_mark bytes ≡ mark → nat_lt (length bytes) (8 + body_length bytes) ≡ past
+        → Tells at bytes (if short then Err (NoEnd at) else (if mark then Ok None else (if past then Err (RecordPastEnd at) else Ok (Some (8 + body_length bytes)))))
+    by true mark past s m p = (refl, ltb-true _ _ s)
+    by false true past s m p = (ltb-false _ _ s, m)
+    by false false true s m p = (refl, ltb-false _ _ s, m, ltb-true _ _ p)
+    by false false false s m p = record { is = refl; fits = ltb-false _ _ p; no_end_mark = m }
 
 pub told_size : (at : ℕ) (bytes : List ℕ) (there : Result (Option ℕ) SlotFault) → Tells at bytes there → size_at at bytes ≡ there
-told_size at bytes (Ok (Some size)) t = let is = t.is in let fits = t.fits in let mark = t.no_end_mark in grind (arith, nat_tests)
-told_size at bytes (Ok None) t = let long = t.0 in let mark = t.1 in grind (arith, nat_tests)
-told_size at bytes (Err (NoEnd offset)) t = let same = t.0 in let short = t.1 in grind (arith, nat_tests)
-told_size at bytes (Err (RecordPastEnd offset)) t = let same = t.0 in let long = t.1 in let mark = t.2 in let past = t.3 in grind (arith, nat_tests)
+told_size at bytes (Ok (Some size)) t =
+    rw (le-ltb (length bytes) 8 (omega (arith, t.is, t.fits)), t.no_end_mark, le-ltb (length bytes) (8 + body_length bytes) (omega (arith, t.is, t.fits)), t.is) refl
+told_size at bytes (Ok None) t = rw (le-ltb (length bytes) 8 t.0, t.1) refl
+told_size at bytes (Err (NoEnd offset)) t = rw (t.0, lt-ltb (length bytes) 8 t.1) refl
+told_size at bytes (Err (RecordPastEnd offset)) t = rw (t.0, le-ltb (length bytes) 8 t.1, t.2, lt-ltb (length bytes) (8 + body_length bytes) t.3) refl
 
 pub size_of_record_at : (size : ℕ) (bytes : List ℕ) → IsSize bytes size → record_size (record_at bytes) ≡ size
 size_of_record_at size bytes is = omega (arith, is.is, is.fits, length-take {A = ℕ}, length-drop {A = ℕ})
@@ -68,10 +74,10 @@ step_on s n at size lt e = rw (size_tells at (drop at s) _ e).is (step s n at _ 
 -- a slot that is shorter than a home address
 pub short_slot : (s : List ℕ) → length s < 5 → track_of s ≡ Err (NoEnd 0)
 unfolding track_of
-short_slot s short = grind (arith, nat_tests)
+short_slot s short = rw (lt-ltb (length s) 5 short) refl
 
 pub whole_slot : (s : List ℕ) → 5 ≤ length s → records_of s ≡ walk s 0 5
-whole_slot s long = let all : length s - 0 ≡ length s = omega arith in rw all (grind (arith, nat_tests))
+whole_slot s long = let all : length s - 0 ≡ length s = omega arith in rw (all, le-ltb (length s) 5 long) refl
 
 -- Counting the records.
 
