@@ -117,6 +117,9 @@ next_is slot i at size fit e lt is =
     let parts = parts_in slot i at fit e (omega (arith, lt)) in
     omega (arith, e, is, parts.key_size, parts.data_size, offset_is slot t spells i (omega (arith, lt)), offset_is slot t spells (i + 1) lt, place-one slot t spells i (omega (arith, lt)))
 
+-- what a walk to a record by its number asks
+pub ruleset walking = (first_offset, bytes_within, next_is)
+
 -- the bytes at a record's offset, by a view's value
 pub begins_in : (slot : List ℕ) (t : Track) (i at : ℕ) → Spells slot (track_in slot) → track_in slot ≡ t → at ≡ slice_index (record_offsets t) i → i < length t.records → BeginsWith (drop at slot) (record_in t i) × (at ≤ length slot)
 begins_in slot t i at spelled is e lt =

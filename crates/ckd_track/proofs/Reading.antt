@@ -113,6 +113,9 @@ short_number s short = ap number_of_records (short_slot s short)
 pub size_within : (s : List ℕ) (at size : ℕ) → at ≤ length s → size_at at (drop at s) ≡ Ok (Some size) → (size_at at (drop at s) ≡ Ok (Some size)) × (8 ≤ size) × (at + size ≤ length s)
 size_within s at size le e = let t = size_tells at (drop at s) _ e in (e, omega (arith, t.is), omega (arith, t.fits, length-drop at s))
 
+-- what a walk that counts the records asks
+pub ruleset counting = (short_number, size_within, count_from, count_on, count_stops, count_fails)
+
 -- Noting the offsets.
 
 -- the offsets noted so far and those of the records behind, or the same fault
@@ -141,3 +144,6 @@ note_on s so_far n at size lt e =
 
 pub note_stops : (s so_far : List ℕ) (n at : ℕ) → n < length s → size_at at (drop at s) ≡ Ok None → noted so_far at (walk s n at) ≡ Ok so_far
 note_stops s so_far n at lt e = ap (noted so_far at) (step s n at _ lt e) ∙ ap Ok (append-nil so_far)
+
+-- and one that notes their offsets
+pub ruleset noting = (note_from, note_on, note_stops)
