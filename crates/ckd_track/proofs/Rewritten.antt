@@ -139,7 +139,7 @@ module _ (s : List ℕ) (t : Track) (spells : Spells s t) (i : ℕ) (lt : i < le
       written (count_area r) (r.key_area ++ r.data_area) body (with_body body r) (place t i + 8) (simp append_assoc) new (omega (arith, length-append r.key_area r.data_area))
       (omega (arith, length-count_area r (record_is s t spells i lt).id))
 
--- A new record behind the first k.
+-- A new record behind the first k: of two writes it names the slot, the place, both texts and their lengths, and the record that they make.
 
 pub record_written : (s : List ℕ) (t : Track) → Spells s t → (k : ℕ) (count body : List ℕ) (new : Record) → length count ≡ 8 → record_bytes new ≡ count ++ body → place t k + 8 + length body ≤ length s
     → take (place t k + 8 + length body) (overwritten (overwritten s (place t k) count) (place t k + 8) body) ≡ t.home_address ++ flat_map record_bytes (take k t.records ++ new ∷ [])
