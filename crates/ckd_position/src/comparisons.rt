@@ -55,6 +55,7 @@ fn order_of(area: &[u8], comparand: &[u8]) -> Ordering
 
 /// Whether the bytes of an area are as the search asks, beside as many bytes as it is given: unsigned bytes, from the
 /// left (component descriptions of the 2841 and the 2314, 'Search Commands').
+#[tactic(auto, using(crate::proofs::Order::satisfied_means))]
 pub fn verdict(compare: Compare, area: &[u8], comparand: &[u8]) -> bool
     requires { length comparand.now ≤ length area.now }
     ensures value { result ≡ is_satisfied compare area.now comparand.now }

@@ -12,6 +12,7 @@ use ckd_track::TrackView;
 ///
 /// A position that the track does not have lies where it would: behind a record that is not there nothing follows.
 #[inline(always)]
+#[tactic(auto, using(crate::proofs::NextOfKind::next_areas))]
 pub fn next_area(view: &TrackView, position: Position, kind: Kind) -> Next
     ensures next { result ≡ next_of_kind view.now position kind }
     ensures on_track { IfFound result (IsOnTrack view.now) }
@@ -86,7 +87,8 @@ fn is_first_data_behind(position: Position) -> bool
 
 /// This part of the record of this number, if the track has that record.
 fn part_of(view: &TrackView, part: Part, number: usize) -> Next
-    ensures { result ≡ part_on view.now part number }
+    ensures next { result ≡ part_on view.now part number }
+    ensures on_track { IfFound result (IsOnTrack view.now) }
 {
     if number < view.len() {
         Next::Found(Area::Of(part, number))
@@ -106,7 +108,8 @@ fn has_key(view: &TrackView, number: usize) -> bool
 /// The key area of the first record that has one, from this record on.
 #[tactic(auto, using(crate::proofs::Walk::next_key_here, crate::proofs::Walk::next_key_later, crate::proofs::Walk::no_key_past))]
 fn next_key(view: &TrackView, from: usize) -> Next
-    ensures { result ≡ next_key_from view.now from }
+    ensures next { result ≡ next_key_from view.now from }
+    ensures on_track { IfFound result (IsOnTrack view.now) }
 {
     for number in from..view.len() {
         if has_key(view, number) {

@@ -18,10 +18,9 @@ offsets_are : (at : ℕ) (rs : List Record) (k : ℕ) → All IsRecord rs → k 
 offsets_are at [] k are lt = absurd (omega (arith, lt))
 offsets_are at (r ∷ rs) zero are lt = omega arith
 offsets_are at (r ∷ rs) (suc k) are lt =
-    let h = offsets_are (at + record_size r) rs k (All-tail IsRecord r rs are) (omega (arith, lt)) in
-    let one = length-record_bytes r (All-head IsRecord r rs are) in
-    let l = length-append (record_bytes r) (flat_map record_bytes (take k rs)) in
-    omega (arith, h, one, l)
+    let more = offsets_are (at + record_size r) rs k (All-tail IsRecord r rs are) (omega (arith, lt)) in
+    let own = length-record_bytes r (All-head IsRecord r rs are) in
+    omega (arith, length-append (record_bytes r) (flat_map record_bytes (take k rs)))
 
 pub end_is : (t : Track) → place t (length t.records) ≡ end_offset t
 end_is t = ap (λ (rs : List Record). length t.home_address + length (flat_map record_bytes rs)) (take_all (length t.records) t.records (omega arith))
@@ -38,7 +37,7 @@ module _ (s : List ℕ) (t : Track) (spells : Spells s t) where
   abbrev pub behind : ℕ → List ℕ
   behind k = flat_map record_bytes (drop k t.records) ++ (end_mark ++ spells.rest)
 
-  pub parts : (k : ℕ) → flat_map record_bytes t.records ≡ flat_map record_bytes (take k t.records) ++ flat_map record_bytes (drop k t.records)
+  parts : (k : ℕ) → flat_map record_bytes t.records ≡ flat_map record_bytes (take k t.records) ++ flat_map record_bytes (drop k t.records)
   parts k = ap (flat_map record_bytes) (sym (take-append-drop k t.records)) ∙ flat_map-append record_bytes (take k t.records) (drop k t.records)
 
   pub split_at : (k : ℕ) → s ≡ front k ++ behind k
@@ -54,24 +53,13 @@ module _ (s : List ℕ) (t : Track) (spells : Spells s t) where
   drop-place k = ap (drop (place t k)) (split_at k) ∙ drop_at (front k) (behind k) (place t k) (length-front k)
 
   pub place-le : (k : ℕ) → place t k + 8 ≤ length s
-  place-le k =
-      let a = ap (λ (l : List ℕ). length l) (split_at k) in
-      let b = length-append (front k) (behind k) in
-      let c = length-append (flat_map record_bytes (drop k t.records)) (end_mark ++ spells.rest) in
-      let d = length-append end_mark spells.rest in
-      let e = length-front k in
-      omega (arith, a, b, c, d, e)
+  place-le k = omega (arith, ap length (split_at k), length-append {A = ℕ})
 
   pub place-before : (k : ℕ) → place t k ≤ end_offset t
-  place-before k = omega (arith, ap (λ (l : List ℕ). length l) (parts k), length-append (flat_map record_bytes (take k t.records)) (flat_map record_bytes (drop k t.records)))
-
-  pub rest-one : (k : ℕ) → k < length t.records → flat_map record_bytes (drop k t.records) ≡ record_bytes (record_in t k) ++ flat_map record_bytes (drop (k + 1) t.records)
-  rest-one k lt = ap (flat_map record_bytes) (drop_more t.records k no_record lt)
+  place-before k = omega (arith, ap length (parts k), length-append {A = ℕ})
 
   pub behind-one : (k : ℕ) → k < length t.records → behind k ≡ record_bytes (record_in t k) ++ behind (k + 1)
-  behind-one k lt =
-      ap (λ (l : List ℕ). l ++ (end_mark ++ spells.rest)) (rest-one k lt)
-      ∙ append_assoc (record_bytes (record_in t k)) (flat_map record_bytes (drop (k + 1) t.records)) (end_mark ++ spells.rest)
+  behind-one k lt = rw (drop_more t.records k no_record lt) (simp append_assoc)
 
   pub front-one : (k : ℕ) → k < length t.records → front (k + 1) ≡ front k ++ record_bytes (record_in t k)
   front-one k lt =
@@ -82,10 +70,4 @@ module _ (s : List ℕ) (t : Track) (spells : Spells s t) where
   record_is k lt = All-get_or IsRecord t.records k no_record lt spells.records
 
   pub place-one : (k : ℕ) → k < length t.records → place t (k + 1) ≡ place t k + record_size (record_in t k)
-  place-one k lt =
-      let a = length-front k in
-      let b = length-front (k + 1) in
-      let c = ap (λ (l : List ℕ). length l) (front-one k lt) in
-      let d = length-append (front k) (record_bytes (record_in t k)) in
-      let e = length-record_bytes (record_in t k) (record_is k lt) in
-      omega (arith, a, b, c, d, e)
+  place-one k lt = omega (arith, ap length (front-one k lt), length-append {A = ℕ}, length-record_bytes (record_in t k) (record_is k lt))

@@ -1,29 +1,10 @@
--- One record further in a walk over a slot.
-use Rattle.std.proofs.Common.{◌≡◌, ◌∙◌, ap, sym, refl, ℕ, suc, ◌+◌, ◌-◌, ◌≤◌, ◌<◌, Bool, true, false, if◌then◌else◌, nat_lt, List, [], ◌∷◌, ◌++◌, length, drop, take, length-drop, length-take, drop-drop, append_assoc, Option, Some, None, Result, Ok, Err, arith}
-use Rattle.std.proofs.lemmas.Bool.Decides.{nat_tests}
+-- What stands at an offset of a slot, and one record further in a walk over it.
+use Rattle.std.proofs.Common.{◌≡◌, subst, Bool, if◌then◌else◌, nat_lt, ◌∙◌, ap, sym, refl, ℕ, suc, ◌+◌, ◌-◌, ◌≤◌, ◌<◌, true, false, List, [], ◌∷◌, ◌++◌, length, drop, take, length-drop, length-take, drop-drop, append_assoc, Option, Some, None, Result, Ok, Err, arith}
+use Rattle.std.proofs.lemmas.Bool.{ltb-true, ltb-false, lt-ltb, le-ltb}
 use Rattle.std.proofs.lemmas.List.{append-nil}
 use Rattle.ckd_track.specs.declared.fault.SlotFault.{SlotFault}
 use Rattle.ckd_track.specs.declared.fault.SlotFault.TheVariants.{NoEnd, RecordPastEnd}
 use Rattle.ckd_track.specs.Track.{Record, records_from, records_of, followed_by, behind_home_address, record_at, record_size, body_length, begins_with_end_mark, size_at, track_of, number_of_records, offsets_from, offsets_on, offsets_of}
-
--- the records read, once it is known what stands at the offset
-abbrev pub read_on : Record → Result (List Record) SlotFault → Result (Option ℕ) SlotFault → Result (List Record) SlotFault
-read_on r others (Ok (Some size)) = followed_by r others
-read_on r others (Ok None) = Ok []
-read_on r others (Err fault) = Err fault
-
-by_tests : (short mark past : Bool) (at size : ℕ) (r : Record) (others : Result (List Record) SlotFault)
-    → (if short then Err (NoEnd at) else (if mark then Ok [] else (if past then Err (RecordPastEnd at) else followed_by r others)))
-    ≡ read_on r others (if short then Err (NoEnd at) else (if mark then Ok None else (if past then Err (RecordPastEnd at) else Ok (Some size))))
-by_tests true mark past at size r others = refl
-by_tests false true past at size r others = refl
-by_tests false false true at size r others = refl
-by_tests false false false at size r others = refl
-
-pub read_step : (most at : ℕ) (bytes : List ℕ)
-    → records_from (suc most) at bytes ≡ read_on (record_at bytes) (records_from most (at + (8 + body_length bytes)) (drop (8 + body_length bytes) bytes)) (size_at at bytes)
-unfolding records_from
-read_step most at bytes = by_tests (nat_lt (length bytes) 8) (begins_with_end_mark bytes) (nat_lt (length bytes) (8 + body_length bytes)) at (8 + body_length bytes) (record_at bytes) (records_from most (at + (8 + body_length bytes)) (drop (8 + body_length bytes) bytes))
 
 -- What stands at an offset.
 
@@ -33,42 +14,70 @@ pub record IsSize (bytes : List ℕ) (size : ℕ) : Type 0 where
   pub fits : size ≤ length bytes
   pub no_end_mark : begins_with_end_mark bytes ≡ false
 
-sized : (short mark past : Bool) (at size : ℕ) (bytes : List ℕ) → begins_with_end_mark bytes ≡ mark → nat_lt (length bytes) (8 + body_length bytes) ≡ past
-    → (if short then Err (NoEnd at) else (if mark then Ok None else (if past then Err (RecordPastEnd at) else Ok (Some (8 + body_length bytes))))) ≡ Ok (Some size) → IsSize bytes size
-sized true mark past at size bytes m p e = absurd cc
-sized false true past at size bytes m p e = absurd cc
-sized false false true at size bytes m p e = absurd cc
-sized false false false at size bytes m p e =
-    let is : size ≡ 8 + body_length bytes = cc in
-    record { is = is; fits = rw is (grind (arith, nat_tests)); no_end_mark = m }
+-- what the answer says of the bytes there
+abbrev pub Tells : ℕ → List ℕ → Result (Option ℕ) SlotFault → Type 0
+Tells at bytes (Ok (Some size)) = IsSize bytes size
+Tells at bytes (Ok None) = (8 ≤ length bytes) × (begins_with_end_mark bytes ≡ true)
+Tells at bytes (Err (NoEnd offset)) = (offset ≡ at) × (length bytes < 8)
+Tells at bytes (Err (RecordPastEnd offset)) =
+    (offset ≡ at) × (8 ≤ length bytes) × (begins_with_end_mark bytes ≡ false) × (length bytes < 8 + body_length bytes)
 
-pub size_is : (at size : ℕ) (bytes : List ℕ) → size_at at bytes ≡ Ok (Some size) → IsSize bytes size
-size_is at size bytes e = sized (nat_lt (length bytes) 8) (begins_with_end_mark bytes) (nat_lt (length bytes) (8 + body_length bytes)) at size bytes refl refl e
+pub size_tells : (at : ℕ) (bytes : List ℕ) (there : Result (Option ℕ) SlotFault) → size_at at bytes ≡ there → Tells at bytes there
+size_tells at bytes there e =
+    subst (Tells at bytes) e (by (nat_lt (length bytes) 8) (begins_with_end_mark bytes) (nat_lt (length bytes) (8 + body_length bytes)) refl refl refl)
+  where
+    by : (short mark past : Bool) → nat_lt (length bytes) 8 ≡ short → begins_with_end_mark bytes ≡ mark → nat_lt (length bytes) (8 + body_length bytes) ≡ past
+        → Tells at bytes (if short then Err (NoEnd at) else (if mark then Ok None else (if past then Err (RecordPastEnd at) else Ok (Some (8 + body_length bytes)))))
+    by true mark past s m p = (refl, ltb-true _ _ s)
+    by false true past s m p = (ltb-false _ _ s, m)
+    by false false true s m p = (refl, ltb-false _ _ s, m, ltb-true _ _ p)
+    by false false false s m p = record { is = refl; fits = ltb-false _ _ p; no_end_mark = m }
+
+pub told_size : (at : ℕ) (bytes : List ℕ) (there : Result (Option ℕ) SlotFault) → Tells at bytes there → size_at at bytes ≡ there
+told_size at bytes (Ok (Some size)) t =
+    rw (le-ltb (length bytes) 8 (omega (arith, t.is, t.fits)), t.no_end_mark, le-ltb (length bytes) (8 + body_length bytes) (omega (arith, t.is, t.fits)), t.is) refl
+told_size at bytes (Ok None) t = rw (le-ltb (length bytes) 8 t.0, t.1) refl
+told_size at bytes (Err (NoEnd offset)) t = rw (t.0, lt-ltb (length bytes) 8 t.1) refl
+told_size at bytes (Err (RecordPastEnd offset)) t = rw (t.0, le-ltb (length bytes) 8 t.1, t.2, lt-ltb (length bytes) (8 + body_length bytes) t.3) refl
 
 pub size_of_record_at : (size : ℕ) (bytes : List ℕ) → IsSize bytes size → record_size (record_at bytes) ≡ size
 size_of_record_at size bytes is = omega (arith, is.is, is.fits, length-take {A = ℕ}, length-drop {A = ℕ})
 
--- One look in a walk over a slot.
+-- One look in a walk.
 
-further : (s : List ℕ) (at size : ℕ) → drop size (drop at s) ≡ drop (at + size) s
-further s at size = drop-drop size at s
+-- the records read, once it is known what stands at the offset
+abbrev pub read_on : Record → Result (List Record) SlotFault → Result (Option ℕ) SlotFault → Result (List Record) SlotFault
+read_on r others (Ok (Some size)) = followed_by r others
+read_on r others (Ok None) = Ok []
+read_on r others (Err fault) = Err fault
 
-pub walk_fault : (s : List ℕ) (n at : ℕ) (fault : SlotFault) → n < length s → size_at at (drop at s) ≡ Err fault → records_from (length s - n) at (drop at s) ≡ Err fault
-walk_fault s n at fault lt e =
+pub read_step : (most at : ℕ) (bytes : List ℕ)
+    → records_from (suc most) at bytes ≡ read_on (record_at bytes) (records_from most (at + (8 + body_length bytes)) (drop (8 + body_length bytes) bytes)) (size_at at bytes)
+unfolding records_from
+read_step most at bytes = grind arith
+
+-- the records read from an offset on, behind n others
+abbrev pub walk : List ℕ → ℕ → ℕ → Result (List Record) SlotFault
+walk s n at = records_from (length s - n) at (drop at s)
+
+step : (s : List ℕ) (n at : ℕ) (there : Result (Option ℕ) SlotFault) → n < length s → size_at at (drop at s) ≡ there
+    → walk s n at ≡ read_on (record_at (drop at s)) (walk s (n + 1) (at + (8 + body_length (drop at s)))) there
+step s n at there lt e =
     let more : length s - n ≡ suc (length s - (n + 1)) = omega arith in
-    rw more (read_step (length s - (n + 1)) at (drop at s) ∙ ap (read_on (record_at (drop at s)) _) e)
+    rw (more, ← (drop-drop (8 + body_length (drop at s)) at s), ← e) (read_step (length s - (n + 1)) at (drop at s))
 
-pub walk_end : (s : List ℕ) (n at : ℕ) → n < length s → size_at at (drop at s) ≡ Ok None → records_from (length s - n) at (drop at s) ≡ Ok []
-walk_end s n at lt e =
-    let more : length s - n ≡ suc (length s - (n + 1)) = omega arith in
-    rw more (read_step (length s - (n + 1)) at (drop at s) ∙ ap (read_on (record_at (drop at s)) _) e)
+step_on : (s : List ℕ) (n at size : ℕ) → n < length s → size_at at (drop at s) ≡ Ok (Some size) → walk s n at ≡ followed_by (record_at (drop at s)) (walk s (n + 1) (at + size))
+step_on s n at size lt e = rw (size_tells at (drop at s) _ e).is (step s n at _ lt e)
 
-pub walk_on : (s : List ℕ) (n at size : ℕ) → n < length s → size_at at (drop at s) ≡ Ok (Some size)
-    → records_from (length s - n) at (drop at s) ≡ followed_by (record_at (drop at s)) (records_from (length s - (n + 1)) (at + size) (drop (at + size) s))
-walk_on s n at size lt e =
-    let more : length s - n ≡ suc (length s - (n + 1)) = omega arith in
-    let is = size_is at size (drop at s) e in
-    rw (more, ← (further s at size), is.is) (read_step (length s - (n + 1)) at (drop at s) ∙ ap (read_on (record_at (drop at s)) _) e)
+-- Where a walk begins.
+
+-- a slot that is shorter than a home address
+pub short_slot : (s : List ℕ) → length s < 5 → track_of s ≡ Err (NoEnd 0)
+unfolding track_of
+short_slot s short = rw (lt-ltb (length s) 5 short) refl
+
+pub whole_slot : (s : List ℕ) → 5 ≤ length s → records_of s ≡ walk s 0 5
+whole_slot s long = let all : length s - 0 ≡ length s = omega arith in rw (all, le-ltb (length s) 5 long) refl
 
 -- Counting the records.
 
@@ -81,17 +90,31 @@ counts-followed_by : (n : ℕ) (r : Record) (others : Result (List Record) SlotF
 counts-followed_by n r (Ok rs) = ap Ok (omega arith)
 counts-followed_by n r (Err fault) = refl
 
-number_on : (ha : List ℕ) (rs : Result (List Record) SlotFault) → number_of_records (behind_home_address ha rs) ≡ counts 0 rs
+number_on : (ha : List ℕ) (rs : Result (List Record) SlotFault) → counts 0 rs ≡ number_of_records (behind_home_address ha rs)
 number_on ha (Ok rs) = ap Ok (omega arith)
 number_on ha (Err fault) = refl
 
-pub number_is : (s : List ℕ) → number_of_records (track_of s) ≡ counts 0 (records_of s)
+pub count_from : (s : List ℕ) → 5 ≤ length s → counts 0 (walk s 0 5) ≡ number_of_records (track_of s)
 unfolding track_of
-number_is s = number_on (take 5 s) (records_of s)
+count_from s long = rw (← (whole_slot s long)) (number_on (take 5 s) (records_of s))
 
-pub count_on : (s : List ℕ) (n at size : ℕ) → n < length s → size_at at (drop at s) ≡ Ok (Some size)
-    → counts n (records_from (length s - n) at (drop at s)) ≡ counts (n + 1) (records_from (length s - (n + 1)) (at + size) (drop (at + size) s))
-count_on s n at size lt e = ap (counts n) (walk_on s n at size lt e) ∙ counts-followed_by n _ _
+pub count_on : (s : List ℕ) (n at size : ℕ) → n < length s → size_at at (drop at s) ≡ Ok (Some size) → counts n (walk s n at) ≡ counts (n + 1) (walk s (n + 1) (at + size))
+count_on s n at size lt e = ap (counts n) (step_on s n at size lt e) ∙ counts-followed_by n _ _
+
+pub count_stops : (s : List ℕ) (n at : ℕ) → n < length s → size_at at (drop at s) ≡ Ok None → counts n (walk s n at) ≡ Ok n
+count_stops s n at lt e = ap (counts n) (step s n at _ lt e) ∙ ap Ok (omega arith)
+
+pub count_fails : (s : List ℕ) (n at : ℕ) (fault : SlotFault) → n < length s → size_at at (drop at s) ≡ Err fault → counts n (walk s n at) ≡ Err fault
+count_fails s n at fault lt e = ap (counts n) (step s n at _ lt e)
+
+pub short_number : (s : List ℕ) → length s < 5 → number_of_records (track_of s) ≡ Err (NoEnd 0)
+short_number s short = ap number_of_records (short_slot s short)
+
+pub size_within : (s : List ℕ) (at size : ℕ) → at ≤ length s → size_at at (drop at s) ≡ Ok (Some size) → (size_at at (drop at s) ≡ Ok (Some size)) × (8 ≤ size) × (at + size ≤ length s)
+size_within s at size le e = let t = size_tells at (drop at s) _ e in (e, omega (arith, t.is), omega (arith, t.fits, length-drop at s))
+
+-- what a walk that counts the records asks
+pub ruleset counting = (short_number, size_within, count_from, count_on, count_stops, count_fails)
 
 -- Noting the offsets.
 
@@ -105,61 +128,22 @@ noted-followed_by : (so_far : List ℕ) (at : ℕ) (r : Record) (others : Result
 noted-followed_by so_far at r (Ok rs) = ap Ok (sym (append_assoc so_far (at ∷ []) _))
 noted-followed_by so_far at r (Err fault) = refl
 
-offsets_are : (ha : List ℕ) (rs : Result (List Record) SlotFault) → offsets_on (behind_home_address ha rs) ≡ noted [] 5 rs
+offsets_are : (ha : List ℕ) (rs : Result (List Record) SlotFault) → noted [] 5 rs ≡ offsets_on (behind_home_address ha rs)
 offsets_are ha (Ok rs) = refl
 offsets_are ha (Err fault) = refl
 
-pub offsets_is : (s : List ℕ) → offsets_of s ≡ noted [] 5 (records_of s)
+pub note_from : (s : List ℕ) → 5 ≤ length s → noted [] 5 (walk s 0 5) ≡ offsets_of s
 unfolding track_of
-offsets_is s = offsets_are (take 5 s) (records_of s)
+note_from s long = rw (← (whole_slot s long)) (offsets_are (take 5 s) (records_of s))
 
 pub note_on : (s so_far : List ℕ) (n at size : ℕ) → n < length s → size_at at (drop at s) ≡ Ok (Some size)
-    → noted so_far at (records_from (length s - n) at (drop at s)) ≡ noted (so_far ++ at ∷ []) (at + size) (records_from (length s - (n + 1)) (at + size) (drop (at + size) s))
+    → noted so_far at (walk s n at) ≡ noted (so_far ++ at ∷ []) (at + size) (walk s (n + 1) (at + size))
 note_on s so_far n at size lt e =
-    let is = size_of_record_at size (drop at s) (size_is at size (drop at s) e) in
-    ap (noted so_far at) (walk_on s n at size lt e) ∙ rw (← is) (noted-followed_by so_far at (record_at (drop at s)) _)
+    let is = size_of_record_at size (drop at s) (size_tells at (drop at s) _ e) in
+    ap (noted so_far at) (step_on s n at size lt e) ∙ rw (← is) (noted-followed_by so_far at (record_at (drop at s)) _)
 
--- Where a walk begins.
+pub note_stops : (s so_far : List ℕ) (n at : ℕ) → n < length s → size_at at (drop at s) ≡ Ok None → noted so_far at (walk s n at) ≡ Ok so_far
+note_stops s so_far n at lt e = ap (noted so_far at) (step s n at _ lt e) ∙ ap Ok (append-nil so_far)
 
-short_by : (short : Bool) (ha : List ℕ) (rs : Result (List Record) SlotFault) → short ≡ true → behind_home_address ha (if short then Err (NoEnd 0) else rs) ≡ Err (NoEnd 0)
-short_by true ha rs is = refl
-short_by false ha rs is = absurd cc
-
--- a slot that is shorter than a home address
-pub short_slot : (s : List ℕ) → length s < 5 → track_of s ≡ Err (NoEnd 0)
-unfolding track_of
-short_slot s short = short_by (nat_lt (length s) 5) (take 5 s) _ (grind (arith, nat_tests))
-
-whole_by : (short : Bool) (rs : Result (List Record) SlotFault) → short ≡ false → (if short then Err (NoEnd 0) else rs) ≡ rs
-whole_by true rs is = absurd cc
-whole_by false rs is = refl
-
-pub whole_slot : (s : List ℕ) → 5 ≤ length s → records_of s ≡ records_from (length s) 5 (drop 5 s)
-whole_slot s long = whole_by (nat_lt (length s) 5) _ (grind (arith, nat_tests))
-
-pub count_from : (s : List ℕ) → 5 ≤ length s → counts 0 (records_from (length s - 0) 5 (drop 5 s)) ≡ number_of_records (track_of s)
-count_from s long =
-    let none : length s - 0 ≡ length s = omega arith in
-    rw none (sym (number_is s ∙ ap (counts 0) (whole_slot s long)))
-
-pub note_from : (s : List ℕ) → 5 ≤ length s → noted [] 5 (records_from (length s - 0) 5 (drop 5 s)) ≡ offsets_of s
-note_from s long =
-    let none : length s - 0 ≡ length s = omega arith in
-    rw none (sym (offsets_is s ∙ ap (noted [] 5) (whole_slot s long)))
-
--- What a count is at the end of a walk.
-
-pub counted_fault : (s : List ℕ) (n at : ℕ) (fault : SlotFault) (all : Result ℕ SlotFault) → n < length s → size_at at (drop at s) ≡ Err fault
-    → counts n (records_from (length s - n) at (drop at s)) ≡ all → Err fault ≡ all
-counted_fault s n at fault all lt e rest = sym (ap (counts n) (walk_fault s n at fault lt e)) ∙ rest
-
-pub counted_all : (s : List ℕ) (n at : ℕ) (all : Result ℕ SlotFault) → n < length s → size_at at (drop at s) ≡ Ok None
-    → counts n (records_from (length s - n) at (drop at s)) ≡ all → Ok n ≡ all
-counted_all s n at all lt e rest =
-    let none : n + 0 ≡ n = omega arith in
-    rw none at (sym (ap (counts n) (walk_end s n at lt e)) ∙ rest)
-
--- What is noted at the end of a walk.
-pub noted_all : (s so_far : List ℕ) (n at : ℕ) (all : Result (List ℕ) SlotFault) → n < length s → size_at at (drop at s) ≡ Ok None
-    → noted so_far at (records_from (length s - n) at (drop at s)) ≡ all → all ≡ Ok so_far
-noted_all s so_far n at all lt e rest = sym (sym (ap (noted so_far at) (walk_end s n at lt e)) ∙ rest) ∙ ap Ok (append-nil so_far)
+-- and one that notes their offsets
+pub ruleset noting = (note_from, note_on, note_stops)

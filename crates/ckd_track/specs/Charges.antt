@@ -25,6 +25,7 @@ last_charge_of model kl dl = kl + dl + key_overhead_of model kl
 abbrev pub r0_charge_of : DriveModel → ℕ → ℕ → ℕ
 r0_charge_of model kl dl = charge_of model kl dl - charge_of model 0 8
 
+-- what a record takes by the lengths of its areas, where others follow it
 abbrev pub record_charge : DriveModel → Record → ℕ
 record_charge model r = charge_of model (length r.key_area) (length r.data_area)
 

@@ -17,6 +17,7 @@ pub record Track : Type 0 where
 
 -- How a track is spelled.
 
+-- what stands behind the last record: eight bytes FF
 abbrev pub end_mark : List ℕ
 end_mark = replicate 8 255
 
@@ -28,6 +29,7 @@ count_area r = r.id ++ length r.key_area ∷ length r.data_area / 256 ∷ length
 abbrev pub record_bytes : Record → List ℕ
 record_bytes r = count_area r ++ r.key_area ++ r.data_area
 
+-- the bytes of a track: its home address, its records, and the end mark
 abbrev pub spelling : Track → List ℕ
 spelling t = t.home_address ++ (flat_map record_bytes t.records ++ end_mark)
 
@@ -35,6 +37,7 @@ spelling t = t.home_address ++ (flat_map record_bytes t.records ++ end_mark)
 unfoldable pub slot_of : ℕ → Track → List ℕ
 slot_of size t = spelling t ++ replicate (size - length (spelling t)) 0
 
+-- a record that a slot can spell: its lengths fit its count bytes, which are not the end mark
 pub record IsRecord (r : Record) : Type 0 where
   pub id : length r.id ≡ 5
   pub key_area : length r.key_area < 256
@@ -59,9 +62,11 @@ pub record RecordsUpTo (slot : List ℕ) (offset : ℕ) : Type 0 where
 
 -- The one track that a slot spells.
 
+-- the key length that count bytes give: the sixth of them
 abbrev pub key_length : List ℕ → ℕ
 key_length bytes = slice_index bytes 5
 
+-- the data length that count bytes give: the last two of the eight, the high byte first
 abbrev pub data_length : List ℕ → ℕ
 data_length bytes = slice_index bytes 6 * 256 + slice_index bytes 7
 
@@ -69,6 +74,7 @@ data_length bytes = slice_index bytes 6 * 256 + slice_index bytes 7
 abbrev pub body_length : List ℕ → ℕ
 body_length bytes = key_length bytes + data_length bytes
 
+-- whether the end mark stands where the bytes begin
 abbrev pub begins_with_end_mark : List ℕ → Bool
 begins_with_end_mark bytes = bytes_eq (take 8 bytes) end_mark
 
@@ -115,6 +121,7 @@ records_from (suc most) at bytes =
 abbrev pub records_of : List ℕ → Result (List Record) SlotFault
 records_of slot = if nat_lt (length slot) 5 then Err (NoEnd 0) else records_from (length slot) 5 (drop 5 slot)
 
+-- the track of a home address and the records that were read behind it, or the same fault
 abbrev pub behind_home_address : List ℕ → Result (List Record) SlotFault → Result Track SlotFault
 behind_home_address ha (Ok rs) = Ok (record { home_address = ha; records = rs })
 behind_home_address ha (Err fault) = Err fault
@@ -133,9 +140,11 @@ no_record = record { id = []; key_area = []; data_area = [] }
 abbrev pub record_in : Track → ℕ → Record
 record_in t i = slice_index_or t.records i no_record
 
+-- what stands in the place of a track that is not there
 abbrev pub no_track : Track
 no_track = record { home_address = []; records = [] }
 
+-- the track that was read, or the one in its place
 abbrev pub track_or_none : Result Track SlotFault → Track
 track_or_none (Ok t) = t
 track_or_none (Err fault) = no_track
@@ -164,6 +173,7 @@ offsets_from at (r ∷ rs) = at ∷ offsets_from (at + record_size r) rs
 abbrev pub record_offsets : Track → List ℕ
 record_offsets t = offsets_from 5 t.records
 
+-- the offsets of the records of a track that was read, or the same fault
 abbrev pub offsets_on : Result Track SlotFault → Result (List ℕ) SlotFault
 offsets_on (Ok t) = Ok (record_offsets t)
 offsets_on (Err fault) = Err fault

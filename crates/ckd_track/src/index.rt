@@ -15,6 +15,7 @@ use crate::walk::{RECORDS_START, record_size_at};
 /// # Errors
 ///
 /// Fails as [`read_slot`](crate::read_slot) does; the table then holds any numbers.
+#[tactic(auto, using(crate::proofs::Reading::counting, crate::proofs::Reading::noting))]
 pub fn index_slot(slot: &[u8], table: &mut [u32]) -> Result<usize, SlotFault>
     requires offsets_fit { length slot.now < 2 ^ 32 }
     requires room { (length slot.now - 5) / 8 ≤ length table.old }

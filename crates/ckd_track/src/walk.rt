@@ -67,6 +67,7 @@ pub fn record_size_at(slot: &[u8], at: usize) -> Result<Option<usize>, SlotFault
 }
 
 /// How many records the slot spells.
+#[tactic(auto, using(crate::proofs::Reading::counting))]
 pub fn count_records(slot: &[u8]) -> Result<usize, SlotFault>
     ensures { result ≡ number_of_records (track_of slot.now) }
 {
@@ -91,6 +92,7 @@ fn record_size(slot: &[u8], at: usize) -> usize
 }
 
 /// Where record `i` begins.
+#[tactic(auto, using(crate::proofs::Offsets::walking))]
 pub fn offset_of(slot: &[u8], i: usize) -> usize
     requires { i < length (track_in slot.now).records }
     ensures { result ≡ slice_index (record_offsets (track_in slot.now)) i }

@@ -32,6 +32,7 @@ fn clear(slot: &mut [u8], at: usize, n: usize)
 ///
 /// From `zeros_from` on, or from behind the end mark on where that is later, all bytes of the slot are zero before, so that
 /// only what stands before is cleared. Of a slot of which no more is known that is its length.
+#[tactic(auto, using(crate::proofs::Zeros::ends_up_to_zeros))]
 pub fn put_end_mark(slot: &mut [u8], at: usize, zeros_from: usize)
     requires room { at + 8 ≤ length slot.old }
     requires zeros { IsZeroFrom slot.old (max zeros_from (at + 8)) }
@@ -93,6 +94,7 @@ pub fn end_offset_of(slot: &[u8]) -> usize
 }
 
 // Where record `i` begins; the slot holds all of it, and an end mark behind it.
+#[tactic(auto, using(crate::proofs::Offsets::record_within))]
 fn record_place(slot: &[u8], i: usize) -> usize
     requires { i < length (track_in slot.now).records }
     ensures place { result ≡ slice_index (record_offsets (track_in slot.now)) i }

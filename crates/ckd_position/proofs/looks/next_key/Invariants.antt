@@ -1,3 +1,4 @@
+-- The look goes on over records without a key.
 use Rattle.std.proofs.Common.{◌≡◌}
 use Rattle.ckd_position.specs.Looks.{next_key_from}
 use Rattle.ckd_position.proofs.looks.next_key.Given as goal

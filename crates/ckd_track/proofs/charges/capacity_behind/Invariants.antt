@@ -1,3 +1,4 @@
+-- What the records so far leave of the capacity.
 use Rattle.std.proofs.Common.{◌≡◌, ◌+◌, take}
 use Rattle.ckd_track.specs.Model.{capacity_of}
 use Rattle.ckd_track.specs.Charges.{kept_charges}

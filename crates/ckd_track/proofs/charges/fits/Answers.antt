@@ -1,3 +1,4 @@
+-- What fits the capacity has room in its slot, and is no end mark.
 use Rattle.std.proofs.Common.{◌≡◌, ◌∙◌, ◌+◌, sym, true, Some, length, length-take, take, arith}
 use Rattle.ckd_track.specs.Changes.{kept_records}
 use Rattle.ckd_track.specs.Charges.{has_room}

@@ -1,3 +1,4 @@
+-- The charges of the records so far, up to the greatest number.
 use Rattle.std.proofs.Common.{◌≡◌, ◌-◌, ◌^◌, min, take}
 use Rattle.ckd_track.specs.Charges.{kept_charges}
 use Rattle.ckd_track.proofs.charges.used.Given as goal

@@ -1,3 +1,4 @@
+-- The records behind the walk are counted and noted with those before it.
 use Rattle.std.proofs.Common.{◌≡◌, ◌≤◌, ◌+◌, ◌-◌, ◌*◌, length, take, drop}
 use Rattle.ckd_track.specs.Track.{records_from, track_of, number_of_records, offsets_of}
 use Rattle.ckd_track.proofs.Reading.{counts, noted}

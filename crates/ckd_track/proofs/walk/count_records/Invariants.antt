@@ -1,3 +1,4 @@
+-- The records behind the walk are counted with those before it.
 use Rattle.std.proofs.Common.{◌≡◌, ◌≤◌, ◌+◌, ◌-◌, ◌*◌, length, drop}
 use Rattle.ckd_track.specs.Track.{records_from, track_of, number_of_records}
 use Rattle.ckd_track.proofs.Reading.{counts}

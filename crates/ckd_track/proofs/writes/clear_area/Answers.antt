@@ -1,3 +1,4 @@
+-- Zeros that are written before the end mark leave those behind it.
 use Rattle.std.proofs.Common.{ℕ, ◌+◌, max, replicate, arith}
 use Rattle.std.proofs.lemmas.List.{length-replicate}
 use Rattle.ckd_track.proofs.Zeros.{zero_over}

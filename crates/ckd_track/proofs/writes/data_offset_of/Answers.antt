@@ -1,19 +1,12 @@
-use Rattle.std.proofs.Common.{arith}
-use Rattle.ckd_track.specs.Track.{track_in}
-use Rattle.ckd_track.proofs.Offsets.{are_bytes}
-use Rattle.ckd_track.proofs.Writing.{whole, has_record, key_at}
+-- The data area stands behind the key area.
+use Rattle.std.proofs.Common.{◌∙◌, arith}
+use Rattle.std.proofs.lemmas.List.{take_rest}
+use Rattle.ckd_track.proofs.Offsets.{parts_in}
 use Rattle.ckd_track.proofs.writes.data_offset_of.Goals as goal
 
-pub returns-clause-place : goal.returns-clause-place
-returns-clause-place c =
+pub returns : goal.returns
+returns c =
     let s = c.args.slot.now in
-    let spells = whole s (are_bytes s c.type_inv.slot) (has_record s c.args.i c.requires) in
-    let key = key_at s (track_in s) spells c.record_place-at.result c.args.i c.key_length.result c.requires c.record_place-at.ensures.place c.key_length.ensures in
-    omega (arith, key, c.record_place-at.ensures.place)
-
-pub returns-clause-room : goal.returns-clause-room
-returns-clause-room c =
-    let s = c.args.slot.now in
-    let spells = whole s (are_bytes s c.type_inv.slot) (has_record s c.args.i c.requires) in
-    let key = key_at s (track_in s) spells c.record_place-at.result c.args.i c.key_length.result c.requires c.record_place-at.ensures.place c.key_length.ensures in
-    omega (arith, key, c.record_place-at.ensures.room)
+    let at = c.record_place-at.result in
+    let key = rw (take_rest s at) at c.key_length.ensures ∙ (parts_in s c.args.i at c.type_inv.slot c.record_place-at.ensures.place c.requires).key_size in
+    record { place = omega (arith, key, c.record_place-at.ensures.place); room = omega (arith, key, c.record_place-at.ensures.room) }

@@ -1,3 +1,4 @@
+-- The walk stands where a record begins, or at the end mark.
 use Rattle.std.proofs.Common.{◌≡◌, ◌≤◌, ◌+◌, ◌-◌, ℕ, length}
 use Rattle.ckd_track.specs.Track.{track_in}
 use Rattle.ckd_track.proofs.Places.{place}

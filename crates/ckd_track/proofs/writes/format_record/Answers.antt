@@ -1,3 +1,4 @@
+-- A count area and the zeros behind it leave the zeros behind the end mark.
 use Rattle.std.proofs.Common.{ℕ, ◌+◌, ◌≤◌, ◌≡◌, max, length, replicate, arith, rules}
 use Rattle.std.proofs.lemmas.List.{length-replicate}
 use Rattle.ckd_track.proofs.Zeros.{zero_over}

@@ -1,23 +1,18 @@
+-- Other bytes in the data area of a record.
 use Rattle.std.proofs.Common.{◌∙◌, ap, arith, rules}
 use Rattle.ckd_track.specs.Track.{track_of, track_in}
-use Rattle.ckd_track.proofs.Offsets.{are_bytes}
-use Rattle.ckd_track.proofs.Writing.{whole, has_record, record-before, data_slot, data_read}
+use Rattle.ckd_track.proofs.Offsets.{with_record}
+use Rattle.ckd_track.proofs.Writing.{record-before, data_slot, data_read}
 use Rattle.ckd_track.proofs.writes.put_data.Goals as goal
 
 pub rewrite-requires-clause-within : goal.rewrite-requires-clause-within
 rewrite-requires-clause-within c =
     let s = c.args.slot.now in
-    let spells = whole s (are_bytes s (search rules)) (has_record s c.args.i c.requires.place) in
-    omega (arith, c.data_offset_of-at.ensures.place, c.requires.area, record-before s (track_in s) spells c.args.i c.requires.place)
+    omega (arith, c.data_offset_of-at.ensures.place, c.requires.area, record-before s (track_in s) (with_record s (search rules) c.args.i c.requires.place) c.args.i c.requires.place)
 
-pub returns-clause-slot : goal.returns-clause-slot
-returns-clause-slot c =
+pub returns : goal.returns
+returns c =
     let s = c.args.slot.now in
-    let spells = whole s (are_bytes s (search rules)) (has_record s c.args.i c.requires.place) in
-    rw (c.rewrite.ensures, c.data_offset_of-at.ensures.place) (data_slot s (track_in s) spells c.args.i c.requires.place c.args.body.now c.requires.area)
-
-pub returns-clause-read : goal.returns-clause-read
-returns-clause-read c =
-    let s = c.args.slot.now in
-    let spells = whole s (are_bytes s (search rules)) (has_record s c.args.i c.requires.place) in
-    ap track_of (returns-clause-slot c) ∙ data_read s (track_in s) spells c.args.i c.requires.place c.args.body.now c.requires.area
+    let spells = with_record s (search rules) c.args.i c.requires.place in
+    let slot = rw (← c.data_offset_of-at.ensures.place, ← c.rewrite.ensures) at (data_slot s (track_in s) spells c.args.i c.requires.place c.args.body.now c.requires.area) in
+    record { slot = slot; read = ap track_of slot ∙ data_read s (track_in s) spells c.args.i c.requires.place c.args.body.now c.requires.area }

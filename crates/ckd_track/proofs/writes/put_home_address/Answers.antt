@@ -1,3 +1,4 @@
+-- A home address leaves the zeros behind the end mark.
 use Rattle.std.proofs.Common.{max, arith}
 use Rattle.ckd_track.proofs.Zeros.{zero_over}
 use Rattle.ckd_track.proofs.writes.put_home_address.Goals as goal

@@ -1,3 +1,4 @@
+-- What is cleared first and then written is written.
 use Rattle.ckd_track.proofs.Zeros.{cleared_first}
 use Rattle.ckd_track.specs.Track.{track_in}
 use Rattle.ckd_track.specs.Changes.{end_offset}

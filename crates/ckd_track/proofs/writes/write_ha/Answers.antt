@@ -1,10 +1,13 @@
+-- A home address alone.
 use Rattle.std.proofs.Common.{◌∙◌, ap, length, rules}
-use Rattle.ckd_track.specs.Track.{track_of}
-use Rattle.ckd_track.proofs.Writing.{ha_slot, ha_read}
+use Rattle.std.proofs.lemmas.List.Elements.{All-nil}
+use Rattle.ckd_track.specs.Track.{IsRecord, track_of}
+use Rattle.ckd_track.specs.Changes.{bare_track}
+use Rattle.ckd_track.proofs.Slots.{slot_of_reads}
+use Rattle.ckd_track.proofs.Writing.{ha_slot}
 use Rattle.ckd_track.proofs.writes.write_ha.Goals as goal
 
-pub returns-clause-slot : goal.returns-clause-slot
-returns-clause-slot c = rw c.put_home_address.ensures (ha_slot c.args.slot.now c.args.ha (search rules) c.requires)
-
-pub returns-clause-read : goal.returns-clause-read
-returns-clause-read c = ap track_of (returns-clause-slot c) ∙ ha_read (length c.args.slot.now) c.args.ha (search rules)
+pub returns : goal.returns
+returns c =
+    let slot = rw (← c.put_home_address.ensures) at (ha_slot c.args.slot.now c.args.ha (search rules) c.requires) in
+    record { slot = slot; read = ap track_of slot ∙ slot_of_reads (length c.args.slot.now) (bare_track c.args.ha) (search rules) (All-nil IsRecord) }

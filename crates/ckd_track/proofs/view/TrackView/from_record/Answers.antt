@@ -1,3 +1,4 @@
+-- The bytes at a record's offset begin with it.
 use Rattle.std.proofs.Common.{rules}
 use Rattle.std.proofs.lemmas.List.{take_rest}
 use Rattle.ckd_track.proofs.Offsets.{begins_in}

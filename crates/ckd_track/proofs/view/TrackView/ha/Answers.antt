@@ -1,3 +1,4 @@
+-- The slot begins with the home address.
 use Rattle.std.proofs.Common.{◌∙◌, ap}
 use Rattle.ckd_track.specs.Track.{Track, track_in}
 use Rattle.ckd_track.proofs.Offsets.{home_is}

@@ -1,3 +1,4 @@
+-- A view's table has an offset for each record.
 use Rattle.std.proofs.Common.{rules, ◌≡◌, ap, ◌<◌, ◌*◌, ◌^◌, length, arith}
 use Rattle.ckd_track.specs.Track.{Track, track_in}
 use Rattle.ckd_track.proofs.Offsets.{table_is, few_records, length-offsets_from}
