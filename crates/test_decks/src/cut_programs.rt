@@ -1,4 +1,9 @@
-//! Programs that are halted, or reset, behind each of their units.
+//! Channel programs that are cut behind each of their units, with other events between the units; each list of events
+//! is compared with its serial list at a fresh channel.
+//!
+//! The text has decks, with an empty line between, each of which stores a program. For the programs that were halted,
+//! and for those that were lost in a reset, it is printed how many lists were tried, and how many did the same as their
+//! serial lists.
 
 ghost use Rattle.std.specs.Prelude.{◌≡◌, ◌+◌, ◌-◌, ◌^◌, min};
 
@@ -7,7 +12,9 @@ use s360_deck::{Answer, Event, drive, parse};
 use std::alloc::Global;
 use std::fmt;
 use test_rows::Tally;
-use test_watched_channels::{Comparison, Disk, Failure, Watch, channel_over, compare_lists};
+use test_watched_channels::{
+    Comparison, Disk, Failure, Watch, channel_over, compare_lists, test_disks,
+};
 
 /// The address whose programs are cut.
 const DEVICE: u16 = 0x190;
@@ -22,9 +29,9 @@ const MOST_UNITS: u16 = 250;
 const BEFORE: &[u8] =
     b"STORE 48 000003F8\nSTORE 3F8 1300000000000001\nSIO 191\nSTORE 48 00000400\n";
 
-/// How a program is cut.
+// How a program is cut.
 #[derive(Clone, Copy, PartialEq, Eq)]
-pub(crate) enum Cut {
+enum Cut {
     Halt,
     Reset,
 }
@@ -38,13 +45,33 @@ impl fmt::Display for Cut {
     }
 }
 
-/// Cuts the program of a deck behind each of its units.
-pub(crate) fn cut_at_each_unit(
-    alloc: Global,
-    disks: &[Disk],
-    deck: &str,
-    cut: Cut,
-) -> Result<Tally> {
+/// Cuts the program of each deck of this text.
+pub(crate) fn play(rt: &HostRuntime, text: &str) -> Result<()> {
+    for cut in [Cut::Halt, Cut::Reset] {
+        let tally = cut_programs(rt, text, cut)?;
+        println!(rt; "programs {cut} behind each unit: {tally} as their serial lists")?;
+    }
+    Ok(())
+}
+
+// Cuts the program of each deck behind each of its units.
+fn cut_programs(rt: &HostRuntime, text: &str, cut: Cut) -> Result<Tally> {
+    let alloc = rt.alloc();
+    let disks = test_disks(alloc, 2)?;
+    let mut all = Tally::NONE;
+    for deck in text.split("\n\n") {
+        let tally = cut_at_each_unit(alloc, disks.as_slice(), deck, cut)?;
+        if tally.right < tally.tried {
+            println!(rt; "{deck}")?;
+            println!(rt; "{cut}: {tally}")?;
+        }
+        all = sum_of(all, tally);
+    }
+    Ok(all)
+}
+
+// Cuts the program of a deck behind each of its units.
+fn cut_at_each_unit(alloc: Global, disks: &[Disk], deck: &str, cut: Cut) -> Result<Tally> {
     let before = begun(alloc, deck)?;
     let mut tally = Tally::NONE;
     for units in 1..units_of(alloc, disks, before.as_slice())?.saturating_add(1) {
@@ -103,8 +130,8 @@ fn cut_behind(alloc: Global, before: &[Event], units: u16, cut: Cut) -> Result<V
     Ok(events)
 }
 
-/// Of two tallies, what was tried for both, and what came out right.
-pub(crate) fn sum_of(one: Tally, other: Tally) -> Tally
+// Of two tallies, what was tried for both, and what came out right.
+fn sum_of(one: Tally, other: Tally) -> Tally
     ensures tried { result.tried ≡ min (one.tried + other.tried) (2 ^ 32 - 1) }
     ensures right { result.right ≡ min (one.right + other.right) (2 ^ 32 - 1) }
 {

@@ -1,9 +1,10 @@
-//! Rows of traces: a deck over volumes in memory, and the lines that `trace_lines` writes of it, worked out by hand from the
-//! Principles of Operation and the component descriptions of the 2841 and the 2314.
+//! Rows of traces: a deck over volumes in memory, and the lines that `trace_lines` writes of it, worked out by hand
+//! from the Principles of Operation and the component descriptions of the 2841 and the 2314.
 //!
-//! The input has blocks, with an empty line between. The first, which begins as `volume 2311 2`, says what the volumes of the rows
-//! hold: `track 0 21 C1*80` puts bytes into the slot of a track, from a place on. The drives 190 and 191 have such a volume
-//! each. Each other block is a row. Its first line is its name, and the others are these; any other line is a remark.
+//! The text has blocks, with an empty line between. The first, which begins as `volume 2311 2`, says what the volumes
+//! of the rows hold: `track 0 21 C1*80` puts bytes into the slot of a track, from a place on. The drives 190 and 191
+//! have such a volume each. Each other block is a row. Its first line is its name, and the others are these; any other
+//! line is a remark.
 //!
 //! | Line | Means |
 //! |---|---|
@@ -12,16 +13,16 @@
 //! | `> SIO 190` | a line of the deck |
 //! | `\| SIO 190 CC 0, started` | a line of the trace |
 //!
-//! For each row its name is printed, with how many lines its trace has; or with the trace that it must have, and the one that came.
-#![tactic(auto)]
+//! For each row its name is printed, with how many lines its trace has; or with the trace that it must have, and the
+//! one that came.
 
+use crate::channels::{attach, channel_without_drives};
 use anyhow::{Result, bail};
+use ckd_image::Image;
 use counted_io::Counted;
 use s360_channel::Channel;
 use s360_deck::run_watched;
-use s360_words::Storage;
 use std::alloc::Global;
-use std::io;
 use test_rows::{RowStore, failure_of, files_of};
 use trace_lines::Tracer;
 
@@ -31,20 +32,19 @@ const STORAGE: u32 = 65_536;
 /// The drives, by the low bytes of their addresses.
 const DRIVES: [u8; 2] = [0x90, 0x91];
 
-fn main(rt: HostRuntime) -> Result<()> {
-    let alloc = rt.alloc();
-    let text = io::read_to_string(alloc, rt.reader())?;
-    let Some((volume, rows)) = text.as_str().split_once("\n\n") else {
+/// Plays the rows of this text.
+pub(crate) fn play(rt: &HostRuntime, text: &str) -> Result<()> {
+    let Some((volume, rows)) = text.split_once("\n\n") else {
         bail!("no volume");
     };
     for row in rows.split("\n\n") {
-        play(&rt, volume, row)?;
+        play_row(rt, volume, row)?;
     }
     Ok(())
 }
 
 // Plays a row, and prints what came of it.
-fn play(rt: &HostRuntime, volume: &str, row: &str) -> Result<()> {
+fn play_row(rt: &HostRuntime, volume: &str, row: &str) -> Result<()> {
     let alloc = rt.alloc();
     let name = row.lines().next().unwrap_or("");
     let wanted = lines_behind(alloc, row, "| ")?;
@@ -94,31 +94,19 @@ fn trace_of(alloc: Global, volume: &str, row: &str) -> Result<String> {
 
 // Channel 1, with a volume for each drive.
 fn channel_of(alloc: Global, volume: &str, row: &str) -> Result<Channel<RowStore>> {
-    let mut channel = match Channel::new(1, Storage::new(alloc, STORAGE)?) {
-        Ok(channel) => channel,
-        Err((fault, _)) => bail!("{fault}"),
-    };
+    let mut channel = channel_without_drives(alloc, STORAGE)?;
     for device in DRIVES {
-        attach(alloc, &mut channel, device, volume, row)?;
+        let image = mounted(alloc, volume, row)?;
+        attach(alloc, &mut channel, device, image)?;
     }
     Ok(channel)
 }
 
-// Attaches a drive with a volume.
-fn attach(
-    alloc: Global,
-    channel: &mut Channel<RowStore>,
-    device: u8,
-    volume: &str,
-    row: &str,
-) -> Result<()> {
+// A row's volume.
+fn mounted(alloc: Global, volume: &str, row: &str) -> Result<Image<RowStore>> {
     let files = files_of(alloc, volume, row, &["track "])?;
-    let image = match files.mount(failure_of(alloc, row)?) {
-        Ok(image) => image,
-        Err((fault, _)) => bail!("{fault}"),
-    };
-    match channel.attach(alloc, device, image) {
-        Ok(()) => Ok(()),
+    match files.mount(failure_of(alloc, row)?) {
+        Ok(image) => Ok(image),
         Err((fault, _)) => bail!("{fault}"),
     }
 }

@@ -1,14 +1,6 @@
-//! Hostile decks: a good deck, which is the input, with lines cut at every byte; readers that give little, fail or never end; writers
-//! that fail behind every byte, and whose flush fails; texts at the limits; and lists of thousands of events. For each suite it is printed how many cases were tried, and how many came
-//! out as they must.
-#![tactic(auto)]
-
-mod cuts;
-mod ends;
-mod limits;
-mod long_lists;
-mod stage;
-mod streams;
+//! Hostile decks: a good deck, which is the text, with lines cut at every byte; readers that give little, fail or never
+//! end; writers that fail behind every byte, and whose flush fails; texts at the limits; and lists of thousands of
+//! events. For each of these it is printed how many cases were tried, and how many came out as they must.
 
 use crate::cuts::cut_lines;
 use crate::limits::try_limits;
@@ -18,15 +10,13 @@ use crate::streams::{
     fail_flushes, fail_reads, fail_writes, read_endlessly, read_in_pieces, write_in_pieces,
 };
 use anyhow::Result;
-use std::io;
 use test_rows::Tally;
 
-fn main(rt: HostRuntime) -> Result<()> {
-    let alloc = rt.alloc();
-    let deck = io::read_to_string(alloc, rt.reader())?;
-    let file = new_file(alloc)?;
-    tell_cuts(&rt, file.as_slice(), deck.as_str())?;
-    tell_ends(&rt, file.as_slice(), deck.as_bytes())
+/// Tries all of these with this deck.
+pub(crate) fn play(rt: &HostRuntime, deck: &str) -> Result<()> {
+    let file = new_file(rt.alloc())?;
+    tell_cuts(rt, file.as_slice(), deck)?;
+    tell_ends(rt, file.as_slice(), deck.as_bytes())
 }
 
 fn tell_cuts(rt: &HostRuntime, file: &[u8], deck: &str) -> Result<()> {

@@ -1,28 +1,12 @@
-//! Explanations of numbers. Each line of the input is a kind and the digits of a number; it is printed again, and behind it what
-//! each line of its explanation names: the text before its colon.
-#![tactic(auto)]
+//! Explanations of channel status words, sense bytes and channel command words.
 
 use anyhow::Result;
 use s360_explain::{Lines, of_ccw, of_csw, of_ending, of_sense, of_status};
 use s360_words::{Ccw, Csw};
 
-fn main(rt: HostRuntime) -> Result<()> {
-    for line in rt.lines(rt.alloc()) {
-        let line = line?;
-        let Some((kind, digits)) = line.as_str().split_once(' ') else {
-            println!(rt; "no row")?;
-            continue;
-        };
-        let bytes = hex::decode(rt.alloc(), digits)?;
-        print!(rt; "{kind} {digits}")?;
-        print_names(&rt, &lines_of(kind, bytes.as_slice()))?;
-    }
-    Ok(())
-}
-
-// Prints what each line names.
-fn print_names(rt: &HostRuntime, lines: &Lines) -> Result<()> {
-    for line in lines.as_slice() {
+/// Prints what each line of the explanation of a number of this kind names: the text before its colon.
+pub(crate) fn print(rt: &(impl Print + AllocGlobal), kind: &str, bytes: &[u8]) -> Result<()> {
+    for line in lines_of(kind, bytes).as_slice() {
         let text = format!(in rt.alloc(); "{line}")?;
         let name = text.as_str().split(':').next().unwrap_or("");
         print!(rt; "; {}", name.trim())?;

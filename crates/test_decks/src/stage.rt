@@ -1,12 +1,12 @@
 //! A channel over a new volume, and what a deck does to it.
 
+use crate::channels::{attach, channel_without_drives};
 use crate::ends::Room;
 use anyhow::{Result, bail};
 use ckd_image::{Image, MemoryStore};
 use ckd_track::{DriveModel, Geometry};
 use s360_channel::{Channel, View};
 use s360_deck::{RunFault, run};
-use s360_words::Storage;
 use std::alloc::Global;
 use std::io::Read;
 use test_rows::new_volume;
@@ -65,18 +65,9 @@ impl Came {
 /// A channel with a drive over a copy of this file.
 pub(crate) fn new_channel(alloc: Global, file: &[u8]) -> Result<Channel<MemoryStore>> {
     let image = mounted(alloc, file)?;
-    let mut channel = channel_without_drives(alloc)?;
-    match channel.attach(alloc, 0x90, image) {
-        Ok(()) => Ok(channel),
-        Err((fault, _)) => bail!("{fault}"),
-    }
-}
-
-fn channel_without_drives(alloc: Global) -> Result<Channel<MemoryStore>> {
-    match Channel::new(1, Storage::new(alloc, STORAGE)?) {
-        Ok(channel) => Ok(channel),
-        Err((fault, _)) => bail!("{fault}"),
-    }
+    let mut channel = channel_without_drives(alloc, STORAGE)?;
+    attach(alloc, &mut channel, 0x90, image)?;
+    Ok(channel)
 }
 
 fn mounted(alloc: Global, file: &[u8]) -> Result<Image<MemoryStore>> {
