@@ -1,4 +1,5 @@
 use Rattle.std.proofs.Common.{◌≡◌, ℕ, ◌+◌, ◌*◌, List, Option, Some, sym, subst, ap, Bool, ◌∙◌}
+use Rattle.std.proofs.lemmas.Option.{slice_get_within}
 use Rattle.std.specs.Prelude.{option_map, slice_get}
 use Rattle.s360_words.specs.declared.words.Csw.{Csw}
 use Rattle.s360_program.specs.Stands.{RunningState, Stands}
@@ -7,7 +8,7 @@ use Rattle.s360_channel.specs.Ends.{MayBeCut, LosesProgram, IsLost}
 use Rattle.s360_channel.specs.DriveCalls.{DriveChanges, DriveIs, CutsAt}
 use Rattle.s360_channel.specs.declared.subchannel.Subchannel.{Subchannel}
 use Rattle.s360_channel.specs.declared.subchannel.Subchannel.TheVariants.{Working}
-use Rattle.s360_channel.proofs.Places.{inside, is_within}
+use Rattle.s360_channel.proofs.Places.{inside}
 use Rattle.s360_channel.proofs.ending.lose_program.Goals as goal
 
 there : (s : Subchannel) (place : ℕ) (r : RunningState) (drives : List AttachedState) → s ≡ Working place r → MayBeCut s drives → DriveIs place (Stands r) drives
@@ -27,7 +28,7 @@ lost place r number device old new told unsaved d is cut tells = record {
 pub device-device-requires : goal.device-device-requires
 device-device-requires g c =
     let d = there c.args.subchannel.now c.in-Working.place c.in-Working.running c.args.drives.now (sym c.replace.ensures.value ∙ c.in-Working.is) c.requires in
-    is_within c.args.drives.now c.in-Working.place d.attached d.is_there
+    slice_get_within c.args.drives.now c.in-Working.place d.attached d.is_there
 
 pub returns-in-Working-clause-lost : goal.returns-in-Working-clause-lost
 returns-in-Working-clause-lost g c =

@@ -3,7 +3,6 @@ use Rattle.s360_laws.specs.Events.{Arrive, HasArrived}
 use Rattle.s360_channel.specs.Channel.{ChannelState, AttachedState}
 use Rattle.s360_channel.specs.Nexts.{of_parts}
 use Rattle.s360_channel.proofs.Asked.{stays, does_whole}
-use Rattle.s360_channel.proofs.Parts.{last_fits}
 use Rattle.s360_channel.proofs.channel.Channel.arrive.Goals as goal
 
 pub invariant_of-self : goal.invariant_of-self
@@ -14,6 +13,3 @@ returns-clause-does g c = does_whole (Arrive c.args.address) (HasArrived c.arriv
 
 pub returns-clause-calls : goal.returns-clause-calls
 returns-clause-calls g c = c.arrive.ensures.images ∙ ap (λ (o : ChannelState). map (λ (u : AttachedState). u.drive.image) o.drives) c.self.view_is
-
-pub arrive-requires : goal.arrive-requires
-arrive-requires g c = search (last_fits)

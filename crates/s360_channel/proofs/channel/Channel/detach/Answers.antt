@@ -1,13 +1,13 @@
 use Rattle.std.proofs.Common.{sym, subst}
 use Rattle.s360_channel.specs.Channel.{ChannelState, StandsFor}
 use Rattle.s360_channel.specs.Packs.{Detaches, IsFree, without_device}
-use Rattle.s360_channel.proofs.Removing.{detaches, may_go}
+use Rattle.s360_channel.proofs.Removing.{detaches, rests_free}
 use Rattle.s360_channel.proofs.channel.Channel.detach.Goals as goal
 
 pub remove-requires : goal.remove-requires
 remove-requires g c =
     let this : ChannelState = record { number = c.self.inside.number; storage = c.self.inside.storage; subchannel = c.self.inside.subchannel; drives = c.self.inside.drives } in
-    may_go this c.self.invariant.machine c.self.invariant.stands c.args.device c.in_ok-place.place (subst (IsFree c.args.device c.in_ok-place.place) (sym c.self.view_is) c.in_ok-place.ensures.free)
+    rests_free this c.self.invariant.machine c.self.invariant.stands c.args.device c.in_ok-place.place (subst (IsFree c.args.device c.in_ok-place.place) (sym c.self.view_is) c.in_ok-place.ensures.free)
 
 pub invariant_of-self : goal.invariant_of-self
 invariant_of-self g c =

@@ -2,7 +2,7 @@ use Rattle.std.proofs.Common.{◌∙◌, ap, sym, subst, None}
 use Rattle.std.specs.Prelude.{option_map}
 use Rattle.s360_channel.specs.Channel.{StandsFor, AttachedState, device_of}
 use Rattle.s360_channel.specs.Views.{drive_seen, attached_in}
-use Rattle.s360_channel.proofs.Seen.{shows_drive}
+use Rattle.s360_channel.proofs.Shown.{shows_drive}
 use Rattle.s360_channel.proofs.channel.Channel.drive.Goals as goal
 
 pub returns-in_default-clause-shows : goal.returns-in_default-clause-shows

@@ -1,7 +1,7 @@
 use Rattle.std.proofs.Common.{sym, subst}
 use Rattle.s360_channel.specs.Channel.{ChannelState, StandsFor}
 use Rattle.s360_channel.specs.Shares.{IsAsLarge, finding, with_storage}
-use Rattle.s360_channel.proofs.Finding.{as_large, finds_another}
+use Rattle.s360_channel.proofs.Kept.{as_large, finds_another}
 use Rattle.s360_channel.proofs.channel.Channel.exchange_storage.Goals as goal
 
 pub invariant_of-self : goal.invariant_of-self

@@ -1,5 +1,5 @@
 use Rattle.std.proofs.Common.{◌∙◌, refl, sym, subst}
-use Rattle.s360_laws.specs.declared.arm.Arm.TheVariants.{AtRest, InMotion, Arrived}
+use Rattle.s360_laws.specs.declared.arm.Arm.TheVariants.{InMotion, Arrived}
 use Rattle.s360_channel.specs.Channel.{ChannelState, StandsFor}
 use Rattle.s360_channel.specs.Packs.{IsFree}
 use Rattle.s360_channel.proofs.Removing.{free_at, why_none, why_owes, why_pends, why_runs}
@@ -21,7 +21,7 @@ pub returns-in-AtRest-clause-free : goal.returns-in-AtRest-clause-free
 returns-in-AtRest-clause-free g c =
     let this : ChannelState = record { number = c.self.inside.number; storage = c.self.inside.storage; subchannel = c.self.inside.subchannel; drives = c.self.inside.drives } in
     subst (IsFree c.args.device c.in-Some.place) c.self.view_is
-    (free_at this c.args.device c.in-Some.place AtRest (sym c.in-Some.ensures) (sym c.works_at.ensures ∙ c.if-works_at.false) (sym c.waits_for.ensures ∙ c.if-waits_for.false) c.in-AtRest.ensures refl)
+    (free_at this c.args.device c.in-Some.place (sym c.in-Some.ensures) (sym c.works_at.ensures ∙ c.if-works_at.false) (sym c.waits_for.ensures ∙ c.if-waits_for.false) c.in-AtRest.ensures)
 
 pub returns-in-InMotion-clause-refused : goal.returns-in-InMotion-clause-refused
 returns-in-InMotion-clause-refused g c m h =

@@ -2,7 +2,7 @@ use Rattle.std.proofs.Common.{◌∙◌, ap, sym, subst, None}
 use Rattle.std.specs.Prelude.{option_map}
 use Rattle.s360_channel.specs.Channel.{StandsFor, AttachedState}
 use Rattle.s360_channel.specs.Views.{attached_in}
-use Rattle.s360_channel.proofs.Seen.{lends_volume, shows_volume}
+use Rattle.s360_channel.proofs.Shown.{lends_volume, shows_volume}
 use Rattle.s360_channel.proofs.channel.Channel.image.Goals as goal
 
 pub returns-in_default-clause-shows : goal.returns-in_default-clause-shows

@@ -1,7 +1,7 @@
 use Rattle.std.proofs.Common.{◌∙◌, ap, sym, subst}
 use Rattle.std.specs.Prelude.{is_some}
 use Rattle.s360_channel.specs.Channel.{StandsFor}
-use Rattle.s360_channel.proofs.Seen.{idle_interrupts, pending_interrupts, working_interrupts}
+use Rattle.s360_channel.proofs.Shown.{idle_interrupts, pending_interrupts, working_interrupts}
 use Rattle.s360_channel.proofs.channel.Channel.is_pending.Goals as goal
 
 pub returns-in-Idle : goal.returns-in-Idle

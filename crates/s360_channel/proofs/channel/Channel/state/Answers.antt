@@ -1,12 +1,7 @@
 use Rattle.std.proofs.Common.{sym, subst}
 use Rattle.s360_channel.specs.Channel.{StandsFor}
-use Rattle.s360_channel.proofs.Parts.{last_fits}
 use Rattle.s360_channel.proofs.Shown.{view_from}
 use Rattle.s360_channel.proofs.channel.Channel.state.Goals as goal
-
--- src/processor.rt
-pub shown-requires : goal.shown-requires
-shown-requires g c = search (last_fits)
 
 -- src/processor.rt
 pub returns : goal.returns
