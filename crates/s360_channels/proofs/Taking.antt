@@ -1,5 +1,6 @@
 -- A channel that is taken out of the list, and finished.
 use Rattle.std.proofs.Common.{◌≡◌, ◌≤◌, ℕ, zero, suc, refl, sym, ap, ◌∙◌, subst, length, List, [], ◌∷◌, Option, Some, None}
+use Rattle.std.proofs.lemmas.List.{get_or_past}
 use Rattle.std.specs.Prelude.{slice_index_or, slice_set}
 use Rattle.ckd_image.specs.Image.{ImageState}
 use Rattle.s360_words.specs.Storage.{Storage}
@@ -10,7 +11,6 @@ use Rattle.s360_channel.specs.Finishes.{Finishes}
 use Rattle.s360_channels.specs.Channels.{AllFit}
 use Rattle.s360_channels.specs.Ending.{Ends, Parts, RemovesFound}
 use Rattle.s360_channels.specs.Inside.{ServesEnd, of_parts}
-use Rattle.s360_channels.proofs.At.{none_past}
 use Rattle.s360_channels.proofs.Fitting.{does_size}
 
 -- a channel that is finished leaves storage as large as it was
@@ -46,7 +46,7 @@ module _ (number : ℕ) (s : Storage) (cs : List (Option ChannelState)) (fit : A
 
   pub ends_beyond : length cs ≤ number → ServesEnd number None (of_parts s cs) (of_parts s cs)
   ends_beyond h = record {
-    removes = subst (λ x. RemovesFound x number None (of_parts s cs) (of_parts s cs)) (sym (none_past cs number h)) (refl, refl);
+    removes = subst (λ x. RemovesFound x number None (of_parts s cs) (of_parts s cs)) (sym (get_or_past cs number None h)) (refl, refl);
     fit = fit;
     size = refl;
   }
