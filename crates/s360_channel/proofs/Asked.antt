@@ -13,7 +13,7 @@ use Rattle.s360_program.specs.Advances.{Rests}
 use Rattle.s360_program.specs.Laws.{StandsAtRun, StandsAfterChange, StandsAfterInterruption}
 use Rattle.s360_program.specs.Stands.{RunningState, phase_in}
 use Rattle.s360_laws.specs.declared.arm.Arm.{Arm}
-use Rattle.s360_laws.specs.declared.arm.Arm.TheVariants.{InMotion, AtRest, Arrived}
+use Rattle.s360_laws.specs.declared.arm.Arm.TheVariants.{InMotion, Arrived}
 use Rattle.s360_laws.specs.declared.condition.ConditionCode.TheVariants.{Two, Three}
 use Rattle.s360_laws.specs.Events.{Event, Sio, Tio, Answer, WithCode, CswStored, Arrive, HasArrived, Interrupt, Interrupted}
 use Rattle.s360_laws.specs.Machine.{Machine, react, on_channel, start_io, start_device, test_io, test_device, device_at, tested, with_subchannel, Device, with_arm, is_in_motion, interrupt_device, interrupt_program, lowest, has_arrived, asked_by, run_of, start_of, with_csw, goes_on, interrupted}
@@ -177,14 +177,8 @@ module _ (a number : ℕ) (s : Storage) (sub : Subchannel) (us : List AttachedSt
     by_arm = by_device on (Some (device_of f.attached)) f.found
         ∙ ap (λ arm. cond (is_in_motion arm) (HasArrived true, with_arm Arrived (a % 256) m) (HasArrived false, m)) (seen_here.arm (device_of f.attached) ∙ arm_there us place f.attached arm f.is_there is_arm)
 
-    not_in_motion : (arm : Arm) → (arm ≡ InMotion → ⊥) → is_in_motion arm ≡ false
-    not_in_motion AtRest k = refl
-    not_in_motion InMotion k = absurd (k refl)
-    not_in_motion Arrived k = refl
-
-    pub arrive_still : (arm ≡ InMotion → ⊥) → DoesQuietly (Arrive a) m (HasArrived false) (of_parts number s sub us)
-    arrive_still k = unchanged (Arrive a) m (HasArrived false) number s sub us st
-        (by_arm ∙ ap (λ b. cond b (HasArrived true, with_arm Arrived (a % 256) m) (HasArrived false, m)) (not_in_motion arm k))
+    pub arrive_still : is_in_motion arm ≡ false → DoesQuietly (Arrive a) m (HasArrived false) (of_parts number s sub us)
+    arrive_still k = unchanged (Arrive a) m (HasArrived false) number s sub us st (by_arm ∙ ap (λ b. cond b (HasArrived true, with_arm Arrived (a % 256) m) (HasArrived false, m)) k)
 
     pub arrive_moves : (us' : List AttachedState) → arm ≡ InMotion → ArmChanges place Arrived us us' → DoesQuietly (Arrive a) m (HasArrived true) (of_parts number s sub us')
     arrive_moves us' k c = quiet (Arrive a) m (HasArrived true) number s sub us s sub us' st

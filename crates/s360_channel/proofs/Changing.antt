@@ -115,27 +115,24 @@ same_arm : (b : Bool) (d : Device) (drive : IdleDrive) → (cond b (set_drive dr
 same_arm true d drive = refl
 same_arm false d drive = refl
 
-pub seen_by : (c : ChannelState) (m : Machine) (sub : Subchannel) → Shows c m sub → SeenBy c m
-seen_by c m Idle h = record {
+seen_calm : (c : ChannelState) (m : Machine) (s : machine.Subchannel) → m ≡ machine_of c s → SeenBy c m
+seen_calm c m s h = record {
   through = λ d. d;
   keeps = λ d. refl;
   arm = λ d. refl;
-  devices = ap (λ (m : Machine). m.devices) h.0 ∙ sym (map-id (map device_of c.drives));
-  channel = ap (λ (m : Machine). m.channel) h.0;
+  devices = ap (λ (m : Machine). m.devices) h ∙ sym (map-id (map device_of c.drives));
+  channel = ap (λ (m : Machine). m.channel) h;
 }
+
+pub seen_by : (c : ChannelState) (m : Machine) (sub : Subchannel) → Shows c m sub → SeenBy c m
+seen_by c m Idle h = seen_calm c m machine.Idle h.0
+seen_by c m (Pending device csw) h = seen_calm c m (machine.Pending device csw) h.0
 seen_by c m (Working place r) w = record {
   through = changes w.attached.device (set_drive w.drive);
   keeps = keeps_one w.attached.device (set_drive w.drive) (λ d. refl);
   arm = λ d. same_arm (d.device == w.attached.device) d w.drive;
   devices = ap (λ (m : Machine). m.devices) w.machine;
   channel = ap (λ (m : Machine). m.channel) w.machine;
-}
-seen_by c m (Pending device csw) h = record {
-  through = λ d. d;
-  keeps = λ d. refl;
-  arm = λ d. refl;
-  devices = ap (λ (m : Machine). m.devices) h.0 ∙ sym (map-id (map device_of c.drives));
-  channel = ap (λ (m : Machine). m.channel) h.0;
 }
 
 pub distinct_drives : (c : ChannelState) (m : Machine) → SeenBy c m → IsSound m → AreDistinct (map device_of c.drives)

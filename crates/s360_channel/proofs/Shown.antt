@@ -6,9 +6,8 @@ use Rattle.std.proofs.lemmas.Option.{slice_get_within}
 use Rattle.std.specs.Prelude.{is_some, option_map, replicate, slice_get, find, filter, position}
 use Rattle.s360_words.specs.declared.words.Csw.{Csw}
 use Rattle.s360_words.specs.Storage.{Storage}
-use Rattle.ckd_track.specs.declared.geometries.Geometry.{Geometry}
 use Rattle.ckd_image.specs.Image.{ImageState}
-use Rattle.ckd_command.specs.Drive.{IdleDrive, Volume, is_written, State}
+use Rattle.ckd_command.specs.Drive.{IdleDrive, is_written, State}
 use Rattle.ckd_drive.specs.Work.{DriveState, is_idle, Work, command_of, passed_of}
 use Rattle.ckd_drive.specs.Work as work
 use Rattle.s360_runs.specs.Places.{Place}
@@ -34,6 +33,7 @@ use Rattle.s360_channel.specs.declared.view.View.{View}
 use Rattle.s360_channel.specs.Packs.{runs_at, volume_in}
 use Rattle.s360_channel.specs.Views.{subchannel_seen, drives_seen, view_of, ShowsDrive, ShowsVolume, drive_seen, interrupts, is_interruption, attached_in, attached_with}
 use Rattle.s360_channel.specs.Watched.{StandsInPhase, SeesProgram, SeesDrive, command_in, moved_in}
+use Rattle.s360_channel.proofs.Changing.{volume_given}
 use Rattle.s360_channel.proofs.Places.{inside, devices, found_by, none_found}
 use Rattle.s360_channel.proofs.Removing.{IsAttached, rests_there, same_runs, working_device}
 use Rattle.s360_channel.proofs.Works.{seen_there, subchannel_of, devices_of, by_phase, device_there}
@@ -110,6 +110,7 @@ all_places (a ∷ b ∷ c ∷ d ∷ e ∷ f ∷ g ∷ []) l = refl
 all_places (a ∷ b ∷ c ∷ d ∷ e ∷ f ∷ g ∷ h ∷ []) l = refl
 all_places (a ∷ b ∷ c ∷ d ∷ e ∷ f ∷ g ∷ h ∷ i ∷ us) l = absurd (omega (arith, l))
 
+-- and two lists of eight are equal place by place
 pub eight_places : {A : Type 0} {a b c d e f g h a' b' c' d' e' f' g' h' : A} → a ≡ a' → b ≡ b' → c ≡ c' → d ≡ d' → e ≡ e' → f ≡ f' → g ≡ g' → h ≡ h'
     → a ∷ b ∷ c ∷ d ∷ e ∷ f ∷ g ∷ h ∷ [] ≡ a' ∷ b' ∷ c' ∷ d' ∷ e' ∷ f' ∷ g' ∷ h' ∷ []
 eight_places p q r s t u v w = cc
@@ -166,14 +167,9 @@ lends_volume c m device place d image s h e same geometry slots =
     let is : d ≡ f.attached.drive = inside d f.attached.drive (e ∙ ap (option_map (λ (u : AttachedState). u.drive)) f.is_there) in
     shows_volume c m device (Some image) s (λ off.
     let rests = subst Rests (sym is) (rests_there c m s device place f.attached attached (sym (same_runs c m s device place f.attached attached) ∙ off)) in
-    ap (λ i. Some (volume_in i)) same
-    ∙ (ap (λ (g : Geometry). Some (volume g d.image.slots)) geometry
-    ∙ (ap (λ (t : List (List ℕ)). Some (volume d.state.volume.geometry t)) (slots rests.idle rests.unwritten)
+    ap Some (volume_given d image same geometry (slots rests.idle rests.unwritten))
     ∙ (ap (λ (d : DriveState). Some d.state.volume) is
-    ∙ sym (ap (λ x. option_map (λ (u : AttachedState). u.drive.state.volume) (attached_in x c.drives)) h ∙ ap (option_map (λ (u : AttachedState). u.drive.state.volume)) f.is_there)))))
-  where
-    volume : Geometry → List (List ℕ) → Volume
-    volume g t = record { geometry = g; slots = t }
+    ∙ sym (ap (λ x. option_map (λ (u : AttachedState). u.drive.state.volume) (attached_in x c.drives)) h ∙ ap (option_map (λ (u : AttachedState). u.drive.state.volume)) f.is_there)))
 
 -- Interruptions.
 

@@ -22,11 +22,11 @@ returns-in-InMotion-clause-does g c = λ s sub m st.
 
 pub returns-in-AtRest-clause-does : goal.returns-in-AtRest-clause-does
 returns-in-AtRest-clause-does g c = λ s sub m st.
-    arrive_still c.args.address c.args.number s sub c.args.drives.now m st c.if-address-number.false c.in-Some.place (sym c.in-Some.ensures) AtRest c.in-AtRest.ensures (λ h. cc)
+    arrive_still c.args.address c.args.number s sub c.args.drives.now m st c.if-address-number.false c.in-Some.place (sym c.in-Some.ensures) AtRest c.in-AtRest.ensures refl
 
 pub returns-in-Arrived-clause-does : goal.returns-in-Arrived-clause-does
 returns-in-Arrived-clause-does g c = λ s sub m st.
-    arrive_still c.args.address c.args.number s sub c.args.drives.now m st c.if-address-number.false c.in-Some.place (sym c.in-Some.ensures) Arrived c.in-Arrived.ensures (λ h. cc)
+    arrive_still c.args.address c.args.number s sub c.args.drives.now m st c.if-address-number.false c.in-Some.place (sym c.in-Some.ensures) Arrived c.in-Arrived.ensures refl
 
 pub returns-in-InMotion-clause-images : goal.returns-in-InMotion-clause-images
 returns-in-InMotion-clause-images g c = armed_images c.args.drives.now c.in-Some.place _ c.set_arm.new.self c.set_arm.ensures
