@@ -70,14 +70,6 @@ keeps e x is_keep c m h = go (is_within x c.storage) (within_size x m.storage c.
     }
     go false k = record { answers = ap (λ (r : Answer × Machine). r.0) (sym (reacts false k)); stands = subst (λ (r : Answer × Machine). StandsFor c r.1) (sym (reacts false k)) h }
 
-pub stores : (at : ℕ) (bytes : List ℕ) (c : ChannelState) (m : Machine) → StandsFor c m
-    → DoesQuietly (Store at bytes) m (WasKept (is_within (Bytes at bytes) c.storage)) (with_storage c (cond (is_within (Bytes at bytes) c.storage) (changed (Bytes at bytes) c.storage) c.storage))
-stores at bytes = keeps (Store at bytes) (Bytes at bytes) (λ m. refl)
-
-pub sets_key : (at key : ℕ) (c : ChannelState) (m : Machine) → StandsFor c m
-    → DoesQuietly (SetKey at key) m (WasKept (is_within (KeyOf at key) c.storage)) (with_storage c (cond (is_within (KeyOf at key) c.storage) (changed (KeyOf at key) c.storage) c.storage))
-sets_key at key = keeps (SetKey at key) (KeyOf at key) (λ m. refl)
-
 -- A look at storage.
 
 pub storage_in : (c : ChannelState) (m : Machine) → StandsFor c m → storage_of m m.subchannel ≡ c.storage
@@ -143,7 +135,7 @@ keys_found : (ks : List ℕ) (block : ℕ) (c : ChannelState) (m : Machine) → 
 keys_found [] block c m l e s = s
 keys_found (k ∷ ks) block c m l e s =
     let one : Storage = record c.storage { keys = slice_set c.storage.keys block k } in
-    let d = sets_key (2048 * block) k c m s in
+    let d = keeps (SetKey (2048 * block) k) (KeyOf (2048 * block) k) (λ m. refl) c m s in
     let there : StandsFor (with_storage c one) (react (SetKey (2048 * block) k) None m).1 =
     subst (λ n. StandsFor (with_storage c (record c.storage { keys = slice_set c.storage.keys n k })) (react (SetKey (2048 * block) k) None m).1) (block_of block)
     (subst (λ b. StandsFor (with_storage c (cond b (changed (KeyOf (2048 * block) k) c.storage) c.storage)) (react (SetKey (2048 * block) k) None m).1)
@@ -160,7 +152,7 @@ keys_found (k ∷ ks) block c m l e s =
 
 pub finds_another : FindsAnother
 finds_another c m s large h =
-    let d = stores 0 s.bytes c m h in
+    let d = keeps (Store 0 s.bytes) (Bytes 0 s.bytes) (λ m. refl) c m h in
     let one : Storage = record c.storage { bytes = s.bytes } in
     let there : StandsFor (with_storage c one) (react (Store 0 s.bytes) None m).1 =
     subst (λ bytes. StandsFor (with_storage c (record c.storage { bytes = bytes })) (react (Store 0 s.bytes) None m).1) (all_overwritten c.storage.bytes s.bytes large.bytes)
