@@ -1,7 +1,7 @@
 -- The channel that has the shared storage between calls: what is exchanged twice is as before, and what a call does to the channel that
 -- has it, it does to the channels.
-use Rattle.std.proofs.Common.{◌≡◌, ◌≤◌, ℕ, zero, suc, refl, sym, ap, ◌∙◌, subst, length, List, [], ◌∷◌, Option, Some, None}
-use Rattle.std.proofs.lemmas.List.{get_or_past, length-set, set-get_or}
+use Rattle.std.proofs.Common.{◌≡◌, ℕ, zero, suc, refl, sym, ap, ◌∙◌, subst, length, List, [], ◌∷◌, Option, Some, None}
+use Rattle.std.proofs.lemmas.List.{set-get_or}
 use Rattle.std.specs.Prelude.{slice_index_or, slice_set}
 use Rattle.s360_words.specs.Storage.{Storage}
 use Rattle.s360_channel.specs.Channel.{ChannelState, IsChannel}
@@ -41,11 +41,6 @@ again n before s cs e =
 
 -- A channel and a storage that were exchanged, in the list.
 module _ (cs : List (Option ChannelState)) (n : ℕ) (c : ChannelState) (there : slice_index_or cs n None ≡ Some c) where
-  pub exchanged_there : (s : Storage) (c' : ChannelState) (s' : Storage) → Exchanged c s c' s' → of_parts s' (slice_set cs n (Some c')) ≡ exchanged_at n s cs
-  exchanged_there s c' s' x =
-      ap (λ d. of_parts s' (slice_set cs n (Some d))) x.found
-      ∙ (ap (λ t. of_parts t (slice_set cs n (Some (with_storage c s)))) x.gives ∙ ap (λ o. exchanged_with o n s cs) (sym there))
-
   pub exchanged_fit : (s : Storage) (c' : ChannelState) (s' : Storage) → AllFit (length s.bytes) cs → Exchanged c s c' s' → AllFit (length s'.bytes) (slice_set cs n (Some c'))
   exchanged_fit s c' s' fit x =
       let f = fits_at (length s.bytes) cs n c fit there in
@@ -53,39 +48,7 @@ module _ (cs : List (Option ChannelState)) (n : ℕ) (c : ChannelState) (there :
       subst (λ k. AllFit k (slice_set cs n (Some c'))) (sym size)
       (fit_set (length s.bytes) cs n c' fit (record { is_channel = x.stands f.is_channel; as_large = ap (λ (d : ChannelState). length d.storage.bytes) x.found }))
 
--- Without such a channel nothing is.
-pub exchanged_nowhere : (n : ℕ) (s : Storage) (cs : List (Option ChannelState)) → slice_index_or cs n None ≡ None → of_parts s cs ≡ exchanged_at n s cs
-exchanged_nowhere n s cs e = ap (λ o. exchanged_with o n s cs) (sym e)
-
-pub exchanged_beyond : (n : ℕ) (s : Storage) (cs : List (Option ChannelState)) → length cs ≤ n → of_parts s cs ≡ exchanged_at n s cs
-exchanged_beyond n s cs h = exchanged_nowhere n s cs (get_or_past cs n None h)
-
--- Where nobody has a number, nobody has it in what the channels are.
-nobody_with : (n : ℕ) (o : Option ChannelState) (k : ℕ) (s : Storage) (cs : List (Option ChannelState)) → length cs ≤ n → slice_index_or (exchanged_with o k s cs).channels n None ≡ None
-nobody_with n None k s cs h = get_or_past cs n None h
-nobody_with n (Some c) k s cs h = get_or_past (slice_set cs k (Some (with_storage c s))) n None (subst (λ m. m ≤ n) (sym (length-set cs k (Some (with_storage c s)))) h)
-
-nobody_lent : (n : ℕ) (o : Option ℕ) (s : Storage) (cs : List (Option ChannelState)) → length cs ≤ n → channel_at n (lent_to o s cs) ≡ None
-nobody_lent n None s cs h = get_or_past cs n None h
-nobody_lent n (Some k) s cs h = nobody_with n (slice_index_or cs k None) k s cs h
-
 module _ (number : ℕ) (How : ChannelState → ChannelState → Type 0) (Missing : Type 0) where
-  -- A call for a channel that is not there,
-  pub calls_beyond : (l : Lending) (cs : List (Option ChannelState)) → length cs ≤ number → Missing → OnChannel number How Missing (lent l cs) (lent l cs)
-  calls_beyond l cs h missing = subst (λ o. OnFound o number How Missing (lent l cs) (lent l cs)) (sym (nobody_lent number l.holder l.kept cs h)) (missing, refl)
-
-  nobody_to : (s : Storage) (cs : List (Option ChannelState)) → slice_index_or cs number None ≡ None → Missing → OnChannel number How Missing (exchanged_at number s cs) (exchanged_at number s cs)
-  nobody_to s cs e missing =
-      subst (λ t. OnChannel number How Missing t t) (exchanged_nowhere number s cs e)
-      (subst (λ o. OnFound o number How Missing (of_parts s cs) (of_parts s cs)) (sym e) (missing, refl))
-
-  -- also where it was to have the storage
-  pub calls_nobody : (before : ChannelsState) (l : Lending) (cs : List (Option ChannelState)) → lent l cs ≡ before → l.holder ≡ Some number → slice_index_or cs number None ≡ None → Missing
-      → OnChannel number How Missing before (lent l cs)
-  calls_nobody before l cs same holds e missing =
-      subst (λ t. OnChannel number How Missing t (lent l cs)) same
-      (subst (λ h. OnChannel number How Missing (lent_to h l.kept cs) (lent_to h l.kept cs)) (sym holds) (nobody_to l.kept cs e missing))
-
   somebody_to : (s : Storage) (cs : List (Option ChannelState)) (c c' : ChannelState) → slice_index_or cs number None ≡ Some c → How c c'
       → OnChannel number How Missing (exchanged_with (Some c) number s cs) (exchanged_with (Some c') number s (slice_set cs number (Some c')))
   somebody_to s cs c c' e how =
@@ -96,7 +59,7 @@ module _ (number : ℕ) (How : ChannelState → ChannelState → Type 0) (Missin
         others_stay = set_twice cs number (Some c') (Some (with_storage c' s)) ∙ sym (set_twice cs number (Some (with_storage c s)) (Some (with_storage c' s)));
       })
 
-  -- and for one that has the storage
+  -- A call for the channel that has the storage.
   calls_somebody : (before : ChannelsState) (l : Lending) (cs : List (Option ChannelState)) (c c' : ChannelState) → lent l cs ≡ before → l.holder ≡ Some number
       → slice_index_or cs number None ≡ Some c → How c c' → OnChannel number How Missing before (lent l (slice_set cs number (Some c')))
   calls_somebody before l cs c c' same holds e how =
@@ -117,27 +80,25 @@ calls_there number How fits Missing before l cs c c' same holds fit e how =
     )
 
 -- A channel is the same in what the channels are, but for its storage.
-alike_set : (P : Option ChannelState → Type 0) → ((c : ChannelState) (s : Storage) → P (Some c) → P (Some (with_storage c s))) → (cs : List (Option ChannelState)) (n k : ℕ) (c : ChannelState) (s : Storage)
-    → slice_index_or cs k None ≡ Some c → P (slice_index_or cs n None) → P (slice_index_or (slice_set cs k (Some (with_storage c s))) n None)
-alike_set P alike [] n k c s e h = h
-alike_set P alike (d ∷ cs) zero zero c s e h = alike c s (subst P e h)
-alike_set P alike (d ∷ cs) (suc n) zero c s e h = h
-alike_set P alike (d ∷ cs) zero (suc k) c s e h = h
-alike_set P alike (d ∷ cs) (suc n) (suc k) c s e h = alike_set P alike cs n k c s e h
+module _ (P : Option ChannelState → Type 0) (alike_over : (c : ChannelState) (s : Storage) → P (Some c) → P (Some (with_storage c s))) where
+  alike_set : (cs : List (Option ChannelState)) (n k : ℕ) (c : ChannelState) (s : Storage)
+      → slice_index_or cs k None ≡ Some c → P (slice_index_or cs n None) → P (slice_index_or (slice_set cs k (Some (with_storage c s))) n None)
+  alike_set [] n k c s e h = h
+  alike_set (d ∷ cs) zero zero c s e h = alike_over c s (subst P e h)
+  alike_set (d ∷ cs) (suc n) zero c s e h = h
+  alike_set (d ∷ cs) zero (suc k) c s e h = h
+  alike_set (d ∷ cs) (suc n) (suc k) c s e h = alike_set cs n k c s e h
 
-alike_with : (P : Option ChannelState → Type 0) → ((c : ChannelState) (s : Storage) → P (Some c) → P (Some (with_storage c s))) → (n : ℕ) (o : Option ChannelState) (k : ℕ) (s : Storage) (cs : List (Option ChannelState))
-    → slice_index_or cs k None ≡ o → P (slice_index_or cs n None) → P (channel_at n (exchanged_with o k s cs))
-alike_with P alike n None k s cs e h = h
-alike_with P alike n (Some c) k s cs e h = alike_set P alike cs n k c s e h
+  alike_with : (n : ℕ) (o : Option ChannelState) (k : ℕ) (s : Storage) (cs : List (Option ChannelState)) → slice_index_or cs k None ≡ o → P (slice_index_or cs n None) → P (channel_at n (exchanged_with o k s cs))
+  alike_with n None k s cs e h = h
+  alike_with n (Some c) k s cs e h = alike_set cs n k c s e h
 
-alike_to : (P : Option ChannelState → Type 0) → ((c : ChannelState) (s : Storage) → P (Some c) → P (Some (with_storage c s))) → (n : ℕ) (o : Option ℕ) (s : Storage) (cs : List (Option ChannelState))
-    → P (slice_index_or cs n None) → P (channel_at n (lent_to o s cs))
-alike_to P alike n None s cs h = h
-alike_to P alike n (Some k) s cs h = alike_with P alike n (slice_index_or cs k None) k s cs refl h
+  alike_to : (n : ℕ) (o : Option ℕ) (s : Storage) (cs : List (Option ChannelState)) → P (slice_index_or cs n None) → P (channel_at n (lent_to o s cs))
+  alike_to n None s cs h = h
+  alike_to n (Some k) s cs h = alike_with n (slice_index_or cs k None) k s cs refl h
 
-pub alike : (P : Option ChannelState → Type 0) → ((c : ChannelState) (s : Storage) → P (Some c) → P (Some (with_storage c s))) → (n : ℕ) (l : Lending) (cs : List (Option ChannelState))
-    → P (slice_index_or cs n None) → P (channel_at n (lent l cs))
-alike P h n l cs p = alike_to P h n l.holder l.kept cs p
+  pub alike : (n : ℕ) (l : Lending) (cs : List (Option ChannelState)) → P (slice_index_or cs n None) → P (channel_at n (lent l cs))
+  alike n l cs p = alike_to n l.holder l.kept cs p
 
 -- and what it is shown as
 pub shows_alike : (view : Option View) (s : Storage) (c : ChannelState) (t : Storage) → ShowsAt view s (Some c) → ShowsAt view s (Some (with_storage c t))
