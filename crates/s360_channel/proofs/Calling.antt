@@ -26,6 +26,8 @@ use Rattle.s360_laws.proofs.FindDevices.{different}
 use Rattle.s360_laws.proofs.LedgerLists.{stays}
 use Rattle.s360_laws.proofs.MachineFaults.{fault_told_by_reset}
 use Rattle.s360_laws.proofs.NoFaultTold.{no_fault_none_told}
+use Rattle.s360_events.specs.declared.conditions.Condition.{Condition}
+use Rattle.s360_events.specs.declared.conditions.Status.{Status}
 use Rattle.s360_events.specs.Seen.{condition_seen, status_seen}
 use Rattle.s360_channel.specs.Calls.{Does, IsMet, Reports, CallsAtMost}
 use Rattle.s360_channel.specs.Channel.{ChannelState, AttachedState, WorksFor, StandsFor, AllRest, device_of, machine_of, Shows, IsChannel, is_at}
@@ -325,12 +327,20 @@ module _ (c : ChannelState) (m : Machine) (a : ℕ) (s : StandsFor c m) (here : 
     };
   }) refl
 
-  pub halts_idle : Does (Hio a) m (condition_seen status_seen (halted_idle (is_some (position (is_at (a % 256)) c.drives)))) c (halted (is_some (position (is_at (a % 256)) c.drives)))
-  halts_idle = subst (λ b. Does (Hio a) m (condition_seen status_seen (halted_idle b)) c (halted b)) (sym (both_found (a % 256) c.drives)) (go (is_some (device_at (machine_of c machine.Idle) (a % 256))) refl)
+  idle_halts : Does (Hio a) m (condition_seen status_seen (halted_idle (is_some (position (is_at (a % 256)) c.drives)))) c (halted (is_some (position (is_at (a % 256)) c.drives)))
+  idle_halts = subst (λ b. Does (Hio a) m (condition_seen status_seen (halted_idle b)) c (halted b)) (sym (both_found (a % 256) c.drives)) (go (is_some (device_at (machine_of c machine.Idle) (a % 256))) refl)
     where
       go : (b : Bool) → is_some (device_at (machine_of c machine.Idle) (a % 256)) ≡ b → Does (Hio a) m (condition_seen status_seen (halted_idle b)) c (halted b)
       go true found = halts true (reacts true found)
       go false found = halts false (reacts false found)
+
+  pub halts_idle : (result : Condition Status) (st : Storage) → result ≡ halted_idle (is_some (position (is_at (a % 256)) c.drives)) → st ≡ storage_halted (is_some (position (is_at (a % 256)) c.drives)) c.storage
+      → Does (Hio a) m (condition_seen status_seen result) c (record c { storage = st }) × CallsAtMost 1 c (record c { storage = st })
+  halts_idle result st answer left = (
+    subst (λ r. Does (Hio a) m (condition_seen status_seen r) c (record c { storage = st })) (sym answer)
+        (subst (λ st. Does (Hio a) m (condition_seen status_seen (halted_idle (is_some (position (is_at (a % 256)) c.drives)))) c (record c { storage = st })) (sym left) idle_halts),
+    none_calls 1 c (record c { storage = st }) refl,
+  )
 
 -- the program that runs is cut
 pub halts_working : (c : ChannelState) (m : Machine) (place : ℕ) (r : RunningState) → c.subchannel ≡ Working place r → StandsFor c m → (drives : List AttachedState) (subchannel : Subchannel) → CutsProgram c.subchannel c.drives drives subchannel
@@ -381,3 +391,10 @@ module _ (c : ChannelState) (m : Machine) (s : StandsFor c m) where
 
     pub resets : LosesProgram c.subchannel c.number c.drives drives unsaved → Resets drives unsaved
     resets h = resets_by c.subchannel refl h
+
+    -- as the code leaves the subchannel and the drives
+    pub resets_to : LosesProgram c.subchannel c.number c.drives drives unsaved → (subchannel : Subchannel) (now : List AttachedState) → subchannel ≡ Idle → now ≡ map at_rest_attached drives
+        → Does Reset m (WasReset unsaved) c (record c { subchannel = subchannel; drives = now }) × CallsAtMost 1 c (record c { subchannel = subchannel; drives = now })
+    resets_to lost subchannel now idle rest =
+        subst (λ us. Does Reset m (WasReset unsaved) c (record c { subchannel = subchannel; drives = us }) × CallsAtMost 1 c (record c { subchannel = subchannel; drives = us })) (sym rest)
+        (subst (λ sub. Does Reset m (WasReset unsaved) c (record c { subchannel = sub; drives = map at_rest_attached drives }) × CallsAtMost 1 c (record c { subchannel = sub; drives = map at_rest_attached drives })) (sym idle) ((resets lost).1, (resets lost).2))
