@@ -147,10 +147,6 @@ rests_there device number s us place is h =
 pub stays : (e : Event) (m : Machine) (answer : Answer) (new : ChannelState) → DoesQuietly e m answer new → IsChannel new
 stays e m answer new d = record { machine = (react e None m).1; stands = d.stands }
 
--- what is done of a channel's parts is done of the channel
-pub does_whole : (e : Event) (answer : Answer) (new whole parts : ChannelState) → parts ≡ whole → ((m : Machine) → StandsFor parts m → DoesQuietly e m answer new) → (m : Machine) → StandsFor whole m → DoesQuietly e m answer new
-does_whole e answer new whole parts same d = subst (λ c. (m : Machine) → StandsFor c m → DoesQuietly e m answer new) same d
-
 -- Arms that arrive.
 
 module _ (a number : ℕ) (s : Storage) (sub : Subchannel) (us : List AttachedState) (m : Machine) (st : StandsFor (of_parts number s sub us) m) where
