@@ -1,5 +1,5 @@
-use Rattle.std.proofs.Common.{◌∙◌, sym, subst}
-use Rattle.s360_channel.specs.Channel.{ChannelState, StandsFor, attached}
+use Rattle.std.proofs.Common.{◌∙◌, sym}
+use Rattle.s360_channel.specs.Channel.{ChannelState, attached}
 use Rattle.s360_channel.proofs.Changing.{stands_push, may_attach, has_place}
 use Rattle.s360_channel.proofs.channel.Channel.attach.Goals as goal
 
@@ -17,4 +17,4 @@ invariant_of-self g c =
 pub returns-in_default-clause-stands : goal.returns-in_default-clause-stands
 returns-in_default-clause-stands g c m s =
     let this : ChannelState = record { number = c.self.inside.number; storage = c.self.inside.storage; subchannel = c.self.inside.subchannel; drives = c.self.inside.drives } in
-    stands_push c.args.device c.args.image this m c.attach.new.self (may_attach c.args.device this c.place_of.result c.len.result c.place_of.ensures (sym c.is_some.ensures ∙ c.if-is_some.false) c.len.ensures.count c.if-len-eq8.false) c.in_default.ensures.attached (subst (λ o. StandsFor o m) (sym c.self.view_is) s)
+    stands_push c.args.device c.args.image this m c.attach.new.self (may_attach c.args.device this c.place_of.result c.len.result c.place_of.ensures (sym c.is_some.ensures ∙ c.if-is_some.false) c.len.ensures.count c.if-len-eq8.false) c.in_default.ensures.attached (rw (← c.self.view_is) at s)
