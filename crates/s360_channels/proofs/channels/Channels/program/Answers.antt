@@ -1,6 +1,4 @@
-use Rattle.std.proofs.Common.{subst}
 use Rattle.s360_channels.specs.Asked.{ShowsProgramAt}
-use Rattle.s360_channels.specs.Channels.{ChannelsState, channel_at}
 use Rattle.s360_channels.specs.Inside.{lent}
 use Rattle.s360_channels.proofs.Holding.{alike}
 use Rattle.s360_channels.proofs.channels.Channels.program.Goals as goal
@@ -9,5 +7,4 @@ pub returns : goal.returns
 returns g c =
     let l = c.self.inside.lending in
     let s = (lent l c.self.inside.list).storage in
-    subst (λ (o : ChannelsState). ShowsProgramAt c.program.result o.storage (channel_at c.args.number o)) c.self.view_is
-    (alike (ShowsProgramAt c.program.result s) (λ d t h. h) c.args.number l c.self.inside.list (c.program.ensures s))
+    rw (← c.self.view_is) (alike (ShowsProgramAt c.program.result s) (λ d t h. h) c.args.number l c.self.inside.list (c.program.ensures s))
