@@ -1,31 +1,38 @@
--- From what a channel shows after a call to what the call does; the cases of the input/output instructions.
-use Rattle.std.proofs.Common.{◌≡◌, ℕ, ◌≤◌, ◌/◌, ◌%◌, refl, sym, ap, subst, ◌∙◌, cond, ◌==◌, List, [], ◌∷◌, map, length, Option, Some, None}
+-- From what a channel shows after a call to what the call does: input/output instructions, arms that arrive, interruptions.
+use Rattle.std.proofs.Common.{◌≡◌, ℕ, ◌≤◌, ◌/◌, ◌%◌, refl, sym, ap, subst, ◌∙◌, cond, ◌==◌, List, [], ◌∷◌, map, length, Option, Some, None, true, false, ◌+◌, ◌*◌, ◌<◌, Bool, ◌++◌, append_assoc}
 use Rattle.std.proofs.lemmas.Bool.{eq-eqb}
 use Rattle.std.proofs.lemmas.List.{length-map}
-use Rattle.std.specs.Prelude.{find, position}
-use Rattle.s360_words.specs.Storage.{Storage, changed, csw_stored}
+use Rattle.std.proofs.lemmas.Option.{slice_get_within}
+use Rattle.std.specs.Prelude.{find, position, slice_get, slice_set, option_map, filter}
 use Rattle.s360_words.specs.declared.words.Csw.{Csw}
-use Rattle.ckd_image.specs.Image.{ImageState}
+use Rattle.s360_words.specs.Storage.{Storage, changed, csw_stored}
+use Rattle.s360_runs.specs.Places.{Place}
+use Rattle.s360_runs.specs.Scripts.{TakesInterruption, Outside}
+use Rattle.s360_runs.specs.Units.{standing_in, phase_past, StandsAt, ProgramPhase, Between, Looking, Moving}
 use Rattle.s360_program.specs.Advances.{Rests}
-use Rattle.s360_program.specs.Stands.{RunningState}
-use Rattle.s360_laws.specs.Events.{Event, Sio, Tio, Answer, WithCode, CswStored}
-use Rattle.s360_laws.specs.Machine as machine
-use Rattle.s360_laws.specs.Machine.{Machine, react, on_channel, start_io, start_device, test_io, test_device, device_at, tested, with_subchannel}
-use Rattle.s360_laws.specs.Soundness.{AreDistinct}
+use Rattle.s360_program.specs.Laws.{StandsAtRun, StandsAfterChange, StandsAfterInterruption}
+use Rattle.s360_program.specs.Stands.{RunningState, phase_in}
+use Rattle.s360_laws.specs.declared.arm.Arm.{Arm}
+use Rattle.s360_laws.specs.declared.arm.Arm.TheVariants.{InMotion, Arrived}
 use Rattle.s360_laws.specs.declared.condition.ConditionCode.TheVariants.{Two, Three}
+use Rattle.s360_laws.specs.Events.{Event, Sio, Tio, Answer, WithCode, CswStored, Arrive, HasArrived, Interrupt, Interrupted}
+use Rattle.s360_laws.specs.Machine.{Machine, react, on_channel, start_io, start_device, test_io, test_device, device_at, tested, with_subchannel, Device, with_arm, is_in_motion, interrupt_device, interrupt_program, lowest, has_arrived, asked_by, run_of, start_of, with_csw, goes_on, interrupted}
+use Rattle.s360_laws.specs.Machine as machine
+use Rattle.s360_laws.specs.Soundness.{AreDistinct}
 use Rattle.s360_laws.proofs.FindDevices.{different}
 use Rattle.s360_laws.proofs.LedgerLists.{stays_sound}
 use Rattle.s360_channel.specs.Calls.{DoesQuietly}
-use Rattle.s360_channel.specs.Channel.{AttachedState, ChannelState, StandsFor, IsChannel, Shows, device_of, is_at}
-use Rattle.s360_channel.specs.Nexts.{ShowsNext, of_parts, idle_machine, DoesAt, DoesIdle}
-use Rattle.s360_channel.specs.DriveCalls.{DriveIs}
+use Rattle.s360_channel.specs.Channel.{AttachedState, ChannelState, StandsFor, IsChannel, Shows, device_of, is_at, WorksFor}
 use Rattle.s360_channel.specs.declared.subchannel.Subchannel.{Subchannel}
 use Rattle.s360_channel.specs.declared.subchannel.Subchannel.TheVariants.{Idle, Working, Pending}
-use Rattle.s360_channel.proofs.Arming.{seen_by, distinct_drives}
-use Rattle.s360_channel.proofs.Places.{FoundAt, found_by, none_found, rests_at}
+use Rattle.s360_channel.specs.DriveCalls.{DriveIs, ArmChanges}
+use Rattle.s360_channel.specs.Nexts.{ShowsNext, of_parts, idle_machine, DoesAt, DoesIdle, DoesOn, TakesProgram, storage_told}
+use Rattle.s360_channel.proofs.Changing.{seen_by, distinct_drives, SeenBy, device_seen, shows_armed}
+use Rattle.s360_channel.proofs.Places.{FoundAt, found_by, none_found, rests_at, arm_there, inside, map_same}
+use Rattle.s360_channel.proofs.Quiet.{images}
+use Rattle.s360_channel.proofs.Works.{seen_there}
 
-abbrev pub images : List AttachedState → List ImageState
-images us = map (λ (u : AttachedState). u.drive.image) us
+-- From what a channel shows after a call to what the call does; the cases of the input/output instructions.
 
 -- what a quiet call does, from what the channel shows afterwards
 pub quiet : (e : Event) (m : Machine) (answer : Answer) (number : ℕ) (s : Storage) (sub : Subchannel) (us : List AttachedState) (s' : Storage) (sub' : Subchannel) (us' : List AttachedState)
@@ -136,20 +143,142 @@ rests_there device number s us place is h =
     let f : FoundAt device us place = found_by device us place h in
     record { attached = f.attached; is_there = f.is_there; holds = rests_at us place f.attached is.stands.shows.1 f.is_there }
 
--- where the subchannel is known
-pub stands_as : (number : ℕ) (s : Storage) (us : List AttachedState) (m : Machine) (sub x : Subchannel) → sub ≡ x → StandsFor (of_parts number s sub us) m → StandsFor (of_parts number s x us) m
-stands_as number s us m sub x e st = subst (λ sub. StandsFor (of_parts number s sub us) m) e st
-
-pub does_as : (e : Event) (m : Machine) (answer : Answer) (number : ℕ) (s : Storage) (us : List AttachedState) (sub x : Subchannel) → sub ≡ x → DoesQuietly e m answer (of_parts number s x us) → DoesQuietly e m answer (of_parts number s sub us)
-does_as e m answer number s us sub x h d = subst (λ sub. DoesQuietly e m answer (of_parts number s sub us)) (sym h) d
-
-pub is_as : (number : ℕ) (s : Storage) (us : List AttachedState) (sub x : Subchannel) → sub ≡ x → IsChannel (of_parts number s sub us) → IsChannel (of_parts number s x us)
-is_as number s us sub x e h = subst (λ sub. IsChannel (of_parts number s sub us)) e h
-
 -- a channel stays one, where its call is an event of the machine
 pub stays : (e : Event) (m : Machine) (answer : Answer) (new : ChannelState) → DoesQuietly e m answer new → IsChannel new
 stays e m answer new d = record { machine = (react e None m).1; stands = d.stands }
 
--- what is done of a channel's parts is done of the channel
-pub does_whole : (e : Event) (answer : Answer) (new whole parts : ChannelState) → parts ≡ whole → ((m : Machine) → StandsFor parts m → DoesQuietly e m answer new) → (m : Machine) → StandsFor whole m → DoesQuietly e m answer new
-does_whole e answer new whole parts same d = subst (λ c. (m : Machine) → StandsFor c m → DoesQuietly e m answer new) same d
+-- Arms that arrive.
+
+module _ (a number : ℕ) (s : Storage) (sub : Subchannel) (us : List AttachedState) (m : Machine) (st : StandsFor (of_parts number s sub us) m) where
+  abbrev seen_here : SeenBy (of_parts number s sub us) m
+  seen_here = seen_by (of_parts number s sub us) m sub st.shows
+
+  pub arrive_other : (a / 256 ≡ number → ⊥) → DoesQuietly (Arrive a) m (HasArrived false) (of_parts number s sub us)
+  arrive_other h = unchanged (Arrive a) m (HasArrived false) number s sub us st
+      (ap (λ b. cond b (machine.arrive (a % 256) m (device_at m (a % 256))) (HasArrived false, m)) (ap (λ n. a / 256 == n) seen_here.channel ∙ different (a / 256) number h))
+
+  by_device : a / 256 ≡ number → (x : Option Device) → find (λ d. d.device == a % 256) (map device_of us) ≡ x → react (Arrive a) None m ≡ machine.arrive (a % 256) m (option_map seen_here.through x)
+  by_device on x h =
+      ap (λ b. cond b (machine.arrive (a % 256) m (device_at m (a % 256))) (HasArrived false, m)) (ap (λ n. a / 256 == n) seen_here.channel ∙ eq-eqb (a / 256) number on)
+      ∙ ap (machine.arrive (a % 256) m) (device_seen (of_parts number s sub us) m seen_here (a % 256) x h)
+
+  pub arrive_none : a / 256 ≡ number → position (is_at (a % 256)) us ≡ None → DoesQuietly (Arrive a) m (HasArrived false) (of_parts number s sub us)
+  arrive_none on h = unchanged (Arrive a) m (HasArrived false) number s sub us st (by_device on None (none_found (a % 256) us h))
+
+  module _ (on : a / 256 ≡ number) (place : ℕ) (h : position (is_at (a % 256)) us ≡ Some place) (arm : Arm) (is_arm : Some arm ≡ option_map (λ (u : AttachedState). u.arm) (slice_get us place)) where
+    abbrev f : FoundAt (a % 256) us place
+    f = found_by (a % 256) us place h
+
+    by_arm : react (Arrive a) None m ≡ cond (is_in_motion arm) (HasArrived true, with_arm Arrived (a % 256) m) (HasArrived false, m)
+    by_arm = by_device on (Some (device_of f.attached)) f.found
+        ∙ ap (λ arm. cond (is_in_motion arm) (HasArrived true, with_arm Arrived (a % 256) m) (HasArrived false, m)) (seen_here.arm (device_of f.attached) ∙ arm_there us place f.attached arm f.is_there is_arm)
+
+    pub arrive_still : is_in_motion arm ≡ false → DoesQuietly (Arrive a) m (HasArrived false) (of_parts number s sub us)
+    arrive_still k = unchanged (Arrive a) m (HasArrived false) number s sub us st (by_arm ∙ ap (λ b. cond b (HasArrived true, with_arm Arrived (a % 256) m) (HasArrived false, m)) k)
+
+    pub arrive_moves : (us' : List AttachedState) → arm ≡ InMotion → ArmChanges place Arrived us us' → DoesQuietly (Arrive a) m (HasArrived true) (of_parts number s sub us')
+    arrive_moves us' k c = quiet (Arrive a) m (HasArrived true) number s sub us s sub us' st
+        (ap images c.becomes ∙ map_same (λ (u : AttachedState). u.drive.image) us place c.attached (record c.attached { arm = Arrived }) c.was refl)
+        (subst (λ r. ShowsNext r (HasArrived true) (of_parts number s sub us')) (sym (by_arm ∙ ap (λ arm. cond (is_in_motion arm) (HasArrived true, with_arm Arrived (a % 256) m) (HasArrived false, m)) k))
+        (record {
+          answers = refl;
+          shows = subst (λ us. Shows (of_parts number s sub us) (with_arm Arrived (a % 256) m) sub) (sym in_place)
+              (subst (λ device. Shows (of_parts number s sub (slice_set us place (record f.attached { arm = Arrived }))) (with_arm Arrived device m) sub) f.same_device
+              (shows_armed (of_parts number s sub us) m place f.attached Arrived (distinct_drives (of_parts number s sub us) m seen_here st.sound) f.is_there sub st.shows));
+        }))
+      where
+        in_place : us' ≡ slice_set us place (record f.attached { arm = Arrived })
+        in_place = c.becomes ∙ ap (λ (v : AttachedState). slice_set us place (record v { arm = Arrived })) (inside c.attached f.attached (sym c.was ∙ f.is_there))
+
+-- Interruptions, by what the subchannel does.
+
+-- while the channel is available
+pub interrupt_idle : (number : ℕ) (s : Storage) (us : List AttachedState) (m : Machine) (told : Option (ℕ × Csw)) (s' : Storage) (us' : List AttachedState) → StandsFor (of_parts number s Idle us) m
+    → DoesOn number (λ m. interrupt_device m (lowest (filter has_arrived m.devices))) (Interrupted told) s us s' Idle us' → images us' ≡ images us → DoesQuietly Interrupt m (Interrupted told) (of_parts number s' Idle us')
+interrupt_idle number s us m told s' us' st does same = quiet Interrupt m (Interrupted told) number s Idle us s' Idle us' st same
+    (subst (λ m. ShowsNext (react Interrupt None m) (Interrupted told) (of_parts number s' Idle us')) (sym st.shows.0)
+    (does st.shows.1 (distinct_drives (of_parts number s Idle us) m (seen_by (of_parts number s Idle us) m Idle st.shows) st.sound)))
+
+-- while a channel status word pends
+pub interrupt_pending : (number : ℕ) (s : Storage) (device : ℕ) (csw : Csw) (us : List AttachedState) (m : Machine) (told : ℕ × Csw) (s' : Storage) → StandsFor (of_parts number s (Pending device csw) us) m
+    → told ≡ (256 * number + device, csw) → s' ≡ changed (csw_stored csw) s → DoesQuietly Interrupt m (Interrupted (Some told)) (of_parts number s' Idle us)
+interrupt_pending number s device csw us m told s' st is stored = quiet Interrupt m (Interrupted (Some told)) number s (Pending device csw) us s' Idle us st refl
+    (subst (λ m. ShowsNext (react Interrupt None m) (Interrupted (Some told)) (of_parts number s' Idle us)) (sym st.shows.0)
+    (record { answers = ap (λ t. Interrupted (Some t)) is; shows = (ap (λ s. idle_machine number s us) (sym stored), st.shows.1) }))
+
+-- While a program runs.
+
+-- where a phase asks for no interruption, taking one changes nothing
+not_asked : (p : Place) (csw : Csw) → (cond p.interruption (Some csw) None) ≡ None → record p { interruption = false } ≡ p
+not_asked p csw h = ap (λ b. record p { interruption = b }) (go p.interruption h)
+  where
+    go : (b : Bool) → cond b (Some csw) None ≡ None → false ≡ b
+    go true h = absurd (cc)
+    go false h = refl
+
+none_taken : (key : ℕ) (phase : ProgramPhase) → (standing_in key phase).interruption ≡ None → phase_past TakesInterruption phase ≡ phase
+none_taken key (Between p) h = ap (λ place. Between (record p { place = place })) (not_asked p.place _ h)
+none_taken key (Looking o r) h = ap (λ place. Looking o (record r { place = place })) (not_asked r.place _ h)
+none_taken key (Moving o t) h = ap (λ place. Moving o (record t { place = place })) (not_asked t.place _ h)
+
+module _ (taking : StandsAfterInterruption) (changing : StandsAfterChange) (number : ℕ) (s : Storage) (place : ℕ) (r : RunningState) (us : List AttachedState) (m : Machine) (st : StandsFor (of_parts number s (Working place r) us) m) where
+  abbrev w : WorksFor (of_parts number s (Working place r) us) place r m
+  w = st.shows
+
+  module _ (told : Option (ℕ × Csw)) (r' : RunningState) (s' : Storage) (device : ℕ) (is_device : Some device ≡ option_map (λ (u : AttachedState). u.device) (slice_get us place)) (t : TakesProgram number device told r r' s s') where
+    same_device : device ≡ w.attached.device
+    same_device = inside device w.attached.device (is_device ∙ ap (option_map (λ (u : AttachedState). u.device)) w.is_there)
+
+    -- what the machine asks for is what is taken
+    asks : asked_by (run_of m w.attached.device w.script) ≡ (standing_in r.key (phase_in r s w.attached.drive)).interruption
+    asks = ap asked_by (seen_there (of_parts number s (Working place r) us) place r m w st.sound)
+
+    reacts : (x : Option Csw) → (standing_in r.key (phase_in r s w.attached.drive)).interruption ≡ x → react Interrupt None m ≡ interrupt_program w.attached.device w.script m x
+    reacts x h = ap (λ (n : Machine). machine.interrupt m n.subchannel) w.machine ∙ ap (interrupt_program w.attached.device w.script m) (asks ∙ h)
+
+    number_there : m.channel ≡ number
+    number_there = ap (λ (m : Machine). m.channel) w.machine
+
+    by_asked : (x : Option Csw) → (standing_in r.key (phase_in r s w.attached.drive)).interruption ≡ x → told ≡ option_map (λ csw. (256 * number + device, csw)) x
+        → ShowsNext (interrupt_program w.attached.device w.script m x) (Interrupted told) (of_parts number s' (Working place r') us)
+    by_asked None h is = record {
+      answers = ap Interrupted is;
+      shows = record {
+        attached = w.attached;
+        is_there = w.is_there;
+        storage = w.storage;
+        drive = w.drive;
+        script = w.script;
+        machine = w.machine;
+        runs = subst (λ s'. StandsAtRun (start_of m w.drive) w.script r' s' w.attached.drive) (sym (t.storage ∙ ap (λ told. storage_told told s) is)) (record {
+          together = t.stands w.attached.drive w.runs.together;
+          run = subst (λ key. StandsAt (start_of m w.drive) w.script key (phase_in r' s w.attached.drive)) (sym t.key)
+              (subst (StandsAt (start_of m w.drive) w.script r.key) (sym (t.taken s w.attached.drive ∙ none_taken r.key (phase_in r s w.attached.drive) h)) w.runs.run);
+        });
+        others = w.others;
+      };
+    }
+    by_asked (Some csw) h is = record {
+      answers = ap Interrupted (is ∙ ap (λ n. Some (n, csw)) (ap (λ device. 256 * number + device) same_device ∙ ap (λ channel. 256 * channel + w.attached.device) (sym number_there)));
+      shows = record {
+        attached = w.attached;
+        is_there = w.is_there;
+        storage = w.storage;
+        drive = w.drive;
+        script = w.script ++ TakesInterruption ∷ Outside (csw_stored csw) ∷ [];
+        machine = ap (with_subchannel (machine.Working w.attached.device (w.script ++ TakesInterruption ∷ Outside (csw_stored csw) ∷ []))) w.machine;
+        runs = subst (λ s'. StandsAtRun (start_of m w.drive) (w.script ++ TakesInterruption ∷ Outside (csw_stored csw) ∷ []) r' s' w.attached.drive) (sym (t.storage ∙ ap (λ told. storage_told told s) is))
+            (subst (λ script. StandsAtRun (start_of m w.drive) script r' (changed (csw_stored csw) s) w.attached.drive) (append_assoc w.script (TakesInterruption ∷ []) (Outside (csw_stored csw) ∷ []))
+            (changing (start_of m w.drive) (w.script ++ TakesInterruption ∷ []) r' s w.attached.drive (csw_stored csw)
+            (taking (start_of m w.drive) w.script r r' s w.attached.drive w.runs t.key (t.stands w.attached.drive w.runs.together) (t.taken s w.attached.drive))));
+        others = w.others;
+      };
+    }
+
+    pub interrupt_working : DoesQuietly Interrupt m (Interrupted told) (of_parts number s' (Working place r') us)
+    interrupt_working = quiet Interrupt m (Interrupted told) number s (Working place r) us s' (Working place r') us st refl
+        (subst (λ q. ShowsNext q (Interrupted told) (of_parts number s' (Working place r') us)) (sym (reacts _ refl)) (by_asked _ refl (t.told s w.attached.drive)))
+
+-- the place of the program that runs is one of the drives
+pub place_within : (number : ℕ) (s : Storage) (place : ℕ) (r : RunningState) (us : List AttachedState) → IsChannel (of_parts number s (Working place r) us) → place < length us
+place_within number s place r us is = slice_get_within us place is.stands.shows.attached is.stands.shows.is_there

@@ -1,36 +1,203 @@
 -- Steps, cuts and resets at a channel, by what its subchannel is.
-use Rattle.std.proofs.Common.{◌≡◌, ℕ, ◌+◌, ◌*◌, ◌/◌, ◌%◌, ◌≤◌, ◌<◌, refl, sym, ap, subst, ◌∙◌, arith, true, false, Bool, cond, ◌==◌, List, map, length, Option, Some, None}
+use Rattle.std.proofs.Common.{◌≡◌, ℕ, zero, suc, ◌+◌, ◌*◌, ◌/◌, ◌%◌, ◌≤◌, ◌⊎◌, inl, inr, refl, sym, ap, subst, ◌∙◌, arith, true, false, Bool, cond, ◌==◌, List, [], ◌∷◌, map, length, Option, Some, None, ◌<◌}
 use Rattle.std.proofs.lemmas.Bool.{eq-eqb}
-use Rattle.std.proofs.lemmas.List.{length-set}
-use Rattle.std.specs.Prelude.{option_map, is_some, position, slice_get, slice_set}
-use Rattle.s360_words.specs.Storage.{Storage}
+use Rattle.std.proofs.lemmas.List.{length-map, length-set}
+use Rattle.std.proofs.lemmas.Option.{slice_get_within}
+use Rattle.std.proofs.lemmas.Simd.{map-map}
+use Rattle.std.specs.Prelude.{option_map, is_some, slice_set, position, slice_get}
 use Rattle.s360_words.specs.declared.words.Csw.{Csw}
+use Rattle.s360_words.specs.Storage.{Storage}
+use Rattle.ckd_command.specs.Drive.{Fault}
 use Rattle.ckd_drive.specs.Work.{DriveState}
+use Rattle.s360_runs.specs.Endings.{Ending}
 use Rattle.s360_runs.specs.Status.{no_unit_status, no_channel_status}
-use Rattle.s360_program.specs.Advances.{AdvancesTo, TellsOf}
-use Rattle.s360_program.specs.Stands.{RunningState, Stands, phase_in}
+use Rattle.s360_runs.specs.Units.{standing_in}
+use Rattle.s360_program.specs.Advances.{Cuts, CutTellsOf, AdvancesTo, TellsOf}
+use Rattle.s360_program.specs.Advances as program
 use Rattle.s360_program.specs.declared.program.Ran.{Ran}
-use Rattle.s360_laws.specs.Events.{Answer, Event, StepBy, Stepped, Hio, WithCode, StatusStored, Reset, WasReset}
+use Rattle.s360_program.specs.Stands.{RunningState, phase_in, Stands}
+use Rattle.s360_laws.specs.declared.condition.ConditionCode.TheVariants.{Two, Three, Zero}
+use Rattle.s360_laws.specs.Events.{Answer, Hio, Reset, WithCode, WasReset, Event, StepBy, Stepped, StatusStored}
+use Rattle.s360_laws.specs.Machine.{Machine, react, ended, cut, halt_io, fault_in, reset, unsaved_at, address_of, all_at_rest, at_rest, is_working, step, device_at, with_status}
 use Rattle.s360_laws.specs.Machine as machine
-use Rattle.s360_laws.specs.Machine.{Machine, react, step, halt_io, device_at, with_status, on_channel}
-use Rattle.s360_laws.specs.declared.condition.ConditionCode.TheVariants.{Zero, Two, Three}
+use Rattle.s360_laws.specs.NothingTold.{TellsNoTrack}
+use Rattle.s360_laws.specs.Steps.{EndedByFault, ToldByReset}
 use Rattle.s360_laws.proofs.FindDevices.{different}
 use Rattle.s360_laws.proofs.LedgerLists.{stays}
+use Rattle.s360_laws.proofs.MachineFaults.{fault_told_by_reset}
 use Rattle.s360_laws.proofs.NoFaultTold.{no_fault_none_told}
+use Rattle.s360_events.specs.declared.conditions.Condition.{Condition}
+use Rattle.s360_events.specs.declared.conditions.Status.{Status}
 use Rattle.s360_events.specs.Seen.{condition_seen, status_seen}
-use Rattle.s360_channel.specs.Calls.{Does, CallsAtMost}
-use Rattle.s360_channel.specs.Channel.{ChannelState, AttachedState, Shows, WorksFor, StandsFor, IsChannel, AllRest, machine_of, is_at}
-use Rattle.s360_channel.specs.Ends.{arm_told, IsOver, MayBeCut, CutsProgram, LosesProgram, halted_idle, storage_halted}
-use Rattle.s360_channel.specs.DriveCalls.{DriveChanges, DriveIs, AdvancesAt, CutsAt, at_rest_attached}
+use Rattle.s360_channel.specs.Calls.{Does, IsMet, Reports, CallsAtMost}
+use Rattle.s360_channel.specs.Channel.{ChannelState, AttachedState, WorksFor, StandsFor, AllRest, device_of, machine_of, Shows, IsChannel, is_at}
 use Rattle.s360_channel.specs.declared.subchannel.Subchannel.{Subchannel}
-use Rattle.s360_channel.specs.declared.subchannel.Subchannel.TheVariants.{Idle, Working, Pending}
-use Rattle.s360_channel.proofs.Cutting.{halt_does, reset_does, idle_reset, nothing_does, nothing_calls, rest_calls}
-use Rattle.s360_channel.proofs.Overs.{with_drive, with_both, calls_at_most, failures_told, cut_calls}
-use Rattle.s360_channel.proofs.Places.{inside, get_set, set_twice, is_within, all_of_others, both_found}
-use Rattle.s360_channel.proofs.Stepping.{goes_on_does, ends_does, runs_of}
+use Rattle.s360_channel.specs.declared.subchannel.Subchannel.TheVariants.{Idle, Pending, Working}
+use Rattle.s360_channel.specs.DriveCalls.{at_rest_attached, DriveChanges, DriveIs, AdvancesAt, CutsAt}
+use Rattle.s360_channel.specs.Ends.{arm_told, IsOver, MayBeCut, CutsProgram, LosesProgram, halted_idle, storage_halted}
+use Rattle.s360_channel.proofs.Changing.{seen_by}
+use Rattle.s360_channel.proofs.Stepping.{with_drive, with_both, channel_with, same_failures, one_failure, few_drives, does_this, fault_told, met_in, over, over_machine, over_rest, over_fault, calls_at_most, failures_told, cut_calls, runs_of, goes_on_does, ends_does}
+use Rattle.s360_channel.proofs.Places.{devices, all_of_others, inside, get_set, set_twice, both_found}
+use Rattle.s360_channel.proofs.Quiet.{images, none_fails, quiet_does, calls_then_none, none_calls, nothing_does}
+use Rattle.s360_channel.proofs.Works.{subchannel_of, channel_of, seen_there, storage_seen}
 
-pub is_channel : (e : Event) (m : Machine) (answer : Answer) (old new : ChannelState) → Does e m answer old new → IsChannel new
-is_channel e m answer old new d = record { machine = (react e d.fault m).1; stands = d.stands }
+-- Cuts of a program that runs, by Halt I/O and by a reset; and a reset while none runs.
+
+fault_back : (f : Option Fault) → fault_in (met_in 0 f) ≡ f
+fault_back None = refl
+fault_back (Some f) = refl
+
+-- Drives as a reset leaves them.
+
+pub rest_images : (us : List AttachedState) → images (map at_rest_attached us) ≡ images us
+rest_images us = map-map (λ (u : AttachedState). u.drive.image) at_rest_attached us
+
+rest_devices : (us : List AttachedState) → map at_rest (devices us) ≡ devices (map at_rest_attached us)
+rest_devices us = map-map at_rest device_of us ∙ sym (map-map device_of at_rest_attached us)
+
+rest_all : (us : List AttachedState) → AllRest us → AllRest (map at_rest_attached us)
+rest_all [] h = tt
+rest_all (u ∷ us) h = (record { idle = h.0.idle; unwritten = h.0.unwritten }, rest_all us h.1)
+
+rest_few : (us : List AttachedState) → length us ≤ 8 → length (map at_rest_attached us) ≤ 8
+rest_few us h = subst (λ n. n ≤ 8) (sym (length-map us at_rest_attached)) h
+
+-- a channel that was reset, with the drives that it had
+abbrev pub reset_with : ChannelState → List AttachedState → ChannelState
+reset_with c us = record { number = c.number; storage = c.storage; subchannel = Idle; drives = map at_rest_attached us }
+
+-- A reset while no program runs.
+pub idle_reset : (c : ChannelState) (m : Machine) (s : machine.Subchannel) → StandsFor c m → is_working s ≡ false → m ≡ machine_of c s → AllRest c.drives → Does Reset m (WasReset None) c (reset_with c c.drives)
+idle_reset c m s stands calm is rest = quiet_does Reset m (WasReset None) c (reset_with c c.drives) stands (record {
+  answers = sym (ap (λ (a : Answer × Machine). a.0) (was s calm is));
+  stands = record {
+    number = stands.number;
+    few = rest_few c.drives stands.few;
+    shows = (ap (λ (a : Answer × Machine). a.1) (was s calm is), rest_all c.drives rest);
+    sound = stays m Reset None stands.sound;
+  };
+}) (rest_images c.drives)
+  where
+    resets : (s : machine.Subchannel) → is_working s ≡ false → react Reset None (machine_of c s) ≡ (WasReset None, all_at_rest (machine_of c s))
+    resets machine.Idle h = refl
+    resets (machine.Pending p csw) h = refl
+    resets (machine.Working p script) h = absurd (cc)
+
+    was : (s : machine.Subchannel) → is_working s ≡ false → m ≡ machine_of c s → react Reset None m ≡ (WasReset None, machine_of (reset_with c c.drives) machine.Idle)
+    was s h is = ap (react Reset None) is ∙ resets s h ∙ ap (λ ds. (WasReset None, record { channel = c.number; storage = c.storage; subchannel = machine.Idle; devices = ds })) (rest_devices c.drives)
+
+module _ (c : ChannelState) (place : ℕ) (r : RunningState) (m : Machine) (w : WorksFor c place r m) (stands : StandsFor c m)
+    (told : Csw × Bool × Option (ℕ × ℕ)) (new : DriveState) (how : Cuts r.key (phase_in r c.storage w.attached.drive) told w.attached.drive new) (tells : CutTellsOf told w.attached.drive new) where
+  abbrev ending : Ending
+  ending = (standing_in r.key (phase_in r c.storage w.attached.drive)).cut how.fault
+
+  is_cut : (f : Option Fault) → how.fault ≡ f → cut (fault_in (met_in 0 f)) w.attached.device m (machine.run_of m w.attached.device w.script) ≡ ended w.attached.device c.storage ending m
+  is_cut f is =
+      ap (cut (fault_in (met_in 0 f)) w.attached.device m) (seen_there c place r m w stands.sound)
+      ∙ (ap (λ f. ended w.attached.device (standing_in r.key (phase_in r c.storage w.attached.drive)).storage ((standing_in r.key (phase_in r c.storage w.attached.drive)).cut f) m) (fault_back f ∙ sym is)
+      ∙ ap (λ s. ended w.attached.device s ending m) (storage_seen r.key r.stage r.place c.storage w.attached.drive.state w.attached.drive.work))
+
+  over_machine_now : ended w.attached.device c.storage ending m ≡ machine_of (over c place w.attached c.storage told.0 told.1 new) (machine.Pending w.attached.device told.0)
+  over_machine_now = over_machine c place r m w stands.sound c.storage (told.0, told.1) new ending how.is_ending
+
+  -- Halt I/O.
+
+  module _ (a : ℕ) (here : (a / 256 == c.number) ≡ true) where
+    abbrev now_over : ChannelState
+    now_over = over c place w.attached c.storage told.0 told.1 new
+
+    halt_by : (f : Option Fault) → how.fault ≡ f → react (Hio a) (met_in 0 f) m ≡ (WithCode Two, ended w.attached.device c.storage ending m)
+    halt_by f is =
+        ap (λ n. cond (a / 256 == n) (halt_io (fault_in (met_in 0 f)) (a % 256) m m.subchannel) (WithCode Three, m)) (channel_of c place r m w)
+        ∙ ap (λ b. cond b (halt_io (fault_in (met_in 0 f)) (a % 256) m m.subchannel) (WithCode Three, m)) here
+        ∙ ap (halt_io (fault_in (met_in 0 f)) (a % 256) m) (subchannel_of c place r m w)
+        ∙ ap (λ n. (WithCode Two, n)) (is_cut f is)
+
+    halt_met : (f : Option Fault) → program.IsMet f w.attached.drive new → IsMet (met_in 0 f) (WithCode Two) c now_over
+    halt_met None h = same_failures c c.storage (Pending w.attached.device told.0) place w.attached (with_both w.attached told.1 new) w.is_there h
+    halt_met (Some f) h = one_failure c c.storage (Pending w.attached.device told.0) place w.attached (with_both w.attached told.1 new) w.is_there h
+
+    halt_told : (f : Option Fault) → how.fault ≡ f → program.IsMet f w.attached.drive new → Reports (Hio a) m (met_in 0 f)
+    halt_told None is h = no_fault_none_told m (Hio a) (runs_of m stands.sound)
+    halt_told (Some f) is h = subst (λ a. EndedByFault a (WithCode Two)) (sym (halt_by (Some f) is))
+        (over_fault c place r m w stands.sound c.storage (told.0, told.1) new ending how.is_ending (WithCode Two) (fault_told (told.0, told.1) w.attached.drive new tells.fault h))
+
+    pub halt_does : Does (Hio a) m (WithCode Two) c now_over
+    halt_does = does_this (Hio a) m (WithCode Two) c now_over (met_in 0 how.fault) (ended w.attached.device c.storage ending m) stands (halt_by how.fault refl) refl
+        (few_drives c c.storage (Pending w.attached.device told.0) place w.attached (with_both w.attached told.1 new) w.is_there stands.few)
+        (over_machine_now, over_rest c place r m w stands.sound c.storage (told.0, told.1) new ending how.is_ending) (halt_met how.fault how.met) (halt_told how.fault refl how.met)
+
+  -- A reset.
+
+  abbrev drives_then : List AttachedState
+  drives_then = slice_set c.drives place (with_drive w.attached new)
+
+  -- the track that was not saved, with the address
+  abbrev lost : Option (ℕ × ℕ × ℕ)
+  lost = option_map (λ t. (256 * c.number + w.attached.device, t.0, t.1)) told.2
+
+  reset_by : (f : Option Fault) → how.fault ≡ f → react Reset (met_in 0 f) m ≡ (WasReset lost, all_at_rest (ended w.attached.device c.storage ending m))
+  reset_by f is =
+      ap (reset (fault_in (met_in 0 f)) m) (subchannel_of c place r m w)
+      ∙ ap (λ n. (WasReset (unsaved_at (address_of m w.attached.device) (fault_in (met_in 0 f)) (machine.run_of m w.attached.device w.script)), all_at_rest n)) (is_cut f is)
+      ∙ ap (λ t. (WasReset t, all_at_rest (ended w.attached.device c.storage ending m))) (
+      ap (unsaved_at (address_of m w.attached.device) (fault_in (met_in 0 f))) (seen_there c place r m w stands.sound)
+      ∙ ap (λ f. option_map (λ t. (address_of m w.attached.device, t.0, t.1)) ((standing_in r.key (phase_in r c.storage w.attached.drive)).cut f).unsaved) (fault_back f ∙ sym is)
+      ∙ ap (λ n. option_map (λ t. (256 * n + w.attached.device, t.0, t.1)) ending.unsaved) (channel_of c place r m w)
+      ∙ ap (option_map (λ t. (256 * c.number + w.attached.device, t.0, t.1))) (sym how.unsaved)
+      )
+
+  -- the arm does not matter then
+  same_rest : (us : List AttachedState) (n : ℕ) (u v : AttachedState) → at_rest (device_of u) ≡ at_rest (device_of v) → map at_rest (devices (slice_set us n u)) ≡ map at_rest (devices (slice_set us n v))
+  same_rest [] n u v h = refl
+  same_rest (x ∷ us) zero u v h = ap (λ d. d ∷ map at_rest (devices us)) h
+  same_rest (x ∷ us) (suc n) u v h = ap (λ ds. at_rest (device_of x) ∷ ds) (same_rest us n u v h)
+
+  reset_machine : all_at_rest (ended w.attached.device c.storage ending m) ≡ machine_of (reset_with c drives_then) machine.Idle
+  reset_machine =
+      ap all_at_rest over_machine_now
+      ∙ ap (λ ds. record { channel = c.number; storage = c.storage; subchannel = machine.Idle; devices = ds })
+      (same_rest c.drives place (with_both w.attached told.1 new) (with_drive w.attached new) refl ∙ rest_devices drives_then)
+
+  reset_met : (f : Option Fault) → program.IsMet f w.attached.drive new → IsMet (met_in 0 f) (WasReset lost) c (reset_with c drives_then)
+  reset_met None h = none_fails (channel_with c c.storage Idle place (with_drive w.attached new)) (reset_with c drives_then) (rest_images drives_then) ∙ same_failures c c.storage Idle place w.attached (with_drive w.attached new) w.is_there h
+  reset_met (Some f) h = none_fails (channel_with c c.storage Idle place (with_drive w.attached new)) (reset_with c drives_then) (rest_images drives_then) ∙ one_failure c c.storage Idle place w.attached (with_drive w.attached new) w.is_there h
+
+  -- where no fault is met no track is reported
+  untold : react Reset None m ≡ react Reset (met_in 0 how.fault) m → is_some told.2 ≡ true → ⊥
+  untold same some = none_some told.2 (no_track lost (ap (λ (a : Answer × Machine). a.0) (same ∙ reset_by how.fault refl)) (no_fault_none_told m Reset (runs_of m stands.sound)).0) some
+    where
+      no_track : (t : Option (ℕ × ℕ × ℕ)) → (react Reset None m).0 ≡ WasReset t → TellsNoTrack (react Reset None m).0 → t ≡ None
+      no_track t h n = subst TellsNoTrack h n
+
+      none_some : (t : Option (ℕ × ℕ)) → option_map {U = ℕ × ℕ × ℕ} (λ t. (256 * c.number + w.attached.device, t.0, t.1)) t ≡ None → is_some t ≡ true → ⊥
+      none_some None h s = cc
+      none_some (Some t) h s = cc
+
+  reset_told : (f : Option Fault) → how.fault ≡ f → program.IsMet f w.attached.drive new → Reports Reset m (met_in 0 f)
+  reset_told None is h = no_fault_none_told m Reset (runs_of m stands.sound)
+  reset_told (Some f) is h = go (fault_told_by_reset m (record { units = 0; fault = f }) (runs_of m stands.sound)) tells.unsaved
+    where
+      go : ((react Reset (met_in 0 (Some f)) m ≡ react Reset None m) ⊎ ToldByReset m (react Reset (met_in 0 (Some f)) m))
+          → ((new.image.failures ≡ w.attached.drive.image.failures) ⊎ (is_some told.2 ≡ true)) → ToldByReset m (react Reset (met_in 0 (Some f)) m)
+      go (inr t) u = t
+      go (inl same) (inl stays) = absurd (omega (arith, stays, h))
+      go (inl same) (inr some) = absurd (untold (sym same ∙ ap (λ f. react Reset (met_in 0 f) m) (sym is)) some)
+
+  pub reset_does : Does Reset m (WasReset lost) c (reset_with c drives_then)
+  reset_does = does_this Reset m (WasReset lost) c (reset_with c drives_then) (met_in 0 how.fault) (all_at_rest (ended w.attached.device c.storage ending m)) stands (reset_by how.fault refl) refl
+      (rest_few drives_then (few_drives c c.storage Idle place w.attached (with_drive w.attached new) w.is_there stands.few))
+      (reset_machine, rest_all drives_then (all_of_others c.drives place (with_drive w.attached new) w.others how.is_ending.drive.rests)) (reset_met how.fault how.met) (reset_told how.fault refl how.met)
+
+-- Steps, cuts and resets at a channel, by what its subchannel is.
+
+-- What is done of a channel's parts is done of the channel, which is one behind it.
+pub whole_does : (e : Event) (answer : Answer) (most : ℕ) (parts whole new : ChannelState) → parts ≡ whole → IsChannel parts → ((m : Machine) → StandsFor parts m → Does e m answer parts new × CallsAtMost most parts new)
+    → ((m : Machine) → StandsFor whole m → Does e m answer whole new) × CallsAtMost most whole new × IsChannel new
+whole_does e answer most parts whole new same is d =
+    let this = d is.machine is.stands in
+    subst (λ o. ((m : Machine) → StandsFor o m → Does e m answer o new) × CallsAtMost most o new × IsChannel new) same
+    (λ m s. (d m s).0, this.1, record { machine = (react e this.0.fault is.machine).1; stands = this.0.stands })
 
 pub works : (c : ChannelState) (m : Machine) (place : ℕ) (r : RunningState) → c.subchannel ≡ Working place r → StandsFor c m → WorksFor c place r m
 works c m place r is s = subst (Shows c m) is s.shows
@@ -46,7 +213,7 @@ at_attached place How old new u d at =
     (d.drive, d.becomes ∙ ap (λ u. slice_set old place (with_drive u d.drive)) e, subst (λ u. How u.drive d.drive) e d.how)
 
 pub still_there : (place : ℕ) (How : DriveState → DriveState → Type 0) (old new : List AttachedState) → DriveChanges place How old new → place < length new
-still_there place How old new d = subst (λ n. place < n) (sym (ap length d.becomes ∙ length-set old place (with_drive d.attached d.drive))) (is_within old place d.attached d.was)
+still_there place How old new d = subst (λ n. place < n) (sym (ap length d.becomes ∙ length-set old place (with_drive d.attached d.drive))) (slice_get_within old place d.attached d.was)
 
 -- a program that is over, at the drive that it changed
 over_at : (place : ℕ) (csw : Csw) (motion : Bool) (old between new : List AttachedState) (u : AttachedState) (drive : DriveState) (subchannel : Subchannel) → IsOver place csw motion between new subchannel
@@ -67,56 +234,49 @@ none_steps c m k never Idle is h = ap (step k None m) (ap (λ (m : Machine). m.s
 none_steps c m k never (Pending device csw) is h = ap (step k None m) (ap (λ (m : Machine). m.subchannel) h.0)
 none_steps c m k never (Working place r) is h = absurd (never place r is)
 
-pub no_step_does : (c : ChannelState) (m : Machine) (k : ℕ) → ((place : ℕ) (r : RunningState) → c.subchannel ≡ Working place r → ⊥) → StandsFor c m → Does (StepBy k) m (Stepped 0) c c
-no_step_does c m k never s = nothing_does (StepBy k) m c (Stepped 0) s (none_steps c m k never c.subchannel refl s.shows)
+pub no_step_does : (c : ChannelState) (m : Machine) (k : ℕ) → ((place : ℕ) (r : RunningState) → c.subchannel ≡ Working place r → ⊥) → StandsFor c m → Does (StepBy k) m (Stepped 0) c c × CallsAtMost 0 c c
+no_step_does c m k never s = (nothing_does (StepBy k) m c (Stepped 0) s (none_steps c m k never c.subchannel refl s.shows), none_calls 0 c c refl)
 
 module _ (c : ChannelState) (m : Machine) (place : ℕ) (r : RunningState) (is : c.subchannel ≡ Working place r) (s : StandsFor c m) (k : ℕ) (a : Ran) (r' : RunningState) (st : Storage) (drives : List AttachedState)
     (d : DriveChanges place (AdvancesAt r c.storage k a r' st) c.drives drives) where
-  pub step_goes_on : a.ending ≡ None → Does (StepBy k) m (Stepped a.done) c (record { number = c.number; storage = st; subchannel = Working place r'; drives = drives })
-  step_goes_on e =
-      let w = works c m place r is s in
-      let y = at_attached place (AdvancesAt r c.storage k a r' st) c.drives drives w.attached d w.is_there in
-      subst (λ us. Does (StepBy k) m (Stepped a.done) c (record { number = c.number; storage = st; subchannel = Working place r'; drives = us })) (sym y.1)
-      (goes_on_does c place r m w s.sound s.number s.few k a.done st y.0 r' (subst (λ e. AdvancesTo r.key (phase_in r c.storage w.attached.drive) k a.done e r' st w.attached.drive y.0) e y.2.advances))
+  w : WorksFor c place r m
+  w = works c m place r is s
 
-  pub step_goes_on_calls : CallsAtMost (2 * a.done) c (record { number = c.number; storage = st; subchannel = Working place r'; drives = drives })
-  step_goes_on_calls =
-      let w = works c m place r is s in
-      let y = at_attached place (AdvancesAt r c.storage k a r' st) c.drives drives w.attached d w.is_there in
-      subst (λ us. CallsAtMost (2 * a.done) c (record { number = c.number; storage = st; subchannel = Working place r'; drives = us })) (sym y.1)
-      (calls_at_most c st (Working place r') place w.attached (with_drive w.attached y.0) w.is_there (2 * a.done) y.2.calls (failures_told a.ending w.attached.drive y.0 y.2.tells))
+  y : (drive : DriveState) × (drives ≡ slice_set c.drives place (with_drive w.attached drive)) × AdvancesAt r c.storage k a r' st w.attached.drive drive
+  y = at_attached place (AdvancesAt r c.storage k a r' st) c.drives drives w.attached d w.is_there
+
+  calls_most : (subchannel : Subchannel) (u : AttachedState) → u.drive ≡ y.0 → CallsAtMost (2 * a.done) c (channel_with c st subchannel place u)
+  calls_most subchannel u e =
+      calls_at_most c st subchannel place w.attached u w.is_there (2 * a.done) (rw (sym e) at y.2.calls) (rw (sym e) at (failures_told a.ending w.attached.drive y.0 y.2.tells))
 
   pub step_most : a.done ≤ k
-  step_most =
-      let w = works c m place r is s in
-      let y = at_attached place (AdvancesAt r c.storage k a r' st) c.drives drives w.attached d w.is_there in
-      go a.ending w.attached.drive y.0 y.2.advances
+  step_most = go a.ending y.2.advances
     where
-      equal : (a b : ℕ) → a ≡ b → a ≤ b
-      equal a b e = omega arith
+      go : (e : Option (Csw × Bool)) → AdvancesTo r.key (phase_in r c.storage w.attached.drive) k a.done e r' st w.attached.drive y.0 → a.done ≤ k
+      go None h = omega (arith, h.done)
+      go (Some told) h = h.done
 
-      go : (e : Option (Csw × Bool)) (old new : DriveState) → AdvancesTo r.key (phase_in r c.storage old) k a.done e r' st old new → a.done ≤ k
-      go None old new h = equal _ _ h.done
-      go (Some told) old new h = h.done
+  pub step_goes_on : a.ending ≡ None → Does (StepBy k) m (Stepped a.done) c (record { number = c.number; storage = st; subchannel = Working place r'; drives = drives })
+      × CallsAtMost (2 * a.done) c (record { number = c.number; storage = st; subchannel = Working place r'; drives = drives })
+  step_goes_on e =
+      let now : List AttachedState → ChannelState = λ us. record { number = c.number; storage = st; subchannel = Working place r'; drives = us } in
+      subst (λ us. Does (StepBy k) m (Stepped a.done) c (now us) × CallsAtMost (2 * a.done) c (now us)) (sym y.1) (
+        goes_on_does c place r m w s k a.done st y.0 r' (subst (λ e. AdvancesTo r.key (phase_in r c.storage w.attached.drive) k a.done e r' st w.attached.drive y.0) e y.2.advances),
+        calls_most (Working place r') (with_drive w.attached y.0) refl,
+      )
 
-  module _ (csw : Csw) (motion : Bool) (e : a.ending ≡ Some (csw, motion)) (now : List AttachedState) (subchannel : Subchannel) (o : IsOver place csw motion drives now subchannel) where
-    pub step_ends : Does (StepBy k) m (Stepped a.done) c (record { number = c.number; storage = st; subchannel = subchannel; drives = now })
-    step_ends =
-        let w = works c m place r is s in
-        let y = at_attached place (AdvancesAt r c.storage k a r' st) c.drives drives w.attached d w.is_there in
-        let z = over_at place csw motion c.drives drives now w.attached y.0 subchannel o w.is_there y.1 in
-        subst (λ us. Does (StepBy k) m (Stepped a.done) c (record { number = c.number; storage = st; subchannel = subchannel; drives = us })) (sym z.0)
-        (subst (λ sub. Does (StepBy k) m (Stepped a.done) c (record { number = c.number; storage = st; subchannel = sub; drives = slice_set c.drives place (with_both w.attached motion y.0) })) (sym z.1)
-        (ends_does c place r m w s.sound s.number s.few k a.done st y.0 (csw, motion) (subst (λ e. TellsOf e w.attached.drive y.0) e y.2.tells)
-        (subst (λ e. AdvancesTo r.key (phase_in r c.storage w.attached.drive) k a.done e r' st w.attached.drive y.0) e y.2.advances)))
-
-    pub step_ends_calls : CallsAtMost (2 * a.done) c (record { number = c.number; storage = st; subchannel = subchannel; drives = now })
-    step_ends_calls =
-        let w = works c m place r is s in
-        let y = at_attached place (AdvancesAt r c.storage k a r' st) c.drives drives w.attached d w.is_there in
-        let z = over_at place csw motion c.drives drives now w.attached y.0 subchannel o w.is_there y.1 in
-        subst (λ us. CallsAtMost (2 * a.done) c (record { number = c.number; storage = st; subchannel = subchannel; drives = us })) (sym z.0)
-        (calls_at_most c st subchannel place w.attached (with_both w.attached motion y.0) w.is_there (2 * a.done) y.2.calls (failures_told a.ending w.attached.drive y.0 y.2.tells))
+  pub step_ends : (csw : Csw) (motion : Bool) → a.ending ≡ Some (csw, motion) → (drives' : List AttachedState) (subchannel : Subchannel) → IsOver place csw motion drives drives' subchannel
+      → Does (StepBy k) m (Stepped a.done) c (record { number = c.number; storage = st; subchannel = subchannel; drives = drives' })
+      × CallsAtMost (2 * a.done) c (record { number = c.number; storage = st; subchannel = subchannel; drives = drives' })
+  step_ends csw motion e drives' subchannel o =
+      let z = over_at place csw motion c.drives drives drives' w.attached y.0 subchannel o w.is_there y.1 in
+      let now : Subchannel → List AttachedState → ChannelState = λ sub us. record { number = c.number; storage = st; subchannel = sub; drives = us } in
+      subst (λ us. Does (StepBy k) m (Stepped a.done) c (now subchannel us) × CallsAtMost (2 * a.done) c (now subchannel us)) (sym z.0)
+      (subst (λ sub. Does (StepBy k) m (Stepped a.done) c (now sub (slice_set c.drives place (with_both w.attached motion y.0))) × CallsAtMost (2 * a.done) c (now sub (slice_set c.drives place (with_both w.attached motion y.0)))) (sym z.1) (
+        ends_does c place r m w s k a.done st y.0 (csw, motion) (subst (λ e. TellsOf e w.attached.drive y.0) e y.2.tells)
+            (subst (λ e. AdvancesTo r.key (phase_in r c.storage w.attached.drive) k a.done e r' st w.attached.drive y.0) e y.2.advances),
+        calls_most (Pending w.attached.device csw) (with_both w.attached motion y.0) refl,
+      ))
 
 -- Cuts.
 
@@ -128,14 +288,9 @@ may_be_cut c m h (Working place r) is = there c m place r is h
 pub cut_allowed : (c : ChannelState) (m : Machine) → StandsFor c m → MayBeCut c.subchannel c.drives
 cut_allowed c m h = may_be_cut c m h c.subchannel refl
 
-channel_in : (c : ChannelState) (m : Machine) (s : Subchannel) → Shows c m s → m.channel ≡ c.number
-channel_in c m Idle h = ap (λ (m : Machine). m.channel) h.0
-channel_in c m (Pending device csw) h = ap (λ (m : Machine). m.channel) h.0
-channel_in c m (Working place r) h = ap (λ (m : Machine). m.channel) h.machine
-
 on_this : (c : ChannelState) (m : Machine) (a : ℕ) (b : Bool) → StandsFor c m → (a / 256 == c.number) ≡ b → react (Hio a) None m ≡ cond b (halt_io None (a % 256) m m.subchannel) (WithCode Three, m)
 on_this c m a b s is =
-    ap (λ n. cond (a / 256 == n) (halt_io None (a % 256) m m.subchannel) (WithCode Three, m)) (channel_in c m c.subchannel s.shows)
+    ap (λ n. cond (a / 256 == n) (halt_io None (a % 256) m m.subchannel) (WithCode Three, m)) (seen_by c m c.subchannel s.shows).channel
     ∙ ap (λ b. cond b (halt_io None (a % 256) m m.subchannel) (WithCode Three, m)) is
 
 -- an address of another channel
@@ -148,116 +303,98 @@ halts_pending c m a device csw s here is = nothing_does (Hio a) m c (WithCode Ze
     (on_this c m a true s (eq-eqb _ _ here) ∙ ap (halt_io None (a % 256) m) (ap (λ (m : Machine). m.subchannel) (subst (Shows c m) is s.shows).0))
 
 -- while the channel is available
-pub halts_idle : (c : ChannelState) (m : Machine) (a : ℕ) → StandsFor c m → a / 256 ≡ c.number → c.subchannel ≡ Idle
-    → Does (Hio a) m (condition_seen status_seen (halted_idle (is_some (position (is_at (a % 256)) c.drives)))) c
-    (record { number = c.number; storage = storage_halted (is_some (position (is_at (a % 256)) c.drives)) c.storage; subchannel = c.subchannel; drives = c.drives })
-halts_idle c m a s here is =
-    subst (λ b. Does (Hio a) m (condition_seen status_seen (halted_idle b)) c (record { number = c.number; storage = storage_halted b c.storage; subchannel = c.subchannel; drives = c.drives }))
-    (sym (both_found (a % 256) c.drives)) (go (is_some (device_at (machine_of c machine.Idle) (a % 256))) refl)
-  where
-    shown : (m ≡ machine_of c machine.Idle) × AllRest c.drives
-    shown = subst (Shows c m) is s.shows
+module _ (c : ChannelState) (m : Machine) (a : ℕ) (s : StandsFor c m) (here : a / 256 ≡ c.number) (is : c.subchannel ≡ Idle) where
+  abbrev halted : Bool → ChannelState
+  halted b = record { number = c.number; storage = storage_halted b c.storage; subchannel = c.subchannel; drives = c.drives }
 
-    halted : (b : Bool) → is_some (device_at (machine_of c machine.Idle) (a % 256)) ≡ b
-        → react (Hio a) None m ≡ cond b (StatusStored no_unit_status no_channel_status, with_status no_unit_status no_channel_status (machine_of c machine.Idle)) (WithCode Three, machine_of c machine.Idle)
-    halted b found =
-        on_this c m a true s (eq-eqb _ _ here) ∙ ap (λ m. halt_io None (a % 256) m m.subchannel) shown.0
-        ∙ ap (λ b. cond b (StatusStored no_unit_status no_channel_status, with_status no_unit_status no_channel_status (machine_of c machine.Idle)) (WithCode Three, machine_of c machine.Idle)) found
+  shown : (m ≡ machine_of c machine.Idle) × AllRest c.drives
+  shown = subst (Shows c m) is s.shows
 
-    stands_then : (b : Bool) → (react (Hio a) None m).1 ≡ machine_of (record { number = c.number; storage = storage_halted b c.storage; subchannel = c.subchannel; drives = c.drives }) machine.Idle
-        → StandsFor (record { number = c.number; storage = storage_halted b c.storage; subchannel = c.subchannel; drives = c.drives }) (react (Hio a) None m).1
-    stands_then b h = record {
+  reacts : (b : Bool) → is_some (device_at (machine_of c machine.Idle) (a % 256)) ≡ b
+      → react (Hio a) None m ≡ cond b (StatusStored no_unit_status no_channel_status, with_status no_unit_status no_channel_status (machine_of c machine.Idle)) (WithCode Three, machine_of c machine.Idle)
+  reacts b found =
+      on_this c m a true s (eq-eqb _ _ here) ∙ ap (λ m. halt_io None (a % 256) m m.subchannel) shown.0
+      ∙ ap (λ b. cond b (StatusStored no_unit_status no_channel_status, with_status no_unit_status no_channel_status (machine_of c machine.Idle)) (WithCode Three, machine_of c machine.Idle)) found
+
+  halts : (b : Bool) → react (Hio a) None m ≡ (condition_seen status_seen (halted_idle b), machine_of (halted b) machine.Idle) → Does (Hio a) m (condition_seen status_seen (halted_idle b)) c (halted b)
+  halts b h = quiet_does (Hio a) m (condition_seen status_seen (halted_idle b)) c (halted b) s (record {
+    answers = sym (ap (λ (a : Answer × Machine). a.0) h);
+    stands = record {
       number = s.number;
       few = s.few;
-      shows = subst (Shows (record { number = c.number; storage = storage_halted b c.storage; subchannel = c.subchannel; drives = c.drives }) (react (Hio a) None m).1) (sym is) (h, shown.1);
+      shows = subst (Shows (halted b) (react (Hio a) None m).1) (sym is) (ap (λ (a : Answer × Machine). a.1) h, shown.1);
       sound = stays m (Hio a) None s.sound;
-    }
+    };
+  }) refl
 
-    go : (b : Bool) → is_some (device_at (machine_of c machine.Idle) (a % 256)) ≡ b
-        → Does (Hio a) m (condition_seen status_seen (halted_idle b)) c (record { number = c.number; storage = storage_halted b c.storage; subchannel = c.subchannel; drives = c.drives })
-    go true found = record {
-      fault = None;
-      met = refl;
-      answers = sym (ap (λ (a : Answer × Machine). a.0) (halted true found));
-      stands = stands_then true (ap (λ (a : Answer × Machine). a.1) (halted true found));
-      reports = no_fault_none_told m (Hio a) (runs_of m s.sound);
-    }
-    go false found = record {
-      fault = None;
-      met = refl;
-      answers = sym (ap (λ (a : Answer × Machine). a.0) (halted false found));
-      stands = stands_then false (ap (λ (a : Answer × Machine). a.1) (halted false found));
-      reports = no_fault_none_told m (Hio a) (runs_of m s.sound);
-    }
+  idle_halts : Does (Hio a) m (condition_seen status_seen (halted_idle (is_some (position (is_at (a % 256)) c.drives)))) c (halted (is_some (position (is_at (a % 256)) c.drives)))
+  idle_halts = subst (λ b. Does (Hio a) m (condition_seen status_seen (halted_idle b)) c (halted b)) (sym (both_found (a % 256) c.drives)) (go (is_some (device_at (machine_of c machine.Idle) (a % 256))) refl)
+    where
+      go : (b : Bool) → is_some (device_at (machine_of c machine.Idle) (a % 256)) ≡ b → Does (Hio a) m (condition_seen status_seen (halted_idle b)) c (halted b)
+      go true found = halts true (reacts true found)
+      go false found = halts false (reacts false found)
+
+  pub halts_idle : (result : Condition Status) (st : Storage) → result ≡ halted_idle (is_some (position (is_at (a % 256)) c.drives)) → st ≡ storage_halted (is_some (position (is_at (a % 256)) c.drives)) c.storage
+      → Does (Hio a) m (condition_seen status_seen result) c (record c { storage = st }) × CallsAtMost 1 c (record c { storage = st })
+  halts_idle result st answer left = (
+    subst (λ r. Does (Hio a) m (condition_seen status_seen r) c (record c { storage = st })) (sym answer)
+        (subst (λ st. Does (Hio a) m (condition_seen status_seen (halted_idle (is_some (position (is_at (a % 256)) c.drives)))) c (record c { storage = st })) (sym left) idle_halts),
+    none_calls 1 c (record c { storage = st }) refl,
+  )
 
 -- the program that runs is cut
-module _ (c : ChannelState) (m : Machine) (place : ℕ) (r : RunningState) (is : c.subchannel ≡ Working place r) (s : StandsFor c m) (drives : List AttachedState) (subchannel : Subchannel) (h : CutsProgram c.subchannel c.drives drives subchannel) where
-  pub halts_working : (a : ℕ) → a / 256 ≡ c.number → Does (Hio a) m (WithCode Two) c (record { number = c.number; storage = c.storage; subchannel = subchannel; drives = drives })
-  halts_working a here =
-      let w = works c m place r is s in
-      let cuts = subst (λ sub. CutsProgram sub c.drives drives subchannel) is h in
-      let y = at_attached place (CutsAt r cuts.told) c.drives cuts.between w.attached cuts.cut w.is_there in
-      let z = over_at place cuts.told.0 cuts.told.1 c.drives cuts.between drives w.attached y.0 subchannel cuts.over w.is_there y.1 in
-      subst (λ us. Does (Hio a) m (WithCode Two) c (record { number = c.number; storage = c.storage; subchannel = subchannel; drives = us })) (sym z.0)
-      (subst (λ sub. Does (Hio a) m (WithCode Two) c (record { number = c.number; storage = c.storage; subchannel = sub; drives = slice_set c.drives place (with_both w.attached cuts.told.1 y.0) })) (sym z.1)
-      (halt_does c place r m w s.sound s.number s.few cuts.told y.0 (y.2.cut c.storage) y.2.tells a (eq-eqb _ _ here)))
-
-  pub halts_working_calls : CallsAtMost 1 c (record { number = c.number; storage = c.storage; subchannel = subchannel; drives = drives })
-  halts_working_calls =
-      let w = works c m place r is s in
-      let cuts = subst (λ sub. CutsProgram sub c.drives drives subchannel) is h in
-      let y = at_attached place (CutsAt r cuts.told) c.drives cuts.between w.attached cuts.cut w.is_there in
-      let z = over_at place cuts.told.0 cuts.told.1 c.drives cuts.between drives w.attached y.0 subchannel cuts.over w.is_there y.1 in
-      subst (λ us. CallsAtMost 1 c (record { number = c.number; storage = c.storage; subchannel = subchannel; drives = us })) (sym z.0)
-      (calls_at_most c c.storage subchannel place w.attached (with_both w.attached cuts.told.1 y.0) w.is_there 1 (cut_calls _ w.attached.drive y.0 (y.2.calls c.storage)) (failures_told (Some (cuts.told.0, cuts.told.1)) w.attached.drive y.0 y.2.tells.fault))
+pub halts_working : (c : ChannelState) (m : Machine) (place : ℕ) (r : RunningState) → c.subchannel ≡ Working place r → StandsFor c m → (drives : List AttachedState) (subchannel : Subchannel) → CutsProgram c.subchannel c.drives drives subchannel
+    → (a : ℕ) → a / 256 ≡ c.number → Does (Hio a) m (WithCode Two) c (record { number = c.number; storage = c.storage; subchannel = subchannel; drives = drives })
+    × CallsAtMost 1 c (record { number = c.number; storage = c.storage; subchannel = subchannel; drives = drives })
+halts_working c m place r is s drives subchannel h a here =
+    let w = works c m place r is s in
+    let cuts = subst (λ sub. CutsProgram sub c.drives drives subchannel) is h in
+    let y = at_attached place (CutsAt r cuts.told) c.drives cuts.between w.attached cuts.cut w.is_there in
+    let z = over_at place cuts.told.0 cuts.told.1 c.drives cuts.between drives w.attached y.0 subchannel cuts.over w.is_there y.1 in
+    let now : Subchannel → List AttachedState → ChannelState = λ sub us. record { number = c.number; storage = c.storage; subchannel = sub; drives = us } in
+    let u = with_both w.attached cuts.told.1 y.0 in
+    subst (λ us. Does (Hio a) m (WithCode Two) c (now subchannel us) × CallsAtMost 1 c (now subchannel us)) (sym z.0)
+    (subst (λ sub. Does (Hio a) m (WithCode Two) c (now sub (slice_set c.drives place u)) × CallsAtMost 1 c (now sub (slice_set c.drives place u))) (sym z.1) (
+      halt_does c place r m w s cuts.told y.0 (y.2.cut c.storage) y.2.tells a (eq-eqb _ _ here),
+      calls_at_most c c.storage (Pending w.attached.device cuts.told.0) place w.attached u w.is_there 1 (cut_calls _ w.attached.drive y.0 (y.2.calls c.storage))
+          (failures_told (Some (cuts.told.0, cuts.told.1)) w.attached.drive y.0 y.2.tells.fault),
+    ))
 
 -- Resets.
 
-module _ (c : ChannelState) (m : Machine) (s : StandsFor c m) (drives : List AttachedState) (unsaved : Option (ℕ × ℕ × ℕ)) where
-  all_rest : (sub : Subchannel) → c.subchannel ≡ sub → LosesProgram sub c.number c.drives drives unsaved → AllRest drives
-  all_rest Idle is h = subst AllRest (sym h.0) (subst (Shows c m) is s.shows).1
-  all_rest (Pending device csw) is h = subst AllRest (sym h.0) (subst (Shows c m) is s.shows).1
-  all_rest (Working place r) is h =
-      let w = works c m place r is s in
-      let y = at_attached place (CutsAt r h.told) c.drives drives w.attached h.cut w.is_there in
-      subst AllRest (sym y.1) (all_of_others c.drives place (with_drive w.attached y.0) w.others (y.2.cut c.storage).is_ending.drive.rests)
+module _ (c : ChannelState) (m : Machine) (s : StandsFor c m) where
+  -- what a reset does, which leaves these drives at rest and reports this track
+  abbrev pub Resets : List AttachedState → Option (ℕ × ℕ × ℕ) → Type 0
+  Resets us unsaved = AllRest us × Does Reset m (WasReset unsaved) c (reset_with c us) × CallsAtMost 1 c (reset_with c us)
 
-  does_reset : (sub : Subchannel) → c.subchannel ≡ sub → LosesProgram sub c.number c.drives drives unsaved
-      → Does Reset m (WasReset unsaved) c (record { number = c.number; storage = c.storage; subchannel = Idle; drives = map at_rest_attached drives })
-  does_reset Idle is h =
-      let y = subst (Shows c m) is s.shows in
-      subst (λ us. Does Reset m (WasReset unsaved) c (record { number = c.number; storage = c.storage; subchannel = Idle; drives = map at_rest_attached us })) (sym h.0)
-      (subst (λ t. Does Reset m (WasReset t) c (record { number = c.number; storage = c.storage; subchannel = Idle; drives = map at_rest_attached c.drives })) (sym h.1)
-      (idle_reset c m machine.Idle refl y.0 y.1 s.sound s.number s.few))
-  does_reset (Pending device csw) is h =
-      let y = subst (Shows c m) is s.shows in
-      subst (λ us. Does Reset m (WasReset unsaved) c (record { number = c.number; storage = c.storage; subchannel = Idle; drives = map at_rest_attached us })) (sym h.0)
-      (subst (λ t. Does Reset m (WasReset t) c (record { number = c.number; storage = c.storage; subchannel = Idle; drives = map at_rest_attached c.drives })) (sym h.1)
-      (idle_reset c m (machine.Pending device csw) refl y.0 y.1 s.sound s.number s.few))
-  does_reset (Working place r) is h =
-      let w = works c m place r is s in
-      let y = at_attached place (CutsAt r h.told) c.drives drives w.attached h.cut w.is_there in
-      let e : h.attached ≡ w.attached = inside h.attached w.attached (sym h.was ∙ w.is_there) in
-      let t : unsaved ≡ option_map (λ t. (256 * c.number + w.attached.device, t.0, t.1)) h.told.2 = h.tells ∙ ap (λ (u : AttachedState). option_map {U = ℕ × ℕ × ℕ} (λ t. (256 * c.number + u.device, t.0, t.1)) h.told.2) e in
-      subst (λ us. Does Reset m (WasReset unsaved) c (record { number = c.number; storage = c.storage; subchannel = Idle; drives = map at_rest_attached us })) (sym y.1)
-      (subst (λ t. Does Reset m (WasReset t) c (record { number = c.number; storage = c.storage; subchannel = Idle; drives = map at_rest_attached (slice_set c.drives place (with_drive w.attached y.0)) })) (sym t)
-      (reset_does c place r m w s.sound s.number s.few h.told y.0 (y.2.cut c.storage) y.2.tells))
+  module _ (drives : List AttachedState) (unsaved : Option (ℕ × ℕ × ℕ)) where
+    calm : (sub : machine.Subchannel) → is_working sub ≡ false → (m ≡ machine_of c sub) × AllRest c.drives → (drives ≡ c.drives) × (unsaved ≡ None) → Resets drives unsaved
+    calm sub quiet y h = subst (λ us. Resets us unsaved) (sym h.0)
+        (subst (Resets c.drives) (sym h.1) (y.1, idle_reset c m sub s quiet y.0 y.1, none_calls 1 c (reset_with c c.drives) (rest_images c.drives)))
 
-  calls_reset : (sub : Subchannel) → c.subchannel ≡ sub → LosesProgram sub c.number c.drives drives unsaved → CallsAtMost 1 c (record { number = c.number; storage = c.storage; subchannel = Idle; drives = drives })
-  calls_reset Idle is h = subst (λ us. CallsAtMost 1 c (record { number = c.number; storage = c.storage; subchannel = Idle; drives = us })) (sym h.0) (nothing_calls 1 c c.storage Idle)
-  calls_reset (Pending device csw) is h = subst (λ us. CallsAtMost 1 c (record { number = c.number; storage = c.storage; subchannel = Idle; drives = us })) (sym h.0) (nothing_calls 1 c c.storage Idle)
-  calls_reset (Working place r) is h =
-      let w = works c m place r is s in
-      let y = at_attached place (CutsAt r h.told) c.drives drives w.attached h.cut w.is_there in
-      subst (λ us. CallsAtMost 1 c (record { number = c.number; storage = c.storage; subchannel = Idle; drives = us })) (sym y.1)
-      (calls_at_most c c.storage Idle place w.attached (with_drive w.attached y.0) w.is_there 1 (cut_calls _ w.attached.drive y.0 (y.2.calls c.storage)) (failures_told (Some (h.told.0, h.told.1)) w.attached.drive y.0 y.2.tells.fault))
+    resets_by : (sub : Subchannel) → c.subchannel ≡ sub → LosesProgram sub c.number c.drives drives unsaved → Resets drives unsaved
+    resets_by Idle is h = calm machine.Idle refl (subst (Shows c m) is s.shows) h
+    resets_by (Pending device csw) is h = calm (machine.Pending device csw) refl (subst (Shows c m) is s.shows) h
+    resets_by (Working place r) is h =
+        let w = works c m place r is s in
+        let y = at_attached place (CutsAt r h.told) c.drives drives w.attached h.cut w.is_there in
+        let e : h.attached ≡ w.attached = inside h.attached w.attached (sym h.was ∙ w.is_there) in
+        let t : unsaved ≡ option_map (λ t. (256 * c.number + w.attached.device, t.0, t.1)) h.told.2 = h.tells ∙ ap (λ (u : AttachedState). option_map {U = ℕ × ℕ × ℕ} (λ t. (256 * c.number + u.device, t.0, t.1)) h.told.2) e in
+        let u = with_drive w.attached y.0 in
+        subst (λ us. Resets us unsaved) (sym y.1) (subst (Resets (slice_set c.drives place u)) (sym t) (
+          all_of_others c.drives place u w.others (y.2.cut c.storage).is_ending.drive.rests,
+          reset_does c place r m w s h.told y.0 (y.2.cut c.storage) y.2.tells,
+          calls_then_none 1 c (channel_with c c.storage Idle place u) (reset_with c (slice_set c.drives place u))
+              (calls_at_most c c.storage Idle place w.attached u w.is_there 1 (cut_calls _ w.attached.drive y.0 (y.2.calls c.storage)) (failures_told (Some (h.told.0, h.told.1)) w.attached.drive y.0 y.2.tells.fault))
+              (rest_images (slice_set c.drives place u)),
+        ))
 
-  module _ (h : LosesProgram c.subchannel c.number c.drives drives unsaved) where
-    pub lost_rests : AllRest drives
-    lost_rests = all_rest c.subchannel refl h
+    pub resets : LosesProgram c.subchannel c.number c.drives drives unsaved → Resets drives unsaved
+    resets h = resets_by c.subchannel refl h
 
-    pub resets : Does Reset m (WasReset unsaved) c (record { number = c.number; storage = c.storage; subchannel = Idle; drives = map at_rest_attached drives })
-    resets = does_reset c.subchannel refl h
-
-    pub resets_calls : CallsAtMost 1 c (record { number = c.number; storage = c.storage; subchannel = Idle; drives = map at_rest_attached drives })
-    resets_calls = rest_calls 1 c (record { number = c.number; storage = c.storage; subchannel = Idle; drives = drives }) (calls_reset c.subchannel refl h)
+    -- as the code leaves the subchannel and the drives
+    pub resets_to : LosesProgram c.subchannel c.number c.drives drives unsaved → (subchannel : Subchannel) (now : List AttachedState) → subchannel ≡ Idle → now ≡ map at_rest_attached drives
+        → Does Reset m (WasReset unsaved) c (record c { subchannel = subchannel; drives = now }) × CallsAtMost 1 c (record c { subchannel = subchannel; drives = now })
+    resets_to lost subchannel now idle rest =
+        subst (λ us. Does Reset m (WasReset unsaved) c (record c { subchannel = subchannel; drives = us }) × CallsAtMost 1 c (record c { subchannel = subchannel; drives = us })) (sym rest)
+        (subst (λ sub. Does Reset m (WasReset unsaved) c (record c { subchannel = sub; drives = map at_rest_attached drives }) × CallsAtMost 1 c (record c { subchannel = sub; drives = map at_rest_attached drives })) (sym idle) ((resets lost).1, (resets lost).2))

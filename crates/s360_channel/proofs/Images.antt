@@ -1,14 +1,14 @@
 -- Images that are taken out of a list of drives, one after another.
-use Rattle.std.proofs.Common.{◌≡◌, ℕ, suc, ◌-◌, ◌≤◌, refl, sym, ap, ◌∙◌, subst, arith, List, [], ◌∷◌, ◌++◌, map, length, Option, Some, None}
+use Rattle.std.proofs.Common.{drop, ◌≡◌, ℕ, suc, ◌-◌, ◌≤◌, refl, sym, ap, ◌∙◌, subst, arith, List, [], ◌∷◌, ◌++◌, map, length, Option, Some, None}
 use Rattle.std.specs.Prelude.{replicate}
 use Rattle.ckd_image.specs.Image.{ImageState}
 use Rattle.s360_channel.specs.Channel.{AttachedState, AllRest}
 use Rattle.s360_channel.specs.DriveCalls.{TakesFirst}
 
--- the rest of the drives rest
-pub rests_on : (us next : List AttachedState) (t : Option (ℕ × ImageState)) → TakesFirst us next t → AllRest us → AllRest next
-rests_on [] next t h r = subst AllRest (sym h.0) tt
-rests_on (u ∷ us) next t h r = subst AllRest (sym h.0) r.1
+-- the drives behind the first rest
+pub rest_behind : (us : List AttachedState) → AllRest us → AllRest (drop 1 us)
+rest_behind [] r = tt
+rest_behind (u ∷ us) r = r.1
 
 -- these are taken out, one after another
 abbrev pub AllTaken : List (Option (ℕ × ImageState)) → List AttachedState → Type 0

@@ -1,26 +1,30 @@
--- What the processor does to storage, at a channel and at the machine that it stands for.
-use Rattle.std.proofs.Common.{◌≡◌, ℕ, ◌+◌, refl, sym, ap, subst, ◌∙◌, true, false, Bool, cond, ◌||◌, ◌==◌, List, [], ◌∷◌, ◌++◌, length, None}
-use Rattle.std.specs.Prelude.{nat_lt, nat_le}
-use Rattle.s360_words.specs.Storage.{Storage, Change, Bytes, KeyOf, changed, is_within}
-use Rattle.s360_runs.specs.Scripts.{Outside}
-use Rattle.s360_runs.specs.Writes.{OutcomeKeepsSize}
+-- What the processor does to storage, at a channel and at the machine that it stands for; and a channel that finds another storage.
+use Rattle.std.proofs.Common.{◌≡◌, ℕ, ◌+◌, refl, sym, ap, subst, ◌∙◌, true, false, Bool, cond, ◌||◌, ◌==◌, List, [], ◌∷◌, ◌++◌, length, None, suc, ◌*◌, ◌/◌, ◌%◌, ◌≤◌, ◌<◌, arith, ◌&&◌}
+use Rattle.std.proofs.lemmas.Bool.{eqb-true, lt-ltb}
+use Rattle.std.proofs.lemmas.List.{length-set}
+use Rattle.std.specs.Prelude.{nat_lt, nat_le, slice_set, ◌||◌}
+use Rattle.s360_words.specs.Storage.{Storage, Change, Bytes, KeyOf, changed, is_within, is_size, overwritten}
 use Rattle.s360_runs.proofs.Sizes.{keeps_size}
 use Rattle.s360_runs.proofs.Standing.{goes_by}
+use Rattle.s360_runs.specs.Scripts.{Outside}
+use Rattle.s360_runs.specs.Writes.{OutcomeKeepsSize}
 use Rattle.s360_program.proofs.Ties.{after_change, seen}
 use Rattle.s360_laws.specs.Events.{Event, Store, SetKey, Show, Shown, WasKept, Answer}
+use Rattle.s360_laws.specs.Machine.{Machine, react, keep, change, part_of, storage_of, start_of, with_device, with_subchannel, after_all, plain}
 use Rattle.s360_laws.specs.Machine as machine
-use Rattle.s360_laws.specs.Machine.{Machine, react, keep, change, part_of, storage_of, start_of, with_device, with_subchannel}
-use Rattle.s360_laws.specs.Soundness.{IsSound}
 use Rattle.s360_laws.proofs.LedgerLists.{stays}
 use Rattle.s360_channel.specs.Calls.{DoesQuietly}
 use Rattle.s360_channel.specs.Channel.{ChannelState, IsChannel, Shows, StandsFor, WorksFor}
 use Rattle.s360_channel.specs.declared.subchannel.Subchannel.{Subchannel}
 use Rattle.s360_channel.specs.declared.subchannel.Subchannel.TheVariants.{Idle, Working, Pending}
+use Rattle.s360_channel.specs.Shares.{with_storage, FindsAnother, IsAsLarge, finding, keys_set}
 use Rattle.s360_channel.proofs.Works.{storage_there, storage_seen, subchannel_of}
+
+-- What the processor does to storage, at a channel and at the machine that it stands for.
 
 -- Storage is as large in the channel as in the machine.
 
-size_in : (c : ChannelState) (m : Machine) (s : Subchannel) → Shows c m s → length c.storage.bytes ≡ length m.storage.bytes
+pub size_in : (c : ChannelState) (m : Machine) (s : Subchannel) → Shows c m s → length c.storage.bytes ≡ length m.storage.bytes
 size_in c m Idle h = ap (λ (m : Machine). length m.storage.bytes) (sym h.0)
 size_in c m (Pending device csw) h = ap (λ (m : Machine). length m.storage.bytes) (sym h.0)
 size_in c m (Working place r) w =
@@ -31,13 +35,7 @@ within_size : (change : Change) (s t : Storage) → length s.bytes ≡ length t.
 within_size (Bytes at bytes) s t e = ap (λ n. (length bytes == 0) || nat_le (at + length bytes) n) e
 within_size (KeyOf at key) s t e = ap (nat_lt at) e
 
-pub same_within : (c : ChannelState) (m : Machine) (change : Change) → StandsFor c m → is_within change m.storage ≡ is_within change c.storage
-same_within c m change h = within_size change m.storage c.storage (sym (size_in c m c.subchannel h.shows))
-
 -- A change of storage.
-
-abbrev with_storage : ChannelState → Storage → ChannelState
-with_storage c s = record c { storage = s }
 
 shows_changed : (c : ChannelState) (m : Machine) (x : Change) (s : Subchannel) → Shows c m s → Shows (with_storage c (changed x c.storage)) (change x m m.subchannel) s
 shows_changed c m x Idle h = (ap (λ (m : Machine). change x m m.subchannel) h.0, h.1)
@@ -55,38 +53,22 @@ shows_changed c m x (Working place r) w = subst (λ s. WorksFor (with_storage c 
 
 pub keeps : (e : Event) (x : Change) → ((m : Machine) → react e None m ≡ keep x m) → (c : ChannelState) (m : Machine) → StandsFor c m
     → DoesQuietly e m (WasKept (is_within x c.storage)) (with_storage c (cond (is_within x c.storage) (changed x c.storage) c.storage))
-keeps e x is_keep c m h = go (is_within x c.storage) (same_within c m x h)
+keeps e x is_keep c m h = go (is_within x c.storage) (within_size x m.storage c.storage (sym (size_in c m c.subchannel h.shows)))
   where
-    after : (b : Bool) → Answer × Machine
-    after b = cond b (WasKept true, change x m m.subchannel) (WasKept false, m)
-
-    reacts : (b : Bool) → is_within x m.storage ≡ b → react e None m ≡ after b
-    reacts b k = is_keep m ∙ ap after k
-
-    sound_after : (b : Bool) → is_within x m.storage ≡ b → IsSound (after b).1
-    sound_after b k = subst (λ r. IsSound r.1) (reacts b k) (stays m e None h.sound)
-
-    stands : (b : Bool) → is_within x m.storage ≡ b → StandsFor (with_storage c (cond b (changed x c.storage) c.storage)) (after b).1
-    stands true k = record { number = h.number; few = h.few; shows = shows_changed c m x c.subchannel h.shows; sound = sound_after true k }
-    stands false k = h
-
-    told : (b : Bool) → WasKept b ≡ (after b).0
-    told true = refl
-    told false = refl
+    reacts : (b : Bool) → is_within x m.storage ≡ b → react e None m ≡ cond b (WasKept true, change x m m.subchannel) (WasKept false, m)
+    reacts b k = is_keep m ∙ ap (λ b. cond b (WasKept true, change x m m.subchannel) (WasKept false, m)) k
 
     go : (b : Bool) → is_within x m.storage ≡ b → DoesQuietly e m (WasKept b) (with_storage c (cond b (changed x c.storage) c.storage))
-    go b k = record {
-      answers = told b ∙ ap (λ r. r.0) (sym (reacts b k));
-      stands = subst (λ r. StandsFor (with_storage c (cond b (changed x c.storage) c.storage)) r.1) (sym (reacts b k)) (stands b k);
+    go true k = record {
+      answers = ap (λ (r : Answer × Machine). r.0) (sym (reacts true k));
+      stands = record {
+        number = h.number;
+        few = h.few;
+        shows = subst (λ (r : Answer × Machine). Shows (with_storage c (changed x c.storage)) r.1 c.subchannel) (sym (reacts true k)) (shows_changed c m x c.subchannel h.shows);
+        sound = stays m e None h.sound;
+      };
     }
-
-pub stores : (at : ℕ) (bytes : List ℕ) (c : ChannelState) (m : Machine) → StandsFor c m
-    → DoesQuietly (Store at bytes) m (WasKept (is_within (Bytes at bytes) c.storage)) (with_storage c (cond (is_within (Bytes at bytes) c.storage) (changed (Bytes at bytes) c.storage) c.storage))
-stores at bytes = keeps (Store at bytes) (Bytes at bytes) (λ m. refl)
-
-pub sets_key : (at key : ℕ) (c : ChannelState) (m : Machine) → StandsFor c m
-    → DoesQuietly (SetKey at key) m (WasKept (is_within (KeyOf at key) c.storage)) (with_storage c (cond (is_within (KeyOf at key) c.storage) (changed (KeyOf at key) c.storage) c.storage))
-sets_key at key = keeps (SetKey at key) (KeyOf at key) (λ m. refl)
+    go false k = record { answers = ap (λ (r : Answer × Machine). r.0) (sym (reacts false k)); stands = subst (λ (r : Answer × Machine). StandsFor c r.1) (sym (reacts false k)) h }
 
 -- A look at storage.
 
@@ -112,3 +94,91 @@ module _ (e : Event) (x : Change) (is_keep : (m : Machine) → react e None m �
 
   pub channel_kept : IsChannel c → IsChannel (with_storage c new)
   channel_kept h = record { machine = (react e None h.machine).1; stands = (does_kept h.machine h.stands).stands }
+
+-- A channel that finds another storage.
+
+-- Bytes.
+
+all_overwritten : (old new : List ℕ) → length new ≡ length old → overwritten old 0 new ≡ new
+all_overwritten [] [] e = refl
+all_overwritten [] (y ∷ ys) e = absurd (omega (arith, e))
+all_overwritten (x ∷ xs) [] e = absurd (omega (arith, e))
+all_overwritten (x ∷ xs) (y ∷ ys) e = ap (λ r. y ∷ r) (all_overwritten xs ys (omega (arith, e)))
+
+within_all : (a b : ℕ) → a ≡ b → ((a == 0) || nat_le (0 + a) b) ≡ true
+within_all a b e = search (arith, e)
+
+-- Keys, one after another.
+
+abbrev set_keys : List ℕ → ℕ → List ℕ → List ℕ
+set_keys old block [] = old
+set_keys old block (k ∷ ks) = set_keys (slice_set old block k) (block + 1) ks
+
+step : (b : ℕ) → suc b + 1 ≡ suc (b + 1)
+step b = omega arith
+
+set_behind : (x : ℕ) (old : List ℕ) (block : ℕ) (ks : List ℕ) → set_keys (x ∷ old) (suc block) ks ≡ x ∷ set_keys old block ks
+set_behind x old block [] = refl
+set_behind x old block (k ∷ ks) = ap (λ n. set_keys (x ∷ slice_set old block k) n ks) (step block) ∙ set_behind x (slice_set old block k) (block + 1) ks
+
+all_set : (old ks : List ℕ) → length ks ≡ length old → set_keys old 0 ks ≡ ks
+all_set [] [] e = refl
+all_set [] (k ∷ ks) e = absurd (omega (arith, e))
+all_set (x ∷ xs) [] e = absurd (omega (arith, e))
+all_set (x ∷ xs) (k ∷ ks) e = set_behind k xs 0 ks ∙ ap (λ r. k ∷ r) (all_set xs ks (omega (arith, e)))
+
+block_of : (b : ℕ) → 2048 * b / 2048 ≡ b
+block_of b = omega arith
+
+keys_found : (ks : List ℕ) (block : ℕ) (c : ChannelState) (m : Machine) → block + length ks ≤ length c.storage.keys → length c.storage.bytes ≡ 2048 * length c.storage.keys
+    → StandsFor c m → StandsFor (with_storage c (record c.storage { keys = set_keys c.storage.keys block ks })) (after_all (plain (keys_set block ks)) m)
+keys_found [] block c m l e s = s
+keys_found (k ∷ ks) block c m l e s =
+    let one : Storage = record c.storage { keys = slice_set c.storage.keys block k } in
+    let d = keeps (SetKey (2048 * block) k) (KeyOf (2048 * block) k) (λ m. refl) c m s in
+    let there : StandsFor (with_storage c one) (react (SetKey (2048 * block) k) None m).1 =
+    subst (λ n. StandsFor (with_storage c (record c.storage { keys = slice_set c.storage.keys n k })) (react (SetKey (2048 * block) k) None m).1) (block_of block)
+    (subst (λ b. StandsFor (with_storage c (cond b (changed (KeyOf (2048 * block) k) c.storage) c.storage)) (react (SetKey (2048 * block) k) None m).1)
+    (lt-ltb (2048 * block) (length c.storage.bytes) (within block (length ks) (length c.storage.keys) (length c.storage.bytes) l e)) d.stands) in
+    keys_found ks (block + 1) (with_storage c one) (react (SetKey (2048 * block) k) None m).1
+    (subst (λ n. block + 1 + length ks ≤ n) (sym (length-set c.storage.keys block k)) (more block (length ks) (length c.storage.keys) l))
+    (e ∙ ap (λ n. 2048 * n) (sym (length-set c.storage.keys block k))) there
+  where
+    within : (b n keys bytes : ℕ) → b + suc n ≤ keys → bytes ≡ 2048 * keys → 2048 * b < bytes
+    within b n keys bytes l e = omega (arith, l, e)
+
+    more : (b n keys : ℕ) → b + suc n ≤ keys → b + 1 + n ≤ keys
+    more b n keys l = omega (arith, l)
+
+pub finds_another : FindsAnother
+finds_another c m s large h =
+    let d = keeps (Store 0 s.bytes) (Bytes 0 s.bytes) (λ m. refl) c m h in
+    let one : Storage = record c.storage { bytes = s.bytes } in
+    let there : StandsFor (with_storage c one) (react (Store 0 s.bytes) None m).1 =
+    subst (λ bytes. StandsFor (with_storage c (record c.storage { bytes = bytes })) (react (Store 0 s.bytes) None m).1) (all_overwritten c.storage.bytes s.bytes large.bytes)
+    (subst (λ b. StandsFor (with_storage c (cond b (changed (Bytes 0 s.bytes) c.storage) c.storage)) (react (Store 0 s.bytes) None m).1) (within_all (length s.bytes) (length c.storage.bytes) large.bytes) d.stands) in
+    subst (λ keys. StandsFor (with_storage c (record one { keys = keys })) (finding s m)) (all_set c.storage.keys s.keys large.keys)
+    (keys_found s.keys 0 (with_storage c one) (react (Store 0 s.bytes) None m).1 (within_keys (length s.keys) (length c.storage.keys) large.keys) (large.blocks ∙ ap (λ n. 2048 * n) large.keys) there)
+  where
+    within_keys : (a b : ℕ) → a ≡ b → 0 + a ≤ b
+    within_keys a b e = omega (arith, e)
+
+-- what the code asks of two sizes
+blocks_of : (n : ℕ) → is_size n ≡ true → n ≡ 2048 * (n / 2048)
+blocks_of n h = go (nat_le 4096 n) (nat_le n 16777216) (n % 2048 == 0) refl h
+  where
+    whole : (n : ℕ) → n % 2048 ≡ 0 → n ≡ 2048 * (n / 2048)
+    whole n e = omega (arith, e)
+
+    go : (a b c : Bool) → (n % 2048 == 0) ≡ c → (a && b && c) ≡ true → n ≡ 2048 * (n / 2048)
+    go true true true e h = whole n (eqb-true (n % 2048) 0 e)
+    go true true false e h = absurd (cc)
+    go true false c e h = absurd (cc)
+    go false b c e h = absurd (cc)
+
+pub as_large : (s t : Storage) (a b : ℕ) → a ≡ length s.bytes → is_size a ≡ true → length s.keys ≡ a / 2048 → b ≡ length t.bytes → length t.keys ≡ b / 2048 → a ≡ b → IsAsLarge s t
+as_large s t a b e z k f l h = record {
+  bytes = sym e ∙ (h ∙ f);
+  keys = k ∙ (ap (λ n. n / 2048) h ∙ sym l);
+  blocks = sym e ∙ (blocks_of a z ∙ ap (λ n. 2048 * n) (sym k));
+}

@@ -1,14 +1,14 @@
 -- Lists of events at a channel, one event more at a time.
-use Rattle.std.proofs.Common.{◌≡◌, ◌<◌, ◌≤◌, zero, suc, take, drop, length, length-drop, get_or, ℕ, ◌+◌, List, [], ◌∷◌, ◌++◌, map, Option, Some, None, refl, sym, ap, ◌∙◌, subst, arith}
+use Rattle.std.proofs.Common.{◌≡◌, ◌<◌, ◌≤◌, take, drop, length, length-drop, get_or, ℕ, ◌+◌, List, [], ◌∷◌, ◌++◌, map, Option, Some, None, refl, sym, ap, ◌∙◌, subst, arith}
 use Rattle.s360_laws.specs.Events.{Event, Answer, WithCode, StatusStored, CswStored, Stepped, HasArrived, Interrupted, WasReset, WasKept, Shown, FaultAfter, Input}
 use Rattle.s360_laws.specs.Machine.{Machine, react, answers, after_all, plain}
 use Rattle.s360_laws.proofs.Headlines.{headline}
-use Rattle.std.proofs.lemmas.List.{map_more}
+use Rattle.std.proofs.lemmas.List.{append-nil, map-append, map_more, take_all}
 use Rattle.s360_events.specs.Seen.{event_seen, answer_seen}
 use Rattle.s360_events.specs.declared.answers.Answer as deck_answer
 use Rattle.s360_events.specs.declared.events.Event as deck_event
 use Rattle.s360_channel.specs.Calls.{CallsAtMost, Does, IsMet, Reports, most_calls}
-use Rattle.s360_channel.specs.Channel.{ChannelState, StandsFor, failures_of}
+use Rattle.s360_channel.specs.Channel.{AttachedState, ChannelState, StandsFor, failures_of}
 use Rattle.s360_channel.specs.Lists.{AllMet, Follows, AllReported, faults_in}
 
 -- What these events did at a channel, without what follows from it.
@@ -53,14 +53,11 @@ met_counts (Some x) (WasReset u) old new h = h
 met_counts (Some x) (WasKept k) old new h = h
 met_counts (Some x) (Shown s) old new h = h
 
-one_more_each : (a b c : ℕ) → a ≡ b + c → 1 + a ≡ 1 + b + c
-one_more_each a b c p = omega (arith, p)
-
 faults_one_more : (es : List Input) (e : Event) (x : Option FaultAfter) → faults_in (es ++ (e, x) ∷ []) ≡ faults_in es + met x
 faults_one_more [] e None = refl
 faults_one_more [] e (Some x) = refl
 faults_one_more ((d, None) ∷ es) e x = faults_one_more es e x
-faults_one_more ((d, Some y) ∷ es) e x = one_more_each _ _ _ (faults_one_more es e x)
+faults_one_more ((d, Some y) ∷ es) e x = let h = faults_one_more es e x in omega (arith, h)
 
 answers_one_more : (es : List Input) (i : Input) (m : Machine) → answers (es ++ i ∷ []) m ≡ answers es m ++ (react i.0 i.1 (after_all es m)).0 ∷ []
 answers_one_more [] i m = refl
@@ -74,13 +71,6 @@ reported_one_more : (es : List Input) (i : Input) (m : Machine) → AllReported 
 reported_one_more [] i m h r = (r, tt)
 reported_one_more (e ∷ es) i m h r = (h.0, reported_one_more es i (react e.0 e.1 m).1 h.1 r)
 
-map_one_more : {A B : Type 0} (f : A → B) (xs : List A) (x : A) → map f (xs ++ x ∷ []) ≡ map f xs ++ f x ∷ []
-map_one_more f [] x = refl
-map_one_more f (y ∷ xs) x = ap (λ l. f y ∷ l) (map_one_more f xs x)
-
-counts_join : (old mid new a b : ℕ) → mid ≡ old + a → new ≡ mid + b → new ≡ old + (a + b)
-counts_join old mid new a b p q = omega (arith, p, q)
-
 met_one_more : (es : List Input) (given : List Answer) (old mid new : ChannelState) (i : Input) (a : Answer)
     → AllMet es given old mid → IsMet i.1 a mid new → CallsAtMost (most_calls i.0 a) mid new → AllMet (es ++ i ∷ []) (given ++ a ∷ []) old new
 met_one_more [] [] old mid new i a h k l = (new, subst (λ old. IsMet i.1 a old new) h k, subst (λ old. CallsAtMost (most_calls i.0 a) old new) h l, refl)
@@ -88,17 +78,13 @@ met_one_more [] (b ∷ given) old mid new i a h k l = absurd h
 met_one_more (e ∷ es) [] old mid new i a h k l = absurd h
 met_one_more (e ∷ es) (b ∷ given) old mid new i a h k l = (h.0, h.1, h.2, met_one_more es given h.0 mid new i a h.3 k l)
 
-lasting_along : (es : List Input) (given : List Answer) (old new : ChannelState) → AllMet es given old new → map (λ u. u.drive.image.lasting) new.drives ≡ map (λ u. u.drive.image.lasting) old.drives
-lasting_along [] [] old new h = ap (λ (c : ChannelState). map (λ u. u.drive.image.lasting) c.drives) h
-lasting_along [] (b ∷ given) old new h = absurd h
-lasting_along (e ∷ es) [] old new h = absurd h
-lasting_along (e ∷ es) (b ∷ given) old new h = lasting_along es given h.0 new h.3 ∙ h.2.lasting
-
-geometries_along : (es : List Input) (given : List Answer) (old new : ChannelState) → AllMet es given old new → map (λ u. u.drive.image.geometry) new.drives ≡ map (λ u. u.drive.image.geometry) old.drives
-geometries_along [] [] old new h = ap (λ (c : ChannelState). map (λ u. u.drive.image.geometry) c.drives) h
-geometries_along [] (b ∷ given) old new h = absurd h
-geometries_along (e ∷ es) [] old new h = absurd h
-geometries_along (e ∷ es) (b ∷ given) old new h = geometries_along es given h.0 new h.3 ∙ h.2.geometries
+-- what stays at each call stays along the list
+along : {A : Type 0} (f : AttachedState → A) → ((most : ℕ) (old new : ChannelState) → CallsAtMost most old new → map f new.drives ≡ map f old.drives)
+    → (es : List Input) (given : List Answer) (old new : ChannelState) → AllMet es given old new → map f new.drives ≡ map f old.drives
+along f kept [] [] old new h = ap (λ (c : ChannelState). map f c.drives) h
+along f kept [] (b ∷ given) old new h = absurd h
+along f kept (e ∷ es) [] old new h = absurd h
+along f kept (e ∷ es) (b ∷ given) old new h = along f kept es given h.0 new h.3 ∙ kept _ _ _ h.2
 
 does_one_more : (m : Machine) (events : List Event) (given : List Answer) (old mid new : ChannelState) (d : Drove m events given old mid) (e : Event) (a : Answer)
     → Does e (after_all d.inputs m) a mid new → CallsAtMost (most_calls e a) mid new → Drove m (events ++ e ∷ []) (given ++ a ∷ []) old new
@@ -106,9 +92,8 @@ does_one_more m events given old mid new d e a does calls =
     let i : Input = (e, does.fault) in
     record {
       inputs = d.inputs ++ i ∷ [];
-      are_these = map_one_more (λ (i : Input). i.0) d.inputs i ∙ ap (λ l. l ++ e ∷ []) d.are_these;
-      faults = counts_join (failures_of old) (failures_of mid) (failures_of new) (faults_in d.inputs) (met does.fault) d.faults (met_counts does.fault a mid new does.met)
-          ∙ ap (λ n. failures_of old + n) (sym (faults_one_more d.inputs e does.fault));
+      are_these = map-append (λ (i : Input). i.0) d.inputs (i ∷ []) ∙ ap (λ l. l ++ e ∷ []) d.are_these;
+      faults = omega (arith, d.faults, met_counts does.fault a mid new does.met, faults_one_more d.inputs e does.fault);
       met = met_one_more d.inputs given old mid new i a d.met does.met calls;
       same_answers = ap (λ l. l ++ a ∷ []) d.same_answers ∙ ap (λ b. answers d.inputs m ++ b ∷ []) does.answers ∙ sym (answers_one_more d.inputs i m);
       stands = subst (StandsFor new) (sym (after_one_more d.inputs i m)) does.stands;
@@ -121,9 +106,6 @@ pub drove_one_more : (m : Machine) (events : List Event) (given : List Answer) (
 drove_one_more m events given old mid new e a does calls d =
     does_one_more m events given old mid new d e a (does (after_all d.inputs m) d.stands) calls
 
-one_is_some : (n : ℕ) → 1 + n ≡ 0 → ⊥
-one_is_some n h = omega (arith, h)
-
 -- one event more of a list of a deck's events
 pub goes_on : (m : Machine) (events : List deck_event.Event) (i : ℕ) (d : deck_event.Event) (given : List deck_answer.Answer) (old mid new : ChannelState) (a : deck_answer.Answer)
     → i < length events → ((now : Machine) → StandsFor mid now → Does (event_seen (get_or events i d)) now (answer_seen a) mid new)
@@ -132,25 +114,18 @@ pub goes_on : (m : Machine) (events : List deck_event.Event) (i : ℕ) (d : deck
     → Drove m (map event_seen (take (i + 1) events)) (map answer_seen (given ++ a ∷ [])) old new
 goes_on m events i d given old mid new a within does calls drove =
     subst (λ es. Drove m es (map answer_seen (given ++ a ∷ [])) old new) (sym (map_more event_seen events i d within))
-    (subst (λ all. Drove m (map event_seen (take i events) ++ event_seen (get_or events i d) ∷ []) all old new) (sym (map_one_more answer_seen given a))
+    (subst (λ all. Drove m (map event_seen (take i events) ++ event_seen (get_or events i d) ∷ []) all old new) (sym (map-append answer_seen given (a ∷ [])))
     (drove_one_more m _ _ old mid new _ _ does calls drove))
 
 -- where no fault is met, the events come without faults
 none_met : (es : List Input) → faults_in es ≡ 0 → es ≡ plain (map (λ i. i.0) es)
 none_met [] h = refl
 none_met ((e, None) ∷ es) h = ap (λ l. (e, None) ∷ l) (none_met es h)
-none_met ((e, Some x) ∷ es) h = absurd (one_is_some _ h)
-
-none_rose : (old new faults : ℕ) → new ≡ old + faults → new ≡ old → faults ≡ 0
-none_rose old new faults p q = omega (arith, p, q)
+none_met ((e, Some x) ∷ es) h = absurd (omega (arith, h))
 
 are_plain : (m : Machine) (events : List Event) (given : List Answer) (old new : ChannelState) (d : Drove m events given old new) → failures_of new ≡ failures_of old → d.inputs ≡ plain events
 are_plain m events given old new d same =
-    none_met d.inputs (none_rose (failures_of old) (failures_of new) (faults_in d.inputs) d.faults same) ∙ ap plain d.are_these
-
-append_none : {A : Type 0} (xs : List A) → xs ≡ xs ++ []
-append_none [] = refl
-append_none (x ∷ xs) = ap (λ l. x ∷ l) (append_none xs)
+    none_met d.inputs (omega (arith, d.faults, same)) ∙ ap plain d.are_these
 
 -- what follows from it
 pub drove_follows : (m : Machine) (events : List Event) (given : List Answer) (old new : ChannelState) → StandsFor old m → Drove m events given old new → Follows m events given old new
@@ -159,8 +134,8 @@ drove_follows m events given old new stands d = record {
   are_these = d.are_these;
   faults = d.faults;
   met = d.met;
-  lasting = lasting_along d.inputs given old new d.met;
-  geometries = geometries_along d.inputs given old new d.met;
+  lasting = along (λ u. u.drive.image.lasting) (λ most a b c. c.lasting) d.inputs given old new d.met;
+  geometries = along (λ u. u.drive.image.geometry) (λ most a b c. c.geometries) d.inputs given old new d.met;
   same_answers = d.same_answers;
   stands = d.stands;
   reported = d.reported;
@@ -170,7 +145,7 @@ drove_follows m events given old new stands d = record {
       record {
         same_answers = d.same_answers ∙ ap (λ es. answers es m) plainly;
         stands = subst (λ es. StandsFor new (after_all es m)) plainly d.stands;
-        is_serial = (headline m (plain events) stands.sound).is_serial (plain events) [] (append_none (plain events));
+        is_serial = (headline m (plain events) stands.sound).is_serial (plain events) [] (sym (append-nil (plain events)));
       };
 }
 
@@ -182,7 +157,4 @@ pub room_for_others : {A : Type 0} (answers room more i : ℕ) (events : List A)
 room_for_others answers room more i events within h grows = omega (arith, length-drop i events, length-drop (i + 1) events, within, h, grows)
 
 pub take_past : {A : Type 0} (i : ℕ) (xs : List A) → length xs ≤ i → take i xs ≡ xs
-take_past zero [] h = refl
-take_past (suc i) [] h = refl
-take_past zero (x ∷ xs) h = absurd (omega (arith, h))
-take_past (suc i) (x ∷ xs) h = ap (λ l. x ∷ l) (take_past i xs (omega (arith, h)))
+take_past i xs h = take_all i xs h

@@ -1,5 +1,6 @@
 -- A part of storage has the length that it is asked for.
-use Rattle.std.proofs.Common.{◌≡◌, ◌≤◌, ◌+◌, ◌-◌, ℕ, zero, suc, List, [], ◌∷◌, take, drop, Bool, true, false, Option, Some, None, length, slice_range, if◌then◌else◌, sym, ap, subst, arith}
+use Rattle.std.proofs.Common.{◌≡◌, ◌≤◌, ◌+◌, ◌-◌, ℕ, List, drop, Bool, true, false, Option, Some, None, length, slice_range, if◌then◌else◌, sym, ap, subst, arith}
+use Rattle.std.proofs.lemmas.List.{length-take}
 use Rattle.s360_words.specs.Storage.{Storage, is_inside}
 use Rattle.s360_laws.specs.Machine.{part_of}
 
@@ -11,17 +12,6 @@ if_length : (b : Bool) (xs : List ℕ) (len : ℕ) → length xs ≤ len → som
 if_length true xs len h = h
 if_length false xs len h = omega arith
 
-take_at_most : (n : ℕ) (l : List ℕ) → length (take n l) ≤ n
-take_at_most zero l = omega arith
-take_at_most (suc n) [] = omega arith
-take_at_most (suc n) (x ∷ l) = let h = take_at_most n l in omega (arith, h)
-
-cancel : (at len : ℕ) → at + len - at ≡ len
-cancel at len = omega arith
-
-range_length : (xs : List ℕ) (at len : ℕ) → length (slice_range xs at (at + len)) ≤ len
-range_length xs at len = subst (λ n. length (slice_range xs at (at + len)) ≤ n) (cancel at len) (take_at_most (at + len - at) (drop at xs))
-
 pub part_length : (s : Storage) (at len : ℕ) (bytes : List ℕ) → Some bytes ≡ part_of s at len → length bytes ≤ len
 part_length s at len bytes h =
-    subst (λ n. n ≤ len) (sym (ap some_length h)) (if_length (is_inside s at len) (slice_range s.bytes at (at + len)) len (range_length s.bytes at len))
+    subst (λ n. n ≤ len) (sym (ap some_length h)) (if_length (is_inside s at len) (slice_range s.bytes at (at + len)) len (omega (arith, length-take (at + len - at) (drop at s.bytes))))

@@ -1,15 +1,18 @@
 -- Drives at places, and the devices of a machine that they are.
-use Rattle.std.proofs.Common.{◌≡◌, ℕ, zero, suc, ◌+◌, ◌≤◌, ◌<◌, refl, sym, ap, ◌∙◌, subst, arith, true, false, Bool, cond, ◌==◌, List, [], ◌∷◌, ◌++◌, map, length, Option, Some, None}
+use Rattle.std.proofs.Common.{◌≡◌, ℕ, zero, suc, ◌+◌, ◌<◌, refl, sym, ap, ◌∙◌, subst, arith, true, false, Bool, cond, ◌==◌, List, [], ◌∷◌, ◌++◌, map, length, Option, Some, None}
+use Rattle.std.proofs.Math.Seq.{map-set_same}
 use Rattle.std.proofs.lemmas.Bool.{eq-eqb, eqb-true, ltb-true, ltb-false, lt-ltb, le-ltb}
-use Rattle.std.proofs.lemmas.List.Sums.{sum_by-cons}
+use Rattle.std.proofs.lemmas.List.{get_or-set_same, set-get_or, length-set}
+use Rattle.std.proofs.lemmas.List.Sums.{sum_by-set}
+use Rattle.std.proofs.lemmas.Option.{get_or_from_slice_get, slice_get-get_or, slice_get_within}
 use Rattle.std.specs.Prelude.{find, not, unwrap_or, option_map, is_some, position, sum_by, slice_get, slice_set, nat_lt}
 use Rattle.std.specs.List.{position_or_len}
 use Rattle.s360_laws.proofs.FindDevices.{different, Keeps, found_map}
-use Rattle.s360_laws.specs.Machine.{Device, Machine, with_device, device_at}
-use Rattle.s360_laws.specs.Machine as machine
+use Rattle.s360_laws.specs.Machine.{Device}
 use Rattle.s360_laws.specs.Soundness.{AreDistinct}
+use Rattle.s360_laws.specs.declared.arm.Arm.{Arm}
 use Rattle.s360_program.specs.Advances.{Rests}
-use Rattle.s360_channel.specs.Channel.{AttachedState, ChannelState, device_of, machine_of, AllRest, OthersRest, is_at}
+use Rattle.s360_channel.specs.Channel.{AttachedState, device_of, AllRest, OthersRest, is_at}
 
 pub none_is_some : {A : Type 0} {a : A} {P : Type 0} → None ≡ Some a → P
 none_is_some h = absurd (cc)
@@ -26,66 +29,36 @@ plus_one n = omega arith
 -- Lists at places.
 
 pub get_set : {A : Type 0} (us : List A) (place : ℕ) (u v : A) → slice_get us place ≡ Some u → slice_get (slice_set us place v) place ≡ Some v
-get_set [] place u v h = none_is_some h
-get_set (w ∷ us) zero u v h = refl
-get_set (w ∷ us) (suc place) u v h = get_set us place u v h
+get_set us place u v h =
+    slice_get-get_or (slice_set us place v) place v (subst (λ n. place < n) (sym (length-set us place v)) (slice_get_within us place u h))
+    ∙ ap Some (get_or-set_same us place v v (slice_get_within us place u h))
+
+pub get_other : {A : Type 0} (us : List A) (place p : ℕ) (v : A) → (p ≡ place → ⊥) → slice_get (slice_set us place v) p ≡ slice_get us p
+get_other [] place p v n = refl
+get_other (u ∷ us) zero zero v n = absurd (n refl)
+get_other (u ∷ us) zero (suc p) v n = refl
+get_other (u ∷ us) (suc place) zero v n = refl
+get_other (u ∷ us) (suc place) (suc p) v n = get_other us place p v (λ e. n (ap suc e))
 
 pub set_same : {A : Type 0} (us : List A) (place : ℕ) (u : A) → slice_get us place ≡ Some u → slice_set us place u ≡ us
-set_same [] place u h = none_is_some h
-set_same (w ∷ us) zero u h = ap (λ x. x ∷ us) (sym (inside w u h))
-set_same (w ∷ us) (suc place) u h = ap (λ r. w ∷ r) (set_same us place u h)
+set_same us place u h = sym (ap (slice_set us place) (get_or_from_slice_get us place u u h)) ∙ set-get_or us place u
 
 pub set_twice : {A : Type 0} (us : List A) (place : ℕ) (u v : A) → slice_set (slice_set us place u) place v ≡ slice_set us place v
 set_twice [] place u v = refl
 set_twice (w ∷ us) zero u v = refl
 set_twice (w ∷ us) (suc place) u v = ap (λ r. w ∷ r) (set_twice us place u v)
 
-pub is_within : {A : Type 0} (us : List A) (place : ℕ) (u : A) → slice_get us place ≡ Some u → place < length us
-is_within [] place u h = none_is_some h
-is_within (w ∷ us) zero u h = omega arith
-is_within (w ∷ us) (suc place) u h = let i = is_within us place u h in omega (arith, i)
-
-pub none_past : {A : Type 0} (us : List A) (place : ℕ) → length us ≤ place → slice_get us place ≡ None
-none_past [] place l = refl
-none_past (w ∷ us) zero l = absurd (omega (arith, l))
-none_past (w ∷ us) (suc place) l = none_past us place (omega (arith, l))
-
 -- what the drives at all places are like stays, where the new drive at a place is like the old one
 pub map_same : {A B : Type 0} (g : A → B) (us : List A) (place : ℕ) (u v : A) → slice_get us place ≡ Some u → g v ≡ g u → map g (slice_set us place v) ≡ map g us
-map_same g [] place u v h e = none_is_some h
-map_same g (w ∷ us) zero u v h e = ap (λ x. x ∷ map g us) (e ∙ ap g (sym (inside w u h)))
-map_same g (w ∷ us) (suc place) u v h e = ap (λ r. g w ∷ r) (map_same g us place u v h e)
+map_same g us place u v h e = map-set_same g us place v u (e ∙ ap g (sym (get_or_from_slice_get us place u u h)))
 
--- Sums over the drives.
-
+-- and a sum over them changes by what the two drives have
 pub sum_set : {A : Type 0} (f : A → ℕ) (us : List A) (place : ℕ) (u v : A) → slice_get us place ≡ Some u → sum_by f (slice_set us place v) + f u ≡ sum_by f us + f v
-sum_set f [] place u v h = none_is_some h
-sum_set f (w ∷ us) zero u v h = ap (λ k. k + f u) (sum_by-cons f v us) ∙ (go (f v) (f u) (sum_by f us) ∙ ap (λ k. k + f v) (ap (λ x. f x + sum_by f us) (sym (inside w u h)) ∙ sym (sum_by-cons f w us)))
-  where
-    go : (a b s : ℕ) → a + s + b ≡ b + s + a
-    go a b s = omega arith
-sum_set f (w ∷ us) (suc place) u v h = ap (λ k. k + f u) (sum_by-cons f w (slice_set us place v)) ∙ (go (f w) (sum_by f (slice_set us place v)) (f u) (sum_by f us) (f v) (sum_set f us place u v h) ∙ ap (λ k. k + f v) (sym (sum_by-cons f w us)))
-  where
-    go : (a s b t c : ℕ) → s + b ≡ t + c → a + s + b ≡ a + t + c
-    go a s b t c e = omega (arith, e)
+sum_set f us place u v h = rw (get_or_from_slice_get us place u u h) at (sum_by-set f us place v u (slice_get_within us place u h))
 
-pub sum_same : {A : Type 0} (f : A → ℕ) (us : List A) (place : ℕ) (u v : A) → slice_get us place ≡ Some u → f v ≡ f u → sum_by f (slice_set us place v) ≡ sum_by f us
-sum_same f us place u v h e = go _ _ _ _ (sum_set f us place u v h) e
-  where
-    go : (s b t c : ℕ) → s + b ≡ t + c → c ≡ b → s ≡ t
-    go s b t c h e = omega (arith, h, e)
-
-pub sum_more : {A : Type 0} (f : A → ℕ) (us : List A) (place : ℕ) (u v : A) (k : ℕ) → slice_get us place ≡ Some u → f v ≡ f u + k → sum_by f (slice_set us place v) ≡ sum_by f us + k
-sum_more f us place u v k h e = go _ _ _ _ k (sum_set f us place u v h) e
-  where
-    go : (s b t c k : ℕ) → s + b ≡ t + c → c ≡ b + k → s ≡ t + k
-    go s b t c k h e = omega (arith, h, e)
-
-pub sum_at_most : {A : Type 0} (f : A → ℕ) (us : List A) (place : ℕ) (u v : A) (k : ℕ) → slice_get us place ≡ Some u → f v ≤ f u + k → sum_by f (slice_set us place v) ≤ sum_by f us + k
-sum_at_most f us place u v k h e = go _ _ _ _ k (sum_set f us place u v h) e
-  where
-    go : (s b t c k : ℕ) → s + b ≡ t + c → c ≤ b + k → s ≤ t + k
-    go s b t c k h e = omega (arith, h, e)
+-- what the arm at a place does, by the call that asks it
+pub arm_there : (us : List AttachedState) (place : ℕ) (u : AttachedState) (arm : Arm) → slice_get us place ≡ Some u → Some arm ≡ option_map (λ (u : AttachedState). u.arm) (slice_get us place) → u.arm ≡ arm
+arm_there us place u arm there h = sym (inside arm u.arm (h ∙ ap (option_map (λ (u : AttachedState). u.arm)) there))
 
 -- Drives that rest.
 
@@ -99,33 +72,37 @@ all_set [] place v r h = tt
 all_set (w ∷ us) zero v r h = (h, r.1)
 all_set (w ∷ us) (suc place) v r h = (r.0, all_set us place v r.1 h)
 
+pub all_push : (us : List AttachedState) (v : AttachedState) → AllRest us → Rests v.drive → AllRest (us ++ v ∷ [])
+all_push [] v r h = (h, tt)
+all_push (w ∷ us) v r h = (r.0, all_push us v r.1 h)
+
+-- all but the one at a place
 pub others_of_all : (us : List AttachedState) (place : ℕ) → AllRest us → OthersRest place us
 others_of_all [] place r = tt
 others_of_all (w ∷ us) zero r = r.1
 others_of_all (w ∷ us) (suc place) r = (r.0, others_of_all us place r.1)
-
-pub others_set : (us : List AttachedState) (place : ℕ) (v : AttachedState) → OthersRest place us → OthersRest place (slice_set us place v)
-others_set [] place v r = tt
-others_set (w ∷ us) zero v r = r
-others_set (w ∷ us) (suc place) v r = (r.0, others_set us place v r.1)
 
 pub all_of_others : (us : List AttachedState) (place : ℕ) (v : AttachedState) → OthersRest place us → Rests v.drive → AllRest (slice_set us place v)
 all_of_others [] place v r h = tt
 all_of_others (w ∷ us) zero v r h = (h, r)
 all_of_others (w ∷ us) (suc place) v r h = (r.0, all_of_others us place v r.1 h)
 
-pub others_rest_push : (us : List AttachedState) (place : ℕ) (v : AttachedState) → place < length us → OthersRest place us → Rests v.drive → OthersRest place (us ++ v ∷ [])
-others_rest_push [] place v l r h = absurd (omega (arith, l))
-others_rest_push (w ∷ us) zero v l r h = all us r
-  where
-    all : (us : List AttachedState) → AllRest us → AllRest (us ++ v ∷ [])
-    all [] r = (h, tt)
-    all (w ∷ us) r = (r.0, all us r.1)
-others_rest_push (w ∷ us) (suc place) v l r h = (r.0, others_rest_push us place v (omega (arith, l)) r.1 h)
+-- also where another drive is put somewhere that rests if the one before did
+pub others_put : (us : List AttachedState) (place p : ℕ) (u v : AttachedState) → slice_get us place ≡ Some u → ((place ≡ p → ⊥) → Rests u.drive → Rests v.drive)
+    → OthersRest p us → OthersRest p (slice_set us place v)
+others_put [] place p u v h k r = none_is_some h
+others_put (w ∷ us) zero zero u v h k r = r
+others_put (w ∷ us) zero (suc p) u v h k r = (k (λ e. cc) (subst (λ x. Rests x.drive) (inside w u h) r.0), r.1)
+others_put (w ∷ us) (suc place) zero u v h k r = all_set us place v r (k (λ e. cc) (rests_at us place u r h))
+others_put (w ∷ us) (suc place) (suc p) u v h k r = (r.0, others_put us place p u v h (λ n. k (λ e. n (cc))) r.1)
 
-pub all_rest_push : (us : List AttachedState) (v : AttachedState) → AllRest us → Rests v.drive → AllRest (us ++ v ∷ [])
-all_rest_push [] v r h = (h, tt)
-all_rest_push (w ∷ us) v r h = (r.0, all_rest_push us v r.1 h)
+pub others_set : (us : List AttachedState) (place : ℕ) (u v : AttachedState) → slice_get us place ≡ Some u → OthersRest place us → OthersRest place (slice_set us place v)
+others_set us place u v h = others_put us place place u v h (λ n. absurd (n refl))
+
+pub others_push : (us : List AttachedState) (place : ℕ) (u v : AttachedState) → slice_get us place ≡ Some u → OthersRest place us → Rests v.drive → OthersRest place (us ++ v ∷ [])
+others_push [] place u v l r h = none_is_some l
+others_push (w ∷ us) zero u v l r h = all_push us v r h
+others_push (w ∷ us) (suc place) u v l r h = (r.0, others_push us place u v l r.1 h)
 
 -- Devices by their addresses.
 
@@ -191,65 +168,54 @@ pub record FoundAt (device : ℕ) (us : List AttachedState) (place : ℕ) : Type
   pub same_device : attached.device ≡ device
   pub found : find (λ d. d.device == device) (devices us) ≡ Some (device_of attached)
 
-pub found_or_past : (device : ℕ) (us : List AttachedState) → nat_lt (position_or_len (is_at device) us) (length us) ≡ true → FoundAt device us (position_or_len (is_at device) us)
-found_or_past device [] h = false_is_true h
-found_or_past device (w ∷ us) h = go (w.device == device) refl h (found_or_past device us)
+-- a search, by that of the list behind the first
+position_cons : {A : Type 0} (p : A → Bool) (x : A) (xs : List A) → position p (x ∷ xs) ≡ cond (p x) (Some 0) (option_map suc (position p xs))
+position_cons p x xs = go (p x) (nat_lt (position_or_len p xs) (length xs)) refl
   where
-    go : (b : Bool) → (w.device == device) ≡ b → nat_lt (cond (not b) (1 + position_or_len (is_at device) us) 0) (suc (length us)) ≡ true
-        → (nat_lt (position_or_len (is_at device) us) (length us) ≡ true → FoundAt device us (position_or_len (is_at device) us)) → FoundAt device (w ∷ us) (position_or_len (is_at device) (w ∷ us))
-    go true e h k = record {
+    go : (b l : Bool) → nat_lt (position_or_len p xs) (length xs) ≡ l
+        → cond (nat_lt (cond (not b) (1 + position_or_len p xs) 0) (suc (length xs))) (Some (cond (not b) (1 + position_or_len p xs) 0)) None
+        ≡ cond b (Some 0) (option_map suc (cond l (Some (position_or_len p xs)) None))
+    go true l e = ap (λ c. cond c (Some 0) None) (lt-ltb 0 (suc (length xs)) (omega arith))
+    go false true e = ap (λ c. cond c (Some (1 + position_or_len p xs)) None) (lt-ltb (1 + position_or_len p xs) (suc (length xs)) (omega (arith, ltb-true (position_or_len p xs) (length xs) e)))
+        ∙ ap Some (plus_one (position_or_len p xs))
+    go false false e = ap (λ c. cond c (Some (1 + position_or_len p xs)) None) (le-ltb (1 + position_or_len p xs) (suc (length xs)) (omega (arith, ltb-false (position_or_len p xs) (length xs) e)))
+
+-- what it comes to: a place whose drive has the address, or that no device has it
+abbrev Sought : (device : ℕ) → List AttachedState → Option ℕ → Type 0
+Sought device us None = find (λ d. d.device == device) (devices us) ≡ None
+Sought device us (Some place) = FoundAt device us place
+
+sought : (device : ℕ) (us : List AttachedState) → Sought device us (position (is_at device) us)
+sought device [] = refl
+sought device (w ∷ us) = subst (Sought device (w ∷ us)) (sym (position_cons (is_at device) w us)) (go (w.device == device) (position (is_at device) us) refl (sought device us))
+  where
+    go : (b : Bool) (x : Option ℕ) → (w.device == device) ≡ b → Sought device us x → Sought device (w ∷ us) (cond b (Some 0) (option_map suc x))
+    go true x e k = record {
       attached = w;
-      is_there = ap (λ b. slice_get (w ∷ us) (cond (not b) (1 + position_or_len (is_at device) us) 0)) e;
+      is_there = refl;
       same_device = eqb-true w.device device e;
       found = ap (λ b. cond b (Some (device_of w)) (find (λ d. d.device == device) (devices us))) e;
     }
-    go false e h k =
-        let f = k (down _ _ h) in record {
-          attached = f.attached;
-          is_there = ap (λ b. slice_get (w ∷ us) (cond (not b) (1 + position_or_len (is_at device) us) 0)) e ∙ (ap (slice_get (w ∷ us)) (plus_one (position_or_len (is_at device) us)) ∙ f.is_there);
-          same_device = f.same_device;
-          found = ap (λ b. cond b (Some (device_of w)) (find (λ d. d.device == device) (devices us))) e ∙ f.found;
-        }
-      where
-        down : (a b : ℕ) → nat_lt (1 + a) (suc b) ≡ true → nat_lt a b ≡ true
-        down a b h = lt-ltb a b (omega (arith, ltb-true (1 + a) (suc b) h))
+    go false None e k = ap (λ b. cond b (Some (device_of w)) (find (λ d. d.device == device) (devices us))) e ∙ k
+    go false (Some place) e k = record {
+      attached = k.attached;
+      is_there = k.is_there;
+      same_device = k.same_device;
+      found = ap (λ b. cond b (Some (device_of w)) (find (λ d. d.device == device) (devices us))) e ∙ k.found;
+    }
 
--- the place of the drive with an address
 pub found_by : (device : ℕ) (us : List AttachedState) (place : ℕ) → position (is_at device) us ≡ Some place → FoundAt device us place
-found_by device us place h = go (nat_lt (position_or_len (is_at device) us) (length us)) refl h
-  where
-    go : (b : Bool) → nat_lt (position_or_len (is_at device) us) (length us) ≡ b → cond b (Some (position_or_len (is_at device) us)) None ≡ Some place → FoundAt device us place
-    go true e h = subst (λ place. FoundAt device us place) (inside (position_or_len (is_at device) us) place h) (found_or_past device us e)
-    go false e h = none_is_some h
+found_by device us place h = subst (Sought device us) h (sought device us)
 
--- where no drive has an address there is no device with it
 pub none_found : (device : ℕ) (us : List AttachedState) → position (is_at device) us ≡ None → find (λ d. d.device == device) (devices us) ≡ None
-none_found device us h = past us (go (nat_lt (position_or_len (is_at device) us) (length us)) refl h)
-  where
-    go : (b : Bool) → nat_lt (position_or_len (is_at device) us) (length us) ≡ b → cond b (Some (position_or_len (is_at device) us)) None ≡ None → nat_lt (position_or_len (is_at device) us) (length us) ≡ false
-    go true e h = none_is_some (sym h)
-    go false e h = e
+none_found device us h = subst (Sought device us) h (sought device us)
 
-    past : (us : List AttachedState) → nat_lt (position_or_len (is_at device) us) (length us) ≡ false → find (λ d. d.device == device) (devices us) ≡ None
-    past [] h = refl
-    past (w ∷ us) h = step (w.device == device) refl h (past us)
-      where
-        step : (b : Bool) → (w.device == device) ≡ b → nat_lt (cond (not b) (1 + position_or_len (is_at device) us) 0) (suc (length us)) ≡ false
-            → (nat_lt (position_or_len (is_at device) us) (length us) ≡ false → find (λ d. d.device == device) (devices us) ≡ None)
-            → cond b (Some (device_of w)) (find (λ d. d.device == device) (devices us)) ≡ None
-        step true e h k = false_is_true (sym h ∙ lt-ltb 0 (suc (length us)) (omega arith))
-        step false e h k = k (down _ _ h)
-          where
-            down : (a b : ℕ) → nat_lt (1 + a) (suc b) ≡ false → nat_lt a b ≡ false
-            down a b h = le-ltb a b (omega (arith, ltb-false (1 + a) (suc b) h))
-
--- so both searches find one, or neither does
 pub both_found : (device : ℕ) (us : List AttachedState) → is_some (position (is_at device) us) ≡ is_some (find (λ d. d.device == device) (devices us))
-both_found device us = go (position (is_at device) us) refl
+both_found device us = go (position (is_at device) us) (sought device us)
   where
-    go : (x : Option ℕ) → position (is_at device) us ≡ x → is_some x ≡ is_some (find (λ d. d.device == device) (devices us))
-    go None h = sym (ap is_some (none_found device us h))
-    go (Some place) h = sym (ap is_some (found_by device us place h).found)
+    go : (x : Option ℕ) → Sought device us x → is_some x ≡ is_some (find (λ d. d.device == device) (devices us))
+    go None h = sym (ap is_some h)
+    go (Some place) h = sym (ap is_some h.found)
 
 -- Distinct addresses.
 
@@ -270,17 +236,3 @@ changes_twice device f g k (d ∷ ds) = ap (λ x. x ∷ map (changes device g) (
     go : (b : Bool) → (d.device == device) ≡ b → changes device g (cond b (f d) d) ≡ cond b (g (f d)) d
     go true e = ap (λ b. cond b (g (f d)) (f d)) (ap (λ n. n == device) (k d) ∙ e)
     go false e = ap (λ b. cond b (g d) d) e
-
--- a change that changes nothing of the device at an address
-pub changes_same : (device : ℕ) (f : Device → Device) (ds : List Device) → ((d : Device) → d.device ≡ device → f d ≡ d) → map (changes device f) ds ≡ ds
-changes_same device f [] h = refl
-changes_same device f (d ∷ ds) h = ap (λ x. x ∷ map (changes device f) ds) (go (d.device == device) refl) ∙ ap (λ r. d ∷ r) (changes_same device f ds h)
-  where
-    go : (b : Bool) → (d.device == device) ≡ b → cond b (f d) d ≡ d
-    go true e = h d (eqb-true d.device device e)
-    go false e = refl
-
--- The channel's machine, after a drive was put at a place.
-pub machine_set : (c : ChannelState) (s : machine.Subchannel) (place : ℕ) (u v : AttachedState) (f : Device → Device) → AreDistinct (devices c.drives) → slice_get c.drives place ≡ Some u
-    → device_of v ≡ f (device_of u) → machine_of (record c { drives = slice_set c.drives place v }) s ≡ with_device u.device f (machine_of c s)
-machine_set c s place u v f a h e = ap (λ ds. record (machine_of c s) { devices = ds }) (devices_set c.drives place u v f a h e)

@@ -1,44 +1,45 @@
--- An event that calls no store does what the machine does, and meets no fault.
-use Rattle.std.proofs.Common.{◌≡◌, ◌≤◌, ℕ, ◌+◌, arith, List, [], ◌∷◌, map, fold, None, refl, sym, ap, ◌∙◌, subst, inl}
+-- Calls that call no store: what the images count, and that such an event does what the machine does and meets no fault.
+use Rattle.std.proofs.Common.{◌≡◌, ◌≤◌, ◌⊎◌, ℕ, ◌+◌, arith, List, [], ◌∷◌, map, None, refl, sym, ap, ◌∙◌, subst, inl}
+use Rattle.std.proofs.lemmas.List.Sums.{sum-map}
+use Rattle.std.proofs.lemmas.Simd.{map-map}
+use Rattle.std.specs.List.{sum}
+use Rattle.std.specs.Prelude.{sum_by}
 use Rattle.ckd_image.specs.Image.{ImageState}
 use Rattle.s360_laws.specs.Events.{Event, Answer}
-use Rattle.s360_laws.specs.Machine.{Machine}
+use Rattle.s360_laws.specs.Machine.{Machine, react}
 use Rattle.s360_laws.proofs.Headlines.{headline}
-use Rattle.s360_channel.specs.Calls.{DoesQuietly, Does, CallsAtMost, CallsNoStore, most_calls}
+use Rattle.s360_channel.specs.Calls.{DoesQuietly, Does, CallsAtMost, CallsNoStore}
 use Rattle.s360_channel.specs.Channel.{ChannelState, AttachedState, StandsFor, failures_of, store_calls_of}
 
--- the failures of drives are those of their images
-failures_by_images : (n : ℕ) (drives : List AttachedState) → fold (λ a u. a + u.drive.image.failures) n drives ≡ fold (λ a i. a + i.failures) n (map (λ u. u.drive.image) drives)
-failures_by_images n [] = refl
-failures_by_images n (u ∷ us) = failures_by_images (n + u.drive.image.failures) us
+abbrev pub images : List AttachedState → List ImageState
+images us = map (λ (u : AttachedState). u.drive.image) us
+
+-- what is read off the images, of drives that have the same ones
+same_parts : {A : Type 0} (f : ImageState → A) (old new : List AttachedState) → images new ≡ images old → map (λ u. f u.drive.image) new ≡ map (λ u. f u.drive.image) old
+same_parts f old new same =
+    sym (map-map f (λ (u : AttachedState). u.drive.image) new) ∙ (ap (map f) same ∙ map-map f (λ (u : AttachedState). u.drive.image) old)
+
+same_sums : (f : ImageState → ℕ) (old new : List AttachedState) → images new ≡ images old → sum_by (λ u. f u.drive.image) new ≡ sum_by (λ u. f u.drive.image) old
+same_sums f old new same =
+    sym (sum-map (λ (u : AttachedState). f u.drive.image) new) ∙ (ap sum (same_parts f old new same) ∙ sum-map (λ (u : AttachedState). f u.drive.image) old)
 
 pub none_fails : (old new : ChannelState) → CallsNoStore old new → failures_of new ≡ failures_of old
-none_fails old new same =
-    failures_by_images 0 new.drives ∙ ap (λ (images : List ImageState). fold (λ a i. a + i.failures) 0 images) same ∙ sym (failures_by_images 0 old.drives)
+none_fails old new same = same_sums (λ i. i.failures) old.drives new.drives same
 
--- and so are their calls, geometries, headers and stores
-calls_by_images : (n : ℕ) (drives : List AttachedState) → fold (λ a u. a + (u.drive.image.loads + u.drive.image.saves)) n drives ≡ fold (λ a i. a + (i.loads + i.saves)) n (map (λ u. u.drive.image) drives)
-calls_by_images n [] = refl
-calls_by_images n (u ∷ us) = calls_by_images (n + (u.drive.image.loads + u.drive.image.saves)) us
-
-parts_by_images : {A : Type 0} (f : ImageState → A) (drives : List AttachedState) → map (λ u. f u.drive.image) drives ≡ map f (map (λ u. u.drive.image) drives)
-parts_by_images f [] = refl
-parts_by_images f (u ∷ us) = ap (λ r. f u.drive.image ∷ r) (parts_by_images f us)
+-- a call of no store behind some calls
+pub calls_then_none : (most : ℕ) (c d e : ChannelState) → CallsAtMost most c d → CallsNoStore d e → CallsAtMost most c e
+calls_then_none most c d e h same = record {
+  calls = subst (λ n. n ≤ store_calls_of c + most) (sym (same_sums (λ i. i.loads + i.saves) d.drives e.drives same)) h.calls;
+  failures = subst (λ n. (n ≡ failures_of c) ⊎ (n ≡ failures_of c + 1)) (sym (none_fails d e same)) h.failures;
+  lasting = same_parts (λ i. i.lasting) d.drives e.drives same ∙ h.lasting;
+  geometries = same_parts (λ i. i.geometry) d.drives e.drives same ∙ h.geometries;
+}
 
 pub none_calls : (most : ℕ) (old new : ChannelState) → CallsNoStore old new → CallsAtMost most old new
-none_calls most old new same = record {
-  calls = at_most (store_calls_of new) (store_calls_of old) most (calls_by_images 0 new.drives ∙ ap (λ (images : List ImageState). fold (λ a i. a + (i.loads + i.saves)) 0 images) same ∙ sym (calls_by_images 0 old.drives));
-  failures = inl (none_fails old new same);
-  lasting = parts_by_images (λ i. i.lasting) new.drives ∙ ap (map (λ (i : ImageState). i.lasting)) same ∙ sym (parts_by_images (λ i. i.lasting) old.drives);
-  geometries = parts_by_images (λ i. i.geometry) new.drives ∙ ap (map (λ (i : ImageState). i.geometry)) same ∙ sym (parts_by_images (λ i. i.geometry) old.drives);
-}
+none_calls most old new same = calls_then_none most old old new (record { calls = more (store_calls_of old) most; failures = inl refl; lasting = refl; geometries = refl }) same
   where
-    at_most : (a b most : ℕ) → a ≡ b → a ≤ b + most
-    at_most a b most e = omega (arith, e)
-
--- the calls of an event and of an answer that are equal to these
-pub calls_as : (e d : Event) (given answer : Answer) (old new : ChannelState) → e ≡ d → given ≡ answer → CallsAtMost (most_calls d answer) old new → CallsAtMost (most_calls e given) old new
-calls_as e d given answer old new p q calls = subst (λ n. CallsAtMost n old new) (sym (ap (λ x. most_calls x given) p ∙ ap (most_calls d) q)) calls
+    more : (a b : ℕ) → a ≤ a + b
+    more a b = omega arith
 
 pub quiet_does : (e : Event) (m : Machine) (answer : Answer) (old new : ChannelState) → StandsFor old m → DoesQuietly e m answer new → CallsNoStore old new → Does e m answer old new
 quiet_does e m answer old new stands does calls = record {
@@ -49,15 +50,14 @@ quiet_does e m answer old new stands does calls = record {
   reports = (headline m ((e, None) ∷ []) stands.sound).no_fault_none_told [] ((e, None) ∷ []) refl e;
 }
 
--- the same of an event and an answer that are equal to these
+-- an event that changes nothing
+pub nothing_does : (e : Event) (m : Machine) (c : ChannelState) (answer : Answer) → StandsFor c m → react e None m ≡ (answer, m) → Does e m answer c c
+nothing_does e m c answer s is = quiet_does e m answer c c s (record {
+  answers = sym (ap (λ (a : Answer × Machine). a.0) is);
+  stands = subst (StandsFor c) (sym (ap (λ (a : Answer × Machine). a.1) is)) s;
+}) refl
+
+-- what is done of an event and an answer that are equal to these
 pub quiet_as : (e d : Event) (m : Machine) (given answer : Answer) (new : ChannelState) → e ≡ d → given ≡ answer → DoesQuietly d m answer new → DoesQuietly e m given new
 quiet_as e d m given answer new p q does =
     subst (λ (x : Event). DoesQuietly x m given new) (sym p) (subst (λ (y : Answer). DoesQuietly d m y new) (sym q) does)
-
-pub quiet_does_as : (e d : Event) (m : Machine) (given answer : Answer) (old new : ChannelState) → e ≡ d → given ≡ answer → StandsFor old m → DoesQuietly d m answer new → CallsNoStore old new → Does e m given old new
-quiet_does_as e d m given answer old new p q stands does calls =
-    quiet_does e m given old new stands (quiet_as e d m given answer new p q does) calls
-
--- what is done of an event that is equal to this one
-pub does_as : (e d : Event) (m : Machine) (answer : Answer) (old new : ChannelState) → e ≡ d → Does d m answer old new → Does e m answer old new
-does_as e d m answer old new p does = subst (λ (x : Event). Does x m answer old new) (sym p) does

@@ -1,31 +1,34 @@
--- A channel without one of its drives.
-use Rattle.std.proofs.Common.{◌≡◌, ℕ, zero, suc, ◌+◌, ◌-◌, ◌≤◌, ◌<◌, refl, sym, ap, ◌∙◌, subst, arith, true, false, Bool, cond, ◌==◌, List, [], ◌∷◌, map, length, Some, None}
+-- A channel without one of its drives, and one whose drive has another pack.
+use Rattle.std.proofs.Common.{◌≡◌, ℕ, zero, suc, ◌-◌, ◌≤◌, ◌<◌, refl, sym, ap, ◌∙◌, subst, arith, true, false, Bool, cond, ◌==◌, List, [], ◌∷◌, map, Option, Some, None, ◌&&◌}
 use Rattle.std.proofs.lemmas.Bool.{eq-eqb, eqb-true, eqb-false, ltb-true, ltb-false}
+use Rattle.std.proofs.lemmas.List.{length-set}
+use Rattle.std.proofs.lemmas.List.Edits.{length-remove}
+use Rattle.std.proofs.lemmas.Option.{slice_get_within}
 use Rattle.std.specs.List.{position_or_len, remove}
-use Rattle.std.specs.Prelude.{find, filter, not, nat_lt, option_map, position, slice_get}
-use Rattle.ckd_command.specs.Drive.{Volume}
-use Rattle.ckd_image.specs.Image.{ImageState}
+use Rattle.std.specs.Prelude.{find, filter, not, nat_lt, option_map, position, slice_get, slice_set}
 use Rattle.ckd_track.specs.declared.geometries.Geometry.{Geometry}
-use Rattle.s360_words.specs.declared.flags.TheConstants.UnitStatus.{DEVICE_END}
+use Rattle.ckd_image.specs.Image.{ImageState}
+use Rattle.ckd_command.specs.Drive.{first_drive}
 use Rattle.s360_program.specs.Advances.{Rests}
 use Rattle.s360_program.specs.Stands.{RunningState}
-use Rattle.s360_runs.specs.Runs.{run}
-use Rattle.s360_runs.specs.Status.{tells}
-use Rattle.s360_laws.proofs.FindDevices.{Keeps, different, found_map, keeps_one, set_drive}
-use Rattle.s360_laws.specs.Machine as machine
-use Rattle.s360_laws.specs.Machine.{Device, Machine, device_at, run_of, start_of}
-use Rattle.s360_laws.specs.Soundness.{AreDistinct, IsSound, IsSoundIn, IsRunning, device_owes}
 use Rattle.s360_laws.specs.declared.arm.Arm.{Arm}
 use Rattle.s360_laws.specs.declared.arm.Arm.TheVariants.{AtRest}
-use Rattle.s360_channel.specs.Channel.{AttachedState, ChannelState, AllRest, OthersRest, Shows, StandsFor, WorksFor, device_of, is_at, machine_of}
-use Rattle.s360_channel.specs.Packs.{Detaches, IsFree, GivesBack, is_at_rest, moved_up, pends_for, runs_at, volume_in, waits_for, why_of, why_stays, without_device, without_place, works_at}
-use Rattle.s360_channel.specs.DriveCalls.{DriveIs, Removes}
+use Rattle.s360_laws.specs.Machine.{Device, Machine, device_at}
+use Rattle.s360_laws.specs.Machine as machine
+use Rattle.s360_laws.specs.Soundness.{AreDistinct}
+use Rattle.s360_laws.proofs.FindDevices.{Keeps, different, found_map, keeps_one, set_drive, distinct_map}
+use Rattle.s360_channel.specs.Channel.{AttachedState, ChannelState, AllRest, OthersRest, Shows, StandsFor, WorksFor, device_of, is_at, new_attached}
+use Rattle.s360_channel.specs.declared.faults.DetachFault.{DetachFault}
 use Rattle.s360_channel.specs.declared.faults.DetachFault.TheVariants.{NoDrive, ProgramRuns, EndingPends, DeviceEndOwed}
 use Rattle.s360_channel.specs.declared.subchannel.Subchannel.{Subchannel}
 use Rattle.s360_channel.specs.declared.subchannel.Subchannel.TheVariants.{Idle, Working, Pending}
-use Rattle.s360_channel.proofs.Arming.{SeenBy, seen_by, distinct_drives, device_seen}
-use Rattle.s360_channel.proofs.Places.{changes, devices, found_at, found_by, inside, is_other, none_found, none_is_some, place_at, same_number}
+use Rattle.s360_channel.specs.DriveCalls.{DriveIs, Removes, ExchangesPack, MayExchange}
+use Rattle.s360_channel.specs.Packs.{Detaches, IsFree, GivesBack, is_at_rest, moved_up, pends_for, runs_at, waits_for, why_of, why_stays, without_device, without_place, works_at, Exchanges, fits_at, fits_drive, is_same_model, volume_in, with_pack}
+use Rattle.s360_channel.proofs.Changing.{SeenBy, seen_by, distinct_drives, device_seen, new_rests, rests_changed, sound_with, volume_given, works_changed, changes_apart}
+use Rattle.s360_channel.proofs.Places.{arm_there, changes, devices, false_is_true, found_at, found_by, inside, is_other, none_found, none_is_some, place_at, rests_at, same_number, all_set, devices_set, get_other, others_put}
 use Rattle.s360_channel.proofs.Works.{devices_of, subchannel_of}
+
+-- A channel without one of its drives.
 
 abbrev other_than : ℕ → Device → Bool
 other_than device d = not (d.device == device)
@@ -50,23 +53,7 @@ devices_left (w ∷ us) zero u a h = sym (
 devices_left (w ∷ us) (suc place) u a h = ap (λ r. device_of w ∷ r) (devices_left us place u a.1 h)
     ∙ sym (ap (λ b. cond (not b) (device_of w ∷ filter (other_than u.device) (devices us)) (filter (other_than u.device) (devices us))) (is_other w us place u a h))
 
-find_left : (p q : Device → Bool) (ds : List Device) → find p ds ≡ None → find p (filter q ds) ≡ None
-find_left p q [] h = refl
-find_left p q (d ∷ ds) h = go (p d) (q d) refl h (find_left p q ds)
-  where
-    go : (a b : Bool) → p d ≡ a → cond a (Some d) (find p ds) ≡ None → (find p ds ≡ None → find p (filter q ds) ≡ None) → find p (cond b (d ∷ filter q ds) (filter q ds)) ≡ None
-    go true b e h k = none_is_some (sym h)
-    go false true e h k = ap (λ a. cond a (Some d) (find p (filter q ds))) e ∙ k h
-    go false false e h k = k h
-
-distinct_left : (device : ℕ) (ds : List Device) → AreDistinct ds → AreDistinct (filter (other_than device) ds)
-distinct_left device [] h = tt
-distinct_left device (d ∷ ds) h = go (d.device == device) (distinct_left device ds h.1)
-  where
-    go : (b : Bool) → AreDistinct (filter (other_than device) ds) → AreDistinct (cond (not b) (d ∷ filter (other_than device) ds) (filter (other_than device) ds))
-    go true k = k
-    go false k = (find_left (λ o. o.device == d.device) (other_than device) ds h.0, k)
-
+-- another device is found as it was
 found_left : (device n : ℕ) (ds : List Device) → (n == device) ≡ false → find (λ d. d.device == n) (filter (other_than device) ds) ≡ find (λ d. d.device == n) ds
 found_left device n [] h = refl
 found_left device n (d ∷ ds) h = go (d.device == device) refl (found_left device n ds h)
@@ -75,6 +62,14 @@ found_left device n (d ∷ ds) h = go (d.device == device) refl (found_left devi
         → find (λ d. d.device == n) (cond (not b) (d ∷ filter (other_than device) ds) (filter (other_than device) ds)) ≡ cond (d.device == n) (Some d) (find (λ d. d.device == n) ds)
     go true e k = k ∙ sym (ap (λ b. cond b (Some d) (find (λ d. d.device == n) ds)) (different d.device n (λ same. eqb-false n device h (sym same ∙ eqb-true d.device device e))))
     go false e k = ap (λ r. cond (d.device == n) (Some d) r) k
+
+distinct_left : (device : ℕ) (ds : List Device) → AreDistinct ds → AreDistinct (filter (other_than device) ds)
+distinct_left device [] h = tt
+distinct_left device (d ∷ ds) h = go (d.device == device) refl (distinct_left device ds h.1)
+  where
+    go : (b : Bool) → (d.device == device) ≡ b → AreDistinct (filter (other_than device) ds) → AreDistinct (cond (not b) (d ∷ filter (other_than device) ds) (filter (other_than device) ds))
+    go true e k = k
+    go false e k = (found_left device d.device ds e ∙ h.0, k)
 
 left_through : (device : ℕ) (g : Device → Device) → Keeps g → (ds : List Device) → filter (other_than device) (map g ds) ≡ map g (filter (other_than device) ds)
 left_through device g k [] = refl
@@ -93,68 +88,34 @@ all_left [] (suc place) r = tt
 all_left (w ∷ us) zero r = r.1
 all_left (w ∷ us) (suc place) r = (r.0, all_left us place r.1)
 
-get_before : (us : List AttachedState) (place p : ℕ) → p < place → slice_get (remove us place) p ≡ slice_get us p
-get_before [] zero p l = refl
-get_before [] (suc place) p l = refl
-get_before (w ∷ us) zero p l = absurd (omega (arith, l))
-get_before (w ∷ us) (suc place) zero l = refl
-get_before (w ∷ us) (suc place) (suc p) l = get_before us place p (omega (arith, l))
-
-get_behind : (us : List AttachedState) (place p : ℕ) → place ≤ p → slice_get (remove us place) p ≡ slice_get us (suc p)
-get_behind [] zero p l = refl
-get_behind [] (suc place) p l = refl
-get_behind (w ∷ us) zero p l = refl
-get_behind (w ∷ us) (suc place) zero l = absurd (omega (arith, l))
-get_behind (w ∷ us) (suc place) (suc p) l = get_behind us place p (omega (arith, l))
-
-others_before : (us : List AttachedState) (place p : ℕ) → p < place → OthersRest p us → OthersRest p (remove us place)
-others_before [] zero p l r = tt
-others_before [] (suc place) p l r = tt
-others_before (w ∷ us) zero p l r = absurd (omega (arith, l))
-others_before (w ∷ us) (suc place) zero l r = all_left us place r
-others_before (w ∷ us) (suc place) (suc p) l r = (r.0, others_before us place p (omega (arith, l)) r.1)
-
-others_behind : (us : List AttachedState) (place p : ℕ) → place ≤ p → OthersRest (suc p) us → OthersRest p (remove us place)
-others_behind [] zero p l r = tt
-others_behind [] (suc place) p l r = tt
-others_behind (w ∷ us) zero p l r = r.1
-others_behind (w ∷ us) (suc place) zero l r = absurd (omega (arith, l))
-others_behind (w ∷ us) (suc place) (suc p) l r = (r.0, others_behind us place p (omega (arith, l)) r.1)
-
-fewer : (us : List AttachedState) (place : ℕ) → length (remove us place) ≤ length us
-fewer [] zero = omega arith
-fewer [] (suc place) = omega arith
-fewer (w ∷ us) zero = omega arith
-fewer (w ∷ us) (suc place) = let k = fewer us place in omega (arith, k)
-
 -- the place of a program's drive among those that are left
-record StaysAt (us : List AttachedState) (place p q : ℕ) (u : AttachedState) : Type 0 where
+record StaysAt (us : List AttachedState) (place q : ℕ) (u : AttachedState) : Type 0 where
   is_there : slice_get (remove us place) q ≡ Some u
   others : OthersRest q (remove us place)
 
-stays_at : (us : List AttachedState) (place p : ℕ) (u : AttachedState) → (p == place) ≡ false → slice_get us p ≡ Some u → OthersRest p us → StaysAt us place p (cond (nat_lt place p) (p - 1) p) u
+before : (us : List AttachedState) (place p : ℕ) (u : AttachedState) → p < place → slice_get us p ≡ Some u → OthersRest p us → StaysAt us place p u
+before [] place p u l h r = none_is_some h
+before (w ∷ us) zero p u l h r = absurd (omega (arith, l))
+before (w ∷ us) (suc place) zero u l h r = record { is_there = h; others = all_left us place r }
+before (w ∷ us) (suc place) (suc p) u l h r = let k = before us place p u (omega (arith, l)) h r.1 in record { is_there = k.is_there; others = (r.0, k.others) }
+
+behind : (us : List AttachedState) (place p : ℕ) (u : AttachedState) → place ≤ p → slice_get us (suc p) ≡ Some u → OthersRest (suc p) us → StaysAt us place p u
+behind [] place p u l h r = none_is_some h
+behind (w ∷ us) zero p u l h r = record { is_there = h; others = r.1 }
+behind (w ∷ us) (suc place) zero u l h r = absurd (omega (arith, l))
+behind (w ∷ us) (suc place) (suc p) u l h r = let k = behind us place p u (omega (arith, l)) h r.1 in record { is_there = k.is_there; others = (r.0, k.others) }
+
+stays_at : (us : List AttachedState) (place p : ℕ) (u : AttachedState) → (p == place) ≡ false → slice_get us p ≡ Some u → OthersRest p us → StaysAt us place (cond (nat_lt place p) (p - 1) p) u
 stays_at us place p u e h r = go (nat_lt place p) refl
   where
-    more : (place p : ℕ) → place < p → suc (p - 1) ≡ p
-    more place p l = omega (arith, l)
+    one_less : place < p → p ≡ suc (p - 1)
+    one_less l = omega (arith, l)
 
-    behind : (place p : ℕ) → place < p → place ≤ p - 1
-    behind place p l = omega (arith, l)
-
-    before : (place p : ℕ) → p ≤ place → (p ≡ place → ⊥) → p < place
-    before place p l n = grind (arith, l, n)
-
-    go : (b : Bool) → nat_lt place p ≡ b → StaysAt us place p (cond b (p - 1) p) u
+    go : (b : Bool) → nat_lt place p ≡ b → StaysAt us place (cond b (p - 1) p) u
     go true k =
-        let l = ltb-true place p k in record {
-          is_there = get_behind us place (p - 1) (behind place p l) ∙ (ap (slice_get us) (more place p l) ∙ h);
-          others = others_behind us place (p - 1) (behind place p l) (subst (λ p. OthersRest p us) (sym (more place p l)) r);
-        }
-    go false k =
-        let l = before place p (ltb-false place p k) (eqb-false p place e) in record {
-          is_there = get_before us place p l ∙ h;
-          others = others_before us place p l r;
-        }
+        let l = ltb-true place p k in
+        behind us place (p - 1) u (omega (arith, l)) (ap (slice_get us) (sym (one_less l)) ∙ h) (subst (λ p. OthersRest p us) (one_less l) r)
+    go false k = before us place p u (grind (arith, ltb-false place p k, eqb-false p place e)) h r
 
 -- Which program runs, and which word pends, at the channel and at the machine.
 
@@ -175,6 +136,10 @@ working_device c p r m w device =
 pub record IsAttached (device place : ℕ) (us : List AttachedState) (u : AttachedState) : Type 0 where
   pub is_there : slice_get us place ≡ Some u
   pub same_device : u.device ≡ device
+
+-- why it stays, by what is known of the subchannel and of its arm
+abbrev why_by : (runs pends : Bool) → Arm → Option DetachFault
+why_by runs pends arm = cond runs (Some ProgramRuns) (cond pends (Some EndingPends) (cond (is_at_rest arm) None (Some DeviceEndOwed)))
 
 module _ (c : ChannelState) (m : Machine) (s : StandsFor c m) (device place : ℕ) (u : AttachedState) (f : IsAttached device place c.drives u) where
   here : SeenBy c m
@@ -202,13 +167,12 @@ module _ (c : ChannelState) (m : Machine) (s : StandsFor c m) (device place : �
       go (Working p r) w = ap (pends_for device) (subchannel_of c p r m w)
       go (Pending d csw) h = ap (λ (m : Machine). pends_for device m.subchannel) h.0
 
-  -- why the drive stays
-  pub why_is : why_stays device m ≡ cond (works_at place c.subchannel) (Some ProgramRuns) (cond (waits_for device c.subchannel) (Some EndingPends) (cond (is_at_rest u.arm) None (Some DeviceEndOwed)))
+  pub why_is : why_stays device m ≡ why_by (works_at place c.subchannel) (waits_for device c.subchannel) u.arm
   why_is =
       ap (why_of device m.subchannel) (device_seen c m here device (Some (device_of u)) found)
-      ∙ (ap (λ b. cond b (Some ProgramRuns) (cond (pends_for device m.subchannel) (Some EndingPends) (cond (is_at_rest (here.through (device_of u)).arm) None (Some DeviceEndOwed)))) same_runs
-      ∙ (ap (λ b. cond (works_at place c.subchannel) (Some ProgramRuns) (cond b (Some EndingPends) (cond (is_at_rest (here.through (device_of u)).arm) None (Some DeviceEndOwed)))) same_pends
-      ∙ ap (λ a. cond (works_at place c.subchannel) (Some ProgramRuns) (cond (waits_for device c.subchannel) (Some EndingPends) (cond (is_at_rest a) None (Some DeviceEndOwed)))) (here.arm (device_of u))))
+      ∙ (ap (λ b. why_by b (pends_for device m.subchannel) (here.through (device_of u)).arm) same_runs
+      ∙ (ap (λ b. why_by (works_at place c.subchannel) b (here.through (device_of u)).arm) same_pends
+      ∙ ap (why_by (works_at place c.subchannel) (waits_for device c.subchannel)) (here.arm (device_of u))))
 
   -- a device whose program does not run is the drive
   pub device_there : works_at place c.subchannel ≡ false → device_at m device ≡ Some (device_of u)
@@ -225,21 +189,16 @@ module _ (c : ChannelState) (m : Machine) (s : StandsFor c m) (device place : �
   pub rests_there : works_at place c.subchannel ≡ false → Rests u.drive
   rests_there off = go c.subchannel s.shows off
     where
-      all : (us : List AttachedState) (place : ℕ) → AllRest us → slice_get us place ≡ Some u → Rests u.drive
-      all [] place r h = none_is_some h
-      all (w ∷ us) zero r h = subst (λ (u : AttachedState). Rests u.drive) (inside w u h) r.0
-      all (w ∷ us) (suc place) r h = all us place r.1 h
-
       one : (us : List AttachedState) (p place : ℕ) → (p ≡ place → ⊥) → OthersRest p us → slice_get us place ≡ Some u → Rests u.drive
       one [] p place n r h = none_is_some h
       one (w ∷ us) zero zero n r h = absurd (n refl)
-      one (w ∷ us) zero (suc place) n r h = all us place r h
+      one (w ∷ us) zero (suc place) n r h = rests_at us place u r h
       one (w ∷ us) (suc p) zero n r h = subst (λ (u : AttachedState). Rests u.drive) (inside w u h) r.0
       one (w ∷ us) (suc p) (suc place) n r h = one us p place (λ e. n (ap suc e)) r.1 h
 
       go : (x : Subchannel) → Shows c m x → works_at place x ≡ false → Rests u.drive
-      go Idle h o = all c.drives place h.1 f.is_there
-      go (Pending d csw) h o = all c.drives place h.1 f.is_there
+      go Idle h o = rests_at c.drives place u h.1 f.is_there
+      go (Pending d csw) h o = rests_at c.drives place u h.1 f.is_there
       go (Working p r) w o = one c.drives p place (eqb-false p place o) w.others f.is_there
 
 -- A free drive is taken out.
@@ -255,54 +214,55 @@ module _ (c : ChannelState) (m : Machine) (s : StandsFor c m) (device place : �
   quiet = same_pends c m s device place f.attached attached ∙ f.pends
 
   pub is_free : why_stays device m ≡ None
-  is_free = why_is c m s device place f.attached attached
-      ∙ (ap (λ b. cond b (Some ProgramRuns) (cond (waits_for device c.subchannel) (Some EndingPends) (cond (is_at_rest f.attached.arm) None (Some DeviceEndOwed)))) f.runs
-      ∙ (ap (λ b. cond b (Some EndingPends) (cond (is_at_rest f.attached.arm) None (Some DeviceEndOwed))) f.pends
-      ∙ ap (λ a. cond (is_at_rest a) None (Some DeviceEndOwed)) f.arm))
+  is_free = rw (f.runs, f.pends, f.arm) at (why_is c m s device place f.attached attached)
 
-  sound_left : IsSound (without_device device m)
-  sound_left = (distinct_left device m.devices s.sound.0, go m.subchannel off quiet s.sound.1)
-    where
-      go : (x : machine.Subchannel) → runs_at device x ≡ false → pends_for device x ≡ false → IsSoundIn m x → IsSoundIn (without_device device m) x
-      go machine.Idle a b h = tt
-      go (machine.Working d script) a b h = (
-        subst (λ x. IsRunning (option_map (λ (d : Device). run script (start_of m d.drive)) x)) (sym (found_left device d m.devices a)) h.0,
-        ap device_owes (found_left device d m.devices a) ∙ h.1,
-      )
-      go (machine.Pending d csw) a b h = (h.0, ap (λ x. cond (tells csw.unit DEVICE_END) 1 0 + device_owes x) (found_left device d m.devices b) ∙ h.1)
+  pub rests_free : DriveIs place Rests c.drives
+  rests_free = record { attached = f.attached; is_there = f.is_there; holds = rests_there c m s device place f.attached attached f.runs }
+
+  -- the image that is given back
+  pub gives_back : (image : ImageState) → image ≡ f.attached.drive.image → f.attached.drive.image.geometry ≡ f.attached.drive.state.volume.geometry → f.attached.drive.image.slots ≡ f.attached.drive.state.volume.slots
+      → GivesBack device image m
+  gives_back image same geometry slots = record {
+    attached = device_of f.attached;
+    is_there = device_there c m s device place f.attached attached f.runs;
+    volume = sym (volume_given f.attached.drive image same geometry slots);
+  }
 
   left : devices (remove c.drives place) ≡ filter (other_than device) (devices c.drives)
   left = devices_left c.drives place f.attached (distinct c m s device place f.attached attached) f.is_there ∙ ap (λ n. filter (other_than n) (devices c.drives)) f.same_device
 
   shows_left : (x : Subchannel) → Shows c m x → works_at place x ≡ false → Shows (without_place place c) (without_device device m) (moved_up place x)
-  shows_left Idle h o = (ap (without_device device) h.0 ∙ ap (λ ds. record (machine_of c machine.Idle) { devices = ds }) (sym left), all_left c.drives place h.1)
-  shows_left (Pending d csw) h o = (ap (without_device device) h.0 ∙ ap (λ ds. record (machine_of c (machine.Pending d csw)) { devices = ds }) (sym left), all_left c.drives place h.1)
+  shows_left Idle h o = rests_changed c m (remove c.drives place) (filter (other_than device)) left machine.Idle h.0 (all_left c.drives place h.1)
+  shows_left (Pending d csw) h o = rests_changed c m (remove c.drives place) (filter (other_than device)) left (machine.Pending d csw) h.0 (all_left c.drives place h.1)
   shows_left (Working p r) w o =
-      let stays = stays_at c.drives place p w.attached o w.is_there w.others in record {
-        attached = w.attached;
-        is_there = stays.is_there;
-        storage = w.storage;
-        drive = w.drive;
-        script = w.script;
-        machine = ap (without_device device) w.machine ∙ ap (λ ds. record (machine_of c (machine.Working w.attached.device w.script)) { storage = w.storage; devices = ds })
-            (left_through device (changes w.attached.device (set_drive w.drive)) (keeps_one w.attached.device (set_drive w.drive) (λ d. refl)) (devices c.drives) ∙ ap (map (changes w.attached.device (set_drive w.drive))) (sym left));
-        runs = w.runs;
-        others = stays.others;
-      }
+      let stays = stays_at c.drives place p w.attached o w.is_there w.others in
+      works_changed c m (remove c.drives place) (filter (other_than device)) left (moved_up place c.subchannel) p _ r w
+      (record { attached = w.attached; is_there = stays.is_there; same_device = refl; same_drive = refl; others = stays.others })
+      (left_through device (changes w.attached.device (set_drive w.drive)) (keeps_one w.attached.device (set_drive w.drive) (λ d. refl)) (devices c.drives))
 
-  pub stands_left : StandsFor (without_place place c) (without_device device m)
+  stands_left : StandsFor (without_place place c) (without_device device m)
   stands_left = record {
     number = s.number;
-    few = few (length (remove c.drives place)) (length c.drives) (fewer c.drives place) s.few;
+    few = omega (arith, length-remove c.drives place (slice_get_within c.drives place f.attached f.is_there), s.few);
     shows = shows_left c.subchannel s.shows f.runs;
-    sound = sound_left;
+    sound = sound_with m device (filter (other_than device) m.devices) (distinct_left device m.devices s.sound.0) (λ n e. found_left device n m.devices e) off (λ p. false_is_true (sym quiet ∙ p)) s.sound;
   }
-    where
-      few : (a b : ℕ) → a ≤ b → b ≤ 8 → a ≤ 8
-      few a b l h = omega (arith, l, h)
 
-  pub gives_back : (image : ImageState) → volume_in image ≡ f.attached.drive.state.volume → GivesBack device image m
-  gives_back image h = record { attached = device_of f.attached; is_there = device_there c m s device place f.attached attached f.runs; volume = sym h }
+  pub detaches : (subchannel : Subchannel) (drives : List AttachedState) (image : ImageState)
+      → subchannel ≡ moved_up place c.subchannel → Removes place image c.drives drives → Detaches device m image c (record c { subchannel = subchannel; drives = drives })
+  detaches subchannel drives image sub r =
+      let same : r.attached ≡ f.attached = inside r.attached f.attached (sym r.was ∙ f.is_there) in
+      let now : record c { subchannel = subchannel; drives = drives } ≡ without_place place c =
+      ap (λ x. record c { subchannel = x; drives = drives }) sub ∙ ap (λ us. record c { subchannel = moved_up place c.subchannel; drives = us }) r.becomes in
+      record {
+        free = is_free;
+        place = place;
+        is_free = f;
+        becomes = now;
+        stands = subst (λ x. StandsFor x (without_device device m)) (sym now) stands_left;
+        same_image = r.gives ∙ ap (λ (u : AttachedState). u.drive.image) same;
+        gives_back = gives_back image (rw same at r.gives) (rw same at r.geometry) (rw same at r.volume);
+      }
 
 -- Why a drive stays, by what the code asks.
 
@@ -311,67 +271,129 @@ module _ (c : ChannelState) (m : Machine) (s : StandsFor c m) (device : ℕ) whe
   why_none h = ap (why_of device m.subchannel) (device_seen c m (seen_by c m c.subchannel s.shows) device None (none_found device c.drives h))
 
   module _ (place : ℕ) (h : position (is_at device) c.drives ≡ Some place) where
-    there : IsAttached device place c.drives (found_by device c.drives place h).attached
-    there = let f = found_by device c.drives place h in record { is_there = f.is_there; same_device = f.same_device }
-
-    why : why_stays device m ≡ cond (works_at place c.subchannel) (Some ProgramRuns) (cond (waits_for device c.subchannel) (Some EndingPends) (cond (is_at_rest (found_by device c.drives place h).attached.arm) None (Some DeviceEndOwed)))
-    why = why_is c m s device place (found_by device c.drives place h).attached there
+    why : why_stays device m ≡ why_by (works_at place c.subchannel) (waits_for device c.subchannel) (found_by device c.drives place h).attached.arm
+    why = let f = found_by device c.drives place h in why_is c m s device place f.attached (record { is_there = f.is_there; same_device = f.same_device })
 
     pub why_runs : works_at place c.subchannel ≡ true → why_stays device m ≡ Some ProgramRuns
-    why_runs a = why ∙ ap (λ b. cond b (Some ProgramRuns) (cond (waits_for device c.subchannel) (Some EndingPends) (cond (is_at_rest (found_by device c.drives place h).attached.arm) None (Some DeviceEndOwed)))) a
+    why_runs a = rw a at why
 
     pub why_pends : works_at place c.subchannel ≡ false → waits_for device c.subchannel ≡ true → why_stays device m ≡ Some EndingPends
-    why_pends a b = why
-        ∙ (ap (λ b. cond b (Some ProgramRuns) (cond (waits_for device c.subchannel) (Some EndingPends) (cond (is_at_rest (found_by device c.drives place h).attached.arm) None (Some DeviceEndOwed)))) a
-        ∙ ap (λ b. cond b (Some EndingPends) (cond (is_at_rest (found_by device c.drives place h).attached.arm) None (Some DeviceEndOwed))) b)
+    why_pends a b = rw (a, b) at why
 
     pub why_owes : (arm : Arm) → works_at place c.subchannel ≡ false → waits_for device c.subchannel ≡ false → Some arm ≡ option_map (λ (u : AttachedState). u.arm) (slice_get c.drives place) → is_at_rest arm ≡ false
         → why_stays device m ≡ Some DeviceEndOwed
-    why_owes arm a b e k = why
-        ∙ (ap (λ b. cond b (Some ProgramRuns) (cond (waits_for device c.subchannel) (Some EndingPends) (cond (is_at_rest (found_by device c.drives place h).attached.arm) None (Some DeviceEndOwed)))) a
-        ∙ (ap (λ b. cond b (Some EndingPends) (cond (is_at_rest (found_by device c.drives place h).attached.arm) None (Some DeviceEndOwed))) b
-        ∙ ap (λ b. cond b None (Some DeviceEndOwed)) (ap is_at_rest (sym (inside arm (found_by device c.drives place h).attached.arm (e ∙ ap (option_map (λ (u : AttachedState). u.arm)) there.is_there))) ∙ k)))
+    why_owes arm a b e k = rw (a, b, arm_there c.drives place _ arm (found_by device c.drives place h).is_there e, k) at why
 
-pub free_at : (c : ChannelState) (device place : ℕ) (arm : Arm) → position (is_at device) c.drives ≡ Some place → works_at place c.subchannel ≡ false → waits_for device c.subchannel ≡ false
-    → Some arm ≡ option_map (λ (u : AttachedState). u.arm) (slice_get c.drives place) → arm ≡ AtRest → IsFree device place c
-free_at c device place arm h a b e k = let f = found_by device c.drives place h in record {
+pub free_at : (c : ChannelState) (device place : ℕ) → position (is_at device) c.drives ≡ Some place → works_at place c.subchannel ≡ false → waits_for device c.subchannel ≡ false
+    → Some AtRest ≡ option_map (λ (u : AttachedState). u.arm) (slice_get c.drives place) → IsFree device place c
+free_at c device place h a b e = let f = found_by device c.drives place h in record {
   attached = f.attached;
   is_there = f.is_there;
   same_device = f.same_device;
   runs = a;
   pends = b;
-  arm = sym (inside arm f.attached.arm (e ∙ ap (option_map (λ (u : AttachedState). u.arm)) f.is_there)) ∙ k;
+  arm = arm_there c.drives place f.attached AtRest f.is_there e;
 }
 
--- The channel's parts, after a drive was taken out.
+-- A channel one of whose drives has another pack.
 
-pub may_go : (c : ChannelState) (m : Machine) → StandsFor c m → (device place : ℕ) (f : IsFree device place c) → DriveIs place Rests c.drives
-may_go c m s device place f = record {
-  attached = f.attached;
-  is_there = f.is_there;
-  holds = rests_there c m s device place f.attached (record { is_there = f.is_there; same_device = f.same_device }) f.runs;
-}
+-- the device with another pack
+abbrev packed : ImageState → Device → Device
+packed image d = record d { arm = AtRest; drive = first_drive (volume_in image) }
 
-pub detaches : (c : ChannelState) (m : Machine) → StandsFor c m → (device place : ℕ) (f : IsFree device place c) (subchannel : Subchannel) (drives : List AttachedState) (image : ImageState)
-    → subchannel ≡ moved_up place c.subchannel → Removes place image c.drives drives → Detaches device m image c (record c { subchannel = subchannel; drives = drives })
-detaches c m s device place f subchannel drives image sub r =
-    let same : r.attached ≡ f.attached = inside r.attached f.attached (sym r.was ∙ f.is_there) in
-    let now : record c { subchannel = subchannel; drives = drives } ≡ without_place place c =
-    ap (λ x. record c { subchannel = x; drives = drives }) sub ∙ ap (λ us. record c { subchannel = moved_up place c.subchannel; drives = us }) r.becomes in
-    record {
-      free = is_free c m s device place f;
-      place = place;
-      is_free = f;
-      becomes = now;
-      stands = subst (λ x. StandsFor x (without_device device m)) (sym now) (stands_left c m s device place f);
-      same_image = r.gives ∙ ap (λ (u : AttachedState). u.drive.image) same;
-      gives_back = gives_back c m s device place f image (
-          ap volume_in r.gives
-          ∙ (ap (λ (g : Geometry). volume g r.attached.drive.image.slots) r.geometry
-          ∙ (ap (λ (t : List (List ℕ)). volume r.attached.drive.state.volume.geometry t) r.volume
-          ∙ ap (λ (u : AttachedState). u.drive.state.volume) same))
-          );
-    }
+-- another device is found as it was
+found_other : (device n : ℕ) (f : Device → Device) → Keeps f → (ds : List Device) → (n == device) ≡ false → find (λ d. d.device == n) (map (changes device f) ds) ≡ find (λ d. d.device == n) ds
+found_other device n f k [] h = refl
+found_other device n f k (d ∷ ds) h = go (d.device == device) refl (found_other device n f k ds h)
   where
-    volume : Geometry → List (List ℕ) → Volume
-    volume g t = record { geometry = g; slots = t }
+    go : (b : Bool) → (d.device == device) ≡ b → find (λ d. d.device == n) (map (changes device f) ds) ≡ find (λ d. d.device == n) ds
+        → cond ((cond b (f d) d).device == n) (Some (cond b (f d) d)) (find (λ d. d.device == n) (map (changes device f) ds)) ≡ cond (d.device == n) (Some d) (find (λ d. d.device == n) ds)
+    go true e r =
+        let off : (d.device == n) ≡ false = different d.device n (λ same. eqb-false n device h (sym same ∙ eqb-true d.device device e)) in
+        ap (λ b. cond b (Some (f d)) (find (λ d. d.device == n) (map (changes device f) ds))) (ap (λ x. x == n) (k d) ∙ off)
+        ∙ (r ∙ sym (ap (λ b. cond b (Some d) (find (λ d. d.device == n) ds)) off))
+    go false e r = ap (λ r. cond (d.device == n) (Some d) r) r
+
+-- a pack that fits has slots as large
+same_size : (held other : Geometry) → true ≡ fits_drive held other → other.track_size ≡ held.track_size
+same_size held other h = sym (eqb-true held.track_size other.track_size (second (is_same_model held.model other.model) (held.track_size == other.track_size) h))
+  where
+    second : (a b : Bool) → true ≡ (a && b) → b ≡ true
+    second true b h = sym h
+    second false b h = absurd (cc)
+
+module _ (c : ChannelState) (m : Machine) (s : StandsFor c m) (device place : ℕ) (f : IsFree device place c) (image : ImageState) where
+  distinct_now : AreDistinct (devices c.drives)
+  distinct_now = distinct c m s device place f.attached (attached c m s device place f)
+
+  abbrev this : AttachedState
+  this = new_attached device image
+
+  abbrev drives_now : List AttachedState
+  drives_now = slice_set c.drives place this
+
+  abbrev change : List Device → List Device
+  change = map (changes device (packed image))
+
+  now : devices drives_now ≡ change (devices c.drives)
+  now = devices_set c.drives place f.attached this (packed image) distinct_now f.is_there (ap (λ n. device_of (new_attached n image)) (sym f.same_device))
+      ∙ ap (λ n. map (changes n (packed image)) (devices c.drives)) f.same_device
+
+  shows_packed : (x : Subchannel) → Shows c m x → works_at place x ≡ false → Shows (record c { drives = drives_now }) (with_pack device image m) x
+  shows_packed Idle h o = rests_changed c m drives_now change now machine.Idle h.0 (all_set c.drives place this h.1 (new_rests device image))
+  shows_packed (Pending d csw) h o = rests_changed c m drives_now change now (machine.Pending d csw) h.0 (all_set c.drives place this h.1 (new_rests device image))
+  shows_packed (Working p r) w o = works_changed c m drives_now change now c.subchannel p p r w (record {
+    attached = w.attached;
+    is_there = get_other c.drives place p this (eqb-false p place o) ∙ w.is_there;
+    same_device = refl;
+    same_drive = refl;
+    others = others_put c.drives place p f.attached this f.is_there (λ n r. new_rests device image) w.others;
+  }) (changes_apart device w.attached.device (packed image) (set_drive w.drive) (λ d. refl) (λ d. refl) (λ e. absurd (other e)) (devices c.drives))
+    where
+      other : device ≡ w.attached.device → ⊥
+      other e = eqb-false w.attached.device f.attached.device (same_places c.drives p place w.attached f.attached distinct_now w.is_there f.is_there ∙ o) (sym (f.same_device ∙ e))
+
+  stands_packed : StandsFor (record c { drives = drives_now }) (with_pack device image m)
+  stands_packed = record {
+    number = s.number;
+    few = subst (λ n. n ≤ 8) (sym (length-set c.drives place this)) s.few;
+    shows = shows_packed c.subchannel s.shows f.runs;
+    sound = sound_with m device (change m.devices) (distinct_map (changes device (packed image)) (keeps_one device (packed image) (λ d. refl)) m.devices s.sound.0)
+        (λ n. found_other device n (packed image) (λ d. refl) m.devices) (off c m s device place f) (λ p. false_is_true (sym (quiet c m s device place f) ∙ p)) s.sound;
+  }
+
+  -- the drive may have the pack that fits
+  pub may_exchange : (geometry : Geometry) → geometry ≡ image.geometry → Some true ≡ option_map (λ (u : AttachedState). fits_drive u.drive.image.geometry geometry) (slice_get c.drives place)
+      → DriveIs place (MayExchange image.geometry.track_size) c.drives
+  may_exchange geometry e h = record {
+    attached = f.attached;
+    is_there = f.is_there;
+    holds = (
+      rests_there c m s device place f.attached (attached c m s device place f) f.runs,
+      ap (λ (g : Geometry). g.track_size) (sym e)
+          ∙ same_size f.attached.drive.image.geometry geometry (inside true _ (h ∙ ap (option_map (λ (u : AttachedState). fits_drive u.drive.image.geometry geometry)) f.is_there)),
+    );
+  }
+
+  -- whether the pack fits, by what the code asks of the drive
+  pub fits_is : (b : Bool) (geometry : Geometry) → geometry ≡ image.geometry → Some b ≡ option_map (λ (u : AttachedState). fits_drive u.drive.state.volume.geometry geometry) (slice_get c.drives place) → fits_at device image m ≡ Some b
+  fits_is b geometry e h = ap (option_map (λ (d : Device). fits_drive d.drive.volume.geometry image.geometry)) (device_there c m s device place f.attached (attached c m s device place f) f.runs)
+      ∙ sym (h ∙ ap (option_map (λ (u : AttachedState). fits_drive u.drive.state.volume.geometry geometry)) f.is_there ∙ ap (λ g. Some (fits_drive f.attached.drive.state.volume.geometry g)) e)
+
+  pub exchanges : (drives : List AttachedState) (before : ImageState) → fits_at device image m ≡ Some true → ExchangesPack place image before c.drives drives → Exchanges device m image before c (record c { drives = drives })
+  exchanges drives before fits r =
+      let same : r.attached ≡ f.attached = inside r.attached f.attached (sym r.was ∙ f.is_there) in
+      let placed : drives ≡ drives_now =
+      r.becomes ∙ ap (λ (u : AttachedState). slice_set c.drives place (record u { drive = this.drive })) same
+      ∙ ap (λ n. slice_set c.drives place (record (new_attached n image) { arm = f.attached.arm })) f.same_device
+      ∙ ap (λ a. slice_set c.drives place (record this { arm = a })) f.arm in
+      record {
+        free = is_free c m s device place f;
+        fits = fits;
+        place = place;
+        is_free = f;
+        becomes = ap (λ us. record c { drives = us }) placed;
+        stands = subst (λ us. StandsFor (record c { drives = us }) (with_pack device image m)) (sym placed) stands_packed;
+        same_image = r.gives ∙ ap (λ (u : AttachedState). u.drive.image) same;
+        gives_back = gives_back c m s device place f before (rw same at r.gives) (rw same at r.geometry) (rw same at r.volume);
+      }

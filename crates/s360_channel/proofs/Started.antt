@@ -1,38 +1,44 @@
--- What a start leaves at an available channel.
-use Rattle.std.proofs.Common.{◌≡◌, ℕ, refl, sym, ap, subst, ◌∙◌, Bool, cond, ◌==◌, List, map, Some}
-use Rattle.std.specs.Prelude.{slice_get, slice_set, if◌then◌else◌}
-use Rattle.s360_words.specs.Storage.{Storage, changed, status_stored, caw_word}
+-- An available channel: what a start leaves, and what starts, tests and interruptions do by the arms of its drives.
+use Rattle.std.proofs.Common.{◌≡◌, ℕ, refl, sym, ap, subst, ◌∙◌, Bool, cond, ◌==◌, List, map, Some, ◌+◌, ◌*◌, ◌<◌, true, false, [], ◌∷◌, length, Option, None}
+use Rattle.std.proofs.lemmas.Bool.{eqb-false}
+use Rattle.std.proofs.lemmas.Option.{slice_get_within}
+use Rattle.std.specs.Prelude.{slice_get, slice_set, if◌then◌else◌, find, filter, position, option_map, nat_lt}
 use Rattle.s360_words.specs.declared.flags.ChannelStatus.{ChannelStatus}
 use Rattle.s360_words.specs.declared.flags.TheConstants.ChannelStatus.{PROGRAM_CHECK}
-use Rattle.s360_words.specs.declared.flags.TheConstants.UnitStatus.{UNIT_CHECK}
+use Rattle.s360_words.specs.declared.flags.TheConstants.UnitStatus.{UNIT_CHECK, BUSY, DEVICE_END}
+use Rattle.s360_words.specs.declared.words.Csw.{Csw}
+use Rattle.s360_words.specs.Storage.{Storage, changed, status_stored, caw_word, csw_stored}
+use Rattle.ckd_command.specs.declared.close.DriveEnding.{DriveEnding}
 use Rattle.ckd_command.specs.Drive.{drive_of}
 use Rattle.ckd_drive.specs.Work.{DriveState}
+use Rattle.s360_runs.specs.Runs.{Start}
 use Rattle.s360_runs.specs.Scripts.{units}
 use Rattle.s360_runs.specs.Starts.{First, BadStart, RejectedStart, ImmediateStart, AcceptedStart, first}
-use Rattle.s360_runs.specs.Status.{no_channel_status, no_unit_status, with_interruption}
-use Rattle.ckd_command.specs.declared.close.DriveEnding.{DriveEnding}
+use Rattle.s360_runs.specs.Status.{no_channel_status, no_unit_status, with_interruption, busy_device_end}
+use Rattle.s360_program.specs.declared.program.Start.TheVariants as start
 use Rattle.s360_program.specs.Laws.{AcceptedStands}
 use Rattle.s360_program.specs.Stands.{RunningState}
-use Rattle.s360_program.specs.declared.program.Start.TheVariants as start
-use Rattle.s360_channel.specs.DriveCalls.{DriveChanges, ArmChanges, Starts}
-use Rattle.s360_events.specs.Seen.{condition_seen, status_seen}
-use Rattle.s360_events.specs.declared.conditions.Status.{Status}
+use Rattle.s360_program.specs.Starting.{IsBad, IsRejected, IsImmediate, IsAccepted}
+use Rattle.s360_laws.specs.declared.arm.Arm.{Arm}
+use Rattle.s360_laws.specs.declared.arm.Arm.TheVariants.{InMotion, AtRest, Arrived}
+use Rattle.s360_laws.specs.declared.condition.ConditionCode.TheVariants as code
+use Rattle.s360_laws.specs.Events.{Answer, StatusStored, WithCode, Interrupted}
+use Rattle.s360_laws.specs.Machine.{Machine, Device, started, start_of, arm_after, with_device, start_device, test_device, device_at, csw_of_unit, with_arm, lower, lowest, has_arrived, interrupt_device}
+use Rattle.s360_laws.specs.Machine as machine
+use Rattle.s360_laws.specs.Soundness.{AreDistinct}
+use Rattle.s360_laws.proofs.FindDevices.{distinct_map, keeps_one, set_drive, set_both, set_arm}
 use Rattle.s360_events.specs.declared.conditions.Condition.{Condition}
 use Rattle.s360_events.specs.declared.conditions.Condition.TheVariants.{Stored}
-use Rattle.s360_program.specs.Starting.{IsBad, IsRejected, IsImmediate, IsAccepted}
-use Rattle.s360_laws.specs.Events.{Answer, StatusStored, WithCode}
-use Rattle.s360_laws.specs.Machine as machine
-use Rattle.s360_laws.specs.Machine.{Machine, Device, started, start_of, arm_after, with_device}
-use Rattle.s360_laws.specs.Soundness.{AreDistinct}
-use Rattle.s360_laws.specs.declared.arm.Arm.{Arm}
-use Rattle.s360_laws.specs.declared.arm.Arm.TheVariants.{InMotion, AtRest}
-use Rattle.s360_laws.specs.declared.condition.ConditionCode.TheVariants as code
-use Rattle.s360_laws.proofs.FindDevices.{distinct_map, keeps_one, set_drive, set_both}
-use Rattle.s360_channel.specs.Channel.{AttachedState, ChannelState, AllRest, OthersRest, machine_of, device_of}
-use Rattle.s360_channel.specs.Nexts.{ShowsNext, of_parts, idle_machine}
+use Rattle.s360_events.specs.declared.conditions.Status.{Status}
+use Rattle.s360_events.specs.Seen.{condition_seen, status_seen, csw_seen}
+use Rattle.s360_channel.specs.Channel.{AttachedState, ChannelState, AllRest, OthersRest, machine_of, device_of, Shows, is_at}
 use Rattle.s360_channel.specs.declared.subchannel.Subchannel.{Subchannel}
 use Rattle.s360_channel.specs.declared.subchannel.Subchannel.TheVariants.{Idle, Working}
-use Rattle.s360_channel.proofs.Places.{devices, devices_set, get_set, set_same, set_twice, all_set, others_of_all, others_set, map_same, inside}
+use Rattle.s360_channel.specs.DriveCalls.{DriveChanges, ArmChanges, Starts}
+use Rattle.s360_channel.specs.Nexts.{ShowsNext, of_parts, idle_machine}
+use Rattle.s360_channel.proofs.Places.{changes, devices, devices_set, get_set, set_same, set_twice, all_set, others_of_all, others_set, map_same, inside, FoundAt, arm_there, found_by, none_found, none_is_some, rests_at}
+
+-- What a start leaves at an available channel.
 
 -- the first unit of the program at a drive
 abbrev pub first_of : (number : ℕ) → Storage → List AttachedState → AttachedState → First
@@ -42,112 +48,26 @@ abbrev pub next_of : (number : ℕ) → Storage → List AttachedState → Attac
 next_of number s us u = started u.device (idle_machine number s us) (first_of number s us u)
 
 module _ (number : ℕ) (s : Storage) (us : List AttachedState) (place : ℕ) (u : AttachedState) (there : slice_get us place ≡ Some u) (rest : AllRest us) (distinct : AreDistinct (devices us)) where
+  abbrev here_started : Start
+  here_started = start_of (idle_machine number s us) (drive_of u.drive.state)
+
   -- where the first unit comes to this, it is this that the channel has to show
   by_first : (f : First) {answer : Answer} {new : ChannelState} → first_of number s us u ≡ f → ShowsNext (started u.device (idle_machine number s us) f) answer new → ShowsNext (next_of number s us u) answer new
   by_first f {answer} {new} e h = subst (λ f. ShowsNext (started u.device (idle_machine number s us) f) answer new) (sym e) h
 
-  -- a start that is bad
-  pub bad : (d : DriveState) (us' : List AttachedState) (s' : Storage) → us' ≡ slice_set us place (record u { drive = d }) → IsBad (start_of (idle_machine number s us) (drive_of u.drive.state)) u.drive d
-      → s' ≡ changed (status_stored no_unit_status.0 PROGRAM_CHECK.0) s → ShowsNext (next_of number s us u) (StatusStored no_unit_status PROGRAM_CHECK) (of_parts number s' Idle us')
-  bad d us' s' becomes is stored = by_first BadStart is.first (record {
-    answers = refl;
-    shows = (ap (λ s. idle_machine number s us) (sym stored) ∙ ap (λ us. idle_machine number s' us) (sym same), subst AllRest (sym same) rest);
-  })
-    where
-      same : us' ≡ us
-      same = becomes ∙ ap (λ d. slice_set us place (record u { drive = d })) is.drive ∙ set_same us place u there
-
-  -- a command that is rejected
-  pub rejected : (d : DriveState) (us' : List AttachedState) (s' : Storage) → us' ≡ slice_set us place (record u { drive = d }) → IsRejected (start_of (idle_machine number s us) (drive_of u.drive.state)) d
-      → s' ≡ changed (status_stored UNIT_CHECK.0 no_channel_status.0) s → ShowsNext (next_of number s us u) (StatusStored UNIT_CHECK no_channel_status) (of_parts number s' Idle us')
-  rejected d us' s' becomes is stored = by_first (RejectedStart (drive_of d.state)) is.first (record {
-    answers = refl;
-    shows = (
-      ap (λ s. record (idle_machine number s us) { devices = map (λ x. cond (x.device == u.device) (set_drive (drive_of d.state) x) x) (devices us) }) (sym stored)
-          ∙ ap (λ ds. record (idle_machine number s' us) { devices = ds }) (sym (ap devices becomes ∙ devices_set us place u (record u { drive = d }) (set_drive (drive_of d.state)) distinct there refl)),
-      subst AllRest (sym becomes) (all_set us place (record u { drive = d }) rest is.rests),
-    );
-  })
-
-  -- an immediate command, which is over at once
-  pub immediate : (d : DriveState) (us' us'' : List AttachedState) (s' : Storage) (told : DriveEnding) (asked : Bool) (arm : Arm) (channel : ChannelStatus) → us' ≡ slice_set us place (record u { drive = d })
-      → us'' ≡ slice_set us' place (record u { drive = d; arm = arm })
-      → IsImmediate (start_of (idle_machine number s us) (drive_of u.drive.state)) told asked d
-      → arm ≡ (if told.motion then InMotion else AtRest) → channel ≡ with_interruption asked no_channel_status
-      → s' ≡ changed (status_stored told.unit.0 channel.0) s → ShowsNext (next_of number s us u) (StatusStored told.unit channel) (of_parts number s' Idle us'')
-  immediate d us' us'' s' told asked arm channel becomes armed is arm_is channel_is stored = by_first (ImmediateStart is.ending) is.first (record {
-    answers = ap (λ unit. StatusStored unit channel) (sym is.unit) ∙ ap (StatusStored is.ending.csw.unit) same_channel;
-    shows = (
-      ap (λ s. record (idle_machine number s us) { devices = map (λ x. cond (x.device == u.device) (set_both (arm_after is.ending) is.ending.drive x) x) (devices us) })
-          (ap (λ unit. changed (status_stored unit.0 is.ending.csw.channel.0) s) is.unit ∙ ap (λ channel. changed (status_stored told.unit.0 channel.0) s) (sym same_channel) ∙ sym stored)
-          ∙ ap (λ ds. record (idle_machine number s' us) { devices = ds }) (sym (ap devices in_place ∙ devices_set us place u (record u { drive = d; arm = arm }) (set_both (arm_after is.ending) is.ending.drive) distinct there same_device)),
-      subst AllRest (sym in_place) (all_set us place (record u { drive = d; arm = arm }) rest is.drive.rests),
-    );
-  })
-    where
-      same_channel : channel ≡ is.ending.csw.channel
-      same_channel = channel_is ∙ sym is.channel
-
-      in_place : us'' ≡ slice_set us place (record u { drive = d; arm = arm })
-      in_place = armed ∙ ap (λ us. slice_set us place (record u { drive = d; arm = arm })) becomes ∙ set_twice us place (record u { drive = d }) (record u { drive = d; arm = arm })
-
-      same_device : device_of (record u { drive = d; arm = arm }) ≡ set_both (arm_after is.ending) is.ending.drive (device_of u)
-      same_device = ap (λ arm. record (device_of u) { arm = arm; drive = drive_of d.state }) (arm_is ∙ ap (λ b. if b then InMotion else AtRest) (sym is.motion))
-          ∙ ap (λ x. record (device_of u) { arm = arm_after is.ending; drive = x }) is.drive.drive
-
-  -- a program that runs
-  pub accepted : AcceptedStands → (d : DriveState) (us' : List AttachedState) (r : RunningState) → us' ≡ slice_set us place (record u { drive = d })
-      → IsAccepted (start_of (idle_machine number s us) (drive_of u.drive.state)) r d
-      → ShowsNext (next_of number s us u) (WithCode code.Zero) (of_parts number s (Working place r) us')
-  accepted stands d us' r becomes is = by_first AcceptedStart is.first (record {
-    answers = refl;
-    shows = record {
-      attached = new;
-      is_there = ap (λ us. slice_get us place) becomes ∙ get_set us place u new there;
-      storage = s;
-      drive = drive_of u.drive.state;
-      script = units 1;
-      machine = ap (λ ds. record (machine_of (of_parts number s Idle us) (machine.Working u.device (units 1))) { devices = ds }) back;
-      runs = stands (start_of (idle_machine number s us) (drive_of u.drive.state)) r d is;
-      others = subst (OthersRest place) (sym becomes) (others_set us place new (others_of_all us place rest));
-    };
-  })
-    where
-      new : AttachedState
-      new = record u { drive = d }
-
-      placed : List AttachedState
-      placed = slice_set us place new
-
-      distinct_placed : AreDistinct (devices placed)
-      distinct_placed = subst AreDistinct (sym (devices_set us place u new (set_drive (drive_of d.state)) distinct there refl))
-          (distinct_map _ (keeps_one u.device (set_drive (drive_of d.state)) (λ v. refl)) (devices us) distinct)
-
-      back : devices us ≡ map (λ x. cond (x.device == u.device) (set_drive (drive_of u.drive.state) x) x) (devices us')
-      back = sym (ap devices (set_twice us place new u ∙ set_same us place u there))
-          ∙ devices_set placed place new u (set_drive (drive_of u.drive.state)) distinct_placed (get_set us place u new there) refl
-          ∙ ap (λ us. map (λ x. cond (x.device == u.device) (set_drive (drive_of u.drive.state) x) x) (devices us)) (sym becomes)
-
-pub images_kept : (us : List AttachedState) (place : ℕ) (u : AttachedState) (d : DriveState) (us' : List AttachedState) → slice_get us place ≡ Some u → us' ≡ slice_set us place (record u { drive = d }) → d.image ≡ u.drive.image
-    → map (λ (u : AttachedState). u.drive.image) us' ≡ map (λ (u : AttachedState). u.drive.image) us
-images_kept us place u d us' there becomes same = ap (map (λ (u : AttachedState). u.drive.image)) becomes ∙ map_same (λ (u : AttachedState). u.drive.image) us place u (record u { drive = d }) there same
-
--- The same, from what the calls of the code ensure.
-module _ (number : ℕ) (s : Storage) (us : List AttachedState) (place : ℕ) (u : AttachedState) (there : slice_get us place ≡ Some u) (rest : AllRest us) (distinct : AreDistinct (devices us)) where
+  -- what a start did to the drive
   record Here (How : DriveState → DriveState → Type 0) (us' : List AttachedState) : Type 0 where
     drive : DriveState
     becomes : us' ≡ slice_set us place (record u { drive = drive })
     how : How u.drive drive
 
   here : (How : DriveState → DriveState → Type 0) (us' : List AttachedState) → DriveChanges place How us us' → Here How us'
-  here How us' e = record {
-    drive = e.drive;
-    becomes = e.becomes ∙ ap (λ (v : AttachedState). slice_set us place (record v { drive = e.drive })) same;
-    how = subst (λ (v : AttachedState). How v.drive e.drive) same e.how;
-  }
-    where
-      same : e.attached ≡ u
-      same = inside e.attached u (sym e.was ∙ there)
+  here How us' e =
+      let same : e.attached ≡ u = inside e.attached u (sym e.was ∙ there) in record {
+        drive = e.drive;
+        becomes = e.becomes ∙ ap (λ (v : AttachedState). slice_set us place (record v { drive = e.drive })) same;
+        how = subst (λ (v : AttachedState). How v.drive e.drive) same e.how;
+      }
 
   told_so : (answer : Condition Status) (x : Status) (sub : Subchannel) (s' : Storage) (us' : List AttachedState) → sub ≡ Idle → answer ≡ Stored x
       → ShowsNext (next_of number s us u) (status_seen x) (of_parts number s' Idle us') → ShowsNext (next_of number s us u) (condition_seen status_seen answer) (of_parts number s' sub us')
@@ -155,22 +75,36 @@ module _ (number : ℕ) (s : Storage) (us : List AttachedState) (place : ℕ) (u
       subst (λ sub. ShowsNext (next_of number s us u) (condition_seen status_seen answer) (of_parts number s' sub us')) (sym idle)
       (subst (λ answer. ShowsNext (next_of number s us u) (condition_seen status_seen answer) (of_parts number s' Idle us')) (sym is) h)
 
+  -- a start that is bad
   pub starts_bad : (caw : ℕ) (sub : Subchannel) (answer : Condition Status) (us' : List AttachedState) (s' : Storage) → sub ≡ Idle → caw ≡ caw_word s → DriveChanges place (Starts caw s start.Bad) us us'
       → answer ≡ Stored (record { unit = no_unit_status; channel = PROGRAM_CHECK }) → s' ≡ changed (status_stored no_unit_status.0 PROGRAM_CHECK.0) s
       → ShowsNext (next_of number s us u) (condition_seen status_seen answer) (of_parts number s' sub us')
   starts_bad caw sub answer us' s' idle word e is stored =
       let h = here (Starts caw s start.Bad) us' e in
-      told_so answer (record { unit = no_unit_status; channel = PROGRAM_CHECK }) sub s' us' idle is
-      (bad number s us place u there rest distinct h.drive us' s' h.becomes (subst (λ caw. IsBad (record { caw = caw; storage = s; drive = drive_of u.drive.state }) u.drive h.drive) word h.how.0) stored)
+      let bad = subst (λ caw. IsBad (record { caw = caw; storage = s; drive = drive_of u.drive.state }) u.drive h.drive) word h.how.0 in
+      let same : us' ≡ us = h.becomes ∙ ap (λ d. slice_set us place (record u { drive = d })) bad.drive ∙ set_same us place u there in
+      told_so answer (record { unit = no_unit_status; channel = PROGRAM_CHECK }) sub s' us' idle is (by_first BadStart bad.first (record {
+        answers = refl;
+        shows = (ap (λ s. idle_machine number s us) (sym stored) ∙ ap (λ us. idle_machine number s' us) (sym same), subst AllRest (sym same) rest);
+      }))
 
+  -- a command that is rejected
   pub starts_rejected : (caw : ℕ) (sub : Subchannel) (answer : Condition Status) (us' : List AttachedState) (s' : Storage) → sub ≡ Idle → caw ≡ caw_word s → DriveChanges place (Starts caw s start.Rejected) us us'
       → answer ≡ Stored (record { unit = UNIT_CHECK; channel = no_channel_status }) → s' ≡ changed (status_stored UNIT_CHECK.0 no_channel_status.0) s
       → ShowsNext (next_of number s us u) (condition_seen status_seen answer) (of_parts number s' sub us')
   starts_rejected caw sub answer us' s' idle word e is stored =
       let h = here (Starts caw s start.Rejected) us' e in
-      told_so answer (record { unit = UNIT_CHECK; channel = no_channel_status }) sub s' us' idle is
-      (rejected number s us place u there rest distinct h.drive us' s' h.becomes (subst (λ caw. IsRejected (record { caw = caw; storage = s; drive = drive_of u.drive.state }) h.drive) word h.how.0) stored)
+      let rejected = subst (λ caw. IsRejected (record { caw = caw; storage = s; drive = drive_of u.drive.state }) h.drive) word h.how.0 in
+      told_so answer (record { unit = UNIT_CHECK; channel = no_channel_status }) sub s' us' idle is (by_first (RejectedStart (drive_of h.drive.state)) rejected.first (record {
+        answers = refl;
+        shows = (
+          ap (λ s. record (idle_machine number s us) { devices = map (changes u.device (set_drive (drive_of h.drive.state))) (devices us) }) (sym stored)
+              ∙ ap (λ ds. record (idle_machine number s' us) { devices = ds }) (sym (ap devices h.becomes ∙ devices_set us place u (record u { drive = h.drive }) (set_drive (drive_of h.drive.state)) distinct there refl)),
+          subst AllRest (sym h.becomes) (all_set us place (record u { drive = h.drive }) rest rejected.rests),
+        );
+      }))
 
+  -- an immediate command, which is over at once
   pub starts_immediate : (caw : ℕ) (sub : Subchannel) (answer : Condition Status) (us' us'' : List AttachedState) (s' : Storage) (told : DriveEnding) (asked : Bool) (arm : Arm) (channel : ChannelStatus)
       → sub ≡ Idle → caw ≡ caw_word s → DriveChanges place (Starts caw s (start.Immediate told asked)) us us' → ArmChanges place arm us' us''
       → arm ≡ (if told.motion then InMotion else AtRest) → channel ≡ with_interruption asked no_channel_status
@@ -178,16 +112,173 @@ module _ (number : ℕ) (s : Storage) (us : List AttachedState) (place : ℕ) (u
       → ShowsNext (next_of number s us u) (condition_seen status_seen answer) (of_parts number s' sub us'')
   starts_immediate caw sub answer us' us'' s' told asked arm channel idle word e a arm_is channel_is is stored =
       let h = here (Starts caw s (start.Immediate told asked)) us' e in
+      let i = subst (λ caw. IsImmediate (record { caw = caw; storage = s; drive = drive_of u.drive.state }) told asked h.drive) word h.how.0 in
+      let new : AttachedState = record u { drive = h.drive; arm = arm } in
       let same : a.attached ≡ record u { drive = h.drive } = inside a.attached (record u { drive = h.drive }) (sym a.was ∙ (ap (λ us. slice_get us place) h.becomes ∙ get_set us place u (record u { drive = h.drive }) there)) in
-      told_so answer (record { unit = told.unit; channel = channel }) sub s' us'' idle is
-      (immediate number s us place u there rest distinct h.drive us' us'' s' told asked arm channel h.becomes (a.becomes ∙ ap (λ (v : AttachedState). slice_set us' place (record v { arm = arm })) same)
-      (subst (λ caw. IsImmediate (record { caw = caw; storage = s; drive = drive_of u.drive.state }) told asked h.drive) word h.how.0) arm_is channel_is stored)
+      let in_place : us'' ≡ slice_set us place new =
+      a.becomes ∙ ap (λ (v : AttachedState). slice_set us' place (record v { arm = arm })) same
+      ∙ ap (λ us. slice_set us place new) h.becomes ∙ set_twice us place (record u { drive = h.drive }) new in
+      let same_channel : channel ≡ i.ending.csw.channel = channel_is ∙ sym i.channel in
+      let same_device : device_of new ≡ set_both (arm_after i.ending) i.ending.drive (device_of u) =
+      ap (λ arm. record (device_of u) { arm = arm; drive = drive_of h.drive.state }) (arm_is ∙ ap (λ b. if b then InMotion else AtRest) (sym i.motion))
+      ∙ ap (λ x. record (device_of u) { arm = arm_after i.ending; drive = x }) i.drive.drive in
+      told_so answer (record { unit = told.unit; channel = channel }) sub s' us'' idle is (by_first (ImmediateStart i.ending) i.first (record {
+        answers = ap (λ unit. StatusStored unit channel) (sym i.unit) ∙ ap (StatusStored i.ending.csw.unit) same_channel;
+        shows = (
+          ap (λ s. record (idle_machine number s us) { devices = map (changes u.device (set_both (arm_after i.ending) i.ending.drive)) (devices us) })
+              (ap (λ unit. changed (status_stored unit.0 i.ending.csw.channel.0) s) i.unit ∙ ap (λ channel. changed (status_stored told.unit.0 channel.0) s) (sym same_channel) ∙ sym stored)
+              ∙ ap (λ ds. record (idle_machine number s' us) { devices = ds }) (sym (ap devices in_place ∙ devices_set us place u new (set_both (arm_after i.ending) i.ending.drive) distinct there same_device)),
+          subst AllRest (sym in_place) (all_set us place new rest i.drive.rests),
+        );
+      }))
 
+  -- a program that runs
   pub starts_accepted : AcceptedStands → (caw : ℕ) (us' : List AttachedState) (r : RunningState) → caw ≡ caw_word s → DriveChanges place (Starts caw s (start.Accepted r)) us us'
       → ShowsNext (next_of number s us u) (WithCode code.Zero) (of_parts number s (Working place r) us')
-  starts_accepted stands caw us' r word e =
-      let h = here (Starts caw s (start.Accepted r)) us' e in
-      accepted number s us place u there rest distinct stands h.drive us' r h.becomes (subst (λ caw. IsAccepted (record { caw = caw; storage = s; drive = drive_of u.drive.state }) r h.drive) word h.how.0)
+  starts_accepted stands caw us' r word e = by_first AcceptedStart accepted.first (record {
+    answers = refl;
+    shows = record {
+      attached = new;
+      is_there = ap (λ us. slice_get us place) h.becomes ∙ get_set us place u new there;
+      storage = s;
+      drive = drive_of u.drive.state;
+      script = units 1;
+      machine = ap (λ ds. record (machine_of (of_parts number s Idle us) (machine.Working u.device (units 1))) { devices = ds }) back;
+      runs = stands here_started r h.drive accepted;
+      others = subst (OthersRest place) (sym h.becomes) (others_set us place u new there (others_of_all us place rest));
+    };
+  })
+    where
+      h : Here (Starts caw s (start.Accepted r)) us'
+      h = here (Starts caw s (start.Accepted r)) us' e
+
+      accepted : IsAccepted here_started r h.drive
+      accepted = subst (λ caw. IsAccepted (record { caw = caw; storage = s; drive = drive_of u.drive.state }) r h.drive) word h.how.0
+
+      new : AttachedState
+      new = record u { drive = h.drive }
+
+      distinct_placed : AreDistinct (devices (slice_set us place new))
+      distinct_placed = subst AreDistinct (sym (devices_set us place u new (set_drive (drive_of h.drive.state)) distinct there refl))
+          (distinct_map _ (keeps_one u.device (set_drive (drive_of h.drive.state)) (λ v. refl)) (devices us) distinct)
+
+      back : devices us ≡ map (changes u.device (set_drive (drive_of u.drive.state))) (devices us')
+      back = sym (ap devices (set_twice us place new u ∙ set_same us place u there))
+          ∙ devices_set (slice_set us place new) place new u (set_drive (drive_of u.drive.state)) distinct_placed (get_set us place u new there) refl
+          ∙ ap (λ us. map (changes u.device (set_drive (drive_of u.drive.state))) (devices us)) (sym h.becomes)
+
+-- The images of the drives, which a start and an arm leave as they are.
+
+pub started_images : (us : List AttachedState) (place caw : ℕ) (s : Storage) (answer : _) (us' : List AttachedState) → DriveChanges place (Starts caw s answer) us us'
+    → map (λ (u : AttachedState). u.drive.image) us' ≡ map (λ (u : AttachedState). u.drive.image) us
+started_images us place caw s answer us' e =
+    ap (map (λ (u : AttachedState). u.drive.image)) e.becomes ∙ map_same (λ (u : AttachedState). u.drive.image) us place e.attached (record e.attached { drive = e.drive }) e.was e.how.1.image
 
 pub armed_images : (us : List AttachedState) (place : ℕ) (arm : Arm) (us' : List AttachedState) → ArmChanges place arm us us' → map (λ (u : AttachedState). u.drive.image) us' ≡ map (λ (u : AttachedState). u.drive.image) us
 armed_images us place arm us' a = ap (map (λ (u : AttachedState). u.drive.image)) a.becomes ∙ map_same (λ (u : AttachedState). u.drive.image) us place a.attached (record a.attached { arm = arm }) a.was refl
+
+-- An available channel: what starts, tests and interruptions do by the arms of its drives.
+
+pub within : (device : ℕ) (us : List AttachedState) (place : ℕ) → position (is_at device) us ≡ Some place → place < length us
+within device us place h = let f : FoundAt device us place = found_by device us place h in slice_get_within us place f.attached f.is_there
+
+module _ (number : ℕ) (s : Storage) (us : List AttachedState) (place : ℕ) (u : AttachedState) (there : slice_get us place ≡ Some u) (rest : AllRest us) (distinct : AreDistinct (devices us)) where
+  -- the arm changes, and storage too
+  pub armed_shows : (arm : Arm) (us' : List AttachedState) (s' t : Storage) → ArmChanges place arm us us' → s' ≡ t → Shows (of_parts number s' Idle us') (record (with_arm arm u.device (idle_machine number s us)) { storage = t }) Idle
+  armed_shows arm us' s' t a stored = (
+    ap (λ s. record (with_arm arm u.device (idle_machine number s us)) { storage = s }) (sym stored)
+        ∙ ap (λ ds. record (idle_machine number s' us) { devices = ds }) (sym (ap devices in_place ∙ devices_set us place u (record u { arm = arm }) (set_arm arm) distinct there refl)),
+    subst AllRest (sym in_place) (all_set us place (record u { arm = arm }) rest (rests_at us place u rest there)),
+  )
+    where
+      in_place : us' ≡ slice_set us place (record u { arm = arm })
+      in_place = a.becomes ∙ ap (λ (v : AttachedState). slice_set us place (record v { arm = arm })) (inside a.attached u (sym a.was ∙ there))
+
+  -- the device, with what its arm does
+  abbrev with_this : Arm → Option Device
+  with_this arm = Some (record (device_of u) { arm = arm })
+
+  pub start_arrived : (answer : Condition Status) (sub : Subchannel) (us' : List AttachedState) (s' : Storage) → sub ≡ Idle → u.arm ≡ Arrived → ArmChanges place AtRest us us'
+      → answer ≡ Stored (record { unit = busy_device_end; channel = no_channel_status }) → s' ≡ changed (status_stored busy_device_end.0 no_channel_status.0) s
+      → ShowsNext (start_device u.device (idle_machine number s us) (Some (device_of u))) (condition_seen status_seen answer) (of_parts number s' sub us')
+  start_arrived answer sub us' s' idle is_arm a is stored =
+      subst (λ sub. ShowsNext (start_device u.device (idle_machine number s us) (with_this u.arm)) (condition_seen status_seen answer) (of_parts number s' sub us')) (sym idle)
+      (subst (λ arm. ShowsNext (start_device u.device (idle_machine number s us) (with_this arm)) (condition_seen status_seen answer) (of_parts number s' Idle us')) (sym is_arm)
+      (record { answers = ap (condition_seen status_seen) is; shows = armed_shows AtRest us' s' (changed (status_stored busy_device_end.0 no_channel_status.0) s) a stored }))
+
+  pub start_at_rest : (answer : Answer) (sub' : Subchannel) (us' : List AttachedState) (s' : Storage) → u.arm ≡ AtRest
+      → ShowsNext (started u.device (idle_machine number s us) (first (start_of (idle_machine number s us) (drive_of u.drive.state)))) answer (of_parts number s' sub' us')
+      → ShowsNext (start_device u.device (idle_machine number s us) (Some (device_of u))) answer (of_parts number s' sub' us')
+  start_at_rest answer sub' us' s' is_arm h = subst (λ arm. ShowsNext (start_device u.device (idle_machine number s us) (with_this arm)) answer (of_parts number s' sub' us')) (sym is_arm) h
+
+-- Test I/O, by the address that is asked.
+module _ (device number : ℕ) (s : Storage) (us : List AttachedState) (rest : AllRest us) (distinct : AreDistinct (devices us)) where
+  abbrev pub asked : Answer × Machine
+  asked = test_device device (idle_machine number s us) (device_at (idle_machine number s us) device)
+
+  pub test_none : position (is_at device) us ≡ None → ShowsNext asked (WithCode code.Three) (of_parts number s Idle us)
+  test_none h = subst (λ x. ShowsNext (test_device device (idle_machine number s us) x) (WithCode code.Three) (of_parts number s Idle us)) (sym (none_found device us h)) (record { answers = refl; shows = (refl, rest) })
+
+  module _ (place : ℕ) (h : position (is_at device) us ≡ Some place) where
+    f : FoundAt device us place
+    f = found_by device us place h
+
+    -- the device that is asked, by what its arm does
+    by_arm : (arm : Arm) {answer : Answer} {s' : Storage} {us' : List AttachedState} → Some arm ≡ option_map (λ (u : AttachedState). u.arm) (slice_get us place)
+        → ShowsNext (test_device device (idle_machine number s us) (Some (record (device_of f.attached) { arm = arm }))) answer (of_parts number s' Idle us') → ShowsNext asked answer (of_parts number s' Idle us')
+    by_arm arm {answer} {s'} {us'} a k = subst (λ r. ShowsNext r answer (of_parts number s' Idle us'))
+        (ap (λ x. test_device device (idle_machine number s us) (Some (record (device_of f.attached) { arm = x }))) (sym (arm_there us place f.attached arm f.is_there a)) ∙ ap (test_device device (idle_machine number s us)) (sym f.found)) k
+
+    pub test_in_motion : (answer : Condition Csw) (s' : Storage) → Some InMotion ≡ option_map (λ (u : AttachedState). u.arm) (slice_get us place) → answer ≡ Stored (csw_of_unit BUSY) → s' ≡ changed (csw_stored (csw_of_unit BUSY)) s
+        → ShowsNext asked (condition_seen csw_seen answer) (of_parts number s' Idle us)
+    test_in_motion answer s' a is stored = by_arm InMotion a (record { answers = ap (condition_seen csw_seen) is; shows = (ap (λ s. idle_machine number s us) (sym stored), rest) })
+
+    pub test_arrived : (answer : Condition Csw) (us' : List AttachedState) (s' : Storage) → Some Arrived ≡ option_map (λ (u : AttachedState). u.arm) (slice_get us place) → ArmChanges place AtRest us us'
+        → answer ≡ Stored (csw_of_unit DEVICE_END) → s' ≡ changed (csw_stored (csw_of_unit DEVICE_END)) s → ShowsNext asked (condition_seen csw_seen answer) (of_parts number s' Idle us')
+    test_arrived answer us' s' a c is stored = by_arm Arrived a (record {
+      answers = ap (condition_seen csw_seen) is;
+      shows = subst (λ device. Shows (of_parts number s' Idle us') (record (with_arm AtRest device (idle_machine number s us)) { storage = changed (csw_stored (csw_of_unit DEVICE_END)) s }) Idle) f.same_device
+          (armed_shows number s us place f.attached f.is_there rest distinct AtRest us' s' (changed (csw_stored (csw_of_unit DEVICE_END)) s) c stored);
+    })
+
+    pub test_at_rest : Some AtRest ≡ option_map (λ (u : AttachedState). u.arm) (slice_get us place) → ShowsNext asked (WithCode code.Zero) (of_parts number s Idle us)
+    test_at_rest a = by_arm AtRest a (record { answers = refl; shows = (refl, rest) })
+
+-- Interruptions.
+
+-- the lowest of some devices is the address of one
+lowest_found : (device : ℕ) (ds : List Device) → lowest (filter has_arrived ds) ≡ Some device → find (λ d. d.device == device) ds ≡ None → ⊥
+lowest_found device [] h none = none_is_some h
+lowest_found device (d ∷ ds) h none = go (has_arrived d) (d.device == device) refl h none (lowest_found device ds)
+  where
+    lower_is : (o : Option ℕ) → lower d.device o ≡ Some device → (d.device == device) ≡ false → (o ≡ Some device → ⊥) → ⊥
+    lower_is None h e k = eqb-false d.device device e (inside d.device device h)
+    lower_is (Some b) h e k = by_test (nat_lt d.device b) h
+      where
+        by_test : (c : Bool) → cond c (Some d.device) (Some b) ≡ Some device → ⊥
+        by_test true h = eqb-false d.device device e (inside d.device device h)
+        by_test false h = k h
+
+    go : (a b : Bool) → (d.device == device) ≡ b → lowest (cond a (d ∷ filter has_arrived ds) (filter has_arrived ds)) ≡ Some device → cond b (Some d) (find (λ d. d.device == device) ds) ≡ None
+        → (lowest (filter has_arrived ds) ≡ Some device → find (λ d. d.device == device) ds ≡ None → ⊥) → ⊥
+    go a true e h none k = none_is_some (sym none)
+    go true false e h none k = lower_is (lowest (filter has_arrived ds)) h e (λ h. k h none)
+    go false false e h none k = k h none
+
+pub never_lost : (device : ℕ) (us : List AttachedState) → lowest (filter has_arrived (devices us)) ≡ Some device → position (is_at device) us ≡ None → ⊥
+never_lost device us h none = lowest_found device (devices us) h (none_found device us none)
+
+module _ (number : ℕ) (s : Storage) (us : List AttachedState) (rest : AllRest us) (distinct : AreDistinct (devices us)) where
+  abbrev pub interrupted_now : Answer × Machine
+  interrupted_now = interrupt_device (idle_machine number s us) (lowest (filter has_arrived (devices us)))
+
+  pub interrupt_arrived : (device place : ℕ) (told : ℕ × Csw) (us' : List AttachedState) (s' : Storage) → lowest (filter has_arrived (devices us)) ≡ Some device → position (is_at device) us ≡ Some place → ArmChanges place AtRest us us'
+      → told ≡ (256 * number + device, csw_of_unit DEVICE_END) → s' ≡ changed (csw_stored (csw_of_unit DEVICE_END)) s → ShowsNext interrupted_now (Interrupted (Some told)) (of_parts number s' Idle us')
+  interrupt_arrived device place told us' s' h at a is stored =
+      let f : FoundAt device us place = found_by device us place at in
+      subst (λ x. ShowsNext (interrupt_device (idle_machine number s us) x) (Interrupted (Some told)) (of_parts number s' Idle us')) (sym h)
+      (record {
+        answers = ap (λ t. Interrupted (Some t)) is;
+        shows = subst (λ device. Shows (of_parts number s' Idle us') (record (with_arm AtRest device (idle_machine number s us)) { storage = changed (csw_stored (csw_of_unit DEVICE_END)) s }) Idle) f.same_device
+            (armed_shows number s us place f.attached f.is_there rest distinct AtRest us' s' (changed (csw_stored (csw_of_unit DEVICE_END)) s) a stored);
+      })

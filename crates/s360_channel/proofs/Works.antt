@@ -1,24 +1,24 @@
 -- What the machine shows that a channel stands for while a program runs.
-use Rattle.std.proofs.Common.{◌≡◌, ℕ, refl, sym, ap, subst, ◌∙◌, cond, ◌==◌, map, Some}
+use Rattle.std.proofs.Common.{◌≡◌, ℕ, refl, ap, subst, ◌∙◌, cond, ◌==◌, List, map, Some}
 use Rattle.std.proofs.lemmas.Bool.{eq-eqb}
 use Rattle.std.specs.Prelude.{find, option_map}
 use Rattle.s360_words.specs.Storage.{Storage}
+use Rattle.s360_words.specs.declared.words.Ccw.{Ccw}
 use Rattle.ckd_command.specs.Drive.{State}
+use Rattle.ckd_command.specs.declared.begin.Opened.{Opened}
 use Rattle.ckd_drive.specs.Work as work
 use Rattle.s360_runs.specs.Endings.{NotEnded}
 use Rattle.s360_runs.specs.Places.{Place}
 use Rattle.s360_runs.specs.Runs.{run}
 use Rattle.s360_runs.specs.Scripts.{Script}
-use Rattle.s360_runs.specs.Units.{standing_in}
+use Rattle.s360_runs.specs.Units.{Between, Looking, Moving, ProgramPhase, standing_in}
 use Rattle.s360_program.specs.Stands.{RunningState, phase_in, phase_by}
 use Rattle.s360_program.specs.Stage.{Stage}
 use Rattle.s360_program.specs.Stage as stage
 use Rattle.s360_program.proofs.Ties.{seen}
 use Rattle.s360_laws.specs.Machine as machine
 use Rattle.s360_laws.specs.Machine.{Machine, device_at, run_of, start_of, storage_of}
-use Rattle.s360_laws.specs.Soundness.{AreDistinct, IsSound, IsSoundIn, arm_owes, device_owes}
-use Rattle.s360_laws.specs.declared.arm.Arm.{Arm}
-use Rattle.s360_laws.specs.declared.arm.Arm.TheVariants.{AtRest, InMotion, Arrived}
+use Rattle.s360_laws.specs.Soundness.{AreDistinct, IsSound}
 use Rattle.s360_laws.proofs.FindDevices.{found_map, keeps_one, set_drive}
 use Rattle.s360_channel.specs.Channel.{ChannelState, WorksFor, device_of}
 use Rattle.s360_channel.proofs.Places.{distinct_before, found_at}
@@ -52,28 +52,23 @@ module _ (c : ChannelState) (place : ℕ) (r : RunningState) (m : Machine) (w : 
   pub seen_there : IsSound m → run_of m w.attached.device w.script ≡ Some (NotEnded (standing_in r.key (phase_in r c.storage w.attached.drive)))
   seen_there sound = run_at sound w.script ∙ ap Some (seen (start_of m w.drive) w.script r c.storage w.attached.drive w.runs)
 
-  sound_working : IsSound m → IsSoundIn m (machine.Working w.attached.device w.script)
-  sound_working sound = subst (IsSoundIn m) subchannel_of sound.1
-
-  pub arm_rests : IsSound m → w.attached.arm ≡ AtRest
-  arm_rests sound = rests w.attached.arm (ap device_owes (sym (device_there sound)) ∙ (sound_working sound).1)
-    where
-      rests : (arm : Arm) → arm_owes arm ≡ 0 → arm ≡ AtRest
-      rests AtRest h = refl
-      rests InMotion h = absurd (cc)
-      rests Arrived h = absurd (cc)
+-- What is so of each phase with this storage is so of the one in which a running program stands beside it.
+pub by_phase : (P : ProgramPhase → Type 0) (g : Stage) (p : Place) (s : Storage) (d : State) (w : work.Work) → P (Between (record { storage = s; place = p; state = d }))
+    → ((o : Opened) (ccw : Ccw) → P (Looking (record { opened = o; state = d }) (record { storage = s; ccw = ccw; place = p })))
+    → ((o : Opened) (ccw : Ccw) (at : ℕ) (bytes : List ℕ) → P (Moving (record { opened = o; state = d }) (record { storage = s; ccw = ccw; place = p; address = at; bytes = bytes }))) → P (phase_by g p s d w)
+by_phase P stage.Between p s d w between looks moves = between
+by_phase P (stage.Looking ccw) p s d work.Idle between looks moves = between
+by_phase P (stage.Looking ccw) p s d (work.Over e) between looks moves = between
+by_phase P (stage.Looking ccw) p s d (work.Looking o) between looks moves = looks o ccw
+by_phase P (stage.Looking ccw) p s d (work.Passing o b left) between looks moves = between
+by_phase P (stage.Moving ccw a) p s d work.Idle between looks moves = between
+by_phase P (stage.Moving ccw a) p s d (work.Over e) between looks moves = between
+by_phase P (stage.Moving ccw a) p s d (work.Looking o) between looks moves = between
+by_phase P (stage.Moving ccw a) p s d (work.Passing o b left) between looks moves = moves o ccw a b
 
 -- what is seen of storage in a phase is storage
 pub storage_seen : (key : ℕ) (g : Stage) (p : Place) (s : Storage) (d : State) (w : work.Work) → (standing_in key (phase_by g p s d w)).storage ≡ s
-storage_seen key stage.Between p s d w = refl
-storage_seen key (stage.Looking ccw) p s d work.Idle = refl
-storage_seen key (stage.Looking ccw) p s d (work.Over e) = refl
-storage_seen key (stage.Looking ccw) p s d (work.Looking o) = refl
-storage_seen key (stage.Looking ccw) p s d (work.Passing o b left) = refl
-storage_seen key (stage.Moving ccw a) p s d work.Idle = refl
-storage_seen key (stage.Moving ccw a) p s d (work.Over e) = refl
-storage_seen key (stage.Moving ccw a) p s d (work.Looking o) = refl
-storage_seen key (stage.Moving ccw a) p s d (work.Passing o b left) = refl
+storage_seen key g p s d w = by_phase (λ f. (standing_in key f).storage ≡ s) g p s d w refl (λ o ccw. refl) (λ o ccw at bytes. refl)
 
 pub storage_there : (c : ChannelState) (place : ℕ) (r : RunningState) (m : Machine) → WorksFor c place r m → IsSound m → storage_of m m.subchannel ≡ c.storage
 storage_there c place r m w sound =

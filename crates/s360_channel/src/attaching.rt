@@ -19,7 +19,6 @@ impl<S: ImageStore> Channel<S> {
     /// # Errors
     ///
     /// `UnitTaken`, `Full` and `OutOfMemory`, in this order; the image is handed back, and nothing has changed.
-    #[tactic(auto, using(crate::proofs::Attached::stands_push))]
     pub fn attach(
         &mut self,
         alloc: Global,

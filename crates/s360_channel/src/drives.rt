@@ -232,7 +232,7 @@ impl<S: ImageStore> Drives<S> {
     }
 
     // The same of the one at a place, if there is one.
-    #[tactic(auto, using(crate::proofs::Places::none_past))]
+    #[tactic(auto, using(std::proofs::lemmas::Option::slice_get_past))]
     fn shown_at(&self, place: usize) -> Option<(u8, Arm)>
         ensures { result ≡ option_map (λ u. (u.device, u.arm)) (slice_get self.now place) }
     {
@@ -299,7 +299,8 @@ fn push<S: ImageStore>(list: &mut Vec<AttachedDrive<S>>, attached: AttachedDrive
 // Takes the first drive out, if there is one: its address and its image.
 fn take_first<S: ImageStore>(list: &mut Vec<AttachedDrive<S>>) -> Option<(u8, Image<S>)>
     requires { AllRest list.old.items }
-    ensures { TakesFirst list.old.items list.new.items result }
+    ensures taken { TakesFirst list.old.items list.new.items result }
+    ensures rests { AllRest list.new.items }
 {
     if list.is_empty() {
         return None;

@@ -75,6 +75,7 @@ fn start_device<S: ImageStore>(
 }
 
 // The drive at a place does the first unit of the program that the channel address word leads to.
+#[tactic(auto, using(crate::proofs::Started::started_images))]
 fn start_program<S: ImageStore>(
     place: usize,
     storage: &mut Storage,

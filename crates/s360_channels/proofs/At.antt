@@ -1,25 +1,17 @@
 -- A call at the channel with a number.
-use Rattle.std.proofs.Common.{◌≡◌, ◌<◌, ◌≤◌, ℕ, zero, suc, refl, sym, ◌∙◌, subst, arith, length, List, [], ◌∷◌, Option, Some, None, Result, Ok, Err, IfOk}
+use Rattle.std.proofs.Common.{◌≡◌, ◌<◌, ℕ, zero, suc, refl, sym, ◌∙◌, subst, length, List, [], ◌∷◌, Option, Some, None, Result, Ok, Err, IfOk}
 use Rattle.std.proofs.lemmas.List.{get_or_default}
 use Rattle.std.specs.Prelude.{slice_index_or, slice_set}
 use Rattle.s360_words.specs.Storage.{Storage}
 use Rattle.s360_channel.specs.Channel.{ChannelState}
+use Rattle.s360_channel.proofs.Places.{inside, none_is_some}
 use Rattle.s360_channels.specs.Channels.{Fits, AllFit, OnChannel, OnFound}
 use Rattle.s360_channels.specs.Inside.{Serves, of_parts}
 
 pub fits_at : (size : ℕ) (cs : List (Option ChannelState)) (number : ℕ) (c : ChannelState) → AllFit size cs → slice_index_or cs number None ≡ Some c → Fits size c
-fits_at size [] number c h e = absurd (no e)
-  where
-    no : ◌≡◌ {A = Option ChannelState} None (Some c) → ⊥
-    no h = cc
-fits_at size (None ∷ cs) zero c h e = absurd (no e)
-  where
-    no : ◌≡◌ {A = Option ChannelState} None (Some c) → ⊥
-    no h = cc
-fits_at size (Some d ∷ cs) zero c h e = subst (Fits size) (same d c e) h.0
-  where
-    same : (a b : ChannelState) → Some a ≡ Some b → a ≡ b
-    same a b h = cc
+fits_at size [] number c h e = none_is_some e
+fits_at size (None ∷ cs) zero c h e = none_is_some e
+fits_at size (Some d ∷ cs) zero c h e = subst (Fits size) (inside d c e) h.0
 fits_at size (None ∷ cs) (suc number) c h e = fits_at size cs number c h e
 fits_at size (Some d ∷ cs) (suc number) c h e = fits_at size cs number c h.1 e
 
@@ -29,17 +21,6 @@ fit_set size (None ∷ cs) zero c h f = (f, h)
 fit_set size (Some d ∷ cs) zero c h f = (f, h.1)
 fit_set size (None ∷ cs) (suc number) c h f = fit_set size cs number c h f
 fit_set size (Some d ∷ cs) (suc number) c h f = (h.0, fit_set size cs number c h.1 f)
-
-pub none_past : (cs : List (Option ChannelState)) (number : ℕ) → length cs ≤ number → slice_index_or cs number None ≡ None
-none_past [] number h = refl
-none_past (c ∷ cs) zero h = absurd (no (length cs) h)
-  where
-    no : (n : ℕ) → suc n ≤ zero → ⊥
-    no n h = omega arith
-none_past (c ∷ cs) (suc number) h = none_past cs number (less (length cs) number h)
-  where
-    less : (n m : ℕ) → suc n ≤ suc m → n ≤ m
-    less n m h = omega arith
 
 pub somebody : (number : ℕ) (How : ChannelState → ChannelState → Type 0) (Missing : Type 0) (s : Storage) (cs : List (Option ChannelState)) (before after : ChannelState) (t : Storage)
     → slice_index_or cs number None ≡ Some before → Serves How before s after t → OnChannel number How Missing (of_parts s cs) (of_parts t (slice_set cs number (Some after)))

@@ -1,30 +1,18 @@
 -- A channel behind a call has storage as large as before, and still stands for a machine.
 use Rattle.std.proofs.Common.{◌≡◌, ℕ, sym, ap, ◌∙◌, subst, length, Some, None}
 use Rattle.s360_words.specs.Storage.{Storage}
-use Rattle.s360_runs.specs.Writes.{OutcomeKeepsSize}
-use Rattle.s360_runs.proofs.Sizes.{keeps_size}
-use Rattle.s360_program.proofs.Ties.{seen}
 use Rattle.s360_laws.specs.Events.{Event, Answer}
-use Rattle.s360_laws.specs.Machine.{Machine, react, start_of}
+use Rattle.s360_laws.specs.Machine.{Machine, react}
 use Rattle.s360_channel.specs.Calls.{Does}
-use Rattle.s360_channel.specs.Channel.{ChannelState, IsChannel, Shows, StandsFor}
+use Rattle.s360_channel.specs.Channel.{ChannelState, IsChannel, StandsFor}
 use Rattle.s360_channel.specs.Shares.{with_storage}
-use Rattle.s360_channel.specs.declared.subchannel.Subchannel.{Subchannel}
-use Rattle.s360_channel.specs.declared.subchannel.Subchannel.TheVariants.{Idle, Working, Pending}
 use Rattle.s360_channel.specs.declared.channel.Reset.{Reset}
 use Rattle.s360_channel.specs.declared.view.RunOn.{RunOn}
-use Rattle.s360_channel.proofs.Works.{storage_seen}
+use Rattle.s360_channel.proofs.Kept.{size_in}
 use Rattle.s360_channels.specs.Channels.{Fits, Quietly, AtMost, RunsTo, ResetsTo}
 use Rattle.s360_channels.specs.Inside.{Exchanged, Serves}
 use Rattle.s360_channels.specs.Turns.{StepsTo}
 use Rattle.s360_channels.proofs.MachineSizes.{size_stays}
-
-size_in : (c : ChannelState) (m : Machine) (s : Subchannel) → Shows c m s → length c.storage.bytes ≡ length m.storage.bytes
-size_in c m Idle h = ap (λ (m : Machine). length m.storage.bytes) (sym h.0)
-size_in c m (Pending device csw) h = ap (λ (m : Machine). length m.storage.bytes) (sym h.0)
-size_in c m (Working place r) w =
-    ap (λ s. length s.bytes) (sym (storage_seen r.key r.stage r.place c.storage w.attached.drive.state w.attached.drive.work))
-    ∙ subst (OutcomeKeepsSize m.storage) (seen (start_of m w.drive) w.script r c.storage w.attached.drive w.runs) (keeps_size (start_of m w.drive) w.script)
 
 -- an event leaves storage as large as it was
 pub does_size : (e : Event) (answer : Answer) (m : Machine) (old new : ChannelState) → StandsFor old m → Does e m answer old new → length new.storage.bytes ≡ length old.storage.bytes

@@ -1,36 +1,27 @@
 -- The channel that has the shared storage between calls: what is exchanged twice is as before, and what a call does to the channel that
 -- has it, it does to the channels.
-use Rattle.std.proofs.Common.{◌≡◌, ◌≤◌, ℕ, zero, suc, refl, sym, ap, ◌∙◌, subst, length, List, [], ◌∷◌, Option, Some, None}
-use Rattle.std.proofs.lemmas.List.{length-set}
+use Rattle.std.proofs.Common.{◌≡◌, ℕ, zero, suc, refl, sym, ap, ◌∙◌, subst, length, List, [], ◌∷◌, Option, Some, None}
+use Rattle.std.proofs.lemmas.List.{set-get_or}
 use Rattle.std.specs.Prelude.{slice_index_or, slice_set}
 use Rattle.s360_words.specs.Storage.{Storage}
 use Rattle.s360_channel.specs.Channel.{ChannelState, IsChannel}
 use Rattle.s360_channel.specs.Shares.{with_storage}
 use Rattle.s360_channel.specs.declared.view.View.{View}
+use Rattle.s360_channel.proofs.Places.{none_is_some, set_twice}
 use Rattle.s360_channels.specs.Asked.{ShowsAt}
 use Rattle.s360_channels.specs.Channels.{AllFit, ChannelsState, Fits, OnChannel, OnFound, channel_at}
 use Rattle.s360_channels.specs.Inside.{Exchanged, exchanged_at, exchanged_with, lent, lent_to, of_parts}
 use Rattle.s360_channels.specs.declared.lending.Lending.{Lending}
-use Rattle.s360_channels.proofs.At.{fit_set, fits_at, none_past}
+use Rattle.s360_channels.proofs.At.{fit_set, fits_at}
 
 -- the channel with a number, in a list in which it was put
-set_again : (cs : List (Option ChannelState)) (n : ℕ) (x y : Option ChannelState) → slice_set (slice_set cs n x) n y ≡ slice_set cs n y
-set_again [] n x y = refl
-set_again (c ∷ cs) zero x y = refl
-set_again (c ∷ cs) (suc n) x y = ap (◌∷◌ c) (set_again cs n x y)
-
 is_set : (cs : List (Option ChannelState)) (n : ℕ) (c : ChannelState) (x : Option ChannelState) → slice_index_or cs n None ≡ Some c → slice_index_or (slice_set cs n x) n None ≡ x
-is_set [] n c x e = absurd (no e)
-  where
-    no : ◌≡◌ {A = Option ChannelState} None (Some c) → ⊥
-    no h = cc
+is_set [] n c x e = none_is_some e
 is_set (d ∷ cs) zero c x e = refl
 is_set (d ∷ cs) (suc n) c x e = is_set cs n c x e
 
 set_same : (cs : List (Option ChannelState)) (n : ℕ) (c : ChannelState) → slice_index_or cs n None ≡ Some c → slice_set cs n (Some c) ≡ cs
-set_same [] n c e = refl
-set_same (d ∷ cs) zero c e = ap (λ d. d ∷ cs) (sym e)
-set_same (d ∷ cs) (suc n) c e = ap (◌∷◌ d) (set_same cs n c e)
+set_same cs n c e = sym (ap (slice_set cs n) e) ∙ set-get_or cs n None
 
 -- What is exchanged twice is as before.
 twice_with : (o : Option ChannelState) (n : ℕ) (s : Storage) (cs : List (Option ChannelState)) → slice_index_or cs n None ≡ o
@@ -38,7 +29,7 @@ twice_with : (o : Option ChannelState) (n : ℕ) (s : Storage) (cs : List (Optio
 twice_with None n s cs e = ap (λ o. exchanged_with o n s cs) e
 twice_with (Some c) n s cs e =
     ap (λ o. exchanged_with o n c.storage (slice_set cs n (Some (with_storage c s)))) (is_set cs n c (Some (with_storage c s)) e)
-    ∙ ap (of_parts s) (set_again cs n (Some (with_storage c s)) (Some c) ∙ set_same cs n c e)
+    ∙ ap (of_parts s) (set_twice cs n (Some (with_storage c s)) (Some c) ∙ set_same cs n c e)
 
 pub twice : (n : ℕ) (s : Storage) (cs : List (Option ChannelState)) → exchanged_at n (exchanged_at n s cs).storage (exchanged_at n s cs).channels ≡ of_parts s cs
 twice n s cs = twice_with (slice_index_or cs n None) n s cs refl
@@ -50,11 +41,6 @@ again n before s cs e =
 
 -- A channel and a storage that were exchanged, in the list.
 module _ (cs : List (Option ChannelState)) (n : ℕ) (c : ChannelState) (there : slice_index_or cs n None ≡ Some c) where
-  pub exchanged_there : (s : Storage) (c' : ChannelState) (s' : Storage) → Exchanged c s c' s' → of_parts s' (slice_set cs n (Some c')) ≡ exchanged_at n s cs
-  exchanged_there s c' s' x =
-      ap (λ d. of_parts s' (slice_set cs n (Some d))) x.found
-      ∙ (ap (λ t. of_parts t (slice_set cs n (Some (with_storage c s)))) x.gives ∙ ap (λ o. exchanged_with o n s cs) (sym there))
-
   pub exchanged_fit : (s : Storage) (c' : ChannelState) (s' : Storage) → AllFit (length s.bytes) cs → Exchanged c s c' s' → AllFit (length s'.bytes) (slice_set cs n (Some c'))
   exchanged_fit s c' s' fit x =
       let f = fits_at (length s.bytes) cs n c fit there in
@@ -62,39 +48,7 @@ module _ (cs : List (Option ChannelState)) (n : ℕ) (c : ChannelState) (there :
       subst (λ k. AllFit k (slice_set cs n (Some c'))) (sym size)
       (fit_set (length s.bytes) cs n c' fit (record { is_channel = x.stands f.is_channel; as_large = ap (λ (d : ChannelState). length d.storage.bytes) x.found }))
 
--- Without such a channel nothing is.
-pub exchanged_nowhere : (n : ℕ) (s : Storage) (cs : List (Option ChannelState)) → slice_index_or cs n None ≡ None → of_parts s cs ≡ exchanged_at n s cs
-exchanged_nowhere n s cs e = ap (λ o. exchanged_with o n s cs) (sym e)
-
-pub exchanged_beyond : (n : ℕ) (s : Storage) (cs : List (Option ChannelState)) → length cs ≤ n → of_parts s cs ≡ exchanged_at n s cs
-exchanged_beyond n s cs h = exchanged_nowhere n s cs (none_past cs n h)
-
--- Where nobody has a number, nobody has it in what the channels are.
-nobody_with : (n : ℕ) (o : Option ChannelState) (k : ℕ) (s : Storage) (cs : List (Option ChannelState)) → length cs ≤ n → slice_index_or (exchanged_with o k s cs).channels n None ≡ None
-nobody_with n None k s cs h = none_past cs n h
-nobody_with n (Some c) k s cs h = none_past (slice_set cs k (Some (with_storage c s))) n (subst (λ m. m ≤ n) (sym (length-set cs k (Some (with_storage c s)))) h)
-
-nobody_lent : (n : ℕ) (o : Option ℕ) (s : Storage) (cs : List (Option ChannelState)) → length cs ≤ n → channel_at n (lent_to o s cs) ≡ None
-nobody_lent n None s cs h = none_past cs n h
-nobody_lent n (Some k) s cs h = nobody_with n (slice_index_or cs k None) k s cs h
-
 module _ (number : ℕ) (How : ChannelState → ChannelState → Type 0) (Missing : Type 0) where
-  -- A call for a channel that is not there,
-  pub calls_beyond : (l : Lending) (cs : List (Option ChannelState)) → length cs ≤ number → Missing → OnChannel number How Missing (lent l cs) (lent l cs)
-  calls_beyond l cs h missing = subst (λ o. OnFound o number How Missing (lent l cs) (lent l cs)) (sym (nobody_lent number l.holder l.kept cs h)) (missing, refl)
-
-  nobody_to : (s : Storage) (cs : List (Option ChannelState)) → slice_index_or cs number None ≡ None → Missing → OnChannel number How Missing (exchanged_at number s cs) (exchanged_at number s cs)
-  nobody_to s cs e missing =
-      subst (λ t. OnChannel number How Missing t t) (exchanged_nowhere number s cs e)
-      (subst (λ o. OnFound o number How Missing (of_parts s cs) (of_parts s cs)) (sym e) (missing, refl))
-
-  -- also where it was to have the storage
-  pub calls_nobody : (before : ChannelsState) (l : Lending) (cs : List (Option ChannelState)) → lent l cs ≡ before → l.holder ≡ Some number → slice_index_or cs number None ≡ None → Missing
-      → OnChannel number How Missing before (lent l cs)
-  calls_nobody before l cs same holds e missing =
-      subst (λ t. OnChannel number How Missing t (lent l cs)) same
-      (subst (λ h. OnChannel number How Missing (lent_to h l.kept cs) (lent_to h l.kept cs)) (sym holds) (nobody_to l.kept cs e missing))
-
   somebody_to : (s : Storage) (cs : List (Option ChannelState)) (c c' : ChannelState) → slice_index_or cs number None ≡ Some c → How c c'
       → OnChannel number How Missing (exchanged_with (Some c) number s cs) (exchanged_with (Some c') number s (slice_set cs number (Some c')))
   somebody_to s cs c c' e how =
@@ -102,11 +56,11 @@ module _ (number : ℕ) (How : ChannelState → ChannelState → Type 0) (Missin
       (record {
         after = with_storage c' s;
         finds = record { last = c'; how = how; storage = refl; channel = refl };
-        others_stay = set_again cs number (Some c') (Some (with_storage c' s)) ∙ sym (set_again cs number (Some (with_storage c s)) (Some (with_storage c' s)));
+        others_stay = set_twice cs number (Some c') (Some (with_storage c' s)) ∙ sym (set_twice cs number (Some (with_storage c s)) (Some (with_storage c' s)));
       })
 
-  -- and for one that has the storage
-  pub calls_somebody : (before : ChannelsState) (l : Lending) (cs : List (Option ChannelState)) (c c' : ChannelState) → lent l cs ≡ before → l.holder ≡ Some number
+  -- A call for the channel that has the storage.
+  calls_somebody : (before : ChannelsState) (l : Lending) (cs : List (Option ChannelState)) (c c' : ChannelState) → lent l cs ≡ before → l.holder ≡ Some number
       → slice_index_or cs number None ≡ Some c → How c c' → OnChannel number How Missing before (lent l (slice_set cs number (Some c')))
   calls_somebody before l cs c c' same holds e how =
       subst (λ t. OnChannel number How Missing t (lent l (slice_set cs number (Some c')))) same
@@ -115,35 +69,36 @@ module _ (number : ℕ) (How : ChannelState → ChannelState → Type 0) (Missin
       (subst (λ o. OnChannel number How Missing (exchanged_with (Some c) number l.kept cs) (exchanged_with o number l.kept (slice_set cs number (Some c')))) (sym (is_set cs number c (Some c') e))
       (somebody_to l.kept cs c c' e how))))
 
--- The channels fit behind a call too.
-pub fit_behind : (How : ChannelState → ChannelState → Type 0) → ((old new : ChannelState) → How old new → IsChannel old → Fits (length old.storage.bytes) new) → (size : ℕ) (cs : List (Option ChannelState)) (number : ℕ)
-    (c c' : ChannelState) → AllFit size cs → slice_index_or cs number None ≡ Some c → How c c' → AllFit size (slice_set cs number (Some c'))
-fit_behind How fits size cs number c c' fit e how =
-    let f = fits_at size cs number c fit e in
-    fit_set size cs number c' fit (subst (λ k. Fits k c') f.as_large (fits c c' how f.is_channel))
+-- The channels fit behind a call too, which is what the code does to the channel with a number.
+pub calls_there : (number : ℕ) (How : ChannelState → ChannelState → Type 0) → ((old new : ChannelState) → How old new → IsChannel old → Fits (length old.storage.bytes) new) → (Missing : Type 0) (before : ChannelsState) (l : Lending)
+    (cs : List (Option ChannelState)) (c c' : ChannelState) → lent l cs ≡ before → l.holder ≡ Some number → AllFit (length l.kept.bytes) cs → slice_index_or cs number None ≡ Some c → How c c'
+    → OnChannel number How Missing before (lent l (slice_set cs number (Some c'))) × AllFit (length l.kept.bytes) (slice_set cs number (Some c'))
+calls_there number How fits Missing before l cs c c' same holds fit e how =
+    let f = fits_at (length l.kept.bytes) cs number c fit e in (
+      calls_somebody number How Missing before l cs c c' same holds e how,
+      fit_set (length l.kept.bytes) cs number c' fit (subst (λ k. Fits k c') f.as_large (fits c c' how f.is_channel)),
+    )
 
 -- A channel is the same in what the channels are, but for its storage.
-alike_set : (P : Option ChannelState → Type 0) → ((c : ChannelState) (s : Storage) → P (Some c) → P (Some (with_storage c s))) → (cs : List (Option ChannelState)) (n k : ℕ) (c : ChannelState) (s : Storage)
-    → slice_index_or cs k None ≡ Some c → P (slice_index_or cs n None) → P (slice_index_or (slice_set cs k (Some (with_storage c s))) n None)
-alike_set P alike [] n k c s e h = h
-alike_set P alike (d ∷ cs) zero zero c s e h = alike c s (subst P e h)
-alike_set P alike (d ∷ cs) (suc n) zero c s e h = h
-alike_set P alike (d ∷ cs) zero (suc k) c s e h = h
-alike_set P alike (d ∷ cs) (suc n) (suc k) c s e h = alike_set P alike cs n k c s e h
+module _ (P : Option ChannelState → Type 0) (alike_over : (c : ChannelState) (s : Storage) → P (Some c) → P (Some (with_storage c s))) where
+  alike_set : (cs : List (Option ChannelState)) (n k : ℕ) (c : ChannelState) (s : Storage)
+      → slice_index_or cs k None ≡ Some c → P (slice_index_or cs n None) → P (slice_index_or (slice_set cs k (Some (with_storage c s))) n None)
+  alike_set [] n k c s e h = h
+  alike_set (d ∷ cs) zero zero c s e h = alike_over c s (subst P e h)
+  alike_set (d ∷ cs) (suc n) zero c s e h = h
+  alike_set (d ∷ cs) zero (suc k) c s e h = h
+  alike_set (d ∷ cs) (suc n) (suc k) c s e h = alike_set cs n k c s e h
 
-alike_with : (P : Option ChannelState → Type 0) → ((c : ChannelState) (s : Storage) → P (Some c) → P (Some (with_storage c s))) → (n : ℕ) (o : Option ChannelState) (k : ℕ) (s : Storage) (cs : List (Option ChannelState))
-    → slice_index_or cs k None ≡ o → P (slice_index_or cs n None) → P (channel_at n (exchanged_with o k s cs))
-alike_with P alike n None k s cs e h = h
-alike_with P alike n (Some c) k s cs e h = alike_set P alike cs n k c s e h
+  alike_with : (n : ℕ) (o : Option ChannelState) (k : ℕ) (s : Storage) (cs : List (Option ChannelState)) → slice_index_or cs k None ≡ o → P (slice_index_or cs n None) → P (channel_at n (exchanged_with o k s cs))
+  alike_with n None k s cs e h = h
+  alike_with n (Some c) k s cs e h = alike_set cs n k c s e h
 
-alike_to : (P : Option ChannelState → Type 0) → ((c : ChannelState) (s : Storage) → P (Some c) → P (Some (with_storage c s))) → (n : ℕ) (o : Option ℕ) (s : Storage) (cs : List (Option ChannelState))
-    → P (slice_index_or cs n None) → P (channel_at n (lent_to o s cs))
-alike_to P alike n None s cs h = h
-alike_to P alike n (Some k) s cs h = alike_with P alike n (slice_index_or cs k None) k s cs refl h
+  alike_to : (n : ℕ) (o : Option ℕ) (s : Storage) (cs : List (Option ChannelState)) → P (slice_index_or cs n None) → P (channel_at n (lent_to o s cs))
+  alike_to n None s cs h = h
+  alike_to n (Some k) s cs h = alike_with n (slice_index_or cs k None) k s cs refl h
 
-pub alike : (P : Option ChannelState → Type 0) → ((c : ChannelState) (s : Storage) → P (Some c) → P (Some (with_storage c s))) → (n : ℕ) (l : Lending) (cs : List (Option ChannelState))
-    → P (slice_index_or cs n None) → P (channel_at n (lent l cs))
-alike P h n l cs p = alike_to P h n l.holder l.kept cs p
+  pub alike : (n : ℕ) (l : Lending) (cs : List (Option ChannelState)) → P (slice_index_or cs n None) → P (channel_at n (lent l cs))
+  alike n l cs p = alike_to n l.holder l.kept cs p
 
 -- and what it is shown as
 pub shows_alike : (view : Option View) (s : Storage) (c : ChannelState) (t : Storage) → ShowsAt view s (Some c) → ShowsAt view s (Some (with_storage c t))

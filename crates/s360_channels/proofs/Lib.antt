@@ -2,7 +2,6 @@ pub mod MachineSizes
 pub mod Fitting
 pub mod At
 pub mod Added
-pub mod Pending
 pub mod Asking
 pub mod Leaving
 pub mod Taking

@@ -1,5 +1,5 @@
 -- A channel that is taken out of the list, and finished.
-use Rattle.std.proofs.Common.{◌≡◌, ◌≤◌, ℕ, zero, suc, refl, sym, ap, ◌∙◌, subst, length, List, [], ◌∷◌, Option, Some, None}
+use Rattle.std.proofs.Common.{◌≡◌, ℕ, zero, suc, refl, sym, ap, ◌∙◌, subst, length, List, [], ◌∷◌, Option, Some, None}
 use Rattle.std.specs.Prelude.{slice_index_or, slice_set}
 use Rattle.ckd_image.specs.Image.{ImageState}
 use Rattle.s360_words.specs.Storage.{Storage}
@@ -10,7 +10,6 @@ use Rattle.s360_channel.specs.Finishes.{Finishes}
 use Rattle.s360_channels.specs.Channels.{AllFit}
 use Rattle.s360_channels.specs.Ending.{Ends, Parts, RemovesFound}
 use Rattle.s360_channels.specs.Inside.{ServesEnd, of_parts}
-use Rattle.s360_channels.proofs.At.{none_past}
 use Rattle.s360_channels.proofs.Fitting.{does_size}
 
 -- a channel that is finished leaves storage as large as it was
@@ -20,15 +19,6 @@ finished_size c t images unsaved k h =
     let f = h k.machine k.stands in
     ap (λ (s : Storage). length s.bytes) f.same_storage ∙ does_size Reset (WasReset unsaved) k.machine c f.last k.stands f.reset
 
-unset_none : (cs : List (Option ChannelState)) (number : ℕ) → slice_index_or cs number None ≡ None → slice_set cs number None ≡ cs
-unset_none [] number e = refl
-unset_none (None ∷ cs) zero e = refl
-unset_none (Some c ∷ cs) zero e = absurd (no e)
-  where
-    no : Some c ≡ None → ⊥
-    no h = cc
-unset_none (c ∷ cs) (suc number) e = ap (◌∷◌ c) (unset_none cs number e)
-
 fit_unset : (size : ℕ) (cs : List (Option ChannelState)) (number : ℕ) → AllFit size cs → AllFit size (slice_set cs number None)
 fit_unset size [] number h = tt
 fit_unset size (None ∷ cs) zero h = h
@@ -37,20 +27,6 @@ fit_unset size (None ∷ cs) (suc number) h = fit_unset size cs number h
 fit_unset size (Some c ∷ cs) (suc number) h = (h.0, fit_unset size cs number h.1)
 
 module _ (number : ℕ) (s : Storage) (cs : List (Option ChannelState)) (fit : AllFit (length s.bytes) cs) where
-  pub ends_nobody : slice_index_or cs number None ≡ None → ServesEnd number None (of_parts s cs) (of_parts s (slice_set cs number None))
-  ends_nobody e = record {
-    removes = subst (λ x. RemovesFound x number None (of_parts s cs) (of_parts s (slice_set cs number None))) (sym e) (refl, ap (of_parts s) (unset_none cs number e));
-    fit = fit_unset (length s.bytes) cs number fit;
-    size = refl;
-  }
-
-  pub ends_beyond : length cs ≤ number → ServesEnd number None (of_parts s cs) (of_parts s cs)
-  ends_beyond h = record {
-    removes = subst (λ x. RemovesFound x number None (of_parts s cs) (of_parts s cs)) (sym (none_past cs number h)) (refl, refl);
-    fit = fit;
-    size = refl;
-  }
-
   pub ends_somebody : (c : ChannelState) (parts : Parts) (t : Storage) → slice_index_or cs number None ≡ Some c → Ends c s parts t → length t.bytes ≡ length s.bytes
       → ServesEnd number (Some parts) (of_parts s cs) (of_parts t (slice_set cs number None))
   ends_somebody c parts t e h size = record {

@@ -1,7 +1,8 @@
--- What is asked of a channel over the shared storage: what Test Channel answers, whether an interruption would be taken, what it and its
--- drives are shown as.
+-- What is asked of a channel over the shared storage: what Test Channel answers, whether an interruption would be taken, what it, its
+-- program and its drives are shown as.
 use Rattle.std.specs.Prelude.{◌≡◌, ℕ, Bool, false, Option, Some, None, option_map}
 use Rattle.s360_words.specs.Storage.{Storage}
+use Rattle.ckd_drive.specs.Work.{DriveState}
 use Rattle.ckd_image.specs.Image.{ImageState}
 use Rattle.s360_laws.specs.Events.{Answer, WithCode, Tch}
 use Rattle.s360_laws.specs.Machine.{Machine}
@@ -10,8 +11,10 @@ use Rattle.s360_channel.specs.Calls.{DoesQuietly}
 use Rattle.s360_channel.specs.Channel.{ChannelState, StandsFor, device_of}
 use Rattle.s360_channel.specs.Shares.{with_storage}
 use Rattle.s360_channel.specs.Views.{attached_with, drive_seen, interrupts, view_of}
+use Rattle.s360_channel.specs.Watched.{ShowsDriveAtWork, ShowsProgram}
 use Rattle.s360_channel.specs.declared.view.DriveView.{DriveView}
 use Rattle.s360_channel.specs.declared.view.View.{View}
+use Rattle.s360_channel.specs.declared.view.Watched.{Watched}
 
 abbrev pub Tests : Answer → Storage → ChannelState → Type 0
 Tests answer s c = (m : Machine) → StandsFor (with_storage c s) m → DoesQuietly Tch m answer (with_storage c s)
@@ -36,6 +39,17 @@ abbrev pub ShowsAt : Option View → Storage → Option ChannelState → Type 0
 ShowsAt None s None = Unit {0}
 ShowsAt (Some view) s (Some c) = Shows view s c
 ShowsAt view s c = ⊥
+
+-- What is seen of a channel's program is read off the run of each machine that it stands for, over the shared storage; without such a
+-- channel nothing is seen.
+abbrev pub ShowsProgramAt : Option Watched → Storage → Option ChannelState → Type 0
+ShowsProgramAt seen s None = seen ≡ None
+ShowsProgramAt seen s (Some c) = (m : Machine) → StandsFor (with_storage c s) m → ShowsProgram m seen
+
+-- and so is the drive of that program
+abbrev pub ShowsDriveAtWorkAt : Option DriveState → Storage → Option ChannelState → Type 0
+ShowsDriveAtWorkAt drive s None = drive ≡ None
+ShowsDriveAtWorkAt drive s (Some c) = (m : Machine) → StandsFor (with_storage c s) m → ShowsDriveAtWork m drive
 
 -- what is known of a channel's drive without a channel program
 abbrev pub drive_at : (device : ℕ) → Option ChannelState → Option DriveView

@@ -6,15 +6,16 @@ ghost use Rattle.s360_laws.specs.Events as machine;
 ghost use Rattle.s360_events.specs.Seen.{answer_seen};
 ghost use Rattle.s360_events.specs.declared.answers.Answer.TheVariants as answer;
 ghost use Rattle.s360_events.specs.declared.conditions.Condition.TheVariants.{Three};
-ghost use Rattle.s360_channels.specs.Asked.{InterruptsAt, ShowsAt, TestsAt, drive_at, image_at};
+ghost use Rattle.s360_channels.specs.Asked.{InterruptsAt, ShowsAt, ShowsDriveAtWorkAt, ShowsProgramAt, TestsAt, drive_at, image_at};
 ghost use Rattle.s360_channels.specs.Channels.{AllFit, OnChannel, Quietly, AtMost, RunsTo, ResetsTo};
 ghost use Rattle.s360_channels.specs.Inside.{lent};
 ghost use Rattle.s360_channels.specs.Turns.{StepsTo};
 
 use crate::found;
 use crate::lending::{Lending, hold};
+use ckd_drive::Drive;
 use ckd_image::{Image, ImageStore};
-use s360_channel::{Channel, DriveView, Reset, RunOn, View};
+use s360_channel::{Channel, DriveView, Reset, RunOn, View, Watched};
 use s360_events::{Condition, Status};
 use s360_words::Csw;
 
@@ -245,6 +246,29 @@ pub(crate) fn state<S: ImageStore>(channels: &[Option<Channel<S>>], number: u8) 
     }
     match &channels[number] {
         Some(channel) => Some(found::state(channel)),
+        None => None,
+    }
+}
+
+/// The program that runs at a channel, whatever storage the channel finds.
+pub(crate) fn program<S: ImageStore>(channels: &[Option<Channel<S>>], number: u8) -> Option<Watched>
+    ensures { (s : StorageState) → ShowsProgramAt result s (slice_index_or channels.now number None) }
+{
+    match channel(channels, number) {
+        Some(channel) => channel.program(),
+        None => None,
+    }
+}
+
+/// The drive of that program, lent.
+pub(crate) fn drive_at_work<S: ImageStore>(
+    channels: &[Option<Channel<S>>],
+    number: u8,
+) -> Option<&Drive<S>>
+    ensures { (s : StorageState) → ShowsDriveAtWorkAt (option_map (λ d. d.now) result) s (slice_index_or channels.now number None) }
+{
+    match channel(channels, number) {
+        Some(channel) => channel.drive_at_work(),
         None => None,
     }
 }

@@ -1,13 +1,14 @@
-//! What is shown of a channel, its drives and their volumes.
+//! What is shown of a channel, its program, its drives and their volumes. Nothing here hands the shared storage over.
 
 ghost use Rattle.std.specs.Prelude.{◌≡◌, ◌/◌, ◌%◌, is_some, option_map};
-ghost use Rattle.s360_channels.specs.Asked.{ShowsAt, drive_at, image_at};
+ghost use Rattle.s360_channels.specs.Asked.{ShowsAt, ShowsDriveAtWorkAt, ShowsProgramAt, drive_at, image_at};
 ghost use Rattle.s360_channels.specs.Channels.{channel_at};
 
 use crate::channels::Channels;
 use crate::numbers;
+use ckd_drive::Drive;
 use ckd_image::{Image, ImageStore};
-use s360_channel::{DriveView, View};
+use s360_channel::{DriveView, View, Watched};
 
 impl<S: ImageStore> Channels<S> {
     /// Whether there is a channel with this number.
@@ -23,6 +24,22 @@ impl<S: ImageStore> Channels<S> {
         ensures { ShowsAt result self.now.storage (channel_at number self.now) }
     {
         numbers::state(&self.list, number)
+    }
+
+    /// The program that runs at the channel with this number, between two units, as `Channel::program` shows it over the shared
+    /// storage; none where none runs, and where there is no such channel.
+    pub fn program(&self, number: u8) -> Option<Watched>
+        ensures { ShowsProgramAt result self.now.storage (channel_at number self.now) }
+    {
+        numbers::program(&self.list, number)
+    }
+
+    /// The drive of the program that runs at the channel with this number, lent, as `Channel::drive_at_work` lends it; none where
+    /// none runs, and where there is no such channel.
+    pub fn drive_at_work(&self, number: u8) -> Option<&Drive<S>>
+        ensures { ShowsDriveAtWorkAt (option_map (λ d. d.now) result) self.now.storage (channel_at number self.now) }
+    {
+        numbers::drive_at_work(&self.list, number)
     }
 
     /// What is known of the drive at an address without a channel program, as `Channel::drive` says it; none where there is no

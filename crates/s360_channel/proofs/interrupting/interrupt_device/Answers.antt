@@ -1,7 +1,6 @@
 use Rattle.std.proofs.Common.{◌∙◌, sym, ap, ◌+◌, ◌*◌}
 use Rattle.s360_words.specs.Storage.{changed, csw_stored}
-use Rattle.s360_channel.proofs.Idling.{within, never_lost, interrupt_arrived}
-use Rattle.s360_channel.proofs.Started.{armed_images}
+use Rattle.s360_channel.proofs.Started.{armed_images, within, never_lost, interrupt_arrived}
 use Rattle.s360_channel.proofs.interrupting.interrupt_device.Goals as goal
 
 pub returns-in_err-place-clause-does : goal.returns-in_err-place-clause-does

@@ -1,5 +1,5 @@
 use Rattle.std.proofs.Common.{◌∙◌, refl, sym}
-use Rattle.s360_channel.proofs.Asked.{start_other, start_busy, start_none, start_at, rests_there, stands_as, does_as, is_as}
+use Rattle.s360_channel.proofs.Asked.{start_other, start_busy, start_none, start_at, rests_there}
 use Rattle.s360_channel.proofs.starting.start_io.Goals as goal
 
 pub returns-then-address-number-clause-does : goal.returns-then-address-number-clause-does
@@ -13,14 +13,13 @@ returns-in_default g c = record {
 
 pub returns-in_default-place_of-clause-does : goal.returns-in_default-place_of-clause-does
 returns-in_default-place_of-clause-does g c = λ m st.
-    does_as _ m _ c.args.number c.args.storage.now c.args.drives.now c.args.subchannel.now _ c.in-Idle.is
-    (start_none c.args.address c.args.number c.args.storage.now c.args.drives.now m (stands_as c.args.number c.args.storage.now c.args.drives.now m c.args.subchannel.now _ c.in-Idle.is st) c.if-address-number.false (sym c.place_of.ensures ∙ c.in_default-place_of.is))
+    rw c.in-Idle.is (start_none c.args.address c.args.number c.args.storage.now c.args.drives.now m (rw c.in-Idle.is at st) c.if-address-number.false (sym c.place_of.ensures ∙ c.in_default-place_of.is))
 
 pub start_device-requires : goal.start_device-requires
-start_device-requires g c = record { idle = c.in-Idle.is; rests = rests_there _ c.args.number c.args.storage.now c.args.drives.now c.in-Some.place (is_as c.args.number c.args.storage.now c.args.drives.now c.args.subchannel.now _ c.in-Idle.is c.requires) (sym c.in-Some.ensures) }
+start_device-requires g c = record { idle = c.in-Idle.is; rests = rests_there _ c.args.number c.args.storage.now c.args.drives.now c.in-Some.place (rw c.in-Idle.is at c.requires) (sym c.in-Some.ensures) }
 
 pub returns-clause-does : goal.returns-clause-does
 returns-clause-does g c = λ m st.
     let k = c.start_device in
-    start_at c.args.address c.args.number c.args.storage.now c.args.drives.now m (stands_as c.args.number c.args.storage.now c.args.drives.now m c.args.subchannel.now _ c.in-Idle.is st) c.if-address-number.false c.in-Some.place _ k.new.storage k.new.subchannel k.new.drives
+    start_at c.args.address c.args.number c.args.storage.now c.args.drives.now m (rw c.in-Idle.is at st) c.if-address-number.false c.in-Some.place _ k.new.storage k.new.subchannel k.new.drives
     (sym c.in-Some.ensures) k.ensures.does k.ensures.images

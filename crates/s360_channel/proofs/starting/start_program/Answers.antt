@@ -1,13 +1,14 @@
 use Rattle.std.proofs.Common.{◌<◌, ◌∙◌, ap, length}
+use Rattle.std.proofs.lemmas.Option.{slice_get_within}
 use Rattle.std.specs.Prelude.{slice_get}
-use Rattle.s360_channel.proofs.Places.{is_within, get_set}
-use Rattle.s360_channel.proofs.Started.{starts_bad, starts_rejected, starts_immediate, starts_accepted, images_kept, armed_images}
+use Rattle.s360_channel.proofs.Places.{get_set}
+use Rattle.s360_channel.proofs.Started.{starts_bad, starts_rejected, starts_immediate, starts_accepted, started_images, armed_images}
 use Rattle.s360_channel.proofs.starting.start_program.Goals as goal
 
 pub set_arm-requires : goal.set_arm-requires
 set_arm-requires g c =
     let e = c.start.ensures in
-    let h : c.args.place < length c.start.new.self = is_within c.start.new.self c.args.place _ (ap (λ us. slice_get us c.args.place) e.becomes ∙ get_set c.args.drives.now c.args.place e.attached _ e.was) in
+    let h : c.args.place < length c.start.new.self = slice_get_within c.start.new.self c.args.place _ (ap (λ us. slice_get us c.args.place) e.becomes ∙ get_set c.args.drives.now c.args.place e.attached _ e.was) in
     h
 
 pub returns-in-Bad-clause-does : goal.returns-in-Bad-clause-does
@@ -15,17 +16,11 @@ returns-in-Bad-clause-does g c = λ attached there number rest distinct.
     starts_bad number c.args.storage.now c.args.drives.now c.args.place attached there rest distinct c.caw_word-caw.result c.args.subchannel.now c.status_stored.result c.start.new.self c.status_stored.new.storage
     c.requires.idle c.caw_word-caw.ensures (c.in-Bad.ensures) c.status_stored.ensures.answer c.status_stored.ensures.storage
 
-pub returns-in-Bad-clause-images : goal.returns-in-Bad-clause-images
-returns-in-Bad-clause-images g c = let e = c.start.ensures in images_kept c.args.drives.now c.args.place e.attached e.drive c.start.new.self e.was e.becomes e.how.1.image
-
 pub returns-in-Rejected-clause-does : goal.returns-in-Rejected-clause-does
 returns-in-Rejected-clause-does g c = λ attached there number rest distinct.
     let k = c.status_stored-in-Rejected in
     starts_rejected number c.args.storage.now c.args.drives.now c.args.place attached there rest distinct c.caw_word-caw.result c.args.subchannel.now k.result c.start.new.self k.new.storage
     c.requires.idle c.caw_word-caw.ensures (c.in-Rejected.ensures) k.ensures.answer k.ensures.storage
-
-pub returns-in-Rejected-clause-images : goal.returns-in-Rejected-clause-images
-returns-in-Rejected-clause-images g c = let e = c.start.ensures in images_kept c.args.drives.now c.args.place e.attached e.drive c.start.new.self e.was e.becomes e.how.1.image
 
 pub returns-in-Immediate-clause-does : goal.returns-in-Immediate-clause-does
 returns-in-Immediate-clause-does g c = λ attached there number rest distinct.
@@ -36,13 +31,9 @@ returns-in-Immediate-clause-does g c = λ attached there number rest distinct.
 
 pub returns-in-Immediate-clause-images : goal.returns-in-Immediate-clause-images
 returns-in-Immediate-clause-images g c =
-    let e = c.start.ensures in
-    armed_images c.start.new.self c.args.place c.arm_after.result c.set_arm.new.self c.set_arm.ensures ∙ images_kept c.args.drives.now c.args.place e.attached e.drive c.start.new.self e.was e.becomes e.how.1.image
+    armed_images c.start.new.self c.args.place c.arm_after.result c.set_arm.new.self c.set_arm.ensures ∙ started_images c.args.drives.now c.args.place _ _ _ c.start.new.self c.start.ensures
 
 pub returns-in-Accepted-clause-does : goal.returns-in-Accepted-clause-does
 returns-in-Accepted-clause-does g c = λ attached there number rest distinct.
     starts_accepted number c.args.storage.now c.args.drives.now c.args.place attached there rest distinct c.accepted_stands.ensures c.caw_word-caw.result c.start.new.self c.in-Accepted.running
     c.caw_word-caw.ensures (c.in-Accepted.ensures)
-
-pub returns-in-Accepted-clause-images : goal.returns-in-Accepted-clause-images
-returns-in-Accepted-clause-images g c = let e = c.start.ensures in images_kept c.args.drives.now c.args.place e.attached e.drive c.start.new.self e.was e.becomes e.how.1.image

@@ -1,8 +1,7 @@
 use Rattle.std.proofs.Common.{◌∙◌, sym, ap}
 use Rattle.s360_words.specs.Storage.{changed, csw_stored}
 use Rattle.s360_events.specs.declared.conditions.Condition.TheVariants.{Stored}
-use Rattle.s360_channel.proofs.Idling.{within, test_none, test_in_motion, test_arrived, test_at_rest}
-use Rattle.s360_channel.proofs.Started.{armed_images}
+use Rattle.s360_channel.proofs.Started.{armed_images, within, test_none, test_in_motion, test_arrived, test_at_rest}
 use Rattle.s360_channel.proofs.testing.test_device.Goals as goal
 
 pub returns-in_default-clause-does : goal.returns-in_default-clause-does
@@ -22,9 +21,9 @@ returns-in-Arrived-clause-does g c = λ number rest distinct.
     test_arrived c.args.device number c.args.storage.now c.args.drives.now rest distinct c.in-Some.place (sym c.in-Some.ensures) k.result c.set_arm.new.self k.new.storage c.in-Arrived.ensures c.set_arm.ensures
     (k.ensures.answer ∙ ap Stored c.csw_of_unit-in-Arrived.ensures) (k.ensures.storage ∙ ap (λ csw. changed (csw_stored csw) c.args.storage.now) c.csw_of_unit-in-Arrived.ensures)
 
-pub returns-in-Arrived-clause-images : goal.returns-in-Arrived-clause-images
-returns-in-Arrived-clause-images g c = armed_images c.args.drives.now c.in-Some.place _ c.set_arm.new.self c.set_arm.ensures
-
 pub returns-in-AtRest-clause-does : goal.returns-in-AtRest-clause-does
 returns-in-AtRest-clause-does g c = λ number rest distinct.
     test_at_rest c.args.device number c.args.storage.now c.args.drives.now rest distinct c.in-Some.place (sym c.in-Some.ensures) c.in-AtRest.ensures
+
+pub returns-in-Arrived-clause-images : goal.returns-in-Arrived-clause-images
+returns-in-Arrived-clause-images g c = armed_images c.args.drives.now c.in-Some.place _ c.set_arm.new.self c.set_arm.ensures

@@ -1,4 +1,4 @@
-use Rattle.s360_channels.proofs.Pending.{pending_over}
+use Rattle.s360_channels.proofs.Asking.{pending_over}
 use Rattle.s360_channels.proofs.found.is_pending.Goals as goal
 
 pub returns : goal.returns

@@ -1,4 +1,4 @@
-use Rattle.s360_channels.proofs.Pending.{shown_over}
+use Rattle.s360_channels.proofs.Asking.{shown_over}
 use Rattle.s360_channels.proofs.found.state.Goals as goal
 
 pub returns : goal.returns

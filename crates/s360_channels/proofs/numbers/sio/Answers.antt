@@ -2,15 +2,11 @@ use Rattle.std.proofs.Common.{rules, tests, ◌/◌}
 use Rattle.s360_laws.specs.Events.{Sio}
 use Rattle.s360_channels.proofs.At.{there}
 use Rattle.s360_channels.proofs.Fitting.{quiet_fits}
-use Rattle.s360_channels.proofs.Holding.{calls_somebody, fit_behind}
+use Rattle.s360_channels.proofs.Holding.{calls_there}
 use Rattle.s360_channels.proofs.numbers.sio.Goals as goal
 
-pub returns-in-Some-clause-calls : goal.returns-in-Some-clause-calls
-returns-in-Some-clause-calls g c =
+pub returns-in-Some : goal.returns-in-Some
+returns-in-Some g c =
     let e = there c.hold.new.channels (c.args.address / 256) c.index-channels-number.result c.in-Some.channel (search (rules, tests)) c.in-Some.is in
-    calls_somebody (c.args.address / 256) _ _ _ c.hold.new.lending c.hold.new.channels c.in-Some.channel _ c.hold.ensures.same c.hold.ensures.holds e (record { does = c.sio.ensures.does; calls = c.sio.ensures.calls })
-
-pub returns-in-Some-clause-fit : goal.returns-in-Some-clause-fit
-returns-in-Some-clause-fit g c =
-    let e = there c.hold.new.channels (c.args.address / 256) c.index-channels-number.result c.in-Some.channel (search (rules, tests)) c.in-Some.is in
-    fit_behind _ (quiet_fits (Sio c.args.address) _) _ c.hold.new.channels (c.args.address / 256) c.in-Some.channel _ c.hold.ensures.fit e (record { does = c.sio.ensures.does; calls = c.sio.ensures.calls })
+    let d = calls_there (c.args.address / 256) _ (quiet_fits (Sio c.args.address) _) _ _ c.hold.new.lending c.hold.new.channels c.in-Some.channel _ c.hold.ensures.same c.hold.ensures.holds c.hold.ensures.fit e (record { does = c.sio.ensures.does; calls = c.sio.ensures.calls }) in
+    record { calls = d.0; fit = d.1 }

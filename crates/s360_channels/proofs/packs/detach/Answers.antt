@@ -1,4 +1,4 @@
-use Rattle.std.proofs.Common.{ap, length, subst, sym}
+use Rattle.std.proofs.Common.{rules, ap, length, subst, sym}
 use Rattle.s360_words.specs.Storage.{Storage}
 use Rattle.s360_channel.specs.Packs.{Detaches}
 use Rattle.s360_channels.specs.Channels.{Fits}
@@ -13,26 +13,20 @@ exchange-requires g c = sym c.requires.as_large
 pub exchange-requires-2 : goal.exchange-requires-2
 exchange-requires-2 g c = goes_back_if (λ image m old new. Detaches c.args.device m image old new) (takes_off_fits c.args.device) c.detach-detached.result _ _ _ _ _ c.requires c.exchange.ensures c.detach-detached.ensures.detached c.detach-detached.ensures.stays
 
-pub returns-in-Ok-clause-detached : goal.returns-in-Ok-clause-detached
-returns-in-Ok-clause-detached g c = serves (TakesOff c.args.device c.in-Ok.image) (takes_off_fits c.args.device c.in-Ok.image) _ _ _ _ _ _ _ c.requires c.exchange.ensures c.in-Ok.ensures.detached c.exchange-2.ensures
+pub returns-in-Ok : goal.returns-in-Ok
+returns-in-Ok g c =
+    let v = serves (TakesOff c.args.device c.in-Ok.image) (takes_off_fits c.args.device c.in-Ok.image) _ _ _ _ _ _ _ c.requires c.exchange.ensures c.in-Ok.ensures.detached c.exchange-2.ensures in
+    record { detached = v; refused = search rules; channel_stays = search rules; storage_stays = search rules; fits = v.fits; size = v.size }
 
-pub returns-in-Err-clause-refused : goal.returns-in-Err-clause-refused
-returns-in-Err-clause-refused g c = subst (Keeps c.args.device c.in-Err.fault) c.exchange.ensures.found c.in-Err.ensures.refused
-
-pub returns-in-Err-clause-channel_stays : goal.returns-in-Err-clause-channel_stays
-returns-in-Err-clause-channel_stays g c = channel_again c.args.channel.now c.args.storage.now _ _ _ _ _ c.exchange.ensures c.in-Err.ensures.stays c.exchange-2.ensures
-
-pub returns-in-Err-clause-storage_stays : goal.returns-in-Err-clause-storage_stays
-returns-in-Err-clause-storage_stays g c = storage_again c.args.channel.now c.args.storage.now _ _ _ _ _ c.exchange.ensures c.in-Err.ensures.stays c.exchange-2.ensures
-
-pub returns-in-Ok-clause-fits : goal.returns-in-Ok-clause-fits
-returns-in-Ok-clause-fits g c = (serves (TakesOff c.args.device c.in-Ok.image) (takes_off_fits c.args.device c.in-Ok.image) _ _ _ _ _ _ _ c.requires c.exchange.ensures c.in-Ok.ensures.detached c.exchange-2.ensures).fits
-
-pub returns-in-Ok-clause-size : goal.returns-in-Ok-clause-size
-returns-in-Ok-clause-size g c = (serves (TakesOff c.args.device c.in-Ok.image) (takes_off_fits c.args.device c.in-Ok.image) _ _ _ _ _ _ _ c.requires c.exchange.ensures c.in-Ok.ensures.detached c.exchange-2.ensures).size
-
-pub returns-in-Err-clause-fits : goal.returns-in-Err-clause-fits
-returns-in-Err-clause-fits g c = subst (Fits (length c.args.storage.now.bytes)) (sym (channel_again c.args.channel.now c.args.storage.now _ _ _ _ _ c.exchange.ensures c.in-Err.ensures.stays c.exchange-2.ensures)) c.requires
-
-pub returns-in-Err-clause-size : goal.returns-in-Err-clause-size
-returns-in-Err-clause-size g c = ap (λ (s : Storage). length s.bytes) (storage_again c.args.channel.now c.args.storage.now _ _ _ _ _ c.exchange.ensures c.in-Err.ensures.stays c.exchange-2.ensures)
+pub returns-in-Err : goal.returns-in-Err
+returns-in-Err g c =
+    let same = channel_again c.args.channel.now c.args.storage.now _ _ _ _ _ c.exchange.ensures c.in-Err.ensures.stays c.exchange-2.ensures in
+    let kept = storage_again c.args.channel.now c.args.storage.now _ _ _ _ _ c.exchange.ensures c.in-Err.ensures.stays c.exchange-2.ensures in
+    record {
+      detached = search rules;
+      refused = subst (Keeps c.args.device c.in-Err.fault) c.exchange.ensures.found c.in-Err.ensures.refused;
+      channel_stays = same;
+      storage_stays = kept;
+      fits = subst (Fits (length c.args.storage.now.bytes)) (sym same) c.requires;
+      size = ap (λ (s : Storage). length s.bytes) kept;
+    }

@@ -1,18 +1,18 @@
-use Rattle.std.proofs.Common.{sym, subst}
-use Rattle.s360_channel.specs.Channel.{ChannelState, StandsFor}
-use Rattle.s360_channel.specs.Packs.{Detaches, IsFree, without_device}
-use Rattle.s360_channel.proofs.Removing.{detaches, may_go}
+use Rattle.std.proofs.Common.{subst}
+use Rattle.s360_channel.specs.Channel.{ChannelState}
+use Rattle.s360_channel.specs.Packs.{Detaches, without_device}
+use Rattle.s360_channel.proofs.Removing.{detaches, rests_free}
 use Rattle.s360_channel.proofs.channel.Channel.detach.Goals as goal
 
 pub remove-requires : goal.remove-requires
 remove-requires g c =
     let this : ChannelState = record { number = c.self.inside.number; storage = c.self.inside.storage; subchannel = c.self.inside.subchannel; drives = c.self.inside.drives } in
-    may_go this c.self.invariant.machine c.self.invariant.stands c.args.device c.in_ok-place.place (subst (IsFree c.args.device c.in_ok-place.place) (sym c.self.view_is) c.in_ok-place.ensures.free)
+    rests_free this c.self.invariant.machine c.self.invariant.stands c.args.device c.in_ok-place.place (rw (← c.self.view_is) at c.in_ok-place.ensures.free)
 
 pub invariant_of-self : goal.invariant_of-self
 invariant_of-self g c =
     let this : ChannelState = record { number = c.self.inside.number; storage = c.self.inside.storage; subchannel = c.self.inside.subchannel; drives = c.self.inside.drives } in
-    let f = subst (IsFree c.args.device c.in_ok-place.place) (sym c.self.view_is) c.in_ok-place.ensures.free in
+    let f = rw (← c.self.view_is) at c.in_ok-place.ensures.free in
     record {
       machine = without_device c.args.device c.self.invariant.machine;
       stands = (detaches this c.self.invariant.machine c.self.invariant.stands c.args.device c.in_ok-place.place f c.move_up.new.subchannel c.remove.new.self c.remove.result c.move_up.ensures c.remove.ensures).stands;
@@ -21,7 +21,7 @@ invariant_of-self g c =
 pub returns-clause-detached : goal.returns-clause-detached
 returns-clause-detached g c m h =
     let this : ChannelState = record { number = c.self.inside.number; storage = c.self.inside.storage; subchannel = c.self.inside.subchannel; drives = c.self.inside.drives } in
-    let f = subst (IsFree c.args.device c.in_ok-place.place) (sym c.self.view_is) c.in_ok-place.ensures.free in
+    let f = rw (← c.self.view_is) at c.in_ok-place.ensures.free in
     let now : ChannelState = record this { subchannel = c.move_up.new.subchannel; drives = c.remove.new.self } in
     subst (λ o. Detaches c.args.device m c.remove.result o now) c.self.view_is
-    (detaches this m (subst (λ x. StandsFor x m) (sym c.self.view_is) h) c.args.device c.in_ok-place.place f c.move_up.new.subchannel c.remove.new.self c.remove.result c.move_up.ensures c.remove.ensures)
+    (detaches this m (rw (← c.self.view_is) at h) c.args.device c.in_ok-place.place f c.move_up.new.subchannel c.remove.new.self c.remove.result c.move_up.ensures c.remove.ensures)

@@ -1,7 +1,7 @@
 use Rattle.std.proofs.Common.{sym, subst}
 use Rattle.s360_channel.specs.Channel.{ChannelState, StandsFor}
 use Rattle.s360_channel.specs.Shares.{IsAsLarge, finding, with_storage}
-use Rattle.s360_channel.proofs.Finding.{as_large, finds_another}
+use Rattle.s360_channel.proofs.Kept.{as_large, finds_another}
 use Rattle.s360_channel.proofs.channel.Channel.exchange_storage.Goals as goal
 
 pub invariant_of-self : goal.invariant_of-self
@@ -19,4 +19,4 @@ returns-clause-stands g c m h =
     let this : ChannelState = record { number = c.self.inside.number; storage = c.self.inside.storage; subchannel = c.self.inside.subchannel; drives = c.self.inside.drives } in
     let large : IsAsLarge c.args.storage.now this.storage = as_large c.args.storage.now this.storage c.size.result c.size-2.result c.size.ensures.size c.size.ensures.allowed c.size.ensures.keys c.size-2.ensures.size c.size-2.ensures.keys c.if-size.false in
     subst (λ s. StandsFor (with_storage this s) (finding c.args.storage.now m)) (sym c.swap.ensures.x_after)
-    (finds_another this m c.args.storage.now large (subst (λ x. StandsFor x m) (sym c.self.view_is) h))
+    (finds_another this m c.args.storage.now large (rw (← c.self.view_is) at h))

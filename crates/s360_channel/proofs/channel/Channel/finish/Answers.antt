@@ -2,7 +2,7 @@ use Rattle.std.proofs.Common.{◌≡◌, ◌∙◌, ap, sym, subst, map}
 use Rattle.s360_channel.specs.Channel.{ChannelState, StandsFor, AllRest}
 use Rattle.s360_channel.specs.Finishes.{images_of}
 use Rattle.s360_channel.proofs.Finishing.{rests_after_reset}
-use Rattle.s360_channel.proofs.Fits.{last_but_one_fits}
+use Rattle.s360_channel.proofs.Parts.{last_but_one_fits}
 use Rattle.s360_channel.proofs.channel.Channel.finish.Goals as goal
 
 pub into_images-requires : goal.into_images-requires

@@ -1,8 +1,7 @@
-use Rattle.std.proofs.Common.{◌∙◌, ap, sym, subst}
-use Rattle.s360_channel.specs.Channel.{StandsFor}
+use Rattle.std.proofs.Common.{◌∙◌, ap, sym}
 use Rattle.s360_channel.specs.Views.{key_in}
 use Rattle.s360_channel.proofs.Kept.{storage_in}
 use Rattle.s360_channel.proofs.channel.Channel.key.Goals as goal
 
 pub returns-clause-shows : goal.returns-clause-shows
-returns-clause-shows g c m h = c.key.ensures.key ∙ ap (λ s. key_in s c.args.at) (sym (storage_in (record { number = c.self.inside.number; storage = c.self.inside.storage; subchannel = c.self.inside.subchannel; drives = c.self.inside.drives }) m (subst (λ x. StandsFor x m) (sym c.self.view_is) h)))
+returns-clause-shows g c m h = c.key.ensures.key ∙ ap (λ s. key_in s c.args.at) (sym (storage_in (record { number = c.self.inside.number; storage = c.self.inside.storage; subchannel = c.self.inside.subchannel; drives = c.self.inside.drives }) m (rw (← c.self.view_is) at h)))

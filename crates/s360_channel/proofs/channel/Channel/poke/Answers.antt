@@ -1,7 +1,6 @@
-use Rattle.std.proofs.Common.{◌≡◌, refl, sym, ap, subst, ◌∙◌, is_ok}
+use Rattle.std.proofs.Common.{◌≡◌, refl, sym, ap, ◌∙◌, is_ok}
 use Rattle.s360_words.specs.Storage.{Bytes}
 use Rattle.s360_laws.specs.Events.{Store}
-use Rattle.s360_channel.specs.Channel.{StandsFor}
 use Rattle.s360_channel.proofs.Kept.{does_kept, channel_kept}
 use Rattle.s360_channel.proofs.channel.Channel.poke.Goals as goal
 use Rattle.s360_channel.proofs.channel.Channel.poke.Goals.{then-put, else-put}
@@ -14,7 +13,7 @@ invariant_of-self g c =
 -- src/processor.rt
 pub returns-clause-does : goal.returns-clause-does
 returns-clause-does g c m h =
-    does_kept (Store c.args.at c.args.bytes.now) (Bytes c.args.at c.args.bytes.now) (λ m. refl) (record { number = c.self.inside.number; storage = c.self.inside.storage; subchannel = c.self.inside.subchannel; drives = c.self.inside.drives }) c.put.new.self c.put.result (is_ok c.if-put.result) c.put.ensures.answer c.put.ensures.change told m (subst (λ x. StandsFor x m) (sym c.self.view_is) h)
+    does_kept (Store c.args.at c.args.bytes.now) (Bytes c.args.at c.args.bytes.now) (λ m. refl) (record { number = c.self.inside.number; storage = c.self.inside.storage; subchannel = c.self.inside.subchannel; drives = c.self.inside.drives }) c.put.new.self c.put.result (is_ok c.if-put.result) c.put.ensures.answer c.put.ensures.change told m (rw (← c.self.view_is) at h)
   where
     told : is_ok c.if-put.result ≡ c.put.result
     told = elim c.if-put.branch [

@@ -1,41 +1,33 @@
-use Rattle.std.proofs.Common.{◌∙◌, sym, ap, refl}
-use Rattle.s360_laws.specs.Events as machine
-use Rattle.s360_events.specs.Seen.{event_seen}
-use Rattle.s360_channel.proofs.Quiet.{calls_as, does_as, none_calls, quiet_does_as}
+use Rattle.std.proofs.Common.{refl}
+use Rattle.s360_channel.proofs.Quiet.{none_calls, quiet_does}
 use Rattle.s360_channel.proofs.channel.Channel.react.Goals as goal
 
 pub returns-in-Sio-clause-does : goal.returns-in-Sio-clause-does
-returns-in-Sio-clause-does g c m stands =
-    quiet_does_as _ _ m _ _ _ _ (ap event_seen c.in-Sio.is) refl stands (c.sio.ensures.does m stands) c.sio.ensures.calls
+returns-in-Sio-clause-does g c m stands = rw c.in-Sio.is (quiet_does _ m _ _ _ stands (c.sio.ensures.does m stands) c.sio.ensures.calls)
 
 pub returns-in-Tio-clause-does : goal.returns-in-Tio-clause-does
-returns-in-Tio-clause-does g c m stands =
-    quiet_does_as _ _ m _ _ _ _ (ap event_seen c.in-Tio.is) refl stands (c.tio.ensures.does m stands) c.tio.ensures.calls
+returns-in-Tio-clause-does g c m stands = rw c.in-Tio.is (quiet_does _ m _ _ _ stands (c.tio.ensures.does m stands) c.tio.ensures.calls)
 
 pub returns-in-Arrive-clause-does : goal.returns-in-Arrive-clause-does
-returns-in-Arrive-clause-does g c m stands =
-    quiet_does_as _ _ m _ _ _ _ (ap event_seen c.in-Arrive.is) refl stands (c.arrive.ensures.does m stands) c.arrive.ensures.calls
+returns-in-Arrive-clause-does g c m stands = rw c.in-Arrive.is (quiet_does _ m _ _ _ stands (c.arrive.ensures.does m stands) c.arrive.ensures.calls)
 
 pub returns-in-Interrupt-clause-does : goal.returns-in-Interrupt-clause-does
-returns-in-Interrupt-clause-does g c m stands =
-    quiet_does_as _ _ m _ _ _ _ (ap event_seen c.in-Interrupt.is) refl stands (c.interrupt.ensures.does m stands) c.interrupt.ensures.calls
+returns-in-Interrupt-clause-does g c m stands = rw c.in-Interrupt.is (quiet_does _ m _ _ _ stands (c.interrupt.ensures.does m stands) c.interrupt.ensures.calls)
 
 pub returns-in-Store-clause-does : goal.returns-in-Store-clause-does
-returns-in-Store-clause-does g c m stands =
-    quiet_does_as _ _ m _ _ _ _ (ap event_seen c.in-Store.is ∙ ap (machine.Store c.in-Store.at) (sym c.as_slice.ensures.value))
-    (ap machine.WasKept c.is_ok.ensures.value) stands (c.poke.ensures.does m stands) c.poke.ensures.calls
+returns-in-Store-clause-does g c m stands = rw (c.in-Store.is, c.is_ok.ensures.value, ← c.as_slice.ensures.value) (quiet_does _ m _ _ _ stands (c.poke.ensures.does m stands) c.poke.ensures.calls)
 
 pub returns-in-Key-clause-does : goal.returns-in-Key-clause-does
-returns-in-Key-clause-does g c m stands =
-    quiet_does_as _ _ m _ _ _ _ (ap event_seen c.in-Key.is ∙ ap (machine.SetKey c.in-Key.at) (sym c.get.ensures.value))
-    (ap machine.WasKept c.is_ok-in-Key.ensures.value) stands (c.set_key.ensures.does m stands) c.set_key.ensures.calls
+returns-in-Key-clause-does g c m stands = rw (c.in-Key.is, c.is_ok-in-Key.ensures.value, ← c.get.ensures.value) (quiet_does _ m _ _ _ stands (c.set_key.ensures.does m stands) c.set_key.ensures.calls)
 
 pub returns-in-Show-clause-does : goal.returns-in-Show-clause-does
-returns-in-Show-clause-does g c m stands =
-    quiet_does_as _ _ m _ _ _ _ (ap event_seen c.in-Show.is) refl stands (c.shown.ensures m stands) refl
+returns-in-Show-clause-does g c m stands = rw c.in-Show.is (quiet_does _ m _ _ _ stands (c.shown.ensures m stands) refl)
 
 pub returns-in-Reset-clause-does : goal.returns-in-Reset-clause-does
-returns-in-Reset-clause-does g c m stands = does_as _ _ m _ _ _ (ap event_seen c.in-Reset.is) (c.reset.ensures.does m stands)
+returns-in-Reset-clause-does g c m stands = rw c.in-Reset.is (c.reset.ensures.does m stands)
+
+pub returns-in-Reset-clause-calls : goal.returns-in-Reset-clause-calls
+returns-in-Reset-clause-calls g c = rw c.in-Reset.is c.reset.ensures.calls
 
 pub returns-in-Sio-clause-calls : goal.returns-in-Sio-clause-calls
 returns-in-Sio-clause-calls g c = none_calls _ _ _ c.sio.ensures.calls
@@ -54,12 +46,3 @@ returns-in-Store-clause-calls g c = none_calls _ _ _ c.poke.ensures.calls
 
 pub returns-in-Key-clause-calls : goal.returns-in-Key-clause-calls
 returns-in-Key-clause-calls g c = none_calls _ _ _ c.set_key.ensures.calls
-
-pub returns-in-Show-clause-calls : goal.returns-in-Show-clause-calls
-returns-in-Show-clause-calls g c = none_calls _ _ _ refl
-
-pub returns-in-Tch-clause-calls : goal.returns-in-Tch-clause-calls
-returns-in-Tch-clause-calls g c = none_calls _ _ _ refl
-
-pub returns-in-Reset-clause-calls : goal.returns-in-Reset-clause-calls
-returns-in-Reset-clause-calls g c = calls_as _ _ _ _ _ _ (ap event_seen c.in-Reset.is) refl c.reset.ensures.calls

@@ -1,7 +1,6 @@
-use Rattle.std.proofs.Common.{◌≡◌, refl, sym, ap, subst, ◌∙◌, is_ok}
+use Rattle.std.proofs.Common.{◌≡◌, refl, sym, ap, ◌∙◌, is_ok}
 use Rattle.s360_words.specs.Storage.{KeyOf}
 use Rattle.s360_laws.specs.Events.{SetKey}
-use Rattle.s360_channel.specs.Channel.{StandsFor}
 use Rattle.s360_channel.proofs.Kept.{does_kept, channel_kept}
 use Rattle.s360_channel.proofs.channel.Channel.set_key.Goals as goal
 use Rattle.s360_channel.proofs.channel.Channel.set_key.Goals.{then-set_key, else-set_key}
@@ -14,7 +13,7 @@ invariant_of-self g c =
 -- src/processor.rt
 pub returns-clause-does : goal.returns-clause-does
 returns-clause-does g c m h =
-    does_kept (SetKey c.args.at c.args.key) (KeyOf c.args.at c.args.key) (λ m. refl) (record { number = c.self.inside.number; storage = c.self.inside.storage; subchannel = c.self.inside.subchannel; drives = c.self.inside.drives }) c.set_key.new.self c.set_key.result (is_ok c.if-set_key.result) c.set_key.ensures.answer c.set_key.ensures.change told m (subst (λ x. StandsFor x m) (sym c.self.view_is) h)
+    does_kept (SetKey c.args.at c.args.key) (KeyOf c.args.at c.args.key) (λ m. refl) (record { number = c.self.inside.number; storage = c.self.inside.storage; subchannel = c.self.inside.subchannel; drives = c.self.inside.drives }) c.set_key.new.self c.set_key.result (is_ok c.if-set_key.result) c.set_key.ensures.answer c.set_key.ensures.change told m (rw (← c.self.view_is) at h)
   where
     told : is_ok c.if-set_key.result ≡ c.set_key.result
     told = elim c.if-set_key.branch [

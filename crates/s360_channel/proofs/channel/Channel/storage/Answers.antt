@@ -1,7 +1,6 @@
-use Rattle.std.proofs.Common.{sym, subst}
-use Rattle.s360_channel.specs.Channel.{StandsFor}
+use Rattle.std.proofs.Common.{sym}
 use Rattle.s360_channel.proofs.Kept.{storage_in}
 use Rattle.s360_channel.proofs.channel.Channel.storage.Goals as goal
 
 pub returns-clause-shows : goal.returns-clause-shows
-returns-clause-shows g c m h = sym (storage_in (record { number = c.self.inside.number; storage = c.self.inside.storage; subchannel = c.self.inside.subchannel; drives = c.self.inside.drives }) m (subst (λ x. StandsFor x m) (sym c.self.view_is) h))
+returns-clause-shows g c m h = sym (storage_in (record { number = c.self.inside.number; storage = c.self.inside.storage; subchannel = c.self.inside.subchannel; drives = c.self.inside.drives }) m (rw (← c.self.view_is) at h))

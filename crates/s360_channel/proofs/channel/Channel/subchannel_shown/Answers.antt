@@ -1,5 +1,3 @@
-use Rattle.std.proofs.Common.{sym, subst}
-use Rattle.s360_channel.specs.Channel.{StandsFor}
 use Rattle.s360_channel.proofs.Shown.{working_shown, place_there}
 use Rattle.s360_channel.proofs.channel.Channel.subchannel_shown.Goals as goal
 
@@ -12,4 +10,4 @@ device-requires g c =
 pub returns-in-Working : goal.returns-in-Working
 returns-in-Working g c m h =
     working_shown (record { number = c.self.inside.number; storage = c.self.inside.storage; subchannel = c.self.inside.subchannel; drives = c.self.inside.drives }) m c.in-Working.place c.in-Working.running c.device.result c.interruption_asked.result
-    (subst (λ x. StandsFor x m) (sym c.self.view_is) h) c.in-Working.is c.device.ensures (λ w. c.interruption_asked.ensures c.self.inside.storage w.attached.drive)
+    (rw (← c.self.view_is) at h) c.in-Working.is c.device.ensures (λ w. c.interruption_asked.ensures c.self.inside.storage w.attached.drive)
