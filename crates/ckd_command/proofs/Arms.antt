@@ -23,6 +23,8 @@ use Rattle.ckd_command.specs.declared.registers.Lap.{Lap}
 use Rattle.ckd_command.specs.declared.registers.Lap.TheVariants.{First, Second}
 use Rattle.ckd_command.specs.declared.tables.Aim.{Aim}
 use Rattle.ckd_command.specs.declared.tables.Aim.TheVariants.{NoArea, Next, Credited}
+use Rattle.ckd_command.specs.declared.tables.Action.{Action}
+use Rattle.ckd_command.specs.declared.tables.Action.TheVariants as action
 use Rattle.ckd_command.specs.declared.begin.Opened.{Opened}
 use Rattle.ckd_command.specs.Answers.{Beginning, Rejected, Immediate, Started, ToCylinderZero}
 use Rattle.ckd_command.specs.Answers.{Sight, Found, IndexPassed, NextHead, Missed}
@@ -172,49 +174,25 @@ homes : (o : Opened) (r : Registers) (b : List ℕ) → ClosesAt r (write_home_a
 homes o r b = either r (bytes_eq b (own_home_address r)) (writes (bare_track b) (home_address_ends o r)) (fails (at_end o r) cause.WRONG_HOME_ADDRESS)
     (inr (refl, record { cylinder = refl; head = refl })) (inr (refl, record { cylinder = refl; head = refl }))
 
-closes_at : (c : Command) (g : Geometry) (t : Sighted) (o : Opened) (r : Registers) (b : List ℕ) → ClosesAt r (close_by (action_of c) g t o r b)
-closes_at command.Seek g t o r b = whole r r b 6 _ (itself r) (seeks g r b)
-closes_at command.SeekCylinder g t o r b = whole r r b 6 _ (itself r) (seeks g r b)
-closes_at command.SeekHead g t o r b = whole r r b 6 _ (itself r) (head_seeks g r b)
-closes_at command.SetFileMask g t o r b = masks r b
-closes_at command.SearchHomeAddressEqual g t o r b = searches t o r b
-closes_at command.SearchIdEqual g t o r b = searches t o r b
-closes_at command.SearchIdHigh g t o r b = searches t o r b
-closes_at command.SearchIdEqualOrHigh g t o r b = searches t o r b
-closes_at command.SearchKeyEqual g t o r b = searches t o r b
-closes_at command.SearchKeyHigh g t o r b = searches t o r b
-closes_at command.SearchKeyEqualOrHigh g t o r b = searches t o r b
-closes_at command.WriteHomeAddress g t o r b = whole r (at_end o r) b 5 _ (record { cylinder = refl; head = refl }) (homes o r b)
-closes_at command.WriteR0 g t o r b = whole r r b 8 _ (itself r) (formats g t o r b)
-closes_at command.WriteCountKeyAndData g t o r b = whole r r b 8 _ (itself r) (formats g t o r b)
-closes_at command.WriteData g t o r b = updates (replaced (extent_of o.command) b) t o r b
-closes_at command.WriteKeyAndData g t o r b = updates (replaced (extent_of o.command) b) t o r b
+closes_at : (a : Action) (g : Geometry) (t : Sighted) (o : Opened) (r : Registers) (b : List ℕ) → ClosesAt r (close_by a g t o r b)
+closes_at action.SeekCylinderAndHead g t o r b = whole r r b 6 _ (itself r) (seeks g r b)
+closes_at action.SeekHead g t o r b = whole r r b 6 _ (itself r) (head_seeks g r b)
+closes_at action.SetFileMask g t o r b = masks r b
+closes_at action.Search g t o r b = searches t o r b
+closes_at action.WriteHomeAddress g t o r b = whole r (at_end o r) b 5 _ (record { cylinder = refl; head = refl }) (homes o r b)
+closes_at action.Format g t o r b = whole r r b 8 _ (itself r) (formats g t o r b)
+closes_at action.Update g t o r b = updates (replaced (extent_of o.command) b) t o r b
 closes_at _ g t o r b = area_end t o r
 
 pub closing_at : (g : Geometry) (t : Sighted) (o : Opened) (r : Registers) (b : List ℕ) → ClosesAt r (closing g t o r b)
 unfolding closing
-closing_at g t o r b = closes_at o.command g t o r b
+closing_at g t o r b = closes_at (action_of o.command) g t o r b
 
 -- without a byte it never does
-empty_at : (c : Command) (g : Geometry) (t : Sighted) (o : Opened) (r : Registers) → (close_by (action_of c) g t o r []).moves_off ≡ false
-empty_at command.Seek g t o r = refl
-empty_at command.SeekCylinder g t o r = refl
-empty_at command.SeekHead g t o r = refl
-empty_at command.SetFileMask g t o r = refl
-empty_at command.SearchHomeAddressEqual g t o r = refl
-empty_at command.SearchIdEqual g t o r = refl
-empty_at command.SearchIdHigh g t o r = refl
-empty_at command.SearchIdEqualOrHigh g t o r = refl
-empty_at command.SearchKeyEqual g t o r = refl
-empty_at command.SearchKeyHigh g t o r = refl
-empty_at command.SearchKeyEqualOrHigh g t o r = refl
-empty_at command.WriteHomeAddress g t o r = refl
-empty_at command.WriteR0 g t o r = refl
-empty_at command.WriteCountKeyAndData g t o r = refl
-empty_at command.WriteData g t o r = refl
-empty_at command.WriteKeyAndData g t o r = refl
+empty_at : (a : Action) (g : Geometry) (t : Sighted) (o : Opened) (r : Registers) → (close_by a g t o r []).moves_off ≡ false
+empty_at action.Search g t o r = refl
 empty_at _ g t o r = refl
 
 pub closing_empty : (g : Geometry) (t : Sighted) (o : Opened) (r : Registers) → (closing g t o r []).moves_off ≡ false
 unfolding closing
-closing_empty g t o r = empty_at o.command g t o r
+closing_empty g t o r = empty_at (action_of o.command) g t o r

@@ -26,6 +26,8 @@ use Rattle.ckd_command.specs.declared.registers.Lap.{Lap}
 use Rattle.ckd_command.specs.declared.registers.Lap.TheVariants.{First, Second}
 use Rattle.ckd_command.specs.declared.tables.Aim.{Aim}
 use Rattle.ckd_command.specs.declared.tables.Aim.TheVariants.{NoArea, Next, Credited}
+use Rattle.ckd_command.specs.declared.tables.Action.{Action}
+use Rattle.ckd_command.specs.declared.tables.Action.TheVariants as action
 use Rattle.ckd_command.specs.declared.begin.Opened.{Opened}
 use Rattle.ckd_command.specs.Answers.{Beginning, Rejected, Immediate, Started, ToCylinderZero}
 use Rattle.ckd_command.specs.Answers.{Sight, Found, IndexPassed, NextHead, Missed}
@@ -125,50 +127,42 @@ updates change t o r (x ∷ b) =
     go (Ok t) None c h = h
     go (Err fault) a c h = h
 
-formats : (g : Geometry) (t : Sighted) (o : Opened) (r : Registers) (x : ℕ) (b : List ℕ) → IsClosing r (x ∷ b) true (format g t o r (x ∷ b))
-formats g t o r x b = either r (x ∷ b) true (new_record_fits g t o (x ∷ b)) (writes (formatted t o.area (x ∷ b)) (format_ends r (length (kept t o.area)))) (fails r cause.RECORD_DOES_NOT_FIT)
-    (writing r x b _ (format_ends r (length (kept t o.area))) (record { channel_end = refl; device_end = refl; written = inl refl; not_told = λ e. e }))
-    (check r r (x ∷ b) true cause.RECORD_DOES_NOT_FIT.0 refl (λ e. e))
+formats : (g : Geometry) (t : Sighted) (o : Opened) (r : Registers) (b : List ℕ) (x : ℕ) (rest : List ℕ) → b ≡ x ∷ rest → IsClosing r b true (format g t o r b)
+formats g t o r [] x rest e = absurd (cc)
+formats g t o r (y ∷ b) x rest e = either r (y ∷ b) true (new_record_fits g t o (y ∷ b)) (writes (formatted t o.area (y ∷ b)) (format_ends r (length (kept t o.area)))) (fails r cause.RECORD_DOES_NOT_FIT)
+    (writing r y b _ (format_ends r (length (kept t o.area))) (record { channel_end = refl; device_end = refl; written = inl refl; not_told = λ e. e }))
+    (check r r (y ∷ b) true cause.RECORD_DOES_NOT_FIT.0 refl (λ e. e))
 
-homes : (o : Opened) (r : Registers) (x : ℕ) (b : List ℕ) → IsClosing r (x ∷ b) true (write_home_address o r (x ∷ b))
-homes o r x b = either r (x ∷ b) true (bytes_eq (x ∷ b) (own_home_address r)) (writes (bare_track (x ∷ b)) (home_address_ends o r)) (fails (at_end o r) cause.WRONG_HOME_ADDRESS)
-    (writing r x b _ (home_address_ends o r) (record { channel_end = refl; device_end = refl; written = inl refl; not_told = λ e. e }))
-    (check r (at_end o r) (x ∷ b) true cause.WRONG_HOME_ADDRESS.0 refl (λ e. e))
+homes : (o : Opened) (r : Registers) (b : List ℕ) (x : ℕ) (rest : List ℕ) → b ≡ x ∷ rest → IsClosing r b true (write_home_address o r b)
+homes o r [] x rest e = absurd (cc)
+homes o r (y ∷ b) x rest e = either r (y ∷ b) true (bytes_eq (y ∷ b) (own_home_address r)) (writes (bare_track (y ∷ b)) (home_address_ends o r)) (fails (at_end o r) cause.WRONG_HOME_ADDRESS)
+    (writing r y b _ (home_address_ends o r) (record { channel_end = refl; device_end = refl; written = inl refl; not_told = λ e. e }))
+    (check r (at_end o r) (y ∷ b) true cause.WRONG_HOME_ADDRESS.0 refl (λ e. e))
 
-closes : (c : Command) (g : Geometry) (t : Sighted) (o : Opened) (r : Registers) (b : List ℕ) → IsClosing r b (is_write c) (close_by (action_of c) g t o r b)
-closes command.Seek g t o r b = whole r b _ 6 _ (λ x rest e. seeks g r b _)
-closes command.SeekCylinder g t o r b = whole r b _ 6 _ (λ x rest e. seeks g r b _)
-closes command.SeekHead g t o r b = whole r b _ 6 _ (λ x rest e. head_seeks g r b _)
-closes command.SetFileMask g t o r b = masks r b _
-closes command.SearchHomeAddressEqual g t o r b = searches t o r b _
-closes command.SearchIdEqual g t o r b = searches t o r b _
-closes command.SearchIdHigh g t o r b = searches t o r b _
-closes command.SearchIdEqualOrHigh g t o r b = searches t o r b _
-closes command.SearchKeyEqual g t o r b = searches t o r b _
-closes command.SearchKeyHigh g t o r b = searches t o r b _
-closes command.SearchKeyEqualOrHigh g t o r b = searches t o r b _
-closes command.WriteHomeAddress g t o r b = whole_from r (at_end o r) b true 5 (write_home_address o r b) (λ e. e) (home_of b)
-  where
-    home_of : (b : List ℕ) (x : ℕ) (rest : List ℕ) → b ≡ x ∷ rest → IsClosing r b true (write_home_address o r b)
-    home_of [] x rest e = absurd (cc)
-    home_of (y ∷ b) x rest e = homes o r y b
-closes command.WriteR0 g t o r b = whole r b true 8 (format g t o r b) (format_of b)
-  where
-    format_of : (b : List ℕ) (x : ℕ) (rest : List ℕ) → b ≡ x ∷ rest → IsClosing r b true (format g t o r b)
-    format_of [] x rest e = absurd (cc)
-    format_of (y ∷ b) x rest e = formats g t o r y b
-closes command.WriteCountKeyAndData g t o r b = whole r b true 8 (format g t o r b) (format_of b)
-  where
-    format_of : (b : List ℕ) (x : ℕ) (rest : List ℕ) → b ≡ x ∷ rest → IsClosing r b true (format g t o r b)
-    format_of [] x rest e = absurd (cc)
-    format_of (y ∷ b) x rest e = formats g t o r y b
-closes command.WriteData g t o r b = updates (replaced (extent_of o.command) b) t o r b
-closes command.WriteKeyAndData g t o r b = updates (replaced (extent_of o.command) b) t o r b
+-- the actions of the writes
+abbrev writes_by : Action → Bool
+writes_by action.WriteHomeAddress = true
+writes_by action.Format = true
+writes_by action.Update = true
+writes_by _ = false
+
+is_write_by : (c : Command) → writes_by (action_of c) ≡ is_write c
+is_write_by command.Sense = refl
+is_write_by _ = refl
+
+closes : (a : Action) (g : Geometry) (t : Sighted) (o : Opened) (r : Registers) (b : List ℕ) → IsClosing r b (writes_by a) (close_by a g t o r b)
+closes action.SeekCylinderAndHead g t o r b = whole r b _ 6 _ (λ x rest e. seeks g r b _)
+closes action.SeekHead g t o r b = whole r b _ 6 _ (λ x rest e. head_seeks g r b _)
+closes action.SetFileMask g t o r b = masks r b _
+closes action.Search g t o r b = searches t o r b _
+closes action.WriteHomeAddress g t o r b = whole_from r (at_end o r) b true 5 (write_home_address o r b) (λ e. e) (homes o r b)
+closes action.Format g t o r b = whole r b true 8 (format g t o r b) (formats g t o r b)
+closes action.Update g t o r b = updates (replaced (extent_of o.command) b) t o r b
 closes _ g t o r b = area_end t o r b _
 
 pub closing_facts : (g : Geometry) (t : Sighted) (o : Opened) (r : Registers) (b : List ℕ) → IsClosing r b (is_write o.command) (closing g t o r b)
 unfolding closing
-closing_facts g t o r b = closes o.command g t o r b
+closing_facts g t o r b = rw (← is_write_by o.command) (closes (action_of o.command) g t o r b)
 
 -- How a command begins: equipment check is not reported.
 
@@ -183,8 +177,6 @@ cleared_silent command.Sense r e = e
 cleared_silent _ r e = refl
 
 starts_silent : (c : Command) (before r : Registers) (o : Opened) → NotTold before r → BeginsSilent before (started c r o)
-starts_silent command.NoOperation before r o h = h
-starts_silent command.Recalibrate before r o h = h
 starts_silent command.ReadIpl before r o h = h
 starts_silent _ before r o h = h
 

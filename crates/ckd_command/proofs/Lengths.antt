@@ -32,14 +32,7 @@ gives_length o b g = go (action_of o.opened.command) refl g
     go : (a : Action) → action_of o.opened.command ≡ a → is_giving a ≡ true → length_of o b ≡ length (given o)
     go action.GiveSense e h = length_in action.GiveSense o b e
     go action.Read e h = length_in action.Read o b e
-    go action.NoTransfer e h = absurd (never h)
-    go action.SeekCylinderAndHead e h = absurd (never h)
-    go action.SeekHead e h = absurd (never h)
-    go action.SetFileMask e h = absurd (never h)
-    go action.Search e h = absurd (never h)
-    go action.WriteHomeAddress e h = absurd (never h)
-    go action.Format e h = absurd (never h)
-    go action.Update e h = absurd (never h)
+    go _ e h = absurd (never h)
 
 eight_least : (c : Bool) (n : ℕ) → 8 ≤ (if c then 8 else 8 + n)
 eight_least true n = omega arith

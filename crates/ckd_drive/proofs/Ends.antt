@@ -51,11 +51,7 @@ field_closes action.SeekHead g t o r b f w = refl
 field_closes action.SetFileMask g t o r b f w = refl
 field_closes action.WriteHomeAddress g t o r b f w = three (length b == 0) (nat_lt (length b) 5) (bytes_eq b (own_home_address r)) _ _ _ _ w (λ e. λ x. is_some_not _ x)
 field_closes action.Format g t o r b f w = three (length b == 0) (nat_lt (length b) 8) (new_record_fits g t o b) _ _ _ _ w (λ e. λ x. is_some_not _ x)
-field_closes action.NoTransfer g t o r b f w = absurd f
-field_closes action.GiveSense g t o r b f w = absurd f
-field_closes action.Search g t o r b f w = absurd f
-field_closes action.Read g t o r b f w = absurd f
-field_closes action.Update g t o r b f w = absurd f
+field_closes _ g t o r b f w = absurd f
 
 search_unwritten : (o : Opened) (r : Registers) (a b : Bool) → (search_ends o r a b).written ≡ None
 search_unwritten o r true b = refl
@@ -70,9 +66,6 @@ whole_same m l n e = grind (arith, nat_tests, e)
 -- how a command closes is known by its place
 pub command_end_is : (job : AtWork) (p : Transfer) (moved : ℕ)
     → number_in job < length job.cache.slots → IsPlaced job p → length job.passed ≡ moved → command_end (closing_in job (seen_track job p)) ≡ command_end_at (geometry_in job) job.registers job.opened moved p
-command_end_is job (Sense b u) moved lt x m = x.2.so
-command_end_is job (Read w u) moved lt x m = x.2.so
-command_end_is job (Fill w u) moved lt x m = x.2.so
 command_end_is job (Filled w u) moved lt x m =
     let k = x.filled.closes [] (omega arith) in
     let same : job.passed ++ [] ≡ job.passed = append-nil job.passed in
@@ -91,16 +84,15 @@ command_end_is job (Search w so_far) moved lt x m =
     let size : length area ≡ length job.passed + w.len = omega (arith, x.0.lies.size, length-drop (length job.passed) area, x.0.room) in
     let whole : (length job.passed == length area) ≡ (w.len == 0) = whole_same (length job.passed) w.len (length area) size in
     ap command_end is ∙ rw (whole, x.0.compared, m) refl
+command_end_is job _ moved lt x m = x.2.so
 
 pub unwritten_is : (job : AtWork) (p : Transfer)
     → IsPlaced job p → is_filled_by p ≡ false → (closing_in job (seen_track job p)).written ≡ None
-unwritten_is job (Sense b u) x f = x.2.unwritten
-unwritten_is job (Read w u) x f = x.2.unwritten
-unwritten_is job (Fill w u) x f = x.2.unwritten
 unwritten_is job (Filled w u) x f = absurd cc
 unwritten_is job (Field y) x f = x.2
 unwritten_is job (Search w so_far) x f =
     ap (λ (k : Closing). k.written) (closing_by action.Search (geometry_in job) (track_of (slot_in job)) job.opened job.registers job.passed x.0.is_search) ∙ search_unwritten job.opened job.registers _ _
+unwritten_is job _ x f = x.2.unwritten
 
 -- The state that is left.
 
@@ -203,11 +195,7 @@ lands_field c g n r o action.WriteHomeAddress b none at f =
     of_field (λ k. Lands c g n r (command_end k)) (length b == 0) (nat_lt (length b) 5) _ _ _ (lands_plain c g n r _ refl refl refl refl none) (lands_plain c g n r _ refl refl refl refl none) (lands_plain c g n r _ refl refl refl refl none)
 lands_field c g n r o action.Format b none at f =
     of_field (λ k. Lands c g n r (command_end k)) (length b == 0) (nat_lt (length b) 8) _ _ _ (lands_plain c g n r _ refl refl refl refl none) (lands_plain c g n r _ refl refl refl refl none) (lands_plain c g n r _ refl refl refl refl none)
-lands_field c g n r o action.NoTransfer b none at f = absurd f
-lands_field c g n r o action.GiveSense b none at f = absurd f
-lands_field c g n r o action.Search b none at f = absurd f
-lands_field c g n r o action.Read b none at f = absurd f
-lands_field c g n r o action.Update b none at f = absurd f
+lands_field c g n r o _ b none at f = absurd f
 
 lands_area : (c : CacheState) (g : Geometry) (n : ℕ) (r : Registers) (o : Opened) (b : Bool) (u : CommandEnd) → command_end (area_ends o r b) ≡ u → r.credit ≡ None → Lands c g n r u
 lands_area c g n r o b u e none = (let P : CommandEnd → Type 0 = λ x. Lands c g n r x in subst P e (lands_plain c g n r _ refl refl refl refl none))
@@ -226,11 +214,7 @@ lands job (Field f) moved x none at = lands_field job.cache (geometry_in job) (n
 -- a command that moves the arm has written nothing
 pub moving_unfilled : (job : AtWork) (p : Transfer) (moved : ℕ) → IsPlaced job p → (command_end_at (geometry_in job) job.registers job.opened moved p).moves_off ≡ true → is_filled_by p ≡ false
 moving_unfilled job (Filled w u) moved x e = absurd (let s = x.stays in cc)
-moving_unfilled job (Sense b u) moved x e = refl
-moving_unfilled job (Read w u) moved x e = refl
-moving_unfilled job (Fill w u) moved x e = refl
-moving_unfilled job (Search w u) moved x e = refl
-moving_unfilled job (Field f) moved x e = refl
+moving_unfilled job _ moved x e = refl
 
 -- what is known of a command that closes with the arm in motion
 pub record MovesOff (parts : Parts) (p : Progress) (u : CommandEnd) : Type 0 where

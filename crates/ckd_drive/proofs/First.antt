@@ -63,35 +63,23 @@ field_at_hand action.SeekHead c n o is f h = tt
 field_at_hand action.SetFileMask c n o is f h = tt
 field_at_hand action.WriteHomeAddress c n o is f h = (hand_for c n o action.WriteHomeAddress is tt h).held
 field_at_hand action.Format c n o is f h = whole_at c n o action.Format is (λ x. x) (hand_for c n o action.Format is tt h)
-field_at_hand action.NoTransfer c n o is f h = absurd f
-field_at_hand action.GiveSense c n o is f h = absurd f
-field_at_hand action.Search c n o is f h = absurd f
-field_at_hand action.Read c n o is f h = absurd f
-field_at_hand action.Update c n o is f h = absurd f
+field_at_hand _ c n o is f h = absurd f
 
 field_length : (a : Action) (g : Geometry) (t : Sighted) (o : Opened) (r : Registers) → IsField a → length_for a g t o r [] ≡ field_size a
-field_length action.SeekCylinderAndHead g t o r f = refl
-field_length action.SeekHead g t o r f = refl
-field_length action.SetFileMask g t o r f = refl
-field_length action.WriteHomeAddress g t o r f = refl
-field_length action.Format g t o r f = refl
 field_length action.NoTransfer g t o r f = absurd f
 field_length action.GiveSense g t o r f = absurd f
 field_length action.Search g t o r f = absurd f
 field_length action.Read g t o r f = absurd f
 field_length action.Update g t o r f = absurd f
+field_length _ g t o r f = refl
 
 field_unwritten : (a : Action) (g : Geometry) (t : Sighted) (o : Opened) (r : Registers) → IsField a → (close_by a g t o r []).written ≡ None
-field_unwritten action.SeekCylinderAndHead g t o r f = refl
-field_unwritten action.SeekHead g t o r f = refl
-field_unwritten action.SetFileMask g t o r f = refl
-field_unwritten action.WriteHomeAddress g t o r f = refl
-field_unwritten action.Format g t o r f = refl
 field_unwritten action.NoTransfer g t o r f = absurd f
 field_unwritten action.GiveSense g t o r f = absurd f
 field_unwritten action.Search g t o r f = absurd f
 field_unwritten action.Read g t o r f = absurd f
 field_unwritten action.Update g t o r f = absurd f
+field_unwritten _ g t o r f = refl
 
 -- The definitions, by the action.
 

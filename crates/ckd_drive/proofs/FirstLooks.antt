@@ -164,8 +164,7 @@ unloaded_looks was c' r' o k x aimed not e f =
 -- Its track was loaded first.
 sighted_with : (l : AfterLook) (d : DriveState) (i j : ImageState) → with_image (after_sight l (with_image d j)) i ≡ with_image (after_sight l d) i
 sighted_with (Ready o) d i j = refl
-sighted_with (Passed o) d i j = refl
-sighted_with (Failed s) d i j = refl
+sighted_with _ d i j = refl
 
 abbrev with_loaded : Kept → (held : Option ℕ) → Bool → Kept
 with_loaded was held b = record was { cache = record was.cache { image = loaded was.cache.image b; held = held } }
@@ -196,9 +195,7 @@ held_looks was came d o k s x aimed held loads l =
 -- the answer goes by the stage
 looked_work : (s : Stage) (passed : List ℕ) → looked_at s ≡ answer_of_look (work_of s passed)
 looked_work Idle passed = refl
-looked_work (Over k) passed = refl
-looked_work (Looking o) passed = refl
-looked_work (Passing p) passed = refl
+looked_work _ passed = refl
 
 -- what one call makes of the drive that looks
 pub record HasLooked (parts : Parts) (now : DriveState) : Type 0 where

@@ -24,29 +24,17 @@ use Rattle.ckd_drive.specs.Calls.{looking_drive}
 
 first_not_filled : (slot : List ℕ) (o : Opened) (r : Registers) (p : Transfer) → IsFirstPlace slot o r p → is_filled_by p ≡ false
 first_not_filled slot o r (Filled w u) f = absurd f
-first_not_filled slot o r (Sense b u) f = refl
-first_not_filled slot o r (Field x) f = refl
-first_not_filled slot o r (Read w u) f = refl
-first_not_filled slot o r (Search w u) f = refl
-first_not_filled slot o r (Fill w u) f = refl
+first_not_filled slot o r _ f = refl
 
 pub no_filled_seen : (slots : List (List ℕ)) (n : ℕ) (before : List ℕ) (p : Transfer) → is_filled_by p ≡ false → seen_by slots n before p ≡ slots
 no_filled_seen slots n before (Filled w u) f = absurd cc
-no_filled_seen slots n before (Sense b u) f = refl
-no_filled_seen slots n before (Field x) f = refl
-no_filled_seen slots n before (Read w u) f = refl
-no_filled_seen slots n before (Search w u) f = refl
-no_filled_seen slots n before (Fill w u) f = refl
+no_filled_seen slots n before _ f = refl
 
 -- how many bytes it wants, by its place
 pub first_len : (job : AtWork) (p : Transfer) → IsFirstPlace (slot_in job) job.opened job.registers p → IsPlaced (record job { passed = [] }) p
     → length_after (geometry_in job) (track_of (slot_in job)) job.opened job.registers [] ≡ 0 + remaining (action_of job.opened.command) p 0
 first_len job (Filled w u) f x = absurd f
-first_len job (Sense b u) f x = x.1.len
-first_len job (Field y) f x = x.1.len
-first_len job (Read w u) f x = x.1.len
-first_len job (Search w u) f x = x.1.len
-first_len job (Fill w u) f x = x.1.len
+first_len job _ f x = x.1.len
 
 -- A look that finds the area.
 
@@ -102,14 +90,10 @@ seen_track job p = track_of (slot_at (seen_by job.cache.slots (number_in job) jo
 
 pub is_found : (job : AtWork) (p : Transfer) → number_in job < length job.cache.slots → IsPlaced job p
     → IsFound job (seen_track job p) p
-is_found job (Sense b u) lt x = x.1
-is_found job (Field f) lt x = x.1
-is_found job (Read w u) lt x = x.1
-is_found job (Search w u) lt x = x.1
-is_found job (Fill w u) lt x = x.1
 is_found job (Filled w u) lt x =
     let same : get_or (set job.cache.slots (number_in job) job.before) (number_in job) [] ≡ job.before = get_or-set_same job.cache.slots (number_in job) job.before [] lt in
     rw same x.found
+is_found job _ lt x = x.1
 
 pub goes_of : (parts : Parts) (p : Progress) → Stands parts → parts.stage ≡ Passing p → Goes parts.cache parts.registers parts.before parts.passed p
 goes_of parts p x is = (let P : Stage → Type 0 = λ t. StageIs parts.cache parts.registers parts.before parts.passed t in subst P is x.work)
@@ -153,15 +137,7 @@ slot_is c n slot held e = rw held at e
 
 pub reads_whole : (a : Action) (t : Sighted) → is_readable t ≡ true → ReadsWhole a t
 reads_whole action.WriteHomeAddress t e = tt
-reads_whole action.NoTransfer t e = e
-reads_whole action.SeekCylinderAndHead t e = e
-reads_whole action.SeekHead t e = e
-reads_whole action.SetFileMask t e = e
-reads_whole action.GiveSense t e = e
-reads_whole action.Search t e = e
-reads_whole action.Read t e = e
-reads_whole action.Format t e = e
-reads_whole action.Update t e = e
+reads_whole _ t e = e
 
 pub credit_hand : (c : CacheState) (n : ℕ) (o : Opened) → aim o.command ≡ Credited → CreditAtHand (aim o.command) c n → HandIfAimed c n o
 credit_hand c n o is h = λ _. (let at : AtHand c n = rw is at h in record { held = at.held; whole = reads_whole (action_of o.command) _ at.readable })

@@ -153,28 +153,17 @@ sense_stands parts p more b u k x is at may n =
 -- Only those and the bytes of an area are given.
 
 field_takes : (a : Action) → IsField a → is_giving a ≡ true → ⊥
-field_takes action.SeekCylinderAndHead f e = cc
-field_takes action.SeekHead f e = cc
-field_takes action.SetFileMask f e = cc
-field_takes action.WriteHomeAddress f e = cc
-field_takes action.Format f e = cc
 field_takes action.NoTransfer f e = f
 field_takes action.GiveSense f e = f
 field_takes action.Search f e = f
 field_takes action.Read f e = f
 field_takes action.Update f e = f
+field_takes _ f e = cc
 
 giving_two : (a : Action) → is_giving a ≡ true → (a ≡ action.GiveSense → ⊥) × (a ≡ action.Read → ⊥) → ⊥
 giving_two action.GiveSense e n = n.0 refl
 giving_two action.Read e n = n.1 refl
-giving_two action.NoTransfer e n = cc
-giving_two action.SeekCylinderAndHead e n = cc
-giving_two action.SeekHead e n = cc
-giving_two action.SetFileMask e n = cc
-giving_two action.Search e n = cc
-giving_two action.WriteHomeAddress e n = cc
-giving_two action.Format e n = cc
-giving_two action.Update e n = cc
+giving_two _ e n = cc
 
 pub gives_not_field : (job : AtWork) (f : List ℕ) → IsPlaced job (Field f) → is_giving (action_of job.opened.command) ≡ true → ⊥
 gives_not_field job f x e = field_takes (action_of job.opened.command) x.0.is_field e
@@ -275,12 +264,8 @@ pub moved_work : (parts : Parts) (p : Progress) (more : List ℕ) (now : DriveSt
 moved_work parts p more now k place is now_is n seen = rw (← now_is, is, n, seen) refl
 
 pub given_seen : (slots : List (List ℕ)) (n : ℕ) (before : List ℕ) (p : Transfer) (k : ℕ) → seen_by slots n before (given_on p k) ≡ seen_by slots n before p
-given_seen slots n before (Sense b u) k = refl
 given_seen slots n before (Read w u) k = refl
-given_seen slots n before (Field f) k = refl
-given_seen slots n before (Search w u) k = refl
-given_seen slots n before (Fill w u) k = refl
-given_seen slots n before (Filled w u) k = refl
+given_seen slots n before _ k = refl
 
 -- what passing so many bytes makes of the drive
 pub record HasPassed (parts : Parts) (p : Progress) (more : List ℕ) (now : DriveState) (k : ℕ) : Type 0 where

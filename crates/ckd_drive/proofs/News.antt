@@ -27,12 +27,8 @@ use Rattle.ckd_drive.proofs.First.{length_by, closing_by}
 use Rattle.ckd_drive.proofs.Takes.{ChangesNothing, field_goes, field_absorbs}
 
 unfilled_sees : (slots : List (List ℕ)) (n : ℕ) (before : List ℕ) (p : Transfer) → is_filled_by p ≡ false → seen_by slots n before p ≡ slots
-unfilled_sees slots n before (Sense b u) e = refl
-unfilled_sees slots n before (Field f) e = refl
-unfilled_sees slots n before (Read w u) e = refl
-unfilled_sees slots n before (Search w u) e = refl
-unfilled_sees slots n before (Fill w u) e = refl
 unfilled_sees slots n before (Filled w u) e = absurd cc
+unfilled_sees slots n before _ e = refl
 
 -- the arm stays at its track
 pub record StaysOn (r : Registers) (u : CommandEnd) : Type 0 where
@@ -116,14 +112,7 @@ not_home moved f h false e = cc
 pub is_home : (a : Action) (own : List ℕ) (moved : ℕ) (f h : List ℕ) → whole_of a own moved f ≡ whole.HomeAddress h → IsHome a own moved f h
 is_home action.WriteHomeAddress own moved f h e = home_by own moved f h (moved == 5) (bytes_eq (take 5 f) own) refl refl e
 is_home action.Format own moved f h e = absurd (not_home moved f h (moved == 8) e)
-is_home action.NoTransfer own moved f h e = absurd cc
-is_home action.SeekCylinderAndHead own moved f h e = absurd cc
-is_home action.SeekHead own moved f h e = absurd cc
-is_home action.SetFileMask own moved f h e = absurd cc
-is_home action.GiveSense own moved f h e = absurd cc
-is_home action.Search own moved f h e = absurd cc
-is_home action.Read own moved f h e = absurd cc
-is_home action.Update own moved f h e = absurd cc
+is_home _ own moved f h e = absurd cc
 
 pub record IsCount (a : Action) (moved : ℕ) (f b : List ℕ) : Type 0 where
   pub is : a ≡ action.Format
@@ -141,14 +130,7 @@ not_count f b false e = cc
 pub is_count : (a : Action) (own : List ℕ) (moved : ℕ) (f b : List ℕ) → whole_of a own moved f ≡ whole.Count b → IsCount a moved f b
 is_count action.Format own moved f b e = count_by moved f b (moved == 8) refl e
 is_count action.WriteHomeAddress own moved f b e = absurd (not_count f b (moved == 5 && bytes_eq (take 5 f) own) e)
-is_count action.NoTransfer own moved f b e = absurd cc
-is_count action.SeekCylinderAndHead own moved f b e = absurd cc
-is_count action.SeekHead own moved f b e = absurd cc
-is_count action.SetFileMask own moved f b e = absurd cc
-is_count action.GiveSense own moved f b e = absurd cc
-is_count action.Search own moved f b e = absurd cc
-is_count action.Read own moved f b e = absurd cc
-is_count action.Update own moved f b e = absurd cc
+is_count _ own moved f b e = absurd cc
 
 no_home : (own f : List ℕ) (same : Bool) → bytes_eq (take 5 f) own ≡ same → (if true && same then whole.HomeAddress (take 5 f) else whole.No) ≡ whole.No → bytes_eq (take 5 f) own ≡ false
 no_home own f true b e = absurd cc
@@ -162,14 +144,7 @@ no_change action.WriteHomeAddress g t o r moved f b e long is = λ five.
     let b_is : take 5 f ≡ b = rw m at is in
     rw b_is at (no_home (own_home_address r) f (bytes_eq (take 5 f) (own_home_address r)) refl e'))
 no_change action.Format g t o r moved f b e long is = λ eight. absurd (let m : moved ≡ 8 = sym long ∙ eight in let e' = rw m at e in cc)
-no_change action.NoTransfer g t o r moved f b e long is = tt
-no_change action.SeekCylinderAndHead g t o r moved f b e long is = tt
-no_change action.SeekHead g t o r moved f b e long is = tt
-no_change action.SetFileMask g t o r moved f b e long is = tt
-no_change action.GiveSense g t o r moved f b e long is = tt
-no_change action.Search g t o r moved f b e long is = tt
-no_change action.Read g t o r moved f b e long is = tt
-no_change action.Update g t o r moved f b e long is = tt
+no_change _ g t o r moved f b e long is = tt
 
 pub field_stays : (half : HalfDone) (more f field : List ℕ) → MayTake half more → half.progress.place ≡ Field f → field ≡ overwritten f half.progress.moved more
     → whole_of (action_now half) (own_home_address half.registers) (half.progress.moved + length more) field ≡ whole.No → Absorbs half more half.cache half.before (Field field)

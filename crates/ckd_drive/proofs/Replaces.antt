@@ -63,24 +63,12 @@ record_there e t i u some = by_place (cases_lt i (length t.records))
 no_home_bytes : (e : Extent) (t : Sighted) → IsUpdate e → bytes_of e t HomeAddress ≡ []
 no_home_bytes extent.Data t u = refl
 no_home_bytes extent.KeyAndData t u = refl
-no_home_bytes extent.Nothing t u = absurd u
-no_home_bytes extent.CylinderAndHead t u = absurd u
-no_home_bytes extent.HomeAddress t u = absurd u
-no_home_bytes extent.Identifier t u = absurd u
-no_home_bytes extent.Count t u = absurd u
-no_home_bytes extent.Key t u = absurd u
-no_home_bytes extent.CountKeyAndData t u = absurd u
+no_home_bytes _ t u = absurd u
 
 length-bytes : (e : Extent) (t : Track) (part : Part) (i : ℕ) → IsUpdate e → length (bytes_of e (Ok t) (Of part i)) ≡ update_length e (record_in t i)
 length-bytes extent.Data t part i u = refl
 length-bytes extent.KeyAndData t part i u = length-append (record_in t i).key_area (record_in t i).data_area
-length-bytes extent.Nothing t part i u = absurd u
-length-bytes extent.CylinderAndHead t part i u = absurd u
-length-bytes extent.HomeAddress t part i u = absurd u
-length-bytes extent.Identifier t part i u = absurd u
-length-bytes extent.Count t part i u = absurd u
-length-bytes extent.Key t part i u = absurd u
-length-bytes extent.CountKeyAndData t part i u = absurd u
+length-bytes _ t part i u = absurd u
 
 bytes_there : (e : Extent) (t : Track) (a : Area) → IsUpdate e → 0 < length (bytes_of e (Ok t) a) → IsRecordOf t a
 bytes_there e t HomeAddress u some = (let z = ap length (no_home_bytes e (Ok t) u) in absurd (omega (arith, z, some)))
@@ -94,13 +82,7 @@ replaced_size extent.KeyAndData r b u le =
     let n = length r.key_area + length r.data_area in
     let long = length-padded b n le in
     omega (arith, long, length-take (length r.key_area) (padded b n), length-drop (length r.key_area) (padded b n))
-replaced_size extent.Nothing r b u le = absurd u
-replaced_size extent.CylinderAndHead r b u le = absurd u
-replaced_size extent.HomeAddress r b u le = absurd u
-replaced_size extent.Identifier r b u le = absurd u
-replaced_size extent.Count r b u le = absurd u
-replaced_size extent.Key r b u le = absurd u
-replaced_size extent.CountKeyAndData r b u le = absurd u
+replaced_size _ r b u le = absurd u
 
 abbrev with_both : Record → (key : ℕ) → List ℕ → Record
 with_both r key b = record r { key_area = take key b; data_area = drop key b }
@@ -121,13 +103,7 @@ cleared_first extent.KeyAndData r b u le =
     let whole : padded (padded b n) n ≡ padded b n = (let z : n - length (padded b n) ≡ 0 = omega (arith, length-padded b n le) in rw z (append-nil (padded b n))) in
     let s = length (take k (padded [] n)) + length (drop k (padded [] n)) in
     ap (λ (x : ℕ). with_both r x (padded (padded b s) s)) key ∙ ap (λ (x : ℕ). with_both r k (padded (padded b x) x)) sum ∙ ap (with_both r k) whole
-cleared_first extent.Nothing r b u le = absurd u
-cleared_first extent.CylinderAndHead r b u le = absurd u
-cleared_first extent.HomeAddress r b u le = absurd u
-cleared_first extent.Identifier r b u le = absurd u
-cleared_first extent.Count r b u le = absurd u
-cleared_first extent.Key r b u le = absurd u
-cleared_first extent.CountKeyAndData r b u le = absurd u
+cleared_first _ r b u le = absurd u
 
 cleared_length : (e : Extent) (r : Record) → IsUpdate e → update_length e (replaced e [] r) ≡ update_length e r
 cleared_length extent.Data r u = length-padded [] (length r.data_area) (omega arith)
@@ -135,13 +111,7 @@ cleared_length extent.KeyAndData r u =
     let k = length r.key_area in
     let n = k + length r.data_area in
     omega (arith, length-padded [] n (omega arith), length-take k (padded [] n), length-drop k (padded [] n))
-cleared_length extent.Nothing r u = absurd u
-cleared_length extent.CylinderAndHead r u = absurd u
-cleared_length extent.HomeAddress r u = absurd u
-cleared_length extent.Identifier r u = absurd u
-cleared_length extent.Count r u = absurd u
-cleared_length extent.Key r u = absurd u
-cleared_length extent.CountKeyAndData r u = absurd u
+cleared_length _ r u = absurd u
 
 abbrev cleared : Extent → Part → ℕ → Track → Track
 cleared e part i t = with_record_changed (replaced e []) (Of part i) t
@@ -159,13 +129,7 @@ cleared_offset extent.Data t part i u lt =
     let key = ap (λ (r : Record). length r.key_area) (cleared_record extent.Data t part i lt) in
     omega (arith, offs, key)
 cleared_offset extent.KeyAndData t part i u lt = ap (λ (os : List ℕ). slice_index os i + 8) (cleared_offsets extent.KeyAndData t part i tt)
-cleared_offset extent.Nothing t part i u lt = absurd u
-cleared_offset extent.CylinderAndHead t part i u lt = absurd u
-cleared_offset extent.HomeAddress t part i u lt = absurd u
-cleared_offset extent.Identifier t part i u lt = absurd u
-cleared_offset extent.Count t part i u lt = absurd u
-cleared_offset extent.Key t part i u lt = absurd u
-cleared_offset extent.CountKeyAndData t part i u lt = absurd u
+cleared_offset _ t part i u lt = absurd u
 
 -- a track whose record was cleared, and then gets bytes
 cleared_changed : (e : Extent) (t : Track) (part : Part) (i : ℕ) (b : List ℕ) → IsUpdate e → i < length t.records → length b ≤ update_length e (record_in t i)

@@ -79,11 +79,8 @@ lost_tells s left = record { told = store_fault_is_told (record s.registers { cr
 -- Begin.
 
 begun_quiet : (d : DriveState) (b : Beginning) → BeginsSilent d.state.registers b → NotTold d.state.registers (after_begun (begun None d.state b) d).state.registers
-begun_quiet d (command_answer.Rejected r) k = k
-begun_quiet d (command_answer.Immediate r) k = k
-begun_quiet d (command_answer.Started r o) k = k
 begun_quiet d (command_answer.ToCylinderZero r None) k = k
-begun_quiet d (command_answer.ToCylinderZero r (Some o)) k = k
+begun_quiet d _ k = k
 
 pub record LosesAtBegin (f : Option Fault) (s : State) (b : Beginning) : Type 0 where
   pub state : State
@@ -94,9 +91,7 @@ loses_at_begin : (s : State) (b : Beginning) (left : List ℕ) → is_written s 
 loses_at_begin s (command_answer.ToCylinderZero r o) left w e =
     let written : s.mark ≡ Written = written_mark s.mark w in
     record { state = lost (with_registers s r) left; rejected = rw written refl; tells = lost_tells (with_registers s r) left }
-loses_at_begin s (command_answer.Rejected r) left w e = absurd cc
-loses_at_begin s (command_answer.Immediate r) left w e = absurd cc
-loses_at_begin s (command_answer.Started r o) left w e = absurd cc
+loses_at_begin s _ left w e = absurd cc
 
 pub begin_reports : (old new : DriveState) (code : ℕ) (a : Begun)
     → new ≡ with_image (after_begin (fault_met old new) code old) new.image → a ≡ answer_of_begin (begin (fault_met old new) code old.state) → CallsStore false (begin_saves code old) old new
@@ -122,9 +117,6 @@ begin_reports old new code a state says k = record { failed = go (failure_of fal
 -- Look.
 
 look_quiet : (d : DriveState) (w : Work) → NotTold d.state.registers (after_look_of None d w).state.registers
-look_quiet d Idle = λ e. e
-look_quiet d (Over k) = λ e. e
-look_quiet d (Passing o b left) = λ e. e
 look_quiet d (Looking o) = go (aim o.command) _ (sight_silent d.state.volume.geometry (track_under d.state) o d.state.registers)
   where
     at : (s : Sight) → SightSilent d.state.registers s → NotTold d.state.registers (after_sight (looked None (open_at d o) s) d).state.registers
@@ -132,47 +124,40 @@ look_quiet d (Looking o) = go (aim o.command) _ (sight_silent d.state.volume.geo
     at (command_answer.IndexPassed r) k = k
     at (command_answer.NextHead r) k = k
     at (command_answer.Missed r) k = k
+look_quiet d _ = λ e. e
 
     go : (a : Aim) (s : Sight) → SightSilent d.state.registers s → NotTold d.state.registers (after_sight (look_for None (open_at d o) a s) d).state.registers
     go (Next kind) s k = at s k
-    go NoArea s k = at s k
-    go Credited s k = at s k
+    go _ s k = at s k
 
 pub record FailsAtLook (f : Option Fault) (d : DriveState) (w : Work) : Type 0 where
   pub work : (after_look_of f d w).work ≡ Over failed_ending
   pub tells : TellsFault (after_look_of f d w).state
 
 loses_at_look : (d : DriveState) (w : Work) (left : List ℕ) → look_saves_of d w ≡ true → FailsAtLook (Some (SaveFails left)) d w
-loses_at_look d Idle left e = absurd cc
-loses_at_look d (Over k) left e = absurd cc
-loses_at_look d (Passing o b l) left e = absurd cc
 loses_at_look d (Looking o) left e = (let x = go (aim o.command) _ both.1 in record { work = x.0; tells = x.1 })
   where
     both : (is_written d.state ≡ true) × (goes_to_next_head (sight d.state.volume.geometry (track_under d.state) o d.state.registers) ≡ true)
     both = both_hold (is_written d.state) _ e
+loses_at_look d _ left e = absurd cc
 
     at : (s : Sight) → goes_to_next_head s ≡ true → ((after_sight (looked (Some (SaveFails left)) (open_at d o) s) d).work ≡ Over failed_ending) × TellsFault (after_sight (looked (Some (SaveFails left)) (open_at d o) s) d).state
     at (command_answer.NextHead r) h = (let written : d.state.mark ≡ Written = written_mark d.state.mark both.0 in rw written (refl, lost_tells d.state left))
-    at (command_answer.Found opened) h = absurd cc
-    at (command_answer.IndexPassed r) h = absurd cc
-    at (command_answer.Missed r) h = absurd cc
+    at _ h = absurd cc
 
     go : (a : Aim) (s : Sight) → goes_to_next_head s ≡ true
         → ((after_sight (look_for (Some (SaveFails left)) (open_at d o) a s) d).work ≡ Over failed_ending) × TellsFault (after_sight (look_for (Some (SaveFails left)) (open_at d o) a s) d).state
     go (Next kind) s h = at s h
-    go NoArea s h = at s h
-    go Credited s h = at s h
+    go _ s h = at s h
 
 loads_at_look : (d : DriveState) (w : Work) → look_loads_of w ≡ true → is_written d.state ≡ false → FailsAtLook (Some LoadFails) d w
-loads_at_look d Idle e unwritten = absurd cc
-loads_at_look d (Over k) e unwritten = absurd cc
-loads_at_look d (Passing o b l) e unwritten = absurd cc
 loads_at_look d (Looking o) e unwritten = (let x = go (aim o.command) _ e in record { work = x.0; tells = x.1 })
   where
     go : (a : Aim) (s : Sight) → is_next a ≡ true → ((after_sight (look_for (Some LoadFails) (open_at d o) a s) d).work ≡ Over failed_ending) × TellsFault (after_sight (look_for (Some LoadFails) (open_at d o) a s) d).state
     go (Next kind) s h = (refl, record { told = store_fault_is_told d.state.registers; unwritten = unwritten })
     go NoArea s h = absurd cc
     go Credited s h = absurd cc
+loads_at_look d _ e unwritten = absurd cc
 
 pub look_reports : (old new : DriveState)
     → new ≡ with_image (after_look (fault_met old new) old) new.image → CallsStore (look_loads old) (look_saves old) old new → (new.image.loads ≡ old.image.loads + 1 → is_written old.state ≡ false)
@@ -200,19 +185,14 @@ look_reports old new state k at_hand = record { failed = go (failure_of (look_lo
 -- End.
 
 end_quiet : (d : DriveState) (w : Work) → NotTold d.state.registers (closed_of None d w).state.registers
-end_quiet d Idle = λ e. e
-end_quiet d (Over k) = λ e. e
-end_quiet d (Looking o) = λ e. e
 end_quiet d (Passing o b left) = go (closing d.state.volume.geometry (track_under d.state) o d.state.registers b) _ (closing_facts _ _ _ _ b).not_told
   where
     go : (c : Closing) (moves_off : Bool) → NotTold d.state.registers c.registers → NotTold d.state.registers (closed None d.state c moves_off).state.registers
     go c true k = k
     go c false k = k
+end_quiet d _ = λ e. e
 
 loses_at_end : (d : DriveState) (w : Work) (left : List ℕ) → end_saves_of d w ≡ true → closed_of (Some (SaveFails left)) d w ≡ failed (lost d.state left)
-loses_at_end d Idle left e = absurd cc
-loses_at_end d (Over k) left e = absurd cc
-loses_at_end d (Looking o) left e = absurd cc
 loses_at_end d (Passing o b l) left e = go (closing d.state.volume.geometry (track_under d.state) o d.state.registers b) e
   where
     go : (c : Closing) → (is_written d.state && c.moves_off) ≡ true → closed_by (Some (SaveFails left)) d.state c ≡ failed (lost d.state left)
@@ -220,6 +200,7 @@ loses_at_end d (Passing o b l) left e = go (closing d.state.volume.geometry (tra
         let both = both_hold (is_written d.state) c.moves_off h in
         let written : d.state.mark ≡ Written = written_mark d.state.mark both.0 in
         rw (both.1, written) refl
+loses_at_end d _ left e = absurd cc
 
 pub end_reports : (old new : DriveState) (e : DriveEnding)
     → new ≡ with_image (after_end (fault_met old new) old) new.image → e ≡ ending_of (closed_of (fault_met old new) old old.work) → CallsStore false (end_saves old) old new

@@ -17,27 +17,19 @@ use Rattle.ckd_drive.proofs.Looks.{no_filled_seen}
 
 unfilled_place : (job : AtWork) (p : Transfer) → IsPlaced job p → job.passed ≡ [] → is_filled_by p ≡ false
 unfilled_place job (Filled w u) x e = absurd (let some : 0 < length job.passed = x.some in let none : length job.passed ≡ 0 = ap length e in omega (arith, some, none))
-unfilled_place job (Sense b u) x e = refl
-unfilled_place job (Field f) x e = refl
-unfilled_place job (Read w u) x e = refl
-unfilled_place job (Search w u) x e = refl
-unfilled_place job (Fill w u) x e = refl
+unfilled_place job _ x e = refl
 
 unfilled_by : (c : CacheState) (r : Registers) (s : Stage) (before passed : List ℕ) → StageIs c r before passed s → passed_of (work_of s passed) ≡ [] → is_filled s ≡ false
-unfilled_by c r Idle before passed x e = refl
-unfilled_by c r (Over k) before passed x e = refl
-unfilled_by c r (Looking o) before passed x e = refl
 unfilled_by c r (Passing p) before passed x e = unfilled_place (record { cache = c; registers = r; opened = p.opened; before = before; passed = passed }) p.place x.placed e
+unfilled_by c r _ before passed x e = refl
 
 pub unfilled : (parts : Parts) (now : DriveState)
     → Stands parts → state_of parts ≡ now → passed_of now.work ≡ [] → is_filled parts.stage ≡ false
 unfilled parts now x is e = unfilled_by parts.cache parts.registers parts.stage parts.before parts.passed x.work (ap (λ (d : DriveState). passed_of d.work) is ∙ e)
 
 seen_plain : (slots : List (List ℕ)) (n : ℕ) (before : List ℕ) (s : Stage) → is_filled s ≡ false → seen slots n before s ≡ slots
-seen_plain slots n before Idle f = refl
-seen_plain slots n before (Over k) f = refl
-seen_plain slots n before (Looking o) f = refl
 seen_plain slots n before (Passing p) f = no_filled_seen slots n before p.place f
+seen_plain slots n before _ f = refl
 
 pub settled_state : (parts : Parts) (c' : CacheState) (now : DriveState)
     → Stands parts → state_of parts ≡ now → passed_of now.work ≡ [] → c' ≡ after_save parts.cache

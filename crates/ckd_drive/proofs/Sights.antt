@@ -127,15 +127,7 @@ whole_when false b g o o' r x e is = absurd cc
 
 whole_by : (act : Action) (t : Sighted) → (needs_readable act ≡ true → is_readable t ≡ true) → ReadsWhole act t
 whole_by action.WriteHomeAddress t h = tt
-whole_by action.NoTransfer t h = h refl
-whole_by action.SeekCylinderAndHead t h = h refl
-whole_by action.SeekHead t h = h refl
-whole_by action.SetFileMask t h = h refl
-whole_by action.GiveSense t h = h refl
-whole_by action.Search t h = h refl
-whole_by action.Read t h = h refl
-whole_by action.Format t h = h refl
-whole_by action.Update t h = h refl
+whole_by _ t h = h refl
 
 pub found_whole : (g : Geometry) (t : Sighted) (o o' : Opened) (r : Registers) (k : Kind) → aim o.command ≡ Next k → Found o' ≡ sight g t o r → ReadsWhole (action_of o.command) t
 unfolding sight

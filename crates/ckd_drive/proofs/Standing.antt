@@ -32,9 +32,7 @@ on_err (Err f) P e p = p
 
 pub idle_stage : (s : Stage) (passed : List ℕ) → is_idle (work_of s passed) ≡ true → s ≡ Idle
 idle_stage Idle passed e = refl
-idle_stage (Over x) passed e = absurd cc
-idle_stage (Looking o) passed e = absurd cc
-idle_stage (Passing p) passed e = absurd cc
+idle_stage _ passed e = absurd cc
 
 pub no_credit : (c : CacheState) (r : Registers) (n : ℕ) → r.credit ≡ None → CreditIs r.credit c n
 no_credit c r n e = rw e tt
@@ -126,12 +124,8 @@ not_false false e = absurd cc
 -- the stage of a command whose bytes pass
 passing_stage : (r : Registers) (o : Opened) (p : ProgressHeld) (s : StageHeld) (passed : List ℕ) → passes_now (work_of (stage_seen r o p s) passed) ≡ true
     → stage_seen r o p s ≡ Passing (progress_seen r o p)
-passing_stage r o p held.Idle passed e = absurd cc
-passing_stage r o p held.Ended passed e = absurd cc
-passing_stage r o p held.InMotion passed e = absurd cc
-passing_stage r o p held.Failed passed e = absurd cc
-passing_stage r o p held.Looking passed e = absurd cc
 passing_stage r o p held.Passing passed e = refl
+passing_stage r o p _ passed e = absurd cc
 
 pub at_passing : (k : Kept) (o : Opened) (p : ProgressHeld) (s : StageHeld) (before passed : List ℕ) (now : DriveState)
     → state_of (parts_of k (stage_seen k.registers o p s) before passed) ≡ now → passes_now now.work ≡ true → stage_seen k.registers o p s ≡ Passing (progress_seen k.registers o p)

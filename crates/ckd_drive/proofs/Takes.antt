@@ -59,9 +59,8 @@ absorbs_plain half more place' x f f' seen rest placed small =
 -- Comparing.
 
 then_assoc : (a b c : Ordering) → ordering_then (ordering_then a b) c ≡ ordering_then a (ordering_then b c)
-then_assoc order.Less b c = refl
 then_assoc order.Equal b c = refl
-then_assoc order.Greater b c = refl
+then_assoc _ b c = refl
 
 compare_more : (x a : List ℕ) (y b : List ℕ) → length x ≡ length a → ordering_then (slice_cmp nat_cmp x a) (slice_cmp nat_cmp y b) ≡ slice_cmp nat_cmp (x ++ y) (a ++ b)
 compare_more [] [] y b e = refl
@@ -165,11 +164,7 @@ field_unwritten action.SetFileMask g t o r [] f le n = refl
 field_unwritten action.SetFileMask g t o r (x ∷ b) f le n = refl
 field_unwritten action.WriteHomeAddress g t o r b f le n = write_home_unwritten g t o r b le n
 field_unwritten action.Format g t o r b f le n = format_unwritten g t o r b le n
-field_unwritten action.NoTransfer g t o r b f le n = absurd f
-field_unwritten action.GiveSense g t o r b f le n = absurd f
-field_unwritten action.Search g t o r b f le n = absurd f
-field_unwritten action.Read g t o r b f le n = absurd f
-field_unwritten action.Update g t o r b f le n = absurd f
+field_unwritten _ g t o r b f le n = absurd f
 
 pub field_wants : (a : Action) (g : Geometry) (t : Sighted) (o : Opened) (r : Registers) (b : List ℕ) → IsField a → length b ≤ field_size a → ChangesNothing a g t o r b → length_for a g t o r b ≡ field_size a
 field_wants action.SeekCylinderAndHead g t o r b f le n = refl
@@ -177,23 +172,11 @@ field_wants action.SeekHead g t o r b f le n = refl
 field_wants action.SetFileMask g t o r b f le n = refl
 field_wants action.WriteHomeAddress g t o r b f le n = refl
 field_wants action.Format g t o r b f le n = format_wants g t o r b (nat_lt (length b) 8) refl le n
-field_wants action.NoTransfer g t o r b f le n = absurd f
-field_wants action.GiveSense g t o r b f le n = absurd f
-field_wants action.Search g t o r b f le n = absurd f
-field_wants action.Read g t o r b f le n = absurd f
-field_wants action.Update g t o r b f le n = absurd f
+field_wants _ g t o r b f le n = absurd f
 
 field_small : (a : Action) → field_size a ≤ 8
-field_small action.SeekCylinderAndHead = omega arith
-field_small action.SeekHead = omega arith
-field_small action.SetFileMask = omega arith
-field_small action.WriteHomeAddress = omega arith
 field_small action.Format = omega arith
-field_small action.NoTransfer = omega arith
-field_small action.GiveSense = omega arith
-field_small action.Search = omega arith
-field_small action.Read = omega arith
-field_small action.Update = omega arith
+field_small _ = omega arith
 
 -- what is known of a field, with more bytes
 pub record FieldGoes (half : HalfDone) (more f : List ℕ) : Type 0 where
