@@ -1,19 +1,16 @@
 -- How a command begins, looks and closes, whatever the drive remembers and whatever the track holds.
 use Rattle.std.proofs.Common.{◌≡◌, ℕ, refl, ap, ◌∙◌, true, false, Bool, cond, List, [], ◌∷◌, Option, Some, None, ◌⊎◌, inl, inr}
-use Rattle.std.specs.Prelude.{bit_and, Ok, Err, not, ◌&&◌, ◌==◌, ◌+◌, length, nat_lt, slice_range, take, bytes_eq}
+use Rattle.std.specs.Prelude.{bit_and, Ok, Err, not, ◌&&◌, ◌==◌, length, nat_lt, slice_range, take, bytes_eq}
 use Rattle.std.proofs.lemmas.Nat.{and_or_apart, and_or_self}
 use Rattle.s360_words.specs.Words.{has}
-use Rattle.ckd_track.specs.Track.{Record, Track, track_or_none}
+use Rattle.ckd_track.specs.Track.{Record, Track}
 use Rattle.ckd_track.specs.Model.{heads_of}
 use Rattle.ckd_track.specs.Changes.{bare_track}
 use Rattle.ckd_track.specs.declared.geometries.Geometry.{Geometry}
-use Rattle.ckd_position.specs.Areas.{next_of_kind}
 use Rattle.ckd_position.specs.Comparisons.{is_satisfied}
 use Rattle.ckd_position.specs.declared.areas.Area.{Area}
-use Rattle.ckd_position.specs.declared.areas.Next.{Next as NextArea}
-use Rattle.ckd_position.specs.declared.areas.Next.TheVariants as next
 use Rattle.ckd_sense.specs.Commands.{decoded}
-use Rattle.ckd_sense.specs.Masks.{allows_head_change, is_write, permit_of}
+use Rattle.ckd_sense.specs.Masks.{is_write, permit_of}
 use Rattle.ckd_sense.specs.declared.commands.Command.{Command}
 use Rattle.ckd_sense.specs.declared.commands.Command.TheVariants as command
 use Rattle.ckd_sense.specs.declared.commands.CommandCode.{CommandCode}
@@ -22,18 +19,15 @@ use Rattle.ckd_sense.specs.declared.masks.Permit.TheVariants.{Yes, NoWrite, NoSe
 use Rattle.ckd_sense.specs.declared.sense_bytes.Sense.{Sense}
 use Rattle.ckd_sense.specs.declared.sense_bytes.TheConstants.Sense as cause
 use Rattle.ckd_command.specs.declared.registers.Registers.{Registers}
-use Rattle.ckd_command.specs.declared.registers.Lap.{Lap}
-use Rattle.ckd_command.specs.declared.registers.Lap.TheVariants.{First, Second}
-use Rattle.ckd_command.specs.declared.tables.Aim.{Aim}
-use Rattle.ckd_command.specs.declared.tables.Aim.TheVariants.{NoArea, Next, Credited}
 use Rattle.ckd_command.specs.declared.tables.Action.{Action}
 use Rattle.ckd_command.specs.declared.tables.Action.TheVariants as action
 use Rattle.ckd_command.specs.declared.begin.Opened.{Opened}
 use Rattle.ckd_command.specs.Answers.{Beginning, Rejected, Immediate, Started, ToCylinderZero}
 use Rattle.ckd_command.specs.Answers.{Sight, Found, IndexPassed, NextHead, Missed}
-use Rattle.ckd_command.specs.Tables.{aim, action_of, extent_of, comparison, ends_with_data, needs_readable}
-use Rattle.ckd_position.specs.Contents.{Sighted, has_no_data, replaced, formatted, kept, is_readable}
-use Rattle.ckd_command.specs.Commands.{Closing, ends, fails, writes, closing, close_by, whole_field, with_cause, at_end, seek_cylinder_and_head, seek_head, set_file_mask, search, search_ends, area_bytes, end_of_area, update, updated, format, format_ends, new_record_fits, write_home_address, own_home_address, home_address_ends, ending_status, unit_exception_status, number, beginning, begin_decoded, begin_allowed, started, cleared, refusal, refusal_under, is_out_of_sequence, sight, look_for, sight_of, next_head, turned}
+use Rattle.ckd_command.proofs.Sights.{sight_by}
+use Rattle.ckd_command.specs.Tables.{action_of, extent_of, comparison, ends_with_data}
+use Rattle.ckd_position.specs.Contents.{Sighted, has_no_data, replaced, formatted, kept}
+use Rattle.ckd_command.specs.Commands.{Closing, ends, fails, writes, closing, close_by, whole_field, with_cause, at_end, seek_cylinder_and_head, seek_head, set_file_mask, search, search_ends, area_bytes, end_of_area, update, updated, format, format_ends, new_record_fits, write_home_address, own_home_address, home_address_ends, ending_status, unit_exception_status, number, beginning, begin_decoded, begin_allowed, started, cleared, refusal, refusal_under, is_out_of_sequence, sight, at_index}
 
 -- Equipment check, which is of the store alone.
 
@@ -214,29 +208,5 @@ SightSilent before (IndexPassed r) = NotTold before r
 SightSilent before (NextHead r) = NotTold before r
 SightSilent before (Missed r) = NotTold before r
 
-silent_either : (before : Registers) (a : Bool) (x y : Sight) → SightSilent before x → SightSilent before y → SightSilent before (cond a x y)
-silent_either before true x y p q = p
-silent_either before false x y p q = q
-
-turns_silent : (r : Registers) (lap : Lap) → SightSilent r (turned r lap)
-turns_silent r First = λ e. e
-turns_silent r Second = with_other r cause.NO_RECORD_FOUND.0 refl
-
-heads_silent : (g : Geometry) (r : Registers) → SightSilent r (next_head g r)
-heads_silent g r =
-    silent_either r (not (allows_head_change r.file_mask)) _ _ (with_other r cause.HEAD_CHANGE_NOT_ALLOWED.0 refl)
-    (silent_either r (r.head + 1 == heads_of g.model) _ _ (with_other r cause.END_OF_CYLINDER.0 refl) (λ e. e))
-
-next_silent : (g : Geometry) (o : Opened) (r : Registers) (n : NextArea) → SightSilent r (sight_of g o r n)
-next_silent g o r (next.Found a) = tt
-next_silent g o r next.IndexPassed = silent_either r o.multi_track (next_head g r) (turned r r.lap) (heads_silent g r) (turns_silent r r.lap)
-
-sights : (g : Geometry) (t : Sighted) (o : Opened) (r : Registers) (a : Aim) → SightSilent r (look_for g t o r a)
-sights g t o r (Next kind) = silent_either r (needs_readable (action_of o.command) && not (is_readable t)) _ (sight_of g o r (next_of_kind (track_or_none t) r.position kind))
-    (with_other r cause.UNREADABLE_TRACK.0 refl) (next_silent g o r (next_of_kind (track_or_none t) r.position kind))
-sights g t o r NoArea = tt
-sights g t o r Credited = tt
-
 pub sight_silent : (g : Geometry) (t : Sighted) (o : Opened) (r : Registers) → SightSilent r (sight g t o r)
-unfolding sight
-sight_silent g t o r = sights g t o r (aim o.command)
+sight_silent g t o r = sight_by (SightSilent r) g t o r tt (λ a. tt) (with_other r cause.UNREADABLE_TRACK.0 refl) (λ e. e) (λ _. λ e. e) (λ c h. with_other (at_index r) c.0 h)

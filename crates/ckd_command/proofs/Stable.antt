@@ -2,7 +2,6 @@
 -- is still written, so that none was saved.
 use Rattle.std.proofs.Common.{◌≡◌, refl, sym, ap, subst, ◌∙◌, true, false, Bool, List, ℕ, Option, Some, None}
 use Rattle.ckd_command.specs.declared.tables.Aim.{Aim}
-use Rattle.ckd_command.specs.declared.tables.Aim.TheVariants.{NoArea, Next, Credited}
 use Rattle.ckd_command.specs.declared.begin.Opened.{Opened}
 use Rattle.ckd_command.specs.Answers.{Beginning, Sight}
 use Rattle.ckd_command.specs.Answers as answer
