@@ -1,5 +1,6 @@
 -- What a look comes to: one of these ways, and the same again for a command whose area was found.
 use Rattle.std.proofs.Common.{◌≡◌, ap, refl, sym, subst, true, false, Bool, Some}
+use Rattle.std.proofs.lemmas.Bool.{cond_both}
 use Rattle.std.specs.Prelude.{bit_and, not, ◌&&◌, ◌==◌, ◌+◌, if◌then◌else◌}
 use Rattle.ckd_track.specs.Model.{heads_of}
 use Rattle.ckd_track.specs.Track.{track_or_none}
@@ -24,11 +25,6 @@ use Rattle.ckd_command.specs.Answers.{Sight, Found, IndexPassed, NextHead, Misse
 use Rattle.ckd_command.specs.Tables.{aim, action_of, needs_readable}
 use Rattle.ckd_command.specs.Commands.{sight, sight_of, look_for, next_head, turned, at_index, with_cause}
 
--- what holds of both ways of a test holds of it
-pub by_test : {A : Type 0} (P : A → Type 0) (b : Bool) (x y : A) → (b ≡ true → P x) → (b ≡ false → P y) → P (if b then x else y)
-by_test P true x y p q = p refl
-by_test P false x y p q = q refl
-
 turning : (P : Sight → Type 0) (r : Registers) (l : Lap) → P (IndexPassed (record r { position = AtIndex; lap = Second })) → P (Missed (with_cause (at_index r) cause.NO_RECORD_FOUND)) → P (turned r l)
 turning P r First passed missed = passed
 turning P r Second passed missed = missed
@@ -38,8 +34,8 @@ pub passing : (P : Sight → Type 0) (g : Geometry) (o : Opened) (r : Registers)
     → ((r.head + 1 == heads_of g.model) ≡ false → P (NextHead (moved_to r r.cylinder (r.head + 1)))) → ((c : Sense) → bit_and c.0 cause.EQUIPMENT_CHECK.0 ≡ 0 → P (Missed (with_cause (at_index r) c)))
     → P (sight_of g o r next.IndexPassed)
 passing P g o r passed head missed =
-    by_test P o.multi_track (next_head g r) (turned r r.lap)
-    (λ _. by_test P (not (allows_head_change r.file_mask)) _ _ (λ _. missed cause.HEAD_CHANGE_NOT_ALLOWED refl) (λ _. by_test P (r.head + 1 == heads_of g.model) _ _ (λ _. missed cause.END_OF_CYLINDER refl) head))
+    cond_both o.multi_track (next_head g r) (turned r r.lap) P
+    (λ _. cond_both (not (allows_head_change r.file_mask)) _ _ P (λ _. missed cause.HEAD_CHANGE_NOT_ALLOWED refl) (λ _. cond_both (r.head + 1 == heads_of g.model) _ _ P (λ _. missed cause.END_OF_CYLINDER refl) head))
     (λ _. turning P r r.lap passed (missed cause.NO_RECORD_FOUND refl))
 
 -- what holds of these ways holds of every look
@@ -55,7 +51,7 @@ sight_by P g t o r had found unread passed head missed = go (aim o.command)
     at next.IndexPassed = passing P g o r passed head missed
 
     go : (a : Aim) → P (look_for g t o r a)
-    go (Next kind) = by_test P (needs_readable (action_of o.command) && not (is_readable t)) _ _ (λ _. unread) (λ _. at (next_of_kind (track_or_none t) r.position kind))
+    go (Next kind) = cond_both (needs_readable (action_of o.command) && not (is_readable t)) _ _ P (λ _. unread) (λ _. at (next_of_kind (track_or_none t) r.position kind))
     go _ = had
 
 -- a command that looks for no area has found it

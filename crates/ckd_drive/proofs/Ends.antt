@@ -2,6 +2,7 @@
 use Rattle.std.proofs.Common.{◌≡◌, ◌∙◌, ap, sym, subst, refl, ℕ, ◌+◌, ◌<◌, List, [], ◌∷◌, ◌++◌, Bool, true, false, ◌&&◌, ◌||◌, ◌==◌, nat_lt, if◌then◌else◌, Option, Some, None, unwrap_or, length, take, set-set, get_or-set_same, slice_index_or, slice_set, slice_range, append-nil, length-drop, bytes_eq, arith}
 use Rattle.std.proofs.lemmas.List.{set-get_or}
 use Rattle.std.proofs.lemmas.Bool.Decides.{nat_tests}
+use Rattle.std.proofs.Math.Bool.{and-true, and-false}
 use Rattle.ckd_track.specs.Track.{Track, track_of, slot_of}
 use Rattle.ckd_track.specs.Model.{heads_of}
 use Rattle.ckd_track.specs.declared.geometries.Geometry.{Geometry}
@@ -24,13 +25,13 @@ use Rattle.ckd_drive.specs.Invariant.{Stands, mark_left, HasFilled, state_of, Is
 use Rattle.ckd_command.specs.Drive.{closed_staying, SaveFails, is_written_by}
 use Rattle.ckd_drive.specs.Work.{DriveState, CallsStore, closed_of, ending_of, after_end, end_saves, fault_met, with_image}
 use Rattle.ckd_image.specs.Image.{ImageState}
-use Rattle.ckd_drive.proofs.Calls.{changed_is, and_true, and_false, calls_none, calls_of_save, calls_of_failed_save}
+use Rattle.ckd_drive.proofs.Calls.{changed_is, calls_none, calls_of_save, calls_of_failed_save}
 use Rattle.ckd_drive.proofs.Torn.{torn_whole}
 use Rattle.ckd_drive.proofs.Faults.{fault_none, fault_saving, mark_written, failed_left, lost_registers}
 use Rattle.ckd_drive.proofs.Standing.{no_credit, geometry_saved, failures_saved, volume_saved}
 use Rattle.ckd_drive.proofs.Numbers.{number_there}
 use Rattle.ckd_drive.proofs.Looks.{seen_track, goes_of, no_filled_seen}
-use Rattle.ckd_drive.proofs.First.{closing_by, sense_outcome}
+use Rattle.ckd_command.proofs.Closings.{closing_by, sense_closes}
 
 -- the track that the definitions see under the arm
 
@@ -202,7 +203,7 @@ lands_area c g n r o b u e none = (let P : CommandEnd → Type 0 = λ x. Lands c
 
 pub lands : (job : AtWork) (p : Transfer) (moved : ℕ) → IsPlaced job p → job.registers.credit ≡ None → IsAtTrack (geometry_in job) job.registers
     → Lands job.cache (geometry_in job) (number_in job) job.registers (command_end_at (geometry_in job) job.registers job.opened moved p)
-lands job (Sense b u) moved x none at = lands_area job.cache (geometry_in job) (number_in job) job.registers job.opened false u (ap command_end (sym (sense_outcome (geometry_in job) (track_of (slot_in job)) job.opened job.registers job.passed x.0.is_sense)) ∙ x.2.so) none
+lands job (Sense b u) moved x none at = lands_area job.cache (geometry_in job) (number_in job) job.registers job.opened false u (ap command_end (sym (sense_closes (geometry_in job) (track_of (slot_in job)) job.opened job.registers job.passed x.0.is_sense)) ∙ x.2.so) none
 lands job (Read w u) moved x none at = lands_area job.cache (geometry_in job) (number_in job) job.registers job.opened _ u (ap command_end (sym (closing_by action.Read (geometry_in job) (track_of (slot_in job)) job.opened job.registers job.passed x.0.is_read)) ∙ x.2.so) none
 lands job (Fill w u) moved x none at =
     let nothing : job.passed ≡ [] = x.0.none in
@@ -364,7 +365,7 @@ pub stays_calls : (parts : Parts) (p : Progress) (now new : DriveState) (u : Com
     → new.image ≡ parts.cache.image → CallsStore false (end_saves now) now new
 stays_calls parts p now new u e off image =
     let old_image : parts.cache.image ≡ now.image = ap (λ (d : DriveState). d.image) e.is in
-    calls_none _ _ now new (image ∙ old_image) (saves_at_end parts p now u e ∙ rw off (and_false (is_written_by parts.mark)))
+    calls_none _ _ now new (image ∙ old_image) (saves_at_end parts p now u e ∙ rw off (and-false (is_written_by parts.mark)))
 
 -- the track is saved that the arm leaves
 pub moves_calls : (parts : Parts) (c' : CacheState) (p : Progress) (now new : DriveState) (u : CommandEnd)
@@ -373,7 +374,7 @@ pub moves_calls : (parts : Parts) (c' : CacheState) (p : Progress) (now new : Dr
 moves_calls parts c' p now new u e off save image =
     let old_image : now.image ≡ parts.cache.image = sym (ap (λ (d : DriveState). d.image) e.is) in
     let changed = changed_is parts e.stands (moves_off parts p now u e off).unfilled in
-    calls_of_save _ _ parts.cache now new old_image (image ∙ ap (λ (d : CacheState). d.image) save) (changed ∙ sym (saves_at_end parts p now u e ∙ rw off (and_true (is_written_by parts.mark))))
+    calls_of_save _ _ parts.cache now new old_image (image ∙ ap (λ (d : CacheState). d.image) save) (changed ∙ sym (saves_at_end parts p now u e ∙ rw off (and-true (is_written_by parts.mark))))
 
 pub lost_calls : (parts : Parts) (c' : CacheState) (p : Progress) (left : List ℕ) (now new : DriveState) (u : CommandEnd)
     → Closes parts p now u → u.moves_off ≡ true
@@ -381,4 +382,4 @@ pub lost_calls : (parts : Parts) (c' : CacheState) (p : Progress) (left : List �
 lost_calls parts c' p left now new u e off written failed image =
     let old_image : now.image ≡ parts.cache.image = sym (ap (λ (d : DriveState). d.image) e.is) in
     let changed = changed_is parts e.stands (moves_off parts p now u e off).unfilled in
-    calls_of_failed_save _ _ parts.cache left now new old_image (image ∙ ap (λ (d : CacheState). d.image) failed) (changed ∙ sym (saves_at_end parts p now u e ∙ rw off (and_true (is_written_by parts.mark)))) written
+    calls_of_failed_save _ _ parts.cache left now new old_image (image ∙ ap (λ (d : CacheState). d.image) failed) (changed ∙ sym (saves_at_end parts p now u e ∙ rw off (and-true (is_written_by parts.mark)))) written

@@ -16,6 +16,8 @@ use Rattle.ckd_drive.specs.Transfers.{Transfer, Sense, Field, Read, Search, Fill
 use Rattle.ckd_command.specs.Tables.{action_of, extent_of, aim}
 use Rattle.ckd_position.specs.Contents.{Sighted, is_readable}
 use Rattle.ckd_command.specs.Commands.{Closing, sight, area_bytes, bytes_for, area_ends, length_after, length_for, closing, close_by, command_end}
+use Rattle.ckd_command.proofs.Closings.{area_by, closing_by, sense_closes, sense_length}
+use Rattle.ckd_command.proofs.Lengths.{length_by}
 use Rattle.ckd_slot.specs.Buffer.{Lies}
 use Rattle.ckd_cache.specs.Cache.{CacheState}
 use Rattle.ckd_drive.specs.Invariant.{IsFirstPlace, IsPlaced, IsField, ReadsWhole, FieldAtHand, AtHand, field_size, slot_at, AtWork, geometry_in, number_in, slot_in}
@@ -38,10 +40,6 @@ needs_area command.SeekHead w e = absurd w
 needs_area command.SetFileMask w e = absurd w
 needs_area command.Sense w e = absurd w
 needs_area _ w e = cc
-
-sense_extent : (c : Command) → action_of c ≡ action.GiveSense → extent_of c ≡ extent.Nothing
-sense_extent command.Sense e = refl
-sense_extent _ e = absurd cc
 
 -- what is at hand for a command that works on an area
 pub record Hand (c : CacheState) (n : ℕ) (o : Opened) : Type 0 where
@@ -81,26 +79,6 @@ field_unwritten action.Read g t o r f = absurd f
 field_unwritten action.Update g t o r f = absurd f
 field_unwritten _ g t o r f = refl
 
--- The definitions, by the action.
-
-pub area_by : (a : Action) (t : Sighted) (o : Opened) (r : Registers) → action_of o.command ≡ a → area_bytes t o r ≡ bytes_for a t o r
-unfolding area_bytes
-area_by a t o r is = rw is refl
-
-pub length_by : (a : Action) (g : Geometry) (t : Sighted) (o : Opened) (r : Registers) (b : List ℕ) → action_of o.command ≡ a → length_after g t o r b ≡ length_for a g t o r b
-unfolding length_after
-length_by a g t o r b is = rw is refl
-
-pub closing_by : (a : Action) (g : Geometry) (t : Sighted) (o : Opened) (r : Registers) (b : List ℕ) → action_of o.command ≡ a → closing g t o r b ≡ close_by a g t o r b
-unfolding closing
-closing_by a g t o r b is = rw is refl
-
-pub sense_length : (g : Geometry) (t : Sighted) (o : Opened) (r : Registers) (b : List ℕ) → action_of o.command ≡ action.GiveSense → length_after g t o r b ≡ 6
-sense_length g t o r b is = length_by action.GiveSense g t o r b is ∙ ap length (area_by action.GiveSense t o r is)
-
-pub sense_outcome : (g : Geometry) (t : Sighted) (o : Opened) (r : Registers) (b : List ℕ) → action_of o.command ≡ action.GiveSense → closing g t o r b ≡ area_ends o r false
-sense_outcome g t o r b is = closing_by action.GiveSense g t o r b is ∙ rw (sense_extent o.command is) refl
-
 all_left : (n : ℕ) → n ≡ 0 + (n - 0)
 all_left n = omega arith
 
@@ -114,7 +92,7 @@ pub first_placed : (job : AtWork) (p : Transfer)
     → IsFirstPlace (slot_in job) job.opened job.registers p → HandIfAimed job.cache (number_in job) job.opened → sight (geometry_in job) (track_of (slot_in job)) job.opened job.registers ≡ Found job.opened → IsPlaced (record job { passed = [] }) p
 first_placed job (Sense b u) f h again =
     let t = track_of (slot_in job) in
-    let is = sense_outcome (geometry_in job) t job.opened job.registers [] f.0 in
+    let is = sense_closes (geometry_in job) t job.opened job.registers [] f.0 in
     (record { is_sense = f.0; bytes_are = f.1; room = omega arith }, record { again = again; len = sense_length (geometry_in job) t job.opened job.registers [] f.0 }, record { so = ap command_end is ∙ sym f.2; unwritten = ap (λ (k : Closing). k.written) is })
 first_placed job (Field x) f h again =
     let t = track_of (slot_in job) in

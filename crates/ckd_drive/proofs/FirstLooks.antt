@@ -1,6 +1,7 @@
 -- A command that looks for its area, and one look of it.
 use Rattle.std.proofs.Common.{◌≡◌, ◌∙◌, ap, sym, subst, refl, ℕ, ◌==◌, List, [], Bool, true, false, Option, Some, None, unwrap_or, slice_index_or, arith}
 use Rattle.std.proofs.lemmas.Bool.Decides.{nat_tests}
+use Rattle.std.proofs.Math.Bool.{and-false, and-true}
 use Rattle.ckd_track.specs.Track.{track_of}
 use Rattle.ckd_image.specs.Image.{ImageState}
 use Rattle.ckd_position.specs.declared.areas.Kind.{Kind}
@@ -19,7 +20,7 @@ use Rattle.ckd_cache.specs.Cache.{CacheState, holds, loaded, after_hold, after_f
 use Rattle.ckd_drive.specs.Work.{DriveState, fault_met, with_image, after_sight, after_look, answer_of_look, look_loads, look_saves, failed_ending}
 use Rattle.ckd_drive.specs.Invariant.{Stands, SightKeeps, IsFirstPlace, track_under, slot_at, state_of, work_of, Kept, kept, Parts, parts_of, number_under, slot_under}
 use Rattle.ckd_drive.specs.Calls.{Comes, Looks, Leaves, Loses, looked_at, looking_drive}
-use Rattle.ckd_drive.proofs.Calls.{changed_is, and_false, and_true, no_more, loads_saved, calls_none, calls_of_save, calls_of_failed_save, calls_of_failed_hold, calls_behind_load}
+use Rattle.ckd_drive.proofs.Calls.{changed_is, no_more, loads_saved, calls_none, calls_of_save, calls_of_failed_save, calls_of_failed_hold, calls_behind_load}
 use Rattle.ckd_drive.proofs.Faults.{fault_none, fault_loading, fault_saving, failed_left, mark_written, lost_registers}
 use Rattle.ckd_drive.proofs.First.{HandIfAimed}
 use Rattle.ckd_drive.proofs.Looks.{found_at, found_stands, found_state, again_at, again_state, again_stands, stays_arm, stays_held}
@@ -37,7 +38,7 @@ found_looks was o o' place s x f h again first is =
     rw is (λ before. record {
       stands = found_stands was o o' before place x f h again;
       state = found_state was o o' before place x f h again first;
-      calls = calls_none _ _ _ _ refl (rw first (and_false (is_written_by was.mark)));
+      calls = calls_none _ _ _ _ refl (rw first (and-false (is_written_by was.mark)));
       at_hand = λ e. absurd (no_more was.cache.image.loads e);
     })
 
@@ -58,7 +59,7 @@ passed_looks was q o k s x aimed held sighted is =
     record {
       stands = record { volume = x.volume; arm = stays_arm g r q keeps x.arm; anchored = stays_held c r q keeps held; marked = x.marked; work = record { transfers = x.work.transfers; credit = rw aimed tt; no_credit = keeps.credit ∙ x.work.no_credit } };
       state = rw (none, sighted) refl;
-      calls = calls_none _ _ _ _ refl (rw sighted (and_false (is_written_by was.mark)));
+      calls = calls_none _ _ _ _ refl (rw sighted (and-false (is_written_by was.mark)));
       at_hand = λ e. absurd (no_more c.image.loads e);
     }))
 
@@ -80,7 +81,7 @@ missed_looks was q o x held sighted =
     record {
       stands = record { volume = x.volume; arm = stays_arm g r q keeps x.arm; anchored = stays_held c r q keeps held; marked = x.marked; work = rw credit tt };
       state = rw (none, sighted) refl;
-      calls = calls_none _ _ _ _ refl (rw sighted (and_false (is_written_by was.mark)));
+      calls = calls_none _ _ _ _ refl (rw sighted (and-false (is_written_by was.mark)));
       at_hand = λ e. absurd (no_more c.image.loads e);
     })
 
@@ -101,7 +102,7 @@ next_looks was came q o k s x aimed sighted l is =
     record {
       stands = record { volume = volume_saved c x.volume; arm = rw (geometry_saved c) keeps.0; anchored = λ e. absurd cc; marked = refl; work = record { transfers = x.work.transfers; credit = rw aimed tt; no_credit = keeps.1 ∙ x.work.no_credit } };
       state = rw (none, sighted, geometry_saved c) refl;
-      calls = calls_of_save _ _ c old new refl refl (changed ∙ rw sighted (sym (and_true (is_written_by was.mark))));
+      calls = calls_of_save _ _ c old new refl refl (changed ∙ rw sighted (sym (and-true (is_written_by was.mark))));
       at_hand = λ e. absurd (no_more c.image.loads (sym (loads_saved c) ∙ e));
     }))
 
@@ -127,7 +128,7 @@ lost_looks was came q o x sighted l =
     record {
       stands = lost_stands (looking_drive was o) (after_failed_save c left) (lost_registers was.registers) (Over failed_ending) before [] left x refl l.size refl refl refl tt;
       state = rw (f, sighted, written, held, whole) refl;
-      calls = calls_of_failed_save _ _ c left old new refl refl (changed ∙ rw sighted (sym (and_true (is_written_by was.mark)))) l.changed;
+      calls = calls_of_failed_save _ _ c left old new refl refl (changed ∙ rw sighted (sym (and-true (is_written_by was.mark)))) l.changed;
       at_hand = λ e. absurd (no_more c.image.loads e);
     }))
 

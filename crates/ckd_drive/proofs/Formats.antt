@@ -28,21 +28,10 @@ use Rattle.ckd_drive.specs.Invariant.{HalfDone, MayTake, Absorbs, own_track, own
 use Rattle.ckd_slot.proofs.Writes.{update_length, update_place}
 use Rattle.ckd_drive.proofs.Fills.{there, new_slot_at, reads_new, Filling, room_of, ClosesFilled, form_filled, length-padded}
 use Rattle.ckd_drive.proofs.Looks.{slot_is}
-use Rattle.ckd_drive.proofs.First.{length_by, closing_by}
+use Rattle.ckd_command.proofs.Closings.{formats_on}
+use Rattle.ckd_command.proofs.Lengths.{same_count, SameCount}
 use Rattle.ckd_drive.proofs.Takes.{ChangesNothing, field_goes, field_absorbs}
 use Rattle.ckd_drive.proofs.News.{new_work, newly_absorbs, is_count}
-
--- The count bytes give the lengths, whatever comes behind them.
-pub record SameCount (b m : List ℕ) : Type 0 where
-  pub key : key_length (b ++ m) ≡ key_length b
-  pub bytes : data_length (b ++ m) ≡ data_length b
-
-same_count : (b m : List ℕ) → length b ≡ 8 → SameCount b m
-same_count b m eight =
-    let f : slice_index (b ++ m) 5 ≡ slice_index b 5 = get_or_append_left b m 0 5 (omega (arith, eight)) in
-    let g : slice_index (b ++ m) 6 ≡ slice_index b 6 = get_or_append_left b m 0 6 (omega (arith, eight)) in
-    let h : slice_index (b ++ m) 7 ≡ slice_index b 7 = get_or_append_left b m 0 7 (omega (arith, eight)) in
-    record { key = f; bytes = rw (g, h) refl }
 
 abbrev record_with : (b body : List ℕ) → Record
 record_with b body = record { id = take 5 b; key_area = take (key_length b) body; data_area = drop (key_length b) body }
@@ -50,7 +39,7 @@ record_with b body = record { id = take 5 b; key_area = take (key_length b) body
 -- a record of count bytes and as many bytes as these give
 parts : (b body : List ℕ) → length b ≡ 8 → length body ≡ body_length b → record_at (b ++ body) ≡ record_with b body
 parts b body eight long =
-    let s = same_count b body eight in
+    let s = same_count b body (omega (arith, eight)) in
     let k = key_length b in
     let id : take 5 (b ++ body) ≡ take 5 b = take-append-le 5 b body (omega (arith, eight)) in
     let behind : drop 8 (b ++ body) ≡ body = drop_at b body 8 eight in
@@ -68,7 +57,7 @@ padded_behind b m n eight =
 
 pub new_with : (b m : List ℕ) → length b ≡ 8 → length m ≤ body_length b → new_record (b ++ m) ≡ record_with b (padded m (body_length b))
 new_with b m eight le =
-    let s = same_count b m eight in
+    let s = same_count b m (omega (arith, eight)) in
     let n : body_length (b ++ m) ≡ body_length b = rw (s.key, s.bytes) refl in
     ap (λ (k : ℕ). record_at (padded (b ++ m) (8 + k))) n ∙ ap record_at (padded_behind b m (body_length b) eight) ∙ parts b (padded m (body_length b)) eight (length-padded m (body_length b) le)
 
@@ -118,40 +107,6 @@ format_written t after b m part i eight e le =
     let same : padded (drop 8 (b ++ m)) room ≡ padded m (body_length b) = ap (λ (x : List ℕ). padded x room) (drop_at b m 8 eight) ∙ ap (λ (k : ℕ). padded m k) (format_bytes t after b i e eight) in
     ap (λ (x : List ℕ). with_record_changed (replaced extent.KeyAndData x) (Of part i) (formatted t after b)) same ∙ format_same t after b m part i eight e le
 
--- How a formatting write closes once its count bytes came and fit.
-
-fits_still : (g : Geometry) (t : Sighted) (o : Opened) (b m : List ℕ) → length b ≡ 8 → new_record_fits g t o b ≡ true → new_record_fits g t o (b ++ m) ≡ true
-fits_still g t o b m eight fits =
-    let s = same_count b m eight in
-    let P : ℕ → ℕ → Type 0 = λ k d. has_room g.model (kept t o.area) k d ≡ true in
-    let Q : ℕ → Type 0 = λ k. P k (data_length b) in
-    let R : ℕ → Type 0 = λ d. P (key_length (b ++ m)) d in
-    subst R (sym s.bytes) (subst Q (sym s.key) fits)
-
-not_below : (n : ℕ) → 8 ≤ n → nat_lt n 8 ≡ false
-not_below n le = grind (arith, nat_tests)
-
-not_zero : (n : ℕ) → 8 ≤ n → (n == 0) ≡ false
-not_zero n le = grind (arith, nat_tests)
-
-long_enough : (b m : List ℕ) → length b ≡ 8 → (nat_lt (length (b ++ m)) 8 ≡ false) × ((length (b ++ m) == 0) ≡ false)
-long_enough b m eight = (let le : 8 ≤ length (b ++ m) = omega (arith, length-append b m, eight) in (not_below (length (b ++ m)) le, not_zero (length (b ++ m)) le))
-
-format_closes : (g : Geometry) (t : Sighted) (o : Opened) (r : Registers) (b m : List ℕ) → action_of o.command ≡ action.Format → length b ≡ 8 → new_record_fits g t o b ≡ true
-    → closing g t o r (b ++ m) ≡ writes (formatted t o.area (b ++ m)) (format_ends r (length (kept t o.area)))
-format_closes g t o r b m is eight fits =
-    let still = fits_still g t o b m eight fits in
-    let long = long_enough b m eight in
-    closing_by action.Format g t o r (b ++ m) is ∙ rw (long.0, long.1, still) refl
-
-format_wants : (g : Geometry) (t : Sighted) (o : Opened) (r : Registers) (b m : List ℕ) → action_of o.command ≡ action.Format → length b ≡ 8 → new_record_fits g t o b ≡ true
-    → length_after g t o r (b ++ m) ≡ 8 + body_length b
-format_wants g t o r b m is eight fits =
-    let still = fits_still g t o b m eight fits in
-    let long = long_enough b m eight in
-    let s = same_count b m eight in
-    length_by action.Format g t o r (b ++ m) is ∙ rw (long.0, still, s.key, s.bytes) refl
-
 -- the record that a formatting write fills, behind its count bytes
 abbrev format_filling : AtWork → Part → ℕ → Filling
 format_filling job part i = record { closes = command_end (format_ends job.registers i); track = formatted (track_of job.before) job.opened.area job.passed; extent = extent.KeyAndData; part = part; number = i; lead = 8 }
@@ -163,11 +118,11 @@ format_filled job m part i is eight fits e le =
     let o = job.opened in
     let b = job.passed in
     let n = format_bytes t o.area b i e eight in
-    let k = format_closes (geometry_in job) t o job.registers b m is eight fits in
+    let k = formats_on (geometry_in job) t o job.registers b m is (omega (arith, eight)) fits in
     record {
-      so = ap command_end k ∙ rw e refl;
-      written = ap (λ (y : Closing). y.written) k ∙ ap (λ (y : Track). Some y) (sym (format_written t o.area b m part i eight e (rw n at le)));
-      wants = rw n (format_wants (geometry_in job) t o job.registers b m is eight fits);
+      so = ap command_end k.closes ∙ rw e refl;
+      written = ap (λ (y : Closing). y.written) k.closes ∙ ap (λ (y : Track). Some y) (sym (format_written t o.area b m part i eight e (rw n at le)));
+      wants = rw n k.wants;
     }
 
 -- the count bytes have come whole, and fit

@@ -124,14 +124,6 @@ again_stands parts p x is =
       work = record { moved = goes.moved; left = rw goes.moved (omega arith); placed = goes.placed; no_credit = goes.no_credit };
     }
 
-pub plain_sight : (g : Geometry) (t : Sighted) (o : Opened) (r : Registers) → aim o.command ≡ NoArea → sight g t o r ≡ Found o
-unfolding sight
-plain_sight g t o r e = rw e refl
-
-pub credited_sight : (g : Geometry) (t : Sighted) (o : Opened) (r : Registers) → aim o.command ≡ Credited → sight g t o r ≡ Found o
-unfolding sight
-credited_sight g t o r e = rw e refl
-
 pub slot_is : (c : CacheState) (n : ℕ) (slot : List ℕ) → c.held ≡ Some n → slot ≡ slot_held c → slot ≡ slot_at c.slots n
 slot_is c n slot held e = rw held at e
 

@@ -18,7 +18,8 @@ use Rattle.ckd_cache.specs.Cache.{CacheState, IsVolume}
 use Rattle.ckd_drive.specs.Work as work
 use Rattle.ckd_drive.specs.Work.{DriveState, gives_now, takes_now, left_of, given_now, passed_of, moved_on}
 use Rattle.ckd_drive.specs.Invariant.{Stands, IsPlaced, IsField, ClosesUnwritten, remaining, next_progress, given_on, state_of, slot_at, track_under, is_filled_by, seen_by, Parts, track_in_reach, AtWork, geometry_in, action_in, closing_in, work_in}
-use Rattle.ckd_drive.proofs.First.{length_by, area_by, closing_by, sense_length, sense_outcome}
+use Rattle.ckd_command.proofs.Closings.{area_by, closing_by, sense_closes as closes_sense, sense_length}
+use Rattle.ckd_command.proofs.Lengths.{length_by}
 use Rattle.ckd_drive.proofs.Looks.{goes_of}
 use Rattle.std.specs.declared.cmp.Ordering.{Ordering}
 
@@ -130,7 +131,7 @@ read_stands parts p more w u k x is at may n =
 
 sense_closes : (job : AtWork) (t : Sighted) (more : List ℕ) (u : CommandEnd) → action_in job ≡ action.GiveSense → ClosesUnwritten job t u → ClosesUnwritten (record job { passed = job.passed ++ more }) t u
 sense_closes job t more u is k =
-    let same : closing_in (record job { passed = job.passed ++ more }) t ≡ closing_in job t = sense_outcome (geometry_in job) t job.opened job.registers (job.passed ++ more) is ∙ sym (sense_outcome (geometry_in job) t job.opened job.registers job.passed is) in
+    let same : closing_in (record job { passed = job.passed ++ more }) t ≡ closing_in job t = closes_sense (geometry_in job) t job.opened job.registers (job.passed ++ more) is ∙ sym (closes_sense (geometry_in job) t job.opened job.registers job.passed is) in
     record { so = ap command_end same ∙ k.so; unwritten = ap (λ (x : Closing). x.written) same ∙ k.unwritten }
 
 pub sense_stands : (parts : Parts) (p : Progress) (more b : List ℕ) (u : CommandEnd) (k : ℕ)

@@ -23,7 +23,8 @@ use Rattle.ckd_cache.specs.Cache.{CacheState, IsVolume, with_held}
 use Rattle.ckd_drive.specs.Invariant.{HalfDone, Works, MayTake, Absorbs, own_track, own_slot, action_now, HasFilled, IsFilled, FieldAtHand, slot_at, track_under, seen_by, is_filled_by, whole_of, AtWork, geometry_in, slot_in, action_in, at_work, with_taken}
 use Rattle.ckd_slot.proofs.Writes.{bare_fits}
 use Rattle.ckd_drive.proofs.Fills.{written_works, there, new_slot_at, written_absorbs, reads_new}
-use Rattle.ckd_drive.proofs.First.{length_by, closing_by}
+use Rattle.ckd_command.proofs.Closings.{closing_by}
+use Rattle.ckd_command.proofs.Lengths.{length_by}
 use Rattle.ckd_drive.proofs.Takes.{ChangesNothing, field_goes, field_absorbs}
 
 unfilled_sees : (slots : List (List ℕ)) (n : ℕ) (before : List ℕ) (p : Transfer) → is_filled_by p ≡ false → seen_by slots n before p ≡ slots

@@ -30,7 +30,8 @@ use Rattle.ckd_drive.specs.Invariant.{HalfDone, MayTake, Absorbs, own_track, own
 use Rattle.ckd_slot.proofs.Writes.{update_offset, update_length, update_place}
 use Rattle.ckd_slot.proofs.Updates.{form_of, same_records}
 use Rattle.ckd_drive.proofs.Fills.{there, new_slot_at, reads_new, Filling, ClosesFilled, form_filled, length-padded, next_made, old_read}
-use Rattle.ckd_drive.proofs.First.{length_by, closing_by, area_by}
+use Rattle.ckd_command.proofs.Closings.{area_by, closing_by, update_closes}
+use Rattle.ckd_command.proofs.Lengths.{length_by}
 use Rattle.ckd_drive.proofs.Looks.{slot_is}
 use Rattle.ckd_drive.proofs.News.{new_work, newly_absorbs, StaysOn}
 
@@ -144,22 +145,6 @@ cleared_changed e t part i b u lt le =
     ∙ ap (λ (rs : List Record). let y : Track = record t { records = rs } in y) (set-set t.records i (replaced e [] r) (replaced e b r))
 
 -- How an update closes of which a byte has come.
-
-positive : (n : ℕ) → 0 < n → (n == 0) ≡ false
-positive n some = grind (arith, nat_tests)
-
-updated_is : (slot : List ℕ) (a : Area) (t : Sighted) (area : Option Area) (change : Record → Record) (c : Closing) → t ≡ Ok (track_in slot) → area ≡ Some a → updated t area change c ≡ writes (with_record_changed change a (track_in slot)) c
-updated_is slot a (Ok t) (Some x) change c e f =
-    let t_is : t ≡ track_in slot = ap track_or_none e in
-    let x_is : x ≡ a = ap (λ (y : Option Area). unwrap_or y a) f in
-    ap (λ (y : Track). writes (with_record_changed change x y) c) t_is ∙ ap (λ (y : Area). writes (with_record_changed change y (track_in slot)) c) x_is
-updated_is slot a (Ok t) None change c e f = absurd cc
-updated_is slot a (Err x) area change c e f = absurd cc
-
-update_closes : (g : Geometry) (slot : List ℕ) (o : Opened) (r : Registers) (a : Area) (b : List ℕ) → action_of o.command ≡ action.Update → track_of slot ≡ Ok (track_in slot) → o.area ≡ Some a → 0 < length b
-    → closing g (track_of slot) o r b ≡ writes (with_record_changed (replaced (extent_of o.command) b) a (track_in slot)) (end_of_area (track_of slot) o r)
-update_closes g slot o r a b is reads there some =
-    closing_by action.Update g (track_of slot) o r b is ∙ rw (positive (length b) some) (updated_is slot a (track_of slot) o.area (replaced (extent_of o.command) b) (end_of_area (track_of slot) o r) reads there)
 
 -- the record that an update fills
 abbrev fill_filling : AtWork → Part → ℕ → CommandEnd → Filling

@@ -113,14 +113,6 @@ well_begun parts now code b x is idle e =
     let credit : CreditIs r.credit c (track_under c.image.geometry r) = subst P at_rest x.work in
     (at_rest, rw e (begins_well c (track_under c.image.geometry r) code r credit))
 
-pub not_true : (b : Bool) → not b ≡ true → b ≡ false
-not_true true e = absurd cc
-not_true false e = refl
-
-pub not_false : (b : Bool) → not b ≡ false → b ≡ true
-not_false true e = refl
-not_false false e = absurd cc
-
 -- the stage of a command whose bytes pass
 passing_stage : (r : Registers) (o : Opened) (p : ProgressHeld) (s : StageHeld) (passed : List ℕ) → passes_now (work_of (stage_seen r o p s) passed) ≡ true
     → stage_seen r o p s ≡ Passing (progress_seen r o p)

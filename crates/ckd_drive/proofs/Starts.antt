@@ -1,5 +1,6 @@
 -- A command that starts.
 use Rattle.std.proofs.Common.{◌≡◌, ◌∙◌, ap, sym, refl, ℕ, List, [], true, false, Option, Some, None, unwrap_or, slice_index_or}
+use Rattle.std.proofs.Math.Bool.{and-true}
 use Rattle.ckd_command.specs.declared.registers.Registers.{Registers}
 use Rattle.ckd_command.specs.declared.registers.Mark.TheVariants.{Saved, Written, Lost}
 use Rattle.ckd_command.specs.Answers.{Beginning, ToCylinderZero, moved_to}
@@ -11,7 +12,7 @@ use Rattle.ckd_cache.specs.Cache.{CacheState, after_save, after_failed_save}
 use Rattle.ckd_drive.specs.Work.{DriveState, fault_met, after_begun, after_begin, answer_of_begin, begin_saves, immediate_ending, is_idle}
 use Rattle.ckd_drive.specs.Invariant.{Stands, BeginsWell, track_under, state_of, work_of, Kept, kept, Parts, parts_of, number_under}
 use Rattle.ckd_drive.specs.Calls.{Comes, Begins, Leaves, Loses, begun_at, idle_drive}
-use Rattle.ckd_drive.proofs.Calls.{changed_is, and_true, no_more, loads_saved, calls_of_save, calls_of_failed_save}
+use Rattle.ckd_drive.proofs.Calls.{changed_is, no_more, loads_saved, calls_of_save, calls_of_failed_save}
 use Rattle.ckd_drive.proofs.Faults.{fault_none, fault_saving, failed_left, mark_written, lost_registers, to_zero}
 use Rattle.ckd_drive.proofs.Numbers.{number_there}
 use Rattle.ckd_drive.proofs.Standing.{at_zero, failures_saved, geometry_saved, idle_stage, no_credit, lost_stands, saved_stands}
@@ -38,7 +39,7 @@ lost_begins was came q o b x well is l =
     record {
       stands = lost_stands (idle_drive was) (after_failed_save c left) (lost_registers q) Idle before passed left x refl l.size refl k.cylinder k.head tt;
       state = rw (f, written, held, k.cylinder, k.head, whole) refl;
-      calls = calls_of_failed_save _ _ c left old new refl refl (changed ∙ sym (and_true (is_written_by was.mark))) l.changed;
+      calls = calls_of_failed_save _ _ c left old new refl refl (changed ∙ sym (and-true (is_written_by was.mark))) l.changed;
       at_hand = λ e. absurd (no_more c.image.loads e);
     }))
 
@@ -57,7 +58,7 @@ zero_begins was came q o b s x well is l e =
       stands = saved_stands (idle_drive was) (after_save c) (moved_to q 0 0) (Looking o) before passed x refl refl (at_zero c q x.volume)
           (record { transfers = w.1; credit = rw w.2 tt; no_credit = w.0.credit });
       state = rw (none, geometry_saved c) refl;
-      calls = calls_of_save _ _ c old new refl refl (changed ∙ sym (and_true (is_written_by was.mark)));
+      calls = calls_of_save _ _ c old new refl refl (changed ∙ sym (and-true (is_written_by was.mark)));
       at_hand = λ e. absurd (no_more c.image.loads (sym (loads_saved c) ∙ e));
     }))
 
@@ -75,7 +76,7 @@ zero_ends was came q b x well is l =
     record {
       stands = saved_stands (idle_drive was) (after_save c) (moved_to q 0 0) (Over (immediate_ending true)) before passed x refl refl (at_zero c q x.volume) (no_credit (after_save c) (moved_to q 0 0) (track_under (after_save c).image.geometry (moved_to q 0 0)) w.credit);
       state = rw (none, geometry_saved c) refl;
-      calls = calls_of_save _ _ c old new refl refl (changed ∙ sym (and_true (is_written_by was.mark)));
+      calls = calls_of_save _ _ c old new refl refl (changed ∙ sym (and-true (is_written_by was.mark)));
       at_hand = λ e. absurd (no_more c.image.loads (sym (loads_saved c) ∙ e));
     }))
 

@@ -1,5 +1,6 @@
 -- The drive once bytes were taken.
 use Rattle.std.proofs.Common.{◌≡◌, ◌∙◌, ap, sym, refl, ℕ, ◌≤◌, List, ◌++◌, Bool, true, false, not, ◌||◌, length}
+use Rattle.std.proofs.lemmas.Bool.{not-true}
 use Rattle.ckd_drive.specs.Transfers.{Transfer, Progress}
 use Rattle.ckd_drive.specs.Stage.{Passing}
 use Rattle.ckd_command.specs.Tables.{action_of, is_giving}
@@ -9,10 +10,6 @@ use Rattle.ckd_drive.specs.Work.{DriveState, takes_now, left_of, moved_on}
 use Rattle.ckd_command.specs.Drive.{is_written_by}
 use Rattle.ckd_drive.specs.Invariant.{Stands, MayTake, Absorbs, next_progress, state_of, is_filled_by, kept, Parts, parts_of, HalfDone}
 use Rattle.ckd_drive.proofs.Looks.{goes_of}
-
-not_giving : (b : Bool) → not b ≡ true → b ≡ false
-not_giving true e = absurd cc
-not_giving false e = refl
 
 -- the command half done of a drive whose bytes pass
 abbrev pub half_of : Parts → Progress → HalfDone
@@ -25,7 +22,7 @@ may_take parts p more now x is now_is takes room =
     record {
       works = record { volume = x.volume; arm = x.arm; anchored = x.anchored; goes = goes_of parts p x is };
       room = rw work_is at room;
-      taking = not_giving (is_giving (action_of p.opened.command)) (rw work_is at takes);
+      taking = not-true (is_giving (action_of p.opened.command)) (rw work_is at takes);
     }
 
 marked_by : (w f f' : Bool) → (f ≡ true → f' ≡ true) → ((w || f) || f') ≡ (w || f')

@@ -6,6 +6,8 @@ use Rattle.std.specs.declared.cmp.Ordering.TheVariants as order
 use Rattle.std.specs.Cmp.Lexicographic.{slice_cmp}
 use Rattle.std.proofs.lemmas.List.{take-take, drop-take, take-append-drop, take_at}
 use Rattle.std.proofs.lemmas.Bool.Decides.{nat_tests}
+use Rattle.std.proofs.Math.Bool.{or-false}
+use Rattle.std.proofs.lemmas.Bool.{cond_both}
 use Rattle.ckd_track.specs.Track.{track_of}
 use Rattle.ckd_track.specs.Changes.{overwritten}
 use Rattle.ckd_track.specs.declared.geometries.Geometry.{Geometry}
@@ -18,15 +20,12 @@ use Rattle.ckd_slot.specs.declared.windows.Window.{Window}
 use Rattle.ckd_drive.specs.Transfers.{Transfer, Field, Search}
 use Rattle.ckd_command.specs.Tables.{action_of}
 use Rattle.ckd_position.specs.Contents.{Sighted}
-use Rattle.ckd_command.specs.Commands.{Closing, sight, area_bytes, length_after, length_for, close_by, own_home_address, new_record_fits, write_home_address, format}
+use Rattle.ckd_command.specs.Commands.{Closing, sight, area_bytes, length_after, length_for, close_by, own_home_address, new_record_fits, write_home_address, format, whole_field, at_end}
 use Rattle.ckd_slot.specs.Buffer.{Lies}
 use Rattle.ckd_drive.specs.Invariant.{HalfDone, Works, MayTake, Absorbs, own_slot, action_now, seen_with, IsPlaced, IsField, HasField, remaining, slot_at, track_under, is_filled_by, order_of, field_size, at_work}
-use Rattle.ckd_drive.proofs.First.{length_by, closing_by}
+use Rattle.ckd_command.proofs.Closings.{closing_by}
+use Rattle.ckd_command.proofs.Lengths.{length_by}
 use Rattle.ckd_drive.proofs.Moving.{slot_small, lies_first, lies_rest, next_left}
-
-or_false : (b : Bool) → b ≡ (b || false)
-or_false true = refl
-or_false false = refl
 
 -- the track stays as it is
 pub absorbs_plain : (half : HalfDone) (more : List ℕ) (place' : Transfer)
@@ -51,7 +50,7 @@ absorbs_plain half more place' x f f' seen rest placed small =
       };
       image = refl;
       seen_same = seen;
-      changed = rw f' (or_false half.cache.changed);
+      changed = rw f' (sym (or-false half.cache.changed));
       still = λ e. absurd cc;
       small = small;
     }
@@ -125,45 +124,32 @@ collected_more f passed more e =
     let is : overwritten f m more ≡ (passed ++ more) ++ drop (m + length more) f = ap (λ (z : List ℕ). z ++ (more ++ drop (m + length more) f)) e ∙ sym (append_assoc passed more (drop (m + length more) f)) in
     rw is (take_at (passed ++ more) (drop (m + length more) f) (length (passed ++ more)) refl)
 
-of_three : (P : Closing → Type 0) (a b : Bool) (x y z : Closing) → P x → P y → (a ≡ false → b ≡ false → P z) → P (if a then x else (if b then y else z))
-of_three P true b x y z p q s = p
-of_three P false true x y z p q s = q
-of_three P false false x y z p q s = s refl refl
-
-of_two : (P : Closing → Type 0) (a : Bool) (x y : Closing) → (a ≡ true → P x) → P y → P (if a then x else y)
-of_two P true x y p q = p refl
-of_two P false x y p q = q
-
 -- what a field that came so far does to the track: nothing, unless it came whole
 abbrev pub ChangesNothing : Action → Geometry → Sighted → Opened → Registers → List ℕ → Type 0
 ChangesNothing action.WriteHomeAddress g t o r b = (length b ≡ 5) → bytes_eq b (own_home_address r) ≡ false
 ChangesNothing action.Format g t o r b = (length b ≡ 8) → new_record_fits g t o b ≡ false
 ChangesNothing a g t o r b = Unit {0}
 
-exactly : (m n : ℕ) → m ≤ n → nat_lt m n ≡ false → m ≡ n
-exactly m n le e = grind (arith, nat_tests)
+-- a field that must come whole writes nothing, unless it is whole and what it then closes to writes
+unwritten_field : (r : Registers) (b : List ℕ) (size : ℕ) (c : Closing) → length b ≤ size → (length b ≡ size → c.written ≡ None) → (whole_field r b size c).written ≡ None
+unwritten_field r b size c le h =
+    let P : Closing → Type 0 = λ k. k.written ≡ None in
+    cond_both (length b == 0) _ _ P (λ _. refl) (λ _. cond_both (nat_lt (length b) size) _ _ P (λ _. refl) (λ long. h (grind (arith, nat_tests))))
 
-write_home_unwritten : (g : Geometry) (t : Sighted) (o : Opened) (r : Registers) (b : List ℕ) → length b ≤ 5 → ChangesNothing action.WriteHomeAddress g t o r b → (close_by action.WriteHomeAddress g t o r b).written ≡ None
-write_home_unwritten g t o r b le n =
-    of_three (λ k. k.written ≡ None) (length b == 0) (nat_lt (length b) 5) _ _ (write_home_address o r b) refl refl
-    (λ e0 e5. (let own = n (exactly (length b) 5 le e5) in rw own refl))
-
-format_unwritten : (g : Geometry) (t : Sighted) (o : Opened) (r : Registers) (b : List ℕ) → length b ≤ 8 → ChangesNothing action.Format g t o r b → (close_by action.Format g t o r b).written ≡ None
-format_unwritten g t o r b le n =
-    of_three (λ k. k.written ≡ None) (length b == 0) (nat_lt (length b) 8) _ _ (format g t o r b) refl refl
-    (λ e0 e8. (let own = n (exactly (length b) 8 le e8) in rw own refl))
+seeks_unwritten : (a : Bool) (x y : Closing) → x.written ≡ None → y.written ≡ None → (if a then x else y).written ≡ None
+seeks_unwritten a x y p q = cond_both a x y (λ k. k.written ≡ None) (λ _. p) (λ _. q)
 
 format_wants : (g : Geometry) (t : Sighted) (o : Opened) (r : Registers) (b : List ℕ) (short : Bool) → nat_lt (length b) 8 ≡ short → length b ≤ 8 → ChangesNothing action.Format g t o r b → length_for action.Format g t o r b ≡ 8
 format_wants g t o r b true e le n = rw e refl
-format_wants g t o r b false e le n = (let own = n (exactly (length b) 8 le e) in rw (e, own) refl)
+format_wants g t o r b false e le n = (let own = n (grind (arith, nat_tests)) in rw (e, own) refl)
 
 pub field_unwritten : (a : Action) (g : Geometry) (t : Sighted) (o : Opened) (r : Registers) (b : List ℕ) → IsField a → length b ≤ field_size a → ChangesNothing a g t o r b → (close_by a g t o r b).written ≡ None
-field_unwritten action.SeekCylinderAndHead g t o r b f le n = of_three (λ k. k.written ≡ None) (length b == 0) (nat_lt (length b) 6) _ _ _ refl refl (λ _ _. of_two (λ k. k.written ≡ None) _ _ _ (λ _. refl) refl)
-field_unwritten action.SeekHead g t o r b f le n = of_three (λ k. k.written ≡ None) (length b == 0) (nat_lt (length b) 6) _ _ _ refl refl (λ _ _. of_two (λ k. k.written ≡ None) _ _ _ (λ _. refl) refl)
+field_unwritten action.SeekCylinderAndHead g t o r b f le n = unwritten_field r b 6 _ le (λ _. seeks_unwritten _ _ _ refl refl)
+field_unwritten action.SeekHead g t o r b f le n = unwritten_field r b 6 _ le (λ _. seeks_unwritten _ _ _ refl refl)
 field_unwritten action.SetFileMask g t o r [] f le n = refl
 field_unwritten action.SetFileMask g t o r (x ∷ b) f le n = refl
-field_unwritten action.WriteHomeAddress g t o r b f le n = write_home_unwritten g t o r b le n
-field_unwritten action.Format g t o r b f le n = format_unwritten g t o r b le n
+field_unwritten action.WriteHomeAddress g t o r b f le n = unwritten_field (at_end o r) b 5 (write_home_address o r b) le (λ five. (let own = n five in rw own refl))
+field_unwritten action.Format g t o r b f le n = unwritten_field r b 8 (format g t o r b) le (λ eight. (let none = n eight in rw none refl))
 field_unwritten _ g t o r b f le n = absurd f
 
 pub field_wants : (a : Action) (g : Geometry) (t : Sighted) (o : Opened) (r : Registers) (b : List ℕ) → IsField a → length b ≤ field_size a → ChangesNothing a g t o r b → length_for a g t o r b ≡ field_size a
