@@ -43,8 +43,3 @@ pub mark_written : (m : Mark) → is_written_by m ≡ true → m ≡ Written
 mark_written Written t = refl
 mark_written Saved t = absurd cc
 mark_written Lost t = absurd cc
-
--- the fault of a saving that failed, as the definitions see it
-pub failed_left : (c : CacheState) (n : ℕ) (left : List ℕ) → c.held ≡ Some n → left ≡ slice_index_or (after_failed_save c left).image.slots (unwrap_or c.held 0) []
-    → slice_index_or (slice_set c.slots n left) n [] ≡ left
-failed_left c n left held e = (let e' = rw held at e in sym e')

@@ -21,13 +21,12 @@ use Rattle.ckd_drive.specs.Work.{DriveState, fault_met, with_image, after_sight,
 use Rattle.ckd_drive.specs.Invariant.{Stands, SightKeeps, IsFirstPlace, track_under, slot_at, state_of, work_of, Kept, kept, Parts, parts_of, number_under, slot_under}
 use Rattle.ckd_drive.specs.Calls.{Comes, Looks, Leaves, Loses, looked_at, looking_drive}
 use Rattle.ckd_drive.proofs.Calls.{changed_is, no_more, loads_saved, calls_none, calls_of_save, calls_of_failed_save, calls_of_failed_hold, calls_behind_load}
-use Rattle.ckd_drive.proofs.Faults.{fault_none, fault_loading, fault_saving, failed_left, mark_written, lost_registers}
+use Rattle.ckd_drive.proofs.Faults.{fault_none, fault_loading, lost_registers}
 use Rattle.ckd_drive.proofs.First.{HandIfAimed}
-use Rattle.ckd_drive.proofs.Looks.{found_at, found_stands, found_state, again_at, again_state, again_stands, stays_arm, stays_held}
-use Rattle.ckd_drive.proofs.Numbers.{number_there}
+use Rattle.ckd_drive.proofs.Looks.{found_at, found_stands, found_state, stays_arm, stays_held}
 use Rattle.ckd_drive.proofs.Sights.{sight_keeps}
 use Rattle.ckd_drive.proofs.Standing.{volume_saved, volume_not_held, geometry_saved, failures_saved, lost_stands}
-use Rattle.ckd_drive.proofs.Torn.{torn_whole}
+use Rattle.ckd_drive.proofs.Lost.{save_lost}
 
 -- It finds its area.
 pub found_looks : (was : Kept) (o o' : Opened) (place : Transfer) (s : Stage)
@@ -114,21 +113,14 @@ pub lost_looks : (was came : Kept) (q : Registers) (o : Opened)
 lost_looks was came q o x sighted l =
     let c = was.cache in
     rw (l.cache, l.registers, l.mark) (λ before. (
-    let n : ℕ = track_under c.image.geometry was.registers in
     let left = l.left in
-    let there : left ≡ slice_index_or (after_failed_save c left).image.slots (unwrap_or c.held 0) [] = l.there ∙ ap (λ (d : CacheState). slice_index_or d.image.slots (unwrap_or c.held 0) []) l.cache in
-    let held : c.held ≡ Some n = x.anchored l.changed in
-    let changed : c.changed ≡ is_written_by was.mark = changed_is (looking_drive was o) x refl in
-    let written : was.mark ≡ Written = mark_written was.mark (sym changed ∙ l.changed) in
-    let left_is = failed_left c n left held there in
     let old = state_of (looking_drive was o) in
     let new = state_of (parts_of (kept (after_failed_save c left) (lost_registers was.registers) Lost) (Over failed_ending) before []) in
-    let f : fault_met old new ≡ Some (SaveFails left) = fault_saving old new refl refl ∙ (rw (held, left_is) refl) in
-    let whole = torn_whole c n left x.volume (number_there (looking_drive was o) x) l.size in
+    let s = save_lost (looking_drive was o) was.registers came new x refl l refl in
     record {
       stands = lost_stands (looking_drive was o) (after_failed_save c left) (lost_registers was.registers) (Over failed_ending) before [] left x refl l.size refl refl refl tt;
-      state = rw (f, sighted, written, held, whole) refl;
-      calls = calls_of_failed_save _ _ c left old new refl refl (changed ∙ rw sighted (sym (and-true (is_written_by was.mark)))) l.changed;
+      state = rw (s.fault, sighted, s.written, s.held, s.whole) refl;
+      calls = calls_of_failed_save _ _ c left old new refl refl (changed_is (looking_drive was o) x refl ∙ rw sighted (sym (and-true (is_written_by was.mark)))) l.changed;
       at_hand = λ e. absurd (no_more c.image.loads e);
     }))
 
@@ -209,19 +201,3 @@ pub has_looked : (parts : Parts) (came : Kept) (s' : Stage) (o : Opened) (before
 has_looked parts came s' o before' passed' now is now_is nothing l =
     let now_at : now ≡ state_of (looking_drive (kept parts.cache parts.registers parts.mark) o) = sym now_is ∙ rw is refl in
     rw (now_at, nothing) (record { comes = l before'; answer = looked_work s' [] })
-
--- and again
-pub has_looked_again : (parts : Parts) (s' : Stage) (p : Progress) (now : DriveState)
-    → Stands parts → parts.stage ≡ Passing p → state_of parts ≡ now → s' ≡ again_at p → HasLooked (record parts { stage = s' }) now
-has_looked_again parts s' p now x is now_is e =
-    let work_is : now.work ≡ work_of (Passing p) parts.passed = sym (ap (λ (d : DriveState). d.work) now_is) ∙ rw is refl in
-    let image : now.image ≡ parts.cache.image = sym (ap (λ (d : DriveState). d.image) now_is) in
-    rw e (record {
-      comes = record {
-        stands = again_stands parts p x is;
-        state = again_state parts p now x is now_is;
-        calls = calls_none _ _ _ _ (sym image) (rw work_is refl);
-        at_hand = λ l. absurd (no_more parts.cache.image.loads (rw image at l));
-      };
-      answer = looked_work (again_at p) parts.passed;
-    })

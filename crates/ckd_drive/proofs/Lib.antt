@@ -9,7 +9,7 @@ pub mod Moving
 pub mod Ends
 pub mod Settling
 pub mod Numbers
-pub mod Torn
+pub mod Lost
 pub mod Takes
 pub mod Fills
 pub mod News

@@ -82,47 +82,14 @@ found_state was o o' before place x f h again first =
     let plain = no_filled_seen c.slots n before place (first_not_filled (slot_at c.slots n) o' r place f) in
     rw (none, plain, first, left_is) refl
 
--- A further look.
+-- A command whose area is found.
 
 -- the track as the definitions see it
 abbrev pub seen_track : AtWork → Transfer → Sighted
 seen_track job p = track_of (slot_at (seen_by job.cache.slots (number_in job) job.before p) (number_in job))
 
-pub is_found : (job : AtWork) (p : Transfer) → number_in job < length job.cache.slots → IsPlaced job p
-    → IsFound job (seen_track job p) p
-is_found job (Filled w u) lt x =
-    let same : get_or (set job.cache.slots (number_in job) job.before) (number_in job) [] ≡ job.before = get_or-set_same job.cache.slots (number_in job) job.before [] lt in
-    rw same x.found
-is_found job _ lt x = x.1
-
 pub goes_of : (parts : Parts) (p : Progress) → Stands parts → parts.stage ≡ Passing p → Goes parts.cache parts.registers parts.before parts.passed p
 goes_of parts p x is = (let P : Stage → Type 0 = λ t. StageIs parts.cache parts.registers parts.before parts.passed t in subst P is x.work)
-
-abbrev pub again_at : Progress → Stage
-again_at p = Passing (record p { left = remaining (action_of p.opened.command) p.place p.moved })
-
-pub again_state : (parts : Parts) (p : Progress) (now : DriveState)
-    → Stands parts → parts.stage ≡ Passing p → state_of parts ≡ now
-    → state_of (record parts { stage = again_at p }) ≡ with_image (after_look (fault_met now (state_of (record parts { stage = again_at p }))) now) parts.cache.image
-again_state parts p now x is now_is =
-    let goes = goes_of parts p x is in
-    let n : ℕ = track_under parts.cache.image.geometry parts.registers in
-    let f = is_found (work_in parts p.opened) p.place (number_there parts x) goes.placed in
-    let left_is : remaining (action_of p.opened.command) p.place (length parts.passed) ≡ length_after parts.cache.image.geometry (track_of (slot_at (seen_by parts.cache.slots n parts.before p.place) n)) p.opened parts.registers parts.passed - length parts.passed = omega (arith, f.len) in
-    rw (← now_is, is, ← goes.moved, left_is) refl
-
-pub again_stands : (parts : Parts) (p : Progress)
-    → Stands parts → parts.stage ≡ Passing p → Stands (record parts { stage = again_at p })
-again_stands parts p x is =
-    let goes = goes_of parts p x is in
-    let marked = rw is at x.marked in
-    record {
-      volume = x.volume;
-      arm = x.arm;
-      anchored = x.anchored;
-      marked = marked;
-      work = record { moved = goes.moved; left = rw goes.moved (omega arith); placed = goes.placed; no_credit = goes.no_credit };
-    }
 
 pub slot_is : (c : CacheState) (n : ℕ) (slot : List ℕ) → c.held ≡ Some n → slot ≡ slot_held c → slot ≡ slot_at c.slots n
 slot_is c n slot held e = rw held at e

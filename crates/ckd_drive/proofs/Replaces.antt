@@ -49,13 +49,7 @@ record_there e t i u some = by_place (cases_lt i (length t.records))
     nothing_of : (e : Extent) (r : Record) → IsUpdate e → r ≡ no_record → update_length e r ≡ 0
     nothing_of extent.Data r u is = rw is refl
     nothing_of extent.KeyAndData r u is = rw is refl
-    nothing_of extent.Nothing r u is = absurd u
-    nothing_of extent.CylinderAndHead r u is = absurd u
-    nothing_of extent.HomeAddress r u is = absurd u
-    nothing_of extent.Identifier r u is = absurd u
-    nothing_of extent.Count r u is = absurd u
-    nothing_of extent.Key r u is = absurd u
-    nothing_of extent.CountKeyAndData r u is = absurd u
+    nothing_of _ r u is = absurd u
 
     by_place : (i < length t.records) ⊎ (length t.records ≤ i) → i < length t.records
     by_place (inl lt) = lt

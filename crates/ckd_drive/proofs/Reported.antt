@@ -117,9 +117,7 @@ look_quiet d (Looking o) = go (aim o.command) _ (sight_silent d.state.volume.geo
   where
     at : (s : Sight) → SightSilent d.state.registers s → NotTold d.state.registers (after_sight (looked None (open_at d o) s) d).state.registers
     at (command_answer.Found opened) k = λ e. e
-    at (command_answer.IndexPassed r) k = k
-    at (command_answer.NextHead r) k = k
-    at (command_answer.Missed r) k = k
+    at _ k = k
 
     go : (a : Aim) (s : Sight) → SightSilent d.state.registers s → NotTold d.state.registers (after_sight (look_for None (open_at d o) a s) d).state.registers
     go (Next kind) s k = at s k

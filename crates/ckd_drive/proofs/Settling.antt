@@ -7,11 +7,10 @@ use Rattle.ckd_drive.specs.Stage.{Stage, Idle, Over, Looking, Passing}
 use Rattle.ckd_command.specs.Drive.{SaveFails}
 use Rattle.ckd_cache.specs.Cache.{CacheState, after_save, after_failed_save}
 use Rattle.ckd_drive.specs.Work.{DriveState, passed_of, fault_met, with_image, after_settle, settled_mark}
-use Rattle.ckd_drive.specs.Invariant.{Stands, StageIs, IsPlaced, state_of, work_of, seen, track_under, is_filled, is_filled_by, kept, Parts, parts_of, AtWork}
-use Rattle.ckd_drive.proofs.Calls.{changed_is}
-use Rattle.ckd_drive.proofs.Torn.{torn_whole}
-use Rattle.ckd_drive.proofs.Numbers.{number_there}
-use Rattle.ckd_drive.proofs.Faults.{fault_none, fault_saving, mark_written, failed_left, lost_registers}
+use Rattle.ckd_drive.specs.Invariant.{Stands, StageIs, IsPlaced, state_of, work_of, seen, track_under, is_filled, is_filled_by, Kept, kept, Parts, parts_of, track_in_reach, AtWork}
+use Rattle.ckd_drive.specs.Calls.{Loses}
+use Rattle.ckd_drive.proofs.Lost.{save_lost}
+use Rattle.ckd_drive.proofs.Faults.{fault_none, lost_registers}
 use Rattle.ckd_drive.proofs.Standing.{failures_saved, geometry_saved}
 use Rattle.ckd_drive.proofs.Looks.{no_filled_seen}
 
@@ -44,20 +43,14 @@ settled_state parts c' now x is e save =
     let slots : c'.slots ≡ c.slots = ap (λ (d : CacheState). d.slots) save in
     rw (← is, none, plain, geometry, slots) refl
 
-pub unsettled_state : (parts : Parts) (c' : CacheState) (left : List ℕ) (now : DriveState)
-    → Stands parts → state_of parts ≡ now → passed_of now.work ≡ [] → parts.cache.changed ≡ true → c' ≡ after_failed_save parts.cache left → left ≡ slice_index_or c'.image.slots (unwrap_or parts.cache.held 0) [] → length left ≡ parts.cache.image.geometry.track_size
-    → state_of (parts_of (kept c' (lost_registers parts.registers) Lost) Idle parts.before parts.passed) ≡ with_image (after_settle (fault_met now (state_of (parts_of (kept c' (lost_registers parts.registers) Lost) Idle parts.before parts.passed))) now) c'.image
-unsettled_state parts c' left now x is e changed failed there size =
+pub unsettled_state : (parts : Parts) (came : Kept) (now : DriveState)
+    → Stands parts → state_of parts ≡ now → passed_of now.work ≡ [] → Loses parts.cache parts.registers came
+    → state_of (parts_of came Idle parts.before parts.passed) ≡ with_image (after_settle (fault_met now (state_of (parts_of came Idle parts.before parts.passed))) now) came.cache.image
+unsettled_state parts came now x is e l =
     let c = parts.cache in
-    let n : ℕ = track_under c.image.geometry parts.registers in
-    let f0 = unfilled parts now x is e in
-    let plain = seen_plain c.slots n parts.before parts.stage f0 in
-    let held : c.held ≡ Some n = x.anchored changed in
-    let written : parts.mark ≡ Written = mark_written parts.mark (sym (changed_is parts x f0) ∙ changed) in
-    let there' : left ≡ slice_index_or (after_failed_save c left).image.slots (unwrap_or c.held 0) [] = there ∙ ap (λ (d : CacheState). slice_index_or d.image.slots (unwrap_or c.held 0) []) failed in
-    let at = failed_left c n left held there' in
-    let whole = torn_whole c n left x.volume (number_there parts x) size in
-    let new = state_of (parts_of (kept (after_failed_save c left) (lost_registers parts.registers) Lost) Idle parts.before parts.passed) in
-    let old = state_of parts in
-    let f : fault_met old new ≡ Some (SaveFails left) = fault_saving old new refl refl ∙ (rw (held, at) refl) in
-    rw (failed, ← is, f, plain, written, held, whole) refl
+    let unwritten = unfilled parts now x is e in
+    let plain = seen_plain c.slots (track_in_reach parts) parts.before parts.stage unwritten in
+    rw (← is, l.cache, l.registers, l.mark) (
+    let new = state_of (parts_of (kept (after_failed_save c l.left) (lost_registers parts.registers) Lost) Idle parts.before parts.passed) in
+    let s = save_lost parts parts.registers came new x unwritten l refl in
+    rw (s.fault, plain, s.written, s.held, s.whole) refl)

@@ -13,10 +13,9 @@ use Rattle.ckd_drive.specs.Work.{DriveState, fault_met, after_begun, after_begin
 use Rattle.ckd_drive.specs.Invariant.{Stands, BeginsWell, track_under, state_of, work_of, Kept, kept, Parts, parts_of, number_under}
 use Rattle.ckd_drive.specs.Calls.{Comes, Begins, Leaves, Loses, begun_at, idle_drive}
 use Rattle.ckd_drive.proofs.Calls.{changed_is, no_more, loads_saved, calls_of_save, calls_of_failed_save}
-use Rattle.ckd_drive.proofs.Faults.{fault_none, fault_saving, failed_left, mark_written, lost_registers, to_zero}
-use Rattle.ckd_drive.proofs.Numbers.{number_there}
+use Rattle.ckd_drive.proofs.Faults.{fault_none, lost_registers, to_zero}
 use Rattle.ckd_drive.proofs.Standing.{at_zero, failures_saved, geometry_saved, idle_stage, no_credit, lost_stands, saved_stands}
-use Rattle.ckd_drive.proofs.Torn.{torn_whole}
+use Rattle.ckd_drive.proofs.Lost.{save_lost}
 
 -- The arm can't go to cylinder 0, since the track can't be saved.
 pub lost_begins : (was came : Kept) (q : Registers) (o : Option Opened) (b : Beginning)
@@ -24,22 +23,15 @@ pub lost_begins : (was came : Kept) (q : Registers) (o : Option Opened) (b : Beg
 lost_begins was came q o b x well is l =
     let c = was.cache in
     rw (is, l.cache, l.registers, l.mark) (λ before passed. (
-    let n : ℕ = track_under c.image.geometry was.registers in
-    let k = to_zero c n was.registers q o (rw is at well) in
+    let k = to_zero c (number_under was) was.registers q o (rw is at well) in
     let left = l.left in
-    let there : left ≡ slice_index_or (after_failed_save c left).image.slots (unwrap_or c.held 0) [] = l.there ∙ ap (λ (d : CacheState). slice_index_or d.image.slots (unwrap_or c.held 0) []) l.cache in
-    let held : c.held ≡ Some n = x.anchored l.changed in
-    let changed : c.changed ≡ is_written_by was.mark = changed_is (idle_drive was) x refl in
-    let written : was.mark ≡ Written = mark_written was.mark (sym changed ∙ l.changed) in
-    let left_is = failed_left c n left held there in
     let old = state_of (idle_drive was) in
     let new = state_of (parts_of (kept (after_failed_save c left) (lost_registers q) Lost) Idle before passed) in
-    let f : fault_met old new ≡ Some (SaveFails left) = fault_saving old new refl refl ∙ (rw (held, left_is) refl) in
-    let whole = torn_whole c n left x.volume (number_there (idle_drive was) x) l.size in
+    let s = save_lost (idle_drive was) q came new x refl l refl in
     record {
       stands = lost_stands (idle_drive was) (after_failed_save c left) (lost_registers q) Idle before passed left x refl l.size refl k.cylinder k.head tt;
-      state = rw (f, written, held, k.cylinder, k.head, whole) refl;
-      calls = calls_of_failed_save _ _ c left old new refl refl (changed ∙ sym (and-true (is_written_by was.mark))) l.changed;
+      state = rw (s.fault, s.written, s.held, k.cylinder, k.head, s.whole) refl;
+      calls = calls_of_failed_save _ _ c left old new refl refl (changed_is (idle_drive was) x refl ∙ sym (and-true (is_written_by was.mark))) l.changed;
       at_hand = λ e. absurd (no_more c.image.loads e);
     }))
 

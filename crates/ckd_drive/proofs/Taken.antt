@@ -15,16 +15,6 @@ use Rattle.ckd_drive.proofs.Looks.{goes_of}
 abbrev pub half_of : Parts → Progress → HalfDone
 half_of parts p = record { cache = parts.cache; registers = parts.registers; before = parts.before; passed = parts.passed; progress = p }
 
-pub may_take : (parts : Parts) (p : Progress) (more : List ℕ) (now : DriveState)
-    → Stands parts → parts.stage ≡ Passing p → state_of parts ≡ now → takes_now now.work ≡ true → length more ≤ left_of now.work → MayTake (half_of parts p) more
-may_take parts p more now x is now_is takes room =
-    let work_is : now.work ≡ work.Passing p.opened parts.passed p.left = sym (ap (λ (d : DriveState). d.work) now_is) ∙ rw is refl in
-    record {
-      works = record { volume = x.volume; arm = x.arm; anchored = x.anchored; goes = goes_of parts p x is };
-      room = rw work_is at room;
-      taking = not-true (is_giving (action_of p.opened.command)) (rw work_is at takes);
-    }
-
 marked_by : (w f f' : Bool) → (f ≡ true → f' ≡ true) → ((w || f) || f') ≡ (w || f')
 marked_by true f f' k = refl
 marked_by false true true k = refl
