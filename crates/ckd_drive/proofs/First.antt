@@ -16,6 +16,7 @@ use Rattle.ckd_drive.specs.Transfers.{Transfer, Sense, Field, Read, Search, Fill
 use Rattle.ckd_command.specs.Tables.{action_of, extent_of, aim}
 use Rattle.ckd_position.specs.Contents.{Sighted, is_readable}
 use Rattle.ckd_command.specs.Commands.{Closing, sight, area_bytes, bytes_for, area_ends, length_after, length_for, closing, close_by, command_end}
+use Rattle.ckd_drive.proofs.Fields.{field_unwritten, field_wants, no_byte}
 use Rattle.ckd_command.proofs.Closings.{area_by, closing_by, sense_closes, sense_length}
 use Rattle.ckd_command.proofs.Lengths.{length_by}
 use Rattle.ckd_slot.specs.Buffer.{Lies}
@@ -63,22 +64,6 @@ field_at_hand action.WriteHomeAddress c n o is f h = (hand_for c n o action.Writ
 field_at_hand action.Format c n o is f h = whole_at c n o action.Format is (λ x. x) (hand_for c n o action.Format is tt h)
 field_at_hand _ c n o is f h = absurd f
 
-field_length : (a : Action) (g : Geometry) (t : Sighted) (o : Opened) (r : Registers) → IsField a → length_for a g t o r [] ≡ field_size a
-field_length action.NoTransfer g t o r f = absurd f
-field_length action.GiveSense g t o r f = absurd f
-field_length action.Search g t o r f = absurd f
-field_length action.Read g t o r f = absurd f
-field_length action.Update g t o r f = absurd f
-field_length _ g t o r f = refl
-
-field_unwritten : (a : Action) (g : Geometry) (t : Sighted) (o : Opened) (r : Registers) → IsField a → (close_by a g t o r []).written ≡ None
-field_unwritten action.NoTransfer g t o r f = absurd f
-field_unwritten action.GiveSense g t o r f = absurd f
-field_unwritten action.Search g t o r f = absurd f
-field_unwritten action.Read g t o r f = absurd f
-field_unwritten action.Update g t o r f = absurd f
-field_unwritten _ g t o r f = refl
-
 all_left : (n : ℕ) → n ≡ 0 + (n - 0)
 all_left n = omega arith
 
@@ -98,8 +83,8 @@ first_placed job (Field x) f h again =
     let t = track_of (slot_in job) in
     let a = action_of job.opened.command in (
       record { is_field = f; room = omega arith; collected = refl; at_hand = field_at_hand a job.cache (number_in job) job.opened refl f h },
-      record { again = again; len = length_by a (geometry_in job) t job.opened job.registers [] refl ∙ field_length a (geometry_in job) t job.opened job.registers f ∙ all_left (field_size a) },
-      ap (λ (k : Closing). k.written) (closing_by a (geometry_in job) t job.opened job.registers [] refl) ∙ field_unwritten a (geometry_in job) t job.opened job.registers f,
+      record { again = again; len = length_by a (geometry_in job) t job.opened job.registers [] refl ∙ field_wants a (geometry_in job) t job.opened job.registers [] f (omega arith) (no_byte a (geometry_in job) t job.opened job.registers) ∙ all_left (field_size a) },
+      ap (λ (k : Closing). k.written) (closing_by a (geometry_in job) t job.opened job.registers [] refl) ∙ field_unwritten a (geometry_in job) t job.opened job.registers [] f (omega arith) (no_byte a (geometry_in job) t job.opened job.registers),
     )
 first_placed job (Read w u) f h again =
     let t = track_of (slot_in job) in

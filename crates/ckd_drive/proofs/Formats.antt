@@ -30,7 +30,8 @@ use Rattle.ckd_drive.proofs.Fills.{there, new_slot_at, reads_new, Filling, room_
 use Rattle.ckd_drive.proofs.Looks.{slot_is}
 use Rattle.ckd_command.proofs.Closings.{formats_on}
 use Rattle.ckd_command.proofs.Lengths.{same_count, SameCount}
-use Rattle.ckd_drive.proofs.Takes.{ChangesNothing, field_goes, field_absorbs}
+use Rattle.ckd_drive.proofs.Fields.{ChangesNothing}
+use Rattle.ckd_drive.proofs.Takes.{field_goes, field_absorbs}
 use Rattle.ckd_drive.proofs.News.{new_work, newly_absorbs, is_count}
 
 abbrev record_with : (b body : List ℕ) → Record
@@ -164,9 +165,6 @@ format_stays half more f field count may at is k no_room =
     let none : ChangesNothing action.Format g t half.progress.opened half.registers (half.passed ++ more) = λ _. subst P k.whole (rw held at no_room) in
     field_absorbs half more f field may at is (subst N (sym k.is) none)
 
-takes_format : (a : Action) → a ≡ action.Format → (a ≡ action.GiveSense → ⊥) × (a ≡ action.Read → ⊥)
-takes_format a e = (λ z. cc, λ z. cc)
-
 -- a record that fits
 pub format_absorbs : (half : HalfDone) (more f count : List ℕ) (i : ℕ) (w : Window) → MayTake half more → half.progress.place ≡ Field f → FormatGoes half more count
     → HasFormatted half.cache.image.geometry.model half.cache.image.geometry.track_size half.progress.opened.area count (track_of (slot_held half.cache)) i w
@@ -202,5 +200,5 @@ format_absorbs half more f count i w may at k has =
     format_written t a b [] part.Data i k.eight is_new.is_last (omega arith) ∙ ap (λ (y : List ℕ). formatted t a y) (append-nil b) in
     let left : half.progress.left ≤ 8 - length half.passed = rw (at, k.is) at may.works.goes.left in
     newly_absorbs half more new w (command_end (format_ends r i)) (omega arith) may.works k.at_hand.held (rw at refl) goes.again
-    (takes_format (action_of half.progress.opened.command) k.is) (record { stays = refl; cylinder = refl; head = refl }) (omega (arith, k.eight, goes.long)) (omega (arith, left, k.eight, goes.long)) (omega (arith, k.eight, goes.long))
+    may.taking (record { stays = refl; cylinder = refl; head = refl }) (omega (arith, k.eight, goes.long)) (omega (arith, left, k.eight, goes.long)) (omega (arith, k.eight, goes.long))
     filled (made ∙ ap (slot_of g.track_size) (sym whole))

@@ -1,4 +1,5 @@
 pub mod Sights
+pub mod Fields
 pub mod Beginnings
 pub mod Standing
 pub mod Inside

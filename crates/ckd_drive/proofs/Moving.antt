@@ -109,8 +109,7 @@ read_stands parts p more w u k x is at may n =
     let t = track_of (slot_at c.slots (track_under g r)) in
     let left : p.left ≤ w.len = rw at at goes.left in
     let le : length more ≤ w.len = omega (arith, left, may.room) in
-    let P : Transfer → Type 0 = λ y. IsPlaced (work_in parts p.opened) y in
-    let placed = subst P at goes.placed in
+    let placed = rw at at goes.placed in
     let h = placed.0 in
     let area = area_bytes t p.opened r in
     let size : length (drop (length passed) area) ≡ w.len = h.lies.size in
@@ -143,8 +142,7 @@ sense_stands parts p more b u k x is at may n =
     let goes = goes_of parts p x is in
     let t = track_of (slot_at parts.cache.slots (track_under g parts.registers)) in
     let left : p.left ≤ 6 - length passed = rw at at goes.left in
-    let P : Transfer → Type 0 = λ y. IsPlaced (work_in parts p.opened) y in
-    let h = subst P at goes.placed in
+    let h = rw at at goes.placed in
     let far : length (passed ++ more) ≡ length passed + length more = length-append passed more in
     let wants : length_after g t p.opened parts.registers (passed ++ more) ≡ 6 = sense_length g t p.opened parts.registers (passed ++ more) h.0.is_sense in
     let room : length (passed ++ more) ≤ 6 = omega (arith, far, left, may.room, h.0.room) in
@@ -161,22 +159,8 @@ field_takes action.Read f e = f
 field_takes action.Update f e = f
 field_takes _ f e = cc
 
-giving_two : (a : Action) → is_giving a ≡ true → (a ≡ action.GiveSense → ⊥) × (a ≡ action.Read → ⊥) → ⊥
-giving_two action.GiveSense e n = n.0 refl
-giving_two action.Read e n = n.1 refl
-giving_two _ e n = cc
-
-pub gives_not_field : (job : AtWork) (f : List ℕ) → IsPlaced job (Field f) → is_giving (action_of job.opened.command) ≡ true → ⊥
-gives_not_field job f x e = field_takes (action_of job.opened.command) x.0.is_field e
-
-pub gives_not_search : (job : AtWork) (w : Window) (so_far : Ordering) → IsPlaced job (Search w so_far) → is_giving (action_of job.opened.command) ≡ true → ⊥
-gives_not_search job w so_far x e = (let f : is_giving (action_of job.opened.command) ≡ false = rw x.0.is_search refl in cc)
-
-pub gives_not_fill : (job : AtWork) (w : Window) (u : CommandEnd) → IsPlaced job (Fill w u) → is_giving (action_of job.opened.command) ≡ true → ⊥
-gives_not_fill job w u x e = (let f : is_giving (action_of job.opened.command) ≡ false = rw x.0.is_update refl in cc)
-
-pub gives_not_filled : (job : AtWork) (w : Window) (u : CommandEnd) → IsPlaced job (Filled w u) → is_giving (action_of job.opened.command) ≡ true → ⊥
-gives_not_filled job w u x e = giving_two (action_of job.opened.command) e x.takes
+not_given : (a b : Action) → a ≡ b → is_giving b ≡ false → is_giving a ≡ true → ⊥
+not_given a b is takes gives = (let none : is_giving a ≡ false = rw is takes in cc)
 
 -- The drive once bytes are given.
 
@@ -191,10 +175,10 @@ given_stands parts p more k x is may n = by_place p.place refl
     by_place : (place : Transfer) → p.place ≡ place → Stands (record parts { stage = Passing (next_progress p k (given_on place k)); passed = parts.passed ++ more })
     by_place (Sense b u) at = sense_stands parts p more b u k x is at may n
     by_place (Read w u) at = read_stands parts p more w u k x is at may n
-    by_place (Field f) at = absurd (gives_not_field (work_in parts p.opened) f (rw at at placed) may.giving)
-    by_place (Search w so_far) at = absurd (gives_not_search (work_in parts p.opened) w so_far (rw at at placed) may.giving)
-    by_place (Fill w u) at = absurd (gives_not_fill (work_in parts p.opened) w u (rw at at placed) may.giving)
-    by_place (Filled w u) at = absurd (gives_not_filled (work_in parts p.opened) w u (rw at at placed) may.giving)
+    by_place (Field f) at = absurd (field_takes (action_of p.opened.command) (rw at at placed).0.is_field may.giving)
+    by_place (Search w so_far) at = absurd (not_given _ action.Search (rw at at placed).0.is_search refl may.giving)
+    by_place (Fill w u) at = absurd (not_given _ action.Update (rw at at placed).0.is_update refl may.giving)
+    by_place (Filled w u) at = absurd (not_given _ _ refl (rw at at placed).takes may.giving)
 
 -- what may be given: so many bytes, and they are what the definitions give
 pub record Lends (p : Progress) (now : DriveState) (bytes : List ℕ) : Type 0 where
@@ -206,8 +190,7 @@ pub sense_lends : (parts : Parts) (p : Progress) (b : List ℕ) (u : CommandEnd)
 sense_lends parts p b u now x is at now_is =
     let g = parts.cache.image.geometry in
     let goes = goes_of parts p x is in
-    let P : Transfer → Type 0 = λ y. IsPlaced (work_in parts p.opened) y in
-    let h = (subst P at goes.placed).0 in
+    let h = (rw at at goes.placed).0 in
     let left : p.left ≤ 6 - length parts.passed = rw at at goes.left in
     let long : length b ≡ 6 = ap length h.bytes_are in
     let size : length (slice_range b p.moved (p.moved + p.left)) ≡ p.left = omega (arith, length-take (p.moved + p.left - p.moved) (drop p.moved b), length-drop p.moved b, long, left, goes.moved, h.room) in
@@ -228,8 +211,7 @@ pub read_window : (parts : Parts) (p : Progress) (w : Window) (u : CommandEnd)
 read_window parts p w u x is at =
     let g = parts.cache.image.geometry in
     let goes = goes_of parts p x is in
-    let P : Transfer → Type 0 = λ y. IsPlaced (work_in parts p.opened) y in
-    let h = (subst P at goes.placed).0 in
+    let h = (rw at at goes.placed).0 in
     record {
       held = h.held;
       within = rw at at goes.left;
@@ -245,8 +227,7 @@ read_lends parts p slot w u now x is at slot_is now_is =
     let old = slot_at parts.cache.slots (track_under g parts.registers) in
     let goes = goes_of parts p x is in
     let left : p.left ≤ w.len = rw at at goes.left in
-    let P : Transfer → Type 0 = λ y. IsPlaced (work_in parts p.opened) y in
-    let h = (subst P at goes.placed).0 in
+    let h = (rw at at goes.placed).0 in
     let area = area_bytes (track_of old) p.opened parts.registers in
     let here : slice_range old w.start (w.start + p.left) ≡ slice_range area (length passed) (length passed + p.left) =
     lies_first old (drop (length passed) area) w p.left h.lies left ∙ rw (behind_less (length passed) p.left) refl in

@@ -15,7 +15,7 @@ use Rattle.ckd_drive.specs.declared.transfer.Whole.{Whole}
 use Rattle.ckd_drive.specs.declared.transfer.Whole.TheVariants as whole
 use Rattle.ckd_slot.specs.declared.windows.Window.{Window}
 use Rattle.ckd_drive.specs.Transfers.{Transfer, Sense, Field, Read, Search, Fill, Filled}
-use Rattle.ckd_command.specs.Tables.{action_of}
+use Rattle.ckd_command.specs.Tables.{action_of, is_giving}
 use Rattle.ckd_position.specs.Contents.{Sighted, padded}
 use Rattle.ckd_command.specs.Commands.{Closing, sight, length_after, closing, command_end, own_home_address, home_address_ends, writes}
 use Rattle.ckd_slot.specs.Buffer.{lengths_on}
@@ -25,11 +25,9 @@ use Rattle.ckd_slot.proofs.Writes.{bare_fits}
 use Rattle.ckd_drive.proofs.Fills.{written_works, there, new_slot_at, written_absorbs, reads_new}
 use Rattle.ckd_command.proofs.Closings.{closing_by}
 use Rattle.ckd_command.proofs.Lengths.{length_by}
-use Rattle.ckd_drive.proofs.Takes.{ChangesNothing, field_goes, field_absorbs}
-
-unfilled_sees : (slots : List (List ℕ)) (n : ℕ) (before : List ℕ) (p : Transfer) → is_filled_by p ≡ false → seen_by slots n before p ≡ slots
-unfilled_sees slots n before (Filled w u) e = absurd cc
-unfilled_sees slots n before _ e = refl
+use Rattle.ckd_drive.proofs.Looks.{no_filled_seen}
+use Rattle.ckd_drive.proofs.Fields.{ChangesNothing}
+use Rattle.ckd_drive.proofs.Takes.{field_goes, field_absorbs}
 
 -- the arm stays at its track
 pub record StaysOn (r : Registers) (u : CommandEnd) : Type 0 where
@@ -45,7 +43,7 @@ new_work half more new w u = at_work (with_taken half more (with_held half.cache
 pub newly_absorbs : (half : HalfDone) (more new : List ℕ) (w : Window) (u : CommandEnd) (le0 : length {A = ℕ} [] ≤ w.len)
     → Works half → half.cache.held ≡ Some (own_track half) → is_filled_by half.progress.place ≡ false
     → sight half.cache.image.geometry (track_of (own_slot half)) half.progress.opened half.registers ≡ Found half.progress.opened
-    → (action_now half ≡ action.GiveSense → ⊥) × (action_now half ≡ action.Read → ⊥) → StaysOn half.registers u
+    → is_giving (action_now half) ≡ false → StaysOn half.registers u
     → 0 < length half.passed + length more → half.progress.left - length more ≤ w.len → length half.passed + length more < 2 ^ 32
     → (f : IsFilled (new_work half more new w u) (slot_in (new_work half more new w u)) w u)
     → new ≡ slot_of half.cache.image.geometry.track_size (f.closes [] le0).track
@@ -78,7 +76,7 @@ newly_absorbs half more new w u le0 x held plain again takes on some left small 
       head = on.head;
     } in
     let works = written_works half old more new w u x held read.2 left has in
-    written_absorbs half old more new w u works held (set-get_or c.slots n [] ∙ sym (unfilled_sees c.slots n half.before half.progress.place plain)) small
+    written_absorbs half old more new w u works held (set-get_or c.slots n [] ∙ sym (no_filled_seen c.slots n half.before half.progress.place plain)) small
 
 -- What a field is that came whole.
 
@@ -247,8 +245,5 @@ home_absorbs half more f field h new may at is e new_is =
     let lens : lengths_on (track_in (slot_at (with_held c new).slots n)) ≡ lengths_on (bare_track b) = ap (λ (y : List ℕ). lengths_on (track_in y)) at_new ∙ ap lengths_on read.1 in
     let left : p.left ≤ 5 - length half.passed = rw (at, home.is) at goes.left in
     newly_absorbs half more new (record { start = 5; len = 0 }) (command_end (home_address_ends p.opened r)) (omega arith) may.works held (rw at refl) k.again
-    (takes_home (action_of p.opened.command) home.is) (record { stays = refl; cylinder = refl; head = refl }) (omega (arith, five, k.long)) (omega (arith, left, five, k.long)) (omega (arith, five, k.long))
+    may.taking (record { stays = refl; cylinder = refl; head = refl }) (omega (arith, five, k.long)) (omega (arith, left, five, k.long)) (omega (arith, five, k.long))
     (home_filled (new_work half more new (record { start = 5; len = 0 }) (command_end (home_address_ends p.opened r))) (slot_at (with_held c new).slots n) home.is five own room lens) made
-  where
-    takes_home : (a : Action) → a ≡ action.WriteHomeAddress → (a ≡ action.GiveSense → ⊥) × (a ≡ action.Read → ⊥)
-    takes_home a e = (λ z. cc, λ z. cc)

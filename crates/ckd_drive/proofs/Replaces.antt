@@ -186,8 +186,7 @@ no_area half more w u may at none some =
     let n : ℕ = track_under g half.registers in
     let t = track_of (slot_at half.cache.slots n) in
     let left : half.progress.left ≤ w.len = rw at at may.works.goes.left in
-    let P : Transfer → Type 0 = λ y. IsPlaced (at_work half) y in
-    let h = (subst P at may.works.goes.placed).0 in
+    let h = (rw at at may.works.goes.placed).0 in
     let bytes : area_bytes t half.progress.opened half.registers ≡ [] = area_by action.Update t half.progress.opened half.registers h.is_update ∙ rw none refl in
     let zero : 0 ≡ w.len = sym (ap length bytes) ∙ h.lies.size in
     omega (arith, zero, left, may.room, some)
@@ -202,8 +201,7 @@ fill_goes half more a w u may at area some =
     let old = slot_at half.cache.slots n in
     let t = track_of old in
     let left : p.left ≤ w.len = rw at at may.works.goes.left in
-    let P : Transfer → Type 0 = λ y. IsPlaced (at_work half) y in
-    let placed = subst P at may.works.goes.placed in
+    let placed = rw at at may.works.goes.placed in
     let h = placed.0 in
     let e = extent_of p.opened.command in
     let upd = update_extent p.opened.command h.is_update in
@@ -230,9 +228,6 @@ fill_goes half more a w u may at area some =
       size = h.lies.size;
       so = ap command_end (sym closes) ∙ closed.so;
     }
-
-takes_update : (a : Action) → a ≡ action.Update → (a ≡ action.GiveSense → ⊥) × (a ≡ action.Read → ⊥)
-takes_update a e = (λ z. cc, λ z. cc)
 
 ends_on : (t : Sighted) (o : Opened) (r : Registers) (u : CommandEnd) → command_end (end_of_area t o r) ≡ u → StaysOn r u
 ends_on t o r u so = record { stays = ap (λ (y : CommandEnd). y.moves_off) (sym so); cylinder = ap (λ (y : CommandEnd). y.registers.cylinder) (sym so); head = ap (λ (y : CommandEnd). y.registers.head) (sym so) }
@@ -297,7 +292,7 @@ fill_absorbs half more (Of part i) w u may at area some k f =
     let whole : b ++ [] ≡ more = append-nil b ∙ b_is in
     record {
       records = same_records size s1 new t1 (old_read s1 read1.0) form.fits new_is (form.lengths ∙ sym (ap lengths_on read1.1));
-      absorbs = newly_absorbs half more new w' u (omega arith) may.works k.hand.held (rw at refl) k.again (takes_update (action_of half.progress.opened.command) k.is) (ends_on (track_of old) half.progress.opened half.registers u k.so)
+      absorbs = newly_absorbs half more new w' u (omega arith) may.works k.hand.held (rw at refl) k.again may.taking (ends_on (track_of old) half.progress.opened half.registers u k.so)
           (omega (arith, some)) (let l = k.left in omega (arith, l)) (omega (arith, none_long, k.le, k.within, may.works.volume.geometry.limit)) filled
           (new_is ∙ ap (λ (y : List ℕ). slot_of size (with_record_changed (replaced e (padded y room0)) (Of part i) t0)) (sym whole));
     }

@@ -23,6 +23,7 @@ use Rattle.ckd_position.specs.Contents.{Sighted}
 use Rattle.ckd_command.specs.Commands.{Closing, sight, area_bytes, length_after, length_for, close_by, own_home_address, new_record_fits, write_home_address, format, whole_field, at_end}
 use Rattle.ckd_slot.specs.Buffer.{Lies}
 use Rattle.ckd_drive.specs.Invariant.{HalfDone, Works, MayTake, Absorbs, own_slot, action_now, seen_with, IsPlaced, IsField, HasField, remaining, slot_at, track_under, is_filled_by, order_of, field_size, at_work}
+use Rattle.ckd_drive.proofs.Fields.{ChangesNothing, field_unwritten, field_wants, field_small}
 use Rattle.ckd_command.proofs.Closings.{closing_by}
 use Rattle.ckd_command.proofs.Lengths.{length_by}
 use Rattle.ckd_drive.proofs.Moving.{slot_small, lies_first, lies_rest, next_left}
@@ -96,8 +97,7 @@ search_absorbs half more slot w so_far now may at slot_is now_is =
     let t = track_of (slot_at c.slots n) in
     let left : p.left ≤ w.len = rw at at goes.left in
     let le : length more ≤ w.len = omega (arith, left, may.room) in
-    let P : Transfer → Type 0 = λ y. IsPlaced (at_work half) y in
-    let placed = subst P at goes.placed in
+    let placed = rw at at goes.placed in
     let h = placed.0 in
     let area = area_bytes t p.opened r in
     let rest : List ℕ = drop (length passed) area in
@@ -124,46 +124,6 @@ collected_more f passed more e =
     let is : overwritten f m more ≡ (passed ++ more) ++ drop (m + length more) f = ap (λ (z : List ℕ). z ++ (more ++ drop (m + length more) f)) e ∙ sym (append_assoc passed more (drop (m + length more) f)) in
     rw is (take_at (passed ++ more) (drop (m + length more) f) (length (passed ++ more)) refl)
 
--- what a field that came so far does to the track: nothing, unless it came whole
-abbrev pub ChangesNothing : Action → Geometry → Sighted → Opened → Registers → List ℕ → Type 0
-ChangesNothing action.WriteHomeAddress g t o r b = (length b ≡ 5) → bytes_eq b (own_home_address r) ≡ false
-ChangesNothing action.Format g t o r b = (length b ≡ 8) → new_record_fits g t o b ≡ false
-ChangesNothing a g t o r b = Unit {0}
-
--- a field that must come whole writes nothing, unless it is whole and what it then closes to writes
-unwritten_field : (r : Registers) (b : List ℕ) (size : ℕ) (c : Closing) → length b ≤ size → (length b ≡ size → c.written ≡ None) → (whole_field r b size c).written ≡ None
-unwritten_field r b size c le h =
-    let P : Closing → Type 0 = λ k. k.written ≡ None in
-    cond_both (length b == 0) _ _ P (λ _. refl) (λ _. cond_both (nat_lt (length b) size) _ _ P (λ _. refl) (λ long. h (grind (arith, nat_tests))))
-
-seeks_unwritten : (a : Bool) (x y : Closing) → x.written ≡ None → y.written ≡ None → (if a then x else y).written ≡ None
-seeks_unwritten a x y p q = cond_both a x y (λ k. k.written ≡ None) (λ _. p) (λ _. q)
-
-format_wants : (g : Geometry) (t : Sighted) (o : Opened) (r : Registers) (b : List ℕ) (short : Bool) → nat_lt (length b) 8 ≡ short → length b ≤ 8 → ChangesNothing action.Format g t o r b → length_for action.Format g t o r b ≡ 8
-format_wants g t o r b true e le n = rw e refl
-format_wants g t o r b false e le n = (let own = n (grind (arith, nat_tests)) in rw (e, own) refl)
-
-pub field_unwritten : (a : Action) (g : Geometry) (t : Sighted) (o : Opened) (r : Registers) (b : List ℕ) → IsField a → length b ≤ field_size a → ChangesNothing a g t o r b → (close_by a g t o r b).written ≡ None
-field_unwritten action.SeekCylinderAndHead g t o r b f le n = unwritten_field r b 6 _ le (λ _. seeks_unwritten _ _ _ refl refl)
-field_unwritten action.SeekHead g t o r b f le n = unwritten_field r b 6 _ le (λ _. seeks_unwritten _ _ _ refl refl)
-field_unwritten action.SetFileMask g t o r [] f le n = refl
-field_unwritten action.SetFileMask g t o r (x ∷ b) f le n = refl
-field_unwritten action.WriteHomeAddress g t o r b f le n = unwritten_field (at_end o r) b 5 (write_home_address o r b) le (λ five. (let own = n five in rw own refl))
-field_unwritten action.Format g t o r b f le n = unwritten_field r b 8 (format g t o r b) le (λ eight. (let none = n eight in rw none refl))
-field_unwritten _ g t o r b f le n = absurd f
-
-pub field_wants : (a : Action) (g : Geometry) (t : Sighted) (o : Opened) (r : Registers) (b : List ℕ) → IsField a → length b ≤ field_size a → ChangesNothing a g t o r b → length_for a g t o r b ≡ field_size a
-field_wants action.SeekCylinderAndHead g t o r b f le n = refl
-field_wants action.SeekHead g t o r b f le n = refl
-field_wants action.SetFileMask g t o r b f le n = refl
-field_wants action.WriteHomeAddress g t o r b f le n = refl
-field_wants action.Format g t o r b f le n = format_wants g t o r b (nat_lt (length b) 8) refl le n
-field_wants _ g t o r b f le n = absurd f
-
-field_small : (a : Action) → field_size a ≤ 8
-field_small action.Format = omega arith
-field_small _ = omega arith
-
 -- what is known of a field, with more bytes
 pub record FieldGoes (half : HalfDone) (more f : List ℕ) : Type 0 where
   pub has : HasField (at_work half) f
@@ -179,8 +139,7 @@ field_goes half more f may at =
     let n : ℕ = track_under g half.registers in
     let goes = may.works.goes in
     let left : half.progress.left ≤ field_size (action_of half.progress.opened.command) - length passed = rw at at goes.left in
-    let P : Transfer → Type 0 = λ y. IsPlaced (at_work half) y in
-    let placed = subst P at goes.placed in
+    let placed = rw at at goes.placed in
     let h = placed.0 in
     let far : length (passed ++ more) ≡ length passed + length more = length-append passed more in
     record {

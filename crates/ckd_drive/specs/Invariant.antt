@@ -273,7 +273,7 @@ pub record HasFilled (job : AtWork) (w : Window) (u : CommandEnd) : Type 0 where
   pub filled : IsFilled job (slot_in job) w u
   pub slot_is : slot_in job ≡ filled.head ++ (padded (drop filled.lead job.passed) filled.room ++ filled.tail)
   pub found : IsFound job (track_of job.before) (Filled w u)
-  pub takes : (action_in job ≡ action.GiveSense → ⊥) × (action_in job ≡ action.Read → ⊥)
+  pub takes : is_giving (action_in job) ≡ false
   pub some : 0 < length job.passed
   pub stays : u.moves_off ≡ false
   pub cylinder : u.registers.cylinder ≡ job.registers.cylinder

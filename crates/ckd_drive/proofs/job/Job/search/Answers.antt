@@ -10,8 +10,7 @@ pub returns : goal.returns
 returns g c =
     let half = half_done c.args.self.now in
     let at : half.progress.place ≡ Search c.args.window c.args.so_far = rw c.requires.at refl in
-    let P : Transfer → Type 0 = λ y. IsPlaced (at_work half) y in
-    let placed = subst P at c.requires.may.works.goes.placed in
+    let placed = rw at at c.requires.may.works.goes.placed in
     let slot : c.bytes.result.now ≡ own_slot half = c.bytes.ensures ∙ slot_is half.cache (own_track half) c.buffer.result.now placed.0.at_hand.held c.buffer.ensures.slot in
     rw (c.search_on.ensures, c.behind.ensures)
     record {
