@@ -133,9 +133,6 @@ pub record FormatGoes (half : HalfDone) (more count : List ℕ) : Type 0 where
   pub whole : count ≡ half.passed ++ more
   pub at_hand : AtHand half.cache (own_track half)
 
-format_hand : (a : Action) (c : CacheState) (n : ℕ) → a ≡ action.Format → FieldAtHand a c n → AtHand c n
-format_hand a c n is h = (let P : Action → Type 0 = λ y. FieldAtHand y c n in subst P is h)
-
 pub format_goes : (half : HalfDone) (more f field count : List ℕ) → MayTake half more → half.progress.place ≡ Field f → field ≡ overwritten f half.progress.moved more → length field ≡ 8
     → whole_of (action_now half) (own_home_address half.registers) (half.progress.moved + length more) field ≡ whole.Count count → FormatGoes half more count
 format_goes half more f field count may at is long e =
@@ -150,20 +147,15 @@ format_goes half more f field count may at is long e =
       is = new.is;
       eight = eight;
       whole = new.count ∙ sym (take_all 8 field (omega (arith, long))) ∙ come;
-      at_hand = format_hand (action_of p.opened.command) half.cache (track_under half.cache.image.geometry half.registers) new.is k.has.at_hand;
+      at_hand = rw new.is at k.has.at_hand;
     }
 
 -- a record that does not fit
 pub format_stays : (half : HalfDone) (more f field count : List ℕ) → MayTake half more → half.progress.place ≡ Field f → field ≡ overwritten f half.progress.moved more
     → FormatGoes half more count → fits_track half.cache.image.geometry.model half.progress.opened.area count (track_of (slot_held half.cache)) ≡ false → Absorbs half more half.cache half.before (Field field)
 format_stays half more f field count may at is k no_room =
-    let g = half.cache.image.geometry in
-    let t = track_of (slot_at half.cache.slots (track_under g half.registers)) in
-    let N : Action → Type 0 = λ a. ChangesNothing a g t half.progress.opened half.registers (half.passed ++ more) in
-    let P : List ℕ → Type 0 = λ b. new_record_fits g t half.progress.opened b ≡ false in
-    let held = slot_is half.cache (track_under g half.registers) (slot_held half.cache) k.at_hand.held refl in
-    let none : ChangesNothing action.Format g t half.progress.opened half.registers (half.passed ++ more) = λ _. subst P k.whole (rw held at no_room) in
-    field_absorbs half more f field may at is (subst N (sym k.is) none)
+    let held = slot_is half.cache (own_track half) (slot_held half.cache) k.at_hand.held refl in
+    field_absorbs half more f field may at is (rw k.is (λ _. rw (held, k.whole) at no_room))
 
 -- a record that fits
 pub format_absorbs : (half : HalfDone) (more f count : List ℕ) (i : ℕ) (w : Window) → MayTake half more → half.progress.place ≡ Field f → FormatGoes half more count

@@ -1,7 +1,7 @@
 -- Tracks that a command begins to write.
 use Rattle.std.proofs.Common.{◌≡◌, ◌∙◌, ap, sym, subst, refl, ℕ, ◌+◌, ◌-◌, ◌<◌, ◌≤◌, ◌^◌, List, [], ◌∷◌, ◌++◌, Bool, true, false, ◌&&◌, ◌==◌, if◌then◌else◌, Some, length, take, drop, bytes_eq, length-append, length-take, append-nil, arith}
 use Rattle.std.proofs.lemmas.List.{take-append-drop, drop_all, set-get_or}
-use Rattle.std.proofs.lemmas.Bool.Decides.{nat_tests}
+use Rattle.std.proofs.lemmas.Bool.{and_parts, cond_both, eqb-true, false_from_ne_true}
 use Rattle.ckd_track.specs.Track.{track_of, track_in, slot_of}
 use Rattle.ckd_track.specs.Changes.{overwritten, bare_track}
 use Rattle.ckd_track.proofs.Slots.{length-slot_of}
@@ -80,37 +80,16 @@ newly_absorbs half more new w u le0 x held plain again takes on some left small 
 
 -- What a field is that came whole.
 
-abbrev home_of : Whole → List ℕ
-home_of (whole.HomeAddress h) = h
-home_of _ = []
-
-abbrev count_of : Whole → List ℕ
-count_of (whole.Count b) = b
-count_of _ = []
-
-same_number : (m n : ℕ) → (m == n) ≡ true → m ≡ n
-same_number m n e = grind (arith, nat_tests)
-
 pub record IsHome (a : Action) (own : List ℕ) (moved : ℕ) (f h : List ℕ) : Type 0 where
   pub is : a ≡ action.WriteHomeAddress
   pub five : moved ≡ 5
   pub own_address : bytes_eq (take 5 f) own ≡ true
   pub home : h ≡ take 5 f
 
-home_by : (own : List ℕ) (moved : ℕ) (f h : List ℕ) (five same : Bool) → (moved == 5) ≡ five → bytes_eq (take 5 f) own ≡ same → (if five && same then whole.HomeAddress (take 5 f) else whole.No) ≡ whole.HomeAddress h
-    → IsHome action.WriteHomeAddress own moved f h
-home_by own moved f h true true a b e = record { is = refl; five = same_number moved 5 a; own_address = b; home = sym (ap home_of e) }
-home_by own moved f h true false a b e = absurd cc
-home_by own moved f h false true a b e = absurd cc
-home_by own moved f h false false a b e = absurd cc
-
-not_home : (moved : ℕ) (f h : List ℕ) (eight : Bool) → (if eight then whole.Count f else whole.No) ≡ whole.HomeAddress h → ⊥
-not_home moved f h true e = cc
-not_home moved f h false e = cc
-
 pub is_home : (a : Action) (own : List ℕ) (moved : ℕ) (f h : List ℕ) → whole_of a own moved f ≡ whole.HomeAddress h → IsHome a own moved f h
-is_home action.WriteHomeAddress own moved f h e = home_by own moved f h (moved == 5) (bytes_eq (take 5 f) own) refl refl e
-is_home action.Format own moved f h e = absurd (not_home moved f h (moved == 8) e)
+is_home action.WriteHomeAddress own moved f h e = cond_both (moved == 5 && bytes_eq (take 5 f) own) _ _ (λ w. w ≡ whole.HomeAddress h → IsHome action.WriteHomeAddress own moved f h)
+    (λ whole is. (let t = and_parts (moved == 5) (bytes_eq (take 5 f) own) whole in record { is = refl; five = eqb-true moved 5 t.0; own_address = t.1; home = cc })) (λ _ is. absurd cc) e
+is_home action.Format own moved f h e = absurd (cond_both (moved == 8) _ _ (λ w. w ≡ whole.HomeAddress h → ⊥) (λ _ is. cc) (λ _ is. cc) e)
 is_home _ own moved f h e = absurd cc
 
 pub record IsCount (a : Action) (moved : ℕ) (f b : List ℕ) : Type 0 where
@@ -118,30 +97,17 @@ pub record IsCount (a : Action) (moved : ℕ) (f b : List ℕ) : Type 0 where
   pub eight : moved ≡ 8
   pub count : b ≡ f
 
-count_by : (moved : ℕ) (f b : List ℕ) (eight : Bool) → (moved == 8) ≡ eight → (if eight then whole.Count f else whole.No) ≡ whole.Count b → IsCount action.Format moved f b
-count_by moved f b true a e = record { is = refl; eight = same_number moved 8 a; count = sym (ap count_of e) }
-count_by moved f b false a e = absurd cc
-
-not_count : (f b : List ℕ) (x : Bool) → (if x then whole.HomeAddress (take 5 f) else whole.No) ≡ whole.Count b → ⊥
-not_count f b true e = cc
-not_count f b false e = cc
-
 pub is_count : (a : Action) (own : List ℕ) (moved : ℕ) (f b : List ℕ) → whole_of a own moved f ≡ whole.Count b → IsCount a moved f b
-is_count action.Format own moved f b e = count_by moved f b (moved == 8) refl e
-is_count action.WriteHomeAddress own moved f b e = absurd (not_count f b (moved == 5 && bytes_eq (take 5 f) own) e)
+is_count action.Format own moved f b e = cond_both (moved == 8) _ _ (λ w. w ≡ whole.Count b → IsCount action.Format moved f b)
+    (λ eight is. record { is = refl; eight = eqb-true moved 8 eight; count = cc }) (λ _ is. absurd cc) e
+is_count action.WriteHomeAddress own moved f b e = absurd (cond_both (moved == 5 && bytes_eq (take 5 f) own) _ _ (λ w. w ≡ whole.Count b → ⊥) (λ _ is. cc) (λ _ is. cc) e)
 is_count _ own moved f b e = absurd cc
-
-no_home : (own f : List ℕ) (same : Bool) → bytes_eq (take 5 f) own ≡ same → (if true && same then whole.HomeAddress (take 5 f) else whole.No) ≡ whole.No → bytes_eq (take 5 f) own ≡ false
-no_home own f true b e = absurd cc
-no_home own f false b e = b
 
 -- what is no whole field changes nothing
 pub no_change : (a : Action) (g : Geometry) (t : Sighted) (o : Opened) (r : Registers) (moved : ℕ) (f b : List ℕ) → whole_of a (own_home_address r) moved f ≡ whole.No → length b ≡ moved → take moved f ≡ b → ChangesNothing a g t o r b
 no_change action.WriteHomeAddress g t o r moved f b e long is = λ five.
     (let m : moved ≡ 5 = sym long ∙ five in
-    let e' = rw m at e in
-    let b_is : take 5 f ≡ b = rw m at is in
-    rw b_is at (no_home (own_home_address r) f (bytes_eq (take 5 f) (own_home_address r)) refl e'))
+    false_from_ne_true (bytes_eq b (own_home_address r)) (λ own. (let e' = rw (m, rw m at is, own) at e in cc)))
 no_change action.Format g t o r moved f b e long is = λ eight. absurd (let m : moved ≡ 8 = sym long ∙ eight in let e' = rw m at e in cc)
 no_change _ g t o r moved f b e long is = tt
 
@@ -204,20 +170,13 @@ home_filled job now is five own room lens =
       wants = λ more le. ap (λ (x : List ℕ). length_after g t o r x) (nothing_more b more le) ∙ length_by action.WriteHomeAddress g t o r b is;
     }
 
-field_at : (a : Action) (c : CacheState) (n : ℕ) → a ≡ action.WriteHomeAddress → FieldAtHand a c n → c.held ≡ Some n
-field_at a c n is h = (let P : Action → Type 0 = λ y. FieldAtHand y c n in subst P is h)
-
 pub home_held : (half : HalfDone) (more f field h : List ℕ) → MayTake half more → half.progress.place ≡ Field f
     → whole_of (action_now half) (own_home_address half.registers) (half.progress.moved + length more) field ≡ whole.HomeAddress h → half.cache.held ≡ Some (own_track half)
 home_held half more f field h may at e =
     let p = half.progress in
     let k = field_goes half more f may at in
     let home = is_home (action_of p.opened.command) (own_home_address half.registers) (p.moved + length more) field h e in
-    field_at (action_of p.opened.command) half.cache (track_under half.cache.image.geometry half.registers) home.is k.has.at_hand
-
--- no slot is shorter than that of a track without records
-pub size_least : (c : CacheState) → IsVolume c → 13 ≤ c.image.geometry.track_size
-size_least c v = omega (arith, v.geometry.room)
+    rw home.is at k.has.at_hand
 
 pub home_absorbs : (half : HalfDone) (more f field h new : List ℕ) → MayTake half more → half.progress.place ≡ Field f → field ≡ overwritten f half.progress.moved more
     → whole_of (action_now half) (own_home_address half.registers) (half.progress.moved + length more) field ≡ whole.HomeAddress h → new ≡ slot_of half.cache.image.geometry.track_size (bare_track h)
@@ -226,8 +185,8 @@ home_absorbs half more f field h new may at is e new_is =
     let c = half.cache in
     let r = half.registers in
     let p = half.progress in
-    let room = size_least c may.works.volume in
     let g = c.image.geometry in
+    let room : 13 ≤ g.track_size = omega (arith, may.works.volume.geometry.room) in
     let n : ℕ = track_under g r in
     let k = field_goes half more f may at in
     let goes = may.works.goes in
@@ -238,7 +197,7 @@ home_absorbs half more f field h new may at is e new_is =
     let come : take 5 field ≡ b = rw (five, ← is) at k.collected in
     let h_is : h ≡ b = home.home ∙ come in
     let own : bytes_eq b (own_home_address r) ≡ true = rw come at home.own_address in
-    let held = field_at (action_of p.opened.command) c n home.is k.has.at_hand in
+    let held : c.held ≡ Some n = rw home.is at k.has.at_hand in
     let made : new ≡ slot_of g.track_size (bare_track b) = new_is ∙ ap (λ (y : List ℕ). slot_of g.track_size (bare_track y)) h_is in
     let read = reads_new g.track_size (bare_track b) new (bare_fits g.track_size b five room) made in
     let at_new = new_slot_at c n new held (there half may.works) in
