@@ -14,10 +14,11 @@ use Rattle.ckd_drive.specs.Transfers.{Transfer, Filled}
 use Rattle.ckd_position.specs.Contents.{Sighted, is_readable, padded, replaced, with_record_changed}
 use Rattle.ckd_command.specs.Commands.{length_after, closing, command_end}
 use Rattle.ckd_slot.specs.Buffer.{FitsSlot, IsUpdate, SameRecords, lengths_on}
-use Rattle.ckd_cache.specs.Cache.{CacheState, with_held}
+use Rattle.ckd_cache.specs.Cache.{CacheState, slot_held, with_held}
 use Rattle.ckd_drive.specs.Invariant.{HalfDone, Works, MayTake, Absorbs, own_track, own_slot, seen_with, with_taken, IsPlaced, HasFilled, IsFilled, slot_at, track_under, AtWork, geometry_in, slot_in, at_work}
 use Rattle.ckd_slot.proofs.Writes.{update_offset, update_length}
 use Rattle.ckd_slot.proofs.Updates.{form_of, padded_on, same_records}
+use Rattle.ckd_drive.proofs.Looks.{slot_is}
 use Rattle.ckd_drive.proofs.Numbers.{number_below}
 
 or_true : (b : Bool) → true ≡ (b || true)
@@ -185,8 +186,8 @@ pub record NextSlot (half : HalfDone) (more : List ℕ) (w : Window) (u : Comman
   pub held : half.cache.held ≡ Some (own_track half)
   pub le : length more ≤ w.len
   pub room : w.start + length more ≤ half.cache.image.geometry.track_size
-  pub records : SameRecords (own_slot half) (overwritten (own_slot half) w.start more)
-  pub absorbs : Absorbs half more (with_held half.cache (overwritten (own_slot half) w.start more)) half.before (Filled (record { start = w.start + length more; len = w.len - length more }) u)
+  pub records : SameRecords (slot_held half.cache) (overwritten (slot_held half.cache) w.start more)
+  pub absorbs : Absorbs half more (with_held half.cache (overwritten (slot_held half.cache) w.start more)) half.before (Filled (record { start = w.start + length more; len = w.len - length more }) u)
 
 next_bytes : (lead : ℕ) (passed more : List ℕ) → lead ≤ length passed → drop lead (passed ++ more) ≡ drop lead passed ++ more
 next_bytes lead passed more le = drop-append-le lead passed more le
@@ -234,10 +235,11 @@ filled_absorbs half more w u may at =
       head = h.head;
     } in
     let works = written_works half half.before more new w' u may.works h.at_hand.held read.2 (omega (arith, left, le)) has in
+    let here : slot_held c ≡ old = slot_is c n (slot_held c) h.at_hand.held refl in
     record {
       held = h.at_hand.held;
       le = le;
       room = omega (arith, f.within, le);
-      records = same_records g.track_size old new k.track (old_read old h.at_hand.readable) k.fits slot k.lengths_stay;
-      absorbs = written_absorbs half half.before more new w' u works h.at_hand.held (rw at refl) (omega (arith, f.start, f.within, f.begins, f.lead_small, le, may.works.volume.geometry.limit));
+      records = rw here (same_records g.track_size old new k.track (old_read old h.at_hand.readable) k.fits slot k.lengths_stay);
+      absorbs = rw here (written_absorbs half half.before more new w' u works h.at_hand.held (rw at refl) (omega (arith, f.start, f.within, f.begins, f.lead_small, le, may.works.volume.geometry.limit)));
     }

@@ -151,17 +151,21 @@ format_goes half more f field count may at is long e =
     }
 
 -- a record that does not fit
-pub format_stays : (half : HalfDone) (more f field count : List ℕ) → MayTake half more → half.progress.place ≡ Field f → field ≡ overwritten f half.progress.moved more
-    → FormatGoes half more count → fits_track half.cache.image.geometry.model half.progress.opened.area count (track_of (slot_held half.cache)) ≡ false → Absorbs half more half.cache half.before (Field field)
-format_stays half more f field count may at is k no_room =
+pub format_stays : (half : HalfDone) (more f field count : List ℕ) → MayTake half more → half.progress.place ≡ Field f → field ≡ overwritten f half.progress.moved more → length field ≡ 8
+    → whole_of (action_now half) (own_home_address half.registers) (half.progress.moved + length more) field ≡ whole.Count count
+    → fits_track half.cache.image.geometry.model half.progress.opened.area count (track_of (slot_held half.cache)) ≡ false → Absorbs half more half.cache half.before (Field field)
+format_stays half more f field count may at is long e no_room =
+    let k = format_goes half more f field count may at is long e in
     let held = slot_is half.cache (own_track half) (slot_held half.cache) k.at_hand.held refl in
     field_absorbs half more f field may at is (rw k.is (λ _. rw (held, k.whole) at no_room))
 
 -- a record that fits
-pub format_absorbs : (half : HalfDone) (more f count : List ℕ) (i : ℕ) (w : Window) → MayTake half more → half.progress.place ≡ Field f → FormatGoes half more count
+pub format_absorbs : (half : HalfDone) (more f field count : List ℕ) (i : ℕ) (w : Window) → MayTake half more → half.progress.place ≡ Field f → field ≡ overwritten f half.progress.moved more → length field ≡ 8
+    → whole_of (action_now half) (own_home_address half.registers) (half.progress.moved + length more) field ≡ whole.Count count
     → HasFormatted half.cache.image.geometry.model half.cache.image.geometry.track_size half.progress.opened.area count (track_of (slot_held half.cache)) i w
-    → Absorbs half more (after_format half.cache half.progress.opened.area count) (own_slot half) (Filled w (command_end (format_ends half.registers i)))
-format_absorbs half more f count i w may at k has =
+    → Absorbs half more (after_format half.cache half.progress.opened.area count) (slot_held half.cache) (Filled w (command_end (format_ends half.registers i)))
+format_absorbs half more f field count i w may at is long e has =
+    let k = format_goes half more f field count may at is long e in
     let c = half.cache in
     let r = half.registers in
     let g = c.image.geometry in

@@ -19,13 +19,13 @@ use Rattle.ckd_command.specs.Tables.{action_of, is_giving}
 use Rattle.ckd_position.specs.Contents.{Sighted, padded}
 use Rattle.ckd_command.specs.Commands.{Closing, sight, length_after, closing, command_end, own_home_address, home_address_ends, writes}
 use Rattle.ckd_slot.specs.Buffer.{lengths_on}
-use Rattle.ckd_cache.specs.Cache.{CacheState, IsVolume, with_held}
+use Rattle.ckd_cache.specs.Cache.{CacheState, slot_held, with_held}
 use Rattle.ckd_drive.specs.Invariant.{HalfDone, Works, MayTake, Absorbs, own_track, own_slot, action_now, HasFilled, IsFilled, FieldAtHand, slot_at, track_under, seen_by, is_filled_by, whole_of, AtWork, geometry_in, slot_in, action_in, at_work, with_taken}
 use Rattle.ckd_slot.proofs.Writes.{bare_fits}
 use Rattle.ckd_drive.proofs.Fills.{written_works, there, new_slot_at, written_absorbs, reads_new}
 use Rattle.ckd_command.proofs.Closings.{closing_by}
 use Rattle.ckd_command.proofs.Lengths.{length_by}
-use Rattle.ckd_drive.proofs.Looks.{no_filled_seen}
+use Rattle.ckd_drive.proofs.Looks.{no_filled_seen, slot_is}
 use Rattle.ckd_drive.proofs.Fields.{ChangesNothing}
 use Rattle.ckd_drive.proofs.Takes.{field_goes, field_absorbs}
 
@@ -47,7 +47,7 @@ pub newly_absorbs : (half : HalfDone) (more new : List ℕ) (w : Window) (u : Co
     → 0 < length half.passed + length more → half.progress.left - length more ≤ w.len → length half.passed + length more < 2 ^ 32
     → (f : IsFilled (new_work half more new w u) (slot_in (new_work half more new w u)) w u)
     → new ≡ slot_of half.cache.image.geometry.track_size (f.closes [] le0).track
-    → Absorbs half more (with_held half.cache new) (own_slot half) (Filled w u)
+    → Absorbs half more (with_held half.cache new) (slot_held half.cache) (Filled w u)
 newly_absorbs half more new w u le0 x held plain again takes on some left small f is =
     let c = half.cache in
     let passed = half.passed in
@@ -76,7 +76,7 @@ newly_absorbs half more new w u le0 x held plain again takes on some left small 
       head = on.head;
     } in
     let works = written_works half old more new w u x held read.2 left has in
-    written_absorbs half old more new w u works held (set-get_or c.slots n [] ∙ sym (no_filled_seen c.slots n half.before half.progress.place plain)) small
+    rw (slot_is c n (slot_held c) held refl) (written_absorbs half old more new w u works held (set-get_or c.slots n [] ∙ sym (no_filled_seen c.slots n half.before half.progress.place plain)) small)
 
 -- What a field is that came whole.
 
@@ -170,17 +170,9 @@ home_filled job now is five own room lens =
       wants = λ more le. ap (λ (x : List ℕ). length_after g t o r x) (nothing_more b more le) ∙ length_by action.WriteHomeAddress g t o r b is;
     }
 
-pub home_held : (half : HalfDone) (more f field h : List ℕ) → MayTake half more → half.progress.place ≡ Field f
-    → whole_of (action_now half) (own_home_address half.registers) (half.progress.moved + length more) field ≡ whole.HomeAddress h → half.cache.held ≡ Some (own_track half)
-home_held half more f field h may at e =
-    let p = half.progress in
-    let k = field_goes half more f may at in
-    let home = is_home (action_of p.opened.command) (own_home_address half.registers) (p.moved + length more) field h e in
-    rw home.is at k.has.at_hand
-
 pub home_absorbs : (half : HalfDone) (more f field h new : List ℕ) → MayTake half more → half.progress.place ≡ Field f → field ≡ overwritten f half.progress.moved more
     → whole_of (action_now half) (own_home_address half.registers) (half.progress.moved + length more) field ≡ whole.HomeAddress h → new ≡ slot_of half.cache.image.geometry.track_size (bare_track h)
-    → Absorbs half more (with_held half.cache new) (own_slot half) (Filled (record { start = 5; len = 0 }) (command_end (home_address_ends half.progress.opened half.registers)))
+    → Absorbs half more (with_held half.cache new) (slot_held half.cache) (Filled (record { start = 5; len = 0 }) (command_end (home_address_ends half.progress.opened half.registers)))
 home_absorbs half more f field h new may at is e new_is =
     let c = half.cache in
     let r = half.registers in

@@ -180,8 +180,9 @@ pub record FillGoes (half : HalfDone) (more : List ℕ) (a : Area) (w : Window) 
   pub so : command_end (end_of_area (track_of (own_slot half)) half.progress.opened half.registers) ≡ u
 
 -- bytes that come belong to an area
-pub no_area : (half : HalfDone) (more : List ℕ) (w : Window) (u : CommandEnd) → MayTake half more → half.progress.place ≡ Fill w u → half.progress.opened.area ≡ None → 0 < length more → ⊥
-no_area half more w u may at none some =
+pub no_area : (half : HalfDone) (more : List ℕ) (w : Window) (u : CommandEnd) → MayTake half more → half.progress.place ≡ Fill w u → half.progress.opened.area ≡ None → (length more == 0) ≡ false → ⊥
+no_area half more w u may at none came =
+    let some : 0 < length more = grind (arith, nat_tests) in
     let g = half.cache.image.geometry in
     let n : ℕ = track_under g half.registers in
     let t = track_of (slot_at half.cache.slots n) in
@@ -238,7 +239,7 @@ cleared_slot half a = slot_of half.cache.image.geometry.track_size (with_record_
 
 pub record Replaces (half : HalfDone) (more : List ℕ) (a : Area) (w : Window) (u : CommandEnd) : Type 0 where
   pub records : SameRecords (cleared_slot half a) (overwritten (cleared_slot half a) w.start more)
-  pub absorbs : Absorbs half more (with_held half.cache (overwritten (cleared_slot half a) w.start more)) (own_slot half) (Filled (record { start = w.start + length more; len = w.len - length more }) u)
+  pub absorbs : Absorbs half more (with_held half.cache (overwritten (cleared_slot half a) w.start more)) (slot_held half.cache) (Filled (record { start = w.start + length more; len = w.len - length more }) u)
 
 pub fill_absorbs : (half : HalfDone) (more : List ℕ) (a : Area) (w : Window) (u : CommandEnd) → MayTake half more → half.progress.place ≡ Fill w u → half.progress.opened.area ≡ Some a → 0 < length more
     → FillGoes half more a w u → FitsSlot half.cache.image.geometry.track_size (with_record_changed (replaced (extent_of half.progress.opened.command) []) a (track_in (own_slot half))) → Replaces half more a w u
@@ -297,15 +298,29 @@ fill_absorbs half more (Of part i) w u may at area some k f =
           (new_is ∙ ap (λ (y : List ℕ). slot_of size (with_record_changed (replaced e (padded y room0)) (Of part i) t0)) (sym whole));
     }
 
-pub held_slot : (c : CacheState) (n : ℕ) → c.held ≡ Some n → slot_held c ≡ slot_at c.slots n
-held_slot c n held = slot_is c n (slot_held c) held refl
-
-pub held_now : (c c' : CacheState) (n : ℕ) (new : List ℕ) → c.held ≡ Some n → n < length c.slots → c' ≡ with_held c new → slot_held c' ≡ new
-held_now c c' n new held lt is = ap slot_held is ∙ held_slot (with_held c new) n held ∙ new_slot_at c n new held lt
-
 -- a slot that is written twice
 pub held_twice : (c : CacheState) (one two : List ℕ) → with_held (with_held c one) two ≡ with_held c two
 held_twice c one two = ap (λ (slots : List (List ℕ)). let y : CacheState = record c { slots = slots; changed = true } in y) (set-set c.slots (unwrap_or c.held 0) one two)
 
-pub some_of : (n : ℕ) → (n == 0) ≡ false → 0 < n
-some_of n e = grind (arith, nat_tests)
+-- what such bytes make of the track, by the slot at hand, and once that was cleared
+pub record FillsCleared (half : HalfDone) (more : List ℕ) (a : Area) (w : Window) (u : CommandEnd) (c : CacheState) : Type 0 where
+  pub records : SameRecords (slot_held c) (overwritten (slot_held c) w.start more)
+  pub absorbs : Absorbs half more (with_held c (overwritten (slot_held c) w.start more)) (slot_held half.cache) (Filled (record { start = w.start + length more; len = w.len - length more }) u)
+
+pub fill_there : (half : HalfDone) (more : List ℕ) (a : Area) (w : Window) (u : CommandEnd) → MayTake half more → half.progress.place ≡ Fill w u → half.progress.opened.area ≡ Some a → (length more == 0) ≡ false → IsRecordOf (track_in (slot_held half.cache)) a
+fill_there half more a w u may at area came =
+    let k = fill_goes half more a w u may at area (grind (arith, nat_tests)) in
+    rw (slot_is half.cache (own_track half) (slot_held half.cache) k.hand.held refl) k.there
+
+pub fills_cleared : (half : HalfDone) (more : List ℕ) (a : Area) (w : Window) (u : CommandEnd) (c : CacheState) → MayTake half more → half.progress.place ≡ Fill w u → half.progress.opened.area ≡ Some a → (length more == 0) ≡ false
+    → c ≡ with_held half.cache (slot_of half.cache.image.geometry.track_size (with_record_changed (replaced (extent_of half.progress.opened.command) []) a (track_in (slot_held half.cache))))
+    → FitsSlot half.cache.image.geometry.track_size (with_record_changed (replaced (extent_of half.progress.opened.command) []) a (track_in (slot_held half.cache))) → FillsCleared half more a w u c
+fills_cleared half more a w u c may at area came made fits =
+    let some : 0 < length more = grind (arith, nat_tests) in
+    let k = fill_goes half more a w u may at area some in
+    let n = own_track half in
+    let old : slot_held half.cache ≡ own_slot half = slot_is half.cache n (slot_held half.cache) k.hand.held refl in
+    let slot = cleared_slot half a in
+    let x = fill_absorbs half more a w u may at area some k (rw old at fits) in
+    let now : slot_held (with_held half.cache slot) ≡ slot = slot_is (with_held half.cache slot) n (slot_held (with_held half.cache slot)) k.hand.held refl ∙ new_slot_at half.cache n slot k.hand.held (there half may.works) in
+    rw made record { records = rw (old, now) x.records; absorbs = rw (old, now, held_twice half.cache slot (overwritten slot w.start more)) (rw old at x.absorbs) }
