@@ -1,5 +1,5 @@
 -- How commands end.
-use Rattle.std.proofs.Common.{◌≡◌, ◌∙◌, ap, sym, subst, refl, ℕ, ◌+◌, ◌<◌, List, [], ◌∷◌, ◌++◌, Bool, true, false, ◌&&◌, ◌||◌, ◌==◌, nat_lt, if◌then◌else◌, Option, Some, None, unwrap_or, length, take, set-set, get_or-set_same, slice_index_or, slice_set, slice_range, append-nil, length-drop, bytes_eq, arith}
+use Rattle.std.proofs.Common.{◌≡◌, ◌∙◌, ap, sym, subst, refl, ℕ, ◌+◌, ◌<◌, List, [], ◌∷◌, ◌++◌, Bool, true, false, ◌&&◌, ◌||◌, ◌==◌, nat_lt, if◌then◌else◌, Option, Some, None, length, take, set-set, get_or-set_same, slice_set, slice_range, append-nil, length-drop, bytes_eq, arith}
 use Rattle.std.proofs.lemmas.List.{set-get_or}
 use Rattle.std.proofs.lemmas.Bool.{and_parts, cond_both, ltb-true}
 use Rattle.std.proofs.lemmas.Bool.Decides.{nat_tests}
@@ -21,7 +21,7 @@ use Rattle.ckd_drive.specs.Stage.{Idle, Passing}
 use Rattle.ckd_command.specs.Tables.{action_of}
 use Rattle.ckd_position.specs.Contents.{Sighted}
 use Rattle.ckd_command.specs.Commands.{Closing, IsAtTrack, area_bytes, closing, close_by, command_end, search_ends, area_ends, own_home_address, new_record_fits, number as number_of, whole_field, at_end}
-use Rattle.ckd_cache.specs.Cache.{CacheState, IsVolume, after_save, after_failed_save}
+use Rattle.ckd_cache.specs.Cache.{CacheState, after_save, after_failed_save}
 use Rattle.ckd_drive.specs.Invariant.{Stands, mark_left, HasFilled, state_of, IsPlaced, IsField, CreditIs, AtHand, command_end_at, field_ends, seen_by, slot_at, track_under, is_filled, is_filled_by, Kept, kept, Parts, parts_of, track_in_reach, AtWork, geometry_in, number_in, slot_in, closing_in, work_in}
 use Rattle.ckd_command.specs.Drive.{closed_staying, SaveFails, is_written_by}
 use Rattle.ckd_command.specs.declared.close.DriveEnding.{DriveEnding}
@@ -31,7 +31,7 @@ use Rattle.ckd_drive.proofs.Calls.{changed_is, calls_none, calls_of_save, calls_
 use Rattle.ckd_drive.specs.Calls.{Ends, Leaves, Loses}
 use Rattle.ckd_drive.proofs.Reported.{end_reports}
 use Rattle.ckd_drive.proofs.Lost.{save_lost}
-use Rattle.ckd_drive.proofs.Faults.{fault_none, fault_saving, mark_written, lost_registers}
+use Rattle.ckd_drive.proofs.Faults.{fault_none, lost_registers}
 use Rattle.ckd_drive.proofs.Standing.{no_credit, geometry_saved, failures_saved, saved_stands, lost_stands}
 use Rattle.ckd_drive.proofs.Numbers.{number_there}
 use Rattle.ckd_drive.proofs.Looks.{seen_track, goes_of, no_filled_seen}

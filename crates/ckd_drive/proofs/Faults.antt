@@ -1,5 +1,5 @@
 -- Calls in which a load or a saving fails.
-use Rattle.std.proofs.Common.{◌≡◌, sym, refl, ℕ, ◌+◌, List, [], true, false, ◌==◌, Option, Some, None, unwrap_or, slice_index_or, slice_set, arith}
+use Rattle.std.proofs.Common.{◌≡◌, refl, ℕ, ◌+◌, [], true, false, ◌==◌, Option, Some, None, slice_index_or, arith}
 use Rattle.std.proofs.lemmas.Bool.Decides.{nat_tests}
 use Rattle.ckd_sense.specs.declared.sense_bytes.TheConstants.Sense.{STORE_FAULT}
 use Rattle.ckd_command.specs.declared.registers.Registers.{Registers}
@@ -9,7 +9,7 @@ use Rattle.ckd_command.specs.declared.begin.Opened.{Opened}
 use Rattle.ckd_command.specs.Answers.{ToCylinderZero}
 use Rattle.ckd_command.specs.Commands.{with_cause}
 use Rattle.ckd_command.specs.Drive.{LoadFails, SaveFails, number_under, is_written_by}
-use Rattle.ckd_cache.specs.Cache.{CacheState, after_failed_save}
+use Rattle.ckd_cache.specs.Cache.{CacheState}
 use Rattle.ckd_drive.specs.Work.{DriveState, fault_met}
 use Rattle.ckd_drive.specs.Invariant.{BeginsWell, IsCleared}
 

@@ -1,5 +1,5 @@
 -- A command that looks for its area, and one look of it.
-use Rattle.std.proofs.Common.{◌≡◌, ◌∙◌, ap, sym, subst, refl, ℕ, ◌==◌, List, [], Bool, true, false, Option, Some, None, unwrap_or, slice_index_or, arith}
+use Rattle.std.proofs.Common.{◌≡◌, ◌∙◌, sym, subst, refl, ℕ, ◌==◌, List, [], Bool, true, false, Option, Some, None, arith}
 use Rattle.std.proofs.lemmas.Bool.Decides.{nat_tests}
 use Rattle.std.proofs.Math.Bool.{and-false, and-true}
 use Rattle.ckd_track.specs.Track.{track_of}
@@ -7,15 +7,15 @@ use Rattle.ckd_image.specs.Image.{ImageState}
 use Rattle.ckd_position.specs.declared.areas.Kind.{Kind}
 use Rattle.ckd_sense.specs.declared.sense_bytes.TheConstants.Sense.{STORE_FAULT}
 use Rattle.ckd_command.specs.declared.registers.Registers.{Registers}
-use Rattle.ckd_command.specs.declared.registers.Mark.TheVariants.{Saved, Written, Lost}
+use Rattle.ckd_command.specs.declared.registers.Mark.TheVariants.{Saved, Lost}
 use Rattle.ckd_command.specs.declared.tables.Aim.TheVariants.{Next}
 use Rattle.ckd_command.specs.declared.begin.Opened.{Opened}
 use Rattle.ckd_command.specs.Answers.{Sight, Found, IndexPassed, NextHead, Missed}
-use Rattle.ckd_drive.specs.Transfers.{Transfer, Progress}
-use Rattle.ckd_drive.specs.Stage.{Stage, Idle, Over, Looking, Passing}
+use Rattle.ckd_drive.specs.Transfers.{Transfer}
+use Rattle.ckd_drive.specs.Stage.{Stage, Idle, Over, Looking}
 use Rattle.ckd_command.specs.Tables.{aim}
 use Rattle.ckd_command.specs.Commands.{sight, with_cause}
-use Rattle.ckd_command.specs.Drive.{AfterLook, Ready, Passed, Failed, LoadFails, SaveFails, is_written_by, look as look_by}
+use Rattle.ckd_command.specs.Drive.{AfterLook, Ready, LoadFails, is_written_by, look as look_by}
 use Rattle.ckd_cache.specs.Cache.{CacheState, holds, loaded, after_hold, after_failed_hold, after_save, after_failed_save}
 use Rattle.ckd_drive.specs.Work.{DriveState, fault_met, with_image, after_sight, after_look, answer_of_look, look_loads, look_saves, failed_ending}
 use Rattle.ckd_drive.specs.Invariant.{Stands, SightKeeps, IsFirstPlace, track_under, slot_at, state_of, work_of, Kept, kept, Parts, parts_of, number_under, slot_under}

@@ -1,36 +1,29 @@
 -- A track that gets a new record.
-use Rattle.std.proofs.Common.{◌≡◌, ◌∙◌, ap, sym, subst, refl, ℕ, ◌+◌, ◌-◌, ◌<◌, ◌≤◌, List, [], ◌∷◌, ◌++◌, true, false, ◌==◌, nat_lt, Option, Some, length, take, drop, set, slice_range, slice_index, replicate, length-append, length-drop, length-take, drop-drop, append_assoc, append-nil, arith}
+use Rattle.std.proofs.Common.{◌≡◌, ◌∙◌, ap, sym, subst, refl, ℕ, ◌+◌, ◌-◌, ◌<◌, ◌≤◌, List, [], ◌∷◌, ◌++◌, true, false, Option, Some, length, take, drop, set, slice_range, replicate, length-append, length-drop, length-take, drop-drop, append_assoc, append-nil, arith}
 use Rattle.std.proofs.Math.Seq.{get_or-append_seam, set-append_seam}
-use Rattle.std.proofs.lemmas.List.{drop_at, take_all, get_or_append_left, take-append-le}
-use Rattle.std.proofs.lemmas.Bool.Decides.{nat_tests}
-use Rattle.ckd_track.specs.Track.{Track, Record, track_of, track_in, record_in, no_record, record_at, slot_of, key_length, data_length, body_length}
+use Rattle.std.proofs.lemmas.List.{drop_at, take_all, take-append-le}
+use Rattle.ckd_track.specs.Track.{Track, Record, track_of, track_in, record_in, no_record, record_at, slot_of, key_length, body_length}
 use Rattle.ckd_track.specs.Changes.{overwritten}
-use Rattle.ckd_track.specs.Charges.{has_room}
-use Rattle.ckd_track.specs.declared.geometries.Geometry.{Geometry}
 use Rattle.ckd_position.specs.declared.areas.Area.{Area}
 use Rattle.ckd_position.specs.declared.areas.Area.TheVariants.{Of}
 use Rattle.ckd_position.specs.declared.areas.Part.{Part}
 use Rattle.ckd_position.specs.declared.areas.Part.TheVariants as part
-use Rattle.ckd_command.specs.declared.registers.Registers.{Registers}
-use Rattle.ckd_command.specs.declared.tables.Action.{Action}
 use Rattle.ckd_command.specs.declared.tables.Action.TheVariants as action
 use Rattle.ckd_position.specs.declared.extents.Extent.TheVariants as extent
-use Rattle.ckd_command.specs.declared.begin.Opened.{Opened}
 use Rattle.ckd_drive.specs.declared.transfer.Whole.TheVariants as whole
 use Rattle.ckd_slot.specs.declared.windows.Window.{Window}
 use Rattle.ckd_drive.specs.Transfers.{Field, Filled}
 use Rattle.ckd_command.specs.Tables.{action_of}
 use Rattle.ckd_position.specs.Contents.{Sighted, new_record, formatted, kept, padded, replaced, with_key_and_data, with_record_changed}
-use Rattle.ckd_command.specs.Commands.{Closing, length_after, closing, command_end, own_home_address, new_record_fits, format_ends, writes}
+use Rattle.ckd_command.specs.Commands.{Closing, command_end, own_home_address, new_record_fits, format_ends}
 use Rattle.ckd_slot.specs.Buffer.{HasFormatted, fits_track, lengths_on}
-use Rattle.ckd_cache.specs.Cache.{CacheState, with_held, slot_held, after_format}
-use Rattle.ckd_drive.specs.Invariant.{HalfDone, MayTake, Absorbs, own_track, own_slot, action_now, IsFilled, AtHand, FieldAtHand, slot_at, track_under, whole_of, AtWork, geometry_in, action_in}
+use Rattle.ckd_cache.specs.Cache.{with_held, slot_held, after_format}
+use Rattle.ckd_drive.specs.Invariant.{HalfDone, MayTake, Absorbs, own_track, action_now, IsFilled, AtHand, slot_at, track_under, whole_of, AtWork, geometry_in, action_in}
 use Rattle.ckd_slot.proofs.Writes.{update_length, update_place}
 use Rattle.ckd_drive.proofs.Fills.{there, new_slot_at, reads_new, Filling, room_of, ClosesFilled, form_filled, length-padded}
 use Rattle.ckd_drive.proofs.Looks.{slot_is}
 use Rattle.ckd_command.proofs.Closings.{formats_on}
-use Rattle.ckd_command.proofs.Lengths.{same_count, SameCount}
-use Rattle.ckd_drive.proofs.Fields.{ChangesNothing}
+use Rattle.ckd_command.proofs.Lengths.{same_count}
 use Rattle.ckd_drive.proofs.Takes.{field_goes, field_absorbs}
 use Rattle.ckd_drive.proofs.News.{new_work, newly_absorbs, is_count}
 

@@ -1,23 +1,22 @@
 -- Looks.
-use Rattle.std.proofs.Common.{◌≡◌, ◌∙◌, subst, refl, ℕ, ◌+◌, ◌-◌, ◌<◌, List, [], true, false, ◌||◌, Some, None, length, get_or, set, get_or-set_same, arith}
+use Rattle.std.proofs.Common.{◌≡◌, ◌∙◌, subst, refl, ℕ, ◌+◌, List, [], true, false, ◌||◌, Some, None, arith}
 use Rattle.ckd_track.specs.Track.{track_of}
 use Rattle.ckd_track.specs.declared.geometries.Geometry.{Geometry}
 use Rattle.ckd_command.specs.declared.registers.Registers.{Registers}
-use Rattle.ckd_command.specs.declared.tables.Aim.TheVariants.{NoArea, Credited}
+use Rattle.ckd_command.specs.declared.tables.Aim.TheVariants.{Credited}
 use Rattle.ckd_command.specs.declared.tables.Action.{Action}
 use Rattle.ckd_command.specs.declared.tables.Action.TheVariants as action
 use Rattle.ckd_command.specs.declared.begin.Opened.{Opened}
 use Rattle.ckd_command.specs.Answers.{Found}
-use Rattle.ckd_drive.specs.Transfers.{Transfer, Sense, Field, Read, Search, Fill, Filled, Progress}
+use Rattle.ckd_drive.specs.Transfers.{Transfer, Filled, Progress}
 use Rattle.ckd_drive.specs.Stage.{Stage, Passing}
 use Rattle.ckd_command.specs.Tables.{action_of, aim}
 use Rattle.ckd_position.specs.Contents.{Sighted, is_readable}
 use Rattle.ckd_command.specs.Commands.{IsAtTrack, sight, length_after}
 use Rattle.ckd_cache.specs.Cache.{CacheState, slot_held}
-use Rattle.ckd_drive.proofs.Numbers.{number_there}
-use Rattle.ckd_drive.specs.Work.{DriveState, fault_met, with_image, after_look}
+use Rattle.ckd_drive.specs.Work.{fault_met, with_image, after_look}
 use Rattle.ckd_command.specs.Drive.{is_written_by}
-use Rattle.ckd_drive.specs.Invariant.{Stands, StaysAt, AtHand, ReadsWhole, IsFound, StageIs, Goes, IsPlaced, IsFirstPlace, CreditAtHand, remaining, state_of, seen_by, slot_at, track_under, is_filled_by, Kept, Parts, parts_of, AtWork, geometry_in, number_in, slot_in, work_in, number_under, slot_under}
+use Rattle.ckd_drive.specs.Invariant.{Stands, StaysAt, AtHand, ReadsWhole, StageIs, Goes, IsPlaced, IsFirstPlace, CreditAtHand, remaining, state_of, seen_by, slot_at, track_under, is_filled_by, Kept, Parts, parts_of, AtWork, geometry_in, number_in, slot_in, number_under, slot_under}
 use Rattle.ckd_drive.proofs.First.{first_placed, HandIfAimed}
 use Rattle.ckd_drive.proofs.Faults.{fault_none}
 use Rattle.ckd_drive.specs.Calls.{looking_drive}

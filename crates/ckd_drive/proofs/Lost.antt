@@ -1,9 +1,9 @@
 -- A written track that could not be saved: what the failed saving left in its slot is the fault that the definitions see.
-use Rattle.std.proofs.Common.{◌≡◌, ◌∙◌, sym, ap, refl, ℕ, ◌<◌, List, [], ◌∷◌, false, Some, length, slice_index_or, slice_set, unwrap_or, arith}
+use Rattle.std.proofs.Common.{◌≡◌, ◌∙◌, sym, ap, refl, ℕ, List, [], ◌∷◌, false, Some, length, slice_index_or, slice_set, unwrap_or, arith}
 use Rattle.std.proofs.lemmas.List.Elements.{All-get_or}
 use Rattle.s360_words.specs.Storage.{overwritten}
 use Rattle.ckd_image.specs.Image.{ImageState}
-use Rattle.ckd_cache.specs.Cache.{CacheState, IsVolume, after_failed_save}
+use Rattle.ckd_cache.specs.Cache.{CacheState, after_failed_save}
 use Rattle.ckd_command.specs.declared.registers.Registers.{Registers}
 use Rattle.ckd_command.specs.declared.registers.Mark.TheVariants.{Written}
 use Rattle.ckd_command.specs.Drive.{SaveFails}

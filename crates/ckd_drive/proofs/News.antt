@@ -1,5 +1,5 @@
 -- Tracks that a command begins to write.
-use Rattle.std.proofs.Common.{◌≡◌, ◌∙◌, ap, sym, subst, refl, ℕ, ◌+◌, ◌-◌, ◌<◌, ◌≤◌, ◌^◌, List, [], ◌∷◌, ◌++◌, Bool, true, false, ◌&&◌, ◌==◌, if◌then◌else◌, Some, length, take, drop, bytes_eq, length-append, length-take, append-nil, arith}
+use Rattle.std.proofs.Common.{◌≡◌, ◌∙◌, ap, sym, refl, ℕ, ◌+◌, ◌-◌, ◌<◌, ◌≤◌, ◌^◌, List, [], ◌∷◌, ◌++◌, true, false, ◌&&◌, ◌==◌, Some, length, take, drop, bytes_eq, length-append, length-take, append-nil, arith}
 use Rattle.std.proofs.lemmas.List.{take-append-drop, drop_all, set-get_or}
 use Rattle.std.proofs.lemmas.Bool.{and_parts, cond_both, eqb-true, false_from_ne_true}
 use Rattle.ckd_track.specs.Track.{track_of, track_in, slot_of}
@@ -11,16 +11,15 @@ use Rattle.ckd_command.specs.declared.tables.Action.{Action}
 use Rattle.ckd_command.specs.declared.tables.Action.TheVariants as action
 use Rattle.ckd_command.specs.declared.begin.Opened.{Opened}
 use Rattle.ckd_command.specs.Answers.{CommandEnd, Found}
-use Rattle.ckd_drive.specs.declared.transfer.Whole.{Whole}
 use Rattle.ckd_drive.specs.declared.transfer.Whole.TheVariants as whole
 use Rattle.ckd_slot.specs.declared.windows.Window.{Window}
-use Rattle.ckd_drive.specs.Transfers.{Transfer, Sense, Field, Read, Search, Fill, Filled}
+use Rattle.ckd_drive.specs.Transfers.{Field, Filled}
 use Rattle.ckd_command.specs.Tables.{action_of, is_giving}
 use Rattle.ckd_position.specs.Contents.{Sighted, padded}
 use Rattle.ckd_command.specs.Commands.{Closing, sight, length_after, closing, command_end, own_home_address, home_address_ends, writes}
 use Rattle.ckd_slot.specs.Buffer.{lengths_on}
-use Rattle.ckd_cache.specs.Cache.{CacheState, slot_held, with_held}
-use Rattle.ckd_drive.specs.Invariant.{HalfDone, Works, MayTake, Absorbs, own_track, own_slot, action_now, HasFilled, IsFilled, FieldAtHand, slot_at, track_under, seen_by, is_filled_by, whole_of, AtWork, geometry_in, slot_in, action_in, at_work, with_taken}
+use Rattle.ckd_cache.specs.Cache.{slot_held, with_held}
+use Rattle.ckd_drive.specs.Invariant.{HalfDone, Works, MayTake, Absorbs, own_track, own_slot, action_now, HasFilled, IsFilled, slot_at, track_under, is_filled_by, whole_of, AtWork, geometry_in, slot_in, action_in, at_work, with_taken}
 use Rattle.ckd_slot.proofs.Writes.{bare_fits}
 use Rattle.ckd_drive.proofs.Fills.{written_works, there, new_slot_at, written_absorbs, reads_new}
 use Rattle.ckd_command.proofs.Closings.{closing_by}

@@ -1,32 +1,30 @@
 -- A record that gets other bytes.
-use Rattle.std.proofs.Common.{◌≡◌, ◌∙◌, ap, sym, subst, refl, inl, inr, ◌⊎◌, ℕ, ◌+◌, ◌-◌, ◌<◌, ◌≤◌, List, [], ◌++◌, true, false, ◌==◌, Option, Some, None, Ok, Err, unwrap_or, length, take, drop, set, set-set, get_or-set_same, slice_index, length-append, length-drop, length-take, length-set, append-nil, arith}
+use Rattle.std.proofs.Common.{◌≡◌, ◌∙◌, ap, sym, subst, refl, inl, inr, ◌⊎◌, ℕ, ◌+◌, ◌-◌, ◌<◌, ◌≤◌, List, [], ◌++◌, true, false, ◌==◌, Option, Some, None, Ok, unwrap_or, length, take, drop, set, set-set, get_or-set_same, slice_index, length-append, length-drop, length-take, length-set, append-nil, arith}
 use Rattle.std.proofs.lemmas.List.{get_or_past}
 use Rattle.std.proofs.lemmas.Bool.{cases_lt}
 use Rattle.std.proofs.lemmas.Bool.Decides.{nat_tests}
-use Rattle.ckd_track.specs.Track.{Track, Record, track_of, track_in, track_or_none, record_in, no_record, record_offsets, record_size, slot_of}
+use Rattle.ckd_track.specs.Track.{Track, Record, track_of, track_in, record_in, no_record, record_offsets, record_size, slot_of}
 use Rattle.ckd_track.specs.Changes.{overwritten}
 use Rattle.ckd_track.proofs.Slots.{length-slot_of, offsets-set}
-use Rattle.ckd_track.specs.declared.geometries.Geometry.{Geometry}
 use Rattle.ckd_sense.specs.declared.commands.Command.{Command}
 use Rattle.ckd_sense.specs.declared.commands.Command.TheVariants as command
 use Rattle.ckd_position.specs.declared.areas.Area.{Area}
 use Rattle.ckd_position.specs.declared.areas.Area.TheVariants.{HomeAddress, Of}
 use Rattle.ckd_position.specs.declared.areas.Part.{Part}
 use Rattle.ckd_command.specs.declared.registers.Registers.{Registers}
-use Rattle.ckd_command.specs.declared.tables.Action.{Action}
 use Rattle.ckd_command.specs.declared.tables.Action.TheVariants as action
 use Rattle.ckd_position.specs.declared.extents.Extent.{Extent}
 use Rattle.ckd_position.specs.declared.extents.Extent.TheVariants as extent
 use Rattle.ckd_command.specs.declared.begin.Opened.{Opened}
 use Rattle.ckd_command.specs.Answers.{CommandEnd, Found}
 use Rattle.ckd_slot.specs.declared.windows.Window.{Window}
-use Rattle.ckd_drive.specs.Transfers.{Transfer, Fill, Filled}
+use Rattle.ckd_drive.specs.Transfers.{Fill, Filled}
 use Rattle.ckd_command.specs.Tables.{action_of, extent_of}
 use Rattle.ckd_position.specs.Contents.{Sighted, bytes_of, padded, replaced, with_record_changed}
-use Rattle.ckd_command.specs.Commands.{Closing, bytes_at, area_bytes, sight, closing, end_of_area, updated, command_end, writes}
+use Rattle.ckd_command.specs.Commands.{Closing, bytes_at, area_bytes, sight, end_of_area, command_end}
 use Rattle.ckd_slot.specs.Buffer.{FitsSlot, IsUpdate, IsRecordOf, SameRecords, IsPlaceOf, lengths_on}
 use Rattle.ckd_cache.specs.Cache.{CacheState, with_held, slot_held}
-use Rattle.ckd_drive.specs.Invariant.{HalfDone, MayTake, Absorbs, own_track, own_slot, action_now, IsPlaced, IsFilled, ClosesUnwritten, AtHand, PlaceIn, slot_at, track_under, AtWork, geometry_in, action_in, at_work}
+use Rattle.ckd_drive.specs.Invariant.{HalfDone, MayTake, Absorbs, own_track, own_slot, action_now, IsFilled, ClosesUnwritten, AtHand, PlaceIn, slot_at, track_under, AtWork, geometry_in, action_in, at_work}
 use Rattle.ckd_slot.proofs.Writes.{update_offset, update_length, update_place}
 use Rattle.ckd_slot.proofs.Updates.{form_of, same_records}
 use Rattle.ckd_drive.proofs.Fills.{there, new_slot_at, reads_new, Filling, ClosesFilled, form_filled, length-padded, next_made, old_read}

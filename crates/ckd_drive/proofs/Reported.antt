@@ -3,8 +3,7 @@
 use Rattle.std.proofs.Common.{◌≡◌, ◌∙◌, inl, inr, ◌⊎◌, ap, sym, refl, ℕ, ◌+◌, List, [], Bool, true, false, ◌&&◌, Option, Some, None, slice_index_or, arith}
 use Rattle.std.proofs.lemmas.Bool.{and_parts, true_from_ne_false}
 use Rattle.ckd_command.specs.declared.registers.Registers.{Registers}
-use Rattle.ckd_command.specs.declared.registers.Mark.{Mark}
-use Rattle.ckd_command.specs.declared.registers.Mark.TheVariants.{Saved, Written, Lost}
+use Rattle.ckd_command.specs.declared.registers.Mark.TheVariants.{Written}
 use Rattle.ckd_command.specs.declared.tables.Aim.{Aim}
 use Rattle.ckd_command.specs.declared.tables.Aim.TheVariants.{NoArea, Next, Credited}
 use Rattle.ckd_command.specs.Answers.{Beginning, Sight}
@@ -12,11 +11,11 @@ use Rattle.ckd_command.specs.Answers as command_answer
 use Rattle.ckd_command.specs.declared.close.DriveEnding.{DriveEnding}
 use Rattle.ckd_command.specs.Tables.{aim}
 use Rattle.ckd_command.specs.Commands.{Closing, beginning, sight, closing}
-use Rattle.ckd_command.specs.Drive.{State, Fault, LoadFails, SaveFails, Rejected, Closed, begin, begun, looked, look_for, closed, with_registers, is_written, is_written_by, number_under, track_under, tells_equipment_check, unsaved, lost, failed, closed_by}
+use Rattle.ckd_command.specs.Drive.{State, Fault, LoadFails, SaveFails, Rejected, Closed, begin, begun, looked, look_for, closed, with_registers, is_written, number_under, track_under, tells_equipment_check, unsaved, lost, failed, closed_by}
 use Rattle.ckd_command.proofs.CommandFacts.{NotTold, BeginsSilent, SightSilent, closing_facts, beginning_silent, sight_silent, store_fault_is_told}
 use Rattle.ckd_drive.specs.declared.answers.Begun.{Begun}
 use Rattle.ckd_drive.specs.declared.answers.Begun.TheVariants as answer
-use Rattle.ckd_drive.specs.Work.{Work, Idle, Over, Looking, Passing, DriveState, CallsStore, Reports, fault_met, with_image, open_at, after_begin, after_begun, answer_of_begin, begin_saves, goes_to_cylinder_zero, after_look, after_look_of, after_sight, look_loads, look_loads_of, look_saves, look_saves_of, goes_to_next_head, failed_ending, after_end, closed_of, ending_of, end_saves, end_saves_of, after_settle, settled_state, is_next}
+use Rattle.ckd_drive.specs.Work.{Work, Over, Looking, Passing, DriveState, CallsStore, Reports, fault_met, with_image, open_at, after_begin, after_begun, answer_of_begin, begin_saves, goes_to_cylinder_zero, after_look, after_look_of, after_sight, look_loads, look_loads_of, look_saves, look_saves_of, goes_to_next_head, failed_ending, after_end, closed_of, ending_of, end_saves, end_saves_of, after_settle, settled_state, is_next}
 use Rattle.ckd_drive.proofs.Faults.{fault_none, fault_loading, fault_saving, mark_written}
 use Rattle.ckd_drive.proofs.Calls.{no_more}
 

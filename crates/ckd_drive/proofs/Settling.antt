@@ -1,10 +1,9 @@
 -- How a drive settles.
-use Rattle.std.proofs.Common.{◌≡◌, ◌∙◌, ap, sym, refl, ℕ, ◌<◌, List, [], true, false, Some, None, unwrap_or, length, slice_index_or, arith}
+use Rattle.std.proofs.Common.{◌≡◌, ◌∙◌, ap, refl, ℕ, ◌<◌, List, [], false, None, length, arith}
 use Rattle.ckd_command.specs.declared.registers.Registers.{Registers}
-use Rattle.ckd_command.specs.declared.registers.Mark.TheVariants.{Written, Lost}
-use Rattle.ckd_drive.specs.Transfers.{Transfer, Sense, Field, Read, Search, Fill, Filled}
-use Rattle.ckd_drive.specs.Stage.{Stage, Idle, Over, Looking, Passing}
-use Rattle.ckd_command.specs.Drive.{SaveFails}
+use Rattle.ckd_command.specs.declared.registers.Mark.TheVariants.{Lost}
+use Rattle.ckd_drive.specs.Transfers.{Transfer, Filled}
+use Rattle.ckd_drive.specs.Stage.{Stage, Idle, Passing}
 use Rattle.ckd_cache.specs.Cache.{CacheState, after_save, after_failed_save}
 use Rattle.ckd_drive.specs.Work.{DriveState, passed_of, fault_met, with_image, after_settle, settled_mark}
 use Rattle.ckd_drive.specs.Invariant.{Stands, StageIs, IsPlaced, state_of, work_of, seen, track_under, is_filled, is_filled_by, Kept, kept, Parts, parts_of, track_in_reach, AtWork}

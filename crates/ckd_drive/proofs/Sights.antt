@@ -1,33 +1,27 @@
 -- What a look at a track finds.
-use Rattle.std.proofs.Common.{◌≡◌, ap, sym, subst, refl, ℕ, ◌+◌, Bool, true, false, not, ◌&&◌, ◌==◌, if◌then◌else◌, Some, arith}
+use Rattle.std.proofs.Common.{◌≡◌, subst, refl, ℕ, ◌+◌, Bool, true, false, not, ◌&&◌, ◌==◌, if◌then◌else◌, arith}
 use Rattle.ckd_track.specs.Track.{track_or_none}
 use Rattle.ckd_track.specs.Model.{heads_of}
 use Rattle.ckd_track.specs.declared.geometries.Geometry.{Geometry}
 use Rattle.ckd_position.specs.declared.areas.Area.{Area}
 use Rattle.ckd_position.specs.declared.areas.Area.TheVariants.{HomeAddress, Of}
-use Rattle.ckd_position.specs.declared.areas.Position.TheVariants.{AtIndex}
 use Rattle.ckd_position.specs.declared.areas.Kind.{Kind}
-use Rattle.ckd_sense.specs.declared.commands.Command.{Command}
-use Rattle.ckd_sense.specs.declared.sense_bytes.Sense.{Sense}
 use Rattle.std.proofs.lemmas.Bool.Decides.{nat_tests}
 use Rattle.ckd_position.specs.declared.areas.Next.{Next as NextArea}
 use Rattle.ckd_position.specs.declared.areas.Next.TheVariants as next
 use Rattle.ckd_position.specs.Areas.{IsOnTrack, IfFound, next_of_kind}
-use Rattle.ckd_sense.specs.Masks.{allows_head_change}
 use Rattle.ckd_command.specs.declared.registers.Registers.{Registers}
-use Rattle.ckd_command.specs.declared.registers.Lap.{Lap}
-use Rattle.ckd_command.specs.declared.registers.Lap.TheVariants.{First, Second}
 use Rattle.ckd_command.specs.declared.tables.Aim.{Aim}
-use Rattle.ckd_command.specs.declared.tables.Aim.TheVariants.{NoArea, Next, Credited}
+use Rattle.ckd_command.specs.declared.tables.Aim.TheVariants.{Next}
 use Rattle.ckd_command.specs.declared.tables.Action.{Action}
 use Rattle.ckd_command.specs.declared.tables.Action.TheVariants as action
 use Rattle.ckd_position.specs.declared.extents.Extent.{Extent}
 use Rattle.ckd_position.specs.declared.extents.Extent.TheVariants as extent
 use Rattle.ckd_command.specs.declared.begin.Opened.{Opened}
-use Rattle.ckd_command.specs.Answers.{Sight, Found, IndexPassed, NextHead, Missed, moved_to}
+use Rattle.ckd_command.specs.Answers.{Found, IndexPassed, Missed, moved_to}
 use Rattle.ckd_command.specs.Tables.{aim, action_of, needs_readable}
 use Rattle.ckd_position.specs.Contents.{Sighted, is_readable}
-use Rattle.ckd_command.specs.Commands.{IsAtTrack, sight, sight_of, look_for, next_head, turned, at_index, with_cause}
+use Rattle.ckd_command.specs.Commands.{IsAtTrack, sight, sight_of, look_for, with_cause}
 use Rattle.ckd_sense.specs.declared.sense_bytes.TheConstants.Sense as cause
 use Rattle.ckd_command.proofs.Sights.{passing, sight_by}
 use Rattle.ckd_slot.specs.Buffer.{HasBytes}

@@ -1,5 +1,5 @@
 -- A drive that stands, after its parts have changed.
-use Rattle.std.proofs.Common.{◌≡◌, ◌∙◌, ap, sym, subst, refl, ℕ, ◌<◌, List, Bool, true, false, not, None, Result, Ok, Err, OnOk, OnErr, unwrap_or, length, length-set, arith}
+use Rattle.std.proofs.Common.{◌≡◌, ◌∙◌, ap, sym, subst, refl, ℕ, ◌<◌, List, Bool, true, false, None, Result, Ok, Err, OnOk, OnErr, unwrap_or, length, length-set, arith}
 use Rattle.std.proofs.lemmas.List.Elements.{All-set}
 use Rattle.std.specs.Result.{is_err}
 use Rattle.ckd_track.specs.Model.{heads_of}
@@ -8,7 +8,7 @@ use Rattle.ckd_track.specs.declared.model.DriveModel.TheVariants.{D2311, D2314}
 use Rattle.ckd_image.specs.declared.store.StoreFault.{StoreFault}
 use Rattle.ckd_command.specs.declared.registers.Registers.{Registers}
 use Rattle.ckd_command.specs.declared.registers.Mark.TheVariants.{Saved, Lost}
-use Rattle.ckd_drive.specs.Stage.{Stage, Idle, Over, Looking, Passing}
+use Rattle.ckd_drive.specs.Stage.{Stage, Idle, Passing}
 use Rattle.ckd_command.specs.Commands.{IsAtTrack}
 use Rattle.ckd_command.specs.Answers.{moved_to, Beginning}
 use Rattle.ckd_cache.specs.Cache.{CacheState, IsVolume, saved, after_save, after_failed_save, after_failed_hold}

@@ -1,14 +1,14 @@
 -- A command that starts.
-use Rattle.std.proofs.Common.{◌≡◌, ◌∙◌, ap, sym, refl, ℕ, List, [], true, false, Option, Some, None, unwrap_or, slice_index_or}
+use Rattle.std.proofs.Common.{◌≡◌, ◌∙◌, ap, sym, refl, ℕ, List, true, false, Option, Some, None}
 use Rattle.std.proofs.Math.Bool.{and-true}
 use Rattle.ckd_command.specs.declared.registers.Registers.{Registers}
-use Rattle.ckd_command.specs.declared.registers.Mark.TheVariants.{Saved, Written, Lost}
+use Rattle.ckd_command.specs.declared.registers.Mark.TheVariants.{Saved, Lost}
 use Rattle.ckd_command.specs.Answers.{Beginning, ToCylinderZero, moved_to}
 use Rattle.ckd_command.specs.declared.begin.Opened.{Opened}
 use Rattle.ckd_drive.specs.Stage.{Stage, Idle, Over, Looking, Passing}
 use Rattle.ckd_command.specs.Commands.{beginning}
-use Rattle.ckd_command.specs.Drive.{AfterBegin, Rejected, Immediate, Started, SaveFails, begin, is_written_by}
-use Rattle.ckd_cache.specs.Cache.{CacheState, after_save, after_failed_save}
+use Rattle.ckd_command.specs.Drive.{AfterBegin, Rejected, Immediate, Started, begin, is_written_by}
+use Rattle.ckd_cache.specs.Cache.{after_save, after_failed_save}
 use Rattle.ckd_drive.specs.Work.{DriveState, fault_met, after_begun, after_begin, answer_of_begin, begin_saves, immediate_ending, is_idle}
 use Rattle.ckd_drive.specs.Invariant.{Stands, BeginsWell, track_under, state_of, work_of, Kept, kept, Parts, parts_of, number_under}
 use Rattle.ckd_drive.specs.Calls.{Comes, Begins, Leaves, Loses, begun_at, idle_drive}

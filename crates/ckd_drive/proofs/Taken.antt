@@ -1,15 +1,11 @@
 -- The drive once bytes were taken.
-use Rattle.std.proofs.Common.{◌≡◌, ◌∙◌, ap, sym, refl, ℕ, ◌≤◌, List, ◌++◌, Bool, true, false, not, ◌||◌, length}
-use Rattle.std.proofs.lemmas.Bool.{not-true}
+use Rattle.std.proofs.Common.{◌≡◌, ◌∙◌, refl, ℕ, List, ◌++◌, Bool, true, false, ◌||◌, length}
 use Rattle.ckd_drive.specs.Transfers.{Transfer, Progress}
 use Rattle.ckd_drive.specs.Stage.{Passing}
-use Rattle.ckd_command.specs.Tables.{action_of, is_giving}
 use Rattle.ckd_cache.specs.Cache.{CacheState}
-use Rattle.ckd_drive.specs.Work as work
-use Rattle.ckd_drive.specs.Work.{DriveState, takes_now, left_of, moved_on}
+use Rattle.ckd_drive.specs.Work.{DriveState, moved_on}
 use Rattle.ckd_command.specs.Drive.{is_written_by}
-use Rattle.ckd_drive.specs.Invariant.{Stands, MayTake, Absorbs, next_progress, state_of, is_filled_by, kept, Parts, parts_of, HalfDone}
-use Rattle.ckd_drive.proofs.Looks.{goes_of}
+use Rattle.ckd_drive.specs.Invariant.{Stands, Absorbs, next_progress, state_of, is_filled_by, kept, Parts, parts_of, HalfDone}
 
 -- the command half done of a drive whose bytes pass
 abbrev pub half_of : Parts → Progress → HalfDone

@@ -1,28 +1,21 @@
 -- Bytes that are taken.
-use Rattle.std.proofs.Common.{◌≡◌, ◌∙◌, ap, sym, subst, refl, ℕ, ◌+◌, ◌-◌, ◌<◌, ◌≤◌, ◌^◌, List, [], ◌∷◌, ◌++◌, Bool, true, false, ◌||◌, ◌==◌, nat_lt, if◌then◌else◌, None, length, take, drop, slice_range, bytes_eq, length-append, length-drop, length-take, drop-drop, append_assoc, arith}
+use Rattle.std.proofs.Common.{◌≡◌, ◌∙◌, ap, sym, subst, refl, ℕ, ◌+◌, ◌-◌, ◌<◌, ◌≤◌, ◌^◌, List, [], ◌∷◌, ◌++◌, false, length, take, drop, slice_range, length-append, length-drop, length-take, drop-drop, append_assoc, arith}
 use Rattle.std.specs.Ordering.{nat_cmp, ordering_then}
 use Rattle.std.specs.declared.cmp.Ordering.{Ordering}
 use Rattle.std.specs.declared.cmp.Ordering.TheVariants as order
 use Rattle.std.specs.Cmp.Lexicographic.{slice_cmp}
 use Rattle.std.proofs.lemmas.List.{take-take, drop-take, take-append-drop, take_at}
-use Rattle.std.proofs.lemmas.Bool.Decides.{nat_tests}
 use Rattle.std.proofs.Math.Bool.{or-false}
-use Rattle.std.proofs.lemmas.Bool.{cond_both}
 use Rattle.ckd_track.specs.Track.{track_of}
 use Rattle.ckd_track.specs.Changes.{overwritten}
-use Rattle.ckd_track.specs.declared.geometries.Geometry.{Geometry}
-use Rattle.ckd_command.specs.declared.registers.Registers.{Registers}
-use Rattle.ckd_command.specs.declared.tables.Action.{Action}
 use Rattle.ckd_command.specs.declared.tables.Action.TheVariants as action
-use Rattle.ckd_command.specs.declared.begin.Opened.{Opened}
 use Rattle.ckd_command.specs.Answers.{Found}
 use Rattle.ckd_slot.specs.declared.windows.Window.{Window}
 use Rattle.ckd_drive.specs.Transfers.{Transfer, Field, Search}
 use Rattle.ckd_command.specs.Tables.{action_of}
-use Rattle.ckd_position.specs.Contents.{Sighted}
-use Rattle.ckd_command.specs.Commands.{Closing, sight, area_bytes, length_after, length_for, close_by, own_home_address, new_record_fits, write_home_address, format, whole_field, at_end}
+use Rattle.ckd_command.specs.Commands.{Closing, sight, area_bytes, length_after}
 use Rattle.ckd_slot.specs.Buffer.{Lies}
-use Rattle.ckd_drive.specs.Invariant.{HalfDone, Works, MayTake, Absorbs, own_slot, action_now, seen_with, IsPlaced, IsField, HasField, remaining, slot_at, track_under, is_filled_by, order_of, field_size, at_work}
+use Rattle.ckd_drive.specs.Invariant.{HalfDone, Works, MayTake, Absorbs, own_slot, action_now, seen_with, IsPlaced, HasField, remaining, slot_at, track_under, is_filled_by, order_of, field_size, at_work}
 use Rattle.ckd_drive.proofs.Fields.{ChangesNothing, field_unwritten, field_wants, field_small}
 use Rattle.ckd_command.proofs.Closings.{closing_by}
 use Rattle.ckd_command.proofs.Lengths.{length_by}

@@ -1,6 +1,5 @@
-use Rattle.std.proofs.Common.{◌≡◌, ◌∙◌, sym, refl}
+use Rattle.std.proofs.Common.{◌∙◌, sym, refl}
 use Rattle.ckd_command.specs.Commands.{command_end, area_ends}
-use Rattle.ckd_drive.specs.Transfers.{Fill}
 use Rattle.ckd_drive.specs.Jobs.{half_done}
 use Rattle.ckd_drive.proofs.Replaces.{no_area, fill_there, fills_cleared}
 use Rattle.ckd_drive.proofs.job.Job.fill.Goals as goal

@@ -1,5 +1,4 @@
-use Rattle.std.proofs.Common.{◌≡◌, refl}
-use Rattle.ckd_drive.specs.Transfers.{Filled}
+use Rattle.std.proofs.Common.{refl}
 use Rattle.ckd_drive.specs.Fields.{closes_by}
 use Rattle.ckd_drive.specs.Jobs.{half_done}
 use Rattle.ckd_drive.proofs.Fills.{filled_absorbs}

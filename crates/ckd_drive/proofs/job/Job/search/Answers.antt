@@ -1,6 +1,6 @@
-use Rattle.std.proofs.Common.{◌≡◌, ◌∙◌, refl, subst}
-use Rattle.ckd_drive.specs.Transfers.{Transfer, Search}
-use Rattle.ckd_drive.specs.Invariant.{IsPlaced, at_work, own_track, own_slot}
+use Rattle.std.proofs.Common.{◌≡◌, ◌∙◌, refl}
+use Rattle.ckd_drive.specs.Transfers.{Search}
+use Rattle.ckd_drive.specs.Invariant.{own_track, own_slot}
 use Rattle.ckd_drive.specs.Jobs.{half_done}
 use Rattle.ckd_drive.proofs.Looks.{slot_is}
 use Rattle.ckd_drive.proofs.Takes.{search_absorbs}
