@@ -30,11 +30,8 @@ use Rattle.ckd_image.specs.Image.{ImageState}
 use Rattle.ckd_drive.proofs.Calls.{changed_is, calls_none, calls_of_save, calls_of_failed_save}
 use Rattle.ckd_drive.specs.Calls.{Ends, Leaves, Loses}
 use Rattle.ckd_drive.proofs.Reported.{end_reports}
-use Rattle.ckd_drive.proofs.Lost.{save_lost}
-use Rattle.ckd_drive.proofs.Faults.{fault_none, lost_registers}
-use Rattle.ckd_drive.proofs.Standing.{no_credit, geometry_saved, failures_saved, saved_stands, lost_stands}
-use Rattle.ckd_drive.proofs.Numbers.{number_there}
-use Rattle.ckd_drive.proofs.Looks.{seen_track, goes_of, no_filled_seen}
+use Rattle.ckd_drive.proofs.Faults.{fault_none, lost_registers, save_lost}
+use Rattle.ckd_drive.proofs.Standing.{no_credit, geometry_saved, failures_saved, saved_stands, lost_stands, seen_track, goes_of, no_filled_seen, number_there}
 use Rattle.ckd_command.proofs.Closings.{closing_by, sense_closes}
 
 -- the track that the definitions see under the arm

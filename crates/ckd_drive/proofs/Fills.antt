@@ -18,8 +18,7 @@ use Rattle.ckd_cache.specs.Cache.{CacheState, slot_held, with_held}
 use Rattle.ckd_drive.specs.Invariant.{HalfDone, Works, MayTake, Absorbs, own_track, seen_with, with_taken, HasFilled, IsFilled, slot_at, track_under, AtWork, geometry_in, slot_in, at_work}
 use Rattle.ckd_slot.proofs.Writes.{update_offset, update_length}
 use Rattle.ckd_slot.proofs.Updates.{form_of, padded_on, same_records}
-use Rattle.ckd_drive.proofs.Looks.{slot_is}
-use Rattle.ckd_drive.proofs.Numbers.{number_below}
+use Rattle.ckd_drive.proofs.Standing.{slot_is, number_below}
 
 or_true : (b : Bool) → true ≡ (b || true)
 or_true true = refl

@@ -21,11 +21,11 @@ use Rattle.ckd_cache.specs.Cache.{with_held, slot_held, after_format}
 use Rattle.ckd_drive.specs.Invariant.{HalfDone, MayTake, Absorbs, own_track, action_now, IsFilled, AtHand, slot_at, track_under, whole_of, AtWork, geometry_in, action_in}
 use Rattle.ckd_slot.proofs.Writes.{update_length, update_place}
 use Rattle.ckd_drive.proofs.Fills.{there, new_slot_at, reads_new, Filling, room_of, ClosesFilled, form_filled, length-padded}
-use Rattle.ckd_drive.proofs.Looks.{slot_is}
 use Rattle.ckd_command.proofs.Closings.{formats_on}
 use Rattle.ckd_command.proofs.Lengths.{same_count}
 use Rattle.ckd_drive.proofs.Takes.{field_goes, field_absorbs}
 use Rattle.ckd_drive.proofs.News.{new_work, newly_absorbs, is_count}
+use Rattle.ckd_drive.proofs.Standing.{slot_is}
 
 abbrev record_with : (b body : List ℕ) → Record
 record_with b body = record { id = take 5 b; key_area = take (key_length b) body; data_area = drop (key_length b) body }

@@ -20,7 +20,7 @@ use Rattle.ckd_drive.specs.Work.{DriveState, gives_now, left_of, given_now, pass
 use Rattle.ckd_drive.specs.Invariant.{Stands, IsPlaced, IsField, ClosesUnwritten, remaining, next_progress, given_on, state_of, slot_at, track_under, is_filled_by, seen_by, Parts, track_in_reach, AtWork, geometry_in, action_in, closing_in, work_in}
 use Rattle.ckd_command.proofs.Closings.{area_by, closing_by, sense_closes as closes_sense, sense_length}
 use Rattle.ckd_command.proofs.Lengths.{length_by}
-use Rattle.ckd_drive.proofs.Looks.{goes_of}
+use Rattle.ckd_drive.proofs.Standing.{goes_of}
 
 -- Windows.
 

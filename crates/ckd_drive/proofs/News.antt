@@ -24,9 +24,9 @@ use Rattle.ckd_slot.proofs.Writes.{bare_fits}
 use Rattle.ckd_drive.proofs.Fills.{written_works, there, new_slot_at, written_absorbs, reads_new}
 use Rattle.ckd_command.proofs.Closings.{closing_by}
 use Rattle.ckd_command.proofs.Lengths.{length_by}
-use Rattle.ckd_drive.proofs.Looks.{no_filled_seen, slot_is}
 use Rattle.ckd_drive.proofs.Fields.{ChangesNothing}
 use Rattle.ckd_drive.proofs.Takes.{field_goes, field_absorbs}
+use Rattle.ckd_drive.proofs.Standing.{no_filled_seen, slot_is}
 
 -- the arm stays at its track
 pub record StaysOn (r : Registers) (u : CommandEnd) : Type 0 where

@@ -30,8 +30,8 @@ use Rattle.ckd_slot.proofs.Updates.{form_of, same_records}
 use Rattle.ckd_drive.proofs.Fills.{there, new_slot_at, reads_new, Filling, ClosesFilled, form_filled, length-padded, next_made, old_read}
 use Rattle.ckd_command.proofs.Closings.{area_by, closing_by, update_closes}
 use Rattle.ckd_command.proofs.Lengths.{length_by}
-use Rattle.ckd_drive.proofs.Looks.{slot_is}
 use Rattle.ckd_drive.proofs.News.{new_work, newly_absorbs, StaysOn}
+use Rattle.ckd_drive.proofs.Standing.{slot_is}
 
 -- Which bytes are replaced.
 

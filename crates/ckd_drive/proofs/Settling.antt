@@ -8,10 +8,8 @@ use Rattle.ckd_cache.specs.Cache.{CacheState, after_save, after_failed_save}
 use Rattle.ckd_drive.specs.Work.{DriveState, passed_of, fault_met, with_image, after_settle, settled_mark}
 use Rattle.ckd_drive.specs.Invariant.{Stands, StageIs, IsPlaced, state_of, work_of, seen, track_under, is_filled, is_filled_by, Kept, kept, Parts, parts_of, track_in_reach, AtWork}
 use Rattle.ckd_drive.specs.Calls.{Loses}
-use Rattle.ckd_drive.proofs.Lost.{save_lost}
-use Rattle.ckd_drive.proofs.Faults.{fault_none, lost_registers}
-use Rattle.ckd_drive.proofs.Standing.{failures_saved, geometry_saved}
-use Rattle.ckd_drive.proofs.Looks.{no_filled_seen}
+use Rattle.ckd_drive.proofs.Faults.{fault_none, lost_registers, save_lost}
+use Rattle.ckd_drive.proofs.Standing.{failures_saved, geometry_saved, no_filled_seen}
 
 unfilled_place : (job : AtWork) (p : Transfer) → IsPlaced job p → job.passed ≡ [] → is_filled_by p ≡ false
 unfilled_place job (Filled w u) x e = absurd (let some : 0 < length job.passed = x.some in let none : length job.passed ≡ 0 = ap length e in omega (arith, some, none))

@@ -1,26 +1,35 @@
--- A drive that stands, after its parts have changed.
-use Rattle.std.proofs.Common.{◌≡◌, ◌∙◌, ap, sym, subst, refl, ℕ, ◌<◌, List, Bool, true, false, None, Result, Ok, Err, OnOk, OnErr, unwrap_or, length, length-set, arith}
+-- A drive that stands, and after its parts have changed.
+use Rattle.std.proofs.Common.{◌≡◌, ℕ, ◌+◌, ◌*◌, ◌<◌, ◌≤◌, length, refl, arith, add-one, ◌∙◌, ap, sym, subst, List, Bool, true, false, None, Result, Ok, Err, OnOk, OnErr, unwrap_or, length-set, Some}
+use Rattle.std.proofs.Math.Nat.{mul-le-mul_right, suc-mul}
+use Rattle.ckd_track.specs.Model.{heads_of}
+use Rattle.ckd_track.specs.declared.geometries.Geometry.{Geometry}
+use Rattle.ckd_track.specs.Geometry.{tracks_of}
+use Rattle.ckd_command.specs.declared.registers.Registers.{Registers}
+use Rattle.ckd_command.specs.Commands.{IsAtTrack}
+use Rattle.ckd_drive.specs.Invariant.{Stands, track_under, Parts, track_in_reach, StageIs, CreditIs, is_filled, work_of, kept, parts_of, Goes, seen_by, slot_at, is_filled_by, AtWork, number_in}
 use Rattle.std.proofs.lemmas.List.Elements.{All-set}
 use Rattle.std.specs.Result.{is_err}
-use Rattle.ckd_track.specs.Model.{heads_of}
 use Rattle.ckd_track.specs.declared.model.DriveModel.{DriveModel}
 use Rattle.ckd_track.specs.declared.model.DriveModel.TheVariants.{D2311, D2314}
 use Rattle.ckd_image.specs.declared.store.StoreFault.{StoreFault}
-use Rattle.ckd_command.specs.declared.registers.Registers.{Registers}
 use Rattle.ckd_command.specs.declared.registers.Mark.TheVariants.{Saved, Lost}
 use Rattle.ckd_drive.specs.Stage.{Stage, Idle, Passing}
-use Rattle.ckd_command.specs.Commands.{IsAtTrack}
-use Rattle.ckd_command.specs.Answers.{moved_to, Beginning}
-use Rattle.ckd_cache.specs.Cache.{CacheState, IsVolume, saved, after_save, after_failed_save, after_failed_hold}
-use Rattle.ckd_command.specs.declared.begin.Opened.{Opened}
-use Rattle.ckd_drive.specs.declared.transfer.Progress.{Progress as ProgressHeld}
-use Rattle.ckd_drive.specs.declared.answers.Stage.{Stage as StageHeld}
-use Rattle.ckd_drive.specs.declared.answers.Stage.TheVariants as held
-use Rattle.ckd_drive.specs.Fields.{stage_seen, progress_seen}
-use Rattle.ckd_drive.specs.Work.{DriveState, is_idle, passes_now}
-use Rattle.ckd_command.specs.Commands.{beginning}
-use Rattle.ckd_drive.proofs.Beginnings.{begins_well}
-use Rattle.ckd_drive.specs.Invariant.{Stands, StageIs, state_of, BeginsWell, CreditIs, track_under, is_filled, work_of, Kept, kept, Parts, parts_of, track_in_reach}
+use Rattle.ckd_command.specs.Answers.{moved_to}
+use Rattle.ckd_cache.specs.Cache.{CacheState, IsVolume, saved, after_save, after_failed_save, after_failed_hold, slot_held}
+use Rattle.ckd_drive.specs.Work.{is_idle}
+use Rattle.ckd_track.specs.Track.{track_of}
+use Rattle.ckd_drive.specs.Transfers.{Transfer, Filled, Progress}
+use Rattle.ckd_position.specs.Contents.{Sighted}
+
+pub number_below : (g : Geometry) (r : Registers) → IsAtTrack g r → track_under g r < tracks_of g
+number_below g r at = below g.cylinders (heads_of g.model) r.cylinder r.head at.cylinder at.head
+  where
+    below : (c h x y : ℕ) → x < c → y < h → x * h + y < c * h
+    below c h x y a b = (let le : (x + 1) * h ≤ c * h = mul-le-mul_right h (omega (arith, a)) in let e : (x + 1) * h ≡ x * h + h = rw (add-one, suc-mul) refl in omega (arith, le, e, b))
+
+pub number_there : (parts : Parts) → Stands parts → track_in_reach parts < length parts.cache.slots
+number_there parts x =
+    rw x.volume.count (number_below parts.cache.image.geometry parts.registers x.arm)
 
 pub on_ok : (r : Result (Unit {0}) StoreFault) (P : Type 0) → is_err r ≡ false → OnOk r P → P
 on_ok (Ok u) P e p = p
@@ -101,24 +110,16 @@ lost_stands parts c' q s' before' passed' left x is size f' cy he w =
       work = w;
     }
 
--- what a command code leads to, where nothing was begun
-pub well_begun : (parts : Parts) (now : DriveState) (code : ℕ) (b : Beginning)
-    → Stands parts → state_of parts ≡ now → is_idle now.work ≡ true → b ≡ beginning code parts.registers
-    → (parts.stage ≡ Idle) × BeginsWell parts.cache (track_in_reach parts) parts.registers b
-well_begun parts now code b x is idle e =
-    let c = parts.cache in
-    let r = parts.registers in
-    let at_rest : parts.stage ≡ Idle = idle_stage parts.stage parts.passed (ap (λ (d : DriveState). is_idle d.work) is ∙ idle) in
-    let P : Stage → Type 0 = λ t. StageIs c r parts.before parts.passed t in
-    let credit : CreditIs r.credit c (track_under c.image.geometry r) = subst P at_rest x.work in
-    (at_rest, rw e (begins_well c (track_under c.image.geometry r) code r credit))
+pub no_filled_seen : (slots : List (List ℕ)) (n : ℕ) (before : List ℕ) (p : Transfer) → is_filled_by p ≡ false → seen_by slots n before p ≡ slots
+no_filled_seen slots n before (Filled w u) f = absurd cc
+no_filled_seen slots n before _ f = refl
 
--- the stage of a command whose bytes pass
-passing_stage : (r : Registers) (o : Opened) (p : ProgressHeld) (s : StageHeld) (passed : List ℕ) → passes_now (work_of (stage_seen r o p s) passed) ≡ true
-    → stage_seen r o p s ≡ Passing (progress_seen r o p)
-passing_stage r o p held.Passing passed e = refl
-passing_stage r o p _ passed e = absurd cc
+-- the track as the definitions see it
+abbrev pub seen_track : AtWork → Transfer → Sighted
+seen_track job p = track_of (slot_at (seen_by job.cache.slots (number_in job) job.before p) (number_in job))
 
-pub at_passing : (k : Kept) (o : Opened) (p : ProgressHeld) (s : StageHeld) (before passed : List ℕ) (now : DriveState)
-    → state_of (parts_of k (stage_seen k.registers o p s) before passed) ≡ now → passes_now now.work ≡ true → stage_seen k.registers o p s ≡ Passing (progress_seen k.registers o p)
-at_passing k o p s before passed now is e = passing_stage k.registers o p s passed (ap (λ (d : DriveState). passes_now d.work) is ∙ e)
+pub goes_of : (parts : Parts) (p : Progress) → Stands parts → parts.stage ≡ Passing p → Goes parts.cache parts.registers parts.before parts.passed p
+goes_of parts p x is = (let P : Stage → Type 0 = λ t. StageIs parts.cache parts.registers parts.before parts.passed t in subst P is x.work)
+
+pub slot_is : (c : CacheState) (n : ℕ) (slot : List ℕ) → c.held ≡ Some n → slot ≡ slot_held c → slot ≡ slot_at c.slots n
+slot_is c n slot held e = rw held at e

@@ -1,5 +1,5 @@
 -- Bytes that are taken.
-use Rattle.std.proofs.Common.{◌≡◌, ◌∙◌, ap, sym, subst, refl, ℕ, ◌+◌, ◌-◌, ◌<◌, ◌≤◌, ◌^◌, List, [], ◌∷◌, ◌++◌, false, length, take, drop, slice_range, length-append, length-drop, length-take, drop-drop, append_assoc, arith}
+use Rattle.std.proofs.Common.{◌≡◌, ◌∙◌, ap, sym, subst, refl, ℕ, ◌+◌, ◌-◌, ◌<◌, ◌≤◌, ◌^◌, List, [], ◌∷◌, ◌++◌, false, length, take, drop, slice_range, length-append, length-drop, length-take, drop-drop, append_assoc, arith, Bool, true, ◌||◌}
 use Rattle.std.specs.Ordering.{nat_cmp, ordering_then}
 use Rattle.std.specs.declared.cmp.Ordering.{Ordering}
 use Rattle.std.specs.declared.cmp.Ordering.TheVariants as order
@@ -11,15 +11,19 @@ use Rattle.ckd_track.specs.Changes.{overwritten}
 use Rattle.ckd_command.specs.declared.tables.Action.TheVariants as action
 use Rattle.ckd_command.specs.Answers.{Found}
 use Rattle.ckd_slot.specs.declared.windows.Window.{Window}
-use Rattle.ckd_drive.specs.Transfers.{Transfer, Field, Search}
+use Rattle.ckd_drive.specs.Transfers.{Transfer, Field, Search, Progress}
 use Rattle.ckd_command.specs.Tables.{action_of}
 use Rattle.ckd_command.specs.Commands.{Closing, sight, area_bytes, length_after}
 use Rattle.ckd_slot.specs.Buffer.{Lies}
-use Rattle.ckd_drive.specs.Invariant.{HalfDone, Works, MayTake, Absorbs, own_slot, action_now, seen_with, IsPlaced, HasField, remaining, slot_at, track_under, is_filled_by, order_of, field_size, at_work}
+use Rattle.ckd_drive.specs.Invariant.{HalfDone, Works, MayTake, Absorbs, own_slot, action_now, seen_with, IsPlaced, HasField, remaining, slot_at, track_under, is_filled_by, order_of, field_size, at_work, Stands, next_progress, state_of, kept, Parts, parts_of}
 use Rattle.ckd_drive.proofs.Fields.{ChangesNothing, field_unwritten, field_wants, field_small}
 use Rattle.ckd_command.proofs.Closings.{closing_by}
 use Rattle.ckd_command.proofs.Lengths.{length_by}
 use Rattle.ckd_drive.proofs.Moving.{slot_small, lies_first, lies_rest, next_left}
+use Rattle.ckd_drive.specs.Stage.{Passing}
+use Rattle.ckd_cache.specs.Cache.{CacheState}
+use Rattle.ckd_drive.specs.Work.{DriveState, moved_on}
+use Rattle.ckd_command.specs.Drive.{is_written_by}
 
 -- the track stays as it is
 pub absorbs_plain : (half : HalfDone) (more : List ℕ) (place' : Transfer)
@@ -162,3 +166,33 @@ field_absorbs half more f field may at is nothing =
       ap (λ (y : Closing). y.written) (closing_by a g t p.opened r (half.passed ++ more) refl) ∙ field_unwritten a g t p.opened r (half.passed ++ more) k.has.is_field k.room nothing,
     )
     (omega (arith, k.room, k.long, field_small a))
+
+-- the command half done of a drive whose bytes pass
+abbrev pub half_of : Parts → Progress → HalfDone
+half_of parts p = record { cache = parts.cache; registers = parts.registers; before = parts.before; passed = parts.passed; progress = p }
+
+marked_by : (w f f' : Bool) → (f ≡ true → f' ≡ true) → ((w || f) || f') ≡ (w || f')
+marked_by true f f' k = refl
+marked_by false true true k = refl
+marked_by false true false k = absurd (let e = k refl in cc)
+marked_by false false f' k = refl
+
+pub taken_stands : (parts : Parts) (p : Progress) (more : List ℕ) (c' : CacheState) (before' : List ℕ) (place : Transfer) (k : ℕ)
+    → Stands parts → parts.stage ≡ Passing p → k ≡ length more → Absorbs (half_of parts p) more c' before' place
+    → Stands (parts_of (kept c' parts.registers parts.mark) (Passing (next_progress p k place)) before' (parts.passed ++ more))
+taken_stands parts p more c' before' place k x is n a =
+    let marked : parts.cache.changed ≡ (is_written_by parts.mark || is_filled_by p.place) = rw is at x.marked in
+    let w = a.works in
+    let now : c'.changed ≡ (is_written_by parts.mark || is_filled_by place) = a.changed ∙ rw marked (marked_by (is_written_by parts.mark) (is_filled_by p.place) (is_filled_by place) a.still) in
+    record {
+      volume = w.volume;
+      arm = w.arm;
+      anchored = w.anchored;
+      marked = now;
+      work = rw n w.goes;
+    }
+
+pub taken_state : (parts : Parts) (p : Progress) (more : List ℕ) (c' : CacheState) (before' : List ℕ) (place : Transfer) (now : DriveState) (k : ℕ)
+    → parts.stage ≡ Passing p → state_of parts ≡ now → k ≡ length more → Absorbs (half_of parts p) more c' before' place
+    → state_of (parts_of (kept c' parts.registers parts.mark) (Passing (next_progress p k place)) before' (parts.passed ++ more)) ≡ record now { work = moved_on more now.work }
+taken_state parts p more c' before' place now k is now_is n a = rw (← now_is, is, n, a.image, a.seen_same) refl

@@ -2,8 +2,7 @@ use Rattle.std.proofs.Common.{◌∙◌, refl}
 use Rattle.ckd_command.specs.Commands.{beginning}
 use Rattle.ckd_drive.specs.Jobs.{kept_in, stage_of}
 use Rattle.ckd_drive.proofs.Reported.{begin_reports}
-use Rattle.ckd_drive.proofs.Standing.{well_begun}
-use Rattle.ckd_drive.proofs.Starts.{has_begun}
+use Rattle.ckd_drive.proofs.Starts.{has_begun, well_begun}
 use Rattle.ckd_drive.proofs.Inside.{parts_in}
 use Rattle.ckd_drive.proofs.drive.Drive.begin.Goals as goal
 

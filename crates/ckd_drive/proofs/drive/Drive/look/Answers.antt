@@ -1,9 +1,9 @@
 use Rattle.std.proofs.Common.{◌∙◌, refl}
 use Rattle.ckd_drive.specs.Jobs.{kept_in, stage_of}
-use Rattle.ckd_drive.proofs.FirstLooks.{has_looked}
 use Rattle.ckd_drive.proofs.Reported.{look_reports}
 use Rattle.ckd_drive.proofs.Inside.{parts_in}
 use Rattle.ckd_drive.proofs.drive.Drive.look.Goals as goal
+use Rattle.ckd_drive.proofs.Looks.{has_looked}
 
 pub invariant_of-self-2 : goal.invariant_of-self-2
 invariant_of-self-2 g c =

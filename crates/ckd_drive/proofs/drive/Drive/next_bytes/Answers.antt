@@ -1,10 +1,10 @@
 use Rattle.std.proofs.Common.{◌≡◌, ◌∙◌, refl, false}
 use Rattle.ckd_command.specs.Commands.{area_ends, command_end}
 use Rattle.ckd_drive.specs.Invariant.{track_in_reach, slot_at}
-use Rattle.ckd_drive.proofs.Looks.{slot_is}
 use Rattle.ckd_drive.proofs.Moving.{sense_lends, read_window, read_lends}
 use Rattle.ckd_drive.proofs.Inside.{parts_in, progress_in}
 use Rattle.ckd_drive.proofs.drive.Drive.next_bytes.Goals as goal
+use Rattle.ckd_drive.proofs.Standing.{slot_is}
 
 pub returns-in-Sense : goal.returns-in-Sense
 returns-in-Sense g c =

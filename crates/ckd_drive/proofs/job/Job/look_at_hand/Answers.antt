@@ -12,9 +12,8 @@ use Rattle.ckd_drive.specs.Jobs.{kept_in}
 use Rattle.ckd_drive.proofs.Calls.{loads_saved}
 use Rattle.ckd_command.proofs.Sights.{look_again}
 use Rattle.ckd_drive.proofs.Sights.{found_whole}
-use Rattle.ckd_drive.proofs.Standing.{on_ok, on_err}
-use Rattle.ckd_drive.proofs.Looks.{slot_is, first_at}
-use Rattle.ckd_drive.proofs.FirstLooks.{found_looks, passed_looks, missed_looks, next_looks, lost_looks}
+use Rattle.ckd_drive.proofs.Standing.{on_ok, on_err, slot_is}
+use Rattle.ckd_drive.proofs.Looks.{first_at, found_looks, passed_looks, missed_looks, next_looks, lost_looks}
 use Rattle.ckd_drive.proofs.job.Job.look_at_hand.Goals as goal
 
 pub place_on-requires-clause-readable : goal.place_on-requires-clause-readable

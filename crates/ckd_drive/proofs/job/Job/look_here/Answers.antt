@@ -5,9 +5,9 @@ use Rattle.ckd_drive.specs.Invariant.{number_under, slot_under}
 use Rattle.ckd_drive.specs.Fields.{place_seen, stage_seen}
 use Rattle.ckd_drive.specs.Jobs.{kept_in}
 use Rattle.ckd_command.proofs.Sights.{sight_without, sight_credited}
-use Rattle.ckd_drive.proofs.Looks.{slot_is, first_at, credit_hand}
-use Rattle.ckd_drive.proofs.FirstLooks.{found_looks}
+use Rattle.ckd_drive.proofs.Looks.{first_at, credit_hand, found_looks}
 use Rattle.ckd_drive.proofs.job.Job.look_here.Goals as goal
+use Rattle.ckd_drive.proofs.Standing.{slot_is}
 
 pub returns-in-NoArea : goal.returns-in-NoArea
 returns-in-NoArea g c =

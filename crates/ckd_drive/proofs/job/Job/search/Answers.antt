@@ -2,9 +2,9 @@ use Rattle.std.proofs.Common.{◌≡◌, ◌∙◌, refl}
 use Rattle.ckd_drive.specs.Transfers.{Search}
 use Rattle.ckd_drive.specs.Invariant.{own_track, own_slot}
 use Rattle.ckd_drive.specs.Jobs.{half_done}
-use Rattle.ckd_drive.proofs.Looks.{slot_is}
 use Rattle.ckd_drive.proofs.Takes.{search_absorbs}
 use Rattle.ckd_drive.proofs.job.Job.search.Goals as goal
+use Rattle.ckd_drive.proofs.Standing.{slot_is}
 
 pub returns : goal.returns
 returns g c =
