@@ -1,57 +1,23 @@
 -- Bytes that are taken.
-use Rattle.std.proofs.Common.{◌≡◌, ◌∙◌, ap, sym, subst, refl, ℕ, ◌+◌, ◌-◌, ◌<◌, ◌≤◌, ◌^◌, List, [], ◌∷◌, ◌++◌, false, length, take, drop, slice_range, length-append, length-drop, length-take, drop-drop, append_assoc, arith, Bool, true, ◌||◌}
+use Rattle.std.proofs.Common.{◌≡◌, ◌∙◌, ap, sym, refl, ℕ, ◌+◌, ◌-◌, ◌≤◌, List, [], ◌∷◌, ◌++◌, length, take, drop, slice_range, length-append, length-take, append_assoc, arith}
 use Rattle.std.specs.Ordering.{nat_cmp, ordering_then}
 use Rattle.std.specs.declared.cmp.Ordering.{Ordering}
 use Rattle.std.specs.declared.cmp.Ordering.TheVariants as order
 use Rattle.std.specs.Cmp.Lexicographic.{slice_cmp}
 use Rattle.std.proofs.lemmas.List.{take-take, drop-take, take-append-drop, take_at}
-use Rattle.std.proofs.Math.Bool.{or-false}
 use Rattle.ckd_track.specs.Track.{track_of}
 use Rattle.ckd_track.specs.Changes.{overwritten}
 use Rattle.ckd_command.specs.declared.tables.Action.TheVariants as action
 use Rattle.ckd_command.specs.Answers.{Found}
 use Rattle.ckd_slot.specs.declared.windows.Window.{Window}
-use Rattle.ckd_drive.specs.Transfers.{Transfer, Field, Search, Progress}
+use Rattle.ckd_drive.specs.Transfers.{Field, Search}
 use Rattle.ckd_command.specs.Tables.{action_of}
 use Rattle.ckd_command.specs.Commands.{Closing, sight, area_bytes, length_after}
-use Rattle.ckd_slot.specs.Buffer.{Lies}
-use Rattle.ckd_drive.specs.Invariant.{HalfDone, Works, MayTake, Absorbs, own_slot, action_now, seen_with, IsPlaced, HasField, remaining, slot_at, track_under, is_filled_by, order_of, field_size, at_work, Stands, next_progress, state_of, kept, Parts, parts_of}
+use Rattle.ckd_drive.specs.Invariant.{HalfDone, MayTake, Absorbs, own_slot, own_track, action_now, HasField, slot_at, track_under, order_of, field_size, at_work}
 use Rattle.ckd_drive.proofs.Fields.{ChangesNothing, field_unwritten, field_wants, field_small}
 use Rattle.ckd_command.proofs.Closings.{closing_by}
 use Rattle.ckd_command.proofs.Lengths.{length_by}
-use Rattle.ckd_drive.proofs.Moving.{slot_small, lies_first, lies_rest, next_left}
-use Rattle.ckd_drive.specs.Stage.{Passing}
-use Rattle.ckd_cache.specs.Cache.{CacheState}
-use Rattle.ckd_drive.specs.Work.{DriveState, moved_on}
-use Rattle.ckd_command.specs.Drive.{is_written_by}
-
--- the track stays as it is
-pub absorbs_plain : (half : HalfDone) (more : List ℕ) (place' : Transfer)
-    → Works half → is_filled_by half.progress.place ≡ false → is_filled_by place' ≡ false
-    → seen_with half half.before place' ≡ seen_with half half.before half.progress.place
-    → remaining (action_now half) place' (length (half.passed ++ more)) ≡ remaining (action_now half) half.progress.place (length half.passed) - length more
-    → IsPlaced (at_work (record half { passed = half.passed ++ more })) place' → length half.passed + length more < 2 ^ 32
-    → Absorbs half more half.cache half.before place'
-absorbs_plain half more place' x f f' seen rest placed small =
-    let goes = x.goes in
-    record {
-      works = record {
-        volume = x.volume;
-        arm = x.arm;
-        anchored = x.anchored;
-        goes = record {
-          moved = rw (← goes.moved) (length-append half.passed more);
-          left = next_left half.progress.left (length more) _ _ goes.left rest;
-          placed = placed;
-          no_credit = goes.no_credit;
-        };
-      };
-      image = refl;
-      seen_same = seen;
-      changed = rw f' (sym (or-false half.cache.changed));
-      still = λ e. absurd cc;
-      small = small;
-    }
+use Rattle.ckd_drive.proofs.Moving.{slot_small, lies_first, window_moves, absorbs_plain}
 
 -- Comparing.
 
@@ -85,33 +51,23 @@ pub search_absorbs : (half : HalfDone) (more slot : List ℕ) (w : Window) (so_f
     → Absorbs half more half.cache half.before (Search (record { start = w.start + length more; len = w.len - length more }) now)
 search_absorbs half more slot w so_far now may at slot_is now_is =
     let c = half.cache in
-    let r = half.registers in
     let passed = half.passed in
-    let p = half.progress in
-    let g = c.image.geometry in
-    let n : ℕ = track_under g r in
-    let goes = may.works.goes in
-    let t = track_of (slot_at c.slots n) in
-    let left : p.left ≤ w.len = rw at at goes.left in
+    let o = half.progress.opened in
+    let t = track_of (own_slot half) in
+    let left : half.progress.left ≤ w.len = rw at at may.works.goes.left in
     let le : length more ≤ w.len = omega (arith, left, may.room) in
-    let placed = rw at at goes.placed in
+    let placed = rw at at may.works.goes.placed in
     let h = placed.0 in
-    let area = area_bytes t p.opened r in
-    let rest : List ℕ = drop (length passed) area in
-    let far : length (passed ++ more) ≡ length passed + length more = length-append passed more in
-    let whole : length area ≡ length passed + w.len = omega (arith, h.lies.size, length-drop (length passed) area, h.room) in
-    let behind : drop (length more) rest ≡ drop (length (passed ++ more)) area = drop-drop (length more) (length passed) area ∙ rw far refl in
-    let w' : Window = record { start = w.start + length more; len = w.len - length more } in
-    let lies : Lies (slot_at c.slots n) w' (drop (length (passed ++ more)) area) =
-    (let Q : List ℕ → Type 0 = λ b. Lies (slot_at c.slots n) w' b in subst Q behind (lies_rest (slot_at c.slots n) rest w (length more) h.lies le)) in
-    let piece : slice_range slot w.start (w.start + length more) ≡ take (length more) rest = rw slot_is (lies_first (slot_at c.slots n) rest w (length more) h.lies le) in
-    let compared : now ≡ order_of area (passed ++ more) = now_is ∙ rw (h.compared, piece) (order_more area passed more (omega (arith, whole, le))) in
-    let wants : length_after g t p.opened r (passed ++ more) ≡ length area = length_by action.Search g t p.opened r (passed ++ more) h.is_search in
-    absorbs_plain half more (Search w' now) may.works (rw at refl) refl (rw at refl) (rw at refl) (
-      record { is_search = h.is_search; at_hand = h.at_hand; lies = lies; room = omega (arith, whole, far, le); begins = omega (arith, h.begins, far); compared = compared },
-      record { again = placed.1.again; len = omega (arith, wants, whole, far, le) },
+    let area = area_bytes t o half.registers in
+    let m = window_moves (own_slot half) area passed more w h.lies h.room le in
+    let piece : slice_range slot w.start (w.start + length more) ≡ take (length more) (drop (length passed) area) = rw slot_is (lies_first (own_slot half) (drop (length passed) area) w (length more) h.lies le) in
+    let compared : now ≡ order_of area (passed ++ more) = now_is ∙ rw (h.compared, piece) (order_more area passed more (omega (arith, m.whole, le))) in
+    let wants : length_after c.image.geometry t o half.registers (passed ++ more) ≡ length area = length_by action.Search c.image.geometry t o half.registers (passed ++ more) h.is_search in
+    absorbs_plain half more (Search (record { start = w.start + length more; len = w.len - length more }) now) may.works (rw at refl) refl (rw at refl) (rw at refl) (
+      record { is_search = h.is_search; at_hand = h.at_hand; lies = m.lies; room = m.room; begins = omega (arith, h.begins, m.far); compared = compared },
+      record { again = placed.1.again; len = omega (arith, wants, m.whole, m.far, le) },
     )
-    (omega (arith, h.begins, h.lies.within, le, slot_small c n may.works.volume))
+    (omega (arith, h.begins, h.lies.within, le, slot_small c (own_track half) may.works.volume))
 
 -- Fields.
 
@@ -166,33 +122,3 @@ field_absorbs half more f field may at is nothing =
       ap (λ (y : Closing). y.written) (closing_by a g t p.opened r (half.passed ++ more) refl) ∙ field_unwritten a g t p.opened r (half.passed ++ more) k.has.is_field k.room nothing,
     )
     (omega (arith, k.room, k.long, field_small a))
-
--- the command half done of a drive whose bytes pass
-abbrev pub half_of : Parts → Progress → HalfDone
-half_of parts p = record { cache = parts.cache; registers = parts.registers; before = parts.before; passed = parts.passed; progress = p }
-
-marked_by : (w f f' : Bool) → (f ≡ true → f' ≡ true) → ((w || f) || f') ≡ (w || f')
-marked_by true f f' k = refl
-marked_by false true true k = refl
-marked_by false true false k = absurd (let e = k refl in cc)
-marked_by false false f' k = refl
-
-pub taken_stands : (parts : Parts) (p : Progress) (more : List ℕ) (c' : CacheState) (before' : List ℕ) (place : Transfer) (k : ℕ)
-    → Stands parts → parts.stage ≡ Passing p → k ≡ length more → Absorbs (half_of parts p) more c' before' place
-    → Stands (parts_of (kept c' parts.registers parts.mark) (Passing (next_progress p k place)) before' (parts.passed ++ more))
-taken_stands parts p more c' before' place k x is n a =
-    let marked : parts.cache.changed ≡ (is_written_by parts.mark || is_filled_by p.place) = rw is at x.marked in
-    let w = a.works in
-    let now : c'.changed ≡ (is_written_by parts.mark || is_filled_by place) = a.changed ∙ rw marked (marked_by (is_written_by parts.mark) (is_filled_by p.place) (is_filled_by place) a.still) in
-    record {
-      volume = w.volume;
-      arm = w.arm;
-      anchored = w.anchored;
-      marked = now;
-      work = rw n w.goes;
-    }
-
-pub taken_state : (parts : Parts) (p : Progress) (more : List ℕ) (c' : CacheState) (before' : List ℕ) (place : Transfer) (now : DriveState) (k : ℕ)
-    → parts.stage ≡ Passing p → state_of parts ≡ now → k ≡ length more → Absorbs (half_of parts p) more c' before' place
-    → state_of (parts_of (kept c' parts.registers parts.mark) (Passing (next_progress p k place)) before' (parts.passed ++ more)) ≡ record now { work = moved_on more now.work }
-taken_state parts p more c' before' place now k is now_is n a = rw (← now_is, is, n, a.image, a.seen_same) refl

@@ -3,7 +3,7 @@ use Rattle.ckd_drive.specs.Invariant.{Absorbs}
 use Rattle.ckd_drive.specs.Fields.{place_seen}
 use Rattle.ckd_drive.proofs.Inside.{parts_in, progress_in}
 use Rattle.ckd_drive.proofs.drive.Drive.take.Goals as goal
-use Rattle.ckd_drive.proofs.Takes.{half_of, taken_stands, taken_state}
+use Rattle.ckd_drive.proofs.Moving.{half_of, taken_stands, taken_state}
 
 pub invariant_of-self : goal.invariant_of-self
 invariant_of-self g c =
