@@ -1,5 +1,6 @@
 -- Tracks that are being written.
-use Rattle.std.proofs.Common.{◌≡◌, ◌∙◌, ap, sym, refl, ℕ, ◌+◌, ◌-◌, ◌<◌, ◌≤◌, ◌^◌, List, [], ◌++◌, Bool, true, false, ◌||◌, Some, Ok, Err, unwrap_or, length, take, drop, set-set, get_or-set_same, slice_set, replicate, length-append, length-drop, length-take, length-set, append_assoc, arith}
+use Rattle.std.proofs.Common.{◌≡◌, ◌∙◌, ap, sym, refl, ℕ, ◌+◌, ◌-◌, ◌<◌, ◌≤◌, ◌^◌, List, [], ◌++◌, true, Some, Ok, Err, unwrap_or, length, take, drop, append-nil, set-set, get_or-set_same, slice_set, replicate, length-append, length-drop, length-take, length-set, append_assoc, arith}
+use Rattle.std.proofs.Math.Bool.{or-true}
 use Rattle.std.proofs.lemmas.List.{length-replicate, drop-append-le}
 use Rattle.std.proofs.lemmas.List.Elements.{All-set}
 use Rattle.ckd_track.specs.Track.{Track, track_of, track_in, track_or_none, record_in, slot_of}
@@ -20,37 +21,11 @@ use Rattle.ckd_slot.proofs.Writes.{update_offset, update_length}
 use Rattle.ckd_slot.proofs.Updates.{form_of, padded_on, same_records}
 use Rattle.ckd_drive.proofs.Standing.{slot_is, number_below}
 
-or_true : (b : Bool) → true ≡ (b || true)
-or_true true = refl
-or_true false = refl
-
 pub length-padded : (b : List ℕ) (n : ℕ) → length b ≤ n → length (padded b n) ≡ n
 length-padded b n le = omega (arith, length-append b (replicate (n - length b) 0), length-replicate {A = ℕ} (n - length b) 0, le)
 
--- The slot at hand has become another, made of a track.
-pub written_works : (half : HalfDone) (before' : List ℕ) (more new : List ℕ) (w : Window) (u : CommandEnd)
-    → Works half → half.cache.held ≡ Some (own_track half) → length new ≡ half.cache.image.geometry.track_size → half.progress.left - length more ≤ w.len
-    → HasFilled (at_work (with_taken half more (with_held half.cache new) before' (Filled w u))) w u
-    → Works (with_taken half more (with_held half.cache new) before' (Filled w u))
-written_works half before' more new w u x held size le filled =
-    let c = half.cache in
-    let goes = x.goes in
-    record {
-      volume = record {
-        geometry = x.volume.geometry;
-        count = length-set c.slots (unwrap_or c.held 0) new ∙ x.volume.count;
-        sizes = All-set (λ slot. length slot ≡ c.image.geometry.track_size) c.slots (unwrap_or c.held 0) new size x.volume.sizes;
-        clean = λ e. absurd cc;
-      };
-      arm = x.arm;
-      anchored = λ _. held;
-      goes = record {
-        moved = rw (← goes.moved) (length-append half.passed more);
-        left = le;
-        placed = filled;
-        no_credit = goes.no_credit;
-      };
-    }
+pub padded_whole : (b : List ℕ) (n : ℕ) → length b ≤ n → padded (padded b n) n ≡ padded b n
+padded_whole b n le = (let none : n - length (padded b n) ≡ 0 = omega (arith, length-padded b n le) in rw none (append-nil (padded b n)))
 
 pub there : (half : HalfDone) → Works half → own_track half < length half.cache.slots
 there half x =
@@ -59,16 +34,30 @@ there half x =
 pub new_slot_at : (c : CacheState) (n : ℕ) (new : List ℕ) → c.held ≡ Some n → n < length c.slots → slot_at (with_held c new).slots n ≡ new
 new_slot_at c n new held lt = rw held (get_or-set_same c.slots n new [] lt)
 
+-- The slot at hand has become another, made of a track.
 pub written_absorbs : (half : HalfDone) (before' : List ℕ) (more new : List ℕ) (w : Window) (u : CommandEnd)
-    → Works (with_taken half more (with_held half.cache new) before' (Filled w u)) → half.cache.held ≡ Some (own_track half)
+    → Works half → half.cache.held ≡ Some (own_track half) → length new ≡ half.cache.image.geometry.track_size → half.progress.left - length more ≤ w.len
+    → HasFilled (at_work (with_taken half more (with_held half.cache new) before' (Filled w u))) w u
     → slice_set half.cache.slots (own_track half) before' ≡ seen_with half half.before half.progress.place → length half.passed + length more < 2 ^ 32
     → Absorbs half more (with_held half.cache new) before' (Filled w u)
-written_absorbs half before' more new w u works held seen small =
+written_absorbs half before' more new w u x held size le filled seen small =
+    let c = half.cache in
+    let goes = x.goes in
     record {
-      works = works;
+      works = record {
+        volume = record {
+          geometry = x.volume.geometry;
+          count = length-set c.slots (unwrap_or c.held 0) new ∙ x.volume.count;
+          sizes = All-set (λ slot. length slot ≡ c.image.geometry.track_size) c.slots (unwrap_or c.held 0) new size x.volume.sizes;
+          clean = λ e. absurd cc;
+        };
+        arm = x.arm;
+        anchored = λ _. held;
+        goes = record { moved = rw (← goes.moved) (length-append half.passed more); left = le; placed = filled; no_credit = goes.no_credit };
+      };
       image = refl;
-      seen_same = rw held (set-set half.cache.slots (track_under half.cache.image.geometry half.registers) new before' ∙ seen);
-      changed = or_true half.cache.changed;
+      seen_same = rw held (set-set c.slots (own_track half) new before' ∙ seen);
+      changed = sym (or-true c.changed);
       still = λ _. refl;
       small = small;
     }
@@ -188,9 +177,6 @@ pub record NextSlot (half : HalfDone) (more : List ℕ) (w : Window) (u : Comman
   pub records : SameRecords (slot_held half.cache) (overwritten (slot_held half.cache) w.start more)
   pub absorbs : Absorbs half more (with_held half.cache (overwritten (slot_held half.cache) w.start more)) half.before (Filled (record { start = w.start + length more; len = w.len - length more }) u)
 
-next_bytes : (lead : ℕ) (passed more : List ℕ) → lead ≤ length passed → drop lead (passed ++ more) ≡ drop lead passed ++ more
-next_bytes lead passed more le = drop-append-le lead passed more le
-
 pub filled_absorbs : (half : HalfDone) (more : List ℕ) (w : Window) (u : CommandEnd)
     → MayTake half more → half.progress.place ≡ Filled w u → NextSlot half more w u
 filled_absorbs half more w u may at =
@@ -212,7 +198,7 @@ filled_absorbs half more w u may at =
     let start : length f.head + length (drop f.lead passed) ≡ w.start = omega (arith, f.start, lead_len) in
     let made : new ≡ f.head ++ (padded (drop f.lead passed ++ more) f.room ++ f.tail) =
     next_made old f.head f.tail (drop f.lead passed) more f.room w.start h.slot_is start (omega (arith, lead_len, f.rest, le, f.begins)) in
-    let made' : new ≡ f.head ++ (padded (drop f.lead (passed ++ more)) f.room ++ f.tail) = rw (next_bytes f.lead passed more f.begins) made in
+    let made' : new ≡ f.head ++ (padded (drop f.lead (passed ++ more)) f.room ++ f.tail) = rw (drop-append-le f.lead passed more f.begins) made in
     let slot : new ≡ slot_of g.track_size k.track = made' ∙ sym k.slot_is in
     let read = reads_new g.track_size k.track new k.fits slot in
     let lens : lengths_on (track_in new) ≡ lengths_on (track_in old) = ap lengths_on read.1 ∙ k.lengths_stay in
@@ -233,12 +219,11 @@ filled_absorbs half more w u may at =
       cylinder = h.cylinder;
       head = h.head;
     } in
-    let works = written_works half half.before more new w' u may.works h.at_hand.held read.2 (omega (arith, left, le)) has in
     let here : slot_held c ≡ old = slot_is c n (slot_held c) h.at_hand.held refl in
     record {
       held = h.at_hand.held;
       le = le;
       room = omega (arith, f.within, le);
       records = rw here (same_records g.track_size old new k.track (old_read old h.at_hand.readable) k.fits slot k.lengths_stay);
-      absorbs = rw here (written_absorbs half half.before more new w' u works h.at_hand.held (rw at refl) (omega (arith, f.start, f.within, f.begins, f.lead_small, le, may.works.volume.geometry.limit)));
+      absorbs = rw here (written_absorbs half half.before more new w' u may.works h.at_hand.held read.2 (omega (arith, left, le)) has (rw at refl) (omega (arith, f.start, f.within, f.begins, f.lead_small, le, may.works.volume.geometry.limit)));
     }

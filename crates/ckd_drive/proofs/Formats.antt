@@ -1,5 +1,5 @@
 -- A track that gets a new record.
-use Rattle.std.proofs.Common.{◌≡◌, ◌∙◌, ap, sym, subst, refl, ℕ, ◌+◌, ◌-◌, ◌<◌, ◌≤◌, List, [], ◌∷◌, ◌++◌, true, false, Option, Some, length, take, drop, set, slice_range, replicate, length-append, length-drop, length-take, drop-drop, append_assoc, append-nil, arith}
+use Rattle.std.proofs.Common.{◌≡◌, ◌∙◌, ap, sym, subst, refl, ℕ, ◌+◌, ◌-◌, ◌<◌, ◌≤◌, List, [], ◌∷◌, ◌++◌, true, false, Option, Some, length, take, drop, slice_range, replicate, length-append, length-drop, length-take, drop-drop, append_assoc, append-nil, arith}
 use Rattle.std.proofs.Math.Seq.{get_or-append_seam, set-append_seam}
 use Rattle.std.proofs.lemmas.List.{drop_at, take_all, take-append-le}
 use Rattle.ckd_track.specs.Track.{Track, Record, track_of, track_in, record_in, no_record, record_at, slot_of, key_length, body_length}
@@ -14,13 +14,13 @@ use Rattle.ckd_drive.specs.declared.transfer.Whole.TheVariants as whole
 use Rattle.ckd_slot.specs.declared.windows.Window.{Window}
 use Rattle.ckd_drive.specs.Transfers.{Field, Filled}
 use Rattle.ckd_command.specs.Tables.{action_of}
-use Rattle.ckd_position.specs.Contents.{Sighted, new_record, formatted, kept, padded, replaced, with_key_and_data, with_record_changed}
+use Rattle.ckd_position.specs.Contents.{Sighted, new_record, formatted, kept, padded, replaced, with_record_changed}
 use Rattle.ckd_command.specs.Commands.{Closing, command_end, own_home_address, new_record_fits, format_ends}
 use Rattle.ckd_slot.specs.Buffer.{HasFormatted, fits_track, lengths_on}
 use Rattle.ckd_cache.specs.Cache.{with_held, slot_held, after_format}
 use Rattle.ckd_drive.specs.Invariant.{HalfDone, MayTake, Absorbs, own_track, action_now, IsFilled, AtHand, slot_at, track_under, whole_of, AtWork, geometry_in, action_in}
 use Rattle.ckd_slot.proofs.Writes.{update_length, update_place}
-use Rattle.ckd_drive.proofs.Fills.{there, new_slot_at, reads_new, Filling, room_of, ClosesFilled, form_filled, length-padded}
+use Rattle.ckd_drive.proofs.Fills.{there, new_slot_at, reads_new, Filling, room_of, ClosesFilled, form_filled, length-padded, padded_whole}
 use Rattle.ckd_command.proofs.Closings.{formats_on}
 use Rattle.ckd_command.proofs.Lengths.{same_count}
 use Rattle.ckd_drive.proofs.Takes.{field_goes, field_absorbs}
@@ -62,17 +62,6 @@ length-record b m le =
     let long = length-padded m (body_length b) le in
     omega (arith, length-take (key_length b) (padded m (body_length b)), length-drop (key_length b) (padded m (body_length b)), long)
 
--- a new record that gets other bytes
-record_changed : (b m : List ℕ) → length m ≤ body_length b → with_key_and_data (padded m (body_length b)) (record_with b (padded [] (body_length b))) ≡ record_with b (padded m (body_length b))
-record_changed b m le =
-    let n = body_length b in
-    let k = key_length b in
-    let none = length-padded [] n (omega arith) in
-    let sum : length (take k (padded [] n)) + length (drop k (padded [] n)) ≡ n = length-record b [] (omega arith) in
-    let key : length (take k (padded [] n)) ≡ k = omega (arith, length-take k (padded [] n), none) in
-    let whole : padded (padded m n) n ≡ padded m n = (let z : n - length (padded m n) ≡ 0 = omega (arith, length-padded m n le) in rw z (append-nil (padded m n))) in
-    rw (sum, key, whole) refl
-
 record_last : (t : Sighted) (after : Option Area) (b : List ℕ) (i : ℕ) → i ≡ length (kept t after) → record_in (formatted t after b) i ≡ new_record b
 record_last t after b i e = rw e (get_or-append_seam (kept t after) (new_record b) [] no_record)
 
@@ -84,22 +73,15 @@ format_bytes t after b i e eight =
     let new : new_record b ≡ record_with b (padded [] (body_length b)) = ap new_record (sym (append-nil b)) ∙ new_with b [] eight (omega arith) in
     ap (update_length extent.KeyAndData) (record_last t after b i e ∙ new) ∙ length-record b [] (omega arith)
 
-pub format_same : (t : Sighted) (after : Option Area) (b m : List ℕ) (part : Part) (i : ℕ) → length b ≡ 8 → i ≡ length (kept t after) → length m ≤ body_length b
-    → with_record_changed (replaced extent.KeyAndData (padded m (body_length b))) (Of part i) (formatted t after b) ≡ formatted t after (b ++ m)
-format_same t after b m part i eight e le =
-    let new : new_record b ≡ record_with b (padded [] (body_length b)) = ap new_record (sym (append-nil b)) ∙ new_with b [] eight (omega arith) in
-    let there = record_last t after b i e in
-    let changed : with_key_and_data (padded m (body_length b)) (record_in (formatted t after b) i) ≡ new_record (b ++ m) = ap (λ (x : Record). with_key_and_data (padded m (body_length b)) x) (there ∙ new) ∙ record_changed b m le ∙ sym (new_with b m eight le) in
-    let put : set (kept t after ++ new_record b ∷ []) i (new_record (b ++ m)) ≡ kept t after ++ new_record (b ++ m) ∷ [] = rw e (set-append_seam (kept t after) (new_record b) [] (new_record (b ++ m))) in
-    ap (λ (x : Record). let y : Track = record (formatted t after b) { records = set (kept t after ++ new_record b ∷ []) i x } in y) changed
-    ∙ ap (λ (rs : List Record). let y : Track = record (formatted t after b) { records = rs } in y) put
-
 pub format_written : (t : Sighted) (after : Option Area) (b m : List ℕ) (part : Part) (i : ℕ) → length b ≡ 8 → i ≡ length (kept t after) → length m ≤ body_length b
     → with_record_changed (replaced extent.KeyAndData (padded (drop 8 (b ++ m)) (update_length extent.KeyAndData (record_in (formatted t after b) i)))) (Of part i) (formatted t after b) ≡ formatted t after (b ++ m)
 format_written t after b m part i eight e le =
-    let room = update_length extent.KeyAndData (record_in (formatted t after b) i) in
-    let same : padded (drop 8 (b ++ m)) room ≡ padded m (body_length b) = ap (λ (x : List ℕ). padded x room) (drop_at b m 8 eight) ∙ ap (λ (k : ℕ). padded m k) (format_bytes t after b i e eight) in
-    ap (λ (x : List ℕ). with_record_changed (replaced extent.KeyAndData x) (Of part i) (formatted t after b)) same ∙ format_same t after b m part i eight e le
+    let n = body_length b in
+    let k = key_length b in
+    let new : new_record b ≡ record_with b (padded [] n) = ap new_record (sym (append-nil b)) ∙ new_with b [] eight (omega arith) in
+    let sum : length (take k (padded [] n)) + length (drop k (padded [] n)) ≡ n = length-record b [] (omega arith) in
+    let key : length (take k (padded [] n)) ≡ k = omega (arith, length-take k (padded [] n), length-padded [] n (omega arith)) in
+    rw (drop_at b m 8 eight, record_last t after b i e ∙ new, sum, key, padded_whole m n le, new_with b m eight le, e, set-append_seam (kept t after) (new_record b) [] (record_with b (padded m n))) refl
 
 -- the record that a formatting write fills, behind its count bytes
 abbrev format_filling : AtWork → Part → ℕ → Filling

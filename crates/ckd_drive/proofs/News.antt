@@ -21,7 +21,7 @@ use Rattle.ckd_slot.specs.Buffer.{lengths_on}
 use Rattle.ckd_cache.specs.Cache.{slot_held, with_held}
 use Rattle.ckd_drive.specs.Invariant.{HalfDone, Works, MayTake, Absorbs, own_track, own_slot, action_now, HasFilled, IsFilled, slot_at, track_under, is_filled_by, whole_of, AtWork, geometry_in, slot_in, action_in, at_work, with_taken}
 use Rattle.ckd_slot.proofs.Writes.{bare_fits}
-use Rattle.ckd_drive.proofs.Fills.{written_works, there, new_slot_at, written_absorbs, reads_new}
+use Rattle.ckd_drive.proofs.Fills.{there, new_slot_at, written_absorbs, reads_new}
 use Rattle.ckd_command.proofs.Closings.{closing_by}
 use Rattle.ckd_command.proofs.Lengths.{length_by}
 use Rattle.ckd_drive.proofs.Fields.{ChangesNothing}
@@ -74,8 +74,7 @@ newly_absorbs half more new w u le0 x held plain again takes on some left small 
       cylinder = on.cylinder;
       head = on.head;
     } in
-    let works = written_works half old more new w u x held read.2 left has in
-    rw (slot_is c n (slot_held c) held refl) (written_absorbs half old more new w u works held (set-get_or c.slots n [] ∙ sym (no_filled_seen c.slots n half.before half.progress.place plain)) small)
+    rw (slot_is c n (slot_held c) held refl) (written_absorbs half old more new w u x held read.2 left has (set-get_or c.slots n [] ∙ sym (no_filled_seen c.slots n half.before half.progress.place plain)) small)
 
 -- What a field is that came whole.
 

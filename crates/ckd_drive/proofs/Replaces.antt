@@ -1,5 +1,5 @@
 -- A record that gets other bytes.
-use Rattle.std.proofs.Common.{◌≡◌, ◌∙◌, ap, sym, subst, refl, inl, inr, ◌⊎◌, ℕ, ◌+◌, ◌-◌, ◌<◌, ◌≤◌, List, [], ◌++◌, true, false, ◌==◌, Option, Some, None, Ok, unwrap_or, length, take, drop, set, set-set, get_or-set_same, slice_index, length-append, length-drop, length-take, length-set, append-nil, arith}
+use Rattle.std.proofs.Common.{◌≡◌, ◌∙◌, ap, sym, subst, refl, inl, inr, ℕ, ◌+◌, ◌-◌, ◌<◌, ◌≤◌, List, [], ◌++◌, true, false, ◌==◌, Option, Some, None, Ok, unwrap_or, length, take, drop, set-set, get_or-set_same, slice_index, length-append, length-drop, length-take, length-set, append-nil, arith}
 use Rattle.std.proofs.lemmas.List.{get_or_past}
 use Rattle.std.proofs.lemmas.Bool.{cases_lt}
 use Rattle.std.proofs.lemmas.Bool.Decides.{nat_tests}
@@ -27,7 +27,7 @@ use Rattle.ckd_cache.specs.Cache.{CacheState, with_held, slot_held}
 use Rattle.ckd_drive.specs.Invariant.{HalfDone, MayTake, Absorbs, own_track, own_slot, action_now, IsFilled, ClosesUnwritten, AtHand, PlaceIn, slot_at, track_under, AtWork, geometry_in, action_in, at_work}
 use Rattle.ckd_slot.proofs.Writes.{update_offset, update_length, update_place}
 use Rattle.ckd_slot.proofs.Updates.{form_of, same_records}
-use Rattle.ckd_drive.proofs.Fills.{there, new_slot_at, reads_new, Filling, ClosesFilled, form_filled, length-padded, next_made, old_read}
+use Rattle.ckd_drive.proofs.Fills.{there, new_slot_at, reads_new, Filling, ClosesFilled, form_filled, length-padded, padded_whole, next_made, old_read}
 use Rattle.ckd_command.proofs.Closings.{area_by, closing_by, update_closes}
 use Rattle.ckd_command.proofs.Lengths.{length_by}
 use Rattle.ckd_drive.proofs.News.{new_work, newly_absorbs, StaysOn}
@@ -41,31 +41,15 @@ update_extent command.WriteKeyAndData e = tt
 update_extent _ e = absurd cc
 
 -- only a record's areas have bytes to replace
-record_there : (e : Extent) (t : Track) (i : ℕ) → IsUpdate e → 0 < update_length e (record_in t i) → i < length t.records
-record_there e t i u some = by_place (cases_lt i (length t.records))
-  where
-    nothing_of : (e : Extent) (r : Record) → IsUpdate e → r ≡ no_record → update_length e r ≡ 0
-    nothing_of extent.Data r u is = rw is refl
-    nothing_of extent.KeyAndData r u is = rw is refl
-    nothing_of _ r u is = absurd u
-
-    by_place : (i < length t.records) ⊎ (length t.records ≤ i) → i < length t.records
-    by_place (inl lt) = lt
-    by_place (inr le) = absurd (let z = nothing_of e (record_in t i) u (get_or_past t.records i no_record le) in omega (arith, z, some))
-
-no_home_bytes : (e : Extent) (t : Sighted) → IsUpdate e → bytes_of e t HomeAddress ≡ []
-no_home_bytes extent.Data t u = refl
-no_home_bytes extent.KeyAndData t u = refl
-no_home_bytes _ t u = absurd u
-
-length-bytes : (e : Extent) (t : Track) (part : Part) (i : ℕ) → IsUpdate e → length (bytes_of e (Ok t) (Of part i)) ≡ update_length e (record_in t i)
-length-bytes extent.Data t part i u = refl
-length-bytes extent.KeyAndData t part i u = length-append (record_in t i).key_area (record_in t i).data_area
-length-bytes _ t part i u = absurd u
+in_range : (t : Track) (i : ℕ) (size : Record → ℕ) → size no_record ≡ 0 → 0 < size (record_in t i) → i < length t.records
+in_range t i size none some = elim (cases_lt i (length t.records)) [ inl lt ↦ lt | inr le ↦ absurd (let z = ap size (get_or_past t.records i no_record le) in omega (arith, z, none, some)) ]
 
 bytes_there : (e : Extent) (t : Track) (a : Area) → IsUpdate e → 0 < length (bytes_of e (Ok t) a) → IsRecordOf t a
-bytes_there e t HomeAddress u some = (let z = ap length (no_home_bytes e (Ok t) u) in absurd (omega (arith, z, some)))
-bytes_there e t (Of part i) u some = (let z = length-bytes e t part i u in record_there e t i u (omega (arith, z, some)))
+bytes_there extent.Data t (Of part i) u some = in_range t i (λ r. length r.data_area) refl some
+bytes_there extent.Data t HomeAddress u some = absurd (omega (arith, some))
+bytes_there extent.KeyAndData t (Of part i) u some = in_range t i (λ r. length (r.key_area ++ r.data_area)) refl some
+bytes_there extent.KeyAndData t HomeAddress u some = absurd (omega (arith, some))
+bytes_there _ t a u some = absurd u
 
 -- Other bytes in a record.
 
@@ -77,25 +61,19 @@ replaced_size extent.KeyAndData r b u le =
     omega (arith, long, length-take (length r.key_area) (padded b n), length-drop (length r.key_area) (padded b n))
 replaced_size _ r b u le = absurd u
 
-abbrev with_both : Record → (key : ℕ) → List ℕ → Record
-with_both r key b = record r { key_area = take key b; data_area = drop key b }
-
 -- what was cleared, and then gets bytes
 cleared_first : (e : Extent) (r : Record) (b : List ℕ) → IsUpdate e → length b ≤ update_length e r → replaced e (padded b (update_length e (replaced e [] r))) (replaced e [] r) ≡ replaced e b r
 cleared_first extent.Data r b u le =
     let n = length r.data_area in
     let none : length (padded [] n) ≡ n = length-padded [] n (omega arith) in
-    let whole : padded (padded b n) n ≡ padded b n = (let z : n - length (padded b n) ≡ 0 = omega (arith, length-padded b n le) in rw z (append-nil (padded b n))) in
-    ap (λ (x : ℕ). let y : Record = record r { data_area = padded (padded b x) x } in y) none ∙ ap (λ (x : List ℕ). let y : Record = record r { data_area = x } in y) whole
+    rw (none, padded_whole b n le) refl
 cleared_first extent.KeyAndData r b u le =
     let k = length r.key_area in
     let n = k + length r.data_area in
     let none : length (padded [] n) ≡ n = length-padded [] n (omega arith) in
     let key : length (take k (padded [] n)) ≡ k = omega (arith, none, length-take k (padded [] n)) in
     let sum : length (take k (padded [] n)) + length (drop k (padded [] n)) ≡ n = omega (arith, none, length-take k (padded [] n), length-drop k (padded [] n)) in
-    let whole : padded (padded b n) n ≡ padded b n = (let z : n - length (padded b n) ≡ 0 = omega (arith, length-padded b n le) in rw z (append-nil (padded b n))) in
-    let s = length (take k (padded [] n)) + length (drop k (padded [] n)) in
-    ap (λ (x : ℕ). with_both r x (padded (padded b s) s)) key ∙ ap (λ (x : ℕ). with_both r k (padded (padded b x) x)) sum ∙ ap (with_both r k) whole
+    rw (sum, key, padded_whole b n le) refl
 cleared_first _ r b u le = absurd u
 
 cleared_length : (e : Extent) (r : Record) → IsUpdate e → update_length e (replaced e [] r) ≡ update_length e r
@@ -129,12 +107,7 @@ cleared_changed : (e : Extent) (t : Track) (part : Part) (i : ℕ) (b : List ℕ
     → with_record_changed (replaced e (padded b (update_length e (record_in (cleared e part i t) i)))) (Of part i) (cleared e part i t) ≡ with_record_changed (replaced e b) (Of part i) t
 cleared_changed e t part i b u lt le =
     let r = record_in t i in
-    let there = cleared_record e t part i lt in
-    let t0 = cleared e part i t in
-    let G : Record → Record = λ x. replaced e (padded b (update_length e x)) x in
-    let new : G (record_in t0 i) ≡ replaced e b r = ap G there ∙ cleared_first e r b u le in
-    ap (λ (x : Record). let y : Track = record t { records = set (set t.records i (replaced e [] r)) i x } in y) new
-    ∙ ap (λ (rs : List Record). let y : Track = record t { records = rs } in y) (set-set t.records i (replaced e [] r) (replaced e b r))
+    rw (cleared_record e t part i lt, cleared_first e r b u le, set-set t.records i (replaced e [] r) (replaced e b r)) refl
 
 -- How an update closes of which a byte has come.
 
