@@ -10,7 +10,7 @@ use Rattle.ckd_track.specs.declared.geometries.Geometry.{Geometry}
 use Rattle.ckd_command.specs.declared.registers.Registers.{Registers}
 use Rattle.ckd_command.specs.declared.registers.Credit.{Credit}
 use Rattle.ckd_command.specs.declared.registers.Mark.{Mark}
-use Rattle.ckd_command.specs.declared.registers.Mark.TheVariants.{Saved, Written, Lost}
+use Rattle.ckd_command.specs.declared.registers.Mark.TheVariants.{Saved, Lost}
 use Rattle.ckd_command.specs.declared.tables.Action.{Action}
 use Rattle.ckd_command.specs.declared.tables.Action.TheVariants as action
 use Rattle.ckd_command.specs.declared.begin.Opened.{Opened}
@@ -36,23 +36,18 @@ use Rattle.ckd_command.proofs.Closings.{closing_by, sense_closes}
 
 -- the track that the definitions see under the arm
 
-is_some_not : (t : Track) → Some t ≡ None → ⊥
-is_some_not t e = cc
-
 -- of three tests the last one leads to a track that is written
 three : (x y z : Bool) (p q s k : Closing) → (if x then p else (if y then q else (if z then s else k))).written ≡ None → (z ≡ true → s.written ≡ None → ⊥)
     → (if x then p else (if y then q else (if z then s else k))) ≡ (if x then p else (if y then q else k))
-three true y z p q s k w n = refl
-three false true z p q s k w n = refl
 three false false true p q s k w n = absurd (n refl w)
-three false false false p q s k w n = refl
+three _ _ _ p q s k w n = refl
 
 field_closes : (a : Action) (g : Geometry) (t : Sighted) (o : Opened) (r : Registers) (b : List ℕ) → IsField a → (close_by a g t o r b).written ≡ None → close_by a g t o r b ≡ field_ends a g o r b
 field_closes action.SeekCylinderAndHead g t o r b f w = refl
 field_closes action.SeekHead g t o r b f w = refl
 field_closes action.SetFileMask g t o r b f w = refl
-field_closes action.WriteHomeAddress g t o r b f w = three (length b == 0) (nat_lt (length b) 5) (bytes_eq b (own_home_address r)) _ _ _ _ w (λ e. λ x. is_some_not _ x)
-field_closes action.Format g t o r b f w = three (length b == 0) (nat_lt (length b) 8) (new_record_fits g t o b) _ _ _ _ w (λ e. λ x. is_some_not _ x)
+field_closes action.WriteHomeAddress g t o r b f w = three (length b == 0) (nat_lt (length b) 5) (bytes_eq b (own_home_address r)) _ _ _ _ w (λ e x. cc)
+field_closes action.Format g t o r b f w = three (length b == 0) (nat_lt (length b) 8) (new_record_fits g t o b) _ _ _ _ w (λ e x. cc)
 field_closes _ g t o r b f w = absurd f
 
 search_unwritten : (o : Opened) (r : Registers) (a b : Bool) → (search_ends o r a b).written ≡ None
@@ -266,9 +261,7 @@ stays_ends parts p now u e off =
   where
     marks : (q : Transfer) (m : Mark) (b : Bool) → b ≡ (is_written_by m || is_filled_by q) → b ≡ (is_written_by (mark_left q m) || false)
     marks (Filled w u) Saved b e = e
-    marks (Filled w u) Written b e = e
-    marks (Filled w u) Lost b e = e
-    marks _ m b e = e
+    marks _ _ b e = e
 
 -- it moves, and the track that it leaves is saved
 pub leaves_ends : (parts : Parts) (came : Kept) (p : Progress) (now : DriveState) (u : CommandEnd) (before passed : List ℕ) → Closes parts p now u → u.moves_off ≡ true → Leaves parts.cache came u.registers

@@ -106,10 +106,8 @@ abbrev pub half_of : Parts → Progress → HalfDone
 half_of parts p = record { cache = parts.cache; registers = parts.registers; before = parts.before; passed = parts.passed; progress = p }
 
 marked_by : (w f f' : Bool) → (f ≡ true → f' ≡ true) → ((w || f) || f') ≡ (w || f')
-marked_by true f f' k = refl
-marked_by false true true k = refl
 marked_by false true false k = absurd (let e = k refl in cc)
-marked_by false false f' k = refl
+marked_by _ _ _ k = refl
 
 pub taken_stands : (parts : Parts) (p : Progress) (more : List ℕ) (c' : CacheState) (before' : List ℕ) (place : Transfer) (k : ℕ)
     → Stands parts → parts.stage ≡ Passing p → k ≡ length more → Absorbs (half_of parts p) more c' before' place

@@ -122,15 +122,9 @@ field_stays half more f field may at is none =
 
 -- the home address
 
-pub home_closes : (g : Geometry) (t : Sighted) (o : Opened) (r : Registers) (b : List ℕ) → action_of o.command ≡ action.WriteHomeAddress → length b ≡ 5 → bytes_eq b (own_home_address r) ≡ true → closing g t o r b ≡ writes (bare_track b) (home_address_ends o r)
-home_closes g t o r b is five own = closing_by action.WriteHomeAddress g t o r b is ∙ rw (five, own) refl
-
 pub nothing_more : (b more : List ℕ) → length more ≤ 0 → b ++ more ≡ b
 nothing_more b [] le = append-nil b
 nothing_more b (x ∷ more) le = absurd (omega (arith, le))
-
-pub none_behind : (b : List ℕ) (n : ℕ) → length b ≡ n → padded (drop n b) 0 ≡ []
-none_behind b n e = (let z : drop n b ≡ [] = drop_all n b (omega (arith, e)) in rw z refl)
 
 -- the track's own home address has come whole
 abbrev pub home_filled : (job : AtWork) (now : List ℕ) → action_in job ≡ action.WriteHomeAddress → length job.passed ≡ 5 → bytes_eq job.passed (own_home_address job.registers) ≡ true → 13 ≤ (geometry_in job).track_size
@@ -156,14 +150,14 @@ home_filled job now is five own room lens =
       rest = omega (arith, five);
       closes = λ more le.
           (let e = nothing_more b more le in
-          let k : closing g t o r (b ++ more) ≡ writes (bare_track b) (home_address_ends o r) = ap (λ (x : List ℕ). closing g t o r x) e ∙ home_closes g t o r b is five own in
+          let k : closing g t o r (b ++ more) ≡ writes (bare_track b) (home_address_ends o r) = ap (λ (x : List ℕ). closing g t o r x) e ∙ closing_by action.WriteHomeAddress g t o r b is ∙ rw (five, own) refl in
           record {
             track = bare_track b;
             so = ap command_end k;
             written = ap (λ (y : Closing). y.written) k;
             fits = f;
             lengths_stay = sym lens;
-            slot_is = sym (ap (λ (x : List ℕ). take 5 s ++ (padded (drop 5 x) 0 ++ drop 5 s)) e ∙ ap (λ (x : List ℕ). take 5 s ++ (x ++ drop 5 s)) (none_behind b 5 five) ∙ take-append-drop 5 s);
+            slot_is = rw (e, drop_all 5 b (omega (arith, five))) (sym (take-append-drop 5 s));
           });
       wants = λ more le. ap (λ (x : List ℕ). length_after g t o r x) (nothing_more b more le) ∙ length_by action.WriteHomeAddress g t o r b is;
     }

@@ -1,5 +1,5 @@
 -- A record that gets other bytes.
-use Rattle.std.proofs.Common.{◌≡◌, ◌∙◌, ap, sym, subst, refl, inl, inr, ℕ, ◌+◌, ◌-◌, ◌<◌, ◌≤◌, List, [], ◌++◌, true, false, ◌==◌, Option, Some, None, Ok, unwrap_or, length, take, drop, set-set, get_or-set_same, slice_index, length-append, length-drop, length-take, length-set, append-nil, arith}
+use Rattle.std.proofs.Common.{◌≡◌, ◌∙◌, ap, sym, refl, inl, inr, ℕ, ◌+◌, ◌-◌, ◌<◌, ◌≤◌, List, [], ◌++◌, true, false, ◌==◌, Option, Some, None, Ok, unwrap_or, length, take, drop, set-set, get_or-set_same, slice_index, length-append, length-drop, length-take, length-set, append-nil, arith}
 use Rattle.std.proofs.lemmas.List.{get_or_past}
 use Rattle.std.proofs.lemmas.Bool.{cases_lt}
 use Rattle.std.proofs.lemmas.Bool.Decides.{nat_tests}
@@ -11,26 +11,24 @@ use Rattle.ckd_sense.specs.declared.commands.Command.TheVariants as command
 use Rattle.ckd_position.specs.declared.areas.Area.{Area}
 use Rattle.ckd_position.specs.declared.areas.Area.TheVariants.{HomeAddress, Of}
 use Rattle.ckd_position.specs.declared.areas.Part.{Part}
-use Rattle.ckd_command.specs.declared.registers.Registers.{Registers}
 use Rattle.ckd_command.specs.declared.tables.Action.TheVariants as action
 use Rattle.ckd_position.specs.declared.extents.Extent.{Extent}
 use Rattle.ckd_position.specs.declared.extents.Extent.TheVariants as extent
-use Rattle.ckd_command.specs.declared.begin.Opened.{Opened}
 use Rattle.ckd_command.specs.Answers.{CommandEnd, Found}
 use Rattle.ckd_slot.specs.declared.windows.Window.{Window}
 use Rattle.ckd_drive.specs.Transfers.{Fill, Filled}
 use Rattle.ckd_command.specs.Tables.{action_of, extent_of}
-use Rattle.ckd_position.specs.Contents.{Sighted, bytes_of, padded, replaced, with_record_changed}
+use Rattle.ckd_position.specs.Contents.{bytes_of, padded, replaced, with_record_changed}
 use Rattle.ckd_command.specs.Commands.{Closing, bytes_at, area_bytes, sight, end_of_area, command_end}
 use Rattle.ckd_slot.specs.Buffer.{FitsSlot, IsUpdate, IsRecordOf, SameRecords, IsPlaceOf, lengths_on}
 use Rattle.ckd_cache.specs.Cache.{CacheState, with_held, slot_held}
-use Rattle.ckd_drive.specs.Invariant.{HalfDone, MayTake, Absorbs, own_track, own_slot, action_now, IsFilled, ClosesUnwritten, AtHand, PlaceIn, slot_at, track_under, AtWork, geometry_in, action_in, at_work}
+use Rattle.ckd_drive.specs.Invariant.{HalfDone, MayTake, Absorbs, own_track, own_slot, action_now, IsFilled, AtHand, slot_at, track_under, AtWork, geometry_in, action_in}
 use Rattle.ckd_slot.proofs.Writes.{update_offset, update_length, update_place}
 use Rattle.ckd_slot.proofs.Updates.{form_of, same_records}
 use Rattle.ckd_drive.proofs.Fills.{there, new_slot_at, reads_new, Filling, ClosesFilled, form_filled, length-padded, padded_whole, next_made, old_read}
 use Rattle.ckd_command.proofs.Closings.{area_by, closing_by, update_closes}
 use Rattle.ckd_command.proofs.Lengths.{length_by}
-use Rattle.ckd_drive.proofs.News.{new_work, newly_absorbs, StaysOn}
+use Rattle.ckd_drive.proofs.News.{new_work, newly_absorbs}
 use Rattle.ckd_drive.proofs.Standing.{slot_is}
 
 -- Which bytes are replaced.
@@ -179,13 +177,9 @@ fill_goes half more a w u may at area some =
     let upd = update_extent p.opened.command h.is_update in
     let reads = old_read old h.at_hand.readable in
     let bytes : area_bytes t p.opened r ≡ bytes_of e t a = area_by action.Update t p.opened r h.is_update ∙ ap (λ (y : Option Area). bytes_at e t y) area in
-    let B : Sighted → Type 0 = λ y. 0 < length (bytes_of e y a) in
-    let W : Option Area → Type 0 = λ y. PlaceIn e (track_in old) y w in
     let count : length (bytes_of e t a) ≡ w.len = ap length (sym bytes) ∙ h.lies.size in
     let full : 0 < length (bytes_of e t a) = omega (arith, count, left, may.room, some) in
     let closes = closing_by action.Update g t p.opened r [] h.is_update in
-    let K : List ℕ → Type 0 = λ b. ClosesUnwritten (at_work (record half { passed = b })) t u in
-    let closed = subst K h.none placed.2 in
     record {
       is = h.is_update;
       hand = h.at_hand;
@@ -193,16 +187,13 @@ fill_goes half more a w u may at area some =
       none = h.none;
       le = omega (arith, left, may.room);
       left = left;
-      there = bytes_there e (track_in old) a upd (subst B reads full);
-      place = subst W area h.place;
+      there = bytes_there e (track_in old) a upd (rw reads at full);
+      place = rw area at h.place;
       within = omega (arith, h.lies.within, may.works.volume.sizes n [] (there half may.works));
       again = placed.1.again;
       size = h.lies.size;
-      so = ap command_end (sym closes) ∙ closed.so;
+      so = ap command_end (sym closes) ∙ rw h.none at placed.2.so;
     }
-
-ends_on : (t : Sighted) (o : Opened) (r : Registers) (u : CommandEnd) → command_end (end_of_area t o r) ≡ u → StaysOn r u
-ends_on t o r u so = record { stays = ap (λ (y : CommandEnd). y.moves_off) (sym so); cylinder = ap (λ (y : CommandEnd). y.registers.cylinder) (sym so); head = ap (λ (y : CommandEnd). y.registers.head) (sym so) }
 
 -- the slot that was cleared, and then gets bytes
 abbrev pub cleared_slot : HalfDone → Area → List ℕ
@@ -264,7 +255,7 @@ fill_absorbs half more (Of part i) w u may at area some k f =
     let whole : b ++ [] ≡ more = append-nil b ∙ b_is in
     record {
       records = same_records size s1 new t1 (old_read s1 read1.0) form.fits new_is (form.lengths ∙ sym (ap lengths_on read1.1));
-      absorbs = newly_absorbs half more new w' u (omega arith) may.works k.hand.held (rw at refl) k.again may.taking (ends_on (track_of old) half.progress.opened half.registers u k.so)
+      absorbs = newly_absorbs half more new w' u (omega arith) may.works k.hand.held (rw at refl) k.again may.taking (rw (← k.so) (record { stays = refl; cylinder = refl; head = refl }))
           (omega (arith, some)) (let l = k.left in omega (arith, l)) (omega (arith, none_long, k.le, k.within, may.works.volume.geometry.limit)) filled
           (new_is ∙ ap (λ (y : List ℕ). slot_of size (with_record_changed (replaced e (padded y room0)) (Of part i) t0)) (sym whole));
     }

@@ -1,6 +1,6 @@
 -- A failed call of the store is reported: it follows from what the definitions say of the state, and from how often the
 -- store was called.
-use Rattle.std.proofs.Common.{◌≡◌, ◌∙◌, inl, inr, ◌⊎◌, ap, sym, refl, ℕ, ◌+◌, List, [], Bool, true, false, ◌&&◌, Option, Some, None, slice_index_or, arith}
+use Rattle.std.proofs.Common.{◌≡◌, ◌∙◌, inl, inr, ◌⊎◌, ap, sym, refl, ℕ, ◌+◌, List, Bool, true, false, ◌&&◌, Option, Some, None, arith}
 use Rattle.std.proofs.lemmas.Bool.{and_parts, true_from_ne_false}
 use Rattle.ckd_command.specs.declared.registers.Registers.{Registers}
 use Rattle.ckd_command.specs.declared.registers.Mark.TheVariants.{Written}
@@ -11,39 +11,13 @@ use Rattle.ckd_command.specs.Answers as command_answer
 use Rattle.ckd_command.specs.declared.close.DriveEnding.{DriveEnding}
 use Rattle.ckd_command.specs.Tables.{aim}
 use Rattle.ckd_command.specs.Commands.{Closing, beginning, sight, closing}
-use Rattle.ckd_command.specs.Drive.{State, Fault, LoadFails, SaveFails, Rejected, Closed, begin, begun, looked, look_for, closed, with_registers, is_written, number_under, track_under, tells_equipment_check, unsaved, lost, failed, closed_by}
+use Rattle.ckd_command.specs.Drive.{State, Fault, LoadFails, SaveFails, Rejected, Closed, begin, begun, looked, look_for, closed, with_registers, is_written, track_under, tells_equipment_check, unsaved, lost, failed, closed_by}
 use Rattle.ckd_command.proofs.CommandFacts.{NotTold, BeginsSilent, SightSilent, closing_facts, beginning_silent, sight_silent, store_fault_is_told}
 use Rattle.ckd_drive.specs.declared.answers.Begun.{Begun}
 use Rattle.ckd_drive.specs.declared.answers.Begun.TheVariants as answer
 use Rattle.ckd_drive.specs.Work.{Work, Over, Looking, Passing, DriveState, CallsStore, Reports, fault_met, with_image, open_at, after_begin, after_begun, answer_of_begin, begin_saves, goes_to_cylinder_zero, after_look, after_look_of, after_sight, look_loads, look_loads_of, look_saves, look_saves_of, goes_to_next_head, failed_ending, after_end, closed_of, ending_of, end_saves, end_saves_of, after_settle, settled_state, is_next}
 use Rattle.ckd_drive.proofs.Faults.{fault_none, fault_loading, fault_saving, mark_written}
 use Rattle.ckd_drive.proofs.Calls.{no_more}
-
--- The fault that a call met, by how often it called the store.
-
--- none; or that of a saving; or that of a load
-pub data Failure (loads saves : Bool) (old new : DriveState) : Type 0 where
-  NoFailure : (same : new.image.failures ≡ old.image.failures) → Failure loads saves old new
-  SavingFailed : (left : List ℕ) (saved : saves ≡ true) (fault : fault_met old new ≡ Some (SaveFails left)) → Failure loads saves old new
-  LoadFailed : (loaded : loads ≡ true) (more : new.image.loads ≡ old.image.loads + 1) (fault : fault_met old new ≡ Some LoadFails) → Failure loads saves old new
-
-failure_of : (loads saves : Bool) (old new : DriveState) → CallsStore loads saves old new → Failure loads saves old new
-failure_of loads saves old new k = go k.failures
-  where
-    of_load : new.image.failures ≡ old.image.failures + 1 → new.image.loads ≡ old.image.loads + 1
-        → (new.image.loads ≡ old.image.loads) ⊎ ((loads ≡ true) × (saves ≡ false) × (new.image.loads ≡ old.image.loads + 1)) → Failure loads saves old new
-    of_load more loaded (inl same) = absurd (no_more old.image.loads (sym same ∙ loaded))
-    of_load more loaded (inr x) =
-        let saved = rw x.1 at k.saves in
-        LoadFailed x.0 loaded (fault_loading old new more (omega (arith, saved)))
-
-    by : new.image.failures ≡ old.image.failures + 1 → (saves ≡ true) ⊎ (new.image.loads ≡ old.image.loads + 1) → Failure loads saves old new
-    by more (inl s) = (let saved = rw s at k.saves in SavingFailed (slice_index_or new.image.slots (number_under old.state) []) s (fault_saving old new more saved))
-    by more (inr l) = of_load more l k.loads
-
-    go : (new.image.failures ≡ old.image.failures) ⊎ ((new.image.failures ≡ old.image.failures + 1) × ((saves ≡ true) ⊎ (new.image.loads ≡ old.image.loads + 1))) → Failure loads saves old new
-    go (inl same) = NoFailure same
-    go (inr x) = by x.0 x.1
 
 -- What is reported.
 
@@ -65,20 +39,24 @@ reports_by : (so : Type 0) (loads saves : Bool) (old new : DriveState) (after : 
     → ((left : List ℕ) → saves ≡ true → fault_met old new ≡ Some (SaveFails left) → so × TellsFault (after (Some (SaveFails left))))
     → (loads ≡ true → new.image.loads ≡ old.image.loads + 1 → fault_met old new ≡ Some LoadFails → so × TellsFault (after (Some LoadFails)))
     → Reports so old new
-reports_by so loads saves old new after state k quiet saving loading = record { failed = go (failure_of loads saves old new k); good = good }
+reports_by so loads saves old new after state k quiet saving loading = record {
+  failed = elim k.failures [
+    inl same ↦ inl same |
+    inr x ↦ elim x.1 [
+      inl s ↦ (let saved = rw s at k.saves in let met = fault_saving old new x.0 saved in fails _ met (saving _ s met)) |
+      inr more ↦ elim k.loads [
+        inl same ↦ absurd (no_more old.image.loads (sym same ∙ more)) |
+        inr l ↦ (let saved = rw l.1 at k.saves in let met = fault_loading old new x.0 (omega (arith, saved)) in fails _ met (loading l.0 more met))
+      ]
+    ]
+  ];
+  good = λ same told. heard old.state.registers (after None).registers quiet (sym (ap (λ (x : State). tells_equipment_check x.registers.sense) (state ∙ ap after (fault_none old new same))) ∙ told);
+}
   where
-    good : new.image.failures ≡ old.image.failures → tells_equipment_check new.state.registers.sense ≡ true → tells_equipment_check old.state.registers.sense ≡ true
-    good same told = heard old.state.registers (after None).registers quiet (sym (ap (λ (x : State). tells_equipment_check x.registers.sense) (state ∙ ap after (fault_none old new same))) ∙ told)
-
     fails : (f : Option Fault) → fault_met old new ≡ f → so × TellsFault (after f) → (new.image.failures ≡ old.image.failures) ⊎ (so × (tells_equipment_check new.state.registers.sense ≡ true) × (is_written new.state ≡ false))
     fails f met x =
         let is : new.state ≡ after f = state ∙ ap after met in
         inr (x.0, ap (λ (y : State). tells_equipment_check y.registers.sense) is ∙ x.1.told, ap (λ (y : State). is_written y) is ∙ x.1.unwritten)
-
-    go : Failure loads saves old new → (new.image.failures ≡ old.image.failures) ⊎ (so × (tells_equipment_check new.state.registers.sense ≡ true) × (is_written new.state ≡ false))
-    go (NoFailure same) = inl same
-    go (SavingFailed left saved met) = fails (Some (SaveFails left)) met (saving left saved met)
-    go (LoadFailed loaded more met) = fails (Some LoadFails) met (loading loaded more met)
 
 -- Begin.
 

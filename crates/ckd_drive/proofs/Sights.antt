@@ -4,7 +4,7 @@ use Rattle.ckd_track.specs.Track.{track_or_none}
 use Rattle.ckd_track.specs.Model.{heads_of}
 use Rattle.ckd_track.specs.declared.geometries.Geometry.{Geometry}
 use Rattle.ckd_position.specs.declared.areas.Area.{Area}
-use Rattle.ckd_position.specs.declared.areas.Area.TheVariants.{HomeAddress, Of}
+use Rattle.ckd_position.specs.declared.areas.Area.TheVariants.{Of}
 use Rattle.ckd_position.specs.declared.areas.Kind.{Kind}
 use Rattle.std.proofs.lemmas.Bool.Decides.{nat_tests}
 use Rattle.ckd_position.specs.declared.areas.Next.{Next as NextArea}
@@ -30,15 +30,7 @@ use Rattle.ckd_drive.specs.Invariant.{AreaIsThere, ReadsWhole, SightKeeps}
 on_track : (e : Extent) (t : Sighted) (a : Area) → IsOnTrack (track_or_none t) a → HasBytes e t a
 on_track extent.Count t (Of part i) on = on
 on_track extent.CountKeyAndData t (Of part i) on = on
-on_track extent.Count t HomeAddress on = tt
-on_track extent.CountKeyAndData t HomeAddress on = tt
-on_track extent.Nothing t a on = tt
-on_track extent.CylinderAndHead t a on = tt
-on_track extent.HomeAddress t a on = tt
-on_track extent.Identifier t a on = tt
-on_track extent.Key t a on = tt
-on_track extent.Data t a on = tt
-on_track extent.KeyAndData t a on = tt
+on_track _ t _ on = tt
 
 pub seen_there : (g : Geometry) (t : Sighted) (o : Opened) (r : Registers) (x : NextArea) → IfFound x (IsOnTrack (track_or_none t)) → AreaIsThere t o (sight_of g o r x)
 seen_there g t o r (next.Found a) on = (refl, on_track _ t a on)

@@ -18,7 +18,7 @@ use Rattle.ckd_command.specs.Commands.{beginning, begin_decoded, begin_allowed, 
 use Rattle.ckd_cache.specs.Cache.{CacheState, after_save, after_failed_save}
 use Rattle.ckd_drive.specs.Invariant.{CreditIs, CreditAtHand, BeginsWell, Stands, StageIs, state_of, track_under, work_of, Kept, kept, Parts, parts_of, track_in_reach, number_under}
 use Rattle.ckd_command.specs.declared.registers.Mark.TheVariants.{Saved, Lost}
-use Rattle.ckd_drive.specs.Stage.{Stage, Idle, Passing, Over, Looking}
+use Rattle.ckd_drive.specs.Stage.{Stage, Idle, Over, Looking}
 use Rattle.ckd_command.specs.Answers.{moved_to, Beginning, ToCylinderZero}
 use Rattle.ckd_drive.specs.Work.{DriveState, is_idle, fault_met, after_begun, after_begin, answer_of_begin, begin_saves, immediate_ending}
 use Rattle.std.proofs.Math.Bool.{and-true}
@@ -141,14 +141,10 @@ zero_ends was came q b x well is l =
 -- the answer goes by the stage
 begun_work : (x : AfterBegin) (d : DriveState) (s : Stage) (passed : List ℕ) → is_idle d.work ≡ true → work_of s passed ≡ (after_begun x d).work → begun_at s ≡ answer_of_begin x
 begun_work (Rejected t) d s passed idle e = rw (idle_stage s passed (ap is_idle e ∙ idle)) refl
-begun_work (Immediate t motion) d Idle passed idle e = absurd cc
 begun_work (Immediate t motion) d (Over k) passed idle e = refl
-begun_work (Immediate t motion) d (Looking o) passed idle e = absurd cc
-begun_work (Immediate t motion) d (Passing p) passed idle e = absurd cc
-begun_work (Started o) d Idle passed idle e = absurd cc
-begun_work (Started o) d (Over k) passed idle e = absurd cc
+begun_work (Immediate t motion) d _ passed idle e = absurd cc
 begun_work (Started o) d (Looking p) passed idle e = refl
-begun_work (Started o) d (Passing p) passed idle e = refl
+begun_work (Started o) d _ passed idle e = absurd cc
 
 -- what one call makes of the drive that begins a command
 pub record HasBegun (parts : Parts) (now : DriveState) (code : ℕ) : Type 0 where
