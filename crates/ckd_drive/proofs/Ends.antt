@@ -1,5 +1,5 @@
 -- How commands end.
-use Rattle.std.proofs.Common.{◌≡◌, ◌∙◌, ap, sym, subst, refl, ℕ, ◌+◌, ◌<◌, List, [], ◌∷◌, ◌++◌, Bool, true, false, ◌&&◌, ◌||◌, ◌==◌, nat_lt, if◌then◌else◌, Option, Some, None, length, take, set-set, get_or-set_same, slice_set, slice_range, append-nil, length-drop, bytes_eq, arith}
+use Rattle.std.proofs.Common.{◌≡◌, ◌∙◌, ap, sym, refl, ℕ, ◌+◌, ◌<◌, List, [], ◌∷◌, ◌++◌, Bool, true, false, ◌&&◌, ◌||◌, ◌==◌, nat_lt, if◌then◌else◌, Option, Some, None, length, take, set-set, get_or-set_same, slice_set, slice_range, append-nil, length-drop, bytes_eq, arith}
 use Rattle.std.proofs.lemmas.List.{set-get_or}
 use Rattle.std.proofs.lemmas.Bool.{and_parts, cond_both, ltb-true}
 use Rattle.std.proofs.lemmas.Bool.Decides.{nat_tests}
@@ -16,15 +16,18 @@ use Rattle.ckd_command.specs.declared.tables.Action.TheVariants as action
 use Rattle.ckd_command.specs.declared.begin.Opened.{Opened}
 use Rattle.ckd_command.specs.Answers.{CommandEnd}
 use Rattle.ckd_slot.specs.declared.windows.Window.{Window}
-use Rattle.ckd_drive.specs.Transfers.{Transfer, Sense, Field, Read, Search, Fill, Filled, Progress}
-use Rattle.ckd_drive.specs.Stage.{Idle, Passing}
+use Rattle.ckd_drive.specs.declared.transfer.Transfer.{Transfer}
+use Rattle.ckd_drive.specs.declared.transfer.Transfer.TheVariants.{Field, Search, Filled}
+use Rattle.ckd_drive.specs.Stage.{Progress, Idle, Passing}
 use Rattle.ckd_command.specs.Tables.{action_of}
 use Rattle.ckd_position.specs.Contents.{Sighted}
-use Rattle.ckd_command.specs.Commands.{Closing, IsAtTrack, area_bytes, closing, close_by, command_end, search_ends, area_ends, own_home_address, new_record_fits, number as number_of, whole_field, at_end}
+use Rattle.ckd_command.specs.Commands.{Closing, IsAtTrack, area_bytes, closing, close_by, command_end, search_ends, own_home_address, new_record_fits, number as number_of, whole_field, at_end}
 use Rattle.ckd_cache.specs.Cache.{CacheState, after_save, after_failed_save}
-use Rattle.ckd_drive.specs.Invariant.{Stands, mark_left, HasFilled, state_of, IsPlaced, IsField, CreditIs, AtHand, command_end_at, field_ends, seen_by, slot_at, track_under, is_filled, is_filled_by, Kept, kept, Parts, parts_of, track_in_reach, AtWork, geometry_in, number_in, slot_in, closing_in, work_in}
+use Rattle.ckd_drive.specs.Invariant.{Stands, mark_left, HasFilled, state_of, IsPlaced, IsField, CreditIs, AtHand, command_end_at, field_ends, seen_by, slot_at, track_under, is_filled, is_filled_by, Kept, kept, Parts, parts_of, track_in_reach, AtWork, geometry_in, number_in, slot_in, closing_in, work_in, closes_by}
 use Rattle.ckd_command.specs.Drive.{closed_staying, SaveFails, is_written_by}
 use Rattle.ckd_command.specs.declared.close.DriveEnding.{DriveEnding}
+use Rattle.ckd_drive.specs.declared.transfer.Written.{Written}
+use Rattle.ckd_drive.specs.declared.transfer.Written.TheVariants as written
 use Rattle.ckd_drive.specs.Work.{DriveState, CallsStore, closed_of, ending_of, after_end, end_saves, failed_ending, fault_met, with_image}
 use Rattle.ckd_image.specs.Image.{ImageState}
 use Rattle.ckd_drive.proofs.Calls.{changed_is, calls_none, calls_of_save, calls_of_failed_save}
@@ -32,7 +35,7 @@ use Rattle.ckd_drive.specs.Calls.{Ends, Leaves, Loses}
 use Rattle.ckd_drive.proofs.Reported.{end_reports}
 use Rattle.ckd_drive.proofs.Faults.{fault_none, lost_registers, save_lost}
 use Rattle.ckd_drive.proofs.Standing.{no_credit, geometry_saved, failures_saved, saved_stands, lost_stands, seen_track, goes_of, no_filled_seen, number_there}
-use Rattle.ckd_command.proofs.Closings.{closing_by, sense_closes}
+use Rattle.ckd_command.proofs.Closings.{closing_by}
 
 -- the track that the definitions see under the arm
 
@@ -94,7 +97,7 @@ unwritten_is job _ x f = x.2.unwritten
 -- The state that is left.
 
 -- a track that was written is in its place
-written_there : (job : AtWork) (w : Window) (u : CommandEnd) → number_in job < length job.cache.slots → HasFilled job w u
+written_there : (job : AtWork) (w : Window) (u : Written) → number_in job < length job.cache.slots → HasFilled job w u
     → (t : Track) × ((closing_in job (seen_track job (Filled w u))).written ≡ Some t) × (slice_set (slice_set job.cache.slots (number_in job) job.before) (number_in job) (slot_of (geometry_in job).track_size t) ≡ job.cache.slots)
 written_there job w u lt x =
     let k = x.filled.closes [] (omega arith) in
@@ -173,23 +176,24 @@ lands_field c g n r o action.WriteHomeAddress b none at f = lands_whole c g n r 
 lands_field c g n r o action.Format b none at f = lands_whole c g n r r b 8 _ none refl refl refl (lands_plain c g n r _ refl refl refl refl none)
 lands_field c g n r o _ b none at f = absurd f
 
-lands_area : (c : CacheState) (g : Geometry) (n : ℕ) (r : Registers) (o : Opened) (b : Bool) (u : CommandEnd) → command_end (area_ends o r b) ≡ u → r.credit ≡ None → Lands c g n r u
-lands_area c g n r o b u e none = (let P : CommandEnd → Type 0 = λ x. Lands c g n r x in subst P e (lands_plain c g n r _ refl refl refl refl none))
+lands_written : (c : CacheState) (g : Geometry) (n : ℕ) (r : Registers) (o : Opened) (what : Written) → AtHand c n → Lands c g n r (closes_by r o what)
+lands_written c g n r o (written.Area no_data) h = record { stays = λ _. (refl, refl, any_credit c n r.credit h); moves = λ e. absurd cc }
+lands_written c g n r o what h = record { stays = λ _. (refl, refl, any_credit c n (closes_by r o what).registers.credit h); moves = λ e. absurd cc }
 
 pub lands : (job : AtWork) (p : Transfer) (moved : ℕ) → IsPlaced job p → job.registers.credit ≡ None → IsAtTrack (geometry_in job) job.registers
     → Lands job.cache (geometry_in job) (number_in job) job.registers (command_end_at (geometry_in job) job.registers job.opened moved p)
-lands job (Sense b u) moved x none at = lands_area job.cache (geometry_in job) (number_in job) job.registers job.opened false u (ap command_end (sym (sense_closes (geometry_in job) (track_of (slot_in job)) job.opened job.registers job.passed x.0.is_sense)) ∙ x.2.so) none
-lands job (Read w u) moved x none at = lands_area job.cache (geometry_in job) (number_in job) job.registers job.opened _ u (ap command_end (sym (closing_by action.Read (geometry_in job) (track_of (slot_in job)) job.opened job.registers job.passed x.0.is_read)) ∙ x.2.so) none
-lands job (Fill w u) moved x none at =
-    let nothing : job.passed ≡ [] = x.0.none in
-    lands_area job.cache (geometry_in job) (number_in job) job.registers job.opened _ u (ap command_end (sym (closing_by action.Update (geometry_in job) (track_of (slot_in job)) job.opened job.registers [] x.0.is_update)) ∙ rw nothing at x.2.so) none
-lands job (Filled w u) moved x none at = record { stays = λ _. (x.cylinder, x.head, any_credit job.cache (number_in job) _ x.at_hand); moves = λ e. absurd (let s = x.stays in cc) }
+lands job (Filled w what) moved x none at = lands_written job.cache (geometry_in job) (number_in job) job.registers job.opened what x.at_hand
 lands job (Search w so_far) moved x none at = lands_search job.cache (geometry_in job) (number_in job) job.registers job.opened _ _ x.0.at_hand none
 lands job (Field f) moved x none at = lands_field job.cache (geometry_in job) (number_in job) job.registers job.opened (action_of job.opened.command) (take moved f) none at x.0.is_field
+lands job _ moved x none at = lands_plain job.cache (geometry_in job) (number_in job) job.registers _ refl refl refl refl none
+
+written_stays : (r : Registers) (o : Opened) (what : Written) → (closes_by r o what).moves_off ≡ false
+written_stays r o (written.Area no_data) = refl
+written_stays r o _ = refl
 
 -- a command that moves the arm has written nothing
 pub moving_unfilled : (job : AtWork) (p : Transfer) (moved : ℕ) → IsPlaced job p → (command_end_at (geometry_in job) job.registers job.opened moved p).moves_off ≡ true → is_filled_by p ≡ false
-moving_unfilled job (Filled w u) moved x e = absurd (let s = x.stays in cc)
+moving_unfilled job (Filled w what) moved x e = absurd (let stays = written_stays job.registers job.opened what in cc)
 moving_unfilled job _ moved x e = refl
 
 -- what is known of a command that closes with the arm in motion

@@ -11,12 +11,13 @@ use Rattle.ckd_position.specs.declared.areas.Part.{Part}
 use Rattle.ckd_position.specs.declared.extents.Extent.{Extent}
 use Rattle.ckd_command.specs.Answers.{CommandEnd}
 use Rattle.ckd_slot.specs.declared.windows.Window.{Window}
-use Rattle.ckd_drive.specs.Transfers.{Filled}
+use Rattle.ckd_drive.specs.declared.transfer.Transfer.TheVariants.{Filled}
 use Rattle.ckd_position.specs.Contents.{Sighted, is_readable, padded, replaced, with_record_changed}
 use Rattle.ckd_command.specs.Commands.{length_after, closing, command_end}
 use Rattle.ckd_slot.specs.Buffer.{FitsSlot, IsUpdate, SameRecords, lengths_on}
 use Rattle.ckd_cache.specs.Cache.{CacheState, slot_held, with_held}
-use Rattle.ckd_drive.specs.Invariant.{HalfDone, Works, MayTake, Absorbs, own_track, seen_with, with_taken, HasFilled, IsFilled, slot_at, track_under, AtWork, geometry_in, slot_in, at_work}
+use Rattle.ckd_drive.specs.declared.transfer.Written.{Written}
+use Rattle.ckd_drive.specs.Invariant.{HalfDone, Works, MayTake, Absorbs, own_track, seen_with, with_taken, HasFilled, IsFilled, slot_at, track_under, AtWork, geometry_in, slot_in, at_work, closes_by}
 use Rattle.ckd_slot.proofs.Writes.{update_offset, update_length}
 use Rattle.ckd_slot.proofs.Updates.{form_of, padded_on, same_records}
 use Rattle.ckd_drive.proofs.Standing.{slot_is, number_below}
@@ -35,7 +36,7 @@ pub new_slot_at : (c : CacheState) (n : ℕ) (new : List ℕ) → c.held ≡ Som
 new_slot_at c n new held lt = rw held (get_or-set_same c.slots n new [] lt)
 
 -- The slot at hand has become another, made of a track.
-pub written_absorbs : (half : HalfDone) (before' : List ℕ) (more new : List ℕ) (w : Window) (u : CommandEnd)
+pub written_absorbs : (half : HalfDone) (before' : List ℕ) (more new : List ℕ) (w : Window) (u : Written)
     → Works half → half.cache.held ≡ Some (own_track half) → length new ≡ half.cache.image.geometry.track_size → half.progress.left - length more ≤ w.len
     → HasFilled (at_work (with_taken half more (with_held half.cache new) before' (Filled w u))) w u
     → slice_set half.cache.slots (own_track half) before' ≡ seen_with half half.before half.progress.place → length half.passed + length more < 2 ^ 32
@@ -170,16 +171,16 @@ pub next_made : (old head tail mid more : List ℕ) (room start : ℕ) → old �
 next_made old head tail mid more room start is at le = rw (is, ← at) (padded_on head tail mid more room le)
 
 -- the slot that a filled track has next
-pub record NextSlot (half : HalfDone) (more : List ℕ) (w : Window) (u : CommandEnd) : Type 0 where
+pub record NextSlot (half : HalfDone) (more : List ℕ) (w : Window) (what : Written) : Type 0 where
   pub held : half.cache.held ≡ Some (own_track half)
   pub le : length more ≤ w.len
   pub room : w.start + length more ≤ half.cache.image.geometry.track_size
   pub records : SameRecords (slot_held half.cache) (overwritten (slot_held half.cache) w.start more)
-  pub absorbs : Absorbs half more (with_held half.cache (overwritten (slot_held half.cache) w.start more)) half.before (Filled (record { start = w.start + length more; len = w.len - length more }) u)
+  pub absorbs : Absorbs half more (with_held half.cache (overwritten (slot_held half.cache) w.start more)) half.before (Filled (record { start = w.start + length more; len = w.len - length more }) what)
 
-pub filled_absorbs : (half : HalfDone) (more : List ℕ) (w : Window) (u : CommandEnd)
-    → MayTake half more → half.progress.place ≡ Filled w u → NextSlot half more w u
-filled_absorbs half more w u may at =
+pub filled_absorbs : (half : HalfDone) (more : List ℕ) (w : Window) (what : Written)
+    → MayTake half more → half.progress.place ≡ Filled w what → NextSlot half more w what
+filled_absorbs half more w what may at =
     let c = half.cache in
     let passed = half.passed in
     let g = c.image.geometry in
@@ -187,7 +188,7 @@ filled_absorbs half more w u may at =
     let goes = may.works.goes in
     let left : half.progress.left ≤ w.len = rw at at goes.left in
     let le : length more ≤ w.len = omega (arith, left, may.room) in
-    let h : HasFilled (at_work half) w u = rw at at goes.placed in
+    let h : HasFilled (at_work half) w what = rw at at goes.placed in
     let f = h.filled in
     let old = slot_at c.slots n in
     let new = overwritten old w.start more in
@@ -205,9 +206,9 @@ filled_absorbs half more w u may at =
     let at_new = new_slot_at c n new h.at_hand.held lt in
     let w' : Window = record { start = w.start + length more; len = w.len - length more } in
     let now : List ℕ = slot_at (with_held c new).slots n in
-    let on = filled_on (at_work half) new now more w u le (ap (λ (y : List ℕ). lengths_on (track_in y)) at_new ∙ lens) f in
+    let on = filled_on (at_work half) new now more w (closes_by half.registers half.progress.opened what) le (ap (λ (y : List ℕ). lengths_on (track_in y)) at_new ∙ lens) f in
     let wants = f.wants more le in
-    let has : HasFilled (at_work (with_taken half more (with_held c new) half.before (Filled w' u))) w' u = record {
+    let has : HasFilled (at_work (with_taken half more (with_held c new) half.before (Filled w' what))) w' what = record {
       at_hand = record { held = h.at_hand.held; readable = rw at_new read.0 };
       size = h.size;
       filled = on;
@@ -215,9 +216,6 @@ filled_absorbs half more w u may at =
       found = record { again = h.found.again; len = omega (arith, wants, f.rest, f.begins, far, le) };
       takes = h.takes;
       some = omega (arith, h.some, far);
-      stays = h.stays;
-      cylinder = h.cylinder;
-      head = h.head;
     } in
     let here : slot_held c ≡ old = slot_is c n (slot_held c) h.at_hand.held refl in
     record {
@@ -225,5 +223,5 @@ filled_absorbs half more w u may at =
       le = le;
       room = omega (arith, f.within, le);
       records = rw here (same_records g.track_size old new k.track (old_read old h.at_hand.readable) k.fits slot k.lengths_stay);
-      absorbs = rw here (written_absorbs half half.before more new w' u may.works h.at_hand.held read.2 (omega (arith, left, le)) has (rw at refl) (omega (arith, f.start, f.within, f.begins, f.lead_small, le, may.works.volume.geometry.limit)));
+      absorbs = rw here (written_absorbs half half.before more new w' what may.works h.at_hand.held read.2 (omega (arith, left, le)) has (rw at refl) (omega (arith, f.start, f.within, f.begins, f.lead_small, le, may.works.volume.geometry.limit)));
     }

@@ -12,12 +12,13 @@ use Rattle.ckd_command.specs.declared.tables.Action.TheVariants as action
 use Rattle.ckd_position.specs.declared.extents.Extent.TheVariants as extent
 use Rattle.ckd_drive.specs.declared.transfer.Whole.TheVariants as whole
 use Rattle.ckd_slot.specs.declared.windows.Window.{Window}
-use Rattle.ckd_drive.specs.Transfers.{Field, Filled}
+use Rattle.ckd_drive.specs.declared.transfer.Transfer.TheVariants.{Field, Filled}
 use Rattle.ckd_command.specs.Tables.{action_of}
 use Rattle.ckd_position.specs.Contents.{Sighted, new_record, formatted, kept, padded, replaced, with_record_changed}
 use Rattle.ckd_command.specs.Commands.{Closing, command_end, own_home_address, new_record_fits, format_ends}
 use Rattle.ckd_slot.specs.Buffer.{HasFormatted, fits_track, lengths_on}
 use Rattle.ckd_cache.specs.Cache.{with_held, slot_held, after_format}
+use Rattle.ckd_drive.specs.declared.transfer.Written.TheVariants as written
 use Rattle.ckd_drive.specs.Invariant.{HalfDone, MayTake, Absorbs, own_track, action_now, IsFilled, AtHand, slot_at, track_under, whole_of, AtWork, geometry_in, action_in}
 use Rattle.ckd_slot.proofs.Writes.{update_length, update_place}
 use Rattle.ckd_drive.proofs.Fills.{there, new_slot_at, reads_new, Filling, room_of, ClosesFilled, form_filled, length-padded, padded_whole}
@@ -138,7 +139,7 @@ format_stays half more f field count may at is long e no_room =
 pub format_absorbs : (half : HalfDone) (more f field count : List ℕ) (i : ℕ) (w : Window) → MayTake half more → half.progress.place ≡ Field f → field ≡ overwritten f half.progress.moved more → length field ≡ 8
     → whole_of (action_now half) (own_home_address half.registers) (half.progress.moved + length more) field ≡ whole.Count count
     → HasFormatted half.cache.image.geometry.model half.cache.image.geometry.track_size half.progress.opened.area count (track_of (slot_held half.cache)) i w
-    → Absorbs half more (after_format half.cache half.progress.opened.area count) (slot_held half.cache) (Filled w (command_end (format_ends half.registers i)))
+    → Absorbs half more (after_format half.cache half.progress.opened.area count) (slot_held half.cache) (Filled w (written.Record i))
 format_absorbs half more f field count i w may at is long e has =
     let k = format_goes half more f field count may at is long e in
     let c = half.cache in
@@ -163,13 +164,13 @@ format_absorbs half more f field count i w may at is long e has =
     let last = format_there t a b i is_new.is_last in
     let place = update_place extent.KeyAndData t0 part.Data i w tt last is_new.place in
     let bytes = format_bytes t a b i is_new.is_last k.eight in
-    let job = new_work half more new w (command_end (format_ends r i)) in
+    let job = new_work half more new w (written.Record i) in
     let filled : IsFilled job now w (command_end (format_ends r i)) =
     form_filled job now w (format_filling job part.Data i) tt is_new.spelled last lens (omega (arith, k.eight)) (omega arith) (omega (arith, place.0, k.eight)) (omega (arith, place.1, k.eight))
     (λ m le. format_filled job m part.Data i k.is k.eight is_new.fits is_new.is_last (omega (arith, le, place.1))) in
     let whole : with_record_changed (replaced extent.KeyAndData (padded (drop 8 (b ++ [])) (update_length extent.KeyAndData (record_in t0 i)))) (Of part.Data i) t0 ≡ t0 =
     format_written t a b [] part.Data i k.eight is_new.is_last (omega arith) ∙ ap (λ (y : List ℕ). formatted t a y) (append-nil b) in
     let left : half.progress.left ≤ 8 - length half.passed = rw (at, k.is) at may.works.goes.left in
-    newly_absorbs half more new w (command_end (format_ends r i)) (omega arith) may.works k.at_hand.held (rw at refl) goes.again
-    may.taking (record { stays = refl; cylinder = refl; head = refl }) (omega (arith, k.eight, goes.long)) (omega (arith, left, k.eight, goes.long)) (omega (arith, k.eight, goes.long))
+    newly_absorbs half more new w (written.Record i) (omega arith) may.works k.at_hand.held (rw at refl) goes.again
+    may.taking (omega (arith, k.eight, goes.long)) (omega (arith, left, k.eight, goes.long)) (omega (arith, k.eight, goes.long))
     filled (made ∙ ap (slot_of g.track_size) (sym whole))

@@ -9,7 +9,8 @@ use Rattle.ckd_command.specs.declared.tables.Action.TheVariants as action
 use Rattle.ckd_command.specs.declared.begin.Opened.{Opened}
 use Rattle.ckd_command.specs.Answers.{Found, Sight, IndexPassed, NextHead, Missed}
 use Rattle.ckd_slot.specs.declared.windows.Window.{Window}
-use Rattle.ckd_drive.specs.Transfers.{Transfer, Sense, Field, Read, Search, Fill, Filled}
+use Rattle.ckd_drive.specs.declared.transfer.Transfer.{Transfer}
+use Rattle.ckd_drive.specs.declared.transfer.Transfer.TheVariants.{Sense, Field, Read, Search, Fill, Filled}
 use Rattle.ckd_command.specs.Tables.{action_of, aim}
 use Rattle.ckd_position.specs.Contents.{is_readable, Sighted}
 use Rattle.ckd_command.specs.Commands.{Closing, sight, area_bytes, command_end, IsAtTrack, length_after, with_cause}
@@ -88,10 +89,10 @@ lies_behind slot w a b e l = (let P : List ℕ → Type 0 = λ x. Lies slot w x 
 
 pub first_placed : (job : AtWork) (p : Transfer)
     → IsFirstPlace (slot_in job) job.opened job.registers p → HandIfAimed job.cache (number_in job) job.opened → sight (geometry_in job) (track_of (slot_in job)) job.opened job.registers ≡ Found job.opened → IsPlaced (record job { passed = [] }) p
-first_placed job (Sense b u) f h again =
+first_placed job (Sense b) f h again =
     let t = track_of (slot_in job) in
     let is = sense_closes (geometry_in job) t job.opened job.registers [] f.0 in
-    (record { is_sense = f.0; bytes_are = f.1; room = omega arith }, record { again = again; len = sense_length (geometry_in job) t job.opened job.registers [] f.0 }, record { so = ap command_end is ∙ sym f.2; unwritten = ap (λ (k : Closing). k.written) is })
+    (record { is_sense = f.0; bytes_are = f.1; room = omega arith }, record { again = again; len = sense_length (geometry_in job) t job.opened job.registers [] f.0 }, record { so = ap command_end is; unwritten = ap (λ (k : Closing). k.written) is })
 first_placed job (Field x) f h again =
     let t = track_of (slot_in job) in
     let a = action_of job.opened.command in (

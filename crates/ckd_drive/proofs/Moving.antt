@@ -8,8 +8,9 @@ use Rattle.ckd_command.specs.declared.tables.Action.{Action}
 use Rattle.ckd_command.specs.declared.tables.Action.TheVariants as action
 use Rattle.ckd_command.specs.Answers.{CommandEnd}
 use Rattle.ckd_slot.specs.declared.windows.Window.{Window}
-use Rattle.ckd_drive.specs.Transfers.{Transfer, Sense, Field, Read, Search, Fill, Filled, Progress}
-use Rattle.ckd_drive.specs.Stage.{Passing}
+use Rattle.ckd_drive.specs.declared.transfer.Transfer.{Transfer}
+use Rattle.ckd_drive.specs.declared.transfer.Transfer.TheVariants.{Sense, Field, Read, Search, Fill, Filled}
+use Rattle.ckd_drive.specs.Stage.{Progress, Passing}
 use Rattle.ckd_command.specs.Tables.{is_giving}
 use Rattle.ckd_position.specs.Contents.{Sighted}
 use Rattle.ckd_command.specs.Commands.{Closing, area_bytes, length_after, command_end}
@@ -134,7 +135,7 @@ taken_state parts p more c' before' place now k is now_is n a = rw (← now_is, 
 same_closing : (job : AtWork) (t : Sighted) (more : List ℕ) (u : CommandEnd) → closing_in (record job { passed = job.passed ++ more }) t ≡ closing_in job t → ClosesUnwritten job t u → ClosesUnwritten (record job { passed = job.passed ++ more }) t u
 same_closing job t more u same k = record { so = ap command_end same ∙ k.so; unwritten = ap (λ (x : Closing). x.written) same ∙ k.unwritten }
 
-read_absorbs : (half : HalfDone) (more : List ℕ) (w : Window) (u : CommandEnd) → Works half → half.progress.place ≡ Read w u → length more ≤ half.progress.left
+read_absorbs : (half : HalfDone) (more : List ℕ) (w : Window) (u : Bool) → Works half → half.progress.place ≡ Read w u → length more ≤ half.progress.left
     → Absorbs half more half.cache half.before (Read (record { start = w.start + length more; len = w.len - length more }) u)
 read_absorbs half more w u x at may =
     let g = half.cache.image.geometry in
@@ -152,12 +153,12 @@ read_absorbs half more w u x at may =
     absorbs_plain half more (Read (record { start = w.start + length more; len = w.len - length more }) u) x (rw at refl) refl (rw at refl) (rw at refl) (
       record { is_read = h.is_read; held = h.held; lies = m.lies; room = m.room; begins = omega (arith, h.begins, m.far) },
       record { again = placed.1.again; len = omega (arith, wants, m.whole, m.far, le) },
-      same_closing (at_work half) t more u (closing_by action.Read g t o r (passed ++ more) h.is_read ∙ sym (closing_by action.Read g t o r passed h.is_read)) placed.2,
+      same_closing (at_work half) t more _ (closing_by action.Read g t o r (passed ++ more) h.is_read ∙ sym (closing_by action.Read g t o r passed h.is_read)) placed.2,
     )
     (omega (arith, h.begins, h.lies.within, le, slot_small half.cache (own_track half) x.volume))
 
-sense_absorbs : (half : HalfDone) (more b : List ℕ) (u : CommandEnd) → Works half → half.progress.place ≡ Sense b u → length more ≤ half.progress.left → Absorbs half more half.cache half.before (Sense b u)
-sense_absorbs half more b u x at may =
+sense_absorbs : (half : HalfDone) (more b : List ℕ) → Works half → half.progress.place ≡ Sense b → length more ≤ half.progress.left → Absorbs half more half.cache half.before (Sense b)
+sense_absorbs half more b x at may =
     let g = half.cache.image.geometry in
     let r = half.registers in
     let o = half.progress.opened in
@@ -169,10 +170,10 @@ sense_absorbs half more b u x at may =
     let far = length-append passed more in
     let wants : length_after g t o r (passed ++ more) ≡ 6 = sense_length g t o r (passed ++ more) h.is_sense in
     let room : length (passed ++ more) ≤ 6 = omega (arith, far, left, may, h.room) in
-    absorbs_plain half more (Sense b u) x (rw at refl) refl (rw at refl) (rw at (omega (arith, far))) (
+    absorbs_plain half more (Sense b) x (rw at refl) refl (rw at refl) (rw at (omega (arith, far))) (
       record { is_sense = h.is_sense; bytes_are = h.bytes_are; room = room },
       record { again = placed.1.again; len = omega (arith, wants, room) },
-      same_closing (at_work half) t more u (closes_sense g t o r (passed ++ more) h.is_sense ∙ sym (closes_sense g t o r passed h.is_sense)) placed.2,
+      same_closing (at_work half) t more _ (closes_sense g t o r (passed ++ more) h.is_sense ∙ sym (closes_sense g t o r passed h.is_sense)) placed.2,
     )
     (omega (arith, room, far))
 
@@ -195,7 +196,7 @@ given_absorbs half more k x n may giving = rw n (by_place half.progress.place re
     placed = x.goes.placed
 
     by_place : (place : Transfer) → half.progress.place ≡ place → Absorbs half more half.cache half.before (given_on place (length more))
-    by_place (Sense b u) at = sense_absorbs half more b u x at (omega (arith, may, n))
+    by_place (Sense b) at = sense_absorbs half more b x at (omega (arith, may, n))
     by_place (Read w u) at = read_absorbs half more w u x at (omega (arith, may, n))
     by_place (Field f) at = absurd (field_takes (action_now half) (rw at at placed).0.is_field giving)
     by_place (Search w so_far) at = absurd (not_given _ action.Search (rw at at placed).0.is_search refl giving)
@@ -207,10 +208,9 @@ pub record Lends (p : Progress) (now : DriveState) (bytes : List ℕ) : Type 0 w
   pub size : length bytes ≡ left_of now.work
   pub bytes_are : bytes ≡ slice_range (given_now now now.work) (length (passed_of now.work)) (length (passed_of now.work) + left_of now.work)
 
-pub sense_lends : (parts : Parts) (p : Progress) (b : List ℕ) (u : CommandEnd) (now : DriveState)
-    → Stands parts → parts.stage ≡ Passing p → p.place ≡ Sense b u → state_of parts ≡ now → Lends p now (slice_range b p.moved (p.moved + p.left))
-sense_lends parts p b u now x is at now_is =
-    let g = parts.cache.image.geometry in
+pub sense_lends : (parts : Parts) (p : Progress) (b : List ℕ) (now : DriveState)
+    → Stands parts → parts.stage ≡ Passing p → p.place ≡ Sense b → state_of parts ≡ now → Lends p now (slice_range b p.moved (p.moved + p.left))
+sense_lends parts p b now x is at now_is =
     let goes = goes_of parts p x is in
     let h = (rw at at goes.placed).0 in
     let left : p.left ≤ 6 - length parts.passed = rw at at goes.left in
@@ -228,7 +228,7 @@ pub record StandsInWindow (c : CacheState) (r : Registers) (p : Progress) (w : W
   pub inside : w.start + w.len ≤ length (slot_at c.slots (track_under c.image.geometry r))
   pub small : w.start + w.len < 2 ^ 32
 
-pub read_window : (parts : Parts) (p : Progress) (w : Window) (u : CommandEnd)
+pub read_window : (parts : Parts) (p : Progress) (w : Window) (u : Bool)
     → Stands parts → parts.stage ≡ Passing p → p.place ≡ Read w u → StandsInWindow parts.cache parts.registers p w
 read_window parts p w u x is at =
     let g = parts.cache.image.geometry in
@@ -241,7 +241,7 @@ read_window parts p w u x is at =
       small = omega (arith, h.lies.within, slot_small parts.cache (track_under g parts.registers) x.volume);
     }
 
-pub read_lends : (parts : Parts) (p : Progress) (slot : List ℕ) (w : Window) (u : CommandEnd) (now : DriveState)
+pub read_lends : (parts : Parts) (p : Progress) (slot : List ℕ) (w : Window) (u : Bool) (now : DriveState)
     → Stands parts → parts.stage ≡ Passing p → p.place ≡ Read w u → slot ≡ slot_at parts.cache.slots (track_in_reach parts) → state_of parts ≡ now → Lends p now (slice_range slot w.start (w.start + p.left))
 read_lends parts p slot w u now x is at slot_is now_is =
     let passed = parts.passed in

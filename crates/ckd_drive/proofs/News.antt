@@ -10,16 +10,18 @@ use Rattle.ckd_command.specs.declared.registers.Registers.{Registers}
 use Rattle.ckd_command.specs.declared.tables.Action.{Action}
 use Rattle.ckd_command.specs.declared.tables.Action.TheVariants as action
 use Rattle.ckd_command.specs.declared.begin.Opened.{Opened}
-use Rattle.ckd_command.specs.Answers.{CommandEnd, Found}
+use Rattle.ckd_command.specs.Answers.{Found}
 use Rattle.ckd_drive.specs.declared.transfer.Whole.TheVariants as whole
 use Rattle.ckd_slot.specs.declared.windows.Window.{Window}
-use Rattle.ckd_drive.specs.Transfers.{Field, Filled}
+use Rattle.ckd_drive.specs.declared.transfer.Transfer.TheVariants.{Field, Filled}
 use Rattle.ckd_command.specs.Tables.{action_of, is_giving}
 use Rattle.ckd_position.specs.Contents.{Sighted, padded}
 use Rattle.ckd_command.specs.Commands.{Closing, sight, length_after, closing, command_end, own_home_address, home_address_ends, writes}
 use Rattle.ckd_slot.specs.Buffer.{lengths_on}
 use Rattle.ckd_cache.specs.Cache.{slot_held, with_held}
-use Rattle.ckd_drive.specs.Invariant.{HalfDone, Works, MayTake, Absorbs, own_track, own_slot, action_now, HasFilled, IsFilled, slot_at, track_under, is_filled_by, whole_of, AtWork, geometry_in, slot_in, action_in, at_work, with_taken}
+use Rattle.ckd_drive.specs.declared.transfer.Written.{Written}
+use Rattle.ckd_drive.specs.declared.transfer.Written.TheVariants as written
+use Rattle.ckd_drive.specs.Invariant.{HalfDone, Works, MayTake, Absorbs, own_track, own_slot, action_now, HasFilled, IsFilled, slot_at, track_under, is_filled_by, whole_of, AtWork, geometry_in, slot_in, action_in, at_work, with_taken, closes_by}
 use Rattle.ckd_slot.proofs.Writes.{bare_fits}
 use Rattle.ckd_drive.proofs.Fills.{there, new_slot_at, written_absorbs, reads_new}
 use Rattle.ckd_command.proofs.Closings.{closing_by}
@@ -28,26 +30,20 @@ use Rattle.ckd_drive.proofs.Fields.{ChangesNothing}
 use Rattle.ckd_drive.proofs.Takes.{field_goes, field_absorbs}
 use Rattle.ckd_drive.proofs.Standing.{no_filled_seen, slot_is}
 
--- the arm stays at its track
-pub record StaysOn (r : Registers) (u : CommandEnd) : Type 0 where
-  pub stays : u.moves_off ≡ false
-  pub cylinder : u.registers.cylinder ≡ r.cylinder
-  pub head : u.registers.head ≡ r.head
-
 -- a command whose first bytes change the track, once they came: the slot is this
-abbrev pub new_work : HalfDone → (more new : List ℕ) → Window → CommandEnd → AtWork
-new_work half more new w u = at_work (with_taken half more (with_held half.cache new) (own_slot half) (Filled w u))
+abbrev pub new_work : HalfDone → (more new : List ℕ) → Window → Written → AtWork
+new_work half more new w what = at_work (with_taken half more (with_held half.cache new) (own_slot half) (Filled w what))
 
 -- it goes on
-pub newly_absorbs : (half : HalfDone) (more new : List ℕ) (w : Window) (u : CommandEnd) (le0 : length {A = ℕ} [] ≤ w.len)
+pub newly_absorbs : (half : HalfDone) (more new : List ℕ) (w : Window) (what : Written) (le0 : length {A = ℕ} [] ≤ w.len)
     → Works half → half.cache.held ≡ Some (own_track half) → is_filled_by half.progress.place ≡ false
     → sight half.cache.image.geometry (track_of (own_slot half)) half.progress.opened half.registers ≡ Found half.progress.opened
-    → is_giving (action_now half) ≡ false → StaysOn half.registers u
+    → is_giving (action_now half) ≡ false
     → 0 < length half.passed + length more → half.progress.left - length more ≤ w.len → length half.passed + length more < 2 ^ 32
-    → (f : IsFilled (new_work half more new w u) (slot_in (new_work half more new w u)) w u)
+    → (f : IsFilled (new_work half more new w what) (slot_in (new_work half more new w what)) w (closes_by half.registers half.progress.opened what))
     → new ≡ slot_of half.cache.image.geometry.track_size (f.closes [] le0).track
-    → Absorbs half more (with_held half.cache new) (slot_held half.cache) (Filled w u)
-newly_absorbs half more new w u le0 x held plain again takes on some left small f is =
+    → Absorbs half more (with_held half.cache new) (slot_held half.cache) (Filled w what)
+newly_absorbs half more new w what le0 x held plain again takes some left small f is =
     let c = half.cache in
     let passed = half.passed in
     let g = c.image.geometry in
@@ -62,7 +58,7 @@ newly_absorbs half more new w u le0 x held plain again takes on some left small 
     let made' : new ≡ f.head ++ (padded (drop f.lead (passed ++ more)) f.room ++ f.tail) = made ∙ ap (λ (b : List ℕ). f.head ++ (padded (drop f.lead b) f.room ++ f.tail)) same in
     let wants : length_after g (track_of old) half.progress.opened half.registers (passed ++ more) ≡ f.lead + f.room = ap (λ (b : List ℕ). length_after g (track_of old) half.progress.opened half.registers b) (sym same) ∙ f.wants [] le0 in
     let far = length-append passed more in
-    let has : HasFilled (new_work half more new w u) w u = record {
+    let has : HasFilled (new_work half more new w what) w what = record {
       at_hand = record { held = held; readable = rw at_new read.0 };
       size = x.volume.sizes n [] lt;
       filled = f;
@@ -70,11 +66,8 @@ newly_absorbs half more new w u le0 x held plain again takes on some left small 
       found = record { again = again; len = omega (arith, wants, f.rest, f.begins) };
       takes = takes;
       some = omega (arith, some, far);
-      stays = on.stays;
-      cylinder = on.cylinder;
-      head = on.head;
     } in
-    rw (slot_is c n (slot_held c) held refl) (written_absorbs half old more new w u x held read.2 left has (set-get_or c.slots n [] ∙ sym (no_filled_seen c.slots n half.before half.progress.place plain)) small)
+    rw (slot_is c n (slot_held c) held refl) (written_absorbs half old more new w what x held read.2 left has (set-get_or c.slots n [] ∙ sym (no_filled_seen c.slots n half.before half.progress.place plain)) small)
 
 -- What a field is that came whole.
 
@@ -164,7 +157,7 @@ home_filled job now is five own room lens =
 
 pub home_absorbs : (half : HalfDone) (more f field h new : List ℕ) → MayTake half more → half.progress.place ≡ Field f → field ≡ overwritten f half.progress.moved more
     → whole_of (action_now half) (own_home_address half.registers) (half.progress.moved + length more) field ≡ whole.HomeAddress h → new ≡ slot_of half.cache.image.geometry.track_size (bare_track h)
-    → Absorbs half more (with_held half.cache new) (slot_held half.cache) (Filled (record { start = 5; len = 0 }) (command_end (home_address_ends half.progress.opened half.registers)))
+    → Absorbs half more (with_held half.cache new) (slot_held half.cache) (Filled (record { start = 5; len = 0 }) written.HomeAddress)
 home_absorbs half more f field h new may at is e new_is =
     let c = half.cache in
     let r = half.registers in
@@ -187,6 +180,6 @@ home_absorbs half more f field h new may at is e new_is =
     let at_new = new_slot_at c n new held (there half may.works) in
     let lens : lengths_on (track_in (slot_at (with_held c new).slots n)) ≡ lengths_on (bare_track b) = ap (λ (y : List ℕ). lengths_on (track_in y)) at_new ∙ ap lengths_on read.1 in
     let left : p.left ≤ 5 - length half.passed = rw (at, home.is) at goes.left in
-    newly_absorbs half more new (record { start = 5; len = 0 }) (command_end (home_address_ends p.opened r)) (omega arith) may.works held (rw at refl) k.again
-    may.taking (record { stays = refl; cylinder = refl; head = refl }) (omega (arith, five, k.long)) (omega (arith, left, five, k.long)) (omega (arith, five, k.long))
-    (home_filled (new_work half more new (record { start = 5; len = 0 }) (command_end (home_address_ends p.opened r))) (slot_at (with_held c new).slots n) home.is five own room lens) made
+    newly_absorbs half more new (record { start = 5; len = 0 }) written.HomeAddress (omega arith) may.works held (rw at refl) k.again
+    may.taking (omega (arith, five, k.long)) (omega (arith, left, five, k.long)) (omega (arith, five, k.long))
+    (home_filled (new_work half more new (record { start = 5; len = 0 }) written.HomeAddress) (slot_at (with_held c new).slots n) home.is five own room lens) made

@@ -1,5 +1,5 @@
 -- A record that gets other bytes.
-use Rattle.std.proofs.Common.{◌≡◌, ◌∙◌, ap, sym, refl, inl, inr, ℕ, ◌+◌, ◌-◌, ◌<◌, ◌≤◌, List, [], ◌++◌, true, false, ◌==◌, Option, Some, None, Ok, unwrap_or, length, take, drop, set-set, get_or-set_same, slice_index, length-append, length-drop, length-take, length-set, append-nil, arith}
+use Rattle.std.proofs.Common.{◌≡◌, ◌∙◌, ap, sym, refl, inl, inr, ℕ, ◌+◌, ◌-◌, ◌<◌, ◌≤◌, List, [], ◌++◌, true, false, ◌==◌, Option, Some, None, Ok, unwrap_or, length, take, drop, set-set, get_or-set_same, slice_index, length-append, length-drop, length-take, length-set, append-nil, arith, Bool}
 use Rattle.std.proofs.lemmas.List.{get_or_past}
 use Rattle.std.proofs.lemmas.Bool.{cases_lt}
 use Rattle.std.proofs.lemmas.Bool.Decides.{nat_tests}
@@ -16,12 +16,13 @@ use Rattle.ckd_position.specs.declared.extents.Extent.{Extent}
 use Rattle.ckd_position.specs.declared.extents.Extent.TheVariants as extent
 use Rattle.ckd_command.specs.Answers.{CommandEnd, Found}
 use Rattle.ckd_slot.specs.declared.windows.Window.{Window}
-use Rattle.ckd_drive.specs.Transfers.{Fill, Filled}
+use Rattle.ckd_drive.specs.declared.transfer.Transfer.TheVariants.{Fill, Filled}
 use Rattle.ckd_command.specs.Tables.{action_of, extent_of}
 use Rattle.ckd_position.specs.Contents.{bytes_of, padded, replaced, with_record_changed}
-use Rattle.ckd_command.specs.Commands.{Closing, bytes_at, area_bytes, sight, end_of_area, command_end}
+use Rattle.ckd_command.specs.Commands.{Closing, bytes_at, area_bytes, sight, end_of_area, command_end, area_ends}
 use Rattle.ckd_slot.specs.Buffer.{FitsSlot, IsUpdate, IsRecordOf, SameRecords, IsPlaceOf, lengths_on}
 use Rattle.ckd_cache.specs.Cache.{CacheState, with_held, slot_held}
+use Rattle.ckd_drive.specs.declared.transfer.Written.TheVariants as written
 use Rattle.ckd_drive.specs.Invariant.{HalfDone, MayTake, Absorbs, own_track, own_slot, action_now, IsFilled, AtHand, slot_at, track_under, AtWork, geometry_in, action_in}
 use Rattle.ckd_slot.proofs.Writes.{update_offset, update_length, update_place}
 use Rattle.ckd_slot.proofs.Updates.{form_of, same_records}
@@ -134,7 +135,7 @@ fill_filled job part i b u is upd reads there lt some le so size =
 
 -- A command's first bytes that replace others.
 
-pub record FillGoes (half : HalfDone) (more : List ℕ) (a : Area) (w : Window) (u : CommandEnd) : Type 0 where
+pub record FillGoes (half : HalfDone) (more : List ℕ) (a : Area) (w : Window) (no_data : Bool) : Type 0 where
   pub is : action_now half ≡ action.Update
   pub hand : AtHand half.cache (own_track half)
   pub upd : IsUpdate (extent_of half.progress.opened.command)
@@ -146,11 +147,11 @@ pub record FillGoes (half : HalfDone) (more : List ℕ) (a : Area) (w : Window) 
   pub within : w.start + w.len ≤ half.cache.image.geometry.track_size
   pub again : sight half.cache.image.geometry (track_of (own_slot half)) half.progress.opened half.registers ≡ Found half.progress.opened
   pub size : length (area_bytes (track_of (own_slot half)) half.progress.opened half.registers) ≡ w.len
-  pub so : command_end (end_of_area (track_of (own_slot half)) half.progress.opened half.registers) ≡ u
+  pub so : command_end (end_of_area (track_of (own_slot half)) half.progress.opened half.registers) ≡ command_end (area_ends half.progress.opened half.registers no_data)
 
 -- bytes that come belong to an area
-pub no_area : (half : HalfDone) (more : List ℕ) (w : Window) (u : CommandEnd) → MayTake half more → half.progress.place ≡ Fill w u → half.progress.opened.area ≡ None → (length more == 0) ≡ false → ⊥
-no_area half more w u may at none came =
+pub no_area : (half : HalfDone) (more : List ℕ) (w : Window) (no_data : Bool) → MayTake half more → half.progress.place ≡ Fill w no_data → half.progress.opened.area ≡ None → (length more == 0) ≡ false → ⊥
+no_area half more w no_data may at none came =
     let some : 0 < length more = grind (arith, nat_tests) in
     let g = half.cache.image.geometry in
     let n : ℕ = track_under g half.registers in
@@ -161,9 +162,9 @@ no_area half more w u may at none came =
     let zero : 0 ≡ w.len = sym (ap length bytes) ∙ h.lies.size in
     omega (arith, zero, left, may.room, some)
 
-pub fill_goes : (half : HalfDone) (more : List ℕ) (a : Area) (w : Window) (u : CommandEnd) → MayTake half more → half.progress.place ≡ Fill w u → half.progress.opened.area ≡ Some a → 0 < length more
-    → FillGoes half more a w u
-fill_goes half more a w u may at area some =
+pub fill_goes : (half : HalfDone) (more : List ℕ) (a : Area) (w : Window) (no_data : Bool) → MayTake half more → half.progress.place ≡ Fill w no_data → half.progress.opened.area ≡ Some a → 0 < length more
+    → FillGoes half more a w no_data
+fill_goes half more a w no_data may at area some =
     let r = half.registers in
     let p = half.progress in
     let g = half.cache.image.geometry in
@@ -199,14 +200,15 @@ fill_goes half more a w u may at area some =
 abbrev pub cleared_slot : HalfDone → Area → List ℕ
 cleared_slot half a = slot_of half.cache.image.geometry.track_size (with_record_changed (replaced (extent_of half.progress.opened.command) []) a (track_in (own_slot half)))
 
-pub record Replaces (half : HalfDone) (more : List ℕ) (a : Area) (w : Window) (u : CommandEnd) : Type 0 where
+pub record Replaces (half : HalfDone) (more : List ℕ) (a : Area) (w : Window) (no_data : Bool) : Type 0 where
   pub records : SameRecords (cleared_slot half a) (overwritten (cleared_slot half a) w.start more)
-  pub absorbs : Absorbs half more (with_held half.cache (overwritten (cleared_slot half a) w.start more)) (slot_held half.cache) (Filled (record { start = w.start + length more; len = w.len - length more }) u)
+  pub absorbs : Absorbs half more (with_held half.cache (overwritten (cleared_slot half a) w.start more)) (slot_held half.cache) (Filled (record { start = w.start + length more; len = w.len - length more }) (written.Area no_data))
 
-pub fill_absorbs : (half : HalfDone) (more : List ℕ) (a : Area) (w : Window) (u : CommandEnd) → MayTake half more → half.progress.place ≡ Fill w u → half.progress.opened.area ≡ Some a → 0 < length more
-    → FillGoes half more a w u → FitsSlot half.cache.image.geometry.track_size (with_record_changed (replaced (extent_of half.progress.opened.command) []) a (track_in (own_slot half))) → Replaces half more a w u
-fill_absorbs half more HomeAddress w u may at area some k f = absurd k.there
-fill_absorbs half more (Of part i) w u may at area some k f =
+pub fill_absorbs : (half : HalfDone) (more : List ℕ) (a : Area) (w : Window) (no_data : Bool) → MayTake half more → half.progress.place ≡ Fill w no_data → half.progress.opened.area ≡ Some a → 0 < length more
+    → FillGoes half more a w no_data → FitsSlot half.cache.image.geometry.track_size (with_record_changed (replaced (extent_of half.progress.opened.command) []) a (track_in (own_slot half))) → Replaces half more a w no_data
+fill_absorbs half more HomeAddress w no_data may at area some k f = absurd k.there
+fill_absorbs half more (Of part i) w no_data may at area some k f =
+    let u = command_end (area_ends half.progress.opened half.registers no_data) in
     let g = half.cache.image.geometry in
     let n : ℕ = track_under g half.registers in
     let old = slot_at half.cache.slots n in
@@ -248,14 +250,14 @@ fill_absorbs half more (Of part i) w u may at area some k f =
     let b_long : length b ≡ length more = ap length b_is in
     let none_long : length half.passed ≡ 0 = ap length k.none in
     let w' : Window = record { start = w.start + length more; len = w.len - length more } in
-    let job = new_work half more new w' u in
+    let job = new_work half more new w' (written.Area no_data) in
     let filled : IsFilled job now w' u =
     form_filled job now w' (fill_filling job part i u) k.upd f lt0 lengths (omega arith) (omega arith) (omega (arith, start, b_long)) (omega (arith, len, b_long, k.le))
     (λ m le. fill_filled job part i (b ++ m) u k.is k.upd reads area k.there (omega (arith, length-append b m, b_long, some)) (omega (arith, length-append b m, b_long, le, k.le, pl.1)) k.so (k.size ∙ pl.1)) in
     let whole : b ++ [] ≡ more = append-nil b ∙ b_is in
     record {
       records = same_records size s1 new t1 (old_read s1 read1.0) form.fits new_is (form.lengths ∙ sym (ap lengths_on read1.1));
-      absorbs = newly_absorbs half more new w' u (omega arith) may.works k.hand.held (rw at refl) k.again may.taking (rw (← k.so) (record { stays = refl; cylinder = refl; head = refl }))
+      absorbs = newly_absorbs half more new w' (written.Area no_data) (omega arith) may.works k.hand.held (rw at refl) k.again may.taking
           (omega (arith, some)) (let l = k.left in omega (arith, l)) (omega (arith, none_long, k.le, k.within, may.works.volume.geometry.limit)) filled
           (new_is ∙ ap (λ (y : List ℕ). slot_of size (with_record_changed (replaced e (padded y room0)) (Of part i) t0)) (sym whole));
     }
@@ -265,24 +267,24 @@ pub held_twice : (c : CacheState) (one two : List ℕ) → with_held (with_held 
 held_twice c one two = ap (λ (slots : List (List ℕ)). let y : CacheState = record c { slots = slots; changed = true } in y) (set-set c.slots (unwrap_or c.held 0) one two)
 
 -- what such bytes make of the track, by the slot at hand, and once that was cleared
-pub record FillsCleared (half : HalfDone) (more : List ℕ) (a : Area) (w : Window) (u : CommandEnd) (c : CacheState) : Type 0 where
+pub record FillsCleared (half : HalfDone) (more : List ℕ) (a : Area) (w : Window) (no_data : Bool) (c : CacheState) : Type 0 where
   pub records : SameRecords (slot_held c) (overwritten (slot_held c) w.start more)
-  pub absorbs : Absorbs half more (with_held c (overwritten (slot_held c) w.start more)) (slot_held half.cache) (Filled (record { start = w.start + length more; len = w.len - length more }) u)
+  pub absorbs : Absorbs half more (with_held c (overwritten (slot_held c) w.start more)) (slot_held half.cache) (Filled (record { start = w.start + length more; len = w.len - length more }) (written.Area no_data))
 
-pub fill_there : (half : HalfDone) (more : List ℕ) (a : Area) (w : Window) (u : CommandEnd) → MayTake half more → half.progress.place ≡ Fill w u → half.progress.opened.area ≡ Some a → (length more == 0) ≡ false → IsRecordOf (track_in (slot_held half.cache)) a
-fill_there half more a w u may at area came =
-    let k = fill_goes half more a w u may at area (grind (arith, nat_tests)) in
+pub fill_there : (half : HalfDone) (more : List ℕ) (a : Area) (w : Window) (no_data : Bool) → MayTake half more → half.progress.place ≡ Fill w no_data → half.progress.opened.area ≡ Some a → (length more == 0) ≡ false → IsRecordOf (track_in (slot_held half.cache)) a
+fill_there half more a w no_data may at area came =
+    let k = fill_goes half more a w no_data may at area (grind (arith, nat_tests)) in
     rw (slot_is half.cache (own_track half) (slot_held half.cache) k.hand.held refl) k.there
 
-pub fills_cleared : (half : HalfDone) (more : List ℕ) (a : Area) (w : Window) (u : CommandEnd) (c : CacheState) → MayTake half more → half.progress.place ≡ Fill w u → half.progress.opened.area ≡ Some a → (length more == 0) ≡ false
+pub fills_cleared : (half : HalfDone) (more : List ℕ) (a : Area) (w : Window) (no_data : Bool) (c : CacheState) → MayTake half more → half.progress.place ≡ Fill w no_data → half.progress.opened.area ≡ Some a → (length more == 0) ≡ false
     → c ≡ with_held half.cache (slot_of half.cache.image.geometry.track_size (with_record_changed (replaced (extent_of half.progress.opened.command) []) a (track_in (slot_held half.cache))))
-    → FitsSlot half.cache.image.geometry.track_size (with_record_changed (replaced (extent_of half.progress.opened.command) []) a (track_in (slot_held half.cache))) → FillsCleared half more a w u c
-fills_cleared half more a w u c may at area came made fits =
+    → FitsSlot half.cache.image.geometry.track_size (with_record_changed (replaced (extent_of half.progress.opened.command) []) a (track_in (slot_held half.cache))) → FillsCleared half more a w no_data c
+fills_cleared half more a w no_data c may at area came made fits =
     let some : 0 < length more = grind (arith, nat_tests) in
-    let k = fill_goes half more a w u may at area some in
+    let k = fill_goes half more a w no_data may at area some in
     let n = own_track half in
     let old : slot_held half.cache ≡ own_slot half = slot_is half.cache n (slot_held half.cache) k.hand.held refl in
     let slot = cleared_slot half a in
-    let x = fill_absorbs half more a w u may at area some k (rw old at fits) in
+    let x = fill_absorbs half more a w no_data may at area some k (rw old at fits) in
     let now : slot_held (with_held half.cache slot) ≡ slot = slot_is (with_held half.cache slot) n (slot_held (with_held half.cache slot)) k.hand.held refl ∙ new_slot_at half.cache n slot k.hand.held (there half may.works) in
     rw made record { records = rw (old, now) x.records; absorbs = rw (old, now, held_twice half.cache slot (overwritten slot w.start more)) (rw old at x.absorbs) }

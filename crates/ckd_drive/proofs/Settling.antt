@@ -2,7 +2,8 @@
 use Rattle.std.proofs.Common.{◌≡◌, ◌∙◌, ap, refl, ℕ, ◌<◌, List, [], false, None, length, arith}
 use Rattle.ckd_command.specs.declared.registers.Registers.{Registers}
 use Rattle.ckd_command.specs.declared.registers.Mark.TheVariants.{Lost}
-use Rattle.ckd_drive.specs.Transfers.{Transfer, Filled}
+use Rattle.ckd_drive.specs.declared.transfer.Transfer.{Transfer}
+use Rattle.ckd_drive.specs.declared.transfer.Transfer.TheVariants.{Filled}
 use Rattle.ckd_drive.specs.Stage.{Stage, Idle, Passing}
 use Rattle.ckd_cache.specs.Cache.{CacheState, after_save, after_failed_save}
 use Rattle.ckd_drive.specs.Work.{DriveState, passed_of, fault_met, with_image, after_settle, settled_mark}

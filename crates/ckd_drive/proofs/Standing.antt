@@ -13,12 +13,13 @@ use Rattle.ckd_track.specs.declared.model.DriveModel.{DriveModel}
 use Rattle.ckd_track.specs.declared.model.DriveModel.TheVariants.{D2311, D2314}
 use Rattle.ckd_image.specs.declared.store.StoreFault.{StoreFault}
 use Rattle.ckd_command.specs.declared.registers.Mark.TheVariants.{Saved, Lost}
-use Rattle.ckd_drive.specs.Stage.{Stage, Idle, Passing}
+use Rattle.ckd_drive.specs.Stage.{Stage, Idle, Passing, Progress}
 use Rattle.ckd_command.specs.Answers.{moved_to}
 use Rattle.ckd_cache.specs.Cache.{CacheState, IsVolume, saved, after_save, after_failed_save, after_failed_hold, slot_held}
 use Rattle.ckd_drive.specs.Work.{is_idle}
 use Rattle.ckd_track.specs.Track.{track_of}
-use Rattle.ckd_drive.specs.Transfers.{Transfer, Filled, Progress}
+use Rattle.ckd_drive.specs.declared.transfer.Transfer.{Transfer}
+use Rattle.ckd_drive.specs.declared.transfer.Transfer.TheVariants.{Filled}
 use Rattle.ckd_position.specs.Contents.{Sighted}
 
 pub number_below : (g : Geometry) (r : Registers) → IsAtTrack g r → track_under g r < tracks_of g

@@ -10,7 +10,7 @@ use Rattle.ckd_track.specs.Changes.{overwritten}
 use Rattle.ckd_command.specs.declared.tables.Action.TheVariants as action
 use Rattle.ckd_command.specs.Answers.{Found}
 use Rattle.ckd_slot.specs.declared.windows.Window.{Window}
-use Rattle.ckd_drive.specs.Transfers.{Field, Search}
+use Rattle.ckd_drive.specs.declared.transfer.Transfer.TheVariants.{Field, Search}
 use Rattle.ckd_command.specs.Tables.{action_of}
 use Rattle.ckd_command.specs.Commands.{Closing, sight, area_bytes, length_after}
 use Rattle.ckd_drive.specs.Invariant.{HalfDone, MayTake, Absorbs, own_slot, own_track, action_now, HasField, slot_at, track_under, order_of, field_size, at_work}
@@ -89,7 +89,6 @@ pub field_goes : (half : HalfDone) (more f : List ℕ) → MayTake half more →
 field_goes half more f may at =
     let passed = half.passed in
     let g = half.cache.image.geometry in
-    let n : ℕ = track_under g half.registers in
     let goes = may.works.goes in
     let left : half.progress.left ≤ field_size (action_of half.progress.opened.command) - length passed = rw at at goes.left in
     let placed = rw at at goes.placed in

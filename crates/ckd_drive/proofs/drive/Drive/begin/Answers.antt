@@ -22,5 +22,5 @@ returns g c =
     let s = c.start-self-inside in
     let j = s.new.self in
     let x = has_begun (parts_in c.self.inside) (kept_in j s.new.mark) (stage_of j s.result) j.before.bytes j.passed.bytes c.args.self.now c.args.code c.self.view_is c.requires s.ensures.state in
-    let answer = c.begun.ensures j.opened j.registers j.progress ∙ x.answer in
+    let answer = c.begun.ensures j.opened j.progress ∙ x.answer in
     record { state = x.comes.state; answer = answer; calls = x.comes.calls; reported = begin_reports c.args.self.now _ c.args.code _ x.comes.state answer x.comes.calls }

@@ -14,7 +14,7 @@ invariant_of-self g c =
     let k = c.close-closed in
     let u = closed_as (Stays c.in-Stays.unit) k.new.self.registers in
     let e : Closes (parts_in i) (progress_in i) c.args.self.now u = record { stands = c.self.invariant; passes = passing_in i c.args.self.now c.self.view_is c.requires.passing; is = c.self.view_is; out = rw c.in-Stays.is at k.ensures.closes } in
-    rw (c.mark_left-self-inside.ensures i.job.opened i.job.registers, k.ensures.stays) (stays_ends (parts_in i) (progress_in i) c.args.self.now u e refl).stands
+    rw (c.mark_left-self-inside.ensures, k.ensures.stays) (stays_ends (parts_in i) (progress_in i) c.args.self.now u e refl).stands
 
 pub returns-in-Stays : goal.returns-in-Stays
 returns-in-Stays g c =
@@ -22,7 +22,7 @@ returns-in-Stays g c =
     let k = c.close-closed in
     let u = closed_as (Stays c.in-Stays.unit) k.new.self.registers in
     let e : Closes (parts_in i) (progress_in i) c.args.self.now u = record { stands = c.self.invariant; passes = passing_in i c.args.self.now c.self.view_is c.requires.passing; is = c.self.view_is; out = rw c.in-Stays.is at k.ensures.closes } in
-    rw (c.mark_left-self-inside.ensures i.job.opened i.job.registers, k.ensures.stays) (stays_ends (parts_in i) (progress_in i) c.args.self.now u e refl).ends
+    rw (c.mark_left-self-inside.ensures, k.ensures.stays) (stays_ends (parts_in i) (progress_in i) c.args.self.now u e refl).ends
 
 pub invariant_of-self-in-Moves : goal.invariant_of-self-in-Moves
 invariant_of-self-in-Moves g c =
@@ -45,6 +45,18 @@ returns-else-is_err g c =
     let came = kept_in j c.leave.new.mark in
     let l : Leaves i.job.cache came u.registers = rw k.ensures.stays at (on_ok c.leave.result _ (sym c.is_err.ensures.value ∙ c.if-is_err.false) c.leave.ensures.leaves) in
     (leaves_ends (parts_in i) came (progress_in i) c.args.self.now u j.before.bytes j.passed.bytes e refl l).ends
+
+pub invariant_of-self-then-is_err : goal.invariant_of-self-then-is_err
+invariant_of-self-then-is_err g c =
+    let i = c.self.inside in
+    let k = c.close-closed in
+    let u = closed_as (Moves c.in-Moves.cylinder c.in-Moves.head c.in-Moves.ending) k.new.self.registers in
+    let e : Closes (parts_in i) (progress_in i) c.args.self.now u = record { stands = c.self.invariant; passes = passing_in i c.args.self.now c.self.view_is c.requires.passing; is = c.self.view_is; out = rw c.in-Moves.is at k.ensures.closes } in
+    let j = c.leave.new.self in
+    let came = kept_in j c.leave.new.mark in
+    let stays : k.new.self.registers ≡ i.job.registers = rw c.in-Moves.is at k.ensures.registers in
+    let l : Loses i.job.cache i.job.registers came = rw (k.ensures.stays, stays) at (on_err c.leave.result _ (sym c.is_err.ensures.value ∙ c.if-is_err.true) c.leave.ensures.loses) in
+    (lost_ends (parts_in i) came (progress_in i) c.args.self.now u j.before.bytes j.passed.bytes e refl l).stands
 
 pub returns-then-is_err : goal.returns-then-is_err
 returns-then-is_err g c =

@@ -18,4 +18,4 @@ returns g c =
     let l = c.look-self-inside in
     let j = l.new.self in
     let x = has_looked (parts_in i) (kept_in j l.new.mark) (stage_of j l.result) i.job.opened j.before.bytes c.new-self-inside.result.bytes c.args.self.now (rw c.in-Looking.is refl) c.self.view_is c.new-self-inside.ensures l.ensures.stage in
-    record { state = x.comes.state; answer = c.looked.ensures j.opened j.registers j.progress refl ∙ x.answer; calls = x.comes.calls; reported = look_reports c.args.self.now _ x.comes.state x.comes.calls x.comes.at_hand }
+    record { state = x.comes.state; answer = c.looked.ensures j.opened j.progress refl ∙ x.answer; calls = x.comes.calls; reported = look_reports c.args.self.now _ x.comes.state x.comes.calls x.comes.at_hand }

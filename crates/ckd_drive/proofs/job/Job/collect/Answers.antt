@@ -1,5 +1,4 @@
-use Rattle.std.proofs.Common.{◌≡◌, ◌∙◌, sym, refl, rules}
-use Rattle.ckd_drive.specs.Transfers.{Field}
+use Rattle.std.proofs.Common.{◌∙◌, sym, refl, rules}
 use Rattle.ckd_drive.specs.Jobs.{half_done}
 use Rattle.ckd_drive.proofs.News.{field_stays, home_absorbs}
 use Rattle.ckd_drive.proofs.Formats.{format_stays, format_absorbs}
@@ -8,28 +7,24 @@ use Rattle.ckd_drive.proofs.job.Job.collect.Goals as goal
 pub returns-in-No : goal.returns-in-No
 returns-in-No g c =
     let half = half_done c.args.self.now in
-    let at : half.progress.place ≡ Field c.args.field = rw c.requires.at refl in
-    record { absorbs = field_stays half c.args.bytes.now c.args.field _ c.requires.may at c.collected-field.ensures (sym c.whole_field.ensures ∙ c.in-No.is); stays = refl }
+    record { absorbs = field_stays half c.args.bytes.now c.args.field _ c.requires.may c.requires.at c.collected-field.ensures (sym c.whole_field.ensures ∙ c.in-No.is); stays = refl }
 
 pub returns-in-HomeAddress : goal.returns-in-HomeAddress
 returns-in-HomeAddress g c =
     let half = half_done c.args.self.now in
-    let at : half.progress.place ≡ Field c.args.field = rw c.requires.at refl in
     rw (c.of-self.ensures, c.bytes.ensures, c.buffer.ensures.slot, c.write_home_address.ensures)
-    record { absorbs = home_absorbs half c.args.bytes.now c.args.field c.collected-field.result _ _ c.requires.may at c.collected-field.ensures (sym c.whole_field.ensures ∙ c.in-HomeAddress.is) refl; stays = refl }
+    record { absorbs = home_absorbs half c.args.bytes.now c.args.field c.collected-field.result _ _ c.requires.may c.requires.at c.collected-field.ensures (sym c.whole_field.ensures ∙ c.in-HomeAddress.is) refl; stays = refl }
 
 pub returns-in_default : goal.returns-in_default
 returns-in_default g c =
     let half = half_done c.args.self.now in
-    let at : half.progress.place ≡ Field c.args.field = rw c.requires.at refl in
     let full = rw c.in_default.is at c.format.ensures in
     rw full.1
-    record { absorbs = format_stays half c.args.bytes.now c.args.field c.collected-field.result c.in-Count.count c.requires.may at c.collected-field.ensures (search rules) (sym c.whole_field.ensures ∙ c.in-Count.is) full.0; stays = refl }
+    record { absorbs = format_stays half c.args.bytes.now c.args.field c.collected-field.result c.in-Count.count c.requires.may c.requires.at c.collected-field.ensures (search rules) (sym c.whole_field.ensures ∙ c.in-Count.is) full.0; stays = refl }
 
 pub returns-in-Some : goal.returns-in-Some
 returns-in-Some g c =
     let half = half_done c.args.self.now in
-    let at : half.progress.place ≡ Field c.args.field = rw c.requires.at refl in
     let done = rw c.in-Some.is at c.format.ensures in
     rw (c.of-was.ensures, c.bytes-in-Count.ensures, c.buffer-in-Count.ensures.slot, done.1)
-    record { absorbs = format_absorbs half c.args.bytes.now c.args.field c.collected-field.result c.in-Count.count c.in-Some.number c.in-Some.rest c.requires.may at c.collected-field.ensures (search rules) (sym c.whole_field.ensures ∙ c.in-Count.is) done.0; stays = refl }
+    record { absorbs = format_absorbs half c.args.bytes.now c.args.field c.collected-field.result c.in-Count.count c.in-Some.number c.in-Some.rest c.requires.may c.requires.at c.collected-field.ensures (search rules) (sym c.whole_field.ensures ∙ c.in-Count.is) done.0; stays = refl }

@@ -1,5 +1,4 @@
 use Rattle.std.proofs.Common.{refl}
-use Rattle.ckd_drive.specs.Fields.{closes_by}
 use Rattle.ckd_drive.specs.Jobs.{half_done}
 use Rattle.ckd_drive.proofs.Fills.{filled_absorbs}
 use Rattle.ckd_drive.proofs.job.Job.fill_on.Goals as goal
@@ -7,12 +6,10 @@ use Rattle.ckd_drive.proofs.job.Job.fill_on.Goals as goal
 pub put-requires-clause-records : goal.put-requires-clause-records
 put-requires-clause-records g c =
     let half = half_done c.args.self.now in
-    let closes = closes_by half.registers half.progress.opened c.args.written in
-    (filled_absorbs half c.args.bytes.now c.args.window closes c.requires.may (rw c.requires.at refl)).records
+    (filled_absorbs half c.args.bytes.now c.args.window c.args.written c.requires.may c.requires.at).records
 
 pub returns : goal.returns
 returns g c =
     let half = half_done c.args.self.now in
-    let closes = closes_by half.registers half.progress.opened c.args.written in
-    let k = filled_absorbs half c.args.bytes.now c.args.window closes c.requires.may (rw c.requires.at refl) in
+    let k = filled_absorbs half c.args.bytes.now c.args.window c.args.written c.requires.may c.requires.at in
     rw (c.behind.ensures, c.put.ensures) record { absorbs = k.absorbs; stays = refl }

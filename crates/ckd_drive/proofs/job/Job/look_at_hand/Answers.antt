@@ -6,7 +6,7 @@ use Rattle.ckd_command.specs.Tables.{action_of}
 use Rattle.ckd_command.specs.Commands.{sight}
 use Rattle.ckd_cache.specs.Cache.{CacheState}
 use Rattle.ckd_drive.specs.Invariant.{number_under, slot_under, ReadsWhole}
-use Rattle.ckd_drive.specs.Fields.{place_seen, stage_seen}
+use Rattle.ckd_drive.specs.Fields.{stage_seen}
 use Rattle.ckd_drive.specs.Calls.{Leaves, Loses}
 use Rattle.ckd_drive.specs.Jobs.{kept_in}
 use Rattle.ckd_drive.proofs.Calls.{loads_saved}
@@ -49,12 +49,12 @@ returns-in-Found g c =
     let slot : c.buffer.result.now ≡ slot_under was = c.buffer.ensures.slot ∙ rw c.look_at.ensures.stays (slot_is was.cache (number_under was) _ c.requires.held refl) in
     let p = c.place_on.new.progress in
     let placed = rw c.look_at.ensures.stays at (c.place_on.ensures.first r) in
-    let ready = rw c.look_at.ensures.stays at (c.place_on.ensures.ready r) in
+    let ready = rw c.look_at.ensures.stays at c.place_on.ensures.ready in
     rw (c.look_at.ensures.stays, stays)
     record {
       looks = record {
-        stage = found_looks was asked o (place_seen r o p.place) (stage_seen r o p c.place_on.result) c.requires.stands
-            (first_at c.buffer.result.now (slot_under was) o r (place_seen r o p.place) slot placed) (λ _. record { held = c.requires.held; whole = whole }) again.1 (sym first) ready;
+        stage = found_looks was asked o p.place (stage_seen o p c.place_on.result) c.requires.stands
+            (first_at c.buffer.result.now (slot_under was) o r p.place slot placed) (λ _. record { held = c.requires.held; whole = whole }) again.1 (sym first) ready;
         looked = c.place_on.ensures.passing;
       };
       loads = refl;
