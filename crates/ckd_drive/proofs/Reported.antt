@@ -41,12 +41,12 @@ reports_by : (so : Type 0) (loads saves : Bool) (old new : DriveState) (after : 
     → Reports so old new
 reports_by so loads saves old new after state k quiet saving loading = record {
   failed = elim k.failures [
-    inl same ↦ inl same |
-    inr x ↦ elim x.1 [
-      inl s ↦ (let saved = rw s at k.saves in let met = fault_saving old new x.0 saved in fails _ met (saving _ s met)) |
-      inr more ↦ elim k.loads [
-        inl same ↦ absurd (no_more old.image.loads (sym same ∙ more)) |
-        inr l ↦ (let saved = rw l.1 at k.saves in let met = fault_loading old new x.0 (omega (arith, saved)) in fails _ met (loading l.0 more met))
+    | inl same ↦ inl same
+    | inr x ↦ elim x.1 [
+      | inl s ↦ (let saved = rw s at k.saves in let met = fault_saving old new x.0 saved in fails _ met (saving _ s met))
+      | inr more ↦ elim k.loads [
+        | inl same ↦ absurd (no_more old.image.loads (sym same ∙ more))
+        | inr l ↦ (let saved = rw l.1 at k.saves in let met = fault_loading old new x.0 (omega (arith, saved)) in fails _ met (loading l.0 more met))
       ]
     ]
   ];
@@ -82,9 +82,9 @@ begin_reports old new code a state says k =
     let b = beginning code old.state.registers in
     reports_by (a ≡ answer.Rejected) false (begin_saves code old) old new (λ f. (after_begin f code old).state) (ap (λ (d : DriveState). d.state) state) k (begun_quiet old b (beginning_silent code old.state.registers))
     (λ left saved met.
-        (let both = and_parts (is_written old.state) (goes_to_cylinder_zero b) saved in
-        let x = loses_at_begin old.state b left both.0 both.1 in
-        (says ∙ rw (met, x.rejected) refl, rw x.rejected x.tells)))
+    (let both = and_parts (is_written old.state) (goes_to_cylinder_zero b) saved in
+    let x = loses_at_begin old.state b left both.0 both.1 in
+    (says ∙ rw (met, x.rejected) refl, rw x.rejected x.tells)))
     (λ loaded more met. absurd cc)
 
 -- Look.
@@ -177,7 +177,7 @@ pub settle_reports : (old new : DriveState)
 settle_reports old new state k =
     reports_by _ false (is_written old.state) old new (λ f. settled_state f old.state) (ap (λ (d : DriveState). d.state) state) k (λ e. e)
     (λ left saved met.
-        (let written : old.state.mark ≡ Written = mark_written old.state.mark saved in
-        let is : settled_state (Some (SaveFails left)) old.state ≡ lost old.state left = rw written refl in
-        (ap (λ (d : DriveState). unsaved d.state) state ∙ rw (met, is) refl, rw is (lost_tells old.state left))))
+    (let written : old.state.mark ≡ Written = mark_written old.state.mark saved in
+    let is : settled_state (Some (SaveFails left)) old.state ≡ lost old.state left = rw written refl in
+    (ap (λ (d : DriveState). unsaved d.state) state ∙ rw (met, is) refl, rw is (lost_tells old.state left))))
     (λ loaded more met. absurd cc)

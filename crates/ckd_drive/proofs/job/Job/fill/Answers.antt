@@ -23,5 +23,5 @@ pub returns : goal.returns
 returns g c =
     let half = half_done c.args.self.now in
     let k = fills_cleared half c.args.bytes.now c.in-Some.area c.args.window c.args.no_data c.clear.new.self c.requires.may c.requires.at c.in-Some.is (sym c.is_empty.ensures ∙ c.if-is_empty.false)
-        (rw c.extent.ensures at c.clear.ensures.slot) (rw c.extent.ensures at c.clear.ensures.fits) in
+    (rw c.extent.ensures at c.clear.ensures.slot) (rw c.extent.ensures at c.clear.ensures.fits) in
     rw (c.of-self.ensures, c.bytes.ensures, c.buffer.ensures.slot, c.behind.ensures, c.put.ensures) record { absorbs = k.absorbs; stays = refl }
