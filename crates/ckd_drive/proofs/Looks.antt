@@ -8,18 +8,16 @@ use Rattle.ckd_command.specs.declared.tables.Action.{Action}
 use Rattle.ckd_command.specs.declared.tables.Action.TheVariants as action
 use Rattle.ckd_command.specs.declared.begin.Opened.{Opened}
 use Rattle.ckd_command.specs.Answers.{Found, Sight, IndexPassed, NextHead, Missed}
-use Rattle.ckd_slot.specs.declared.windows.Window.{Window}
 use Rattle.ckd_drive.specs.declared.transfer.Transfer.{Transfer}
 use Rattle.ckd_drive.specs.declared.transfer.Transfer.TheVariants.{Sense, Field, Read, Search, Fill, Filled}
 use Rattle.ckd_command.specs.Tables.{action_of, aim}
 use Rattle.ckd_position.specs.Contents.{is_readable, Sighted}
-use Rattle.ckd_command.specs.Commands.{Closing, sight, area_bytes, command_end, IsAtTrack, length_after, with_cause}
+use Rattle.ckd_command.specs.Commands.{Closing, sight, command_end, IsAtTrack, length_after, with_cause}
 use Rattle.ckd_drive.proofs.Fields.{field_unwritten, field_wants, no_byte}
 use Rattle.ckd_command.proofs.Closings.{area_by, closing_by, sense_closes, sense_length}
 use Rattle.ckd_command.proofs.Lengths.{length_by}
-use Rattle.ckd_slot.specs.Buffer.{Lies}
 use Rattle.ckd_cache.specs.Cache.{CacheState, holds, loaded, after_hold, after_failed_hold, after_save, after_failed_save}
-use Rattle.ckd_drive.specs.Invariant.{IsFirstPlace, IsPlaced, IsField, ReadsWhole, FieldAtHand, AtHand, field_size, slot_at, AtWork, geometry_in, number_in, slot_in, Stands, StaysAt, CreditAtHand, remaining, state_of, track_under, is_filled_by, Kept, Parts, parts_of, number_under, slot_under, SightKeeps, work_of, kept}
+use Rattle.ckd_drive.specs.Invariant.{IsFirstPlace, IsPlaced, IsField, ReadsWhole, FieldAtHand, AtHand, slot_at, AtWork, geometry_in, number_in, slot_in, Stands, StaysAt, CreditAtHand, remaining, state_of, track_under, is_filled_by, Kept, Parts, parts_of, number_under, slot_under, SightKeeps, work_of, kept}
 use Rattle.ckd_track.specs.declared.geometries.Geometry.{Geometry}
 use Rattle.ckd_command.specs.declared.registers.Registers.{Registers}
 use Rattle.ckd_drive.specs.Stage.{Stage, Passing, Idle, Over, Looking}
@@ -38,23 +36,17 @@ use Rattle.ckd_drive.proofs.Calls.{changed_is, no_more, loads_saved, calls_none,
 use Rattle.ckd_drive.proofs.Sights.{sight_keeps}
 
 -- whether a command of this action works on an area
-abbrev pub NeedsArea : Action → Type 0
-NeedsArea action.Search = Unit {0}
-NeedsArea action.Read = Unit {0}
-NeedsArea action.WriteHomeAddress = Unit {0}
-NeedsArea action.Format = Unit {0}
-NeedsArea action.Update = Unit {0}
-NeedsArea _ = ⊥
+abbrev needs_area : Action → Bool
+needs_area action.NoTransfer = false
+needs_area action.SeekCylinderAndHead = false
+needs_area action.SeekHead = false
+needs_area action.SetFileMask = false
+needs_area action.GiveSense = false
+needs_area _ = true
 
-pub needs_area : (c : Command) → NeedsArea (action_of c) → aim c ≡ NoArea → ⊥
-needs_area command.NoOperation w e = absurd w
-needs_area command.Recalibrate w e = absurd w
-needs_area command.Seek w e = absurd w
-needs_area command.SeekCylinder w e = absurd w
-needs_area command.SeekHead w e = absurd w
-needs_area command.SetFileMask w e = absurd w
-needs_area command.Sense w e = absurd w
-needs_area _ w e = cc
+aims : (c : Command) → needs_area (action_of c) ≡ true → aim c ≡ NoArea → ⊥
+aims command.Sense w e = cc
+aims _ w e = cc
 
 -- what is at hand for a command that works on an area
 pub record Hand (c : CacheState) (n : ℕ) (o : Opened) : Type 0 where
@@ -64,8 +56,8 @@ pub record Hand (c : CacheState) (n : ℕ) (o : Opened) : Type 0 where
 abbrev pub HandIfAimed : CacheState → ℕ → Opened → Type 0
 HandIfAimed c n o = (aim o.command ≡ NoArea → ⊥) → Hand c n o
 
-hand_for : (c : CacheState) (n : ℕ) (o : Opened) (a : Action) → action_of o.command ≡ a → NeedsArea a → HandIfAimed c n o → Hand c n o
-hand_for c n o a is w h = h (needs_area o.command (rw is w))
+hand_for : (c : CacheState) (n : ℕ) (o : Opened) (a : Action) → action_of o.command ≡ a → needs_area a ≡ true → HandIfAimed c n o → Hand c n o
+hand_for c n o a is w h = h (aims o.command (rw is w))
 
 whole_at : (c : CacheState) (n : ℕ) (o : Opened) (a : Action) → action_of o.command ≡ a → (ReadsWhole a (track_of (slot_at c.slots n)) → is_readable (track_of (slot_at c.slots n)) ≡ true) → Hand c n o → AtHand c n
 whole_at c n o a is f h = record { held = h.held; readable = f (rw is at h.whole) }
@@ -74,18 +66,9 @@ field_at_hand : (a : Action) (c : CacheState) (n : ℕ) (o : Opened) → action_
 field_at_hand action.SeekCylinderAndHead c n o is f h = tt
 field_at_hand action.SeekHead c n o is f h = tt
 field_at_hand action.SetFileMask c n o is f h = tt
-field_at_hand action.WriteHomeAddress c n o is f h = (hand_for c n o action.WriteHomeAddress is tt h).held
-field_at_hand action.Format c n o is f h = whole_at c n o action.Format is (λ x. x) (hand_for c n o action.Format is tt h)
+field_at_hand action.WriteHomeAddress c n o is f h = (hand_for c n o action.WriteHomeAddress is refl h).held
+field_at_hand action.Format c n o is f h = whole_at c n o action.Format is (λ x. x) (hand_for c n o action.Format is refl h)
 field_at_hand _ c n o is f h = absurd f
-
-all_left : (n : ℕ) → n ≡ 0 + (n - 0)
-all_left n = omega arith
-
-none_passed : (n : ℕ) → n ≡ 0 + n
-none_passed n = omega arith
-
-lies_behind : (slot : List ℕ) (w : Window) (a b : List ℕ) → a ≡ b → Lies slot w a → Lies slot w b
-lies_behind slot w a b e l = (let P : List ℕ → Type 0 = λ x. Lies slot w x in subst P e l)
 
 pub first_placed : (job : AtWork) (p : Transfer)
     → IsFirstPlace (slot_in job) job.opened job.registers p → HandIfAimed job.cache (number_in job) job.opened → sight (geometry_in job) (track_of (slot_in job)) job.opened job.registers ≡ Found job.opened → IsPlaced (record job { passed = [] }) p
@@ -97,29 +80,29 @@ first_placed job (Field x) f h again =
     let t = track_of (slot_in job) in
     let a = action_of job.opened.command in (
       record { is_field = f; room = omega arith; collected = refl; at_hand = field_at_hand a job.cache (number_in job) job.opened refl f h },
-      record { again = again; len = length_by a (geometry_in job) t job.opened job.registers [] refl ∙ field_wants a (geometry_in job) t job.opened job.registers [] f (omega arith) (no_byte a (geometry_in job) t job.opened job.registers) ∙ all_left (field_size a) },
+      record { again = again; len = (let wants = length_by a (geometry_in job) t job.opened job.registers [] refl ∙ field_wants a (geometry_in job) t job.opened job.registers [] f (omega arith) (no_byte a (geometry_in job) t job.opened job.registers) in omega (arith, wants)) },
       ap (λ (k : Closing). k.written) (closing_by a (geometry_in job) t job.opened job.registers [] refl) ∙ field_unwritten a (geometry_in job) t job.opened job.registers [] f (omega arith) (no_byte a (geometry_in job) t job.opened job.registers),
     )
 first_placed job (Read w u) f h again =
     let t = track_of (slot_in job) in
     let area = area_by action.Read t job.opened job.registers f.0 in
     let is = closing_by action.Read (geometry_in job) t job.opened job.registers [] f.0 in (
-      record { is_read = f.0; held = (hand_for job.cache (number_in job) job.opened action.Read f.0 tt h).held; lies = lies_behind (slot_in job) w _ (area_bytes t job.opened job.registers) (sym area) f.1; room = omega arith; begins = omega arith },
-      record { again = again; len = length_by action.Read (geometry_in job) t job.opened job.registers [] f.0 ∙ ap length area ∙ f.1.size ∙ none_passed w.len },
+      record { is_read = f.0; held = (hand_for job.cache (number_in job) job.opened action.Read f.0 refl h).held; lies = rw area f.1; room = omega arith; begins = omega arith },
+      record { again = again; len = omega (arith, length_by action.Read (geometry_in job) t job.opened job.registers [] f.0, ap length area, f.1.size) },
       record { so = ap command_end is ∙ sym f.2; unwritten = ap (λ (k : Closing). k.written) is },
     )
 first_placed job (Search w so_far) f h again =
     let t = track_of (slot_in job) in
     let area = area_by action.Search t job.opened job.registers f.0 in (
-      record { is_search = f.0; at_hand = whole_at job.cache (number_in job) job.opened action.Search f.0 (λ x. x) (hand_for job.cache (number_in job) job.opened action.Search f.0 tt h); lies = lies_behind (slot_in job) w _ (area_bytes t job.opened job.registers) (sym area) f.1; room = omega arith; begins = omega arith; compared = f.2 },
-      record { again = again; len = length_by action.Search (geometry_in job) t job.opened job.registers [] f.0 ∙ ap length area ∙ f.1.size ∙ none_passed w.len },
+      record { is_search = f.0; at_hand = whole_at job.cache (number_in job) job.opened action.Search f.0 (λ x. x) (hand_for job.cache (number_in job) job.opened action.Search f.0 refl h); lies = rw area f.1; room = omega arith; begins = omega arith; compared = f.2 },
+      record { again = again; len = omega (arith, length_by action.Search (geometry_in job) t job.opened job.registers [] f.0, ap length area, f.1.size) },
     )
 first_placed job (Fill w u) f h again =
     let t = track_of (slot_in job) in
     let area = area_by action.Update t job.opened job.registers f.0 in
     let is = closing_by action.Update (geometry_in job) t job.opened job.registers [] f.0 in (
-      record { is_update = f.0; at_hand = whole_at job.cache (number_in job) job.opened action.Update f.0 (λ x. x) (hand_for job.cache (number_in job) job.opened action.Update f.0 tt h); lies = lies_behind (slot_in job) w _ (area_bytes t job.opened job.registers) (sym area) f.1; place = f.2; none = refl },
-      record { again = again; len = length_by action.Update (geometry_in job) t job.opened job.registers [] f.0 ∙ ap length area ∙ f.1.size ∙ none_passed w.len },
+      record { is_update = f.0; at_hand = whole_at job.cache (number_in job) job.opened action.Update f.0 (λ x. x) (hand_for job.cache (number_in job) job.opened action.Update f.0 refl h); lies = rw area f.1; place = f.2; none = refl },
+      record { again = again; len = omega (arith, length_by action.Update (geometry_in job) t job.opened job.registers [] f.0, ap length area, f.1.size) },
       record { so = ap command_end is ∙ sym f.3; unwritten = ap (λ (k : Closing). k.written) is },
     )
 first_placed job (Filled w u) f h again = absurd f
@@ -141,44 +124,6 @@ found_at o place = Passing (record { opened = o; moved = 0; left = remaining (ac
 
 abbrev first_work : Kept → Opened → (before : List ℕ) → AtWork
 first_work was o before = record { cache = was.cache; registers = was.registers; opened = o; before = before; passed = [] }
-
-pub found_stands : (was : Kept) (o o' : Opened) (before : List ℕ) (place : Transfer)
-    → Stands (looking_drive was o)
-    → IsFirstPlace (slot_under was) o' was.registers place → HandIfAimed was.cache (number_under was) o' → sight was.cache.image.geometry (track_of (slot_under was)) o' was.registers ≡ Found o'
-    → Stands (parts_of was (found_at o' place) before [])
-found_stands was o o' before place x f h again =
-    let marked : was.cache.changed ≡ (is_written_by was.mark || false) = x.marked in
-    record {
-      volume = x.volume;
-      arm = x.arm;
-      anchored = x.anchored;
-      marked = rw (first_not_filled (slot_at was.cache.slots (track_under was.cache.image.geometry was.registers)) o' was.registers place f) marked;
-      work = record {
-        moved = refl;
-        left = omega arith;
-        placed = first_placed (first_work was o' before) place f h again;
-        no_credit = x.work.no_credit;
-      };
-    }
-
-pub found_state : (was : Kept) (o o' : Opened) (before : List ℕ) (place : Transfer)
-    → Stands (looking_drive was o)
-    → IsFirstPlace (slot_under was) o' was.registers place → HandIfAimed was.cache (number_under was) o'
-    → sight was.cache.image.geometry (track_of (slot_under was)) o' was.registers ≡ Found o'
-    → sight was.cache.image.geometry (track_of (slot_under was)) o was.registers ≡ Found o'
-    → state_of (parts_of was (found_at o' place) before []) ≡ with_image (after_look (fault_met (state_of (looking_drive was o)) (state_of (parts_of was (found_at o' place) before []))) (state_of (looking_drive was o))) was.cache.image
-found_state was o o' before place x f h again first =
-    let c = was.cache in
-    let r = was.registers in
-    let n : ℕ = track_under c.image.geometry r in
-    let t = track_of (slot_at c.slots n) in
-    let old = state_of (looking_drive was o) in
-    let new = state_of (parts_of was (found_at o' place) before []) in
-    let none : fault_met old new ≡ None = fault_none old new refl in
-    let len : length_after c.image.geometry t o' r [] ≡ 0 + remaining (action_of o'.command) place 0 = first_len (first_work was o' before) place f (first_placed (first_work was o' before) place f h again) in
-    let left_is : remaining (action_of o'.command) place 0 ≡ length_after c.image.geometry t o' r [] = omega (arith, len) in
-    let plain = no_filled_seen c.slots n before place (first_not_filled (slot_at c.slots n) o' r place f) in
-    rw (none, plain, first, left_is) refl
 
 -- A command whose area is found.
 
@@ -204,12 +149,24 @@ pub found_looks : (was : Kept) (o o' : Opened) (place : Transfer) (s : Stage)
     → sight was.cache.image.geometry (track_of (slot_under was)) o' was.registers ≡ Found o' → sight was.cache.image.geometry (track_of (slot_under was)) o was.registers ≡ Found o'
     → s ≡ found_at o' place → Looks was was o s
 found_looks was o o' place s x f h again first is =
-    rw is (λ before. record {
-      stands = found_stands was o o' before place x f h again;
-      state = found_state was o o' before place x f h again first;
+    let c = was.cache in
+    let r = was.registers in
+    let empty : is_filled_by place ≡ false = first_not_filled (slot_under was) o' r place f in
+    rw is (λ before. (
+    let work = first_work was o' before in
+    let placed = first_placed work place f h again in
+    let old = state_of (looking_drive was o) in
+    let new = state_of (parts_of was (found_at o' place) before []) in
+    let none : fault_met old new ≡ None = fault_none old new refl in
+    let len = first_len work place f placed in
+    let left_is : remaining (action_of o'.command) place 0 ≡ length_after c.image.geometry (track_of (slot_under was)) o' r [] = omega (arith, len) in
+    let marked : c.changed ≡ (is_written_by was.mark || false) = x.marked in
+    record {
+      stands = record { volume = x.volume; arm = x.arm; anchored = x.anchored; marked = rw empty marked; work = record { moved = refl; left = omega arith; placed = placed; no_credit = x.work.no_credit } };
+      state = rw (none, no_filled_seen c.slots (number_under was) before place empty, first, left_is) refl;
       calls = calls_none _ _ _ _ refl (rw first (and-false (is_written_by was.mark)));
-      at_hand = λ e. absurd (no_more was.cache.image.loads e);
-    })
+      at_hand = λ e. absurd (no_more c.image.loads e);
+    }))
 
 -- The index passes.
 pub passed_looks : (was : Kept) (q : Registers) (o : Opened) (k : Kind) (s : Stage)
