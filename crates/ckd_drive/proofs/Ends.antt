@@ -281,7 +281,7 @@ leaves_ends parts came p now u before passed e moves l =
     let closed : closed_of None now now.work ≡ record { state = record { volume = record { geometry = c.image.geometry; slots = c.slots }; registers = u.registers; mark = Saved }; unit = u.ending.unit; motion = u.ending.motion } =
     rw (← e.is, e.passes, k.off, ← k.so, k.plain) refl in
     ended now after u.ending
-    (saved_stands parts (after_save c) u.registers Idle before passed e.stands refl refl at.0 (no_credit (after_save c) u.registers (track_under (after_save c).image.geometry u.registers) at.1))
+    (saved_stands parts u.registers Idle before passed e.stands refl at.0 (no_credit (after_save c) u.registers (track_under (after_save c).image.geometry u.registers) at.1))
     (rw (none, closed, geometry_saved c) refl) (rw (none, closed) refl)
     (calls_of_save _ _ c now (state_of after) image refl (changed_is parts e.stands k.unfilled ∙ sym (saves_at_end parts p now u e ∙ rw moves (and-true (is_written_by parts.mark))))))
 
@@ -299,6 +299,6 @@ lost_ends parts came p now u before passed e moves l =
     let closed : closed_of (Some (SaveFails l.left)) now now.work ≡ record { state = (state_of after).state; unit = record { 0 = 0x0E }; motion = false } =
     rw (← e.is, e.passes, k.off, k.plain, s.written, s.held, s.whole) refl in
     ended now after failed_ending
-    (lost_stands parts (after_failed_save c l.left) (lost_registers parts.registers) Idle before passed l.left e.stands refl l.size refl refl refl tt)
+    (lost_stands parts l.left (lost_registers parts.registers) Idle before passed e.stands l.size refl refl refl tt)
     (rw (met, closed) refl) (rw (met, closed) refl)
     (calls_of_failed_save _ _ c l.left now (state_of after) image refl (changed_is parts e.stands k.unfilled ∙ sym (saves_at_end parts p now u e ∙ rw moves (and-true (is_written_by parts.mark)))) l.changed))

@@ -7,7 +7,7 @@ use Rattle.ckd_command.specs.declared.tables.Aim.TheVariants.{NoArea, Credited, 
 use Rattle.ckd_command.specs.declared.tables.Action.{Action}
 use Rattle.ckd_command.specs.declared.tables.Action.TheVariants as action
 use Rattle.ckd_command.specs.declared.begin.Opened.{Opened}
-use Rattle.ckd_command.specs.Answers.{Found, Sight, IndexPassed, NextHead, Missed}
+use Rattle.ckd_command.specs.Answers.{Found, IndexPassed, NextHead, Missed}
 use Rattle.ckd_drive.specs.declared.transfer.Transfer.{Transfer}
 use Rattle.ckd_drive.specs.declared.transfer.Transfer.TheVariants.{Sense, Field, Read, Search, Fill, Filled}
 use Rattle.ckd_command.specs.Tables.{action_of, aim}
@@ -17,7 +17,7 @@ use Rattle.ckd_drive.proofs.Fields.{field_unwritten, field_wants, no_byte}
 use Rattle.ckd_command.proofs.Closings.{area_by, closing_by, sense_closes, sense_length}
 use Rattle.ckd_command.proofs.Lengths.{length_by}
 use Rattle.ckd_cache.specs.Cache.{CacheState, holds, loaded, after_hold, after_failed_hold, after_save, after_failed_save}
-use Rattle.ckd_drive.specs.Invariant.{IsFirstPlace, IsPlaced, IsField, ReadsWhole, FieldAtHand, AtHand, slot_at, AtWork, geometry_in, number_in, slot_in, Stands, StaysAt, CreditAtHand, remaining, state_of, track_under, is_filled_by, Kept, Parts, parts_of, number_under, slot_under, SightKeeps, work_of, kept}
+use Rattle.ckd_drive.specs.Invariant.{IsFirstPlace, IsPlaced, IsField, ReadsWhole, FieldAtHand, AtHand, slot_at, AtWork, geometry_in, number_in, slot_in, Stands, StaysAt, CreditAtHand, remaining, state_of, track_under, is_filled_by, Kept, Parts, parts_of, number_under, slot_under, work_of, kept}
 use Rattle.ckd_track.specs.declared.geometries.Geometry.{Geometry}
 use Rattle.ckd_command.specs.declared.registers.Registers.{Registers}
 use Rattle.ckd_drive.specs.Stage.{Stage, Passing, Idle, Over, Looking}
@@ -25,7 +25,7 @@ use Rattle.ckd_drive.specs.Work.{fault_met, with_image, after_look, DriveState, 
 use Rattle.ckd_command.specs.Drive.{is_written_by, AfterLook, Ready, LoadFails, look as look_by}
 use Rattle.ckd_drive.proofs.Faults.{fault_none, fault_loading, lost_registers, save_lost}
 use Rattle.ckd_drive.specs.Calls.{looking_drive, Comes, Looks, Leaves, Loses, looked_at}
-use Rattle.ckd_drive.proofs.Standing.{no_filled_seen, volume_saved, volume_not_held, geometry_saved, failures_saved, lost_stands}
+use Rattle.ckd_drive.proofs.Standing.{no_filled_seen, volume_not_held, geometry_saved, failures_saved, lost_stands, saved_stands}
 use Rattle.std.proofs.lemmas.Bool.Decides.{nat_tests}
 use Rattle.std.proofs.Math.Bool.{and-false, and-true}
 use Rattle.ckd_image.specs.Image.{ImageState}
@@ -178,7 +178,7 @@ passed_looks was q o k s x aimed held sighted is =
     let r = was.registers in
     rw is (λ before. (
     let g = c.image.geometry in
-    let keeps = (let P : Sight → Type 0 = λ z. SightKeeps g r z in subst P sighted (sight_keeps g (track_of (slot_at c.slots (track_under g r))) o r x.arm)) in
+    let keeps = rw sighted at (sight_keeps g (track_of (slot_under was)) o r x.arm) in
     let old = state_of (looking_drive was o) in
     let new = state_of (parts_of (kept c q was.mark) (Looking o) before []) in
     let none : fault_met old new ≡ None = fault_none old new refl in
@@ -199,7 +199,7 @@ missed_looks was q o x held sighted =
     let r = was.registers in
     λ before. (
     let g = c.image.geometry in
-    let keeps = (let P : Sight → Type 0 = λ z. SightKeeps g r z in subst P sighted (sight_keeps g (track_of (slot_at c.slots (track_under g r))) o r x.arm)) in
+    let keeps = rw sighted at (sight_keeps g (track_of (slot_under was)) o r x.arm) in
     let credit : q.credit ≡ None = keeps.credit ∙ x.work.no_credit in
     let old = state_of (looking_drive was o) in
     let new = state_of (parts_of (kept c q was.mark) (Over failed_ending) before []) in
@@ -220,13 +220,13 @@ next_looks was came q o k s x aimed sighted l is =
     let c = was.cache in
     rw (is, l.cache, l.registers, l.mark) (λ before. (
     let g = c.image.geometry in
-    let keeps = (let P : Sight → Type 0 = λ z. SightKeeps g was.registers z in subst P sighted (sight_keeps g (track_of (slot_at c.slots (track_under g was.registers))) o was.registers x.arm)) in
+    let keeps = rw sighted at (sight_keeps g (track_of (slot_under was)) o was.registers x.arm) in
     let old = state_of (looking_drive was o) in
     let new = state_of (parts_of (kept (after_save c) q Saved) (Looking o) before []) in
     let none : fault_met old new ≡ None = fault_none old new (failures_saved c) in
     let changed : c.changed ≡ is_written_by was.mark = changed_is (looking_drive was o) x refl in
     record {
-      stands = record { volume = volume_saved c x.volume; arm = rw (geometry_saved c) keeps.0; anchored = λ e. absurd cc; marked = refl; work = record { transfers = x.work.transfers; credit = rw aimed tt; no_credit = keeps.1 ∙ x.work.no_credit } };
+      stands = saved_stands (looking_drive was o) q (Looking o) before [] x refl keeps.0 (record { transfers = x.work.transfers; credit = rw aimed tt; no_credit = keeps.1 ∙ x.work.no_credit });
       state = rw (none, sighted, geometry_saved c) refl;
       calls = calls_of_save _ _ c old new refl refl (changed ∙ rw sighted (sym (and-true (is_written_by was.mark))));
       at_hand = λ e. absurd (no_more c.image.loads (sym (loads_saved c) ∙ e));
@@ -245,7 +245,7 @@ lost_looks was came q o x sighted l =
     let new = state_of (parts_of (kept (after_failed_save c left) (lost_registers was.registers) Lost) (Over failed_ending) before []) in
     let s = save_lost (looking_drive was o) was.registers came new x refl l refl in
     record {
-      stands = lost_stands (looking_drive was o) (after_failed_save c left) (lost_registers was.registers) (Over failed_ending) before [] left x refl l.size refl refl refl tt;
+      stands = lost_stands (looking_drive was o) left (lost_registers was.registers) (Over failed_ending) before [] x l.size refl refl refl tt;
       state = rw (s.fault, sighted, s.written, s.held, s.whole) refl;
       calls = calls_of_failed_save _ _ c left old new refl refl (changed_is (looking_drive was o) x refl ∙ rw sighted (sym (and-true (is_written_by was.mark)))) l.changed;
       at_hand = λ e. absurd (no_more c.image.loads e);

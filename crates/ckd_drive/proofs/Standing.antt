@@ -1,5 +1,5 @@
 -- A drive that stands, and after its parts have changed.
-use Rattle.std.proofs.Common.{◌≡◌, ℕ, ◌+◌, ◌*◌, ◌<◌, ◌≤◌, length, refl, arith, add-one, ◌∙◌, ap, sym, subst, List, Bool, true, false, None, Result, Ok, Err, OnOk, OnErr, unwrap_or, length-set, Some}
+use Rattle.std.proofs.Common.{◌≡◌, ℕ, ◌+◌, ◌*◌, ◌<◌, ◌≤◌, length, refl, arith, add-one, ◌∙◌, subst, List, Bool, true, false, None, Result, Ok, Err, OnOk, OnErr, unwrap_or, length-set, Some}
 use Rattle.std.proofs.Math.Nat.{mul-le-mul_right, suc-mul}
 use Rattle.ckd_track.specs.Model.{heads_of}
 use Rattle.ckd_track.specs.declared.geometries.Geometry.{Geometry}
@@ -81,35 +81,21 @@ pub failures_saved : (c : CacheState) → (after_save c).image.failures ≡ c.im
 failures_saved c = elim c.changed as (λ b. (saved c.image c.slots b).failures ≡ c.image.failures) [ true ↦ refl | false ↦ refl ]
 
 -- Where a written track was saved.
-
-pub saved_stands : (parts : Parts) (c' : CacheState) (q : Registers) (s' : Stage) (before' passed' : List ℕ)
-    → Stands parts → c' ≡ after_save parts.cache → is_filled s' ≡ false → IsAtTrack parts.cache.image.geometry q → StageIs c' q before' passed' s' → Stands (parts_of (kept c' q Saved) s' before' passed')
-saved_stands parts c' q s' before' passed' x is f' at w =
-    let changed : c'.changed ≡ false = ap (λ (d : CacheState). d.changed) is in
-    let g : c'.image.geometry ≡ parts.cache.image.geometry = ap (λ (d : CacheState). d.image.geometry) is ∙ geometry_saved parts.cache in
-    record {
-      volume = (let P = λ (d : CacheState). IsVolume d in subst P (sym is) (volume_saved parts.cache x.volume));
-      arm = rw g at;
-      anchored = λ e. absurd (cc);
-      marked = rw (changed, f') refl;
-      work = w;
-    }
+pub saved_stands : (parts : Parts) (q : Registers) (s' : Stage) (before' passed' : List ℕ) → Stands parts → is_filled s' ≡ false → IsAtTrack parts.cache.image.geometry q → StageIs (after_save parts.cache) q before' passed' s'
+    → Stands (parts_of (kept (after_save parts.cache) q Saved) s' before' passed')
+saved_stands parts q s' before' passed' x f' at w = record { volume = volume_saved parts.cache x.volume; arm = rw (geometry_saved parts.cache) at; anchored = λ e. absurd cc; marked = rw f' refl; work = w }
 
 -- Where its saving failed.
-
-pub lost_stands : (parts : Parts) (c' : CacheState) (q : Registers) (s' : Stage) (before' passed' left : List ℕ)
-    → Stands parts → c' ≡ after_failed_save parts.cache left → length left ≡ parts.cache.image.geometry.track_size → is_filled s' ≡ false → q.cylinder ≡ parts.registers.cylinder → q.head ≡ parts.registers.head
-    → StageIs c' q before' passed' s' → Stands (parts_of (kept c' q Lost) s' before' passed')
-lost_stands parts c' q s' before' passed' left x is size f' cy he w =
-    let changed : c'.changed ≡ false = ap (λ (d : CacheState). d.changed) is in
-    let g : c'.image.geometry ≡ parts.cache.image.geometry = ap (λ (d : CacheState). d.image.geometry) is in
-    record {
-      volume = (let P = λ (d : CacheState). IsVolume d in subst P (sym is) (volume_lost parts.cache left size x.volume));
-      arm = rw g (record { cylinder = rw cy x.arm.cylinder; head = rw he x.arm.head });
-      anchored = λ e. absurd (cc);
-      marked = rw (changed, f') refl;
-      work = w;
-    }
+pub lost_stands : (parts : Parts) (left : List ℕ) (q : Registers) (s' : Stage) (before' passed' : List ℕ)
+    → Stands parts → length left ≡ parts.cache.image.geometry.track_size → is_filled s' ≡ false → q.cylinder ≡ parts.registers.cylinder → q.head ≡ parts.registers.head → StageIs (after_failed_save parts.cache left) q before' passed' s'
+    → Stands (parts_of (kept (after_failed_save parts.cache left) q Lost) s' before' passed')
+lost_stands parts left q s' before' passed' x size f' cy he w = record {
+  volume = volume_lost parts.cache left size x.volume;
+  arm = record { cylinder = rw cy x.arm.cylinder; head = rw he x.arm.head };
+  anchored = λ e. absurd cc;
+  marked = rw f' refl;
+  work = w;
+}
 
 pub no_filled_seen : (slots : List (List ℕ)) (n : ℕ) (before : List ℕ) (p : Transfer) → is_filled_by p ≡ false → seen_by slots n before p ≡ slots
 no_filled_seen slots n before (Filled w u) f = absurd cc

@@ -93,7 +93,7 @@ lost_begins was came q o b x well is l =
     let new = state_of (parts_of (kept (after_failed_save c left) (lost_registers q) Lost) Idle before passed) in
     let s = save_lost (idle_drive was) q came new x refl l refl in
     record {
-      stands = lost_stands (idle_drive was) (after_failed_save c left) (lost_registers q) Idle before passed left x refl l.size refl k.cylinder k.head tt;
+      stands = lost_stands (idle_drive was) left (lost_registers q) Idle before passed x l.size refl k.cylinder k.head tt;
       state = rw (s.fault, s.written, s.held, k.cylinder, k.head, s.whole) refl;
       calls = calls_of_failed_save _ _ c left old new refl refl (changed_is (idle_drive was) x refl ∙ sym (and-true (is_written_by was.mark))) l.changed;
       at_hand = λ e. absurd (no_more c.image.loads e);
@@ -111,7 +111,7 @@ zero_begins was came q o b s x well is l e =
     let none : fault_met old new ≡ None = fault_none old new (failures_saved c) in
     let changed : c.changed ≡ is_written_by was.mark = changed_is (idle_drive was) x refl in
     record {
-      stands = saved_stands (idle_drive was) (after_save c) (moved_to q 0 0) (Looking o) before passed x refl refl (at_zero c q x.volume)
+      stands = saved_stands (idle_drive was) (moved_to q 0 0) (Looking o) before passed x refl (at_zero c q x.volume)
           (record { transfers = w.1; credit = rw w.2 tt; no_credit = w.0.credit });
       state = rw (none, geometry_saved c) refl;
       calls = calls_of_save _ _ c old new refl refl (changed ∙ sym (and-true (is_written_by was.mark)));
@@ -130,7 +130,7 @@ zero_ends was came q b x well is l =
     let none : fault_met old new ≡ None = fault_none old new (failures_saved c) in
     let changed : c.changed ≡ is_written_by was.mark = changed_is (idle_drive was) x refl in
     record {
-      stands = saved_stands (idle_drive was) (after_save c) (moved_to q 0 0) (Over (immediate_ending true)) before passed x refl refl (at_zero c q x.volume) (no_credit (after_save c) (moved_to q 0 0) (track_under (after_save c).image.geometry (moved_to q 0 0)) w.credit);
+      stands = saved_stands (idle_drive was) (moved_to q 0 0) (Over (immediate_ending true)) before passed x refl (at_zero c q x.volume) (no_credit (after_save c) (moved_to q 0 0) (track_under (after_save c).image.geometry (moved_to q 0 0)) w.credit);
       state = rw (none, geometry_saved c) refl;
       calls = calls_of_save _ _ c old new refl refl (changed ∙ sym (and-true (is_written_by was.mark)));
       at_hand = λ e. absurd (no_more c.image.loads (sym (loads_saved c) ∙ e));
