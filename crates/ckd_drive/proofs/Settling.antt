@@ -7,7 +7,7 @@ use Rattle.ckd_drive.specs.declared.transfer.Transfer.TheVariants.{Filled}
 use Rattle.ckd_drive.specs.Stage.{Stage, Idle, Passing}
 use Rattle.ckd_cache.specs.Cache.{CacheState, after_save, after_failed_save}
 use Rattle.ckd_drive.specs.Work.{DriveState, passed_of, fault_met, with_image, after_settle, settled_mark}
-use Rattle.ckd_drive.specs.Invariant.{Stands, StageIs, IsPlaced, state_of, work_of, seen, track_under, is_filled, is_filled_by, Kept, kept, Parts, parts_of, track_in_reach, AtWork}
+use Rattle.ckd_drive.specs.Invariant.{Stands, StageIs, IsPlaced, state_of, work_of, seen, is_filled, is_filled_by, Kept, kept, Parts, parts_of, track_in_reach, AtWork}
 use Rattle.ckd_drive.specs.Calls.{Loses}
 use Rattle.ckd_drive.proofs.Faults.{fault_none, lost_registers, save_lost}
 use Rattle.ckd_drive.proofs.Standing.{failures_saved, geometry_saved, no_filled_seen}
@@ -33,13 +33,10 @@ pub settled_state : (parts : Parts) (c' : CacheState) (now : DriveState)
     → state_of (record parts { cache = c'; mark = settled_mark parts.mark; stage = Idle }) ≡ with_image (after_settle (fault_met now (state_of (record parts { cache = c'; mark = settled_mark parts.mark; stage = Idle }))) now) c'.image
 settled_state parts c' now x is e save =
     let c = parts.cache in
-    let plain = seen_plain c.slots (track_under c.image.geometry parts.registers) parts.before parts.stage (unfilled parts now x is e) in
-    let new = state_of (record parts { cache = c'; mark = settled_mark parts.mark; stage = Idle }) in
-    let old = state_of parts in
-    let none : fault_met old new ≡ None = fault_none old new (ap (λ (d : CacheState). d.image.failures) save ∙ failures_saved c) in
-    let geometry : c'.image.geometry ≡ c.image.geometry = ap (λ (d : CacheState). d.image.geometry) save ∙ geometry_saved c in
-    let slots : c'.slots ≡ c.slots = ap (λ (d : CacheState). d.slots) save in
-    rw (← is, none, plain, geometry, slots) refl
+    let plain = seen_plain c.slots (track_in_reach parts) parts.before parts.stage (unfilled parts now x is e) in
+    rw (save, ← is) (
+    let none : fault_met (state_of parts) (state_of (record parts { cache = after_save c; mark = settled_mark parts.mark; stage = Idle })) ≡ None = fault_none (state_of parts) (state_of (record parts { cache = after_save c; mark = settled_mark parts.mark; stage = Idle })) (failures_saved c) in
+    rw (none, plain, geometry_saved c) refl)
 
 pub unsettled_state : (parts : Parts) (came : Kept) (now : DriveState)
     → Stands parts → state_of parts ≡ now → passed_of now.work ≡ [] → Loses parts.cache parts.registers came

@@ -1,22 +1,23 @@
 -- A command that starts, and what it leaves as it begins.
-use Rattle.std.proofs.Common.{◌≡◌, ap, refl, ℕ, Bool, true, false, ◌&&◌, if◌then◌else◌, Option, Some, None, is_none, ◌∙◌, sym, subst, List}
+use Rattle.std.proofs.Common.{◌≡◌, ap, refl, ℕ, true, false, ◌&&◌, Option, Some, None, is_none, ◌∙◌, sym, List}
+use Rattle.std.proofs.lemmas.Bool.{false_from_ne_true}
 use Rattle.ckd_sense.specs.declared.commands.Command.{Command}
 use Rattle.ckd_sense.specs.declared.commands.Command.TheVariants as command
 use Rattle.ckd_sense.specs.declared.commands.CommandCode.{CommandCode}
 use Rattle.ckd_sense.specs.declared.masks.Permit.{Permit}
-use Rattle.ckd_sense.specs.declared.masks.Permit.TheVariants.{Yes, NoWrite, NoSeek}
+use Rattle.ckd_sense.specs.declared.masks.Permit.TheVariants.{Yes}
 use Rattle.ckd_sense.specs.declared.sense_bytes.Sense.{Sense}
 use Rattle.ckd_sense.specs.Masks.{permit_of}
 use Rattle.ckd_sense.specs.Commands.{decoded}
 use Rattle.ckd_command.specs.declared.registers.Registers.{Registers}
 use Rattle.ckd_command.specs.declared.registers.Credit.{Credit}
 use Rattle.ckd_command.specs.declared.tables.Aim.{Aim}
-use Rattle.ckd_command.specs.declared.tables.Aim.TheVariants.{NoArea, Next, Credited}
+use Rattle.ckd_command.specs.declared.tables.Aim.TheVariants.{Credited}
 use Rattle.ckd_command.specs.declared.begin.Opened.{Opened}
 use Rattle.ckd_command.specs.Tables.{aim, credited}
 use Rattle.ckd_command.specs.Commands.{beginning, begin_decoded, begin_allowed, started, refusal, refusal_under, is_out_of_sequence, is_credited}
 use Rattle.ckd_cache.specs.Cache.{CacheState, after_save, after_failed_save}
-use Rattle.ckd_drive.specs.Invariant.{CreditIs, CreditAtHand, BeginsWell, Stands, StageIs, state_of, track_under, work_of, Kept, kept, Parts, parts_of, track_in_reach, number_under}
+use Rattle.ckd_drive.specs.Invariant.{CreditIs, CreditAtHand, BeginsWell, Stands, state_of, track_under, work_of, Kept, kept, Parts, parts_of, track_in_reach, number_under, IsCleared}
 use Rattle.ckd_command.specs.declared.registers.Mark.TheVariants.{Saved, Lost}
 use Rattle.ckd_drive.specs.Stage.{Stage, Idle, Over, Looking}
 use Rattle.ckd_command.specs.Answers.{moved_to, Beginning, ToCylinderZero}
@@ -35,31 +36,25 @@ none_credited c = refl
 has_credit : (c : CacheState) (n : ℕ) (cmd : Command) (a : Aim) (credit : Option Credit) → CreditIs credit c n → (is_credited a && is_none (credited cmd credit)) ≡ false → CreditAtHand a c n
 has_credit c n cmd Credited (Some k) is e = is
 has_credit c n cmd Credited None is e = absurd (let none : is_none (credited cmd None) ≡ true = ap is_none (none_credited cmd) in cc)
-has_credit c n cmd NoArea credit is e = tt
-has_credit c n cmd (Next kind) credit is e = tt
+has_credit c n cmd _ credit is e = tt
 
 in_sequence : (c : CacheState) (n : ℕ) (cmd : Command) (r : Registers) → CreditIs r.credit c n → is_out_of_sequence cmd r ≡ false → CreditAtHand (aim cmd) c n
 in_sequence c n command.SetFileMask r is e = tt
 in_sequence c n cmd r is e = has_credit c n cmd (aim cmd) r.credit is e
 
-if_none : (b : Bool) (s : Sense) → (if b then Some s else None) ≡ None → b ≡ false
-if_none true s e = absurd cc
-if_none false s e = refl
-
 refused_not : (p : Permit) (cmd : Command) (r : Registers) → refusal_under p cmd r ≡ None → is_out_of_sequence cmd r ≡ false
-refused_not NoWrite cmd r e = absurd cc
-refused_not NoSeek cmd r e = absurd cc
-refused_not Yes cmd r e = if_none (is_out_of_sequence cmd r) _ e
+refused_not Yes cmd r e = false_from_ne_true (is_out_of_sequence cmd r) (λ out. (let refused = rw out at e in cc))
+refused_not _ cmd r e = absurd cc
 
-started_well : (c : CacheState) (n : ℕ) (r q : Registers) (cmd : Command) (o : Opened) → o.command ≡ cmd → q.cylinder ≡ r.cylinder → q.head ≡ r.head → q.credit ≡ None → CreditAtHand (aim cmd) c n → BeginsWell c n r (started cmd q o)
-started_well c n r q command.NoOperation o is cy he cr at = record { cylinder = cy; head = he; credit = cr }
-started_well c n r q command.Recalibrate o is cy he cr at = record { cylinder = cy; head = he; credit = cr }
-started_well c n r q command.ReadIpl o is cy he cr at = (record { cylinder = cy; head = he; credit = cr }, rw is (λ e. cc), rw is refl)
-started_well c n r q _ o is cy he cr at = (record { cylinder = cy; head = he; credit = cr }, rw is (λ e. cc), rw is at)
+started_well : (c : CacheState) (n : ℕ) (r q : Registers) (cmd : Command) (o : Opened) → o.command ≡ cmd → IsCleared r q → CreditAtHand (aim cmd) c n → BeginsWell c n r (started cmd q o)
+started_well c n r q command.NoOperation o is k at = k
+started_well c n r q command.Recalibrate o is k at = k
+started_well c n r q command.ReadIpl o is k at = (k, rw is (λ e. cc), rw is refl)
+started_well c n r q _ o is k at = (k, rw is (λ e. cc), rw is at)
 
 allowed_well : (c : CacheState) (n : ℕ) (r : Registers) (k : CommandCode) (why : Option Sense) → CreditIs r.credit c n → refusal k.command r ≡ why → BeginsWell c n r (begin_allowed k r why)
 allowed_well c n r k (Some cause) is e = record { cylinder = refl; head = refl; credit = refl }
-allowed_well c n r k None is e = started_well c n r _ k.command _ refl refl refl refl (in_sequence c n k.command r is (refused_not (permit_of r.file_mask k.command) k.command r e))
+allowed_well c n r k None is e = started_well c n r _ k.command _ refl (record { cylinder = refl; head = refl; credit = refl }) (in_sequence c n k.command r is (refused_not (permit_of r.file_mask k.command) k.command r e))
 
 decoded_well : (c : CacheState) (n : ℕ) (r : Registers) (k : Option CommandCode) → CreditIs r.credit c n → BeginsWell c n r (begin_decoded k r)
 decoded_well c n r None is = record { cylinder = refl; head = refl; credit = refl }
@@ -77,8 +72,7 @@ well_begun parts now code b x is idle e =
     let c = parts.cache in
     let r = parts.registers in
     let at_rest : parts.stage ≡ Idle = idle_stage parts.stage parts.passed (ap (λ (d : DriveState). is_idle d.work) is ∙ idle) in
-    let P : Stage → Type 0 = λ t. StageIs c r parts.before parts.passed t in
-    let credit : CreditIs r.credit c (track_under c.image.geometry r) = subst P at_rest x.work in
+    let credit : CreditIs r.credit c (track_under c.image.geometry r) = rw at_rest at x.work in
     (at_rest, rw e (begins_well c (track_under c.image.geometry r) code r credit))
 
 -- The arm can't go to cylinder 0, since the track can't be saved.

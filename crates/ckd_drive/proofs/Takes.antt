@@ -4,7 +4,8 @@ use Rattle.std.specs.Ordering.{nat_cmp, ordering_then}
 use Rattle.std.specs.declared.cmp.Ordering.{Ordering}
 use Rattle.std.specs.declared.cmp.Ordering.TheVariants as order
 use Rattle.std.specs.Cmp.Lexicographic.{slice_cmp}
-use Rattle.std.proofs.lemmas.List.{take-take, drop-take, take-append-drop, take_at}
+use Rattle.std.proofs.lemmas.List.{take_at}
+use Rattle.std.proofs.Math.Seq.{take-add}
 use Rattle.ckd_track.specs.Track.{track_of}
 use Rattle.ckd_track.specs.Changes.{overwritten}
 use Rattle.ckd_command.specs.declared.tables.Action.TheVariants as action
@@ -31,19 +32,12 @@ compare_more [] (a ∷ bs) y b e = absurd (omega (arith, e))
 compare_more (x ∷ xs) [] y b e = absurd (omega (arith, e))
 compare_more (x ∷ xs) (a ∷ bs) y b e = then_assoc (nat_cmp x a) (slice_cmp nat_cmp xs bs) (slice_cmp nat_cmp y b) ∙ ap (λ (o : Ordering). ordering_then (nat_cmp x a) o) (compare_more xs bs y b (omega (arith, e)))
 
-take_more : (m k : ℕ) (s : List ℕ) → take m s ++ take k (drop m s) ≡ take (m + k) s
-take_more m k s =
-    let whole : take (m + k) s ≡ take m (take (m + k) s) ++ drop m (take (m + k) s) = sym (take-append-drop m (take (m + k) s)) in
-    let first : take m (take (m + k) s) ≡ take m s = take-take m (m + k) s (omega arith) in
-    let second : drop m (take (m + k) s) ≡ take k (drop m s) = drop-take m k s in
-    sym (whole ∙ rw (first, second) refl)
-
 order_more : (area passed more : List ℕ) → length passed + length more ≤ length area → ordering_then (order_of area passed) (slice_cmp nat_cmp (take (length more) (drop (length passed) area)) more) ≡ order_of area (passed ++ more)
 order_more area passed more le =
     let m = length passed in
     let long : length (take m area) ≡ length passed = omega (arith, length-take m area, le) in
     compare_more (take m area) passed (take (length more) (drop m area)) more long
-    ∙ ap (λ (x : List ℕ). slice_cmp nat_cmp x (passed ++ more)) (take_more m (length more) area ∙ ap (λ (n : ℕ). take n area) (sym (length-append passed more)))
+    ∙ ap (λ (x : List ℕ). slice_cmp nat_cmp x (passed ++ more)) (sym (take-add m (length more) area) ∙ ap (λ (n : ℕ). take n area) (sym (length-append passed more)))
 
 pub search_absorbs : (half : HalfDone) (more slot : List ℕ) (w : Window) (so_far now : Ordering)
     → MayTake half more → half.progress.place ≡ Search w so_far → slot ≡ own_slot half
