@@ -23,7 +23,7 @@ use Rattle.ckd_command.specs.Tables.{action_of}
 use Rattle.ckd_position.specs.Contents.{Sighted}
 use Rattle.ckd_command.specs.Commands.{Closing, IsAtTrack, area_bytes, closing, close_by, command_end, search_ends, own_home_address, new_record_fits, number as number_of, whole_field, at_end}
 use Rattle.ckd_cache.specs.Cache.{CacheState, after_save, after_failed_save}
-use Rattle.ckd_drive.specs.Invariant.{Stands, mark_left, HasFilled, state_of, IsPlaced, IsField, CreditIs, AtHand, command_end_at, field_ends, seen_by, slot_at, track_under, is_filled, is_filled_by, Kept, kept, Parts, parts_of, track_in_reach, AtWork, geometry_in, number_in, slot_in, closing_in, work_in, closes_by}
+use Rattle.ckd_drive.specs.Invariant.{Stands, mark_left, HasFilled, state_of, IsPlaced, IsField, CreditIs, AtHand, command_end_at, field_ends, seen_by, track_under, is_filled, is_filled_by, Kept, kept, Parts, parts_of, track_in_reach, AtWork, geometry_in, number_in, slot_in, closing_in, work_in, closes_by}
 use Rattle.ckd_command.specs.Drive.{closed_staying, SaveFails, is_written_by}
 use Rattle.ckd_command.specs.declared.close.DriveEnding.{DriveEnding}
 use Rattle.ckd_drive.specs.declared.transfer.Written.{Written}
@@ -57,19 +57,13 @@ search_unwritten : (o : Opened) (r : Registers) (a b : Bool) → (search_ends o 
 search_unwritten o r true b = refl
 search_unwritten o r false b = refl
 
-pub seen_filled : (c : CacheState) (n : ℕ) (before : List ℕ) → n < length c.slots → slot_at (slice_set c.slots n before) n ≡ before
-seen_filled c n before lt = get_or-set_same c.slots n before [] lt
-
-whole_same : (m l n : ℕ) → n ≡ m + l → (m == n) ≡ (l == 0)
-whole_same m l n e = grind (arith, nat_tests, e)
-
 -- how a command closes is known by its place
 pub command_end_is : (job : AtWork) (p : Transfer) (moved : ℕ)
     → number_in job < length job.cache.slots → IsPlaced job p → length job.passed ≡ moved → command_end (closing_in job (seen_track job p)) ≡ command_end_at (geometry_in job) job.registers job.opened moved p
 command_end_is job (Filled w u) moved lt x m =
     let k = x.filled.closes [] (omega arith) in
     let same : job.passed ++ [] ≡ job.passed = append-nil job.passed in
-    rw (seen_filled job.cache (number_in job) job.before lt) (rw same at k.so)
+    rw (get_or-set_same job.cache.slots (number_in job) job.before [] lt) (rw same at k.so)
 command_end_is job (Field f) moved lt x m =
     let t = track_of (slot_in job) in
     let a = action_of job.opened.command in
@@ -82,7 +76,7 @@ command_end_is job (Search w so_far) moved lt x m =
     let area = area_bytes t job.opened job.registers in
     let is = closing_by action.Search (geometry_in job) t job.opened job.registers job.passed x.0.is_search in
     let size : length area ≡ length job.passed + w.len = omega (arith, x.0.lies.size, length-drop (length job.passed) area, x.0.room) in
-    let whole : (length job.passed == length area) ≡ (w.len == 0) = whole_same (length job.passed) w.len (length area) size in
+    let whole : (length job.passed == length area) ≡ (w.len == 0) = grind (arith, nat_tests, size) in
     ap command_end is ∙ rw (whole, x.0.compared, m) refl
 command_end_is job _ moved lt x m = x.2.so
 
@@ -103,7 +97,7 @@ written_there job w u lt x =
     let k = x.filled.closes [] (omega arith) in
     let same : job.passed ++ [] ≡ job.passed = append-nil job.passed in
     let slot : slot_of (geometry_in job).track_size k.track ≡ slot_in job = k.slot_is ∙ rw same (sym x.slot_is) in
-    (k.track, rw (seen_filled job.cache (number_in job) job.before lt) (rw same at k.written), rw (slot, set-set job.cache.slots (number_in job) job.before (slot_in job)) (set-get_or job.cache.slots (number_in job) []))
+    (k.track, rw (get_or-set_same job.cache.slots (number_in job) job.before [] lt) (rw same at k.written), rw (slot, set-set job.cache.slots (number_in job) job.before (slot_in job)) (set-get_or job.cache.slots (number_in job) []))
 
 pub staying : (job : AtWork) (m : Mark) (p : Transfer) (u : CommandEnd)
     → number_in job < length job.cache.slots → IsPlaced job p → command_end (closing_in job (seen_track job p)) ≡ u

@@ -4,7 +4,7 @@ use Rattle.std.proofs.lemmas.Bool.Decides.{nat_tests}
 use Rattle.ckd_sense.specs.declared.sense_bytes.TheConstants.Sense.{STORE_FAULT}
 use Rattle.ckd_command.specs.declared.registers.Registers.{Registers}
 use Rattle.ckd_command.specs.declared.registers.Mark.{Mark}
-use Rattle.ckd_command.specs.declared.registers.Mark.TheVariants.{Saved, Written, Lost}
+use Rattle.ckd_command.specs.declared.registers.Mark.TheVariants.{Written}
 use Rattle.ckd_command.specs.declared.begin.Opened.{Opened}
 use Rattle.ckd_command.specs.Answers.{ToCylinderZero}
 use Rattle.ckd_command.specs.Commands.{with_cause}
@@ -47,8 +47,7 @@ to_zero c n r q (Some o) w = w.0
 
 pub mark_written : (m : Mark) → is_written_by m ≡ true → m ≡ Written
 mark_written Written t = refl
-mark_written Saved t = absurd cc
-mark_written Lost t = absurd cc
+mark_written _ t = absurd cc
 
 -- bytes as long as those that stand there take their place
 overwritten_whole : (old new : List ℕ) → length new ≡ length old → overwritten old 0 new ≡ new

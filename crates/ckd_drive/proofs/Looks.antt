@@ -1,5 +1,6 @@
 -- A command that looks for its area, and has just found where its bytes stand.
 use Rattle.std.proofs.Common.{◌≡◌, ◌∙◌, ap, sym, subst, refl, ℕ, ◌+◌, ◌-◌, List, [], true, Some, length, arith, false, ◌||◌, None, ◌==◌, Bool, Option}
+use Rattle.std.proofs.lemmas.Bool.{false_from_ne_true}
 use Rattle.ckd_track.specs.Track.{track_of}
 use Rattle.ckd_sense.specs.declared.commands.Command.{Command}
 use Rattle.ckd_sense.specs.declared.commands.Command.TheVariants as command
@@ -224,11 +225,10 @@ next_looks was came q o k s x aimed sighted l is =
     let old = state_of (looking_drive was o) in
     let new = state_of (parts_of (kept (after_save c) q Saved) (Looking o) before []) in
     let none : fault_met old new ≡ None = fault_none old new (failures_saved c) in
-    let changed : c.changed ≡ is_written_by was.mark = changed_is (looking_drive was o) x refl in
     record {
       stands = saved_stands (looking_drive was o) q (Looking o) before [] x refl keeps.0 (record { transfers = x.work.transfers; credit = rw aimed tt; no_credit = keeps.1 ∙ x.work.no_credit });
       state = rw (none, sighted, geometry_saved c) refl;
-      calls = calls_of_save _ _ c old new refl refl (changed ∙ rw sighted (sym (and-true (is_written_by was.mark))));
+      calls = calls_of_save _ _ c old new refl refl (changed_is (looking_drive was o) x refl ∙ rw sighted (sym (and-true (is_written_by was.mark))));
       at_hand = λ e. absurd (no_more c.image.loads (sym (loads_saved c) ∙ e));
     }))
 
@@ -257,11 +257,7 @@ no_other c n e not = (let same : (n == n) ≡ true = grind (arith, nat_tests) in
 
 -- what is written is at hand
 not_written : (was : Kept) (o : Opened) → Stands (looking_drive was o) → holds was.cache.held (number_under was) ≡ false → is_written_by was.mark ≡ false
-not_written was o x not = sym (changed_is (looking_drive was o) x refl) ∙ unchanged was.cache.changed refl
-  where
-    unchanged : (b : Bool) → was.cache.changed ≡ b → was.cache.changed ≡ false
-    unchanged true e = absurd (no_other was.cache (number_under was) (x.anchored e) not)
-    unchanged false e = e
+not_written was o x not = sym (changed_is (looking_drive was o) x refl) ∙ false_from_ne_true was.cache.changed (λ e. no_other was.cache (number_under was) (x.anchored e) not)
 
 pub unloaded_looks : (was : Kept) (c' : CacheState) (r' : Registers) (o : Opened) (k : Kind)
     → Stands (looking_drive was o) → aim o.command ≡ Next k

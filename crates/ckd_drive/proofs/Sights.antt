@@ -1,5 +1,6 @@
 -- What a look at a track finds.
-use Rattle.std.proofs.Common.{◌≡◌, subst, refl, ℕ, ◌+◌, Bool, true, false, not, ◌&&◌, ◌==◌, if◌then◌else◌, arith}
+use Rattle.std.proofs.Common.{◌≡◌, refl, ℕ, ◌+◌, true, false, ◌==◌, arith}
+use Rattle.std.proofs.lemmas.Bool.{true_from_ne_false}
 use Rattle.ckd_track.specs.Track.{track_or_none}
 use Rattle.ckd_track.specs.Model.{heads_of}
 use Rattle.ckd_track.specs.declared.geometries.Geometry.{Geometry}
@@ -9,20 +10,18 @@ use Rattle.ckd_position.specs.declared.areas.Kind.{Kind}
 use Rattle.std.proofs.lemmas.Bool.Decides.{nat_tests}
 use Rattle.ckd_position.specs.declared.areas.Next.{Next as NextArea}
 use Rattle.ckd_position.specs.declared.areas.Next.TheVariants as next
-use Rattle.ckd_position.specs.Areas.{IsOnTrack, IfFound, next_of_kind}
+use Rattle.ckd_position.specs.Areas.{IsOnTrack, IfFound}
 use Rattle.ckd_command.specs.declared.registers.Registers.{Registers}
-use Rattle.ckd_command.specs.declared.tables.Aim.{Aim}
 use Rattle.ckd_command.specs.declared.tables.Aim.TheVariants.{Next}
 use Rattle.ckd_command.specs.declared.tables.Action.{Action}
 use Rattle.ckd_command.specs.declared.tables.Action.TheVariants as action
 use Rattle.ckd_position.specs.declared.extents.Extent.{Extent}
 use Rattle.ckd_position.specs.declared.extents.Extent.TheVariants as extent
 use Rattle.ckd_command.specs.declared.begin.Opened.{Opened}
-use Rattle.ckd_command.specs.Answers.{Found, IndexPassed, Missed, moved_to}
+use Rattle.ckd_command.specs.Answers.{Found, IndexPassed, moved_to}
 use Rattle.ckd_command.specs.Tables.{aim, action_of, needs_readable}
 use Rattle.ckd_position.specs.Contents.{Sighted, is_readable}
-use Rattle.ckd_command.specs.Commands.{IsAtTrack, sight, sight_of, look_for, with_cause}
-use Rattle.ckd_sense.specs.declared.sense_bytes.TheConstants.Sense as cause
+use Rattle.ckd_command.specs.Commands.{IsAtTrack, sight, sight_of}
 use Rattle.ckd_command.proofs.Sights.{passing, sight_by}
 use Rattle.ckd_slot.specs.Buffer.{HasBytes}
 use Rattle.ckd_drive.specs.Invariant.{AreaIsThere, ReadsWhole, SightKeeps}
@@ -46,17 +45,10 @@ sight_keeps g t o r at =
     (λ e. (next_in g r (heads_of g.model) at refl e, refl)) (λ c h. record { cylinder = refl; head = refl; credit = refl })
 
 -- a track on which an area was found reads whole, where the command asks it
-whole_when : (a b : Bool) (g : Geometry) (o o' : Opened) (r : Registers) (x : NextArea) → Found o' ≡ (if a && not b then Missed (with_cause r cause.UNREADABLE_TRACK) else sight_of g o r x) → a ≡ true → b ≡ true
-whole_when true true g o o' r x e is = refl
-whole_when true false g o o' r x e is = absurd cc
-whole_when false b g o o' r x e is = absurd cc
-
 whole_by : (act : Action) (t : Sighted) → (needs_readable act ≡ true → is_readable t ≡ true) → ReadsWhole act t
 whole_by action.WriteHomeAddress t h = tt
 whole_by _ t h = h refl
 
 pub found_whole : (g : Geometry) (t : Sighted) (o o' : Opened) (r : Registers) (k : Kind) → aim o.command ≡ Next k → Found o' ≡ sight g t o r → ReadsWhole (action_of o.command) t
 unfolding sight
-found_whole g t o o' r k is e =
-    let P = λ (a : Aim). Found o' ≡ look_for g t o r a in
-    whole_by (action_of o.command) t (whole_when (needs_readable (action_of o.command)) (is_readable t) g o o' r (next_of_kind (track_or_none t) r.position k) (subst P is e))
+found_whole g t o o' r k is e = whole_by (action_of o.command) t (λ needs. true_from_ne_false (is_readable t) (λ unread. (let missed = rw (is, needs, unread) at e in cc)))

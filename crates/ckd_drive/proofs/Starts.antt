@@ -103,12 +103,11 @@ zero_begins was came q o b s x well is l e =
     let old = state_of (idle_drive was) in
     let new = state_of (parts_of (kept (after_save c) (moved_to q 0 0) Saved) (Looking o) before passed) in
     let none : fault_met old new ≡ None = fault_none old new (failures_saved c) in
-    let changed : c.changed ≡ is_written_by was.mark = changed_is (idle_drive was) x refl in
     record {
       stands = saved_stands (idle_drive was) (moved_to q 0 0) (Looking o) before passed x refl (at_zero c q x.volume)
           (record { transfers = w.1; credit = rw w.2 tt; no_credit = w.0.credit });
       state = rw (none, geometry_saved c) refl;
-      calls = calls_of_save _ _ c old new refl refl (changed ∙ sym (and-true (is_written_by was.mark)));
+      calls = calls_of_save _ _ c old new refl refl (changed_is (idle_drive was) x refl ∙ sym (and-true (is_written_by was.mark)));
       at_hand = λ e. absurd (no_more c.image.loads (sym (loads_saved c) ∙ e));
     }))
 
@@ -122,11 +121,10 @@ zero_ends was came q b x well is l =
     let old = state_of (idle_drive was) in
     let new = state_of (parts_of (kept (after_save c) (moved_to q 0 0) Saved) (Over (immediate_ending true)) before passed) in
     let none : fault_met old new ≡ None = fault_none old new (failures_saved c) in
-    let changed : c.changed ≡ is_written_by was.mark = changed_is (idle_drive was) x refl in
     record {
       stands = saved_stands (idle_drive was) (moved_to q 0 0) (Over (immediate_ending true)) before passed x refl (at_zero c q x.volume) (no_credit (after_save c) (moved_to q 0 0) (track_under (after_save c).image.geometry (moved_to q 0 0)) w.credit);
       state = rw (none, geometry_saved c) refl;
-      calls = calls_of_save _ _ c old new refl refl (changed ∙ sym (and-true (is_written_by was.mark)));
+      calls = calls_of_save _ _ c old new refl refl (changed_is (idle_drive was) x refl ∙ sym (and-true (is_written_by was.mark)));
       at_hand = λ e. absurd (no_more c.image.loads (sym (loads_saved c) ∙ e));
     }))
 
