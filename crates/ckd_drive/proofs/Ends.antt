@@ -37,8 +37,6 @@ use Rattle.ckd_drive.proofs.Faults.{fault_none, lost_registers, save_lost}
 use Rattle.ckd_drive.proofs.Standing.{no_credit, geometry_saved, failures_saved, saved_stands, lost_stands, seen_track, goes_of, no_filled_seen, number_there}
 use Rattle.ckd_command.proofs.Closings.{closing_by}
 
--- the track that the definitions see under the arm
-
 -- of three tests the last one leads to a track that is written
 three : (x y z : Bool) (p q s k : Closing) → (if x then p else (if y then q else (if z then s else k))).written ≡ None → (z ≡ true → s.written ≡ None → ⊥)
     → (if x then p else (if y then q else (if z then s else k))) ≡ (if x then p else (if y then q else k))

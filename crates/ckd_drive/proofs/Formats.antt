@@ -66,9 +66,6 @@ length-record b m le =
 record_last : (t : Sighted) (after : Option Area) (b : List ℕ) (i : ℕ) → i ≡ length (kept t after) → record_in (formatted t after b) i ≡ new_record b
 record_last t after b i e = rw e (get_or-append_seam (kept t after) (new_record b) [] no_record)
 
-pub format_there : (t : Sighted) (after : Option Area) (b : List ℕ) (i : ℕ) → i ≡ length (kept t after) → i < length (formatted t after b).records
-format_there t after b i e = omega (arith, e, length-append (kept t after) (new_record b ∷ []))
-
 pub format_bytes : (t : Sighted) (after : Option Area) (b : List ℕ) (i : ℕ) → i ≡ length (kept t after) → length b ≡ 8 → update_length extent.KeyAndData (record_in (formatted t after b) i) ≡ body_length b
 format_bytes t after b i e eight =
     let new : new_record b ≡ record_with b (padded [] (body_length b)) = ap new_record (sym (append-nil b)) ∙ new_with b [] eight (omega arith) in
@@ -161,7 +158,7 @@ format_absorbs half more f field count i w may at is long e has =
     let at_new = new_slot_at c n new k.at_hand.held (there half may.works) in
     let now : List ℕ = slot_at (with_held c new).slots n in
     let lens : lengths_on (track_in now) ≡ lengths_on t0 = ap (λ (y : List ℕ). lengths_on (track_in y)) at_new ∙ ap lengths_on read.1 in
-    let last = format_there t a b i is_new.is_last in
+    let last : i < length t0.records = omega (arith, is_new.is_last, length-append (kept t a) (new_record b ∷ [])) in
     let place = update_place extent.KeyAndData t0 part.Data i w tt last is_new.place in
     let bytes = format_bytes t a b i is_new.is_last k.eight in
     let job = new_work half more new w (written.Record i) in

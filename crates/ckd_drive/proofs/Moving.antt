@@ -71,9 +71,6 @@ slot_small c n v = by_place (cases_lt n (length c.slots))
 
 -- Bytes that pass.
 
-next_left : (l k x y : ℕ) → l ≤ x → y ≡ x - k → l - k ≤ y
-next_left l k x y le e = omega (arith, le, e)
-
 -- the track stays as it is
 pub absorbs_plain : (half : HalfDone) (more : List ℕ) (place' : Transfer)
     → Works half → is_filled_by half.progress.place ≡ false → is_filled_by place' ≡ false
@@ -90,7 +87,7 @@ absorbs_plain half more place' x f f' seen rest placed small =
         anchored = x.anchored;
         goes = record {
           moved = rw (← goes.moved) (length-append half.passed more);
-          left = next_left half.progress.left (length more) _ _ goes.left rest;
+          left = omega (arith, goes.left, rest);
           placed = placed;
           no_credit = goes.no_credit;
         };

@@ -101,12 +101,11 @@ look_quiet d (Looking o) = go (aim o.command) _ (sight_silent d.state.volume.geo
     go _ s k = at s k
 look_quiet d _ = λ e. e
 
-pub record FailsAtLook (f : Option Fault) (d : DriveState) (w : Work) : Type 0 where
-  pub work : (after_look_of f d w).work ≡ Over failed_ending
-  pub tells : TellsFault (after_look_of f d w).state
+abbrev pub FailsAtLook : Option Fault → DriveState → Work → Type 0
+FailsAtLook f d w = ((after_look_of f d w).work ≡ Over failed_ending) × TellsFault (after_look_of f d w).state
 
 loses_at_look : (d : DriveState) (w : Work) (left : List ℕ) → look_saves_of d w ≡ true → FailsAtLook (Some (SaveFails left)) d w
-loses_at_look d (Looking o) left e = (let x = go (aim o.command) _ both.1 in record { work = x.0; tells = x.1 })
+loses_at_look d (Looking o) left e = go (aim o.command) _ both.1
   where
     both : (is_written d.state ≡ true) × (goes_to_next_head (sight d.state.volume.geometry (track_under d.state) o d.state.registers) ≡ true)
     both = and_parts (is_written d.state) _ e
@@ -122,7 +121,7 @@ loses_at_look d (Looking o) left e = (let x = go (aim o.command) _ both.1 in rec
 loses_at_look d _ left e = absurd cc
 
 loads_at_look : (d : DriveState) (w : Work) → look_loads_of w ≡ true → is_written d.state ≡ false → FailsAtLook (Some LoadFails) d w
-loads_at_look d (Looking o) e unwritten = (let x = go (aim o.command) _ e in record { work = x.0; tells = x.1 })
+loads_at_look d (Looking o) e unwritten = go (aim o.command) _ e
   where
     go : (a : Aim) (s : Sight) → is_next a ≡ true → ((after_sight (look_for (Some LoadFails) (open_at d o) a s) d).work ≡ Over failed_ending) × TellsFault (after_sight (look_for (Some LoadFails) (open_at d o) a s) d).state
     go (Next kind) s h = (refl, record { told = store_fault_is_told d.state.registers; unwritten = unwritten })
@@ -139,7 +138,7 @@ look_reports old new state k at_hand =
     (λ loaded more met. over (Some LoadFails) met (loads_at_look old old.work loaded (at_hand more)))
   where
     over : (f : Option Fault) → fault_met old new ≡ f → FailsAtLook f old old.work → (new.work ≡ Over failed_ending) × TellsFault (after_look f old).state
-    over f met x = (ap (λ (d : DriveState). d.work) state ∙ rw met x.work, x.tells)
+    over f met x = (ap (λ (d : DriveState). d.work) state ∙ rw met x.0, x.1)
 
 -- End.
 
