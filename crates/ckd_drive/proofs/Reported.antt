@@ -5,7 +5,7 @@ use Rattle.std.proofs.lemmas.Bool.{and_parts, true_from_ne_false}
 use Rattle.ckd_command.specs.declared.registers.Registers.{Registers}
 use Rattle.ckd_command.specs.declared.registers.Mark.TheVariants.{Written}
 use Rattle.ckd_command.specs.declared.tables.Aim.{Aim}
-use Rattle.ckd_command.specs.declared.tables.Aim.TheVariants.{NoArea, Next, Credited}
+use Rattle.ckd_command.specs.declared.tables.Aim.TheVariants.{Next}
 use Rattle.ckd_command.specs.Answers.{Beginning, Sight}
 use Rattle.ckd_command.specs.Answers as command_answer
 use Rattle.ckd_command.specs.declared.close.DriveEnding.{DriveEnding}
@@ -90,22 +90,18 @@ begin_reports old new code a state says k =
 -- Look.
 
 look_quiet : (d : DriveState) (w : Work) → NotTold d.state.registers (after_look_of None d w).state.registers
-look_quiet d (Looking o) = go (aim o.command) _ (sight_silent d.state.volume.geometry (track_under d.state) o d.state.registers)
+look_quiet d (Looking o) = at _ (sight_silent d.state.volume.geometry (track_under d.state) o d.state.registers)
   where
     at : (s : Sight) → SightSilent d.state.registers s → NotTold d.state.registers (after_sight (looked None (open_at d o) s) d).state.registers
     at (command_answer.Found opened) k = λ e. e
     at _ k = k
-
-    go : (a : Aim) (s : Sight) → SightSilent d.state.registers s → NotTold d.state.registers (after_sight (look_for None (open_at d o) a s) d).state.registers
-    go (Next kind) s k = at s k
-    go _ s k = at s k
 look_quiet d _ = λ e. e
 
 abbrev pub FailsAtLook : Option Fault → DriveState → Work → Type 0
 FailsAtLook f d w = ((after_look_of f d w).work ≡ Over failed_ending) × TellsFault (after_look_of f d w).state
 
 loses_at_look : (d : DriveState) (w : Work) (left : List ℕ) → look_saves_of d w ≡ true → FailsAtLook (Some (SaveFails left)) d w
-loses_at_look d (Looking o) left e = go (aim o.command) _ both.1
+loses_at_look d (Looking o) left e = at _ both.1
   where
     both : (is_written d.state ≡ true) × (goes_to_next_head (sight d.state.volume.geometry (track_under d.state) o d.state.registers) ≡ true)
     both = and_parts (is_written d.state) _ e
@@ -113,11 +109,6 @@ loses_at_look d (Looking o) left e = go (aim o.command) _ both.1
     at : (s : Sight) → goes_to_next_head s ≡ true → ((after_sight (looked (Some (SaveFails left)) (open_at d o) s) d).work ≡ Over failed_ending) × TellsFault (after_sight (looked (Some (SaveFails left)) (open_at d o) s) d).state
     at (command_answer.NextHead r) h = (let written : d.state.mark ≡ Written = mark_written d.state.mark both.0 in rw written (refl, lost_tells d.state left))
     at _ h = absurd cc
-
-    go : (a : Aim) (s : Sight) → goes_to_next_head s ≡ true
-        → ((after_sight (look_for (Some (SaveFails left)) (open_at d o) a s) d).work ≡ Over failed_ending) × TellsFault (after_sight (look_for (Some (SaveFails left)) (open_at d o) a s) d).state
-    go (Next kind) s h = at s h
-    go _ s h = at s h
 loses_at_look d _ left e = absurd cc
 
 loads_at_look : (d : DriveState) (w : Work) → look_loads_of w ≡ true → is_written d.state ≡ false → FailsAtLook (Some LoadFails) d w
@@ -125,8 +116,7 @@ loads_at_look d (Looking o) e unwritten = go (aim o.command) _ e
   where
     go : (a : Aim) (s : Sight) → is_next a ≡ true → ((after_sight (look_for (Some LoadFails) (open_at d o) a s) d).work ≡ Over failed_ending) × TellsFault (after_sight (look_for (Some LoadFails) (open_at d o) a s) d).state
     go (Next kind) s h = (refl, record { told = store_fault_is_told d.state.registers; unwritten = unwritten })
-    go NoArea s h = absurd cc
-    go Credited s h = absurd cc
+    go _ s h = absurd cc
 loads_at_look d _ e unwritten = absurd cc
 
 pub look_reports : (old new : DriveState)
@@ -134,11 +124,8 @@ pub look_reports : (old new : DriveState)
     → Reports (new.work ≡ Over failed_ending) old new
 look_reports old new state k at_hand =
     reports_by (new.work ≡ Over failed_ending) (look_loads old) (look_saves old) old new (λ f. (after_look f old).state) (ap (λ (d : DriveState). d.state) state) k (look_quiet old old.work)
-    (λ left saved met. over (Some (SaveFails left)) met (loses_at_look old old.work left saved))
-    (λ loaded more met. over (Some LoadFails) met (loads_at_look old old.work loaded (at_hand more)))
-  where
-    over : (f : Option Fault) → fault_met old new ≡ f → FailsAtLook f old old.work → (new.work ≡ Over failed_ending) × TellsFault (after_look f old).state
-    over f met x = (ap (λ (d : DriveState). d.work) state ∙ rw met x.0, x.1)
+    (λ left saved met. (let x = loses_at_look old old.work left saved in (ap (λ (d : DriveState). d.work) state ∙ rw met x.0, x.1)))
+    (λ loaded more met. (let x = loads_at_look old old.work loaded (at_hand more) in (ap (λ (d : DriveState). d.work) state ∙ rw met x.0, x.1)))
 
 -- End.
 
