@@ -134,6 +134,7 @@ any_credit : (c : CacheState) (n : ℕ) (k : Option Credit) → AtHand c n → C
 any_credit c n None h = tt
 any_credit c n (Some k) h = h
 
+-- an end that stays, by each register that counts: the ends of a command are terms of many forms
 lands_plain : (c : CacheState) (g : Geometry) (n : ℕ) (r : Registers) (u : CommandEnd) → u.moves_off ≡ false → u.registers.cylinder ≡ r.cylinder → u.registers.head ≡ r.head → u.registers.credit ≡ r.credit → r.credit ≡ None → Lands c g n r u
 lands_plain c g n r u off cy he cr none = record { stays = λ _. (cy, he, no_credit c u.registers n (cr ∙ none)); moves = λ e. absurd cc }
 
@@ -148,6 +149,7 @@ lands_whole c g n r q b size k none cy he cr l =
     let P : Closing → Type 0 = λ x. Lands c g n r (command_end x) in
     cond_both (length b == 0) _ _ P (λ _. lands_plain c g n r _ refl cy he cr none) (λ _. cond_both (nat_lt (length b) size) _ _ P (λ _. lands_plain c g n r _ refl cy he cr none) (λ _. l))
 
+-- how a field ends, by its action, over any bytes of it
 lands_field : (c : CacheState) (g : Geometry) (n : ℕ) (r : Registers) (o : Opened) (a : Action) (b : List ℕ) → r.credit ≡ None → IsAtTrack g r → IsField a → Lands c g n r (command_end (field_ends a g o r b))
 lands_field c g n r o action.SeekCylinderAndHead b none at f =
     let cylinder = number_of (slice_range b 2 4) in

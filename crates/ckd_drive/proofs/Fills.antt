@@ -98,6 +98,7 @@ pub record ClosesFilled (job : AtWork) (b : List ℕ) (fill : Filling) : Type 0 
   pub written : (closing (geometry_in job) (track_of job.before) job.opened job.registers b).written ≡ Some (filled_with fill (padded (drop fill.lead b) (room_of fill)))
   pub wants : length_after (geometry_in job) (track_of job.before) job.opened job.registers b ≡ fill.lead + room_of fill
 
+-- an area is filled once all of these are known of it: three commands come here, each by facts of its own
 abbrev pub form_filled : (job : AtWork) (now : List ℕ) (w : Window) (fill : Filling)
     → IsUpdate fill.extent → FitsSlot (geometry_in job).track_size fill.track → fill.number < length fill.track.records → lengths_on (track_in now) ≡ lengths_on fill.track → fill.lead ≤ length job.passed → fill.lead ≤ 8
     → w.start ≡ update_offset fill.extent fill.track fill.number + (length job.passed - fill.lead) → w.len + (length job.passed - fill.lead) ≡ room_of fill
@@ -166,6 +167,7 @@ filled_on job new now' more w u le lens f =
           rw same at c);
     }
 
+-- the same of lists and numbers alone, so that tactics read no drive
 pub next_made : (old head tail mid more : List ℕ) (room start : ℕ) → old ≡ head ++ (padded mid room ++ tail) → length head + length mid ≡ start → length mid + length more ≤ room
     → overwritten old start more ≡ head ++ (padded (mid ++ more) room ++ tail)
 next_made old head tail mid more room start is at le = rw (is, ← at) (padded_on head tail mid more room le)

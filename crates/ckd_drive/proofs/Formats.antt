@@ -106,6 +106,7 @@ pub record FormatGoes (half : HalfDone) (more count : List ℕ) : Type 0 where
   pub whole : count ≡ half.passed ++ more
   pub at_hand : AtHand half.cache (own_track half)
 
+-- by what the code has read of its field
 pub format_goes : (half : HalfDone) (more f field count : List ℕ) → MayTake half more → half.progress.place ≡ Field f → field ≡ overwritten f half.progress.moved more → length field ≡ 8
     → whole_of (action_now half) (own_home_address half.registers) (half.progress.moved + length more) field ≡ whole.Count count → FormatGoes half more count
 format_goes half more f field count may at is long e =

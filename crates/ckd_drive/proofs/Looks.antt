@@ -1,5 +1,5 @@
 -- A command that looks for its area, and has just found where its bytes stand.
-use Rattle.std.proofs.Common.{◌≡◌, ◌∙◌, ap, sym, subst, refl, ℕ, ◌+◌, ◌-◌, List, [], true, Some, length, arith, false, ◌||◌, None, ◌==◌, Bool, Option}
+use Rattle.std.proofs.Common.{◌≡◌, ◌∙◌, ap, sym, refl, ℕ, ◌+◌, ◌-◌, List, [], true, Some, length, arith, false, ◌||◌, None, ◌==◌, Bool, Option}
 use Rattle.std.proofs.lemmas.Bool.{false_from_ne_true}
 use Rattle.ckd_track.specs.Track.{track_of}
 use Rattle.ckd_sense.specs.declared.commands.Command.{Command}
@@ -134,9 +134,6 @@ reads_whole _ t e = e
 
 pub credit_hand : (c : CacheState) (n : ℕ) (o : Opened) → aim o.command ≡ Credited → CreditAtHand (aim o.command) c n → HandIfAimed c n o
 credit_hand c n o is h = λ _. (let at : AtHand c n = rw is at h in record { held = at.held; whole = reads_whole (action_of o.command) _ at.readable })
-
-pub first_at : (slot slot' : List ℕ) (o : Opened) (r : Registers) (p : Transfer) → slot ≡ slot' → IsFirstPlace slot o r p → IsFirstPlace slot' o r p
-first_at slot slot' o r p e f = (let P : List ℕ → Type 0 = λ x. IsFirstPlace x o r p in subst P e f)
 
 pub stays_arm : (g : Geometry) (r q : Registers) → StaysAt r q → IsAtTrack g r → IsAtTrack g q
 stays_arm g r q k at = record { cylinder = rw k.cylinder at.cylinder; head = rw k.head at.head }
@@ -285,6 +282,7 @@ sighted_with _ d i j = refl
 abbrev with_loaded : Kept → (held : Option ℕ) → Bool → Kept
 with_loaded was held b = record was { cache = record was.cache { image = loaded was.cache.image b; held = held } }
 
+-- whether it was loaded or at hand, over any drive that came of it
 loaded_looks : (b : Bool) (was came : Kept) (o : Opened) (k : Kind) (s : Stage) (held : Option ℕ)
     → (b ≡ false → is_written_by was.mark ≡ false) → aim o.command ≡ Next k → came.cache.image.loads ≡ (loaded was.cache.image b).loads → Looks (with_loaded was held b) came o s → Looks was came o s
 loaded_looks true was came o k s held clean aimed e l = λ before. (let x = l before in record { stands = x.stands; state = x.state; calls = x.calls; at_hand = x.at_hand })
@@ -300,6 +298,7 @@ loaded_looks false was came o k s held clean aimed e l = λ before. (
       at_hand = λ _. unwritten;
     })
 
+-- the look of a drive that holds the track now is that of the drive that was asked
 pub held_looks : (was came : Kept) (d : CacheState) (o : Opened) (k : Kind) (s : Stage)
     → Stands (looking_drive was o) → aim o.command ≡ Next k → d ≡ after_hold was.cache (number_under was) → came.cache.image.loads ≡ d.image.loads → Looks (kept d was.registers was.mark) came o s → Looks was came o s
 held_looks was came d o k s x aimed held loads l =

@@ -1,9 +1,8 @@
 -- Bytes that pass.
-use Rattle.std.proofs.Common.{◌≡◌, ◌∙◌, ap, sym, subst, refl, inl, inr, ◌⊎◌, ℕ, ◌+◌, ◌-◌, ◌<◌, ◌≤◌, ◌^◌, List, [], ◌++◌, true, false, Some, length, take, drop, slice_range, length-append, length-take, length-drop, drop-drop, arith, Bool, ◌||◌}
+use Rattle.std.proofs.Common.{◌≡◌, ◌∙◌, ap, sym, subst, refl, inl, inr, ◌⊎◌, ℕ, ◌+◌, ◌-◌, ◌<◌, ◌≤◌, ◌^◌, List, [], ◌++◌, true, false, length, take, drop, slice_range, length-append, length-take, length-drop, drop-drop, arith, Bool, ◌||◌}
 use Rattle.std.proofs.lemmas.List.{take-take, drop-take, get_or_past}
 use Rattle.std.proofs.lemmas.Bool.{cases_lt}
 use Rattle.ckd_track.specs.Track.{track_of}
-use Rattle.ckd_command.specs.declared.registers.Registers.{Registers}
 use Rattle.ckd_command.specs.declared.tables.Action.{Action}
 use Rattle.ckd_command.specs.declared.tables.Action.TheVariants as action
 use Rattle.ckd_command.specs.Answers.{CommandEnd}
@@ -15,13 +14,13 @@ use Rattle.ckd_command.specs.Tables.{is_giving}
 use Rattle.ckd_position.specs.Contents.{Sighted}
 use Rattle.ckd_command.specs.Commands.{Closing, area_bytes, length_after, command_end}
 use Rattle.ckd_slot.specs.Buffer.{Lies}
-use Rattle.ckd_cache.specs.Cache.{CacheState, IsVolume}
+use Rattle.ckd_cache.specs.Cache.{CacheState, IsVolume, slot_held}
 use Rattle.ckd_drive.specs.Work as work
 use Rattle.ckd_drive.specs.Work.{DriveState, gives_now, left_of, given_now, passed_of, moved_on}
 use Rattle.ckd_drive.specs.Invariant.{Stands, IsPlaced, IsField, ClosesUnwritten, remaining, next_progress, given_on, state_of, slot_at, track_under, is_filled_by, Parts, track_in_reach, AtWork, closing_in, HalfDone, Works, Absorbs, own_slot, own_track, action_now, seen_with, at_work, kept, parts_of}
 use Rattle.ckd_command.proofs.Closings.{area_by, closing_by, sense_closes as closes_sense, sense_length}
 use Rattle.ckd_command.proofs.Lengths.{length_by}
-use Rattle.ckd_drive.proofs.Standing.{goes_of}
+use Rattle.ckd_drive.proofs.Standing.{goes_of, slot_is}
 use Rattle.std.proofs.Math.Bool.{or-false}
 use Rattle.ckd_command.specs.Drive.{is_written_by}
 
@@ -107,6 +106,7 @@ marked_by : (w f f' : Bool) → (f ≡ true → f' ≡ true) → ((w || f) || f'
 marked_by false true false k = absurd (let e = k refl in cc)
 marked_by _ _ _ k = refl
 
+-- whatever the cache, the slot before and the place came to
 pub taken_stands : (parts : Parts) (p : Progress) (more : List ℕ) (c' : CacheState) (before' : List ℕ) (place : Transfer) (k : ℕ)
     → Stands parts → parts.stage ≡ Passing p → k ≡ length more → Absorbs (half_of parts p) more c' before' place
     → Stands (parts_of (kept c' parts.registers parts.mark) (Passing (next_progress p k place)) before' (parts.passed ++ more))
@@ -122,6 +122,7 @@ taken_stands parts p more c' before' place k x is n a =
       work = rw n w.goes;
     }
 
+-- and is the drive that the definitions have
 pub taken_state : (parts : Parts) (p : Progress) (more : List ℕ) (c' : CacheState) (before' : List ℕ) (place : Transfer) (now : DriveState) (k : ℕ)
     → parts.stage ≡ Passing p → state_of parts ≡ now → k ≡ length more → Absorbs (half_of parts p) more c' before' place
     → state_of (parts_of (kept c' parts.registers parts.mark) (Passing (next_progress p k place)) before' (parts.passed ++ more)) ≡ record now { work = moved_on more now.work }
@@ -218,46 +219,25 @@ sense_lends parts p b now x is at now_is =
       bytes_are = rw (← now_is, is, ← goes.moved, area_by action.GiveSense _ p.opened parts.registers h.is_sense, h.bytes_are) refl;
     }
 
--- where the bytes of an area stand that may be given
-pub record StandsInWindow (c : CacheState) (r : Registers) (p : Progress) (w : Window) : Type 0 where
-  pub held : c.held ≡ Some (track_under c.image.geometry r)
-  pub within : p.left ≤ w.len
-  pub inside : w.start + w.len ≤ length (slot_at c.slots (track_under c.image.geometry r))
-  pub small : w.start + w.len < 2 ^ 32
-
-pub read_window : (parts : Parts) (p : Progress) (w : Window) (u : Bool)
-    → Stands parts → parts.stage ≡ Passing p → p.place ≡ Read w u → StandsInWindow parts.cache parts.registers p w
-read_window parts p w u x is at =
-    let g = parts.cache.image.geometry in
-    let goes = goes_of parts p x is in
-    let h = (rw at at goes.placed).0 in
-    record {
-      held = h.held;
-      within = rw at at goes.left;
-      inside = h.lies.within;
-      small = omega (arith, h.lies.within, slot_small parts.cache (track_under g parts.registers) x.volume);
-    }
-
+-- the bytes of an area, by the slot as the code reads it
 pub read_lends : (parts : Parts) (p : Progress) (slot : List ℕ) (w : Window) (u : Bool) (now : DriveState)
-    → Stands parts → parts.stage ≡ Passing p → p.place ≡ Read w u → slot ≡ slot_at parts.cache.slots (track_in_reach parts) → state_of parts ≡ now → Lends p now (slice_range slot w.start (w.start + p.left))
-read_lends parts p slot w u now x is at slot_is now_is =
+    → Stands parts → parts.stage ≡ Passing p → p.place ≡ Read w u → slot ≡ slot_held parts.cache → state_of parts ≡ now → Lends p now (slice_range slot w.start (w.start + p.left))
+read_lends parts p slot w u now x is at here_is now_is =
     let passed = parts.passed in
     let g = parts.cache.image.geometry in
     let old = slot_at parts.cache.slots (track_under g parts.registers) in
     let goes = goes_of parts p x is in
     let left : p.left ≤ w.len = rw at at goes.left in
     let h = (rw at at goes.placed).0 in
+    let slot_now : slot ≡ old = slot_is parts.cache (track_in_reach parts) slot h.held here_is in
     let area = area_bytes (track_of old) p.opened parts.registers in
     let here : slice_range old w.start (w.start + p.left) ≡ slice_range area (length passed) (length passed + p.left) =
     lies_first old (drop (length passed) area) w p.left h.lies left ∙ rw (behind_less (length passed) p.left) refl in
     let size : length (slice_range old w.start (w.start + p.left)) ≡ p.left = omega (arith, length-take (w.start + p.left - w.start) (drop w.start old), length-drop w.start old, left, h.lies.within) in
     record {
-      size = rw (slot_is, ← now_is, is) size;
-      bytes_are = rw (slot_is, ← now_is, is, at) here;
+      size = rw (slot_now, ← now_is, is) size;
+      bytes_are = rw (slot_now, ← now_is, is, at) here;
     }
-
-pub take_range : (k l at : ℕ) (s : List ℕ) → k ≤ l → take k (slice_range s at (at + l)) ≡ slice_range s at (at + k)
-take_range k l at s le = rw (behind_less at l, behind_less at k) (take-take k l (drop at s) le)
 
 -- what passing so many bytes makes of the drive
 pub record HasPassed (parts : Parts) (p : Progress) (more : List ℕ) (now : DriveState) (k : ℕ) : Type 0 where
@@ -265,6 +245,7 @@ pub record HasPassed (parts : Parts) (p : Progress) (more : List ℕ) (now : Dri
   pub state : state_of (record parts { stage = Passing (next_progress p k (given_on p.place k)); passed = parts.passed ++ more })
       ≡ record now { work = moved_on (slice_range (given_now now now.work) (length (passed_of now.work)) (length (passed_of now.work) + k)) now.work }
 
+-- by the bytes that are lent, as the caller of a drive has them
 pub has_passed : (parts : Parts) (p : Progress) (bytes : List ℕ) (now : DriveState) (k : ℕ)
     → Stands parts → parts.stage ≡ Passing p → state_of parts ≡ now → gives_now now.work ≡ true → k ≤ left_of now.work
     → length bytes ≡ left_of now.work → bytes ≡ slice_range (given_now now now.work) (length (passed_of now.work)) (length (passed_of now.work) + left_of now.work)
@@ -275,7 +256,7 @@ has_passed parts p bytes now k x is now_is gives le long are =
     let work_is : now.work ≡ work.Passing p.opened parts.passed p.left = sym (ap (λ (d : DriveState). d.work) now_is) ∙ rw is refl in
     let works : Works (half_of parts p) = record { volume = x.volume; arm = x.arm; anchored = x.anchored; goes = goes_of parts p x is } in
     let a = given_absorbs (half_of parts p) more k works n (rw work_is at le) (rw work_is at gives) in
-    let range : more ≡ slice_range (given_now now now.work) (length (passed_of now.work)) (length (passed_of now.work) + k) = rw are (take_range k (left_of now.work) (length (passed_of now.work)) (given_now now now.work) le) in
+    let range : more ≡ slice_range (given_now now now.work) (length (passed_of now.work)) (length (passed_of now.work) + k) = rw (are, behind_less (length (passed_of now.work)) (left_of now.work), behind_less (length (passed_of now.work)) k) (take-take k (left_of now.work) (drop (length (passed_of now.work)) (given_now now now.work)) le) in
     record {
       stands = taken_stands parts p more parts.cache parts.before (given_on p.place k) k x is n a;
       state = taken_state parts p more parts.cache parts.before (given_on p.place k) now k is now_is n a ∙ ap (λ (b : List ℕ). record now { work = moved_on b now.work }) range;

@@ -155,6 +155,7 @@ home_filled job now is five own room lens =
       wants = λ more le. ap (λ (x : List ℕ). length_after g t o r x) (nothing_more b more le) ∙ length_by action.WriteHomeAddress g t o r b is;
     }
 
+-- by what the code has read of its field, and by the slot that it made
 pub home_absorbs : (half : HalfDone) (more f field h new : List ℕ) → MayTake half more → half.progress.place ≡ Field f → field ≡ overwritten f half.progress.moved more
     → whole_of (action_now half) (own_home_address half.registers) (half.progress.moved + length more) field ≡ whole.HomeAddress h → new ≡ slot_of half.cache.image.geometry.track_size (bare_track h)
     → Absorbs half more (with_held half.cache new) (slot_held half.cache) (Filled (record { start = 5; len = 0 }) written.HomeAddress)

@@ -116,6 +116,7 @@ fill_filling job part i u =
     let e = extent_of job.opened.command in
     record { closes = u; track = cleared e part i (track_in job.before); extent = e; part = part; number = i; lead = 0 }
 
+-- how an update of that record closes, by all that a look found of it
 fill_filled : (job : AtWork) (part : Part) (i : ℕ) (b : List ℕ) (u : CommandEnd) → action_in job ≡ action.Update → IsUpdate (extent_of job.opened.command) → track_of job.before ≡ Ok (track_in job.before) → job.opened.area ≡ Some (Of part i)
     → i < length (track_in job.before).records → 0 < length b → length b ≤ update_length (extent_of job.opened.command) (record_in (track_in job.before) i) → command_end (end_of_area (track_of job.before) job.opened job.registers) ≡ u
     → length (area_bytes (track_of job.before) job.opened job.registers) ≡ update_length (extent_of job.opened.command) (record_in (track_in job.before) i)
@@ -204,6 +205,7 @@ pub record Replaces (half : HalfDone) (more : List ℕ) (a : Area) (w : Window) 
   pub records : SameRecords (cleared_slot half a) (overwritten (cleared_slot half a) w.start more)
   pub absorbs : Absorbs half more (with_held half.cache (overwritten (cleared_slot half a) w.start more)) (slot_held half.cache) (Filled (record { start = w.start + length more; len = w.len - length more }) (written.Area no_data))
 
+-- the drive then holds a track that is being written
 pub fill_absorbs : (half : HalfDone) (more : List ℕ) (a : Area) (w : Window) (no_data : Bool) → MayTake half more → half.progress.place ≡ Fill w no_data → half.progress.opened.area ≡ Some a → 0 < length more
     → FillGoes half more a w no_data → FitsSlot half.cache.image.geometry.track_size (with_record_changed (replaced (extent_of half.progress.opened.command) []) a (track_in (own_slot half))) → Replaces half more a w no_data
 fill_absorbs half more HomeAddress w no_data may at area some k f = absurd k.there
@@ -276,6 +278,7 @@ fill_there half more a w no_data may at area came =
     let k = fill_goes half more a w no_data may at area (grind (arith, nat_tests)) in
     rw (slot_is half.cache (own_track half) (slot_held half.cache) k.hand.held refl) k.there
 
+-- by the cache as the code has it between the two writes
 pub fills_cleared : (half : HalfDone) (more : List ℕ) (a : Area) (w : Window) (no_data : Bool) (c : CacheState) → MayTake half more → half.progress.place ≡ Fill w no_data → half.progress.opened.area ≡ Some a → (length more == 0) ≡ false
     → c ≡ with_held half.cache (slot_of half.cache.image.geometry.track_size (with_record_changed (replaced (extent_of half.progress.opened.command) []) a (track_in (slot_held half.cache))))
     → FitsSlot half.cache.image.geometry.track_size (with_record_changed (replaced (extent_of half.progress.opened.command) []) a (track_in (slot_held half.cache))) → FillsCleared half more a w no_data c

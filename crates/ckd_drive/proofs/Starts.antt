@@ -143,6 +143,7 @@ pub record HasBegun (parts : Parts) (now : DriveState) (code : ℕ) : Type 0 whe
   pub comes : Comes false (begin_saves code now) now (λ f. after_begin f code now) parts
   pub answer : begun_at parts.stage ≡ answer_of_begin (begin (fault_met now (state_of parts)) code now.state)
 
+-- whatever is left in the fields that an idle drive does not use
 pub has_begun : (parts : Parts) (came : Kept) (s' : Stage) (before' passed' : List ℕ) (now : DriveState) (code : ℕ)
     → state_of parts ≡ now → is_idle now.work ≡ true → Begins (kept parts.cache parts.registers parts.mark) came (beginning code parts.registers) s' → HasBegun (parts_of came s' before' passed') now code
 has_begun parts came s' before' passed' now code now_is idle l =

@@ -39,6 +39,7 @@ order_more area passed more le =
     compare_more (take m area) passed (take (length more) (drop m area)) more long
     ∙ ap (λ (x : List ℕ). slice_cmp nat_cmp x (passed ++ more)) (sym (take-add m (length more) area) ∙ ap (λ (n : ℕ). take n area) (sym (length-append passed more)))
 
+-- by the slot and the order as the code has them
 pub search_absorbs : (half : HalfDone) (more slot : List ℕ) (w : Window) (so_far now : Ordering)
     → MayTake half more → half.progress.place ≡ Search w so_far → slot ≡ own_slot half
     → now ≡ ordering_then so_far (slice_cmp nat_cmp (slice_range slot w.start (w.start + length more)) more)

@@ -8,8 +8,8 @@ use Rattle.ckd_drive.specs.Laws.{Begin, Look, Pass, End, Settle, TellsFailures, 
 -- what is reported where the count rose
 told : (loads saves : Bool) (so : Type 0) (old new : DriveState) → CallsStore loads saves old new → Reports so old new → TellsFailures old new
 told loads saves so old new k r = elim k.failures [
-  inl same ↦ inl (same, r.good same) |
-  inr more ↦ elim r.failed [ inl same ↦ absurd (no_more old.image.failures (sym same ∙ more.0)) | inr x ↦ inr (more.0, x.1, x.2) ]
+  | inl same ↦ inl (same, r.good same)
+  | inr more ↦ elim r.failed [ inl same ↦ absurd (no_more old.image.failures (sym same ∙ more.0)) | inr x ↦ inr (more.0, x.1, x.2) ]
 ]
 
 pub each_call_tells : EachCallTells

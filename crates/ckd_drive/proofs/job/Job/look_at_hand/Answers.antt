@@ -13,7 +13,7 @@ use Rattle.ckd_drive.proofs.Calls.{loads_saved}
 use Rattle.ckd_command.proofs.Sights.{look_again}
 use Rattle.ckd_drive.proofs.Sights.{found_whole}
 use Rattle.ckd_drive.proofs.Standing.{on_ok, on_err, slot_is}
-use Rattle.ckd_drive.proofs.Looks.{first_at, found_looks, passed_looks, missed_looks, next_looks, lost_looks}
+use Rattle.ckd_drive.proofs.Looks.{found_looks, passed_looks, missed_looks, next_looks, lost_looks}
 use Rattle.ckd_drive.proofs.job.Job.look_at_hand.Goals as goal
 
 pub place_on-requires-clause-readable : goal.place_on-requires-clause-readable
@@ -54,7 +54,7 @@ returns-in-Found g c =
     record {
       looks = record {
         stage = found_looks was asked o p.place (stage_seen o p c.place_on.result) c.requires.stands
-            (first_at c.buffer.result.now (slot_under was) o r p.place slot placed) (λ _. record { held = c.requires.held; whole = whole }) again.1 (sym first) ready;
+            (rw slot at placed) (λ _. record { held = c.requires.held; whole = whole }) again.1 (sym first) ready;
         looked = c.place_on.ensures.passing;
       };
       loads = refl;

@@ -5,7 +5,7 @@ use Rattle.ckd_drive.specs.Invariant.{number_under, slot_under}
 use Rattle.ckd_drive.specs.Fields.{stage_seen}
 use Rattle.ckd_drive.specs.Jobs.{kept_in}
 use Rattle.ckd_command.proofs.Sights.{sight_without, sight_credited}
-use Rattle.ckd_drive.proofs.Looks.{first_at, credit_hand, found_looks}
+use Rattle.ckd_drive.proofs.Looks.{credit_hand, found_looks}
 use Rattle.ckd_drive.proofs.job.Job.look_here.Goals as goal
 use Rattle.ckd_drive.proofs.Standing.{slot_is}
 
@@ -35,6 +35,6 @@ returns-in-Credited g c =
     let slot = slot_is d (number_under was) c.buffer.result.now held c.buffer.ensures.slot in
     record {
       stage = found_looks was o o x.new.progress.place (stage_seen o x.new.progress x.result) c.requires.stands
-          (first_at _ _ o r x.new.progress.place slot (x.ensures.first r)) (credit_hand d (number_under was) o aimed credit) (sight_credited _ _ o r aimed) (sight_credited _ _ o r aimed) x.ensures.ready;
+          (rw slot at (x.ensures.first r)) (credit_hand d (number_under was) o aimed credit) (sight_credited _ _ o r aimed) (sight_credited _ _ o r aimed) x.ensures.ready;
       looked = x.ensures.passing;
     }
