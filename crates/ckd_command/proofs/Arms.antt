@@ -1,33 +1,30 @@
 -- Where the arm and the head stand in the parts of a command: they leave a track only where the definitions say that they do.
 use Rattle.std.proofs.Common.{◌≡◌, ℕ, refl, true, false, Bool, cond, List, [], ◌∷◌, Option, Some, None, ◌⊎◌, inl, inr}
-use Rattle.std.specs.Prelude.{Ok, Err, not, ◌&&◌, ◌==◌, ◌+◌, length, nat_lt, slice_range, take, bytes_eq}
+use Rattle.std.specs.Prelude.{Ok, Err, ◌&&◌, ◌==◌, length, nat_lt, slice_range, take, bytes_eq}
 use Rattle.ckd_track.specs.Changes.{bare_track}
 use Rattle.ckd_track.specs.Model.{heads_of}
-use Rattle.ckd_track.specs.Track.{Record, track_or_none}
+use Rattle.ckd_track.specs.Track.{Record}
 use Rattle.ckd_track.specs.declared.geometries.Geometry.{Geometry}
-use Rattle.ckd_position.specs.Areas.{next_of_kind}
 use Rattle.ckd_position.specs.Comparisons.{is_satisfied}
-use Rattle.ckd_position.specs.Contents.{Sighted, has_no_data, replaced, formatted, kept, is_readable}
+use Rattle.ckd_position.specs.Contents.{Sighted, replaced, formatted, kept}
 use Rattle.ckd_position.specs.declared.areas.Area.{Area}
-use Rattle.ckd_position.specs.declared.areas.Next.{Next as NextArea}
-use Rattle.ckd_position.specs.declared.areas.Next.TheVariants as next
 use Rattle.ckd_sense.specs.Commands.{decoded}
-use Rattle.ckd_sense.specs.Masks.{allows_head_change}
 use Rattle.ckd_sense.specs.declared.commands.Command.{Command}
 use Rattle.ckd_sense.specs.declared.commands.Command.TheVariants as command
 use Rattle.ckd_sense.specs.declared.commands.CommandCode.{CommandCode}
 use Rattle.ckd_sense.specs.declared.sense_bytes.Sense.{Sense}
 use Rattle.ckd_sense.specs.declared.sense_bytes.TheConstants.Sense as cause
 use Rattle.ckd_command.specs.declared.registers.Registers.{Registers}
-use Rattle.ckd_command.specs.declared.registers.Lap.{Lap}
-use Rattle.ckd_command.specs.declared.registers.Lap.TheVariants.{First, Second}
 use Rattle.ckd_command.specs.declared.tables.Aim.{Aim}
-use Rattle.ckd_command.specs.declared.tables.Aim.TheVariants.{NoArea, Next, Credited}
+use Rattle.ckd_command.specs.declared.tables.Aim.TheVariants.{Next}
+use Rattle.ckd_command.specs.declared.tables.Action.{Action}
+use Rattle.ckd_command.specs.declared.tables.Action.TheVariants as action
 use Rattle.ckd_command.specs.declared.begin.Opened.{Opened}
 use Rattle.ckd_command.specs.Answers.{Beginning, Rejected, Immediate, Started, ToCylinderZero}
 use Rattle.ckd_command.specs.Answers.{Sight, Found, IndexPassed, NextHead, Missed}
-use Rattle.ckd_command.specs.Tables.{aim, action_of, extent_of, comparison, ends_with_data, needs_readable}
-use Rattle.ckd_command.specs.Commands.{Closing, ends, fails, writes, closing, close_by, whole_field, at_end, seek_cylinder_and_head, seek_head, set_file_mask, search, search_ends, area_bytes, end_of_area, update, updated, format, format_ends, new_record_fits, write_home_address, own_home_address, home_address_ends, number, beginning, begin_decoded, begin_allowed, started, cleared, refusal, sight, look_for, sight_of, next_head, turned}
+use Rattle.ckd_command.proofs.Sights.{sight_by}
+use Rattle.ckd_command.specs.Tables.{aim, action_of, extent_of, comparison}
+use Rattle.ckd_command.specs.Commands.{Closing, fails, writes, closing, close_by, whole_field, at_end, seek_cylinder_and_head, seek_head, set_file_mask, search, search_ends, area_bytes, end_of_area, update, updated, format, format_ends, new_record_fits, write_home_address, own_home_address, home_address_ends, number, beginning, begin_decoded, begin_allowed, started, cleared, refusal, sight}
 
 -- the arm and the head are where they were
 pub record AtSameTrack (before after : Registers) : Type 0 where
@@ -88,35 +85,9 @@ SightAt before o (IndexPassed r) = AtSameTrack before r × (r.sense ≡ before.s
 SightAt before o (NextHead r) = r.sense ≡ before.sense
 SightAt before o (Missed r) = AtSameTrack before r
 
-either_sight : (before : Registers) (o : Opened) (a : Bool) (x y : Sight) → SightAt before o x → SightAt before o y → SightAt before o (cond a x y)
-either_sight before o true x y p q = p
-either_sight before o false x y p q = q
-
-misses_at : (r : Registers) (s : Registers) → s.cylinder ≡ r.cylinder → s.head ≡ r.head → AtSameTrack r s
-misses_at r s c h = record { cylinder = c; head = h }
-
-turns_at : (r : Registers) (o : Opened) (lap : Lap) → SightAt r o (turned r lap)
-turns_at r o First = (record { cylinder = refl; head = refl }, refl)
-turns_at r o Second = record { cylinder = refl; head = refl }
-
-heads_at : (g : Geometry) (r : Registers) (o : Opened) → SightAt r o (next_head g r)
-heads_at g r o =
-    either_sight r o (not (allows_head_change r.file_mask)) _ _ (misses_at r _ refl refl)
-    (either_sight r o (r.head + 1 == heads_of g.model) _ _ (misses_at r _ refl refl) refl)
-
-next_at : (g : Geometry) (o : Opened) (r : Registers) (n : NextArea) → SightAt r o (sight_of g o r n)
-next_at g o r (next.Found a) = refl
-next_at g o r next.IndexPassed = either_sight r o o.multi_track (next_head g r) (turned r r.lap) (heads_at g r o) (turns_at r o r.lap)
-
-sights_at : (g : Geometry) (t : Sighted) (o : Opened) (r : Registers) (a : Aim) → SightAt r o (look_for g t o r a)
-sights_at g t o r (Next kind) = either_sight r o (needs_readable (action_of o.command) && not (is_readable t)) _ (sight_of g o r (next_of_kind (track_or_none t) r.position kind))
-    (misses_at r _ refl refl) (next_at g o r (next_of_kind (track_or_none t) r.position kind))
-sights_at g t o r NoArea = refl
-sights_at g t o r Credited = refl
-
 pub sight_at : (g : Geometry) (t : Sighted) (o : Opened) (r : Registers) → SightAt r o (sight g t o r)
-unfolding sight
-sight_at g t o r = sights_at g t o r (aim o.command)
+sight_at g t o r =
+    sight_by (SightAt r o) g t o r refl (λ a. refl) (record { cylinder = refl; head = refl }) (record { cylinder = refl; head = refl }, refl) (λ e. refl) (λ c h. record { cylinder = refl; head = refl })
 
 -- How it closes: the arm moves only where it leaves the track.
 
@@ -172,49 +143,25 @@ homes : (o : Opened) (r : Registers) (b : List ℕ) → ClosesAt r (write_home_a
 homes o r b = either r (bytes_eq b (own_home_address r)) (writes (bare_track b) (home_address_ends o r)) (fails (at_end o r) cause.WRONG_HOME_ADDRESS)
     (inr (refl, record { cylinder = refl; head = refl })) (inr (refl, record { cylinder = refl; head = refl }))
 
-closes_at : (c : Command) (g : Geometry) (t : Sighted) (o : Opened) (r : Registers) (b : List ℕ) → ClosesAt r (close_by (action_of c) g t o r b)
-closes_at command.Seek g t o r b = whole r r b 6 _ (itself r) (seeks g r b)
-closes_at command.SeekCylinder g t o r b = whole r r b 6 _ (itself r) (seeks g r b)
-closes_at command.SeekHead g t o r b = whole r r b 6 _ (itself r) (head_seeks g r b)
-closes_at command.SetFileMask g t o r b = masks r b
-closes_at command.SearchHomeAddressEqual g t o r b = searches t o r b
-closes_at command.SearchIdEqual g t o r b = searches t o r b
-closes_at command.SearchIdHigh g t o r b = searches t o r b
-closes_at command.SearchIdEqualOrHigh g t o r b = searches t o r b
-closes_at command.SearchKeyEqual g t o r b = searches t o r b
-closes_at command.SearchKeyHigh g t o r b = searches t o r b
-closes_at command.SearchKeyEqualOrHigh g t o r b = searches t o r b
-closes_at command.WriteHomeAddress g t o r b = whole r (at_end o r) b 5 _ (record { cylinder = refl; head = refl }) (homes o r b)
-closes_at command.WriteR0 g t o r b = whole r r b 8 _ (itself r) (formats g t o r b)
-closes_at command.WriteCountKeyAndData g t o r b = whole r r b 8 _ (itself r) (formats g t o r b)
-closes_at command.WriteData g t o r b = updates (replaced (extent_of o.command) b) t o r b
-closes_at command.WriteKeyAndData g t o r b = updates (replaced (extent_of o.command) b) t o r b
+closes_at : (a : Action) (g : Geometry) (t : Sighted) (o : Opened) (r : Registers) (b : List ℕ) → ClosesAt r (close_by a g t o r b)
+closes_at action.SeekCylinderAndHead g t o r b = whole r r b 6 _ (itself r) (seeks g r b)
+closes_at action.SeekHead g t o r b = whole r r b 6 _ (itself r) (head_seeks g r b)
+closes_at action.SetFileMask g t o r b = masks r b
+closes_at action.Search g t o r b = searches t o r b
+closes_at action.WriteHomeAddress g t o r b = whole r (at_end o r) b 5 _ (record { cylinder = refl; head = refl }) (homes o r b)
+closes_at action.Format g t o r b = whole r r b 8 _ (itself r) (formats g t o r b)
+closes_at action.Update g t o r b = updates (replaced (extent_of o.command) b) t o r b
 closes_at _ g t o r b = area_end t o r
 
 pub closing_at : (g : Geometry) (t : Sighted) (o : Opened) (r : Registers) (b : List ℕ) → ClosesAt r (closing g t o r b)
 unfolding closing
-closing_at g t o r b = closes_at o.command g t o r b
+closing_at g t o r b = closes_at (action_of o.command) g t o r b
 
 -- without a byte it never does
-empty_at : (c : Command) (g : Geometry) (t : Sighted) (o : Opened) (r : Registers) → (close_by (action_of c) g t o r []).moves_off ≡ false
-empty_at command.Seek g t o r = refl
-empty_at command.SeekCylinder g t o r = refl
-empty_at command.SeekHead g t o r = refl
-empty_at command.SetFileMask g t o r = refl
-empty_at command.SearchHomeAddressEqual g t o r = refl
-empty_at command.SearchIdEqual g t o r = refl
-empty_at command.SearchIdHigh g t o r = refl
-empty_at command.SearchIdEqualOrHigh g t o r = refl
-empty_at command.SearchKeyEqual g t o r = refl
-empty_at command.SearchKeyHigh g t o r = refl
-empty_at command.SearchKeyEqualOrHigh g t o r = refl
-empty_at command.WriteHomeAddress g t o r = refl
-empty_at command.WriteR0 g t o r = refl
-empty_at command.WriteCountKeyAndData g t o r = refl
-empty_at command.WriteData g t o r = refl
-empty_at command.WriteKeyAndData g t o r = refl
+empty_at : (a : Action) (g : Geometry) (t : Sighted) (o : Opened) (r : Registers) → (close_by a g t o r []).moves_off ≡ false
+empty_at action.Search g t o r = refl
 empty_at _ g t o r = refl
 
 pub closing_empty : (g : Geometry) (t : Sighted) (o : Opened) (r : Registers) → (closing g t o r []).moves_off ≡ false
 unfolding closing
-closing_empty g t o r = empty_at o.command g t o r
+closing_empty g t o r = empty_at (action_of o.command) g t o r

@@ -1,19 +1,16 @@
 -- How a command begins, looks and closes, whatever the drive remembers and whatever the track holds.
 use Rattle.std.proofs.Common.{◌≡◌, ℕ, refl, ap, ◌∙◌, true, false, Bool, cond, List, [], ◌∷◌, Option, Some, None, ◌⊎◌, inl, inr}
-use Rattle.std.specs.Prelude.{bit_and, Ok, Err, not, ◌&&◌, ◌==◌, ◌+◌, length, nat_lt, slice_range, take, bytes_eq}
+use Rattle.std.specs.Prelude.{bit_and, Ok, Err, not, ◌&&◌, ◌==◌, length, nat_lt, slice_range, take, bytes_eq}
 use Rattle.std.proofs.lemmas.Nat.{and_or_apart, and_or_self}
 use Rattle.s360_words.specs.Words.{has}
-use Rattle.ckd_track.specs.Track.{Record, Track, track_or_none}
+use Rattle.ckd_track.specs.Track.{Record, Track}
 use Rattle.ckd_track.specs.Model.{heads_of}
 use Rattle.ckd_track.specs.Changes.{bare_track}
 use Rattle.ckd_track.specs.declared.geometries.Geometry.{Geometry}
-use Rattle.ckd_position.specs.Areas.{next_of_kind}
 use Rattle.ckd_position.specs.Comparisons.{is_satisfied}
 use Rattle.ckd_position.specs.declared.areas.Area.{Area}
-use Rattle.ckd_position.specs.declared.areas.Next.{Next as NextArea}
-use Rattle.ckd_position.specs.declared.areas.Next.TheVariants as next
 use Rattle.ckd_sense.specs.Commands.{decoded}
-use Rattle.ckd_sense.specs.Masks.{allows_head_change, is_write, permit_of}
+use Rattle.ckd_sense.specs.Masks.{is_write, permit_of}
 use Rattle.ckd_sense.specs.declared.commands.Command.{Command}
 use Rattle.ckd_sense.specs.declared.commands.Command.TheVariants as command
 use Rattle.ckd_sense.specs.declared.commands.CommandCode.{CommandCode}
@@ -22,16 +19,15 @@ use Rattle.ckd_sense.specs.declared.masks.Permit.TheVariants.{Yes, NoWrite, NoSe
 use Rattle.ckd_sense.specs.declared.sense_bytes.Sense.{Sense}
 use Rattle.ckd_sense.specs.declared.sense_bytes.TheConstants.Sense as cause
 use Rattle.ckd_command.specs.declared.registers.Registers.{Registers}
-use Rattle.ckd_command.specs.declared.registers.Lap.{Lap}
-use Rattle.ckd_command.specs.declared.registers.Lap.TheVariants.{First, Second}
-use Rattle.ckd_command.specs.declared.tables.Aim.{Aim}
-use Rattle.ckd_command.specs.declared.tables.Aim.TheVariants.{NoArea, Next, Credited}
+use Rattle.ckd_command.specs.declared.tables.Action.{Action}
+use Rattle.ckd_command.specs.declared.tables.Action.TheVariants as action
 use Rattle.ckd_command.specs.declared.begin.Opened.{Opened}
 use Rattle.ckd_command.specs.Answers.{Beginning, Rejected, Immediate, Started, ToCylinderZero}
 use Rattle.ckd_command.specs.Answers.{Sight, Found, IndexPassed, NextHead, Missed}
-use Rattle.ckd_command.specs.Tables.{aim, action_of, extent_of, comparison, ends_with_data, needs_readable}
-use Rattle.ckd_position.specs.Contents.{Sighted, has_no_data, replaced, formatted, kept, is_readable}
-use Rattle.ckd_command.specs.Commands.{Closing, ends, fails, writes, closing, close_by, whole_field, with_cause, at_end, seek_cylinder_and_head, seek_head, set_file_mask, search, search_ends, area_bytes, end_of_area, update, updated, format, format_ends, new_record_fits, write_home_address, own_home_address, home_address_ends, ending_status, unit_exception_status, number, beginning, begin_decoded, begin_allowed, started, cleared, refusal, refusal_under, is_out_of_sequence, sight, look_for, sight_of, next_head, turned}
+use Rattle.ckd_command.proofs.Sights.{sight_by}
+use Rattle.ckd_command.specs.Tables.{action_of, extent_of, comparison, ends_with_data}
+use Rattle.ckd_position.specs.Contents.{Sighted, has_no_data, replaced, formatted, kept}
+use Rattle.ckd_command.specs.Commands.{Closing, ends, fails, writes, closing, close_by, whole_field, with_cause, at_end, seek_cylinder_and_head, seek_head, set_file_mask, search, search_ends, area_bytes, end_of_area, update, updated, format, format_ends, new_record_fits, write_home_address, own_home_address, home_address_ends, ending_status, unit_exception_status, number, beginning, begin_decoded, begin_allowed, started, cleared, refusal, refusal_under, is_out_of_sequence, sight, at_index}
 
 -- Equipment check, which is of the store alone.
 
@@ -125,50 +121,42 @@ updates change t o r (x ∷ b) =
     go (Ok t) None c h = h
     go (Err fault) a c h = h
 
-formats : (g : Geometry) (t : Sighted) (o : Opened) (r : Registers) (x : ℕ) (b : List ℕ) → IsClosing r (x ∷ b) true (format g t o r (x ∷ b))
-formats g t o r x b = either r (x ∷ b) true (new_record_fits g t o (x ∷ b)) (writes (formatted t o.area (x ∷ b)) (format_ends r (length (kept t o.area)))) (fails r cause.RECORD_DOES_NOT_FIT)
-    (writing r x b _ (format_ends r (length (kept t o.area))) (record { channel_end = refl; device_end = refl; written = inl refl; not_told = λ e. e }))
-    (check r r (x ∷ b) true cause.RECORD_DOES_NOT_FIT.0 refl (λ e. e))
+formats : (g : Geometry) (t : Sighted) (o : Opened) (r : Registers) (b : List ℕ) (x : ℕ) (rest : List ℕ) → b ≡ x ∷ rest → IsClosing r b true (format g t o r b)
+formats g t o r [] x rest e = absurd (cc)
+formats g t o r (y ∷ b) x rest e = either r (y ∷ b) true (new_record_fits g t o (y ∷ b)) (writes (formatted t o.area (y ∷ b)) (format_ends r (length (kept t o.area)))) (fails r cause.RECORD_DOES_NOT_FIT)
+    (writing r y b _ (format_ends r (length (kept t o.area))) (record { channel_end = refl; device_end = refl; written = inl refl; not_told = λ e. e }))
+    (check r r (y ∷ b) true cause.RECORD_DOES_NOT_FIT.0 refl (λ e. e))
 
-homes : (o : Opened) (r : Registers) (x : ℕ) (b : List ℕ) → IsClosing r (x ∷ b) true (write_home_address o r (x ∷ b))
-homes o r x b = either r (x ∷ b) true (bytes_eq (x ∷ b) (own_home_address r)) (writes (bare_track (x ∷ b)) (home_address_ends o r)) (fails (at_end o r) cause.WRONG_HOME_ADDRESS)
-    (writing r x b _ (home_address_ends o r) (record { channel_end = refl; device_end = refl; written = inl refl; not_told = λ e. e }))
-    (check r (at_end o r) (x ∷ b) true cause.WRONG_HOME_ADDRESS.0 refl (λ e. e))
+homes : (o : Opened) (r : Registers) (b : List ℕ) (x : ℕ) (rest : List ℕ) → b ≡ x ∷ rest → IsClosing r b true (write_home_address o r b)
+homes o r [] x rest e = absurd (cc)
+homes o r (y ∷ b) x rest e = either r (y ∷ b) true (bytes_eq (y ∷ b) (own_home_address r)) (writes (bare_track (y ∷ b)) (home_address_ends o r)) (fails (at_end o r) cause.WRONG_HOME_ADDRESS)
+    (writing r y b _ (home_address_ends o r) (record { channel_end = refl; device_end = refl; written = inl refl; not_told = λ e. e }))
+    (check r (at_end o r) (y ∷ b) true cause.WRONG_HOME_ADDRESS.0 refl (λ e. e))
 
-closes : (c : Command) (g : Geometry) (t : Sighted) (o : Opened) (r : Registers) (b : List ℕ) → IsClosing r b (is_write c) (close_by (action_of c) g t o r b)
-closes command.Seek g t o r b = whole r b _ 6 _ (λ x rest e. seeks g r b _)
-closes command.SeekCylinder g t o r b = whole r b _ 6 _ (λ x rest e. seeks g r b _)
-closes command.SeekHead g t o r b = whole r b _ 6 _ (λ x rest e. head_seeks g r b _)
-closes command.SetFileMask g t o r b = masks r b _
-closes command.SearchHomeAddressEqual g t o r b = searches t o r b _
-closes command.SearchIdEqual g t o r b = searches t o r b _
-closes command.SearchIdHigh g t o r b = searches t o r b _
-closes command.SearchIdEqualOrHigh g t o r b = searches t o r b _
-closes command.SearchKeyEqual g t o r b = searches t o r b _
-closes command.SearchKeyHigh g t o r b = searches t o r b _
-closes command.SearchKeyEqualOrHigh g t o r b = searches t o r b _
-closes command.WriteHomeAddress g t o r b = whole_from r (at_end o r) b true 5 (write_home_address o r b) (λ e. e) (home_of b)
-  where
-    home_of : (b : List ℕ) (x : ℕ) (rest : List ℕ) → b ≡ x ∷ rest → IsClosing r b true (write_home_address o r b)
-    home_of [] x rest e = absurd (cc)
-    home_of (y ∷ b) x rest e = homes o r y b
-closes command.WriteR0 g t o r b = whole r b true 8 (format g t o r b) (format_of b)
-  where
-    format_of : (b : List ℕ) (x : ℕ) (rest : List ℕ) → b ≡ x ∷ rest → IsClosing r b true (format g t o r b)
-    format_of [] x rest e = absurd (cc)
-    format_of (y ∷ b) x rest e = formats g t o r y b
-closes command.WriteCountKeyAndData g t o r b = whole r b true 8 (format g t o r b) (format_of b)
-  where
-    format_of : (b : List ℕ) (x : ℕ) (rest : List ℕ) → b ≡ x ∷ rest → IsClosing r b true (format g t o r b)
-    format_of [] x rest e = absurd (cc)
-    format_of (y ∷ b) x rest e = formats g t o r y b
-closes command.WriteData g t o r b = updates (replaced (extent_of o.command) b) t o r b
-closes command.WriteKeyAndData g t o r b = updates (replaced (extent_of o.command) b) t o r b
+-- the actions of the writes
+abbrev writes_by : Action → Bool
+writes_by action.WriteHomeAddress = true
+writes_by action.Format = true
+writes_by action.Update = true
+writes_by _ = false
+
+is_write_by : (c : Command) → writes_by (action_of c) ≡ is_write c
+is_write_by command.Sense = refl
+is_write_by _ = refl
+
+closes : (a : Action) (g : Geometry) (t : Sighted) (o : Opened) (r : Registers) (b : List ℕ) → IsClosing r b (writes_by a) (close_by a g t o r b)
+closes action.SeekCylinderAndHead g t o r b = whole r b _ 6 _ (λ x rest e. seeks g r b _)
+closes action.SeekHead g t o r b = whole r b _ 6 _ (λ x rest e. head_seeks g r b _)
+closes action.SetFileMask g t o r b = masks r b _
+closes action.Search g t o r b = searches t o r b _
+closes action.WriteHomeAddress g t o r b = whole_from r (at_end o r) b true 5 (write_home_address o r b) (λ e. e) (homes o r b)
+closes action.Format g t o r b = whole r b true 8 (format g t o r b) (formats g t o r b)
+closes action.Update g t o r b = updates (replaced (extent_of o.command) b) t o r b
 closes _ g t o r b = area_end t o r b _
 
 pub closing_facts : (g : Geometry) (t : Sighted) (o : Opened) (r : Registers) (b : List ℕ) → IsClosing r b (is_write o.command) (closing g t o r b)
 unfolding closing
-closing_facts g t o r b = closes o.command g t o r b
+closing_facts g t o r b = rw (← is_write_by o.command) (closes (action_of o.command) g t o r b)
 
 -- How a command begins: equipment check is not reported.
 
@@ -183,8 +171,6 @@ cleared_silent command.Sense r e = e
 cleared_silent _ r e = refl
 
 starts_silent : (c : Command) (before r : Registers) (o : Opened) → NotTold before r → BeginsSilent before (started c r o)
-starts_silent command.NoOperation before r o h = h
-starts_silent command.Recalibrate before r o h = h
 starts_silent command.ReadIpl before r o h = h
 starts_silent _ before r o h = h
 
@@ -222,29 +208,5 @@ SightSilent before (IndexPassed r) = NotTold before r
 SightSilent before (NextHead r) = NotTold before r
 SightSilent before (Missed r) = NotTold before r
 
-silent_either : (before : Registers) (a : Bool) (x y : Sight) → SightSilent before x → SightSilent before y → SightSilent before (cond a x y)
-silent_either before true x y p q = p
-silent_either before false x y p q = q
-
-turns_silent : (r : Registers) (lap : Lap) → SightSilent r (turned r lap)
-turns_silent r First = λ e. e
-turns_silent r Second = with_other r cause.NO_RECORD_FOUND.0 refl
-
-heads_silent : (g : Geometry) (r : Registers) → SightSilent r (next_head g r)
-heads_silent g r =
-    silent_either r (not (allows_head_change r.file_mask)) _ _ (with_other r cause.HEAD_CHANGE_NOT_ALLOWED.0 refl)
-    (silent_either r (r.head + 1 == heads_of g.model) _ _ (with_other r cause.END_OF_CYLINDER.0 refl) (λ e. e))
-
-next_silent : (g : Geometry) (o : Opened) (r : Registers) (n : NextArea) → SightSilent r (sight_of g o r n)
-next_silent g o r (next.Found a) = tt
-next_silent g o r next.IndexPassed = silent_either r o.multi_track (next_head g r) (turned r r.lap) (heads_silent g r) (turns_silent r r.lap)
-
-sights : (g : Geometry) (t : Sighted) (o : Opened) (r : Registers) (a : Aim) → SightSilent r (look_for g t o r a)
-sights g t o r (Next kind) = silent_either r (needs_readable (action_of o.command) && not (is_readable t)) _ (sight_of g o r (next_of_kind (track_or_none t) r.position kind))
-    (with_other r cause.UNREADABLE_TRACK.0 refl) (next_silent g o r (next_of_kind (track_or_none t) r.position kind))
-sights g t o r NoArea = tt
-sights g t o r Credited = tt
-
 pub sight_silent : (g : Geometry) (t : Sighted) (o : Opened) (r : Registers) → SightSilent r (sight g t o r)
-unfolding sight
-sight_silent g t o r = sights g t o r (aim o.command)
+sight_silent g t o r = sight_by (SightSilent r) g t o r tt (λ a. tt) (with_other r cause.UNREADABLE_TRACK.0 refl) (λ e. e) (λ _. λ e. e) (λ c h. with_other (at_index r) c.0 h)

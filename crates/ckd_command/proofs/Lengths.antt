@@ -10,12 +10,11 @@ use Rattle.ckd_command.specs.declared.begin.Opened.{Opened}
 use Rattle.ckd_command.specs.Tables.{action_of, is_giving}
 use Rattle.ckd_command.specs.Commands.{format_length, length_for, length_after, new_record_fits}
 use Rattle.ckd_command.specs.Drive.{Open, gives, given, length_of, track_under}
-use Rattle.ckd_position.specs.Contents.{Sighted, kept}
-use Rattle.ckd_track.specs.Charges.{has_room}
+use Rattle.ckd_position.specs.Contents.{Sighted}
 use Rattle.ckd_track.specs.Track.{key_length, data_length, body_length}
 use Rattle.ckd_track.specs.declared.geometries.Geometry.{Geometry}
 
-length_by : (a : Action) (g : Geometry) (t : Sighted) (o : Opened) (r : Registers) (b : List ℕ) → action_of o.command ≡ a → length_after g t o r b ≡ length_for a g t o r b
+pub length_by : (a : Action) (g : Geometry) (t : Sighted) (o : Opened) (r : Registers) (b : List ℕ) → action_of o.command ≡ a → length_after g t o r b ≡ length_for a g t o r b
 unfolding length_after
 length_by a g t o r b is = rw is refl
 
@@ -32,14 +31,7 @@ gives_length o b g = go (action_of o.opened.command) refl g
     go : (a : Action) → action_of o.opened.command ≡ a → is_giving a ≡ true → length_of o b ≡ length (given o)
     go action.GiveSense e h = length_in action.GiveSense o b e
     go action.Read e h = length_in action.Read o b e
-    go action.NoTransfer e h = absurd (never h)
-    go action.SeekCylinderAndHead e h = absurd (never h)
-    go action.SeekHead e h = absurd (never h)
-    go action.SetFileMask e h = absurd (never h)
-    go action.Search e h = absurd (never h)
-    go action.WriteHomeAddress e h = absurd (never h)
-    go action.Format e h = absurd (never h)
-    go action.Update e h = absurd (never h)
+    go _ e h = absurd (never h)
 
 eight_least : (c : Bool) (n : ℕ) → 8 ≤ (if c then 8 else 8 + n)
 eight_least true n = omega arith
@@ -48,22 +40,24 @@ eight_least false n = omega arith
 equal_le : (x y : ℕ) → x ≡ y → x ≤ y
 equal_le x y e = omega arith
 
-not_short : (n : ℕ) → 8 ≤ n → nat_lt n 8 ≡ false
-not_short n h = grind (arith, nat_tests)
+-- the count bytes give the lengths, whatever comes behind them
+pub record SameCount (b more : List ℕ) : Type 0 where
+  pub short : nat_lt (length (b ++ more)) 8 ≡ false
+  pub key : key_length (b ++ more) ≡ key_length b
+  pub bytes : data_length (b ++ more) ≡ data_length b
+
+pub same_count : (b more : List ℕ) → 8 ≤ length b → SameCount b more
+same_count b more long =
+    let sum : length (b ++ more) ≡ length b + length more = length-append b more in
+    let six : slice_index (b ++ more) 6 ≡ slice_index b 6 = get_or_append_left b more 0 6 (omega arith) in
+    let seven : slice_index (b ++ more) 7 ≡ slice_index b 7 = get_or_append_left b more 0 7 (omega arith) in
+    record { short = grind (arith, nat_tests); key = get_or_append_left b more 0 5 (omega arith); bytes = rw (six, seven) refl }
 
 -- the length of a formatting write is 8, until the count area gives it, which later bytes do not change
 format_stays : (g : Geometry) (t : Sighted) (o : Opened) (b more : List ℕ) → nat_lt (length b) 8 ≡ false → format_length g t o b ≡ format_length g t o (b ++ more)
 format_stays g t o b more k =
-    let long : 8 ≤ length b = grind (arith, nat_tests) in
-    let sum : length (b ++ more) ≡ length b + length more = length-append b more in
-    let still : nat_lt (length (b ++ more)) 8 ≡ false = not_short (length (b ++ more)) (omega arith) in
-    let five : slice_index (b ++ more) 5 ≡ slice_index b 5 = get_or_append_left b more 0 5 (omega arith) in
-    let six : slice_index (b ++ more) 6 ≡ slice_index b 6 = get_or_append_left b more 0 6 (omega arith) in
-    let seven : slice_index (b ++ more) 7 ≡ slice_index b 7 = get_or_append_left b more 0 7 (omega arith) in
-    let told : data_length (b ++ more) ≡ data_length b = rw (six, seven) refl in
-    ap (λ s. if s || not (new_record_fits g t o b) then 8 else 8 + body_length b) (k ∙ sym still)
-    ∙ ap (λ n. if nat_lt (length (b ++ more)) 8 || not (has_room g.model (kept t o.area) n (data_length b)) then 8 else 8 + (n + data_length b)) (sym five)
-    ∙ ap (λ n. if nat_lt (length (b ++ more)) 8 || not (has_room g.model (kept t o.area) (key_length (b ++ more)) n) then 8 else 8 + (key_length (b ++ more) + n)) (sym told)
+    let s = same_count b more (grind (arith, nat_tests)) in
+    rw (k, s.short, s.key, s.bytes) refl
 
 format_eight : (g : Geometry) (t : Sighted) (o : Opened) (b : List ℕ) → nat_lt (length b) 8 ≡ true → format_length g t o b ≡ 8
 format_eight g t o b k = ap (λ s. if s || not (new_record_fits g t o b) then 8 else 8 + body_length b) k

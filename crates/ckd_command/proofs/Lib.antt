@@ -3,3 +3,5 @@ pub mod Arms
 pub mod Marks
 pub mod Stable
 pub mod Lengths
+pub mod Sights
+pub mod Closings

@@ -6,7 +6,7 @@ use Rattle.ckd_command.specs.declared.registers.Mark.{Mark}
 use Rattle.ckd_command.specs.declared.registers.Mark.TheVariants.{Saved, Written, Lost}
 use Rattle.ckd_command.specs.declared.registers.Registers.{Registers}
 use Rattle.ckd_command.specs.declared.tables.Aim.{Aim}
-use Rattle.ckd_command.specs.declared.tables.Aim.TheVariants.{NoArea, Next, Credited}
+use Rattle.ckd_command.specs.declared.tables.Aim.TheVariants.{Next}
 use Rattle.ckd_command.specs.declared.begin.Opened.{Opened}
 use Rattle.ckd_command.specs.Answers.{Beginning, Sight}
 use Rattle.ckd_command.specs.Answers as answer
@@ -39,11 +39,8 @@ by_save : {A : Type 0} (P : A → Type 0) (f : Option Fault) (s : State) (fails 
 by_save P f s fails goes h k = go f s.mark refl
   where
     go : (f : Option Fault) (m : Mark) → s.mark ≡ m → P (saving (left_by f m) s fails goes)
-    go None m e = h
-    go (Some LoadFails) m e = h
-    go (Some (SaveFails left)) Saved e = h
-    go (Some (SaveFails left)) Lost e = h
     go (Some (SaveFails left)) Written e = k left e
+    go _ _ e = h
 
 -- and without a fault
 by_save_alone : {A : Type 0} (P : A → Type 0) (s : State) (fails : State → A) (goes : A) → P goes → P (moving_off None s fails goes)
@@ -98,14 +95,7 @@ look_traces f o e = go f (aim o.opened.command) _
 
     go : (f : Option Fault) (a : Aim) (s : Sight) → LookTraces o.state (look_for f o a s)
     go (Some LoadFails) (Next kind) s = same_mark o.state _ e
-    go (Some (SaveFails left)) (Next kind) s = at (Some (SaveFails left)) s
-    go None (Next kind) s = at None s
-    go (Some LoadFails) NoArea s = at (Some LoadFails) s
-    go (Some (SaveFails left)) NoArea s = at (Some (SaveFails left)) s
-    go None NoArea s = at None s
-    go (Some LoadFails) Credited s = at (Some LoadFails) s
-    go (Some (SaveFails left)) Credited s = at (Some (SaveFails left)) s
-    go None Credited s = at None s
+    go f _ s = at f s
 
 -- nothing is lost where the area is found
 abbrev pub LookFinds : AfterLook → Type 0
@@ -124,14 +114,7 @@ look_finds f o e = go f (aim o.opened.command) _
 
     go : (f : Option Fault) (a : Aim) (s : Sight) → LookFinds (look_for f o a s)
     go (Some LoadFails) (Next kind) s = tt
-    go (Some (SaveFails left)) (Next kind) s = at (Some (SaveFails left)) s
-    go None (Next kind) s = at None s
-    go (Some LoadFails) NoArea s = at (Some LoadFails) s
-    go (Some (SaveFails left)) NoArea s = at (Some (SaveFails left)) s
-    go None NoArea s = at None s
-    go (Some LoadFails) Credited s = at (Some LoadFails) s
-    go (Some (SaveFails left)) Credited s = at (Some (SaveFails left)) s
-    go None Credited s = at None s
+    go f _ s = at f s
 
 -- a command that is closed loses what was written before, and what it writes it writes without a fault too
 pub record CloseTraces (before alone after : State) : Type 0 where
@@ -215,9 +198,7 @@ look_calm Q o h = go (aim o.opened.command) _ (sight_silent o.state.volume.geome
     at (answer.Missed r) k = calm_registers Q o.state r h k
 
     go : (a : Aim) (s : Sight) → SightSilent o.state.registers s → LookCalm Q (look_for None o a s)
-    go (Next kind) s k = at s k
-    go NoArea s k = at s k
-    go Credited s k = at s k
+    go _ s k = at s k
 
 pub close_calm : (Q : Type 0) (o : Open) (b : List ℕ) → Calm Q (state_of o) → Calm Q (close None o b).state
 close_calm Q o b h = go (closing_of o b) (closing_of o b).moves_off (closing_facts _ _ _ _ b).not_told

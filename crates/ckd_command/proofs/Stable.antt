@@ -2,7 +2,6 @@
 -- is still written, so that none was saved.
 use Rattle.std.proofs.Common.{◌≡◌, refl, sym, ap, subst, ◌∙◌, true, false, Bool, List, ℕ, Option, Some, None}
 use Rattle.ckd_command.specs.declared.tables.Aim.{Aim}
-use Rattle.ckd_command.specs.declared.tables.Aim.TheVariants.{NoArea, Next, Credited}
 use Rattle.ckd_command.specs.declared.begin.Opened.{Opened}
 use Rattle.ckd_command.specs.Answers.{Beginning, Sight}
 use Rattle.ckd_command.specs.Answers as answer
@@ -35,24 +34,20 @@ moves_arm (answer.ToCylinderZero r o) = true
 moves_arm b = false
 
 begun_moved : (f : Option Fault) (s : State) (b : Beginning) → moves_arm b ≡ true → is_written (begun_state (begun f s b)) ≡ false
-begun_moved f s (answer.Rejected r) h = never h
-begun_moved f s (answer.Immediate r) h = never h
-begun_moved f s (answer.Started r o) h = never h
 begun_moved f s (answer.ToCylinderZero r o) h =
     left_behind (λ b. is_written (begun_state b) ≡ false) f (with_registers s r) Rejected (at_cylinder_zero s r o) (at_zero o) (λ left. refl)
   where
     at_zero : (o : Option Opened) → is_written (begun_state (at_cylinder_zero s r o)) ≡ false
     at_zero None = refl
     at_zero (Some o) = refl
+begun_moved f s _ h = never h
 
 pub begin_moved : (f : Option Fault) (code : ℕ) (s : State) → moves_arm (commands.beginning code s.registers) ≡ true → is_written (begun_state (begin f code s)) ≡ false
 begin_moved f code s h = begun_moved f s (commands.beginning code s.registers) h
 
 begun_stable : (s : State) (b : Beginning) (left : List ℕ) → is_written (begun_state (begun None s b)) ≡ true → begun (Some (SaveFails left)) s b ≡ begun None s b
-begun_stable s (answer.Rejected r) left h = refl
-begun_stable s (answer.Immediate r) left h = refl
-begun_stable s (answer.Started r o) left h = refl
 begun_stable s (answer.ToCylinderZero r o) left h = never (sym (begun_moved None s (answer.ToCylinderZero r o) refl) ∙ h)
+begun_stable s _ left h = refl
 
 pub begin_stable : (code : ℕ) (s : State) (left : List ℕ) (b : AfterBegin) → begin None code s ≡ b → is_written (begun_state b) ≡ true → begin (Some (SaveFails left)) code s ≡ b
 begin_stable code s left b e h =
@@ -65,15 +60,11 @@ NotPassed (Passed o) = ⊥
 NotPassed _ = Unit {0}
 
 looked_stable : (left : List ℕ) (o : Open) (s : Sight) → NotPassed (looked None o s) → looked (Some (SaveFails left)) o s ≡ looked None o s
-looked_stable left o (answer.Found opened) h = refl
-looked_stable left o (answer.IndexPassed r) h = refl
 looked_stable left o (answer.NextHead r) h = absurd h
-looked_stable left o (answer.Missed r) h = refl
+looked_stable left o _ h = refl
 
 look_for_stable : (left : List ℕ) (o : Open) (a : Aim) (s : Sight) → NotPassed (look_for None o a s) → look_for (Some (SaveFails left)) o a s ≡ look_for None o a s
-look_for_stable left o (Next kind) s h = looked_stable left o s h
-look_for_stable left o NoArea s h = looked_stable left o s h
-look_for_stable left o Credited s h = looked_stable left o s h
+look_for_stable left o _ s h = looked_stable left o s h
 
 pub look_stable : (left : List ℕ) (o : Open) (l : AfterLook) → look None o ≡ l → NotPassed l → look (Some (SaveFails left)) o ≡ l
 look_stable left o l e h = look_for_stable left o (aim o.opened.command) _ (subst NotPassed (sym e) h) ∙ e

@@ -1,21 +1,10 @@
 -- How often a call uses the store.
-use Rattle.std.proofs.Common.{◌≡◌, ◌∙◌, inl, inr, ap, sym, refl, ℕ, ◌+◌, List, Bool, true, false, ◌||◌, ◌&&◌, arith}
+use Rattle.std.proofs.Common.{◌≡◌, ◌∙◌, inl, inr, ap, sym, refl, ℕ, ◌+◌, List, Bool, true, false, ◌||◌, arith}
+use Rattle.std.proofs.Math.Bool.{or-false}
 use Rattle.ckd_cache.specs.Cache.{CacheState, saved, after_save, after_failed_save, after_failed_hold}
 use Rattle.ckd_command.specs.Drive.{is_written_by}
 use Rattle.ckd_drive.specs.Work.{DriveState, CallsStore}
 use Rattle.ckd_drive.specs.Invariant.{Stands, is_filled, Parts}
-
-pub or_false : (b : Bool) → (b || false) ≡ b
-or_false true = refl
-or_false false = refl
-
-pub and_false : (b : Bool) → (b && false) ≡ false
-and_false true = refl
-and_false false = refl
-
-pub and_true : (b : Bool) → (b && true) ≡ b
-and_true true = refl
-and_true false = refl
 
 pub no_more : (n : ℕ) → n ≡ n + 1 → ⊥
 no_more n e = omega (arith, e)
@@ -23,7 +12,7 @@ no_more n e = omega (arith, e)
 -- where no command half done has changed the slot at hand, it is changed just where its track is written
 pub changed_is : (parts : Parts)
     → Stands parts → is_filled parts.stage ≡ false → parts.cache.changed ≡ is_written_by parts.mark
-changed_is parts x f = (let marked : parts.cache.changed ≡ (is_written_by parts.mark || false) = rw f at x.marked in marked ∙ or_false (is_written_by parts.mark))
+changed_is parts x f = (let marked : parts.cache.changed ≡ (is_written_by parts.mark || false) = rw f at x.marked in marked ∙ or-false (is_written_by parts.mark))
 
 pub loads_saved : (c : CacheState) → (after_save c).image.loads ≡ c.image.loads
 loads_saved c = elim c.changed as (λ b. (saved c.image c.slots b).loads ≡ c.image.loads) [ true ↦ refl | false ↦ refl ]

@@ -1,82 +1,67 @@
 -- How commands end.
-use Rattle.std.proofs.Common.{◌≡◌, ◌∙◌, ap, sym, subst, refl, ℕ, ◌+◌, ◌<◌, List, [], ◌∷◌, ◌++◌, Bool, true, false, ◌&&◌, ◌||◌, ◌==◌, nat_lt, if◌then◌else◌, Option, Some, None, unwrap_or, length, take, set-set, get_or-set_same, slice_index_or, slice_set, slice_range, append-nil, length-drop, bytes_eq, arith}
+use Rattle.std.proofs.Common.{◌≡◌, ◌∙◌, ap, sym, refl, ℕ, ◌+◌, ◌<◌, List, [], ◌∷◌, ◌++◌, Bool, true, false, ◌&&◌, ◌||◌, ◌==◌, nat_lt, if◌then◌else◌, Option, Some, None, length, take, set-set, get_or-set_same, slice_set, slice_range, append-nil, length-drop, bytes_eq, arith}
 use Rattle.std.proofs.lemmas.List.{set-get_or}
+use Rattle.std.proofs.lemmas.Bool.{and_parts, cond_both, ltb-true}
 use Rattle.std.proofs.lemmas.Bool.Decides.{nat_tests}
+use Rattle.std.proofs.Math.Bool.{and-true, and-false}
 use Rattle.ckd_track.specs.Track.{Track, track_of, slot_of}
 use Rattle.ckd_track.specs.Model.{heads_of}
 use Rattle.ckd_track.specs.declared.geometries.Geometry.{Geometry}
 use Rattle.ckd_command.specs.declared.registers.Registers.{Registers}
 use Rattle.ckd_command.specs.declared.registers.Credit.{Credit}
 use Rattle.ckd_command.specs.declared.registers.Mark.{Mark}
-use Rattle.ckd_command.specs.declared.registers.Mark.TheVariants.{Saved, Written, Lost}
+use Rattle.ckd_command.specs.declared.registers.Mark.TheVariants.{Saved, Lost}
 use Rattle.ckd_command.specs.declared.tables.Action.{Action}
 use Rattle.ckd_command.specs.declared.tables.Action.TheVariants as action
 use Rattle.ckd_command.specs.declared.begin.Opened.{Opened}
 use Rattle.ckd_command.specs.Answers.{CommandEnd}
 use Rattle.ckd_slot.specs.declared.windows.Window.{Window}
-use Rattle.ckd_drive.specs.Transfers.{Transfer, Sense, Field, Read, Search, Fill, Filled, Progress}
-use Rattle.ckd_drive.specs.Stage.{Idle, Passing}
+use Rattle.ckd_drive.specs.declared.transfer.Transfer.{Transfer}
+use Rattle.ckd_drive.specs.declared.transfer.Transfer.TheVariants.{Field, Search, Filled}
+use Rattle.ckd_drive.specs.Stage.{Progress, Idle, Passing}
 use Rattle.ckd_command.specs.Tables.{action_of}
 use Rattle.ckd_position.specs.Contents.{Sighted}
-use Rattle.ckd_command.specs.Commands.{Closing, IsAtTrack, area_bytes, closing, close_by, command_end, search_ends, area_ends, own_home_address, new_record_fits, number as number_of}
-use Rattle.ckd_cache.specs.Cache.{CacheState, IsVolume, after_save, after_failed_save}
-use Rattle.ckd_drive.specs.Invariant.{Stands, mark_left, HasFilled, state_of, IsPlaced, IsField, CreditIs, AtHand, command_end_at, field_ends, seen_by, slot_at, track_under, is_filled, is_filled_by, kept, Parts, parts_of, track_in_reach, AtWork, geometry_in, number_in, slot_in, closing_in, work_in}
+use Rattle.ckd_command.specs.Commands.{Closing, IsAtTrack, area_bytes, closing, close_by, command_end, search_ends, own_home_address, new_record_fits, number as number_of, whole_field, at_end}
+use Rattle.ckd_cache.specs.Cache.{CacheState, after_save, after_failed_save}
+use Rattle.ckd_drive.specs.Invariant.{Stands, mark_left, HasFilled, state_of, IsPlaced, IsField, CreditIs, AtHand, command_end_at, field_ends, seen_by, track_under, is_filled, is_filled_by, Kept, kept, Parts, parts_of, track_in_reach, AtWork, geometry_in, number_in, slot_in, closing_in, work_in, closes_by}
 use Rattle.ckd_command.specs.Drive.{closed_staying, SaveFails, is_written_by}
-use Rattle.ckd_drive.specs.Work.{DriveState, CallsStore, closed_of, ending_of, after_end, end_saves, fault_met, with_image}
+use Rattle.ckd_command.specs.declared.close.DriveEnding.{DriveEnding}
+use Rattle.ckd_drive.specs.declared.transfer.Written.{Written}
+use Rattle.ckd_drive.specs.declared.transfer.Written.TheVariants as written
+use Rattle.ckd_drive.specs.Work.{DriveState, CallsStore, closed_of, ending_of, after_end, end_saves, failed_ending, fault_met, with_image}
 use Rattle.ckd_image.specs.Image.{ImageState}
-use Rattle.ckd_drive.proofs.Calls.{changed_is, and_true, and_false, calls_none, calls_of_save, calls_of_failed_save}
-use Rattle.ckd_drive.proofs.Torn.{torn_whole}
-use Rattle.ckd_drive.proofs.Faults.{fault_none, fault_saving, mark_written, failed_left, lost_registers}
-use Rattle.ckd_drive.proofs.Standing.{no_credit, geometry_saved, failures_saved, volume_saved}
-use Rattle.ckd_drive.proofs.Numbers.{number_there}
-use Rattle.ckd_drive.proofs.Looks.{seen_track, goes_of, no_filled_seen}
-use Rattle.ckd_drive.proofs.First.{closing_by, sense_outcome}
-
--- the track that the definitions see under the arm
-
-is_some_not : (t : Track) → Some t ≡ None → ⊥
-is_some_not t e = cc
+use Rattle.ckd_drive.proofs.Calls.{changed_is, calls_none, calls_of_save, calls_of_failed_save}
+use Rattle.ckd_drive.specs.Calls.{Ends, Leaves, Loses}
+use Rattle.ckd_drive.proofs.Reported.{end_reports}
+use Rattle.ckd_drive.proofs.Faults.{fault_none, lost_registers, save_lost}
+use Rattle.ckd_drive.proofs.Standing.{no_credit, geometry_saved, failures_saved, saved_stands, lost_stands, seen_track, goes_of, no_filled_seen, number_there}
+use Rattle.ckd_command.proofs.Closings.{closing_by}
 
 -- of three tests the last one leads to a track that is written
 three : (x y z : Bool) (p q s k : Closing) → (if x then p else (if y then q else (if z then s else k))).written ≡ None → (z ≡ true → s.written ≡ None → ⊥)
     → (if x then p else (if y then q else (if z then s else k))) ≡ (if x then p else (if y then q else k))
-three true y z p q s k w n = refl
-three false true z p q s k w n = refl
 three false false true p q s k w n = absurd (n refl w)
-three false false false p q s k w n = refl
+three _ _ _ p q s k w n = refl
 
 field_closes : (a : Action) (g : Geometry) (t : Sighted) (o : Opened) (r : Registers) (b : List ℕ) → IsField a → (close_by a g t o r b).written ≡ None → close_by a g t o r b ≡ field_ends a g o r b
 field_closes action.SeekCylinderAndHead g t o r b f w = refl
 field_closes action.SeekHead g t o r b f w = refl
 field_closes action.SetFileMask g t o r b f w = refl
-field_closes action.WriteHomeAddress g t o r b f w = three (length b == 0) (nat_lt (length b) 5) (bytes_eq b (own_home_address r)) _ _ _ _ w (λ e. λ x. is_some_not _ x)
-field_closes action.Format g t o r b f w = three (length b == 0) (nat_lt (length b) 8) (new_record_fits g t o b) _ _ _ _ w (λ e. λ x. is_some_not _ x)
-field_closes action.NoTransfer g t o r b f w = absurd f
-field_closes action.GiveSense g t o r b f w = absurd f
-field_closes action.Search g t o r b f w = absurd f
-field_closes action.Read g t o r b f w = absurd f
-field_closes action.Update g t o r b f w = absurd f
+field_closes action.WriteHomeAddress g t o r b f w = three (length b == 0) (nat_lt (length b) 5) (bytes_eq b (own_home_address r)) _ _ _ _ w (λ e x. cc)
+field_closes action.Format g t o r b f w = three (length b == 0) (nat_lt (length b) 8) (new_record_fits g t o b) _ _ _ _ w (λ e x. cc)
+field_closes _ g t o r b f w = absurd f
 
 search_unwritten : (o : Opened) (r : Registers) (a b : Bool) → (search_ends o r a b).written ≡ None
 search_unwritten o r true b = refl
 search_unwritten o r false b = refl
 
-pub seen_filled : (c : CacheState) (n : ℕ) (before : List ℕ) → n < length c.slots → slot_at (slice_set c.slots n before) n ≡ before
-seen_filled c n before lt = get_or-set_same c.slots n before [] lt
-
-whole_same : (m l n : ℕ) → n ≡ m + l → (m == n) ≡ (l == 0)
-whole_same m l n e = grind (arith, nat_tests, e)
-
 -- how a command closes is known by its place
 pub command_end_is : (job : AtWork) (p : Transfer) (moved : ℕ)
     → number_in job < length job.cache.slots → IsPlaced job p → length job.passed ≡ moved → command_end (closing_in job (seen_track job p)) ≡ command_end_at (geometry_in job) job.registers job.opened moved p
-command_end_is job (Sense b u) moved lt x m = x.2.so
-command_end_is job (Read w u) moved lt x m = x.2.so
-command_end_is job (Fill w u) moved lt x m = x.2.so
 command_end_is job (Filled w u) moved lt x m =
     let k = x.filled.closes [] (omega arith) in
     let same : job.passed ++ [] ≡ job.passed = append-nil job.passed in
-    rw (seen_filled job.cache (number_in job) job.before lt) (rw same at k.so)
+    rw (get_or-set_same job.cache.slots (number_in job) job.before [] lt) (rw same at k.so)
 command_end_is job (Field f) moved lt x m =
     let t = track_of (slot_in job) in
     let a = action_of job.opened.command in
@@ -89,40 +74,35 @@ command_end_is job (Search w so_far) moved lt x m =
     let area = area_bytes t job.opened job.registers in
     let is = closing_by action.Search (geometry_in job) t job.opened job.registers job.passed x.0.is_search in
     let size : length area ≡ length job.passed + w.len = omega (arith, x.0.lies.size, length-drop (length job.passed) area, x.0.room) in
-    let whole : (length job.passed == length area) ≡ (w.len == 0) = whole_same (length job.passed) w.len (length area) size in
+    let whole : (length job.passed == length area) ≡ (w.len == 0) = grind (arith, nat_tests, size) in
     ap command_end is ∙ rw (whole, x.0.compared, m) refl
+command_end_is job _ moved lt x m = x.2.so
 
 pub unwritten_is : (job : AtWork) (p : Transfer)
     → IsPlaced job p → is_filled_by p ≡ false → (closing_in job (seen_track job p)).written ≡ None
-unwritten_is job (Sense b u) x f = x.2.unwritten
-unwritten_is job (Read w u) x f = x.2.unwritten
-unwritten_is job (Fill w u) x f = x.2.unwritten
 unwritten_is job (Filled w u) x f = absurd cc
 unwritten_is job (Field y) x f = x.2
 unwritten_is job (Search w so_far) x f =
     ap (λ (k : Closing). k.written) (closing_by action.Search (geometry_in job) (track_of (slot_in job)) job.opened job.registers job.passed x.0.is_search) ∙ search_unwritten job.opened job.registers _ _
+unwritten_is job _ x f = x.2.unwritten
 
 -- The state that is left.
 
 -- a track that was written is in its place
-written_there : (job : AtWork) (w : Window) (u : CommandEnd) → number_in job < length job.cache.slots → HasFilled job w u
+written_there : (job : AtWork) (w : Window) (u : Written) → number_in job < length job.cache.slots → HasFilled job w u
     → (t : Track) × ((closing_in job (seen_track job (Filled w u))).written ≡ Some t) × (slice_set (slice_set job.cache.slots (number_in job) job.before) (number_in job) (slot_of (geometry_in job).track_size t) ≡ job.cache.slots)
 written_there job w u lt x =
     let k = x.filled.closes [] (omega arith) in
     let same : job.passed ++ [] ≡ job.passed = append-nil job.passed in
     let slot : slot_of (geometry_in job).track_size k.track ≡ slot_in job = k.slot_is ∙ rw same (sym x.slot_is) in
-    (k.track, rw (seen_filled job.cache (number_in job) job.before lt) (rw same at k.written), rw (slot, set-set job.cache.slots (number_in job) job.before (slot_in job)) (set-get_or job.cache.slots (number_in job) []))
+    (k.track, rw (get_or-set_same job.cache.slots (number_in job) job.before [] lt) (rw same at k.written), rw (slot, set-set job.cache.slots (number_in job) job.before (slot_in job)) (set-get_or job.cache.slots (number_in job) []))
 
 pub staying : (job : AtWork) (m : Mark) (p : Transfer) (u : CommandEnd)
     → number_in job < length job.cache.slots → IsPlaced job p → command_end (closing_in job (seen_track job p)) ≡ u
     → closed_staying (record { volume = record { geometry = geometry_in job; slots = seen_by job.cache.slots (number_in job) job.before p }; registers = job.registers; mark = m }) (closing_in job (seen_track job p))
     ≡ record { state = record { volume = record { geometry = geometry_in job; slots = job.cache.slots }; registers = u.registers; mark = mark_left p m }; unit = u.ending.unit; motion = u.ending.motion }
 staying job m (Filled w v) u lt x out = (let there = written_there job w v lt x in rw (there.1, there.2, ← out) refl)
-staying job m (Sense b v) u lt x out = rw (unwritten_is job (Sense b v) x refl, ← out) refl
-staying job m (Field f) u lt x out = rw (unwritten_is job (Field f) x refl, ← out) refl
-staying job m (Read w v) u lt x out = rw (unwritten_is job (Read w v) x refl, ← out) refl
-staying job m (Search w v) u lt x out = rw (unwritten_is job (Search w v) x refl, ← out) refl
-staying job m (Fill w v) u lt x out = rw (unwritten_is job (Fill w v) x refl, ← out) refl
+staying job m p u lt x out = rw (unwritten_is job p x refl, ← out) refl
 
 -- A drive stands while the bytes of a command pass, which would close so.
 pub record Closes (parts : Parts) (p : Progress) (now : DriveState) (u : CommandEnd) : Type 0 where
@@ -154,6 +134,7 @@ any_credit : (c : CacheState) (n : ℕ) (k : Option Credit) → AtHand c n → C
 any_credit c n None h = tt
 any_credit c n (Some k) h = h
 
+-- an end that stays, by each register that counts: the ends of a command are terms of many forms
 lands_plain : (c : CacheState) (g : Geometry) (n : ℕ) (r : Registers) (u : CommandEnd) → u.moves_off ≡ false → u.registers.cylinder ≡ r.cylinder → u.registers.head ≡ r.head → u.registers.credit ≡ r.credit → r.credit ≡ None → Lands c g n r u
 lands_plain c g n r u off cy he cr none = record { stays = λ _. (cy, he, no_credit c u.registers n (cr ∙ none)); moves = λ e. absurd cc }
 
@@ -161,76 +142,53 @@ lands_search : (c : CacheState) (g : Geometry) (n : ℕ) (r : Registers) (o : Op
 lands_search c g n r o true b h none = record { stays = λ _. (refl, refl, any_credit c n _ h); moves = λ e. absurd cc }
 lands_search c g n r o false b h none = lands_plain c g n r _ refl refl refl refl none
 
-of_field : (P : Closing → Type 0) (a b : Bool) (x y z : Closing) → P x → P y → P z → P (if a then x else (if b then y else z))
-of_field P true b x y z p q s = p
-of_field P false true x y z p q s = q
-of_field P false false x y z p q s = s
+-- a field that must come whole moves nothing, unless it is whole
+lands_whole : (c : CacheState) (g : Geometry) (n : ℕ) (r q : Registers) (b : List ℕ) (size : ℕ) (k : Closing)
+    → r.credit ≡ None → q.cylinder ≡ r.cylinder → q.head ≡ r.head → q.credit ≡ r.credit → Lands c g n r (command_end k) → Lands c g n r (command_end (whole_field q b size k))
+lands_whole c g n r q b size k none cy he cr l =
+    let P : Closing → Type 0 = λ x. Lands c g n r (command_end x) in
+    cond_both (length b == 0) _ _ P (λ _. lands_plain c g n r _ refl cy he cr none) (λ _. cond_both (nat_lt (length b) size) _ _ P (λ _. lands_plain c g n r _ refl cy he cr none) (λ _. l))
 
-of_test : (P : Closing → Type 0) (a : Bool) (x y : Closing) → (a ≡ true → P x) → P y → P (if a then x else y)
-of_test P true x y p q = p refl
-of_test P false x y p q = q
-
-tests_hold : (a b c : Bool) → (a && b && c) ≡ true → (b ≡ true) × (c ≡ true)
-tests_hold true true true e = (refl, refl)
-tests_hold true true false e = absurd cc
-tests_hold true false c e = absurd cc
-tests_hold false b c e = absurd cc
-
-below_by : (a b : ℕ) → nat_lt a b ≡ true → a < b
-below_by a b e = grind (arith, nat_tests, e)
-
+-- how a field ends, by its action, over any bytes of it
 lands_field : (c : CacheState) (g : Geometry) (n : ℕ) (r : Registers) (o : Opened) (a : Action) (b : List ℕ) → r.credit ≡ None → IsAtTrack g r → IsField a → Lands c g n r (command_end (field_ends a g o r b))
 lands_field c g n r o action.SeekCylinderAndHead b none at f =
-    let P : Closing → Type 0 = λ k. Lands c g n r (command_end k) in
     let cylinder = number_of (slice_range b 2 4) in
     let head = number_of (slice_range b 4 6) in
-    let in_range = number_of (take 2 b) == 0 && nat_lt cylinder g.cylinders && nat_lt head (heads_of g.model) in
-    of_field P (length b == 0) (nat_lt (length b) 6) _ _ _ (lands_plain c g n r _ refl refl refl refl none) (lands_plain c g n r _ refl refl refl refl none)
-    (of_test P in_range _ _
-    (λ e. (let t = tests_hold (number_of (take 2 b) == 0) (nat_lt cylinder g.cylinders) (nat_lt head (heads_of g.model)) e in
-    record { stays = λ x. absurd cc; moves = λ x. (record { cylinder = below_by cylinder g.cylinders t.0; head = below_by head (heads_of g.model) t.1 }, none) }))
-    (lands_plain c g n r _ refl refl refl refl none))
+    lands_whole c g n r r b 6 _ none refl refl refl (cond_both (number_of (take 2 b) == 0 && nat_lt cylinder g.cylinders && nat_lt head (heads_of g.model)) _ _ (λ k. Lands c g n r (command_end k))
+    (λ e. (let t = and_parts (number_of (take 2 b) == 0 && nat_lt cylinder g.cylinders) (nat_lt head (heads_of g.model)) e in
+    let within = ltb-true cylinder g.cylinders (and_parts (number_of (take 2 b) == 0) (nat_lt cylinder g.cylinders) t.0).1 in
+    record { stays = λ x. absurd cc; moves = λ x. (record { cylinder = within; head = ltb-true head (heads_of g.model) t.1 }, none) }))
+    (λ _. lands_plain c g n r _ refl refl refl refl none))
 lands_field c g n r o action.SeekHead b none at f =
-    let P : Closing → Type 0 = λ k. Lands c g n r (command_end k) in
     let head = number_of (slice_range b 4 6) in
-    of_field P (length b == 0) (nat_lt (length b) 6) _ _ _ (lands_plain c g n r _ refl refl refl refl none) (lands_plain c g n r _ refl refl refl refl none)
-    (of_test P (nat_lt head (heads_of g.model)) _ _
-    (λ e. record { stays = λ x. absurd cc; moves = λ x. (record { cylinder = at.cylinder; head = below_by head (heads_of g.model) e }, none) })
-    (lands_plain c g n r _ refl refl refl refl none))
+    lands_whole c g n r r b 6 _ none refl refl refl (cond_both (nat_lt head (heads_of g.model)) _ _ (λ k. Lands c g n r (command_end k))
+    (λ e. record { stays = λ x. absurd cc; moves = λ x. (record { cylinder = at.cylinder; head = ltb-true head (heads_of g.model) e }, none) })
+    (λ _. lands_plain c g n r _ refl refl refl refl none))
 lands_field c g n r o action.SetFileMask [] none at f = lands_plain c g n r _ refl refl refl refl none
 lands_field c g n r o action.SetFileMask (x ∷ b) none at f = lands_plain c g n r _ refl refl refl refl none
-lands_field c g n r o action.WriteHomeAddress b none at f =
-    of_field (λ k. Lands c g n r (command_end k)) (length b == 0) (nat_lt (length b) 5) _ _ _ (lands_plain c g n r _ refl refl refl refl none) (lands_plain c g n r _ refl refl refl refl none) (lands_plain c g n r _ refl refl refl refl none)
-lands_field c g n r o action.Format b none at f =
-    of_field (λ k. Lands c g n r (command_end k)) (length b == 0) (nat_lt (length b) 8) _ _ _ (lands_plain c g n r _ refl refl refl refl none) (lands_plain c g n r _ refl refl refl refl none) (lands_plain c g n r _ refl refl refl refl none)
-lands_field c g n r o action.NoTransfer b none at f = absurd f
-lands_field c g n r o action.GiveSense b none at f = absurd f
-lands_field c g n r o action.Search b none at f = absurd f
-lands_field c g n r o action.Read b none at f = absurd f
-lands_field c g n r o action.Update b none at f = absurd f
+lands_field c g n r o action.WriteHomeAddress b none at f = lands_whole c g n r (at_end o r) b 5 _ none refl refl refl (lands_plain c g n r _ refl refl refl refl none)
+lands_field c g n r o action.Format b none at f = lands_whole c g n r r b 8 _ none refl refl refl (lands_plain c g n r _ refl refl refl refl none)
+lands_field c g n r o _ b none at f = absurd f
 
-lands_area : (c : CacheState) (g : Geometry) (n : ℕ) (r : Registers) (o : Opened) (b : Bool) (u : CommandEnd) → command_end (area_ends o r b) ≡ u → r.credit ≡ None → Lands c g n r u
-lands_area c g n r o b u e none = (let P : CommandEnd → Type 0 = λ x. Lands c g n r x in subst P e (lands_plain c g n r _ refl refl refl refl none))
+lands_written : (c : CacheState) (g : Geometry) (n : ℕ) (r : Registers) (o : Opened) (what : Written) → AtHand c n → Lands c g n r (closes_by r o what)
+lands_written c g n r o (written.Area no_data) h = record { stays = λ _. (refl, refl, any_credit c n r.credit h); moves = λ e. absurd cc }
+lands_written c g n r o what h = record { stays = λ _. (refl, refl, any_credit c n (closes_by r o what).registers.credit h); moves = λ e. absurd cc }
 
 pub lands : (job : AtWork) (p : Transfer) (moved : ℕ) → IsPlaced job p → job.registers.credit ≡ None → IsAtTrack (geometry_in job) job.registers
     → Lands job.cache (geometry_in job) (number_in job) job.registers (command_end_at (geometry_in job) job.registers job.opened moved p)
-lands job (Sense b u) moved x none at = lands_area job.cache (geometry_in job) (number_in job) job.registers job.opened false u (ap command_end (sym (sense_outcome (geometry_in job) (track_of (slot_in job)) job.opened job.registers job.passed x.0.is_sense)) ∙ x.2.so) none
-lands job (Read w u) moved x none at = lands_area job.cache (geometry_in job) (number_in job) job.registers job.opened _ u (ap command_end (sym (closing_by action.Read (geometry_in job) (track_of (slot_in job)) job.opened job.registers job.passed x.0.is_read)) ∙ x.2.so) none
-lands job (Fill w u) moved x none at =
-    let nothing : job.passed ≡ [] = x.0.none in
-    lands_area job.cache (geometry_in job) (number_in job) job.registers job.opened _ u (ap command_end (sym (closing_by action.Update (geometry_in job) (track_of (slot_in job)) job.opened job.registers [] x.0.is_update)) ∙ rw nothing at x.2.so) none
-lands job (Filled w u) moved x none at = record { stays = λ _. (x.cylinder, x.head, any_credit job.cache (number_in job) _ x.at_hand); moves = λ e. absurd (let s = x.stays in cc) }
+lands job (Filled w what) moved x none at = lands_written job.cache (geometry_in job) (number_in job) job.registers job.opened what x.at_hand
 lands job (Search w so_far) moved x none at = lands_search job.cache (geometry_in job) (number_in job) job.registers job.opened _ _ x.0.at_hand none
 lands job (Field f) moved x none at = lands_field job.cache (geometry_in job) (number_in job) job.registers job.opened (action_of job.opened.command) (take moved f) none at x.0.is_field
+lands job _ moved x none at = lands_plain job.cache (geometry_in job) (number_in job) job.registers _ refl refl refl refl none
+
+written_stays : (r : Registers) (o : Opened) (what : Written) → (closes_by r o what).moves_off ≡ false
+written_stays r o (written.Area no_data) = refl
+written_stays r o _ = refl
 
 -- a command that moves the arm has written nothing
 pub moving_unfilled : (job : AtWork) (p : Transfer) (moved : ℕ) → IsPlaced job p → (command_end_at (geometry_in job) job.registers job.opened moved p).moves_off ≡ true → is_filled_by p ≡ false
-moving_unfilled job (Filled w u) moved x e = absurd (let s = x.stays in cc)
-moving_unfilled job (Sense b u) moved x e = refl
-moving_unfilled job (Read w u) moved x e = refl
-moving_unfilled job (Fill w u) moved x e = refl
-moving_unfilled job (Search w u) moved x e = refl
-moving_unfilled job (Field f) moved x e = refl
+moving_unfilled job (Filled w what) moved x e = absurd (let stays = written_stays job.registers job.opened what in cc)
+moving_unfilled job _ moved x e = refl
 
 -- what is known of a command that closes with the arm in motion
 pub record MovesOff (parts : Parts) (p : Progress) (u : CommandEnd) : Type 0 where
@@ -254,147 +212,87 @@ moves_off parts p now u e moves =
 
 -- The drive after the end.
 
-pub stays_state : (parts : Parts) (p : Progress) (now : DriveState) (u : CommandEnd)
-    → Closes parts p now u → u.moves_off ≡ false
-    → (state_of (record parts { registers = u.registers; mark = mark_left p.place parts.mark; stage = Idle }) ≡ with_image (after_end (fault_met now (state_of (record parts { registers = u.registers; mark = mark_left p.place parts.mark; stage = Idle }))) now) parts.cache.image)
-    × (u.ending ≡ ending_of (closed_of (fault_met now (state_of (record parts { registers = u.registers; mark = mark_left p.place parts.mark; stage = Idle }))) now now.work))
-stays_state parts p now u e stays =
-    let new = state_of (record parts { registers = u.registers; mark = mark_left p.place parts.mark; stage = Idle }) in
-    let image : now.image ≡ parts.cache.image = sym (ap (λ (d : DriveState). d.image) e.is) in
-    let none : fault_met now new ≡ None = fault_none now new (sym (ap (λ (i : ImageState). i.failures) image)) in
-    let closed = stays_closed parts p now u e stays in
-    (rw (none, closed) refl, rw (none, closed) refl)
-
-pub moves_state : (parts : Parts) (c' : CacheState) (p : Progress) (now : DriveState) (u : CommandEnd)
-    → Closes parts p now u → u.moves_off ≡ true → c' ≡ after_save parts.cache
-    → (state_of (parts_of (kept c' u.registers Saved) Idle parts.before parts.passed) ≡ with_image (after_end (fault_met now (state_of (parts_of (kept c' u.registers Saved) Idle parts.before parts.passed))) now) c'.image)
-    × (u.ending ≡ ending_of (closed_of (fault_met now (state_of (parts_of (kept c' u.registers Saved) Idle parts.before parts.passed))) now now.work))
-moves_state parts c' p now u e moves save =
-    let c = parts.cache in
-    let g = c.image.geometry in
-    let k = moves_off parts p now u e moves in
-    let new = state_of (parts_of (kept c' u.registers Saved) Idle parts.before parts.passed) in
-    let image : now.image ≡ c.image = sym (ap (λ (d : DriveState). d.image) e.is) in
-    let image' : c'.image.failures ≡ c.image.failures = ap (λ (d : CacheState). d.image.failures) save ∙ failures_saved c in
-    let none : fault_met now new ≡ None = fault_none now new (image' ∙ sym (ap (λ (i : ImageState). i.failures) image)) in
-    let closed : closed_of None now now.work ≡ record { state = record { volume = record { geometry = g; slots = c.slots }; registers = u.registers; mark = Saved }; unit = u.ending.unit; motion = u.ending.motion } =
-    rw (← e.is, e.passes, k.off, ← k.so, k.plain) refl in
-    let geometry : c'.image.geometry ≡ g = ap (λ (d : CacheState). d.image.geometry) save ∙ geometry_saved c in
-    let slots : c'.slots ≡ c.slots = ap (λ (d : CacheState). d.slots) save in
-    (rw (none, closed, geometry, slots) refl, rw (none, closed) refl)
-
-pub lost_state : (parts : Parts) (c' : CacheState) (p : Progress) (left : List ℕ) (now : DriveState) (u : CommandEnd)
-    → Closes parts p now u → u.moves_off ≡ true
-    → parts.cache.changed ≡ true → c' ≡ after_failed_save parts.cache left → left ≡ slice_index_or c'.image.slots (unwrap_or parts.cache.held 0) [] → length left ≡ parts.cache.image.geometry.track_size
-    → (state_of (parts_of (kept c' (lost_registers parts.registers) Lost) Idle parts.before parts.passed) ≡ with_image (after_end (fault_met now (state_of (parts_of (kept c' (lost_registers parts.registers) Lost) Idle parts.before parts.passed))) now) c'.image)
-    × (closed_of (fault_met now (state_of (parts_of (kept c' (lost_registers parts.registers) Lost) Idle parts.before parts.passed))) now now.work ≡ record { state = (state_of (parts_of (kept c' (lost_registers parts.registers) Lost) Idle parts.before parts.passed)).state; unit = record { 0 = 0x0E }; motion = false })
-lost_state parts c' p left now u e moves changed failed there size =
-    let c = parts.cache in
-    let g = c.image.geometry in
-    let n : ℕ = track_under g parts.registers in
-    let k = moves_off parts p now u e moves in
-    let held : c.held ≡ Some n = e.stands.anchored changed in
-    let written : parts.mark ≡ Written = mark_written parts.mark (sym (changed_is parts e.stands k.unfilled) ∙ changed) in
-    let there' : left ≡ slice_index_or (after_failed_save c left).image.slots (unwrap_or c.held 0) [] = there ∙ ap (λ (d : CacheState). slice_index_or d.image.slots (unwrap_or c.held 0) []) failed in
-    let at = failed_left c n left held there' in
-    let whole = torn_whole c n left e.stands.volume (number_there parts e.stands) size in
-    let new = state_of (parts_of (kept (after_failed_save c left) (lost_registers parts.registers) Lost) Idle parts.before parts.passed) in
-    let old = state_of parts in
-    let f : fault_met old new ≡ Some (SaveFails left) = fault_saving old new refl refl ∙ (rw (held, at) refl) in
-    let closed : closed_of (Some (SaveFails left)) old old.work ≡ record { state = new.state; unit = record { 0 = 0x0E }; motion = false } =
-    rw (e.passes, k.off, k.plain, written, held, whole) refl in
-    (rw (failed, ← e.is, f, closed) refl, rw (failed, ← e.is, f) closed)
-
--- An idle drive stands where the arm has stayed.
-pub stays_stands : (parts : Parts) (p : Progress) (now : DriveState) (u : CommandEnd)
-    → Closes parts p now u → u.moves_off ≡ false
-    → Stands (record parts { registers = u.registers; mark = mark_left p.place parts.mark; stage = Idle })
-stays_stands parts p now u e off =
-    let g = parts.cache.image.geometry in
-    let n : ℕ = track_in_reach parts in
+land : (parts : Parts) (p : Progress) (now : DriveState) (u : CommandEnd) → Closes parts p now u → Lands parts.cache parts.cache.image.geometry (track_in_reach parts) parts.registers u
+land parts p now u e =
     let goes = goes_of parts p e.stands e.passes in
-    let L = λ (y : CommandEnd). Lands parts.cache g n parts.registers y in
-    let land = subst L (sym e.out) (lands (work_in parts p.opened) p.place p.moved goes.placed goes.no_credit e.stands.arm) in
-    let k = land.stays off in
-    let same : track_under g u.registers ≡ n = rw (k.0, k.1) refl in
-    record {
+    rw e.out (lands (work_in parts p.opened) p.place p.moved goes.placed goes.no_credit e.stands.arm)
+
+-- which saving the definitions see at the end
+saves_at_end : (parts : Parts) (p : Progress) (now : DriveState) (u : CommandEnd) → Closes parts p now u → end_saves now ≡ (is_written_by parts.mark && u.moves_off)
+saves_at_end parts p now u e =
+    let job = work_in parts p.opened in
+    let goes = goes_of parts p e.stands e.passes in
+    let so = command_end_is job p.place p.moved (number_there parts e.stands) goes.placed goes.moved ∙ sym e.out in
+    let off : (closing_in job (seen_track job p.place)).moves_off ≡ u.moves_off = ap (λ (y : CommandEnd). y.moves_off) so in
+    rw (← e.is, e.passes, off) refl
+
+-- a drive that has ended its command so
+pub record Ended (now : DriveState) (after : Parts) (ending : DriveEnding) : Type 0 where
+  pub stands : Stands after
+  pub ends : Ends now (state_of after) ending
+
+-- it is that by its state, its ending and its calls
+ended : (now : DriveState) (after : Parts) (ending : DriveEnding) → Stands after → state_of after ≡ with_image (after_end (fault_met now (state_of after)) now) after.cache.image
+    → ending ≡ ending_of (closed_of (fault_met now (state_of after)) now now.work) → CallsStore false (end_saves now) now (state_of after) → Ended now after ending
+ended now after ending stands state says calls = record { stands = stands; ends = record { state = state; ends = says; calls = calls; reported = end_reports now (state_of after) ending state says calls } }
+
+-- the arm stays
+pub stays_ends : (parts : Parts) (p : Progress) (now : DriveState) (u : CommandEnd) → Closes parts p now u → u.moves_off ≡ false
+    → Ended now (record parts { registers = u.registers; mark = mark_left p.place parts.mark; stage = Idle }) u.ending
+stays_ends parts p now u e off =
+    let g = parts.cache.image.geometry in
+    let after : Parts = record parts { registers = u.registers; mark = mark_left p.place parts.mark; stage = Idle } in
+    let image : parts.cache.image ≡ now.image = ap (λ (d : DriveState). d.image) e.is in
+    let none : fault_met now (state_of after) ≡ None = fault_none now (state_of after) (ap (λ (i : ImageState). i.failures) image) in
+    let closed = stays_closed parts p now u e off in
+    let k = (land parts p now u e).stays off in
+    let same : track_under g u.registers ≡ track_in_reach parts = rw (k.0, k.1) refl in
+    ended now after u.ending
+    (record {
       volume = e.stands.volume;
       arm = record { cylinder = rw k.0 e.stands.arm.cylinder; head = rw k.1 e.stands.arm.head };
       anchored = rw same e.stands.anchored;
       marked = marks p.place parts.mark parts.cache.changed (rw e.passes at e.stands.marked);
       work = rw same k.2;
-    }
+    })
+    (rw (none, closed) refl) (rw (none, closed) refl) (calls_none _ _ now (state_of after) image (saves_at_end parts p now u e ∙ rw off (and-false (is_written_by parts.mark))))
   where
     marks : (q : Transfer) (m : Mark) (b : Bool) → b ≡ (is_written_by m || is_filled_by q) → b ≡ (is_written_by (mark_left q m) || false)
     marks (Filled w u) Saved b e = e
-    marks (Filled w u) Written b e = e
-    marks (Filled w u) Lost b e = e
-    marks (Sense x u) m b e = e
-    marks (Field f) m b e = e
-    marks (Read w u) m b e = e
-    marks (Search w u) m b e = e
-    marks (Fill w u) m b e = e
+    marks _ _ b e = e
 
--- and where it has moved
-pub moves_stands : (parts : Parts) (c' : CacheState) (p : Progress) (now : DriveState) (u : CommandEnd)
-    → Closes parts p now u → u.moves_off ≡ true → c' ≡ after_save parts.cache
-    → Stands (parts_of (kept c' u.registers Saved) Idle parts.before parts.passed)
-moves_stands parts c' p now u e off save =
+-- it moves, and the track that it leaves is saved
+pub leaves_ends : (parts : Parts) (came : Kept) (p : Progress) (now : DriveState) (u : CommandEnd) (before passed : List ℕ) → Closes parts p now u → u.moves_off ≡ true → Leaves parts.cache came u.registers
+    → Ended now (parts_of came Idle before passed) u.ending
+leaves_ends parts came p now u before passed e moves l =
     let c = parts.cache in
-    let g = c.image.geometry in
-    let n : ℕ = track_under g parts.registers in
-    let goes = goes_of parts p e.stands e.passes in
-    let L = λ (y : CommandEnd). Lands c g n parts.registers y in
-    let land = subst L (sym e.out) (lands (work_in parts p.opened) p.place p.moved goes.placed goes.no_credit e.stands.arm) in
-    let k = land.moves off in
-    let geometry : c'.image.geometry ≡ g = ap (λ (d : CacheState). d.image.geometry) save ∙ geometry_saved c in
-    let changed : c'.changed ≡ false = ap (λ (d : CacheState). d.changed) save in
-    let V : CacheState → Type 0 = λ d. IsVolume d in
-    let A : Geometry → Type 0 = λ y. IsAtTrack y u.registers in
-    record {
-      volume = subst V (sym save) (volume_saved c e.stands.volume);
-      arm = subst A (sym geometry) k.0;
-      anchored = λ z. absurd cc;
-      marked = changed;
-      work = no_credit c' u.registers (track_under c'.image.geometry u.registers) k.1;
-    }
+    let k = moves_off parts p now u e moves in
+    let at = (land parts p now u e).moves moves in
+    rw (l.cache, l.registers, l.mark) (
+    let after : Parts = parts_of (kept (after_save c) u.registers Saved) Idle before passed in
+    let image : now.image ≡ c.image = sym (ap (λ (d : DriveState). d.image) e.is) in
+    let none : fault_met now (state_of after) ≡ None = fault_none now (state_of after) (failures_saved c ∙ sym (ap (λ (i : ImageState). i.failures) image)) in
+    let closed : closed_of None now now.work ≡ record { state = record { volume = record { geometry = c.image.geometry; slots = c.slots }; registers = u.registers; mark = Saved }; unit = u.ending.unit; motion = u.ending.motion } =
+    rw (← e.is, e.passes, k.off, ← k.so, k.plain) refl in
+    ended now after u.ending
+    (saved_stands parts u.registers Idle before passed e.stands refl at.0 (no_credit (after_save c) u.registers (track_under (after_save c).image.geometry u.registers) at.1))
+    (rw (none, closed, geometry_saved c) refl) (rw (none, closed) refl)
+    (calls_of_save _ _ c now (state_of after) image refl (changed_is parts e.stands k.unfilled ∙ sym (saves_at_end parts p now u e ∙ rw moves (and-true (is_written_by parts.mark))))))
 
--- The calls of the store.
-
--- which saving the definitions see at the end
-pub saves_at_end : (parts : Parts) (p : Progress) (now : DriveState) (u : CommandEnd)
-    → Closes parts p now u → end_saves now ≡ (is_written_by parts.mark && u.moves_off)
-saves_at_end parts p now u e =
-    let g = parts.cache.image.geometry in
-    let n : ℕ = track_under g parts.registers in
-    let job = work_in parts p.opened in
-    let goes = goes_of parts p e.stands e.passes in
-    let k = closing_in job (seen_track job p.place) in
-    let o_is : command_end k ≡ u = command_end_is job p.place p.moved (number_there parts e.stands) goes.placed goes.moved ∙ sym e.out in
-    let off : k.moves_off ≡ u.moves_off = ap (λ (y : CommandEnd). y.moves_off) o_is in
-    rw (← e.is, e.passes, off) refl
-
--- none where the arm stays
-pub stays_calls : (parts : Parts) (p : Progress) (now new : DriveState) (u : CommandEnd)
-    → Closes parts p now u → u.moves_off ≡ false
-    → new.image ≡ parts.cache.image → CallsStore false (end_saves now) now new
-stays_calls parts p now new u e off image =
-    let old_image : parts.cache.image ≡ now.image = ap (λ (d : DriveState). d.image) e.is in
-    calls_none _ _ now new (image ∙ old_image) (saves_at_end parts p now u e ∙ rw off (and_false (is_written_by parts.mark)))
-
--- the track is saved that the arm leaves
-pub moves_calls : (parts : Parts) (c' : CacheState) (p : Progress) (now new : DriveState) (u : CommandEnd)
-    → Closes parts p now u → u.moves_off ≡ true
-    → c' ≡ after_save parts.cache → new.image ≡ c'.image → CallsStore false (end_saves now) now new
-moves_calls parts c' p now new u e off save image =
-    let old_image : now.image ≡ parts.cache.image = sym (ap (λ (d : DriveState). d.image) e.is) in
-    let changed = changed_is parts e.stands (moves_off parts p now u e off).unfilled in
-    calls_of_save _ _ parts.cache now new old_image (image ∙ ap (λ (d : CacheState). d.image) save) (changed ∙ sym (saves_at_end parts p now u e ∙ rw off (and_true (is_written_by parts.mark))))
-
-pub lost_calls : (parts : Parts) (c' : CacheState) (p : Progress) (left : List ℕ) (now new : DriveState) (u : CommandEnd)
-    → Closes parts p now u → u.moves_off ≡ true
-    → parts.cache.changed ≡ true → c' ≡ after_failed_save parts.cache left → new.image ≡ c'.image → CallsStore false (end_saves now) now new
-lost_calls parts c' p left now new u e off written failed image =
-    let old_image : now.image ≡ parts.cache.image = sym (ap (λ (d : DriveState). d.image) e.is) in
-    let changed = changed_is parts e.stands (moves_off parts p now u e off).unfilled in
-    calls_of_failed_save _ _ parts.cache left now new old_image (image ∙ ap (λ (d : CacheState). d.image) failed) (changed ∙ sym (saves_at_end parts p now u e ∙ rw off (and_true (is_written_by parts.mark)))) written
+-- that track can't be saved
+pub lost_ends : (parts : Parts) (came : Kept) (p : Progress) (now : DriveState) (u : CommandEnd) (before passed : List ℕ) → Closes parts p now u → u.moves_off ≡ true → Loses parts.cache parts.registers came
+    → Ended now (parts_of came Idle before passed) failed_ending
+lost_ends parts came p now u before passed e moves l =
+    let c = parts.cache in
+    let k = moves_off parts p now u e moves in
+    rw (l.cache, l.registers, l.mark) (
+    let after : Parts = parts_of (kept (after_failed_save c l.left) (lost_registers parts.registers) Lost) Idle before passed in
+    let s = save_lost parts parts.registers came (state_of after) e.stands k.unfilled l refl in
+    let image : now.image ≡ c.image = sym (ap (λ (d : DriveState). d.image) e.is) in
+    let met : fault_met now (state_of after) ≡ Some (SaveFails l.left) = rw (← e.is) s.fault in
+    let closed : closed_of (Some (SaveFails l.left)) now now.work ≡ record { state = (state_of after).state; unit = record { 0 = 0x0E }; motion = false } =
+    rw (← e.is, e.passes, k.off, k.plain, s.written, s.held, s.whole) refl in
+    ended now after failed_ending
+    (lost_stands parts l.left (lost_registers parts.registers) Idle before passed e.stands l.size refl refl refl tt)
+    (rw (met, closed) refl) (rw (met, closed) refl)
+    (calls_of_failed_save _ _ c l.left now (state_of after) image refl (changed_is parts e.stands k.unfilled ∙ sym (saves_at_end parts p now u e ∙ rw moves (and-true (is_written_by parts.mark)))) l.changed))

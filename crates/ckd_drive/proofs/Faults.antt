@@ -1,17 +1,23 @@
--- Calls in which a load or a saving fails.
-use Rattle.std.proofs.Common.{◌≡◌, sym, refl, ℕ, ◌+◌, List, [], true, false, ◌==◌, Option, Some, None, unwrap_or, slice_index_or, slice_set, arith}
+-- Calls in which a load or a saving fails, and what a failed saving leaves.
+use Rattle.std.proofs.Common.{◌≡◌, refl, ℕ, ◌+◌, [], true, false, ◌==◌, Option, Some, None, slice_index_or, arith, ◌∙◌, sym, ap, List, ◌∷◌, length, slice_set, unwrap_or}
 use Rattle.std.proofs.lemmas.Bool.Decides.{nat_tests}
 use Rattle.ckd_sense.specs.declared.sense_bytes.TheConstants.Sense.{STORE_FAULT}
 use Rattle.ckd_command.specs.declared.registers.Registers.{Registers}
 use Rattle.ckd_command.specs.declared.registers.Mark.{Mark}
-use Rattle.ckd_command.specs.declared.registers.Mark.TheVariants.{Saved, Written, Lost}
+use Rattle.ckd_command.specs.declared.registers.Mark.TheVariants.{Written}
 use Rattle.ckd_command.specs.declared.begin.Opened.{Opened}
 use Rattle.ckd_command.specs.Answers.{ToCylinderZero}
 use Rattle.ckd_command.specs.Commands.{with_cause}
 use Rattle.ckd_command.specs.Drive.{LoadFails, SaveFails, number_under, is_written_by}
 use Rattle.ckd_cache.specs.Cache.{CacheState, after_failed_save}
 use Rattle.ckd_drive.specs.Work.{DriveState, fault_met}
-use Rattle.ckd_drive.specs.Invariant.{BeginsWell, IsCleared}
+use Rattle.ckd_drive.specs.Invariant.{BeginsWell, IsCleared, Stands, is_filled, Kept, Parts, slot_at, state_of, track_in_reach}
+use Rattle.std.proofs.lemmas.List.Elements.{All-get_or}
+use Rattle.s360_words.specs.Storage.{overwritten}
+use Rattle.ckd_image.specs.Image.{ImageState}
+use Rattle.ckd_drive.specs.Calls.{Loses}
+use Rattle.ckd_drive.proofs.Calls.{changed_is}
+use Rattle.ckd_drive.proofs.Standing.{number_there}
 
 more_not : (n : ℕ) → (n + 1 == n) ≡ false
 more_not n = grind (arith, nat_tests)
@@ -41,10 +47,32 @@ to_zero c n r q (Some o) w = w.0
 
 pub mark_written : (m : Mark) → is_written_by m ≡ true → m ≡ Written
 mark_written Written t = refl
-mark_written Saved t = absurd cc
-mark_written Lost t = absurd cc
+mark_written _ t = absurd cc
 
--- the fault of a saving that failed, as the definitions see it
-pub failed_left : (c : CacheState) (n : ℕ) (left : List ℕ) → c.held ≡ Some n → left ≡ slice_index_or (after_failed_save c left).image.slots (unwrap_or c.held 0) []
-    → slice_index_or (slice_set c.slots n left) n [] ≡ left
-failed_left c n left held e = (let e' = rw held at e in sym e')
+-- bytes as long as those that stand there take their place
+overwritten_whole : (old new : List ℕ) → length new ≡ length old → overwritten old 0 new ≡ new
+overwritten_whole [] [] e = refl
+overwritten_whole [] (y ∷ ys) e = absurd (omega (arith, e))
+overwritten_whole (x ∷ xs) [] e = absurd (omega (arith, e))
+overwritten_whole (x ∷ xs) (y ∷ ys) e = ap (λ (r : List ℕ). y ∷ r) (overwritten_whole xs ys (omega (arith, e)))
+
+pub record SaveLost (d : Parts) (left : List ℕ) (new : DriveState) : Type 0 where
+  pub held : d.cache.held ≡ Some (track_in_reach d)
+  pub written : d.mark ≡ Written
+  pub whole : overwritten (slot_at d.cache.slots (track_in_reach d)) 0 left ≡ left
+  pub fault : fault_met (state_of d) new ≡ Some (SaveFails left)
+
+pub save_lost : (d : Parts) (r : Registers) (came : Kept) (new : DriveState) → Stands d → is_filled d.stage ≡ false → (l : Loses d.cache r came) → new.image ≡ (after_failed_save d.cache l.left).image → SaveLost d l.left new
+save_lost d r came new x f l image =
+    let c = d.cache in
+    let left = l.left in
+    let held : c.held ≡ Some (track_in_reach d) = x.anchored l.changed in
+    let there : left ≡ slice_index_or (after_failed_save c left).image.slots (unwrap_or c.held 0) [] = l.there ∙ ap (λ (k : CacheState). slice_index_or k.image.slots (unwrap_or c.held 0) []) l.cache in
+    let left_is : slice_index_or (slice_set c.slots (track_in_reach d) left) (track_in_reach d) [] ≡ left = sym (rw held at there) in
+    let old : length (slot_at c.slots (track_in_reach d)) ≡ c.image.geometry.track_size = All-get_or (λ slot. length slot ≡ c.image.geometry.track_size) c.slots (track_in_reach d) [] (number_there d x) x.volume.sizes in
+    record {
+      held = held;
+      written = mark_written d.mark (sym (changed_is d x f) ∙ l.changed);
+      whole = overwritten_whole (slot_at c.slots (track_in_reach d)) left (l.size ∙ sym old);
+      fault = fault_saving (state_of d) new (ap (λ (i : ImageState). i.failures) image) (ap (λ (i : ImageState). i.saves) image) ∙ rw (image, held, left_is) refl;
+    }

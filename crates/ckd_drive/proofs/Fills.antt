@@ -1,5 +1,6 @@
 -- Tracks that are being written.
-use Rattle.std.proofs.Common.{◌≡◌, ◌∙◌, ap, sym, subst, refl, ℕ, ◌+◌, ◌-◌, ◌<◌, ◌≤◌, ◌^◌, List, [], ◌++◌, Bool, true, false, ◌||◌, Some, Ok, Err, unwrap_or, length, take, drop, set-set, get_or-set_same, slice_set, replicate, length-append, length-drop, length-take, length-set, append_assoc, arith}
+use Rattle.std.proofs.Common.{◌≡◌, ◌∙◌, ap, sym, refl, ℕ, ◌+◌, ◌-◌, ◌<◌, ◌≤◌, ◌^◌, List, [], ◌++◌, true, Some, Ok, Err, unwrap_or, length, take, drop, append-nil, set-set, get_or-set_same, slice_set, replicate, length-append, length-drop, length-take, length-set, append_assoc, arith}
+use Rattle.std.proofs.Math.Bool.{or-true}
 use Rattle.std.proofs.lemmas.List.{length-replicate, drop-append-le}
 use Rattle.std.proofs.lemmas.List.Elements.{All-set}
 use Rattle.ckd_track.specs.Track.{Track, track_of, track_in, track_or_none, record_in, slot_of}
@@ -10,47 +11,22 @@ use Rattle.ckd_position.specs.declared.areas.Part.{Part}
 use Rattle.ckd_position.specs.declared.extents.Extent.{Extent}
 use Rattle.ckd_command.specs.Answers.{CommandEnd}
 use Rattle.ckd_slot.specs.declared.windows.Window.{Window}
-use Rattle.ckd_drive.specs.Transfers.{Transfer, Filled}
+use Rattle.ckd_drive.specs.declared.transfer.Transfer.TheVariants.{Filled}
 use Rattle.ckd_position.specs.Contents.{Sighted, is_readable, padded, replaced, with_record_changed}
 use Rattle.ckd_command.specs.Commands.{length_after, closing, command_end}
 use Rattle.ckd_slot.specs.Buffer.{FitsSlot, IsUpdate, SameRecords, lengths_on}
-use Rattle.ckd_cache.specs.Cache.{CacheState, with_held}
-use Rattle.ckd_drive.specs.Invariant.{HalfDone, Works, MayTake, Absorbs, own_track, own_slot, seen_with, with_taken, IsPlaced, HasFilled, IsFilled, slot_at, track_under, AtWork, geometry_in, slot_in, at_work}
+use Rattle.ckd_cache.specs.Cache.{CacheState, slot_held, with_held}
+use Rattle.ckd_drive.specs.declared.transfer.Written.{Written}
+use Rattle.ckd_drive.specs.Invariant.{HalfDone, Works, MayTake, Absorbs, own_track, seen_with, with_taken, HasFilled, IsFilled, slot_at, track_under, AtWork, geometry_in, slot_in, at_work, closes_by}
 use Rattle.ckd_slot.proofs.Writes.{update_offset, update_length}
 use Rattle.ckd_slot.proofs.Updates.{form_of, padded_on, same_records}
-use Rattle.ckd_drive.proofs.Numbers.{number_below}
-
-or_true : (b : Bool) → true ≡ (b || true)
-or_true true = refl
-or_true false = refl
+use Rattle.ckd_drive.proofs.Standing.{slot_is, number_below}
 
 pub length-padded : (b : List ℕ) (n : ℕ) → length b ≤ n → length (padded b n) ≡ n
 length-padded b n le = omega (arith, length-append b (replicate (n - length b) 0), length-replicate {A = ℕ} (n - length b) 0, le)
 
--- The slot at hand has become another, made of a track.
-pub written_works : (half : HalfDone) (before' : List ℕ) (more new : List ℕ) (w : Window) (u : CommandEnd)
-    → Works half → half.cache.held ≡ Some (own_track half) → length new ≡ half.cache.image.geometry.track_size → half.progress.left - length more ≤ w.len
-    → HasFilled (at_work (with_taken half more (with_held half.cache new) before' (Filled w u))) w u
-    → Works (with_taken half more (with_held half.cache new) before' (Filled w u))
-written_works half before' more new w u x held size le filled =
-    let c = half.cache in
-    let goes = x.goes in
-    record {
-      volume = record {
-        geometry = x.volume.geometry;
-        count = length-set c.slots (unwrap_or c.held 0) new ∙ x.volume.count;
-        sizes = All-set (λ slot. length slot ≡ c.image.geometry.track_size) c.slots (unwrap_or c.held 0) new size x.volume.sizes;
-        clean = λ e. absurd cc;
-      };
-      arm = x.arm;
-      anchored = λ _. held;
-      goes = record {
-        moved = rw (← goes.moved) (length-append half.passed more);
-        left = le;
-        placed = filled;
-        no_credit = goes.no_credit;
-      };
-    }
+pub padded_whole : (b : List ℕ) (n : ℕ) → length b ≤ n → padded (padded b n) n ≡ padded b n
+padded_whole b n le = (let none : n - length (padded b n) ≡ 0 = omega (arith, length-padded b n le) in rw none (append-nil (padded b n)))
 
 pub there : (half : HalfDone) → Works half → own_track half < length half.cache.slots
 there half x =
@@ -59,16 +35,30 @@ there half x =
 pub new_slot_at : (c : CacheState) (n : ℕ) (new : List ℕ) → c.held ≡ Some n → n < length c.slots → slot_at (with_held c new).slots n ≡ new
 new_slot_at c n new held lt = rw held (get_or-set_same c.slots n new [] lt)
 
-pub written_absorbs : (half : HalfDone) (before' : List ℕ) (more new : List ℕ) (w : Window) (u : CommandEnd)
-    → Works (with_taken half more (with_held half.cache new) before' (Filled w u)) → half.cache.held ≡ Some (own_track half)
+-- The slot at hand has become another, made of a track.
+pub written_absorbs : (half : HalfDone) (before' : List ℕ) (more new : List ℕ) (w : Window) (u : Written)
+    → Works half → half.cache.held ≡ Some (own_track half) → length new ≡ half.cache.image.geometry.track_size → half.progress.left - length more ≤ w.len
+    → HasFilled (at_work (with_taken half more (with_held half.cache new) before' (Filled w u))) w u
     → slice_set half.cache.slots (own_track half) before' ≡ seen_with half half.before half.progress.place → length half.passed + length more < 2 ^ 32
     → Absorbs half more (with_held half.cache new) before' (Filled w u)
-written_absorbs half before' more new w u works held seen small =
+written_absorbs half before' more new w u x held size le filled seen small =
+    let c = half.cache in
+    let goes = x.goes in
     record {
-      works = works;
+      works = record {
+        volume = record {
+          geometry = x.volume.geometry;
+          count = length-set c.slots (unwrap_or c.held 0) new ∙ x.volume.count;
+          sizes = All-set (λ slot. length slot ≡ c.image.geometry.track_size) c.slots (unwrap_or c.held 0) new size x.volume.sizes;
+          clean = λ e. absurd cc;
+        };
+        arm = x.arm;
+        anchored = λ _. held;
+        goes = record { moved = rw (← goes.moved) (length-append half.passed more); left = le; placed = filled; no_credit = goes.no_credit };
+      };
       image = refl;
-      seen_same = rw held (set-set half.cache.slots (track_under half.cache.image.geometry half.registers) new before' ∙ seen);
-      changed = or_true half.cache.changed;
+      seen_same = rw held (set-set c.slots (own_track half) new before' ∙ seen);
+      changed = sym (or-true c.changed);
       still = λ _. refl;
       small = small;
     }
@@ -108,6 +98,7 @@ pub record ClosesFilled (job : AtWork) (b : List ℕ) (fill : Filling) : Type 0 
   pub written : (closing (geometry_in job) (track_of job.before) job.opened job.registers b).written ≡ Some (filled_with fill (padded (drop fill.lead b) (room_of fill)))
   pub wants : length_after (geometry_in job) (track_of job.before) job.opened job.registers b ≡ fill.lead + room_of fill
 
+-- an area is filled once all of these are known of it: three commands come here, each by facts of its own
 abbrev pub form_filled : (job : AtWork) (now : List ℕ) (w : Window) (fill : Filling)
     → IsUpdate fill.extent → FitsSlot (geometry_in job).track_size fill.track → fill.number < length fill.track.records → lengths_on (track_in now) ≡ lengths_on fill.track → fill.lead ≤ length job.passed → fill.lead ≤ 8
     → w.start ≡ update_offset fill.extent fill.track fill.number + (length job.passed - fill.lead) → w.len + (length job.passed - fill.lead) ≡ room_of fill
@@ -176,24 +167,22 @@ filled_on job new now' more w u le lens f =
           rw same at c);
     }
 
+-- the same of lists and numbers alone, so that tactics read no drive
 pub next_made : (old head tail mid more : List ℕ) (room start : ℕ) → old ≡ head ++ (padded mid room ++ tail) → length head + length mid ≡ start → length mid + length more ≤ room
     → overwritten old start more ≡ head ++ (padded (mid ++ more) room ++ tail)
 next_made old head tail mid more room start is at le = rw (is, ← at) (padded_on head tail mid more room le)
 
 -- the slot that a filled track has next
-pub record NextSlot (half : HalfDone) (more : List ℕ) (w : Window) (u : CommandEnd) : Type 0 where
+pub record NextSlot (half : HalfDone) (more : List ℕ) (w : Window) (what : Written) : Type 0 where
   pub held : half.cache.held ≡ Some (own_track half)
   pub le : length more ≤ w.len
   pub room : w.start + length more ≤ half.cache.image.geometry.track_size
-  pub records : SameRecords (own_slot half) (overwritten (own_slot half) w.start more)
-  pub absorbs : Absorbs half more (with_held half.cache (overwritten (own_slot half) w.start more)) half.before (Filled (record { start = w.start + length more; len = w.len - length more }) u)
+  pub records : SameRecords (slot_held half.cache) (overwritten (slot_held half.cache) w.start more)
+  pub absorbs : Absorbs half more (with_held half.cache (overwritten (slot_held half.cache) w.start more)) half.before (Filled (record { start = w.start + length more; len = w.len - length more }) what)
 
-next_bytes : (lead : ℕ) (passed more : List ℕ) → lead ≤ length passed → drop lead (passed ++ more) ≡ drop lead passed ++ more
-next_bytes lead passed more le = drop-append-le lead passed more le
-
-pub filled_absorbs : (half : HalfDone) (more : List ℕ) (w : Window) (u : CommandEnd)
-    → MayTake half more → half.progress.place ≡ Filled w u → NextSlot half more w u
-filled_absorbs half more w u may at =
+pub filled_absorbs : (half : HalfDone) (more : List ℕ) (w : Window) (what : Written)
+    → MayTake half more → half.progress.place ≡ Filled w what → NextSlot half more w what
+filled_absorbs half more w what may at =
     let c = half.cache in
     let passed = half.passed in
     let g = c.image.geometry in
@@ -201,8 +190,7 @@ filled_absorbs half more w u may at =
     let goes = may.works.goes in
     let left : half.progress.left ≤ w.len = rw at at goes.left in
     let le : length more ≤ w.len = omega (arith, left, may.room) in
-    let P : Transfer → Type 0 = λ y. IsPlaced (at_work half) y in
-    let h : HasFilled (at_work half) w u = subst P at goes.placed in
+    let h : HasFilled (at_work half) w what = rw at at goes.placed in
     let f = h.filled in
     let old = slot_at c.slots n in
     let new = overwritten old w.start more in
@@ -213,16 +201,16 @@ filled_absorbs half more w u may at =
     let start : length f.head + length (drop f.lead passed) ≡ w.start = omega (arith, f.start, lead_len) in
     let made : new ≡ f.head ++ (padded (drop f.lead passed ++ more) f.room ++ f.tail) =
     next_made old f.head f.tail (drop f.lead passed) more f.room w.start h.slot_is start (omega (arith, lead_len, f.rest, le, f.begins)) in
-    let made' : new ≡ f.head ++ (padded (drop f.lead (passed ++ more)) f.room ++ f.tail) = rw (next_bytes f.lead passed more f.begins) made in
+    let made' : new ≡ f.head ++ (padded (drop f.lead (passed ++ more)) f.room ++ f.tail) = rw (drop-append-le f.lead passed more f.begins) made in
     let slot : new ≡ slot_of g.track_size k.track = made' ∙ sym k.slot_is in
     let read = reads_new g.track_size k.track new k.fits slot in
     let lens : lengths_on (track_in new) ≡ lengths_on (track_in old) = ap lengths_on read.1 ∙ k.lengths_stay in
     let at_new = new_slot_at c n new h.at_hand.held lt in
     let w' : Window = record { start = w.start + length more; len = w.len - length more } in
     let now : List ℕ = slot_at (with_held c new).slots n in
-    let on = filled_on (at_work half) new now more w u le (ap (λ (y : List ℕ). lengths_on (track_in y)) at_new ∙ lens) f in
+    let on = filled_on (at_work half) new now more w (closes_by half.registers half.progress.opened what) le (ap (λ (y : List ℕ). lengths_on (track_in y)) at_new ∙ lens) f in
     let wants = f.wants more le in
-    let has : HasFilled (at_work (with_taken half more (with_held c new) half.before (Filled w' u))) w' u = record {
+    let has : HasFilled (at_work (with_taken half more (with_held c new) half.before (Filled w' what))) w' what = record {
       at_hand = record { held = h.at_hand.held; readable = rw at_new read.0 };
       size = h.size;
       filled = on;
@@ -230,15 +218,12 @@ filled_absorbs half more w u may at =
       found = record { again = h.found.again; len = omega (arith, wants, f.rest, f.begins, far, le) };
       takes = h.takes;
       some = omega (arith, h.some, far);
-      stays = h.stays;
-      cylinder = h.cylinder;
-      head = h.head;
     } in
-    let works = written_works half half.before more new w' u may.works h.at_hand.held read.2 (omega (arith, left, le)) has in
+    let here : slot_held c ≡ old = slot_is c n (slot_held c) h.at_hand.held refl in
     record {
       held = h.at_hand.held;
       le = le;
       room = omega (arith, f.within, le);
-      records = same_records g.track_size old new k.track (old_read old h.at_hand.readable) k.fits slot k.lengths_stay;
-      absorbs = written_absorbs half half.before more new w' u works h.at_hand.held (rw at refl) (omega (arith, f.start, f.within, f.begins, f.lead_small, le, may.works.volume.geometry.limit));
+      records = rw here (same_records g.track_size old new k.track (old_read old h.at_hand.readable) k.fits slot k.lengths_stay);
+      absorbs = rw here (written_absorbs half half.before more new w' what may.works h.at_hand.held read.2 (omega (arith, left, le)) has (rw at refl) (omega (arith, f.start, f.within, f.begins, f.lead_small, le, may.works.volume.geometry.limit)));
     }

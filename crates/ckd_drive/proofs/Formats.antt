@@ -1,48 +1,32 @@
 -- A track that gets a new record.
-use Rattle.std.proofs.Common.{◌≡◌, ◌∙◌, ap, sym, subst, refl, ℕ, ◌+◌, ◌-◌, ◌<◌, ◌≤◌, List, [], ◌∷◌, ◌++◌, true, false, ◌==◌, nat_lt, Option, Some, length, take, drop, set, slice_range, slice_index, replicate, length-append, length-drop, length-take, drop-drop, append_assoc, append-nil, arith}
+use Rattle.std.proofs.Common.{◌≡◌, ◌∙◌, ap, sym, subst, refl, ℕ, ◌+◌, ◌-◌, ◌<◌, ◌≤◌, List, [], ◌∷◌, ◌++◌, true, false, Option, Some, length, take, drop, slice_range, replicate, length-append, length-drop, length-take, drop-drop, append_assoc, append-nil, arith}
 use Rattle.std.proofs.Math.Seq.{get_or-append_seam, set-append_seam}
-use Rattle.std.proofs.lemmas.List.{drop_at, take_all, get_or_append_left, take-append-le}
-use Rattle.std.proofs.lemmas.Bool.Decides.{nat_tests}
-use Rattle.ckd_track.specs.Track.{Track, Record, track_of, track_in, record_in, no_record, record_at, slot_of, key_length, data_length, body_length}
+use Rattle.std.proofs.lemmas.List.{drop_at, take_all, take-append-le}
+use Rattle.ckd_track.specs.Track.{Track, Record, track_of, track_in, record_in, no_record, record_at, slot_of, key_length, body_length}
 use Rattle.ckd_track.specs.Changes.{overwritten}
-use Rattle.ckd_track.specs.Charges.{has_room}
-use Rattle.ckd_track.specs.declared.geometries.Geometry.{Geometry}
 use Rattle.ckd_position.specs.declared.areas.Area.{Area}
 use Rattle.ckd_position.specs.declared.areas.Area.TheVariants.{Of}
 use Rattle.ckd_position.specs.declared.areas.Part.{Part}
 use Rattle.ckd_position.specs.declared.areas.Part.TheVariants as part
-use Rattle.ckd_command.specs.declared.registers.Registers.{Registers}
-use Rattle.ckd_command.specs.declared.tables.Action.{Action}
 use Rattle.ckd_command.specs.declared.tables.Action.TheVariants as action
 use Rattle.ckd_position.specs.declared.extents.Extent.TheVariants as extent
-use Rattle.ckd_command.specs.declared.begin.Opened.{Opened}
 use Rattle.ckd_drive.specs.declared.transfer.Whole.TheVariants as whole
 use Rattle.ckd_slot.specs.declared.windows.Window.{Window}
-use Rattle.ckd_drive.specs.Transfers.{Field, Filled}
+use Rattle.ckd_drive.specs.declared.transfer.Transfer.TheVariants.{Field, Filled}
 use Rattle.ckd_command.specs.Tables.{action_of}
-use Rattle.ckd_position.specs.Contents.{Sighted, new_record, formatted, kept, padded, replaced, with_key_and_data, with_record_changed}
-use Rattle.ckd_command.specs.Commands.{Closing, length_after, closing, command_end, own_home_address, new_record_fits, format_ends, writes}
+use Rattle.ckd_position.specs.Contents.{Sighted, new_record, formatted, kept, padded, replaced, with_record_changed}
+use Rattle.ckd_command.specs.Commands.{Closing, command_end, own_home_address, new_record_fits, format_ends}
 use Rattle.ckd_slot.specs.Buffer.{HasFormatted, fits_track, lengths_on}
-use Rattle.ckd_cache.specs.Cache.{CacheState, with_held, slot_held, after_format}
-use Rattle.ckd_drive.specs.Invariant.{HalfDone, MayTake, Absorbs, own_track, own_slot, action_now, IsFilled, AtHand, FieldAtHand, slot_at, track_under, whole_of, AtWork, geometry_in, action_in}
+use Rattle.ckd_cache.specs.Cache.{with_held, slot_held, after_format}
+use Rattle.ckd_drive.specs.declared.transfer.Written.TheVariants as written
+use Rattle.ckd_drive.specs.Invariant.{HalfDone, MayTake, Absorbs, own_track, action_now, IsFilled, AtHand, slot_at, track_under, whole_of, AtWork, geometry_in, action_in}
 use Rattle.ckd_slot.proofs.Writes.{update_length, update_place}
-use Rattle.ckd_drive.proofs.Fills.{there, new_slot_at, reads_new, Filling, room_of, ClosesFilled, form_filled, length-padded}
-use Rattle.ckd_drive.proofs.Looks.{slot_is}
-use Rattle.ckd_drive.proofs.First.{length_by, closing_by}
-use Rattle.ckd_drive.proofs.Takes.{ChangesNothing, field_goes, field_absorbs}
+use Rattle.ckd_drive.proofs.Fills.{there, new_slot_at, reads_new, Filling, room_of, ClosesFilled, form_filled, length-padded, padded_whole}
+use Rattle.ckd_command.proofs.Closings.{formats_on}
+use Rattle.ckd_command.proofs.Lengths.{same_count}
+use Rattle.ckd_drive.proofs.Takes.{field_goes, field_absorbs}
 use Rattle.ckd_drive.proofs.News.{new_work, newly_absorbs, is_count}
-
--- The count bytes give the lengths, whatever comes behind them.
-pub record SameCount (b m : List ℕ) : Type 0 where
-  pub key : key_length (b ++ m) ≡ key_length b
-  pub bytes : data_length (b ++ m) ≡ data_length b
-
-same_count : (b m : List ℕ) → length b ≡ 8 → SameCount b m
-same_count b m eight =
-    let f : slice_index (b ++ m) 5 ≡ slice_index b 5 = get_or_append_left b m 0 5 (omega (arith, eight)) in
-    let g : slice_index (b ++ m) 6 ≡ slice_index b 6 = get_or_append_left b m 0 6 (omega (arith, eight)) in
-    let h : slice_index (b ++ m) 7 ≡ slice_index b 7 = get_or_append_left b m 0 7 (omega (arith, eight)) in
-    record { key = f; bytes = rw (g, h) refl }
+use Rattle.ckd_drive.proofs.Standing.{slot_is}
 
 abbrev record_with : (b body : List ℕ) → Record
 record_with b body = record { id = take 5 b; key_area = take (key_length b) body; data_area = drop (key_length b) body }
@@ -50,7 +34,7 @@ record_with b body = record { id = take 5 b; key_area = take (key_length b) body
 -- a record of count bytes and as many bytes as these give
 parts : (b body : List ℕ) → length b ≡ 8 → length body ≡ body_length b → record_at (b ++ body) ≡ record_with b body
 parts b body eight long =
-    let s = same_count b body eight in
+    let s = same_count b body (omega (arith, eight)) in
     let k = key_length b in
     let id : take 5 (b ++ body) ≡ take 5 b = take-append-le 5 b body (omega (arith, eight)) in
     let behind : drop 8 (b ++ body) ≡ body = drop_at b body 8 eight in
@@ -68,7 +52,7 @@ padded_behind b m n eight =
 
 pub new_with : (b m : List ℕ) → length b ≡ 8 → length m ≤ body_length b → new_record (b ++ m) ≡ record_with b (padded m (body_length b))
 new_with b m eight le =
-    let s = same_count b m eight in
+    let s = same_count b m (omega (arith, eight)) in
     let n : body_length (b ++ m) ≡ body_length b = rw (s.key, s.bytes) refl in
     ap (λ (k : ℕ). record_at (padded (b ++ m) (8 + k))) n ∙ ap record_at (padded_behind b m (body_length b) eight) ∙ parts b (padded m (body_length b)) eight (length-padded m (body_length b) le)
 
@@ -79,78 +63,23 @@ length-record b m le =
     let long = length-padded m (body_length b) le in
     omega (arith, length-take (key_length b) (padded m (body_length b)), length-drop (key_length b) (padded m (body_length b)), long)
 
--- a new record that gets other bytes
-record_changed : (b m : List ℕ) → length m ≤ body_length b → with_key_and_data (padded m (body_length b)) (record_with b (padded [] (body_length b))) ≡ record_with b (padded m (body_length b))
-record_changed b m le =
-    let n = body_length b in
-    let k = key_length b in
-    let none = length-padded [] n (omega arith) in
-    let sum : length (take k (padded [] n)) + length (drop k (padded [] n)) ≡ n = length-record b [] (omega arith) in
-    let key : length (take k (padded [] n)) ≡ k = omega (arith, length-take k (padded [] n), none) in
-    let whole : padded (padded m n) n ≡ padded m n = (let z : n - length (padded m n) ≡ 0 = omega (arith, length-padded m n le) in rw z (append-nil (padded m n))) in
-    rw (sum, key, whole) refl
-
 record_last : (t : Sighted) (after : Option Area) (b : List ℕ) (i : ℕ) → i ≡ length (kept t after) → record_in (formatted t after b) i ≡ new_record b
 record_last t after b i e = rw e (get_or-append_seam (kept t after) (new_record b) [] no_record)
-
-pub format_there : (t : Sighted) (after : Option Area) (b : List ℕ) (i : ℕ) → i ≡ length (kept t after) → i < length (formatted t after b).records
-format_there t after b i e = omega (arith, e, length-append (kept t after) (new_record b ∷ []))
 
 pub format_bytes : (t : Sighted) (after : Option Area) (b : List ℕ) (i : ℕ) → i ≡ length (kept t after) → length b ≡ 8 → update_length extent.KeyAndData (record_in (formatted t after b) i) ≡ body_length b
 format_bytes t after b i e eight =
     let new : new_record b ≡ record_with b (padded [] (body_length b)) = ap new_record (sym (append-nil b)) ∙ new_with b [] eight (omega arith) in
     ap (update_length extent.KeyAndData) (record_last t after b i e ∙ new) ∙ length-record b [] (omega arith)
 
-pub format_same : (t : Sighted) (after : Option Area) (b m : List ℕ) (part : Part) (i : ℕ) → length b ≡ 8 → i ≡ length (kept t after) → length m ≤ body_length b
-    → with_record_changed (replaced extent.KeyAndData (padded m (body_length b))) (Of part i) (formatted t after b) ≡ formatted t after (b ++ m)
-format_same t after b m part i eight e le =
-    let new : new_record b ≡ record_with b (padded [] (body_length b)) = ap new_record (sym (append-nil b)) ∙ new_with b [] eight (omega arith) in
-    let there = record_last t after b i e in
-    let changed : with_key_and_data (padded m (body_length b)) (record_in (formatted t after b) i) ≡ new_record (b ++ m) = ap (λ (x : Record). with_key_and_data (padded m (body_length b)) x) (there ∙ new) ∙ record_changed b m le ∙ sym (new_with b m eight le) in
-    let put : set (kept t after ++ new_record b ∷ []) i (new_record (b ++ m)) ≡ kept t after ++ new_record (b ++ m) ∷ [] = rw e (set-append_seam (kept t after) (new_record b) [] (new_record (b ++ m))) in
-    ap (λ (x : Record). let y : Track = record (formatted t after b) { records = set (kept t after ++ new_record b ∷ []) i x } in y) changed
-    ∙ ap (λ (rs : List Record). let y : Track = record (formatted t after b) { records = rs } in y) put
-
 pub format_written : (t : Sighted) (after : Option Area) (b m : List ℕ) (part : Part) (i : ℕ) → length b ≡ 8 → i ≡ length (kept t after) → length m ≤ body_length b
     → with_record_changed (replaced extent.KeyAndData (padded (drop 8 (b ++ m)) (update_length extent.KeyAndData (record_in (formatted t after b) i)))) (Of part i) (formatted t after b) ≡ formatted t after (b ++ m)
 format_written t after b m part i eight e le =
-    let room = update_length extent.KeyAndData (record_in (formatted t after b) i) in
-    let same : padded (drop 8 (b ++ m)) room ≡ padded m (body_length b) = ap (λ (x : List ℕ). padded x room) (drop_at b m 8 eight) ∙ ap (λ (k : ℕ). padded m k) (format_bytes t after b i e eight) in
-    ap (λ (x : List ℕ). with_record_changed (replaced extent.KeyAndData x) (Of part i) (formatted t after b)) same ∙ format_same t after b m part i eight e le
-
--- How a formatting write closes once its count bytes came and fit.
-
-fits_still : (g : Geometry) (t : Sighted) (o : Opened) (b m : List ℕ) → length b ≡ 8 → new_record_fits g t o b ≡ true → new_record_fits g t o (b ++ m) ≡ true
-fits_still g t o b m eight fits =
-    let s = same_count b m eight in
-    let P : ℕ → ℕ → Type 0 = λ k d. has_room g.model (kept t o.area) k d ≡ true in
-    let Q : ℕ → Type 0 = λ k. P k (data_length b) in
-    let R : ℕ → Type 0 = λ d. P (key_length (b ++ m)) d in
-    subst R (sym s.bytes) (subst Q (sym s.key) fits)
-
-not_below : (n : ℕ) → 8 ≤ n → nat_lt n 8 ≡ false
-not_below n le = grind (arith, nat_tests)
-
-not_zero : (n : ℕ) → 8 ≤ n → (n == 0) ≡ false
-not_zero n le = grind (arith, nat_tests)
-
-long_enough : (b m : List ℕ) → length b ≡ 8 → (nat_lt (length (b ++ m)) 8 ≡ false) × ((length (b ++ m) == 0) ≡ false)
-long_enough b m eight = (let le : 8 ≤ length (b ++ m) = omega (arith, length-append b m, eight) in (not_below (length (b ++ m)) le, not_zero (length (b ++ m)) le))
-
-format_closes : (g : Geometry) (t : Sighted) (o : Opened) (r : Registers) (b m : List ℕ) → action_of o.command ≡ action.Format → length b ≡ 8 → new_record_fits g t o b ≡ true
-    → closing g t o r (b ++ m) ≡ writes (formatted t o.area (b ++ m)) (format_ends r (length (kept t o.area)))
-format_closes g t o r b m is eight fits =
-    let still = fits_still g t o b m eight fits in
-    let long = long_enough b m eight in
-    closing_by action.Format g t o r (b ++ m) is ∙ rw (long.0, long.1, still) refl
-
-format_wants : (g : Geometry) (t : Sighted) (o : Opened) (r : Registers) (b m : List ℕ) → action_of o.command ≡ action.Format → length b ≡ 8 → new_record_fits g t o b ≡ true
-    → length_after g t o r (b ++ m) ≡ 8 + body_length b
-format_wants g t o r b m is eight fits =
-    let still = fits_still g t o b m eight fits in
-    let long = long_enough b m eight in
-    let s = same_count b m eight in
-    length_by action.Format g t o r (b ++ m) is ∙ rw (long.0, still, s.key, s.bytes) refl
+    let n = body_length b in
+    let k = key_length b in
+    let new : new_record b ≡ record_with b (padded [] n) = ap new_record (sym (append-nil b)) ∙ new_with b [] eight (omega arith) in
+    let sum : length (take k (padded [] n)) + length (drop k (padded [] n)) ≡ n = length-record b [] (omega arith) in
+    let key : length (take k (padded [] n)) ≡ k = omega (arith, length-take k (padded [] n), length-padded [] n (omega arith)) in
+    rw (drop_at b m 8 eight, record_last t after b i e ∙ new, sum, key, padded_whole m n le, new_with b m eight le, e, set-append_seam (kept t after) (new_record b) [] (record_with b (padded m n))) refl
 
 -- the record that a formatting write fills, behind its count bytes
 abbrev format_filling : AtWork → Part → ℕ → Filling
@@ -163,11 +92,11 @@ format_filled job m part i is eight fits e le =
     let o = job.opened in
     let b = job.passed in
     let n = format_bytes t o.area b i e eight in
-    let k = format_closes (geometry_in job) t o job.registers b m is eight fits in
+    let k = formats_on (geometry_in job) t o job.registers b m is (omega (arith, eight)) fits in
     record {
-      so = ap command_end k ∙ rw e refl;
-      written = ap (λ (y : Closing). y.written) k ∙ ap (λ (y : Track). Some y) (sym (format_written t o.area b m part i eight e (rw n at le)));
-      wants = rw n (format_wants (geometry_in job) t o job.registers b m is eight fits);
+      so = ap command_end k.closes ∙ rw e refl;
+      written = ap (λ (y : Closing). y.written) k.closes ∙ ap (λ (y : Track). Some y) (sym (format_written t o.area b m part i eight e (rw n at le)));
+      wants = rw n k.wants;
     }
 
 -- the count bytes have come whole, and fit
@@ -177,9 +106,7 @@ pub record FormatGoes (half : HalfDone) (more count : List ℕ) : Type 0 where
   pub whole : count ≡ half.passed ++ more
   pub at_hand : AtHand half.cache (own_track half)
 
-format_hand : (a : Action) (c : CacheState) (n : ℕ) → a ≡ action.Format → FieldAtHand a c n → AtHand c n
-format_hand a c n is h = (let P : Action → Type 0 = λ y. FieldAtHand y c n in subst P is h)
-
+-- by what the code has read of its field
 pub format_goes : (half : HalfDone) (more f field count : List ℕ) → MayTake half more → half.progress.place ≡ Field f → field ≡ overwritten f half.progress.moved more → length field ≡ 8
     → whole_of (action_now half) (own_home_address half.registers) (half.progress.moved + length more) field ≡ whole.Count count → FormatGoes half more count
 format_goes half more f field count may at is long e =
@@ -194,29 +121,25 @@ format_goes half more f field count may at is long e =
       is = new.is;
       eight = eight;
       whole = new.count ∙ sym (take_all 8 field (omega (arith, long))) ∙ come;
-      at_hand = format_hand (action_of p.opened.command) half.cache (track_under half.cache.image.geometry half.registers) new.is k.has.at_hand;
+      at_hand = rw new.is at k.has.at_hand;
     }
 
 -- a record that does not fit
-pub format_stays : (half : HalfDone) (more f field count : List ℕ) → MayTake half more → half.progress.place ≡ Field f → field ≡ overwritten f half.progress.moved more
-    → FormatGoes half more count → fits_track half.cache.image.geometry.model half.progress.opened.area count (track_of (slot_held half.cache)) ≡ false → Absorbs half more half.cache half.before (Field field)
-format_stays half more f field count may at is k no_room =
-    let g = half.cache.image.geometry in
-    let t = track_of (slot_at half.cache.slots (track_under g half.registers)) in
-    let N : Action → Type 0 = λ a. ChangesNothing a g t half.progress.opened half.registers (half.passed ++ more) in
-    let P : List ℕ → Type 0 = λ b. new_record_fits g t half.progress.opened b ≡ false in
-    let held = slot_is half.cache (track_under g half.registers) (slot_held half.cache) k.at_hand.held refl in
-    let none : ChangesNothing action.Format g t half.progress.opened half.registers (half.passed ++ more) = λ _. subst P k.whole (rw held at no_room) in
-    field_absorbs half more f field may at is (subst N (sym k.is) none)
-
-takes_format : (a : Action) → a ≡ action.Format → (a ≡ action.GiveSense → ⊥) × (a ≡ action.Read → ⊥)
-takes_format a e = (λ z. cc, λ z. cc)
+pub format_stays : (half : HalfDone) (more f field count : List ℕ) → MayTake half more → half.progress.place ≡ Field f → field ≡ overwritten f half.progress.moved more → length field ≡ 8
+    → whole_of (action_now half) (own_home_address half.registers) (half.progress.moved + length more) field ≡ whole.Count count
+    → fits_track half.cache.image.geometry.model half.progress.opened.area count (track_of (slot_held half.cache)) ≡ false → Absorbs half more half.cache half.before (Field field)
+format_stays half more f field count may at is long e no_room =
+    let k = format_goes half more f field count may at is long e in
+    let held = slot_is half.cache (own_track half) (slot_held half.cache) k.at_hand.held refl in
+    field_absorbs half more f field may at is (rw k.is (λ _. rw (held, k.whole) at no_room))
 
 -- a record that fits
-pub format_absorbs : (half : HalfDone) (more f count : List ℕ) (i : ℕ) (w : Window) → MayTake half more → half.progress.place ≡ Field f → FormatGoes half more count
+pub format_absorbs : (half : HalfDone) (more f field count : List ℕ) (i : ℕ) (w : Window) → MayTake half more → half.progress.place ≡ Field f → field ≡ overwritten f half.progress.moved more → length field ≡ 8
+    → whole_of (action_now half) (own_home_address half.registers) (half.progress.moved + length more) field ≡ whole.Count count
     → HasFormatted half.cache.image.geometry.model half.cache.image.geometry.track_size half.progress.opened.area count (track_of (slot_held half.cache)) i w
-    → Absorbs half more (after_format half.cache half.progress.opened.area count) (own_slot half) (Filled w (command_end (format_ends half.registers i)))
-format_absorbs half more f count i w may at k has =
+    → Absorbs half more (after_format half.cache half.progress.opened.area count) (slot_held half.cache) (Filled w (written.Record i))
+format_absorbs half more f field count i w may at is long e has =
+    let k = format_goes half more f field count may at is long e in
     let c = half.cache in
     let r = half.registers in
     let g = c.image.geometry in
@@ -236,16 +159,16 @@ format_absorbs half more f count i w may at k has =
     let at_new = new_slot_at c n new k.at_hand.held (there half may.works) in
     let now : List ℕ = slot_at (with_held c new).slots n in
     let lens : lengths_on (track_in now) ≡ lengths_on t0 = ap (λ (y : List ℕ). lengths_on (track_in y)) at_new ∙ ap lengths_on read.1 in
-    let last = format_there t a b i is_new.is_last in
+    let last : i < length t0.records = omega (arith, is_new.is_last, length-append (kept t a) (new_record b ∷ [])) in
     let place = update_place extent.KeyAndData t0 part.Data i w tt last is_new.place in
     let bytes = format_bytes t a b i is_new.is_last k.eight in
-    let job = new_work half more new w (command_end (format_ends r i)) in
+    let job = new_work half more new w (written.Record i) in
     let filled : IsFilled job now w (command_end (format_ends r i)) =
     form_filled job now w (format_filling job part.Data i) tt is_new.spelled last lens (omega (arith, k.eight)) (omega arith) (omega (arith, place.0, k.eight)) (omega (arith, place.1, k.eight))
     (λ m le. format_filled job m part.Data i k.is k.eight is_new.fits is_new.is_last (omega (arith, le, place.1))) in
     let whole : with_record_changed (replaced extent.KeyAndData (padded (drop 8 (b ++ [])) (update_length extent.KeyAndData (record_in t0 i)))) (Of part.Data i) t0 ≡ t0 =
     format_written t a b [] part.Data i k.eight is_new.is_last (omega arith) ∙ ap (λ (y : List ℕ). formatted t a y) (append-nil b) in
     let left : half.progress.left ≤ 8 - length half.passed = rw (at, k.is) at may.works.goes.left in
-    newly_absorbs half more new w (command_end (format_ends r i)) (omega arith) may.works k.at_hand.held (rw at refl) goes.again
-    (takes_format (action_of half.progress.opened.command) k.is) (record { stays = refl; cylinder = refl; head = refl }) (omega (arith, k.eight, goes.long)) (omega (arith, left, k.eight, goes.long)) (omega (arith, k.eight, goes.long))
+    newly_absorbs half more new w (written.Record i) (omega arith) may.works k.at_hand.held (rw at refl) goes.again
+    may.taking (omega (arith, k.eight, goes.long)) (omega (arith, left, k.eight, goes.long)) (omega (arith, k.eight, goes.long))
     filled (made ∙ ap (slot_of g.track_size) (sym whole))

@@ -1,7 +1,7 @@
 -- Tracks that a command begins to write.
-use Rattle.std.proofs.Common.{◌≡◌, ◌∙◌, ap, sym, subst, refl, ℕ, ◌+◌, ◌-◌, ◌<◌, ◌≤◌, ◌^◌, List, [], ◌∷◌, ◌++◌, Bool, true, false, ◌&&◌, ◌==◌, if◌then◌else◌, Some, length, take, drop, bytes_eq, length-append, length-take, append-nil, arith}
+use Rattle.std.proofs.Common.{◌≡◌, ◌∙◌, ap, sym, refl, ℕ, ◌+◌, ◌-◌, ◌<◌, ◌≤◌, ◌^◌, List, [], ◌∷◌, ◌++◌, true, false, ◌&&◌, ◌==◌, Some, length, take, drop, bytes_eq, length-append, length-take, append-nil, arith}
 use Rattle.std.proofs.lemmas.List.{take-append-drop, drop_all, set-get_or}
-use Rattle.std.proofs.lemmas.Bool.Decides.{nat_tests}
+use Rattle.std.proofs.lemmas.Bool.{and_parts, cond_both, eqb-true, false_from_ne_true}
 use Rattle.ckd_track.specs.Track.{track_of, track_in, slot_of}
 use Rattle.ckd_track.specs.Changes.{overwritten, bare_track}
 use Rattle.ckd_track.proofs.Slots.{length-slot_of}
@@ -10,50 +10,40 @@ use Rattle.ckd_command.specs.declared.registers.Registers.{Registers}
 use Rattle.ckd_command.specs.declared.tables.Action.{Action}
 use Rattle.ckd_command.specs.declared.tables.Action.TheVariants as action
 use Rattle.ckd_command.specs.declared.begin.Opened.{Opened}
-use Rattle.ckd_command.specs.Answers.{CommandEnd, Found}
-use Rattle.ckd_drive.specs.declared.transfer.Whole.{Whole}
+use Rattle.ckd_command.specs.Answers.{Found}
 use Rattle.ckd_drive.specs.declared.transfer.Whole.TheVariants as whole
 use Rattle.ckd_slot.specs.declared.windows.Window.{Window}
-use Rattle.ckd_drive.specs.Transfers.{Transfer, Sense, Field, Read, Search, Fill, Filled}
-use Rattle.ckd_command.specs.Tables.{action_of}
+use Rattle.ckd_drive.specs.declared.transfer.Transfer.TheVariants.{Field, Filled}
+use Rattle.ckd_command.specs.Tables.{action_of, is_giving}
 use Rattle.ckd_position.specs.Contents.{Sighted, padded}
 use Rattle.ckd_command.specs.Commands.{Closing, sight, length_after, closing, command_end, own_home_address, home_address_ends, writes}
 use Rattle.ckd_slot.specs.Buffer.{lengths_on}
-use Rattle.ckd_cache.specs.Cache.{CacheState, IsVolume, with_held}
-use Rattle.ckd_drive.specs.Invariant.{HalfDone, Works, MayTake, Absorbs, own_track, own_slot, action_now, HasFilled, IsFilled, FieldAtHand, slot_at, track_under, seen_by, is_filled_by, whole_of, AtWork, geometry_in, slot_in, action_in, at_work, with_taken}
+use Rattle.ckd_cache.specs.Cache.{slot_held, with_held}
+use Rattle.ckd_drive.specs.declared.transfer.Written.{Written}
+use Rattle.ckd_drive.specs.declared.transfer.Written.TheVariants as written
+use Rattle.ckd_drive.specs.Invariant.{HalfDone, Works, MayTake, Absorbs, own_track, own_slot, action_now, HasFilled, IsFilled, slot_at, track_under, is_filled_by, whole_of, AtWork, geometry_in, slot_in, action_in, at_work, with_taken, closes_by}
 use Rattle.ckd_slot.proofs.Writes.{bare_fits}
-use Rattle.ckd_drive.proofs.Fills.{written_works, there, new_slot_at, written_absorbs, reads_new}
-use Rattle.ckd_drive.proofs.First.{length_by, closing_by}
-use Rattle.ckd_drive.proofs.Takes.{ChangesNothing, field_goes, field_absorbs}
-
-unfilled_sees : (slots : List (List ℕ)) (n : ℕ) (before : List ℕ) (p : Transfer) → is_filled_by p ≡ false → seen_by slots n before p ≡ slots
-unfilled_sees slots n before (Sense b u) e = refl
-unfilled_sees slots n before (Field f) e = refl
-unfilled_sees slots n before (Read w u) e = refl
-unfilled_sees slots n before (Search w u) e = refl
-unfilled_sees slots n before (Fill w u) e = refl
-unfilled_sees slots n before (Filled w u) e = absurd cc
-
--- the arm stays at its track
-pub record StaysOn (r : Registers) (u : CommandEnd) : Type 0 where
-  pub stays : u.moves_off ≡ false
-  pub cylinder : u.registers.cylinder ≡ r.cylinder
-  pub head : u.registers.head ≡ r.head
+use Rattle.ckd_drive.proofs.Fills.{there, new_slot_at, written_absorbs, reads_new}
+use Rattle.ckd_command.proofs.Closings.{closing_by}
+use Rattle.ckd_command.proofs.Lengths.{length_by}
+use Rattle.ckd_drive.proofs.Fields.{ChangesNothing}
+use Rattle.ckd_drive.proofs.Takes.{field_goes, field_absorbs}
+use Rattle.ckd_drive.proofs.Standing.{no_filled_seen, slot_is}
 
 -- a command whose first bytes change the track, once they came: the slot is this
-abbrev pub new_work : HalfDone → (more new : List ℕ) → Window → CommandEnd → AtWork
-new_work half more new w u = at_work (with_taken half more (with_held half.cache new) (own_slot half) (Filled w u))
+abbrev pub new_work : HalfDone → (more new : List ℕ) → Window → Written → AtWork
+new_work half more new w what = at_work (with_taken half more (with_held half.cache new) (own_slot half) (Filled w what))
 
 -- it goes on
-pub newly_absorbs : (half : HalfDone) (more new : List ℕ) (w : Window) (u : CommandEnd) (le0 : length {A = ℕ} [] ≤ w.len)
+pub newly_absorbs : (half : HalfDone) (more new : List ℕ) (w : Window) (what : Written) (le0 : length {A = ℕ} [] ≤ w.len)
     → Works half → half.cache.held ≡ Some (own_track half) → is_filled_by half.progress.place ≡ false
     → sight half.cache.image.geometry (track_of (own_slot half)) half.progress.opened half.registers ≡ Found half.progress.opened
-    → (action_now half ≡ action.GiveSense → ⊥) × (action_now half ≡ action.Read → ⊥) → StaysOn half.registers u
+    → is_giving (action_now half) ≡ false
     → 0 < length half.passed + length more → half.progress.left - length more ≤ w.len → length half.passed + length more < 2 ^ 32
-    → (f : IsFilled (new_work half more new w u) (slot_in (new_work half more new w u)) w u)
+    → (f : IsFilled (new_work half more new w what) (slot_in (new_work half more new w what)) w (closes_by half.registers half.progress.opened what))
     → new ≡ slot_of half.cache.image.geometry.track_size (f.closes [] le0).track
-    → Absorbs half more (with_held half.cache new) (own_slot half) (Filled w u)
-newly_absorbs half more new w u le0 x held plain again takes on some left small f is =
+    → Absorbs half more (with_held half.cache new) (slot_held half.cache) (Filled w what)
+newly_absorbs half more new w what le0 x held plain again takes some left small f is =
     let c = half.cache in
     let passed = half.passed in
     let g = c.image.geometry in
@@ -68,7 +58,7 @@ newly_absorbs half more new w u le0 x held plain again takes on some left small 
     let made' : new ≡ f.head ++ (padded (drop f.lead (passed ++ more)) f.room ++ f.tail) = made ∙ ap (λ (b : List ℕ). f.head ++ (padded (drop f.lead b) f.room ++ f.tail)) same in
     let wants : length_after g (track_of old) half.progress.opened half.registers (passed ++ more) ≡ f.lead + f.room = ap (λ (b : List ℕ). length_after g (track_of old) half.progress.opened half.registers b) (sym same) ∙ f.wants [] le0 in
     let far = length-append passed more in
-    let has : HasFilled (new_work half more new w u) w u = record {
+    let has : HasFilled (new_work half more new w what) w what = record {
       at_hand = record { held = held; readable = rw at_new read.0 };
       size = x.volume.sizes n [] lt;
       filled = f;
@@ -76,25 +66,10 @@ newly_absorbs half more new w u le0 x held plain again takes on some left small 
       found = record { again = again; len = omega (arith, wants, f.rest, f.begins) };
       takes = takes;
       some = omega (arith, some, far);
-      stays = on.stays;
-      cylinder = on.cylinder;
-      head = on.head;
     } in
-    let works = written_works half old more new w u x held read.2 left has in
-    written_absorbs half old more new w u works held (set-get_or c.slots n [] ∙ sym (unfilled_sees c.slots n half.before half.progress.place plain)) small
+    rw (slot_is c n (slot_held c) held refl) (written_absorbs half old more new w what x held read.2 left has (set-get_or c.slots n [] ∙ sym (no_filled_seen c.slots n half.before half.progress.place plain)) small)
 
 -- What a field is that came whole.
-
-abbrev home_of : Whole → List ℕ
-home_of (whole.HomeAddress h) = h
-home_of _ = []
-
-abbrev count_of : Whole → List ℕ
-count_of (whole.Count b) = b
-count_of _ = []
-
-same_number : (m n : ℕ) → (m == n) ≡ true → m ≡ n
-same_number m n e = grind (arith, nat_tests)
 
 pub record IsHome (a : Action) (own : List ℕ) (moved : ℕ) (f h : List ℕ) : Type 0 where
   pub is : a ≡ action.WriteHomeAddress
@@ -102,74 +77,30 @@ pub record IsHome (a : Action) (own : List ℕ) (moved : ℕ) (f h : List ℕ) :
   pub own_address : bytes_eq (take 5 f) own ≡ true
   pub home : h ≡ take 5 f
 
-home_by : (own : List ℕ) (moved : ℕ) (f h : List ℕ) (five same : Bool) → (moved == 5) ≡ five → bytes_eq (take 5 f) own ≡ same → (if five && same then whole.HomeAddress (take 5 f) else whole.No) ≡ whole.HomeAddress h
-    → IsHome action.WriteHomeAddress own moved f h
-home_by own moved f h true true a b e = record { is = refl; five = same_number moved 5 a; own_address = b; home = sym (ap home_of e) }
-home_by own moved f h true false a b e = absurd cc
-home_by own moved f h false true a b e = absurd cc
-home_by own moved f h false false a b e = absurd cc
-
-not_home : (moved : ℕ) (f h : List ℕ) (eight : Bool) → (if eight then whole.Count f else whole.No) ≡ whole.HomeAddress h → ⊥
-not_home moved f h true e = cc
-not_home moved f h false e = cc
-
 pub is_home : (a : Action) (own : List ℕ) (moved : ℕ) (f h : List ℕ) → whole_of a own moved f ≡ whole.HomeAddress h → IsHome a own moved f h
-is_home action.WriteHomeAddress own moved f h e = home_by own moved f h (moved == 5) (bytes_eq (take 5 f) own) refl refl e
-is_home action.Format own moved f h e = absurd (not_home moved f h (moved == 8) e)
-is_home action.NoTransfer own moved f h e = absurd cc
-is_home action.SeekCylinderAndHead own moved f h e = absurd cc
-is_home action.SeekHead own moved f h e = absurd cc
-is_home action.SetFileMask own moved f h e = absurd cc
-is_home action.GiveSense own moved f h e = absurd cc
-is_home action.Search own moved f h e = absurd cc
-is_home action.Read own moved f h e = absurd cc
-is_home action.Update own moved f h e = absurd cc
+is_home action.WriteHomeAddress own moved f h e = cond_both (moved == 5 && bytes_eq (take 5 f) own) _ _ (λ w. w ≡ whole.HomeAddress h → IsHome action.WriteHomeAddress own moved f h)
+    (λ whole is. (let t = and_parts (moved == 5) (bytes_eq (take 5 f) own) whole in record { is = refl; five = eqb-true moved 5 t.0; own_address = t.1; home = cc })) (λ _ is. absurd cc) e
+is_home action.Format own moved f h e = absurd (cond_both (moved == 8) _ _ (λ w. w ≡ whole.HomeAddress h → ⊥) (λ _ is. cc) (λ _ is. cc) e)
+is_home _ own moved f h e = absurd cc
 
 pub record IsCount (a : Action) (moved : ℕ) (f b : List ℕ) : Type 0 where
   pub is : a ≡ action.Format
   pub eight : moved ≡ 8
   pub count : b ≡ f
 
-count_by : (moved : ℕ) (f b : List ℕ) (eight : Bool) → (moved == 8) ≡ eight → (if eight then whole.Count f else whole.No) ≡ whole.Count b → IsCount action.Format moved f b
-count_by moved f b true a e = record { is = refl; eight = same_number moved 8 a; count = sym (ap count_of e) }
-count_by moved f b false a e = absurd cc
-
-not_count : (f b : List ℕ) (x : Bool) → (if x then whole.HomeAddress (take 5 f) else whole.No) ≡ whole.Count b → ⊥
-not_count f b true e = cc
-not_count f b false e = cc
-
 pub is_count : (a : Action) (own : List ℕ) (moved : ℕ) (f b : List ℕ) → whole_of a own moved f ≡ whole.Count b → IsCount a moved f b
-is_count action.Format own moved f b e = count_by moved f b (moved == 8) refl e
-is_count action.WriteHomeAddress own moved f b e = absurd (not_count f b (moved == 5 && bytes_eq (take 5 f) own) e)
-is_count action.NoTransfer own moved f b e = absurd cc
-is_count action.SeekCylinderAndHead own moved f b e = absurd cc
-is_count action.SeekHead own moved f b e = absurd cc
-is_count action.SetFileMask own moved f b e = absurd cc
-is_count action.GiveSense own moved f b e = absurd cc
-is_count action.Search own moved f b e = absurd cc
-is_count action.Read own moved f b e = absurd cc
-is_count action.Update own moved f b e = absurd cc
-
-no_home : (own f : List ℕ) (same : Bool) → bytes_eq (take 5 f) own ≡ same → (if true && same then whole.HomeAddress (take 5 f) else whole.No) ≡ whole.No → bytes_eq (take 5 f) own ≡ false
-no_home own f true b e = absurd cc
-no_home own f false b e = b
+is_count action.Format own moved f b e = cond_both (moved == 8) _ _ (λ w. w ≡ whole.Count b → IsCount action.Format moved f b)
+    (λ eight is. record { is = refl; eight = eqb-true moved 8 eight; count = cc }) (λ _ is. absurd cc) e
+is_count action.WriteHomeAddress own moved f b e = absurd (cond_both (moved == 5 && bytes_eq (take 5 f) own) _ _ (λ w. w ≡ whole.Count b → ⊥) (λ _ is. cc) (λ _ is. cc) e)
+is_count _ own moved f b e = absurd cc
 
 -- what is no whole field changes nothing
 pub no_change : (a : Action) (g : Geometry) (t : Sighted) (o : Opened) (r : Registers) (moved : ℕ) (f b : List ℕ) → whole_of a (own_home_address r) moved f ≡ whole.No → length b ≡ moved → take moved f ≡ b → ChangesNothing a g t o r b
 no_change action.WriteHomeAddress g t o r moved f b e long is = λ five.
     (let m : moved ≡ 5 = sym long ∙ five in
-    let e' = rw m at e in
-    let b_is : take 5 f ≡ b = rw m at is in
-    rw b_is at (no_home (own_home_address r) f (bytes_eq (take 5 f) (own_home_address r)) refl e'))
+    false_from_ne_true (bytes_eq b (own_home_address r)) (λ own. (let e' = rw (m, rw m at is, own) at e in cc)))
 no_change action.Format g t o r moved f b e long is = λ eight. absurd (let m : moved ≡ 8 = sym long ∙ eight in let e' = rw m at e in cc)
-no_change action.NoTransfer g t o r moved f b e long is = tt
-no_change action.SeekCylinderAndHead g t o r moved f b e long is = tt
-no_change action.SeekHead g t o r moved f b e long is = tt
-no_change action.SetFileMask g t o r moved f b e long is = tt
-no_change action.GiveSense g t o r moved f b e long is = tt
-no_change action.Search g t o r moved f b e long is = tt
-no_change action.Read g t o r moved f b e long is = tt
-no_change action.Update g t o r moved f b e long is = tt
+no_change _ g t o r moved f b e long is = tt
 
 pub field_stays : (half : HalfDone) (more f field : List ℕ) → MayTake half more → half.progress.place ≡ Field f → field ≡ overwritten f half.progress.moved more
     → whole_of (action_now half) (own_home_address half.registers) (half.progress.moved + length more) field ≡ whole.No → Absorbs half more half.cache half.before (Field field)
@@ -184,15 +115,9 @@ field_stays half more f field may at is none =
 
 -- the home address
 
-pub home_closes : (g : Geometry) (t : Sighted) (o : Opened) (r : Registers) (b : List ℕ) → action_of o.command ≡ action.WriteHomeAddress → length b ≡ 5 → bytes_eq b (own_home_address r) ≡ true → closing g t o r b ≡ writes (bare_track b) (home_address_ends o r)
-home_closes g t o r b is five own = closing_by action.WriteHomeAddress g t o r b is ∙ rw (five, own) refl
-
 pub nothing_more : (b more : List ℕ) → length more ≤ 0 → b ++ more ≡ b
 nothing_more b [] le = append-nil b
 nothing_more b (x ∷ more) le = absurd (omega (arith, le))
-
-pub none_behind : (b : List ℕ) (n : ℕ) → length b ≡ n → padded (drop n b) 0 ≡ []
-none_behind b n e = (let z : drop n b ≡ [] = drop_all n b (omega (arith, e)) in rw z refl)
 
 -- the track's own home address has come whole
 abbrev pub home_filled : (job : AtWork) (now : List ℕ) → action_in job ≡ action.WriteHomeAddress → length job.passed ≡ 5 → bytes_eq job.passed (own_home_address job.registers) ≡ true → 13 ≤ (geometry_in job).track_size
@@ -218,42 +143,28 @@ home_filled job now is five own room lens =
       rest = omega (arith, five);
       closes = λ more le.
           (let e = nothing_more b more le in
-          let k : closing g t o r (b ++ more) ≡ writes (bare_track b) (home_address_ends o r) = ap (λ (x : List ℕ). closing g t o r x) e ∙ home_closes g t o r b is five own in
+          let k : closing g t o r (b ++ more) ≡ writes (bare_track b) (home_address_ends o r) = ap (λ (x : List ℕ). closing g t o r x) e ∙ closing_by action.WriteHomeAddress g t o r b is ∙ rw (five, own) refl in
           record {
             track = bare_track b;
             so = ap command_end k;
             written = ap (λ (y : Closing). y.written) k;
             fits = f;
             lengths_stay = sym lens;
-            slot_is = sym (ap (λ (x : List ℕ). take 5 s ++ (padded (drop 5 x) 0 ++ drop 5 s)) e ∙ ap (λ (x : List ℕ). take 5 s ++ (x ++ drop 5 s)) (none_behind b 5 five) ∙ take-append-drop 5 s);
+            slot_is = rw (e, drop_all 5 b (omega (arith, five))) (sym (take-append-drop 5 s));
           });
       wants = λ more le. ap (λ (x : List ℕ). length_after g t o r x) (nothing_more b more le) ∙ length_by action.WriteHomeAddress g t o r b is;
     }
 
-field_at : (a : Action) (c : CacheState) (n : ℕ) → a ≡ action.WriteHomeAddress → FieldAtHand a c n → c.held ≡ Some n
-field_at a c n is h = (let P : Action → Type 0 = λ y. FieldAtHand y c n in subst P is h)
-
-pub home_held : (half : HalfDone) (more f field h : List ℕ) → MayTake half more → half.progress.place ≡ Field f
-    → whole_of (action_now half) (own_home_address half.registers) (half.progress.moved + length more) field ≡ whole.HomeAddress h → half.cache.held ≡ Some (own_track half)
-home_held half more f field h may at e =
-    let p = half.progress in
-    let k = field_goes half more f may at in
-    let home = is_home (action_of p.opened.command) (own_home_address half.registers) (p.moved + length more) field h e in
-    field_at (action_of p.opened.command) half.cache (track_under half.cache.image.geometry half.registers) home.is k.has.at_hand
-
--- no slot is shorter than that of a track without records
-pub size_least : (c : CacheState) → IsVolume c → 13 ≤ c.image.geometry.track_size
-size_least c v = omega (arith, v.geometry.room)
-
+-- by what the code has read of its field, and by the slot that it made
 pub home_absorbs : (half : HalfDone) (more f field h new : List ℕ) → MayTake half more → half.progress.place ≡ Field f → field ≡ overwritten f half.progress.moved more
     → whole_of (action_now half) (own_home_address half.registers) (half.progress.moved + length more) field ≡ whole.HomeAddress h → new ≡ slot_of half.cache.image.geometry.track_size (bare_track h)
-    → Absorbs half more (with_held half.cache new) (own_slot half) (Filled (record { start = 5; len = 0 }) (command_end (home_address_ends half.progress.opened half.registers)))
+    → Absorbs half more (with_held half.cache new) (slot_held half.cache) (Filled (record { start = 5; len = 0 }) written.HomeAddress)
 home_absorbs half more f field h new may at is e new_is =
     let c = half.cache in
     let r = half.registers in
     let p = half.progress in
-    let room = size_least c may.works.volume in
     let g = c.image.geometry in
+    let room : 13 ≤ g.track_size = omega (arith, may.works.volume.geometry.room) in
     let n : ℕ = track_under g r in
     let k = field_goes half more f may at in
     let goes = may.works.goes in
@@ -264,15 +175,12 @@ home_absorbs half more f field h new may at is e new_is =
     let come : take 5 field ≡ b = rw (five, ← is) at k.collected in
     let h_is : h ≡ b = home.home ∙ come in
     let own : bytes_eq b (own_home_address r) ≡ true = rw come at home.own_address in
-    let held = field_at (action_of p.opened.command) c n home.is k.has.at_hand in
+    let held : c.held ≡ Some n = rw home.is at k.has.at_hand in
     let made : new ≡ slot_of g.track_size (bare_track b) = new_is ∙ ap (λ (y : List ℕ). slot_of g.track_size (bare_track y)) h_is in
     let read = reads_new g.track_size (bare_track b) new (bare_fits g.track_size b five room) made in
     let at_new = new_slot_at c n new held (there half may.works) in
     let lens : lengths_on (track_in (slot_at (with_held c new).slots n)) ≡ lengths_on (bare_track b) = ap (λ (y : List ℕ). lengths_on (track_in y)) at_new ∙ ap lengths_on read.1 in
     let left : p.left ≤ 5 - length half.passed = rw (at, home.is) at goes.left in
-    newly_absorbs half more new (record { start = 5; len = 0 }) (command_end (home_address_ends p.opened r)) (omega arith) may.works held (rw at refl) k.again
-    (takes_home (action_of p.opened.command) home.is) (record { stays = refl; cylinder = refl; head = refl }) (omega (arith, five, k.long)) (omega (arith, left, five, k.long)) (omega (arith, five, k.long))
-    (home_filled (new_work half more new (record { start = 5; len = 0 }) (command_end (home_address_ends p.opened r))) (slot_at (with_held c new).slots n) home.is five own room lens) made
-  where
-    takes_home : (a : Action) → a ≡ action.WriteHomeAddress → (a ≡ action.GiveSense → ⊥) × (a ≡ action.Read → ⊥)
-    takes_home a e = (λ z. cc, λ z. cc)
+    newly_absorbs half more new (record { start = 5; len = 0 }) written.HomeAddress (omega arith) may.works held (rw at refl) k.again
+    may.taking (omega (arith, five, k.long)) (omega (arith, left, five, k.long)) (omega (arith, five, k.long))
+    (home_filled (new_work half more new (record { start = 5; len = 0 }) written.HomeAddress) (slot_at (with_held c new).slots n) home.is five own room lens) made

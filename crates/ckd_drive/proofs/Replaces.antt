@@ -1,38 +1,36 @@
 -- A record that gets other bytes.
-use Rattle.std.proofs.Common.{◌≡◌, ◌∙◌, ap, sym, subst, refl, inl, inr, ◌⊎◌, ℕ, ◌+◌, ◌-◌, ◌<◌, ◌≤◌, List, [], ◌++◌, true, false, ◌==◌, Option, Some, None, Ok, Err, unwrap_or, length, take, drop, set, set-set, get_or-set_same, slice_index, length-append, length-drop, length-take, length-set, append-nil, arith}
+use Rattle.std.proofs.Common.{◌≡◌, ◌∙◌, ap, sym, refl, inl, inr, ℕ, ◌+◌, ◌-◌, ◌<◌, ◌≤◌, List, [], ◌++◌, true, false, ◌==◌, Option, Some, None, Ok, unwrap_or, length, take, drop, set-set, get_or-set_same, slice_index, length-append, length-drop, length-take, length-set, append-nil, arith, Bool}
 use Rattle.std.proofs.lemmas.List.{get_or_past}
 use Rattle.std.proofs.lemmas.Bool.{cases_lt}
 use Rattle.std.proofs.lemmas.Bool.Decides.{nat_tests}
-use Rattle.ckd_track.specs.Track.{Track, Record, track_of, track_in, track_or_none, record_in, no_record, record_offsets, record_size, slot_of}
+use Rattle.ckd_track.specs.Track.{Track, Record, track_of, track_in, record_in, no_record, record_offsets, record_size, slot_of}
 use Rattle.ckd_track.specs.Changes.{overwritten}
 use Rattle.ckd_track.proofs.Slots.{length-slot_of, offsets-set}
-use Rattle.ckd_track.specs.declared.geometries.Geometry.{Geometry}
 use Rattle.ckd_sense.specs.declared.commands.Command.{Command}
 use Rattle.ckd_sense.specs.declared.commands.Command.TheVariants as command
 use Rattle.ckd_position.specs.declared.areas.Area.{Area}
 use Rattle.ckd_position.specs.declared.areas.Area.TheVariants.{HomeAddress, Of}
 use Rattle.ckd_position.specs.declared.areas.Part.{Part}
-use Rattle.ckd_command.specs.declared.registers.Registers.{Registers}
-use Rattle.ckd_command.specs.declared.tables.Action.{Action}
 use Rattle.ckd_command.specs.declared.tables.Action.TheVariants as action
 use Rattle.ckd_position.specs.declared.extents.Extent.{Extent}
 use Rattle.ckd_position.specs.declared.extents.Extent.TheVariants as extent
-use Rattle.ckd_command.specs.declared.begin.Opened.{Opened}
 use Rattle.ckd_command.specs.Answers.{CommandEnd, Found}
 use Rattle.ckd_slot.specs.declared.windows.Window.{Window}
-use Rattle.ckd_drive.specs.Transfers.{Transfer, Fill, Filled}
+use Rattle.ckd_drive.specs.declared.transfer.Transfer.TheVariants.{Fill, Filled}
 use Rattle.ckd_command.specs.Tables.{action_of, extent_of}
-use Rattle.ckd_position.specs.Contents.{Sighted, bytes_of, padded, replaced, with_record_changed}
-use Rattle.ckd_command.specs.Commands.{Closing, bytes_at, area_bytes, sight, closing, end_of_area, updated, command_end, writes}
+use Rattle.ckd_position.specs.Contents.{bytes_of, padded, replaced, with_record_changed}
+use Rattle.ckd_command.specs.Commands.{Closing, bytes_at, area_bytes, sight, end_of_area, command_end, area_ends}
 use Rattle.ckd_slot.specs.Buffer.{FitsSlot, IsUpdate, IsRecordOf, SameRecords, IsPlaceOf, lengths_on}
 use Rattle.ckd_cache.specs.Cache.{CacheState, with_held, slot_held}
-use Rattle.ckd_drive.specs.Invariant.{HalfDone, MayTake, Absorbs, own_track, own_slot, action_now, IsPlaced, IsFilled, ClosesUnwritten, AtHand, PlaceIn, slot_at, track_under, AtWork, geometry_in, action_in, at_work}
+use Rattle.ckd_drive.specs.declared.transfer.Written.TheVariants as written
+use Rattle.ckd_drive.specs.Invariant.{HalfDone, MayTake, Absorbs, own_track, own_slot, action_now, IsFilled, AtHand, slot_at, track_under, AtWork, geometry_in, action_in}
 use Rattle.ckd_slot.proofs.Writes.{update_offset, update_length, update_place}
 use Rattle.ckd_slot.proofs.Updates.{form_of, same_records}
-use Rattle.ckd_drive.proofs.Fills.{there, new_slot_at, reads_new, Filling, ClosesFilled, form_filled, length-padded, next_made, old_read}
-use Rattle.ckd_drive.proofs.First.{length_by, closing_by, area_by}
-use Rattle.ckd_drive.proofs.Looks.{slot_is}
-use Rattle.ckd_drive.proofs.News.{new_work, newly_absorbs, StaysOn}
+use Rattle.ckd_drive.proofs.Fills.{there, new_slot_at, reads_new, Filling, ClosesFilled, form_filled, length-padded, padded_whole, next_made, old_read}
+use Rattle.ckd_command.proofs.Closings.{area_by, closing_by, update_closes}
+use Rattle.ckd_command.proofs.Lengths.{length_by}
+use Rattle.ckd_drive.proofs.News.{new_work, newly_absorbs}
+use Rattle.ckd_drive.proofs.Standing.{slot_is}
 
 -- Which bytes are replaced.
 
@@ -42,49 +40,15 @@ update_extent command.WriteKeyAndData e = tt
 update_extent _ e = absurd cc
 
 -- only a record's areas have bytes to replace
-record_there : (e : Extent) (t : Track) (i : ℕ) → IsUpdate e → 0 < update_length e (record_in t i) → i < length t.records
-record_there e t i u some = by_place (cases_lt i (length t.records))
-  where
-    nothing_of : (e : Extent) (r : Record) → IsUpdate e → r ≡ no_record → update_length e r ≡ 0
-    nothing_of extent.Data r u is = rw is refl
-    nothing_of extent.KeyAndData r u is = rw is refl
-    nothing_of extent.Nothing r u is = absurd u
-    nothing_of extent.CylinderAndHead r u is = absurd u
-    nothing_of extent.HomeAddress r u is = absurd u
-    nothing_of extent.Identifier r u is = absurd u
-    nothing_of extent.Count r u is = absurd u
-    nothing_of extent.Key r u is = absurd u
-    nothing_of extent.CountKeyAndData r u is = absurd u
-
-    by_place : (i < length t.records) ⊎ (length t.records ≤ i) → i < length t.records
-    by_place (inl lt) = lt
-    by_place (inr le) = absurd (let z = nothing_of e (record_in t i) u (get_or_past t.records i no_record le) in omega (arith, z, some))
-
-no_home_bytes : (e : Extent) (t : Sighted) → IsUpdate e → bytes_of e t HomeAddress ≡ []
-no_home_bytes extent.Data t u = refl
-no_home_bytes extent.KeyAndData t u = refl
-no_home_bytes extent.Nothing t u = absurd u
-no_home_bytes extent.CylinderAndHead t u = absurd u
-no_home_bytes extent.HomeAddress t u = absurd u
-no_home_bytes extent.Identifier t u = absurd u
-no_home_bytes extent.Count t u = absurd u
-no_home_bytes extent.Key t u = absurd u
-no_home_bytes extent.CountKeyAndData t u = absurd u
-
-length-bytes : (e : Extent) (t : Track) (part : Part) (i : ℕ) → IsUpdate e → length (bytes_of e (Ok t) (Of part i)) ≡ update_length e (record_in t i)
-length-bytes extent.Data t part i u = refl
-length-bytes extent.KeyAndData t part i u = length-append (record_in t i).key_area (record_in t i).data_area
-length-bytes extent.Nothing t part i u = absurd u
-length-bytes extent.CylinderAndHead t part i u = absurd u
-length-bytes extent.HomeAddress t part i u = absurd u
-length-bytes extent.Identifier t part i u = absurd u
-length-bytes extent.Count t part i u = absurd u
-length-bytes extent.Key t part i u = absurd u
-length-bytes extent.CountKeyAndData t part i u = absurd u
+in_range : (t : Track) (i : ℕ) (size : Record → ℕ) → size no_record ≡ 0 → 0 < size (record_in t i) → i < length t.records
+in_range t i size none some = elim (cases_lt i (length t.records)) [ inl lt ↦ lt | inr le ↦ absurd (let z = ap size (get_or_past t.records i no_record le) in omega (arith, z, none, some)) ]
 
 bytes_there : (e : Extent) (t : Track) (a : Area) → IsUpdate e → 0 < length (bytes_of e (Ok t) a) → IsRecordOf t a
-bytes_there e t HomeAddress u some = (let z = ap length (no_home_bytes e (Ok t) u) in absurd (omega (arith, z, some)))
-bytes_there e t (Of part i) u some = (let z = length-bytes e t part i u in record_there e t i u (omega (arith, z, some)))
+bytes_there extent.Data t (Of part i) u some = in_range t i (λ r. length r.data_area) refl some
+bytes_there extent.Data t HomeAddress u some = absurd (omega (arith, some))
+bytes_there extent.KeyAndData t (Of part i) u some = in_range t i (λ r. length (r.key_area ++ r.data_area)) refl some
+bytes_there extent.KeyAndData t HomeAddress u some = absurd (omega (arith, some))
+bytes_there _ t a u some = absurd u
 
 -- Other bytes in a record.
 
@@ -94,40 +58,22 @@ replaced_size extent.KeyAndData r b u le =
     let n = length r.key_area + length r.data_area in
     let long = length-padded b n le in
     omega (arith, long, length-take (length r.key_area) (padded b n), length-drop (length r.key_area) (padded b n))
-replaced_size extent.Nothing r b u le = absurd u
-replaced_size extent.CylinderAndHead r b u le = absurd u
-replaced_size extent.HomeAddress r b u le = absurd u
-replaced_size extent.Identifier r b u le = absurd u
-replaced_size extent.Count r b u le = absurd u
-replaced_size extent.Key r b u le = absurd u
-replaced_size extent.CountKeyAndData r b u le = absurd u
-
-abbrev with_both : Record → (key : ℕ) → List ℕ → Record
-with_both r key b = record r { key_area = take key b; data_area = drop key b }
+replaced_size _ r b u le = absurd u
 
 -- what was cleared, and then gets bytes
 cleared_first : (e : Extent) (r : Record) (b : List ℕ) → IsUpdate e → length b ≤ update_length e r → replaced e (padded b (update_length e (replaced e [] r))) (replaced e [] r) ≡ replaced e b r
 cleared_first extent.Data r b u le =
     let n = length r.data_area in
     let none : length (padded [] n) ≡ n = length-padded [] n (omega arith) in
-    let whole : padded (padded b n) n ≡ padded b n = (let z : n - length (padded b n) ≡ 0 = omega (arith, length-padded b n le) in rw z (append-nil (padded b n))) in
-    ap (λ (x : ℕ). let y : Record = record r { data_area = padded (padded b x) x } in y) none ∙ ap (λ (x : List ℕ). let y : Record = record r { data_area = x } in y) whole
+    rw (none, padded_whole b n le) refl
 cleared_first extent.KeyAndData r b u le =
     let k = length r.key_area in
     let n = k + length r.data_area in
     let none : length (padded [] n) ≡ n = length-padded [] n (omega arith) in
     let key : length (take k (padded [] n)) ≡ k = omega (arith, none, length-take k (padded [] n)) in
     let sum : length (take k (padded [] n)) + length (drop k (padded [] n)) ≡ n = omega (arith, none, length-take k (padded [] n), length-drop k (padded [] n)) in
-    let whole : padded (padded b n) n ≡ padded b n = (let z : n - length (padded b n) ≡ 0 = omega (arith, length-padded b n le) in rw z (append-nil (padded b n))) in
-    let s = length (take k (padded [] n)) + length (drop k (padded [] n)) in
-    ap (λ (x : ℕ). with_both r x (padded (padded b s) s)) key ∙ ap (λ (x : ℕ). with_both r k (padded (padded b x) x)) sum ∙ ap (with_both r k) whole
-cleared_first extent.Nothing r b u le = absurd u
-cleared_first extent.CylinderAndHead r b u le = absurd u
-cleared_first extent.HomeAddress r b u le = absurd u
-cleared_first extent.Identifier r b u le = absurd u
-cleared_first extent.Count r b u le = absurd u
-cleared_first extent.Key r b u le = absurd u
-cleared_first extent.CountKeyAndData r b u le = absurd u
+    rw (sum, key, padded_whole b n le) refl
+cleared_first _ r b u le = absurd u
 
 cleared_length : (e : Extent) (r : Record) → IsUpdate e → update_length e (replaced e [] r) ≡ update_length e r
 cleared_length extent.Data r u = length-padded [] (length r.data_area) (omega arith)
@@ -135,13 +81,7 @@ cleared_length extent.KeyAndData r u =
     let k = length r.key_area in
     let n = k + length r.data_area in
     omega (arith, length-padded [] n (omega arith), length-take k (padded [] n), length-drop k (padded [] n))
-cleared_length extent.Nothing r u = absurd u
-cleared_length extent.CylinderAndHead r u = absurd u
-cleared_length extent.HomeAddress r u = absurd u
-cleared_length extent.Identifier r u = absurd u
-cleared_length extent.Count r u = absurd u
-cleared_length extent.Key r u = absurd u
-cleared_length extent.CountKeyAndData r u = absurd u
+cleared_length _ r u = absurd u
 
 abbrev cleared : Extent → Part → ℕ → Track → Track
 cleared e part i t = with_record_changed (replaced e []) (Of part i) t
@@ -159,43 +99,16 @@ cleared_offset extent.Data t part i u lt =
     let key = ap (λ (r : Record). length r.key_area) (cleared_record extent.Data t part i lt) in
     omega (arith, offs, key)
 cleared_offset extent.KeyAndData t part i u lt = ap (λ (os : List ℕ). slice_index os i + 8) (cleared_offsets extent.KeyAndData t part i tt)
-cleared_offset extent.Nothing t part i u lt = absurd u
-cleared_offset extent.CylinderAndHead t part i u lt = absurd u
-cleared_offset extent.HomeAddress t part i u lt = absurd u
-cleared_offset extent.Identifier t part i u lt = absurd u
-cleared_offset extent.Count t part i u lt = absurd u
-cleared_offset extent.Key t part i u lt = absurd u
-cleared_offset extent.CountKeyAndData t part i u lt = absurd u
+cleared_offset _ t part i u lt = absurd u
 
 -- a track whose record was cleared, and then gets bytes
 cleared_changed : (e : Extent) (t : Track) (part : Part) (i : ℕ) (b : List ℕ) → IsUpdate e → i < length t.records → length b ≤ update_length e (record_in t i)
     → with_record_changed (replaced e (padded b (update_length e (record_in (cleared e part i t) i)))) (Of part i) (cleared e part i t) ≡ with_record_changed (replaced e b) (Of part i) t
 cleared_changed e t part i b u lt le =
     let r = record_in t i in
-    let there = cleared_record e t part i lt in
-    let t0 = cleared e part i t in
-    let G : Record → Record = λ x. replaced e (padded b (update_length e x)) x in
-    let new : G (record_in t0 i) ≡ replaced e b r = ap G there ∙ cleared_first e r b u le in
-    ap (λ (x : Record). let y : Track = record t { records = set (set t.records i (replaced e [] r)) i x } in y) new
-    ∙ ap (λ (rs : List Record). let y : Track = record t { records = rs } in y) (set-set t.records i (replaced e [] r) (replaced e b r))
+    rw (cleared_record e t part i lt, cleared_first e r b u le, set-set t.records i (replaced e [] r) (replaced e b r)) refl
 
 -- How an update closes of which a byte has come.
-
-positive : (n : ℕ) → 0 < n → (n == 0) ≡ false
-positive n some = grind (arith, nat_tests)
-
-updated_is : (slot : List ℕ) (a : Area) (t : Sighted) (area : Option Area) (change : Record → Record) (c : Closing) → t ≡ Ok (track_in slot) → area ≡ Some a → updated t area change c ≡ writes (with_record_changed change a (track_in slot)) c
-updated_is slot a (Ok t) (Some x) change c e f =
-    let t_is : t ≡ track_in slot = ap track_or_none e in
-    let x_is : x ≡ a = ap (λ (y : Option Area). unwrap_or y a) f in
-    ap (λ (y : Track). writes (with_record_changed change x y) c) t_is ∙ ap (λ (y : Area). writes (with_record_changed change y (track_in slot)) c) x_is
-updated_is slot a (Ok t) None change c e f = absurd cc
-updated_is slot a (Err x) area change c e f = absurd cc
-
-update_closes : (g : Geometry) (slot : List ℕ) (o : Opened) (r : Registers) (a : Area) (b : List ℕ) → action_of o.command ≡ action.Update → track_of slot ≡ Ok (track_in slot) → o.area ≡ Some a → 0 < length b
-    → closing g (track_of slot) o r b ≡ writes (with_record_changed (replaced (extent_of o.command) b) a (track_in slot)) (end_of_area (track_of slot) o r)
-update_closes g slot o r a b is reads there some =
-    closing_by action.Update g (track_of slot) o r b is ∙ rw (positive (length b) some) (updated_is slot a (track_of slot) o.area (replaced (extent_of o.command) b) (end_of_area (track_of slot) o r) reads there)
 
 -- the record that an update fills
 abbrev fill_filling : AtWork → Part → ℕ → CommandEnd → Filling
@@ -203,6 +116,7 @@ fill_filling job part i u =
     let e = extent_of job.opened.command in
     record { closes = u; track = cleared e part i (track_in job.before); extent = e; part = part; number = i; lead = 0 }
 
+-- how an update of that record closes, by all that a look found of it
 fill_filled : (job : AtWork) (part : Part) (i : ℕ) (b : List ℕ) (u : CommandEnd) → action_in job ≡ action.Update → IsUpdate (extent_of job.opened.command) → track_of job.before ≡ Ok (track_in job.before) → job.opened.area ≡ Some (Of part i)
     → i < length (track_in job.before).records → 0 < length b → length b ≤ update_length (extent_of job.opened.command) (record_in (track_in job.before) i) → command_end (end_of_area (track_of job.before) job.opened job.registers) ≡ u
     → length (area_bytes (track_of job.before) job.opened job.registers) ≡ update_length (extent_of job.opened.command) (record_in (track_in job.before) i)
@@ -222,7 +136,7 @@ fill_filled job part i b u is upd reads there lt some le so size =
 
 -- A command's first bytes that replace others.
 
-pub record FillGoes (half : HalfDone) (more : List ℕ) (a : Area) (w : Window) (u : CommandEnd) : Type 0 where
+pub record FillGoes (half : HalfDone) (more : List ℕ) (a : Area) (w : Window) (no_data : Bool) : Type 0 where
   pub is : action_now half ≡ action.Update
   pub hand : AtHand half.cache (own_track half)
   pub upd : IsUpdate (extent_of half.progress.opened.command)
@@ -234,24 +148,24 @@ pub record FillGoes (half : HalfDone) (more : List ℕ) (a : Area) (w : Window) 
   pub within : w.start + w.len ≤ half.cache.image.geometry.track_size
   pub again : sight half.cache.image.geometry (track_of (own_slot half)) half.progress.opened half.registers ≡ Found half.progress.opened
   pub size : length (area_bytes (track_of (own_slot half)) half.progress.opened half.registers) ≡ w.len
-  pub so : command_end (end_of_area (track_of (own_slot half)) half.progress.opened half.registers) ≡ u
+  pub so : command_end (end_of_area (track_of (own_slot half)) half.progress.opened half.registers) ≡ command_end (area_ends half.progress.opened half.registers no_data)
 
 -- bytes that come belong to an area
-pub no_area : (half : HalfDone) (more : List ℕ) (w : Window) (u : CommandEnd) → MayTake half more → half.progress.place ≡ Fill w u → half.progress.opened.area ≡ None → 0 < length more → ⊥
-no_area half more w u may at none some =
+pub no_area : (half : HalfDone) (more : List ℕ) (w : Window) (no_data : Bool) → MayTake half more → half.progress.place ≡ Fill w no_data → half.progress.opened.area ≡ None → (length more == 0) ≡ false → ⊥
+no_area half more w no_data may at none came =
+    let some : 0 < length more = grind (arith, nat_tests) in
     let g = half.cache.image.geometry in
     let n : ℕ = track_under g half.registers in
     let t = track_of (slot_at half.cache.slots n) in
     let left : half.progress.left ≤ w.len = rw at at may.works.goes.left in
-    let P : Transfer → Type 0 = λ y. IsPlaced (at_work half) y in
-    let h = (subst P at may.works.goes.placed).0 in
+    let h = (rw at at may.works.goes.placed).0 in
     let bytes : area_bytes t half.progress.opened half.registers ≡ [] = area_by action.Update t half.progress.opened half.registers h.is_update ∙ rw none refl in
     let zero : 0 ≡ w.len = sym (ap length bytes) ∙ h.lies.size in
     omega (arith, zero, left, may.room, some)
 
-pub fill_goes : (half : HalfDone) (more : List ℕ) (a : Area) (w : Window) (u : CommandEnd) → MayTake half more → half.progress.place ≡ Fill w u → half.progress.opened.area ≡ Some a → 0 < length more
-    → FillGoes half more a w u
-fill_goes half more a w u may at area some =
+pub fill_goes : (half : HalfDone) (more : List ℕ) (a : Area) (w : Window) (no_data : Bool) → MayTake half more → half.progress.place ≡ Fill w no_data → half.progress.opened.area ≡ Some a → 0 < length more
+    → FillGoes half more a w no_data
+fill_goes half more a w no_data may at area some =
     let r = half.registers in
     let p = half.progress in
     let g = half.cache.image.geometry in
@@ -259,20 +173,15 @@ fill_goes half more a w u may at area some =
     let old = slot_at half.cache.slots n in
     let t = track_of old in
     let left : p.left ≤ w.len = rw at at may.works.goes.left in
-    let P : Transfer → Type 0 = λ y. IsPlaced (at_work half) y in
-    let placed = subst P at may.works.goes.placed in
+    let placed = rw at at may.works.goes.placed in
     let h = placed.0 in
     let e = extent_of p.opened.command in
     let upd = update_extent p.opened.command h.is_update in
     let reads = old_read old h.at_hand.readable in
     let bytes : area_bytes t p.opened r ≡ bytes_of e t a = area_by action.Update t p.opened r h.is_update ∙ ap (λ (y : Option Area). bytes_at e t y) area in
-    let B : Sighted → Type 0 = λ y. 0 < length (bytes_of e y a) in
-    let W : Option Area → Type 0 = λ y. PlaceIn e (track_in old) y w in
     let count : length (bytes_of e t a) ≡ w.len = ap length (sym bytes) ∙ h.lies.size in
     let full : 0 < length (bytes_of e t a) = omega (arith, count, left, may.room, some) in
     let closes = closing_by action.Update g t p.opened r [] h.is_update in
-    let K : List ℕ → Type 0 = λ b. ClosesUnwritten (at_work (record half { passed = b })) t u in
-    let closed = subst K h.none placed.2 in
     record {
       is = h.is_update;
       hand = h.at_hand;
@@ -280,32 +189,28 @@ fill_goes half more a w u may at area some =
       none = h.none;
       le = omega (arith, left, may.room);
       left = left;
-      there = bytes_there e (track_in old) a upd (subst B reads full);
-      place = subst W area h.place;
+      there = bytes_there e (track_in old) a upd (rw reads at full);
+      place = rw area at h.place;
       within = omega (arith, h.lies.within, may.works.volume.sizes n [] (there half may.works));
       again = placed.1.again;
       size = h.lies.size;
-      so = ap command_end (sym closes) ∙ closed.so;
+      so = ap command_end (sym closes) ∙ rw h.none at placed.2.so;
     }
-
-takes_update : (a : Action) → a ≡ action.Update → (a ≡ action.GiveSense → ⊥) × (a ≡ action.Read → ⊥)
-takes_update a e = (λ z. cc, λ z. cc)
-
-ends_on : (t : Sighted) (o : Opened) (r : Registers) (u : CommandEnd) → command_end (end_of_area t o r) ≡ u → StaysOn r u
-ends_on t o r u so = record { stays = ap (λ (y : CommandEnd). y.moves_off) (sym so); cylinder = ap (λ (y : CommandEnd). y.registers.cylinder) (sym so); head = ap (λ (y : CommandEnd). y.registers.head) (sym so) }
 
 -- the slot that was cleared, and then gets bytes
 abbrev pub cleared_slot : HalfDone → Area → List ℕ
 cleared_slot half a = slot_of half.cache.image.geometry.track_size (with_record_changed (replaced (extent_of half.progress.opened.command) []) a (track_in (own_slot half)))
 
-pub record Replaces (half : HalfDone) (more : List ℕ) (a : Area) (w : Window) (u : CommandEnd) : Type 0 where
+pub record Replaces (half : HalfDone) (more : List ℕ) (a : Area) (w : Window) (no_data : Bool) : Type 0 where
   pub records : SameRecords (cleared_slot half a) (overwritten (cleared_slot half a) w.start more)
-  pub absorbs : Absorbs half more (with_held half.cache (overwritten (cleared_slot half a) w.start more)) (own_slot half) (Filled (record { start = w.start + length more; len = w.len - length more }) u)
+  pub absorbs : Absorbs half more (with_held half.cache (overwritten (cleared_slot half a) w.start more)) (slot_held half.cache) (Filled (record { start = w.start + length more; len = w.len - length more }) (written.Area no_data))
 
-pub fill_absorbs : (half : HalfDone) (more : List ℕ) (a : Area) (w : Window) (u : CommandEnd) → MayTake half more → half.progress.place ≡ Fill w u → half.progress.opened.area ≡ Some a → 0 < length more
-    → FillGoes half more a w u → FitsSlot half.cache.image.geometry.track_size (with_record_changed (replaced (extent_of half.progress.opened.command) []) a (track_in (own_slot half))) → Replaces half more a w u
-fill_absorbs half more HomeAddress w u may at area some k f = absurd k.there
-fill_absorbs half more (Of part i) w u may at area some k f =
+-- the drive then holds a track that is being written
+pub fill_absorbs : (half : HalfDone) (more : List ℕ) (a : Area) (w : Window) (no_data : Bool) → MayTake half more → half.progress.place ≡ Fill w no_data → half.progress.opened.area ≡ Some a → 0 < length more
+    → FillGoes half more a w no_data → FitsSlot half.cache.image.geometry.track_size (with_record_changed (replaced (extent_of half.progress.opened.command) []) a (track_in (own_slot half))) → Replaces half more a w no_data
+fill_absorbs half more HomeAddress w no_data may at area some k f = absurd k.there
+fill_absorbs half more (Of part i) w no_data may at area some k f =
+    let u = command_end (area_ends half.progress.opened half.registers no_data) in
     let g = half.cache.image.geometry in
     let n : ℕ = track_under g half.registers in
     let old = slot_at half.cache.slots n in
@@ -347,27 +252,42 @@ fill_absorbs half more (Of part i) w u may at area some k f =
     let b_long : length b ≡ length more = ap length b_is in
     let none_long : length half.passed ≡ 0 = ap length k.none in
     let w' : Window = record { start = w.start + length more; len = w.len - length more } in
-    let job = new_work half more new w' u in
+    let job = new_work half more new w' (written.Area no_data) in
     let filled : IsFilled job now w' u =
     form_filled job now w' (fill_filling job part i u) k.upd f lt0 lengths (omega arith) (omega arith) (omega (arith, start, b_long)) (omega (arith, len, b_long, k.le))
     (λ m le. fill_filled job part i (b ++ m) u k.is k.upd reads area k.there (omega (arith, length-append b m, b_long, some)) (omega (arith, length-append b m, b_long, le, k.le, pl.1)) k.so (k.size ∙ pl.1)) in
     let whole : b ++ [] ≡ more = append-nil b ∙ b_is in
     record {
       records = same_records size s1 new t1 (old_read s1 read1.0) form.fits new_is (form.lengths ∙ sym (ap lengths_on read1.1));
-      absorbs = newly_absorbs half more new w' u (omega arith) may.works k.hand.held (rw at refl) k.again (takes_update (action_of half.progress.opened.command) k.is) (ends_on (track_of old) half.progress.opened half.registers u k.so)
+      absorbs = newly_absorbs half more new w' (written.Area no_data) (omega arith) may.works k.hand.held (rw at refl) k.again may.taking
           (omega (arith, some)) (let l = k.left in omega (arith, l)) (omega (arith, none_long, k.le, k.within, may.works.volume.geometry.limit)) filled
           (new_is ∙ ap (λ (y : List ℕ). slot_of size (with_record_changed (replaced e (padded y room0)) (Of part i) t0)) (sym whole));
     }
-
-pub held_slot : (c : CacheState) (n : ℕ) → c.held ≡ Some n → slot_held c ≡ slot_at c.slots n
-held_slot c n held = slot_is c n (slot_held c) held refl
-
-pub held_now : (c c' : CacheState) (n : ℕ) (new : List ℕ) → c.held ≡ Some n → n < length c.slots → c' ≡ with_held c new → slot_held c' ≡ new
-held_now c c' n new held lt is = ap slot_held is ∙ held_slot (with_held c new) n held ∙ new_slot_at c n new held lt
 
 -- a slot that is written twice
 pub held_twice : (c : CacheState) (one two : List ℕ) → with_held (with_held c one) two ≡ with_held c two
 held_twice c one two = ap (λ (slots : List (List ℕ)). let y : CacheState = record c { slots = slots; changed = true } in y) (set-set c.slots (unwrap_or c.held 0) one two)
 
-pub some_of : (n : ℕ) → (n == 0) ≡ false → 0 < n
-some_of n e = grind (arith, nat_tests)
+-- what such bytes make of the track, by the slot at hand, and once that was cleared
+pub record FillsCleared (half : HalfDone) (more : List ℕ) (a : Area) (w : Window) (no_data : Bool) (c : CacheState) : Type 0 where
+  pub records : SameRecords (slot_held c) (overwritten (slot_held c) w.start more)
+  pub absorbs : Absorbs half more (with_held c (overwritten (slot_held c) w.start more)) (slot_held half.cache) (Filled (record { start = w.start + length more; len = w.len - length more }) (written.Area no_data))
+
+pub fill_there : (half : HalfDone) (more : List ℕ) (a : Area) (w : Window) (no_data : Bool) → MayTake half more → half.progress.place ≡ Fill w no_data → half.progress.opened.area ≡ Some a → (length more == 0) ≡ false → IsRecordOf (track_in (slot_held half.cache)) a
+fill_there half more a w no_data may at area came =
+    let k = fill_goes half more a w no_data may at area (grind (arith, nat_tests)) in
+    rw (slot_is half.cache (own_track half) (slot_held half.cache) k.hand.held refl) k.there
+
+-- by the cache as the code has it between the two writes
+pub fills_cleared : (half : HalfDone) (more : List ℕ) (a : Area) (w : Window) (no_data : Bool) (c : CacheState) → MayTake half more → half.progress.place ≡ Fill w no_data → half.progress.opened.area ≡ Some a → (length more == 0) ≡ false
+    → c ≡ with_held half.cache (slot_of half.cache.image.geometry.track_size (with_record_changed (replaced (extent_of half.progress.opened.command) []) a (track_in (slot_held half.cache))))
+    → FitsSlot half.cache.image.geometry.track_size (with_record_changed (replaced (extent_of half.progress.opened.command) []) a (track_in (slot_held half.cache))) → FillsCleared half more a w no_data c
+fills_cleared half more a w no_data c may at area came made fits =
+    let some : 0 < length more = grind (arith, nat_tests) in
+    let k = fill_goes half more a w no_data may at area some in
+    let n = own_track half in
+    let old : slot_held half.cache ≡ own_slot half = slot_is half.cache n (slot_held half.cache) k.hand.held refl in
+    let slot = cleared_slot half a in
+    let x = fill_absorbs half more a w no_data may at area some k (rw old at fits) in
+    let now : slot_held (with_held half.cache slot) ≡ slot = slot_is (with_held half.cache slot) n (slot_held (with_held half.cache slot)) k.hand.held refl ∙ new_slot_at half.cache n slot k.hand.held (there half may.works) in
+    rw made record { records = rw (old, now) x.records; absorbs = rw (old, now, held_twice half.cache slot (overwritten slot w.start more)) (rw old at x.absorbs) }

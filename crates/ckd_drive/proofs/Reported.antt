@@ -1,89 +1,68 @@
 -- A failed call of the store is reported: it follows from what the definitions say of the state, and from how often the
 -- store was called.
-use Rattle.std.proofs.Common.{◌≡◌, ◌∙◌, inl, inr, ◌⊎◌, ap, sym, refl, ℕ, ◌+◌, List, [], Bool, true, false, ◌&&◌, Option, Some, None, slice_index_or, arith}
+use Rattle.std.proofs.Common.{◌≡◌, ◌∙◌, inl, inr, ◌⊎◌, ap, sym, refl, ℕ, ◌+◌, List, Bool, true, false, ◌&&◌, Option, Some, None, arith}
+use Rattle.std.proofs.lemmas.Bool.{and_parts, true_from_ne_false}
 use Rattle.ckd_command.specs.declared.registers.Registers.{Registers}
-use Rattle.ckd_command.specs.declared.registers.Mark.{Mark}
-use Rattle.ckd_command.specs.declared.registers.Mark.TheVariants.{Saved, Written, Lost}
+use Rattle.ckd_command.specs.declared.registers.Mark.TheVariants.{Written}
 use Rattle.ckd_command.specs.declared.tables.Aim.{Aim}
-use Rattle.ckd_command.specs.declared.tables.Aim.TheVariants.{NoArea, Next, Credited}
+use Rattle.ckd_command.specs.declared.tables.Aim.TheVariants.{Next}
 use Rattle.ckd_command.specs.Answers.{Beginning, Sight}
 use Rattle.ckd_command.specs.Answers as command_answer
 use Rattle.ckd_command.specs.declared.close.DriveEnding.{DriveEnding}
 use Rattle.ckd_command.specs.Tables.{aim}
 use Rattle.ckd_command.specs.Commands.{Closing, beginning, sight, closing}
-use Rattle.ckd_command.specs.Drive.{State, Fault, LoadFails, SaveFails, Rejected, Closed, begin, begun, looked, look_for, closed, with_registers, is_written, is_written_by, number_under, track_under, tells_equipment_check, unsaved, lost, failed, closed_by}
+use Rattle.ckd_command.specs.Drive.{State, Fault, LoadFails, SaveFails, Rejected, Closed, begin, begun, looked, look_for, closed, with_registers, is_written, track_under, tells_equipment_check, unsaved, lost, failed, closed_by}
 use Rattle.ckd_command.proofs.CommandFacts.{NotTold, BeginsSilent, SightSilent, closing_facts, beginning_silent, sight_silent, store_fault_is_told}
 use Rattle.ckd_drive.specs.declared.answers.Begun.{Begun}
 use Rattle.ckd_drive.specs.declared.answers.Begun.TheVariants as answer
-use Rattle.ckd_drive.specs.Work.{Work, Idle, Over, Looking, Passing, DriveState, CallsStore, Reports, fault_met, with_image, open_at, after_begin, after_begun, answer_of_begin, begin_saves, goes_to_cylinder_zero, after_look, after_look_of, after_sight, look_loads, look_loads_of, look_saves, look_saves_of, goes_to_next_head, failed_ending, after_end, closed_of, ending_of, end_saves, end_saves_of, after_settle, is_next}
-use Rattle.ckd_drive.proofs.Faults.{fault_none, fault_loading, fault_saving}
+use Rattle.ckd_drive.specs.Work.{Work, Over, Looking, Passing, DriveState, CallsStore, Reports, fault_met, with_image, open_at, after_begin, after_begun, answer_of_begin, begin_saves, goes_to_cylinder_zero, after_look, after_look_of, after_sight, look_loads, look_loads_of, look_saves, look_saves_of, goes_to_next_head, failed_ending, after_end, closed_of, ending_of, end_saves, end_saves_of, after_settle, settled_state, is_next}
+use Rattle.ckd_drive.proofs.Faults.{fault_none, fault_loading, fault_saving, mark_written}
 use Rattle.ckd_drive.proofs.Calls.{no_more}
-
--- The fault that a call met, by how often it called the store.
-
--- none; or that of a saving; or that of a load
-pub data Failure (loads saves : Bool) (old new : DriveState) : Type 0 where
-  NoFailure : (same : new.image.failures ≡ old.image.failures) → Failure loads saves old new
-  SavingFailed : (left : List ℕ) (saved : saves ≡ true) (fault : fault_met old new ≡ Some (SaveFails left)) → Failure loads saves old new
-  LoadFailed : (loaded : loads ≡ true) (more : new.image.loads ≡ old.image.loads + 1) (fault : fault_met old new ≡ Some LoadFails) → Failure loads saves old new
-
-failure_of : (loads saves : Bool) (old new : DriveState) → CallsStore loads saves old new → Failure loads saves old new
-failure_of loads saves old new k = go k.failures
-  where
-    of_load : new.image.failures ≡ old.image.failures + 1 → new.image.loads ≡ old.image.loads + 1
-        → (new.image.loads ≡ old.image.loads) ⊎ ((loads ≡ true) × (saves ≡ false) × (new.image.loads ≡ old.image.loads + 1)) → Failure loads saves old new
-    of_load more loaded (inl same) = absurd (no_more old.image.loads (sym same ∙ loaded))
-    of_load more loaded (inr x) =
-        let saved = rw x.1 at k.saves in
-        LoadFailed x.0 loaded (fault_loading old new more (omega (arith, saved)))
-
-    by : new.image.failures ≡ old.image.failures + 1 → (saves ≡ true) ⊎ (new.image.loads ≡ old.image.loads + 1) → Failure loads saves old new
-    by more (inl s) = (let saved = rw s at k.saves in SavingFailed (slice_index_or new.image.slots (number_under old.state) []) s (fault_saving old new more saved))
-    by more (inr l) = of_load more l k.loads
-
-    go : (new.image.failures ≡ old.image.failures) ⊎ ((new.image.failures ≡ old.image.failures + 1) × ((saves ≡ true) ⊎ (new.image.loads ≡ old.image.loads + 1))) → Failure loads saves old new
-    go (inl same) = NoFailure same
-    go (inr x) = by x.0 x.1
 
 -- What is reported.
 
 -- what is reported at the end, and is not reported anew, was reported before
 heard : (r q : Registers) → NotTold r q → tells_equipment_check q.sense ≡ true → tells_equipment_check r.sense ≡ true
-heard r q n e = go (tells_equipment_check r.sense) refl
-  where
-    go : (b : Bool) → tells_equipment_check r.sense ≡ b → tells_equipment_check r.sense ≡ true
-    go true is = is
-    go false is = absurd (let quiet : tells_equipment_check q.sense ≡ false = n is in cc)
+heard r q n e = true_from_ne_false (tells_equipment_check r.sense) (λ is. (let quiet : tells_equipment_check q.sense ≡ false = n is in cc))
 
 -- a fault is reported, and nothing is left to be saved
 pub record TellsFault (s : State) : Type 0 where
   pub told : tells_equipment_check s.registers.sense ≡ true
   pub unwritten : is_written s ≡ false
 
-reports : (so : Type 0) (old new : DriveState) (s : State) → new.state ≡ s → TellsFault s → so → (new.image.failures ≡ old.image.failures) ⊎ (so × (tells_equipment_check new.state.registers.sense ≡ true) × (is_written new.state ≡ false))
-reports so old new s is t holds = inr (holds, ap (λ (x : State). tells_equipment_check x.registers.sense) is ∙ t.told, ap (λ (x : State). is_written x) is ∙ t.unwritten)
-
-both_hold : (a b : Bool) → (a && b) ≡ true → (a ≡ true) × (b ≡ true)
-both_hold true true e = (refl, refl)
-both_hold true false e = absurd cc
-both_hold false b e = absurd cc
-
-written_mark : (m : Mark) → is_written_by m ≡ true → m ≡ Written
-written_mark Written e = refl
-written_mark Saved e = absurd cc
-written_mark Lost e = absurd cc
-
 lost_tells : (s : State) (left : List ℕ) → TellsFault (lost s left)
 lost_tells s left = record { told = store_fault_is_told (record s.registers { credit = None }); unwritten = refl }
+
+-- what a call reports that leaves this by the fault that it met
+reports_by : (so : Type 0) (loads saves : Bool) (old new : DriveState) (after : Option Fault → State)
+    → new.state ≡ after (fault_met old new) → CallsStore loads saves old new → NotTold old.state.registers (after None).registers
+    → ((left : List ℕ) → saves ≡ true → fault_met old new ≡ Some (SaveFails left) → so × TellsFault (after (Some (SaveFails left))))
+    → (loads ≡ true → new.image.loads ≡ old.image.loads + 1 → fault_met old new ≡ Some LoadFails → so × TellsFault (after (Some LoadFails)))
+    → Reports so old new
+reports_by so loads saves old new after state k quiet saving loading = record {
+  failed = elim k.failures [
+    | inl same ↦ inl same
+    | inr x ↦ elim x.1 [
+      | inl s ↦ (let saved = rw s at k.saves in let met = fault_saving old new x.0 saved in fails _ met (saving _ s met))
+      | inr more ↦ elim k.loads [
+        | inl same ↦ absurd (no_more old.image.loads (sym same ∙ more))
+        | inr l ↦ (let saved = rw l.1 at k.saves in let met = fault_loading old new x.0 (omega (arith, saved)) in fails _ met (loading l.0 more met))
+      ]
+    ]
+  ];
+  good = λ same told. heard old.state.registers (after None).registers quiet (sym (ap (λ (x : State). tells_equipment_check x.registers.sense) (state ∙ ap after (fault_none old new same))) ∙ told);
+}
+  where
+    fails : (f : Option Fault) → fault_met old new ≡ f → so × TellsFault (after f) → (new.image.failures ≡ old.image.failures) ⊎ (so × (tells_equipment_check new.state.registers.sense ≡ true) × (is_written new.state ≡ false))
+    fails f met x =
+        let is : new.state ≡ after f = state ∙ ap after met in
+        inr (x.0, ap (λ (y : State). tells_equipment_check y.registers.sense) is ∙ x.1.told, ap (λ (y : State). is_written y) is ∙ x.1.unwritten)
 
 -- Begin.
 
 begun_quiet : (d : DriveState) (b : Beginning) → BeginsSilent d.state.registers b → NotTold d.state.registers (after_begun (begun None d.state b) d).state.registers
-begun_quiet d (command_answer.Rejected r) k = k
-begun_quiet d (command_answer.Immediate r) k = k
-begun_quiet d (command_answer.Started r o) k = k
 begun_quiet d (command_answer.ToCylinderZero r None) k = k
-begun_quiet d (command_answer.ToCylinderZero r (Some o)) k = k
+begun_quiet d _ k = k
 
 pub record LosesAtBegin (f : Option Fault) (s : State) (b : Beginning) : Type 0 where
   pub state : State
@@ -92,172 +71,99 @@ pub record LosesAtBegin (f : Option Fault) (s : State) (b : Beginning) : Type 0 
 
 loses_at_begin : (s : State) (b : Beginning) (left : List ℕ) → is_written s ≡ true → goes_to_cylinder_zero b ≡ true → LosesAtBegin (Some (SaveFails left)) s b
 loses_at_begin s (command_answer.ToCylinderZero r o) left w e =
-    let written : s.mark ≡ Written = written_mark s.mark w in
+    let written : s.mark ≡ Written = mark_written s.mark w in
     record { state = lost (with_registers s r) left; rejected = rw written refl; tells = lost_tells (with_registers s r) left }
-loses_at_begin s (command_answer.Rejected r) left w e = absurd cc
-loses_at_begin s (command_answer.Immediate r) left w e = absurd cc
-loses_at_begin s (command_answer.Started r o) left w e = absurd cc
+loses_at_begin s _ left w e = absurd cc
 
 pub begin_reports : (old new : DriveState) (code : ℕ) (a : Begun)
     → new ≡ with_image (after_begin (fault_met old new) code old) new.image → a ≡ answer_of_begin (begin (fault_met old new) code old.state) → CallsStore false (begin_saves code old) old new
     → Reports (a ≡ answer.Rejected) old new
-begin_reports old new code a state says k = record { failed = go (failure_of false (begin_saves code old) old new k); good = quiet }
-  where
-    quiet : new.image.failures ≡ old.image.failures → tells_equipment_check new.state.registers.sense ≡ true → tells_equipment_check old.state.registers.sense ≡ true
-    quiet same told =
-        let none : fault_met old new ≡ None = fault_none old new same in
-        let is : new.state ≡ (after_begin None code old).state = ap (λ (d : DriveState). d.state) state ∙ rw none refl in
-        heard old.state.registers (after_begin None code old).state.registers (begun_quiet old (beginning code old.state.registers) (beginning_silent code old.state.registers))
-        (sym (ap (λ (x : State). tells_equipment_check x.registers.sense) is) ∙ told)
-
-    go : Failure false (begin_saves code old) old new → (new.image.failures ≡ old.image.failures) ⊎ ((a ≡ answer.Rejected) × (tells_equipment_check new.state.registers.sense ≡ true) × (is_written new.state ≡ false))
-    go (NoFailure same) = inl same
-    go (SavingFailed left saved fault) =
-        let b = both_hold (is_written old.state) (goes_to_cylinder_zero (beginning code old.state.registers)) saved in
-        let x = loses_at_begin old.state (beginning code old.state.registers) left b.0 b.1 in
-        let is : new.state ≡ x.state = ap (λ (d : DriveState). d.state) state ∙ rw (fault, x.rejected) refl in
-        reports (a ≡ answer.Rejected) old new x.state is x.tells (says ∙ rw (fault, x.rejected) refl)
-    go (LoadFailed loaded more fault) = absurd cc
+begin_reports old new code a state says k =
+    let b = beginning code old.state.registers in
+    reports_by (a ≡ answer.Rejected) false (begin_saves code old) old new (λ f. (after_begin f code old).state) (ap (λ (d : DriveState). d.state) state) k (begun_quiet old b (beginning_silent code old.state.registers))
+    (λ left saved met.
+    (let both = and_parts (is_written old.state) (goes_to_cylinder_zero b) saved in
+    let x = loses_at_begin old.state b left both.0 both.1 in
+    (says ∙ rw (met, x.rejected) refl, rw x.rejected x.tells)))
+    (λ loaded more met. absurd cc)
 
 -- Look.
 
 look_quiet : (d : DriveState) (w : Work) → NotTold d.state.registers (after_look_of None d w).state.registers
-look_quiet d Idle = λ e. e
-look_quiet d (Over k) = λ e. e
-look_quiet d (Passing o b left) = λ e. e
-look_quiet d (Looking o) = go (aim o.command) _ (sight_silent d.state.volume.geometry (track_under d.state) o d.state.registers)
+look_quiet d (Looking o) = at _ (sight_silent d.state.volume.geometry (track_under d.state) o d.state.registers)
   where
     at : (s : Sight) → SightSilent d.state.registers s → NotTold d.state.registers (after_sight (looked None (open_at d o) s) d).state.registers
     at (command_answer.Found opened) k = λ e. e
-    at (command_answer.IndexPassed r) k = k
-    at (command_answer.NextHead r) k = k
-    at (command_answer.Missed r) k = k
+    at _ k = k
+look_quiet d _ = λ e. e
 
-    go : (a : Aim) (s : Sight) → SightSilent d.state.registers s → NotTold d.state.registers (after_sight (look_for None (open_at d o) a s) d).state.registers
-    go (Next kind) s k = at s k
-    go NoArea s k = at s k
-    go Credited s k = at s k
-
-pub record FailsAtLook (f : Option Fault) (d : DriveState) (w : Work) : Type 0 where
-  pub work : (after_look_of f d w).work ≡ Over failed_ending
-  pub tells : TellsFault (after_look_of f d w).state
+abbrev pub FailsAtLook : Option Fault → DriveState → Work → Type 0
+FailsAtLook f d w = ((after_look_of f d w).work ≡ Over failed_ending) × TellsFault (after_look_of f d w).state
 
 loses_at_look : (d : DriveState) (w : Work) (left : List ℕ) → look_saves_of d w ≡ true → FailsAtLook (Some (SaveFails left)) d w
-loses_at_look d Idle left e = absurd cc
-loses_at_look d (Over k) left e = absurd cc
-loses_at_look d (Passing o b l) left e = absurd cc
-loses_at_look d (Looking o) left e = (let x = go (aim o.command) _ both.1 in record { work = x.0; tells = x.1 })
+loses_at_look d (Looking o) left e = at _ both.1
   where
     both : (is_written d.state ≡ true) × (goes_to_next_head (sight d.state.volume.geometry (track_under d.state) o d.state.registers) ≡ true)
-    both = both_hold (is_written d.state) _ e
+    both = and_parts (is_written d.state) _ e
 
     at : (s : Sight) → goes_to_next_head s ≡ true → ((after_sight (looked (Some (SaveFails left)) (open_at d o) s) d).work ≡ Over failed_ending) × TellsFault (after_sight (looked (Some (SaveFails left)) (open_at d o) s) d).state
-    at (command_answer.NextHead r) h = (let written : d.state.mark ≡ Written = written_mark d.state.mark both.0 in rw written (refl, lost_tells d.state left))
-    at (command_answer.Found opened) h = absurd cc
-    at (command_answer.IndexPassed r) h = absurd cc
-    at (command_answer.Missed r) h = absurd cc
-
-    go : (a : Aim) (s : Sight) → goes_to_next_head s ≡ true
-        → ((after_sight (look_for (Some (SaveFails left)) (open_at d o) a s) d).work ≡ Over failed_ending) × TellsFault (after_sight (look_for (Some (SaveFails left)) (open_at d o) a s) d).state
-    go (Next kind) s h = at s h
-    go NoArea s h = at s h
-    go Credited s h = at s h
+    at (command_answer.NextHead r) h = (let written : d.state.mark ≡ Written = mark_written d.state.mark both.0 in rw written (refl, lost_tells d.state left))
+    at _ h = absurd cc
+loses_at_look d _ left e = absurd cc
 
 loads_at_look : (d : DriveState) (w : Work) → look_loads_of w ≡ true → is_written d.state ≡ false → FailsAtLook (Some LoadFails) d w
-loads_at_look d Idle e unwritten = absurd cc
-loads_at_look d (Over k) e unwritten = absurd cc
-loads_at_look d (Passing o b l) e unwritten = absurd cc
-loads_at_look d (Looking o) e unwritten = (let x = go (aim o.command) _ e in record { work = x.0; tells = x.1 })
+loads_at_look d (Looking o) e unwritten = go (aim o.command) _ e
   where
     go : (a : Aim) (s : Sight) → is_next a ≡ true → ((after_sight (look_for (Some LoadFails) (open_at d o) a s) d).work ≡ Over failed_ending) × TellsFault (after_sight (look_for (Some LoadFails) (open_at d o) a s) d).state
     go (Next kind) s h = (refl, record { told = store_fault_is_told d.state.registers; unwritten = unwritten })
-    go NoArea s h = absurd cc
-    go Credited s h = absurd cc
+    go _ s h = absurd cc
+loads_at_look d _ e unwritten = absurd cc
 
 pub look_reports : (old new : DriveState)
     → new ≡ with_image (after_look (fault_met old new) old) new.image → CallsStore (look_loads old) (look_saves old) old new → (new.image.loads ≡ old.image.loads + 1 → is_written old.state ≡ false)
     → Reports (new.work ≡ Over failed_ending) old new
-look_reports old new state k at_hand = record { failed = go (failure_of (look_loads old) (look_saves old) old new k); good = quiet }
-  where
-    quiet : new.image.failures ≡ old.image.failures → tells_equipment_check new.state.registers.sense ≡ true → tells_equipment_check old.state.registers.sense ≡ true
-    quiet same told =
-        let none : fault_met old new ≡ None = fault_none old new same in
-        let is : new.state ≡ (after_look None old).state = ap (λ (d : DriveState). d.state) state ∙ rw none refl in
-        heard old.state.registers (after_look None old).state.registers (look_quiet old old.work) (sym (ap (λ (x : State). tells_equipment_check x.registers.sense) is) ∙ told)
-
-    fails : (f : Option Fault) → fault_met old new ≡ f → FailsAtLook f old old.work
-        → (new.image.failures ≡ old.image.failures) ⊎ ((new.work ≡ Over failed_ending) × (tells_equipment_check new.state.registers.sense ≡ true) × (is_written new.state ≡ false))
-    fails f fault x =
-        let is : new.state ≡ (after_look f old).state = ap (λ (d : DriveState). d.state) state ∙ rw fault refl in
-        let over : new.work ≡ Over failed_ending = ap (λ (d : DriveState). d.work) state ∙ rw fault x.work in
-        reports (new.work ≡ Over failed_ending) old new (after_look f old).state is x.tells over
-
-    go : Failure (look_loads old) (look_saves old) old new → (new.image.failures ≡ old.image.failures) ⊎ ((new.work ≡ Over failed_ending) × (tells_equipment_check new.state.registers.sense ≡ true) × (is_written new.state ≡ false))
-    go (NoFailure same) = inl same
-    go (SavingFailed left saved fault) = fails (Some (SaveFails left)) fault (loses_at_look old old.work left saved)
-    go (LoadFailed loaded more fault) = fails (Some LoadFails) fault (loads_at_look old old.work loaded (at_hand more))
+look_reports old new state k at_hand =
+    reports_by (new.work ≡ Over failed_ending) (look_loads old) (look_saves old) old new (λ f. (after_look f old).state) (ap (λ (d : DriveState). d.state) state) k (look_quiet old old.work)
+    (λ left saved met. (let x = loses_at_look old old.work left saved in (ap (λ (d : DriveState). d.work) state ∙ rw met x.0, x.1)))
+    (λ loaded more met. (let x = loads_at_look old old.work loaded (at_hand more) in (ap (λ (d : DriveState). d.work) state ∙ rw met x.0, x.1)))
 
 -- End.
 
 end_quiet : (d : DriveState) (w : Work) → NotTold d.state.registers (closed_of None d w).state.registers
-end_quiet d Idle = λ e. e
-end_quiet d (Over k) = λ e. e
-end_quiet d (Looking o) = λ e. e
 end_quiet d (Passing o b left) = go (closing d.state.volume.geometry (track_under d.state) o d.state.registers b) _ (closing_facts _ _ _ _ b).not_told
   where
     go : (c : Closing) (moves_off : Bool) → NotTold d.state.registers c.registers → NotTold d.state.registers (closed None d.state c moves_off).state.registers
     go c true k = k
     go c false k = k
+end_quiet d _ = λ e. e
 
 loses_at_end : (d : DriveState) (w : Work) (left : List ℕ) → end_saves_of d w ≡ true → closed_of (Some (SaveFails left)) d w ≡ failed (lost d.state left)
-loses_at_end d Idle left e = absurd cc
-loses_at_end d (Over k) left e = absurd cc
-loses_at_end d (Looking o) left e = absurd cc
 loses_at_end d (Passing o b l) left e = go (closing d.state.volume.geometry (track_under d.state) o d.state.registers b) e
   where
     go : (c : Closing) → (is_written d.state && c.moves_off) ≡ true → closed_by (Some (SaveFails left)) d.state c ≡ failed (lost d.state left)
     go c h =
-        let both = both_hold (is_written d.state) c.moves_off h in
-        let written : d.state.mark ≡ Written = written_mark d.state.mark both.0 in
+        let both = and_parts (is_written d.state) c.moves_off h in
+        let written : d.state.mark ≡ Written = mark_written d.state.mark both.0 in
         rw (both.1, written) refl
+loses_at_end d _ left e = absurd cc
 
 pub end_reports : (old new : DriveState) (e : DriveEnding)
     → new ≡ with_image (after_end (fault_met old new) old) new.image → e ≡ ending_of (closed_of (fault_met old new) old old.work) → CallsStore false (end_saves old) old new
     → Reports (e ≡ failed_ending) old new
-end_reports old new e state says k = record { failed = go (failure_of false (end_saves old) old new k); good = quiet }
-  where
-    quiet : new.image.failures ≡ old.image.failures → tells_equipment_check new.state.registers.sense ≡ true → tells_equipment_check old.state.registers.sense ≡ true
-    quiet same told =
-        let none : fault_met old new ≡ None = fault_none old new same in
-        let is : new.state ≡ (after_end None old).state = ap (λ (d : DriveState). d.state) state ∙ rw none refl in
-        heard old.state.registers (after_end None old).state.registers (end_quiet old old.work) (sym (ap (λ (x : State). tells_equipment_check x.registers.sense) is) ∙ told)
-
-    go : Failure false (end_saves old) old new → (new.image.failures ≡ old.image.failures) ⊎ ((e ≡ failed_ending) × (tells_equipment_check new.state.registers.sense ≡ true) × (is_written new.state ≡ false))
-    go (NoFailure same) = inl same
-    go (SavingFailed left saved fault) =
-        let x = loses_at_end old old.work left saved in
-        let is : new.state ≡ lost old.state left = ap (λ (d : DriveState). d.state) state ∙ rw fault (ap (λ (y : Closed). y.state) x) in
-        reports (e ≡ failed_ending) old new (lost old.state left) is (lost_tells old.state left) (says ∙ rw fault (ap (λ (y : Closed). ending_of y) x))
-    go (LoadFailed loaded more fault) = absurd cc
+end_reports old new e state says k =
+    reports_by (e ≡ failed_ending) false (end_saves old) old new (λ f. (after_end f old).state) (ap (λ (d : DriveState). d.state) state) k (end_quiet old old.work)
+    (λ left saved met. (let x = loses_at_end old old.work left saved in (says ∙ rw met (ap (λ (y : Closed). ending_of y) x), rw x (lost_tells old.state left))))
+    (λ loaded more met. absurd cc)
 
 -- Settle.
 
 pub settle_reports : (old new : DriveState)
     → new ≡ with_image (after_settle (fault_met old new) old) new.image → CallsStore false (is_written old.state) old new
     → Reports (unsaved new.state ≡ Some (old.state.registers.cylinder, old.state.registers.head)) old new
-settle_reports old new state k = record { failed = go (failure_of false (is_written old.state) old new k); good = quiet }
-  where
-    quiet : new.image.failures ≡ old.image.failures → tells_equipment_check new.state.registers.sense ≡ true → tells_equipment_check old.state.registers.sense ≡ true
-    quiet same told =
-        let none : fault_met old new ≡ None = fault_none old new same in
-        let is : new.state ≡ (after_settle None old).state = ap (λ (d : DriveState). d.state) state ∙ rw none refl in
-        sym (ap (λ (x : State). tells_equipment_check x.registers.sense) is) ∙ told
-
-    go : Failure false (is_written old.state) old new
-        → (new.image.failures ≡ old.image.failures) ⊎ ((unsaved new.state ≡ Some (old.state.registers.cylinder, old.state.registers.head)) × (tells_equipment_check new.state.registers.sense ≡ true) × (is_written new.state ≡ false))
-    go (NoFailure same) = inl same
-    go (SavingFailed left saved fault) =
-        let written : old.state.mark ≡ Written = written_mark old.state.mark saved in
-        let is : new.state ≡ lost old.state left = ap (λ (d : DriveState). d.state) state ∙ rw (fault, written) refl in
-        reports _ old new (lost old.state left) is (lost_tells old.state left) (ap (λ (x : State). unsaved x) is)
-    go (LoadFailed loaded more fault) = absurd cc
+settle_reports old new state k =
+    reports_by _ false (is_written old.state) old new (λ f. settled_state f old.state) (ap (λ (d : DriveState). d.state) state) k (λ e. e)
+    (λ left saved met.
+    (let written : old.state.mark ≡ Written = mark_written old.state.mark saved in
+    let is : settled_state (Some (SaveFails left)) old.state ≡ lost old.state left = rw written refl in
+    (ap (λ (d : DriveState). unsaved d.state) state ∙ rw (met, is) refl, rw is (lost_tells old.state left))))
+    (λ loaded more met. absurd cc)

@@ -1,71 +1,51 @@
 -- How a drive settles.
-use Rattle.std.proofs.Common.{◌≡◌, ◌∙◌, ap, sym, refl, ℕ, ◌<◌, List, [], true, false, Some, None, unwrap_or, length, slice_index_or, arith}
+use Rattle.std.proofs.Common.{◌≡◌, ◌∙◌, ap, refl, ℕ, ◌<◌, List, [], false, None, length, arith}
 use Rattle.ckd_command.specs.declared.registers.Registers.{Registers}
-use Rattle.ckd_command.specs.declared.registers.Mark.TheVariants.{Written, Lost}
-use Rattle.ckd_drive.specs.Transfers.{Transfer, Sense, Field, Read, Search, Fill, Filled}
-use Rattle.ckd_drive.specs.Stage.{Stage, Idle, Over, Looking, Passing}
-use Rattle.ckd_command.specs.Drive.{SaveFails}
+use Rattle.ckd_command.specs.declared.registers.Mark.TheVariants.{Lost}
+use Rattle.ckd_drive.specs.declared.transfer.Transfer.{Transfer}
+use Rattle.ckd_drive.specs.declared.transfer.Transfer.TheVariants.{Filled}
+use Rattle.ckd_drive.specs.Stage.{Stage, Idle, Passing}
 use Rattle.ckd_cache.specs.Cache.{CacheState, after_save, after_failed_save}
 use Rattle.ckd_drive.specs.Work.{DriveState, passed_of, fault_met, with_image, after_settle, settled_mark}
-use Rattle.ckd_drive.specs.Invariant.{Stands, StageIs, IsPlaced, state_of, work_of, seen, track_under, is_filled, is_filled_by, kept, Parts, parts_of, AtWork}
-use Rattle.ckd_drive.proofs.Calls.{changed_is}
-use Rattle.ckd_drive.proofs.Torn.{torn_whole}
-use Rattle.ckd_drive.proofs.Numbers.{number_there}
-use Rattle.ckd_drive.proofs.Faults.{fault_none, fault_saving, mark_written, failed_left, lost_registers}
-use Rattle.ckd_drive.proofs.Standing.{failures_saved, geometry_saved}
-use Rattle.ckd_drive.proofs.Looks.{no_filled_seen}
+use Rattle.ckd_drive.specs.Invariant.{Stands, StageIs, IsPlaced, state_of, work_of, seen, is_filled, is_filled_by, Kept, kept, Parts, parts_of, track_in_reach, AtWork}
+use Rattle.ckd_drive.specs.Calls.{Loses}
+use Rattle.ckd_drive.proofs.Faults.{fault_none, lost_registers, save_lost}
+use Rattle.ckd_drive.proofs.Standing.{failures_saved, geometry_saved, no_filled_seen}
 
 unfilled_place : (job : AtWork) (p : Transfer) → IsPlaced job p → job.passed ≡ [] → is_filled_by p ≡ false
 unfilled_place job (Filled w u) x e = absurd (let some : 0 < length job.passed = x.some in let none : length job.passed ≡ 0 = ap length e in omega (arith, some, none))
-unfilled_place job (Sense b u) x e = refl
-unfilled_place job (Field f) x e = refl
-unfilled_place job (Read w u) x e = refl
-unfilled_place job (Search w u) x e = refl
-unfilled_place job (Fill w u) x e = refl
+unfilled_place job _ x e = refl
 
 unfilled_by : (c : CacheState) (r : Registers) (s : Stage) (before passed : List ℕ) → StageIs c r before passed s → passed_of (work_of s passed) ≡ [] → is_filled s ≡ false
-unfilled_by c r Idle before passed x e = refl
-unfilled_by c r (Over k) before passed x e = refl
-unfilled_by c r (Looking o) before passed x e = refl
 unfilled_by c r (Passing p) before passed x e = unfilled_place (record { cache = c; registers = r; opened = p.opened; before = before; passed = passed }) p.place x.placed e
+unfilled_by c r _ before passed x e = refl
 
 pub unfilled : (parts : Parts) (now : DriveState)
     → Stands parts → state_of parts ≡ now → passed_of now.work ≡ [] → is_filled parts.stage ≡ false
 unfilled parts now x is e = unfilled_by parts.cache parts.registers parts.stage parts.before parts.passed x.work (ap (λ (d : DriveState). passed_of d.work) is ∙ e)
 
 seen_plain : (slots : List (List ℕ)) (n : ℕ) (before : List ℕ) (s : Stage) → is_filled s ≡ false → seen slots n before s ≡ slots
-seen_plain slots n before Idle f = refl
-seen_plain slots n before (Over k) f = refl
-seen_plain slots n before (Looking o) f = refl
 seen_plain slots n before (Passing p) f = no_filled_seen slots n before p.place f
+seen_plain slots n before _ f = refl
 
 pub settled_state : (parts : Parts) (c' : CacheState) (now : DriveState)
     → Stands parts → state_of parts ≡ now → passed_of now.work ≡ [] → c' ≡ after_save parts.cache
     → state_of (record parts { cache = c'; mark = settled_mark parts.mark; stage = Idle }) ≡ with_image (after_settle (fault_met now (state_of (record parts { cache = c'; mark = settled_mark parts.mark; stage = Idle }))) now) c'.image
 settled_state parts c' now x is e save =
     let c = parts.cache in
-    let plain = seen_plain c.slots (track_under c.image.geometry parts.registers) parts.before parts.stage (unfilled parts now x is e) in
-    let new = state_of (record parts { cache = c'; mark = settled_mark parts.mark; stage = Idle }) in
-    let old = state_of parts in
-    let none : fault_met old new ≡ None = fault_none old new (ap (λ (d : CacheState). d.image.failures) save ∙ failures_saved c) in
-    let geometry : c'.image.geometry ≡ c.image.geometry = ap (λ (d : CacheState). d.image.geometry) save ∙ geometry_saved c in
-    let slots : c'.slots ≡ c.slots = ap (λ (d : CacheState). d.slots) save in
-    rw (← is, none, plain, geometry, slots) refl
+    let plain = seen_plain c.slots (track_in_reach parts) parts.before parts.stage (unfilled parts now x is e) in
+    rw (save, ← is) (
+    let none : fault_met (state_of parts) (state_of (record parts { cache = after_save c; mark = settled_mark parts.mark; stage = Idle })) ≡ None = fault_none (state_of parts) (state_of (record parts { cache = after_save c; mark = settled_mark parts.mark; stage = Idle })) (failures_saved c) in
+    rw (none, plain, geometry_saved c) refl)
 
-pub unsettled_state : (parts : Parts) (c' : CacheState) (left : List ℕ) (now : DriveState)
-    → Stands parts → state_of parts ≡ now → passed_of now.work ≡ [] → parts.cache.changed ≡ true → c' ≡ after_failed_save parts.cache left → left ≡ slice_index_or c'.image.slots (unwrap_or parts.cache.held 0) [] → length left ≡ parts.cache.image.geometry.track_size
-    → state_of (parts_of (kept c' (lost_registers parts.registers) Lost) Idle parts.before parts.passed) ≡ with_image (after_settle (fault_met now (state_of (parts_of (kept c' (lost_registers parts.registers) Lost) Idle parts.before parts.passed))) now) c'.image
-unsettled_state parts c' left now x is e changed failed there size =
+pub unsettled_state : (parts : Parts) (came : Kept) (now : DriveState)
+    → Stands parts → state_of parts ≡ now → passed_of now.work ≡ [] → Loses parts.cache parts.registers came
+    → state_of (parts_of came Idle parts.before parts.passed) ≡ with_image (after_settle (fault_met now (state_of (parts_of came Idle parts.before parts.passed))) now) came.cache.image
+unsettled_state parts came now x is e l =
     let c = parts.cache in
-    let n : ℕ = track_under c.image.geometry parts.registers in
-    let f0 = unfilled parts now x is e in
-    let plain = seen_plain c.slots n parts.before parts.stage f0 in
-    let held : c.held ≡ Some n = x.anchored changed in
-    let written : parts.mark ≡ Written = mark_written parts.mark (sym (changed_is parts x f0) ∙ changed) in
-    let there' : left ≡ slice_index_or (after_failed_save c left).image.slots (unwrap_or c.held 0) [] = there ∙ ap (λ (d : CacheState). slice_index_or d.image.slots (unwrap_or c.held 0) []) failed in
-    let at = failed_left c n left held there' in
-    let whole = torn_whole c n left x.volume (number_there parts x) size in
-    let new = state_of (parts_of (kept (after_failed_save c left) (lost_registers parts.registers) Lost) Idle parts.before parts.passed) in
-    let old = state_of parts in
-    let f : fault_met old new ≡ Some (SaveFails left) = fault_saving old new refl refl ∙ (rw (held, at) refl) in
-    rw (failed, ← is, f, plain, written, held, whole) refl
+    let unwritten = unfilled parts now x is e in
+    let plain = seen_plain c.slots (track_in_reach parts) parts.before parts.stage unwritten in
+    rw (← is, l.cache, l.registers, l.mark) (
+    let new = state_of (parts_of (kept (after_failed_save c l.left) (lost_registers parts.registers) Lost) Idle parts.before parts.passed) in
+    let s = save_lost parts parts.registers came new x unwritten l refl in
+    rw (s.fault, plain, s.written, s.held, s.whole) refl)

@@ -1,26 +1,36 @@
--- A drive that stands, after its parts have changed.
-use Rattle.std.proofs.Common.{◌≡◌, ◌∙◌, ap, sym, subst, refl, ℕ, ◌<◌, List, Bool, true, false, not, None, Result, Ok, Err, OnOk, OnErr, unwrap_or, length, length-set, arith}
+-- A drive that stands, and after its parts have changed.
+use Rattle.std.proofs.Common.{◌≡◌, ℕ, ◌+◌, ◌*◌, ◌<◌, ◌≤◌, length, refl, arith, add-one, ◌∙◌, subst, List, Bool, true, false, None, Result, Ok, Err, OnOk, OnErr, unwrap_or, length-set, Some}
+use Rattle.std.proofs.Math.Nat.{mul-le-mul_right, suc-mul}
+use Rattle.ckd_track.specs.Model.{heads_of}
+use Rattle.ckd_track.specs.declared.geometries.Geometry.{Geometry}
+use Rattle.ckd_track.specs.Geometry.{tracks_of}
+use Rattle.ckd_command.specs.declared.registers.Registers.{Registers}
+use Rattle.ckd_command.specs.Commands.{IsAtTrack}
+use Rattle.ckd_drive.specs.Invariant.{Stands, track_under, Parts, track_in_reach, StageIs, CreditIs, is_filled, work_of, kept, parts_of, Goes, seen_by, slot_at, is_filled_by, AtWork, number_in}
 use Rattle.std.proofs.lemmas.List.Elements.{All-set}
 use Rattle.std.specs.Result.{is_err}
-use Rattle.ckd_track.specs.Model.{heads_of}
 use Rattle.ckd_track.specs.declared.model.DriveModel.{DriveModel}
 use Rattle.ckd_track.specs.declared.model.DriveModel.TheVariants.{D2311, D2314}
 use Rattle.ckd_image.specs.declared.store.StoreFault.{StoreFault}
-use Rattle.ckd_command.specs.declared.registers.Registers.{Registers}
 use Rattle.ckd_command.specs.declared.registers.Mark.TheVariants.{Saved, Lost}
-use Rattle.ckd_drive.specs.Stage.{Stage, Idle, Over, Looking, Passing}
-use Rattle.ckd_command.specs.Commands.{IsAtTrack}
-use Rattle.ckd_command.specs.Answers.{moved_to, Beginning}
-use Rattle.ckd_cache.specs.Cache.{CacheState, IsVolume, saved, after_save, after_failed_save, after_failed_hold}
-use Rattle.ckd_command.specs.declared.begin.Opened.{Opened}
-use Rattle.ckd_drive.specs.declared.transfer.Progress.{Progress as ProgressHeld}
-use Rattle.ckd_drive.specs.declared.answers.Stage.{Stage as StageHeld}
-use Rattle.ckd_drive.specs.declared.answers.Stage.TheVariants as held
-use Rattle.ckd_drive.specs.Fields.{stage_seen, progress_seen}
-use Rattle.ckd_drive.specs.Work.{DriveState, is_idle, passes_now}
-use Rattle.ckd_command.specs.Commands.{beginning}
-use Rattle.ckd_drive.proofs.Beginnings.{begins_well}
-use Rattle.ckd_drive.specs.Invariant.{Stands, StageIs, state_of, BeginsWell, CreditIs, track_under, is_filled, work_of, Kept, kept, Parts, parts_of, track_in_reach}
+use Rattle.ckd_drive.specs.Stage.{Stage, Idle, Passing, Progress}
+use Rattle.ckd_command.specs.Answers.{moved_to}
+use Rattle.ckd_cache.specs.Cache.{CacheState, IsVolume, saved, after_save, after_failed_save, after_failed_hold, slot_held}
+use Rattle.ckd_drive.specs.Work.{is_idle}
+use Rattle.ckd_track.specs.Track.{track_of}
+use Rattle.ckd_drive.specs.declared.transfer.Transfer.{Transfer}
+use Rattle.ckd_drive.specs.declared.transfer.Transfer.TheVariants.{Filled}
+use Rattle.ckd_position.specs.Contents.{Sighted}
+
+pub number_below : (g : Geometry) (r : Registers) → IsAtTrack g r → track_under g r < tracks_of g
+number_below g r at = below g.cylinders (heads_of g.model) r.cylinder r.head at.cylinder at.head
+  where
+    below : (c h x y : ℕ) → x < c → y < h → x * h + y < c * h
+    below c h x y a b = (let le : (x + 1) * h ≤ c * h = mul-le-mul_right h (omega (arith, a)) in let e : (x + 1) * h ≡ x * h + h = rw (add-one, suc-mul) refl in omega (arith, le, e, b))
+
+pub number_there : (parts : Parts) → Stands parts → track_in_reach parts < length parts.cache.slots
+number_there parts x =
+    rw x.volume.count (number_below parts.cache.image.geometry parts.registers x.arm)
 
 pub on_ok : (r : Result (Unit {0}) StoreFault) (P : Type 0) → is_err r ≡ false → OnOk r P → P
 on_ok (Ok u) P e p = p
@@ -32,9 +42,7 @@ on_err (Err f) P e p = p
 
 pub idle_stage : (s : Stage) (passed : List ℕ) → is_idle (work_of s passed) ≡ true → s ≡ Idle
 idle_stage Idle passed e = refl
-idle_stage (Over x) passed e = absurd cc
-idle_stage (Looking o) passed e = absurd cc
-idle_stage (Passing p) passed e = absurd cc
+idle_stage _ passed e = absurd cc
 
 pub no_credit : (c : CacheState) (r : Registers) (n : ℕ) → r.credit ≡ None → CreditIs r.credit c n
 no_credit c r n e = rw e tt
@@ -73,66 +81,32 @@ pub failures_saved : (c : CacheState) → (after_save c).image.failures ≡ c.im
 failures_saved c = elim c.changed as (λ b. (saved c.image c.slots b).failures ≡ c.image.failures) [ true ↦ refl | false ↦ refl ]
 
 -- Where a written track was saved.
-
-pub saved_stands : (parts : Parts) (c' : CacheState) (q : Registers) (s' : Stage) (before' passed' : List ℕ)
-    → Stands parts → c' ≡ after_save parts.cache → is_filled s' ≡ false → IsAtTrack parts.cache.image.geometry q → StageIs c' q before' passed' s' → Stands (parts_of (kept c' q Saved) s' before' passed')
-saved_stands parts c' q s' before' passed' x is f' at w =
-    let changed : c'.changed ≡ false = ap (λ (d : CacheState). d.changed) is in
-    let g : c'.image.geometry ≡ parts.cache.image.geometry = ap (λ (d : CacheState). d.image.geometry) is ∙ geometry_saved parts.cache in
-    record {
-      volume = (let P = λ (d : CacheState). IsVolume d in subst P (sym is) (volume_saved parts.cache x.volume));
-      arm = rw g at;
-      anchored = λ e. absurd (cc);
-      marked = rw (changed, f') refl;
-      work = w;
-    }
+pub saved_stands : (parts : Parts) (q : Registers) (s' : Stage) (before' passed' : List ℕ) → Stands parts → is_filled s' ≡ false → IsAtTrack parts.cache.image.geometry q → StageIs (after_save parts.cache) q before' passed' s'
+    → Stands (parts_of (kept (after_save parts.cache) q Saved) s' before' passed')
+saved_stands parts q s' before' passed' x f' at w = record { volume = volume_saved parts.cache x.volume; arm = rw (geometry_saved parts.cache) at; anchored = λ e. absurd cc; marked = rw f' refl; work = w }
 
 -- Where its saving failed.
+pub lost_stands : (parts : Parts) (left : List ℕ) (q : Registers) (s' : Stage) (before' passed' : List ℕ)
+    → Stands parts → length left ≡ parts.cache.image.geometry.track_size → is_filled s' ≡ false → q.cylinder ≡ parts.registers.cylinder → q.head ≡ parts.registers.head → StageIs (after_failed_save parts.cache left) q before' passed' s'
+    → Stands (parts_of (kept (after_failed_save parts.cache left) q Lost) s' before' passed')
+lost_stands parts left q s' before' passed' x size f' cy he w = record {
+  volume = volume_lost parts.cache left size x.volume;
+  arm = record { cylinder = rw cy x.arm.cylinder; head = rw he x.arm.head };
+  anchored = λ e. absurd cc;
+  marked = rw f' refl;
+  work = w;
+}
 
-pub lost_stands : (parts : Parts) (c' : CacheState) (q : Registers) (s' : Stage) (before' passed' left : List ℕ)
-    → Stands parts → c' ≡ after_failed_save parts.cache left → length left ≡ parts.cache.image.geometry.track_size → is_filled s' ≡ false → q.cylinder ≡ parts.registers.cylinder → q.head ≡ parts.registers.head
-    → StageIs c' q before' passed' s' → Stands (parts_of (kept c' q Lost) s' before' passed')
-lost_stands parts c' q s' before' passed' left x is size f' cy he w =
-    let changed : c'.changed ≡ false = ap (λ (d : CacheState). d.changed) is in
-    let g : c'.image.geometry ≡ parts.cache.image.geometry = ap (λ (d : CacheState). d.image.geometry) is in
-    record {
-      volume = (let P = λ (d : CacheState). IsVolume d in subst P (sym is) (volume_lost parts.cache left size x.volume));
-      arm = rw g (record { cylinder = rw cy x.arm.cylinder; head = rw he x.arm.head });
-      anchored = λ e. absurd (cc);
-      marked = rw (changed, f') refl;
-      work = w;
-    }
+pub no_filled_seen : (slots : List (List ℕ)) (n : ℕ) (before : List ℕ) (p : Transfer) → is_filled_by p ≡ false → seen_by slots n before p ≡ slots
+no_filled_seen slots n before (Filled w u) f = absurd cc
+no_filled_seen slots n before _ f = refl
 
--- what a command code leads to, where nothing was begun
-pub well_begun : (parts : Parts) (now : DriveState) (code : ℕ) (b : Beginning)
-    → Stands parts → state_of parts ≡ now → is_idle now.work ≡ true → b ≡ beginning code parts.registers
-    → (parts.stage ≡ Idle) × BeginsWell parts.cache (track_in_reach parts) parts.registers b
-well_begun parts now code b x is idle e =
-    let c = parts.cache in
-    let r = parts.registers in
-    let at_rest : parts.stage ≡ Idle = idle_stage parts.stage parts.passed (ap (λ (d : DriveState). is_idle d.work) is ∙ idle) in
-    let P : Stage → Type 0 = λ t. StageIs c r parts.before parts.passed t in
-    let credit : CreditIs r.credit c (track_under c.image.geometry r) = subst P at_rest x.work in
-    (at_rest, rw e (begins_well c (track_under c.image.geometry r) code r credit))
+-- the track as the definitions see it
+abbrev pub seen_track : AtWork → Transfer → Sighted
+seen_track job p = track_of (slot_at (seen_by job.cache.slots (number_in job) job.before p) (number_in job))
 
-pub not_true : (b : Bool) → not b ≡ true → b ≡ false
-not_true true e = absurd cc
-not_true false e = refl
+pub goes_of : (parts : Parts) (p : Progress) → Stands parts → parts.stage ≡ Passing p → Goes parts.cache parts.registers parts.before parts.passed p
+goes_of parts p x is = (let P : Stage → Type 0 = λ t. StageIs parts.cache parts.registers parts.before parts.passed t in subst P is x.work)
 
-pub not_false : (b : Bool) → not b ≡ false → b ≡ true
-not_false true e = refl
-not_false false e = absurd cc
-
--- the stage of a command whose bytes pass
-passing_stage : (r : Registers) (o : Opened) (p : ProgressHeld) (s : StageHeld) (passed : List ℕ) → passes_now (work_of (stage_seen r o p s) passed) ≡ true
-    → stage_seen r o p s ≡ Passing (progress_seen r o p)
-passing_stage r o p held.Idle passed e = absurd cc
-passing_stage r o p held.Ended passed e = absurd cc
-passing_stage r o p held.InMotion passed e = absurd cc
-passing_stage r o p held.Failed passed e = absurd cc
-passing_stage r o p held.Looking passed e = absurd cc
-passing_stage r o p held.Passing passed e = refl
-
-pub at_passing : (k : Kept) (o : Opened) (p : ProgressHeld) (s : StageHeld) (before passed : List ℕ) (now : DriveState)
-    → state_of (parts_of k (stage_seen k.registers o p s) before passed) ≡ now → passes_now now.work ≡ true → stage_seen k.registers o p s ≡ Passing (progress_seen k.registers o p)
-at_passing k o p s before passed now is e = passing_stage k.registers o p s passed (ap (λ (d : DriveState). passes_now d.work) is ∙ e)
+pub slot_is : (c : CacheState) (n : ℕ) (slot : List ℕ) → c.held ≡ Some n → slot ≡ slot_held c → slot ≡ slot_at c.slots n
+slot_is c n slot held e = rw held at e

@@ -1,67 +1,30 @@
 -- Bytes that are taken.
-use Rattle.std.proofs.Common.{◌≡◌, ◌∙◌, ap, sym, subst, refl, ℕ, ◌+◌, ◌-◌, ◌<◌, ◌≤◌, ◌^◌, List, [], ◌∷◌, ◌++◌, Bool, true, false, ◌||◌, ◌==◌, nat_lt, if◌then◌else◌, None, length, take, drop, slice_range, bytes_eq, length-append, length-drop, length-take, drop-drop, append_assoc, arith}
+use Rattle.std.proofs.Common.{◌≡◌, ◌∙◌, ap, sym, refl, ℕ, ◌+◌, ◌-◌, ◌≤◌, List, [], ◌∷◌, ◌++◌, length, take, drop, slice_range, length-append, length-take, append_assoc, arith}
 use Rattle.std.specs.Ordering.{nat_cmp, ordering_then}
 use Rattle.std.specs.declared.cmp.Ordering.{Ordering}
 use Rattle.std.specs.declared.cmp.Ordering.TheVariants as order
 use Rattle.std.specs.Cmp.Lexicographic.{slice_cmp}
-use Rattle.std.proofs.lemmas.List.{take-take, drop-take, take-append-drop, take_at}
-use Rattle.std.proofs.lemmas.Bool.Decides.{nat_tests}
+use Rattle.std.proofs.lemmas.List.{take_at}
+use Rattle.std.proofs.Math.Seq.{take-add}
 use Rattle.ckd_track.specs.Track.{track_of}
 use Rattle.ckd_track.specs.Changes.{overwritten}
-use Rattle.ckd_track.specs.declared.geometries.Geometry.{Geometry}
-use Rattle.ckd_command.specs.declared.registers.Registers.{Registers}
-use Rattle.ckd_command.specs.declared.tables.Action.{Action}
 use Rattle.ckd_command.specs.declared.tables.Action.TheVariants as action
-use Rattle.ckd_command.specs.declared.begin.Opened.{Opened}
 use Rattle.ckd_command.specs.Answers.{Found}
 use Rattle.ckd_slot.specs.declared.windows.Window.{Window}
-use Rattle.ckd_drive.specs.Transfers.{Transfer, Field, Search}
+use Rattle.ckd_drive.specs.declared.transfer.Transfer.TheVariants.{Field, Search}
 use Rattle.ckd_command.specs.Tables.{action_of}
-use Rattle.ckd_position.specs.Contents.{Sighted}
-use Rattle.ckd_command.specs.Commands.{Closing, sight, area_bytes, length_after, length_for, close_by, own_home_address, new_record_fits, write_home_address, format}
-use Rattle.ckd_slot.specs.Buffer.{Lies}
-use Rattle.ckd_drive.specs.Invariant.{HalfDone, Works, MayTake, Absorbs, own_slot, action_now, seen_with, IsPlaced, IsField, HasField, remaining, slot_at, track_under, is_filled_by, order_of, field_size, at_work}
-use Rattle.ckd_drive.proofs.First.{length_by, closing_by}
-use Rattle.ckd_drive.proofs.Moving.{slot_small, lies_first, lies_rest, next_left}
-
-or_false : (b : Bool) → b ≡ (b || false)
-or_false true = refl
-or_false false = refl
-
--- the track stays as it is
-pub absorbs_plain : (half : HalfDone) (more : List ℕ) (place' : Transfer)
-    → Works half → is_filled_by half.progress.place ≡ false → is_filled_by place' ≡ false
-    → seen_with half half.before place' ≡ seen_with half half.before half.progress.place
-    → remaining (action_now half) place' (length (half.passed ++ more)) ≡ remaining (action_now half) half.progress.place (length half.passed) - length more
-    → IsPlaced (at_work (record half { passed = half.passed ++ more })) place' → length half.passed + length more < 2 ^ 32
-    → Absorbs half more half.cache half.before place'
-absorbs_plain half more place' x f f' seen rest placed small =
-    let goes = x.goes in
-    record {
-      works = record {
-        volume = x.volume;
-        arm = x.arm;
-        anchored = x.anchored;
-        goes = record {
-          moved = rw (← goes.moved) (length-append half.passed more);
-          left = next_left half.progress.left (length more) _ _ goes.left rest;
-          placed = placed;
-          no_credit = goes.no_credit;
-        };
-      };
-      image = refl;
-      seen_same = seen;
-      changed = rw f' (or_false half.cache.changed);
-      still = λ e. absurd cc;
-      small = small;
-    }
+use Rattle.ckd_command.specs.Commands.{Closing, sight, area_bytes, length_after}
+use Rattle.ckd_drive.specs.Invariant.{HalfDone, MayTake, Absorbs, own_slot, own_track, action_now, HasField, slot_at, track_under, order_of, field_size, at_work}
+use Rattle.ckd_drive.proofs.Fields.{ChangesNothing, field_unwritten, field_wants, field_small}
+use Rattle.ckd_command.proofs.Closings.{closing_by}
+use Rattle.ckd_command.proofs.Lengths.{length_by}
+use Rattle.ckd_drive.proofs.Moving.{slot_small, lies_first, window_moves, absorbs_plain}
 
 -- Comparing.
 
 then_assoc : (a b c : Ordering) → ordering_then (ordering_then a b) c ≡ ordering_then a (ordering_then b c)
-then_assoc order.Less b c = refl
 then_assoc order.Equal b c = refl
-then_assoc order.Greater b c = refl
+then_assoc _ b c = refl
 
 compare_more : (x a : List ℕ) (y b : List ℕ) → length x ≡ length a → ordering_then (slice_cmp nat_cmp x a) (slice_cmp nat_cmp y b) ≡ slice_cmp nat_cmp (x ++ y) (a ++ b)
 compare_more [] [] y b e = refl
@@ -69,54 +32,37 @@ compare_more [] (a ∷ bs) y b e = absurd (omega (arith, e))
 compare_more (x ∷ xs) [] y b e = absurd (omega (arith, e))
 compare_more (x ∷ xs) (a ∷ bs) y b e = then_assoc (nat_cmp x a) (slice_cmp nat_cmp xs bs) (slice_cmp nat_cmp y b) ∙ ap (λ (o : Ordering). ordering_then (nat_cmp x a) o) (compare_more xs bs y b (omega (arith, e)))
 
-take_more : (m k : ℕ) (s : List ℕ) → take m s ++ take k (drop m s) ≡ take (m + k) s
-take_more m k s =
-    let whole : take (m + k) s ≡ take m (take (m + k) s) ++ drop m (take (m + k) s) = sym (take-append-drop m (take (m + k) s)) in
-    let first : take m (take (m + k) s) ≡ take m s = take-take m (m + k) s (omega arith) in
-    let second : drop m (take (m + k) s) ≡ take k (drop m s) = drop-take m k s in
-    sym (whole ∙ rw (first, second) refl)
-
 order_more : (area passed more : List ℕ) → length passed + length more ≤ length area → ordering_then (order_of area passed) (slice_cmp nat_cmp (take (length more) (drop (length passed) area)) more) ≡ order_of area (passed ++ more)
 order_more area passed more le =
     let m = length passed in
     let long : length (take m area) ≡ length passed = omega (arith, length-take m area, le) in
     compare_more (take m area) passed (take (length more) (drop m area)) more long
-    ∙ ap (λ (x : List ℕ). slice_cmp nat_cmp x (passed ++ more)) (take_more m (length more) area ∙ ap (λ (n : ℕ). take n area) (sym (length-append passed more)))
+    ∙ ap (λ (x : List ℕ). slice_cmp nat_cmp x (passed ++ more)) (sym (take-add m (length more) area) ∙ ap (λ (n : ℕ). take n area) (sym (length-append passed more)))
 
+-- by the slot and the order as the code has them
 pub search_absorbs : (half : HalfDone) (more slot : List ℕ) (w : Window) (so_far now : Ordering)
     → MayTake half more → half.progress.place ≡ Search w so_far → slot ≡ own_slot half
     → now ≡ ordering_then so_far (slice_cmp nat_cmp (slice_range slot w.start (w.start + length more)) more)
     → Absorbs half more half.cache half.before (Search (record { start = w.start + length more; len = w.len - length more }) now)
 search_absorbs half more slot w so_far now may at slot_is now_is =
     let c = half.cache in
-    let r = half.registers in
     let passed = half.passed in
-    let p = half.progress in
-    let g = c.image.geometry in
-    let n : ℕ = track_under g r in
-    let goes = may.works.goes in
-    let t = track_of (slot_at c.slots n) in
-    let left : p.left ≤ w.len = rw at at goes.left in
+    let o = half.progress.opened in
+    let t = track_of (own_slot half) in
+    let left : half.progress.left ≤ w.len = rw at at may.works.goes.left in
     let le : length more ≤ w.len = omega (arith, left, may.room) in
-    let P : Transfer → Type 0 = λ y. IsPlaced (at_work half) y in
-    let placed = subst P at goes.placed in
+    let placed = rw at at may.works.goes.placed in
     let h = placed.0 in
-    let area = area_bytes t p.opened r in
-    let rest : List ℕ = drop (length passed) area in
-    let far : length (passed ++ more) ≡ length passed + length more = length-append passed more in
-    let whole : length area ≡ length passed + w.len = omega (arith, h.lies.size, length-drop (length passed) area, h.room) in
-    let behind : drop (length more) rest ≡ drop (length (passed ++ more)) area = drop-drop (length more) (length passed) area ∙ rw far refl in
-    let w' : Window = record { start = w.start + length more; len = w.len - length more } in
-    let lies : Lies (slot_at c.slots n) w' (drop (length (passed ++ more)) area) =
-    (let Q : List ℕ → Type 0 = λ b. Lies (slot_at c.slots n) w' b in subst Q behind (lies_rest (slot_at c.slots n) rest w (length more) h.lies le)) in
-    let piece : slice_range slot w.start (w.start + length more) ≡ take (length more) rest = rw slot_is (lies_first (slot_at c.slots n) rest w (length more) h.lies le) in
-    let compared : now ≡ order_of area (passed ++ more) = now_is ∙ rw (h.compared, piece) (order_more area passed more (omega (arith, whole, le))) in
-    let wants : length_after g t p.opened r (passed ++ more) ≡ length area = length_by action.Search g t p.opened r (passed ++ more) h.is_search in
-    absorbs_plain half more (Search w' now) may.works (rw at refl) refl (rw at refl) (rw at refl) (
-      record { is_search = h.is_search; at_hand = h.at_hand; lies = lies; room = omega (arith, whole, far, le); begins = omega (arith, h.begins, far); compared = compared },
-      record { again = placed.1.again; len = omega (arith, wants, whole, far, le) },
+    let area = area_bytes t o half.registers in
+    let m = window_moves (own_slot half) area passed more w h.lies h.room le in
+    let piece : slice_range slot w.start (w.start + length more) ≡ take (length more) (drop (length passed) area) = rw slot_is (lies_first (own_slot half) (drop (length passed) area) w (length more) h.lies le) in
+    let compared : now ≡ order_of area (passed ++ more) = now_is ∙ rw (h.compared, piece) (order_more area passed more (omega (arith, m.whole, le))) in
+    let wants : length_after c.image.geometry t o half.registers (passed ++ more) ≡ length area = length_by action.Search c.image.geometry t o half.registers (passed ++ more) h.is_search in
+    absorbs_plain half more (Search (record { start = w.start + length more; len = w.len - length more }) now) may.works (rw at refl) refl (rw at refl) (rw at refl) (
+      record { is_search = h.is_search; at_hand = h.at_hand; lies = m.lies; room = m.room; begins = omega (arith, h.begins, m.far); compared = compared },
+      record { again = placed.1.again; len = omega (arith, wants, m.whole, m.far, le) },
     )
-    (omega (arith, h.begins, h.lies.within, le, slot_small c n may.works.volume))
+    (omega (arith, h.begins, h.lies.within, le, slot_small c (own_track half) may.works.volume))
 
 -- Fields.
 
@@ -125,75 +71,6 @@ collected_more f passed more e =
     let m = length passed in
     let is : overwritten f m more ≡ (passed ++ more) ++ drop (m + length more) f = ap (λ (z : List ℕ). z ++ (more ++ drop (m + length more) f)) e ∙ sym (append_assoc passed more (drop (m + length more) f)) in
     rw is (take_at (passed ++ more) (drop (m + length more) f) (length (passed ++ more)) refl)
-
-of_three : (P : Closing → Type 0) (a b : Bool) (x y z : Closing) → P x → P y → (a ≡ false → b ≡ false → P z) → P (if a then x else (if b then y else z))
-of_three P true b x y z p q s = p
-of_three P false true x y z p q s = q
-of_three P false false x y z p q s = s refl refl
-
-of_two : (P : Closing → Type 0) (a : Bool) (x y : Closing) → (a ≡ true → P x) → P y → P (if a then x else y)
-of_two P true x y p q = p refl
-of_two P false x y p q = q
-
--- what a field that came so far does to the track: nothing, unless it came whole
-abbrev pub ChangesNothing : Action → Geometry → Sighted → Opened → Registers → List ℕ → Type 0
-ChangesNothing action.WriteHomeAddress g t o r b = (length b ≡ 5) → bytes_eq b (own_home_address r) ≡ false
-ChangesNothing action.Format g t o r b = (length b ≡ 8) → new_record_fits g t o b ≡ false
-ChangesNothing a g t o r b = Unit {0}
-
-exactly : (m n : ℕ) → m ≤ n → nat_lt m n ≡ false → m ≡ n
-exactly m n le e = grind (arith, nat_tests)
-
-write_home_unwritten : (g : Geometry) (t : Sighted) (o : Opened) (r : Registers) (b : List ℕ) → length b ≤ 5 → ChangesNothing action.WriteHomeAddress g t o r b → (close_by action.WriteHomeAddress g t o r b).written ≡ None
-write_home_unwritten g t o r b le n =
-    of_three (λ k. k.written ≡ None) (length b == 0) (nat_lt (length b) 5) _ _ (write_home_address o r b) refl refl
-    (λ e0 e5. (let own = n (exactly (length b) 5 le e5) in rw own refl))
-
-format_unwritten : (g : Geometry) (t : Sighted) (o : Opened) (r : Registers) (b : List ℕ) → length b ≤ 8 → ChangesNothing action.Format g t o r b → (close_by action.Format g t o r b).written ≡ None
-format_unwritten g t o r b le n =
-    of_three (λ k. k.written ≡ None) (length b == 0) (nat_lt (length b) 8) _ _ (format g t o r b) refl refl
-    (λ e0 e8. (let own = n (exactly (length b) 8 le e8) in rw own refl))
-
-format_wants : (g : Geometry) (t : Sighted) (o : Opened) (r : Registers) (b : List ℕ) (short : Bool) → nat_lt (length b) 8 ≡ short → length b ≤ 8 → ChangesNothing action.Format g t o r b → length_for action.Format g t o r b ≡ 8
-format_wants g t o r b true e le n = rw e refl
-format_wants g t o r b false e le n = (let own = n (exactly (length b) 8 le e) in rw (e, own) refl)
-
-pub field_unwritten : (a : Action) (g : Geometry) (t : Sighted) (o : Opened) (r : Registers) (b : List ℕ) → IsField a → length b ≤ field_size a → ChangesNothing a g t o r b → (close_by a g t o r b).written ≡ None
-field_unwritten action.SeekCylinderAndHead g t o r b f le n = of_three (λ k. k.written ≡ None) (length b == 0) (nat_lt (length b) 6) _ _ _ refl refl (λ _ _. of_two (λ k. k.written ≡ None) _ _ _ (λ _. refl) refl)
-field_unwritten action.SeekHead g t o r b f le n = of_three (λ k. k.written ≡ None) (length b == 0) (nat_lt (length b) 6) _ _ _ refl refl (λ _ _. of_two (λ k. k.written ≡ None) _ _ _ (λ _. refl) refl)
-field_unwritten action.SetFileMask g t o r [] f le n = refl
-field_unwritten action.SetFileMask g t o r (x ∷ b) f le n = refl
-field_unwritten action.WriteHomeAddress g t o r b f le n = write_home_unwritten g t o r b le n
-field_unwritten action.Format g t o r b f le n = format_unwritten g t o r b le n
-field_unwritten action.NoTransfer g t o r b f le n = absurd f
-field_unwritten action.GiveSense g t o r b f le n = absurd f
-field_unwritten action.Search g t o r b f le n = absurd f
-field_unwritten action.Read g t o r b f le n = absurd f
-field_unwritten action.Update g t o r b f le n = absurd f
-
-pub field_wants : (a : Action) (g : Geometry) (t : Sighted) (o : Opened) (r : Registers) (b : List ℕ) → IsField a → length b ≤ field_size a → ChangesNothing a g t o r b → length_for a g t o r b ≡ field_size a
-field_wants action.SeekCylinderAndHead g t o r b f le n = refl
-field_wants action.SeekHead g t o r b f le n = refl
-field_wants action.SetFileMask g t o r b f le n = refl
-field_wants action.WriteHomeAddress g t o r b f le n = refl
-field_wants action.Format g t o r b f le n = format_wants g t o r b (nat_lt (length b) 8) refl le n
-field_wants action.NoTransfer g t o r b f le n = absurd f
-field_wants action.GiveSense g t o r b f le n = absurd f
-field_wants action.Search g t o r b f le n = absurd f
-field_wants action.Read g t o r b f le n = absurd f
-field_wants action.Update g t o r b f le n = absurd f
-
-field_small : (a : Action) → field_size a ≤ 8
-field_small action.SeekCylinderAndHead = omega arith
-field_small action.SeekHead = omega arith
-field_small action.SetFileMask = omega arith
-field_small action.WriteHomeAddress = omega arith
-field_small action.Format = omega arith
-field_small action.NoTransfer = omega arith
-field_small action.GiveSense = omega arith
-field_small action.Search = omega arith
-field_small action.Read = omega arith
-field_small action.Update = omega arith
 
 -- what is known of a field, with more bytes
 pub record FieldGoes (half : HalfDone) (more f : List ℕ) : Type 0 where
@@ -207,11 +84,9 @@ pub field_goes : (half : HalfDone) (more f : List ℕ) → MayTake half more →
 field_goes half more f may at =
     let passed = half.passed in
     let g = half.cache.image.geometry in
-    let n : ℕ = track_under g half.registers in
     let goes = may.works.goes in
     let left : half.progress.left ≤ field_size (action_of half.progress.opened.command) - length passed = rw at at goes.left in
-    let P : Transfer → Type 0 = λ y. IsPlaced (at_work half) y in
-    let placed = subst P at goes.placed in
+    let placed = rw at at goes.placed in
     let h = placed.0 in
     let far : length (passed ++ more) ≡ length passed + length more = length-append passed more in
     record {

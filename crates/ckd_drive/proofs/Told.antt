@@ -1,18 +1,16 @@
 -- Each failed call of the store is reported, over any calls of the drive.
-use Rattle.std.proofs.Common.{◌≡◌, ◌∙◌, inl, inr, ◌⊎◌, ap, sym, ◌+◌, Bool, false, arith}
-use Rattle.ckd_command.specs.Drive.{is_written, tells_equipment_check}
+use Rattle.std.proofs.Common.{◌∙◌, inl, inr, ap, sym, ◌+◌, Bool, arith}
+use Rattle.ckd_command.specs.Drive.{tells_equipment_check}
 use Rattle.ckd_drive.proofs.Calls.{no_more}
 use Rattle.ckd_drive.specs.Work.{DriveState, CallsStore, Reports}
-use Rattle.ckd_drive.specs.Laws.{Begin, Look, Pass, End, Settle, TellsFailures, EachCallTells, Start, Then, GainsByFailures, EachTrailTells, tells}
+use Rattle.ckd_drive.specs.Laws.{Begin, Look, Pass, End, Settle, TellsFailures, EachCallTells, Start, Then, GainsByFailures, EachTrailTells}
 
 -- what is reported where the count rose
-told_more : (so : Type 0) (old new : DriveState) → new.image.failures ≡ old.image.failures + 1
-    → (new.image.failures ≡ old.image.failures) ⊎ (so × tells new × (is_written new.state ≡ false)) → tells new × (is_written new.state ≡ false)
-told_more so old new more (inl same) = absurd (no_more old.image.failures (sym same ∙ more))
-told_more so old new more (inr x) = (x.1, x.2)
-
 told : (loads saves : Bool) (so : Type 0) (old new : DriveState) → CallsStore loads saves old new → Reports so old new → TellsFailures old new
-told loads saves so old new k r = elim k.failures [ inl same ↦ inl (same, r.good same) | inr more ↦ (let x = told_more so old new more.0 r.failed in inr (more.0, x.0, x.1)) ]
+told loads saves so old new k r = elim k.failures [
+  | inl same ↦ inl (same, r.good same)
+  | inr more ↦ elim r.failed [ inl same ↦ absurd (no_more old.image.failures (sym same ∙ more.0)) | inr x ↦ inr (more.0, x.1, x.2) ]
+]
 
 pub each_call_tells : EachCallTells
 each_call_tells old new (Begin code answer state answers calls reported) = told _ _ _ old new calls reported

@@ -22,17 +22,20 @@ use Rattle.std.specs.Ordering.{nat_cmp}
 use Rattle.std.specs.declared.cmp.Ordering.{Ordering}
 use Rattle.std.specs.declared.cmp.Ordering.TheVariants as order
 use Rattle.std.specs.Cmp.Lexicographic.{slice_cmp}
-use Rattle.ckd_drive.specs.Transfers.{Transfer, Sense, Field, Read, Search, Fill, Filled, Progress}
+use Rattle.ckd_drive.specs.declared.transfer.Transfer.{Transfer}
+use Rattle.ckd_drive.specs.declared.transfer.Transfer.TheVariants.{Sense, Field, Read, Search, Fill, Filled}
+use Rattle.ckd_drive.specs.declared.transfer.Written.{Written as WrittenBy}
+use Rattle.ckd_drive.specs.declared.transfer.Written.TheVariants as written
 use Rattle.ckd_drive.specs.declared.transfer.Whole.{Whole}
 use Rattle.ckd_drive.specs.declared.transfer.Whole.TheVariants as whole
-use Rattle.ckd_drive.specs.Stage.{Stage}
+use Rattle.ckd_drive.specs.Stage.{Stage, Progress}
 use Rattle.ckd_drive.specs.Stage as stage
 use Rattle.ckd_command.specs.Tables.{action_of, extent_of, aim, comparison, is_giving}
 use Rattle.ckd_position.specs.Comparisons.{accepts}
 use Rattle.ckd_sense.specs.SenseBytes.{sense_bytes}
 use Rattle.ckd_sense.specs.declared.sense_bytes.TheConstants.Sense as cause
 use Rattle.ckd_position.specs.Contents.{Sighted, is_readable, padded}
-use Rattle.ckd_command.specs.Commands.{Closing, IsAtTrack, sight as sight_on, area_bytes, bytes_at, area_ends, end_of_area, search_ends, whole_field, seek_cylinder_and_head, seek_head, set_file_mask, fails, ends, at_end, ending_status, length_after, closing, command_end}
+use Rattle.ckd_command.specs.Commands.{Closing, IsAtTrack, sight as sight_on, area_bytes, bytes_at, area_ends, end_of_area, search_ends, whole_field, seek_cylinder_and_head, seek_head, set_file_mask, fails, ends, at_end, ending_status, length_after, closing, command_end, home_address_ends, format_ends}
 use Rattle.ckd_slot.specs.Buffer.{Lies, HasBytes, IsPlaceOf, FitsSlot, lengths_on}
 use Rattle.ckd_cache.specs.Cache.{CacheState, IsVolume}
 use Rattle.ckd_command.specs.Drive.{is_written_by}
@@ -53,12 +56,18 @@ field_size _ = 0
 
 -- how many bytes are left, as far as is known
 abbrev pub remaining : Action → Transfer → (moved : ℕ) → ℕ
-remaining a (Sense b u) moved = 6 - moved
+remaining a (Sense b) moved = 6 - moved
 remaining a (Field f) moved = field_size a - moved
-remaining a (Read w u) moved = w.len
-remaining a (Search w o) moved = w.len
-remaining a (Fill w u) moved = w.len
-remaining a (Filled w u) moved = w.len
+remaining a (Read w no_data) moved = w.len
+remaining a (Search w so_far) moved = w.len
+remaining a (Fill w no_data) moved = w.len
+remaining a (Filled w what) moved = w.len
+
+-- how a command closes that has written
+abbrev pub closes_by : Registers → Opened → WrittenBy → CommandEnd
+closes_by r o written.HomeAddress = command_end (home_address_ends o r)
+closes_by r o (written.Record number) = command_end (format_ends r number)
+closes_by r o (written.Area no_data) = command_end (area_ends o r no_data)
 
 -- the number of the track under the arm
 abbrev pub track_under : Geometry → Registers → ℕ
@@ -70,7 +79,7 @@ slot_at slots n = slice_index_or slots n []
 
 -- The slots as the definitions see them: where a command has changed the track, its slot is as it was before.
 abbrev pub seen_by : List (List ℕ) → (n : ℕ) → (before : List ℕ) → Transfer → List (List ℕ)
-seen_by slots n before (Filled w u) = slice_set slots n before
+seen_by slots n before (Filled w what) = slice_set slots n before
 seen_by slots n before _ = slots
 
 -- the same, by what the drive does
@@ -179,6 +188,10 @@ pub record IsFound (job : AtWork) (t : Sighted) (p : Transfer) : Type 0 where
   pub again : sight_on (geometry_in job) t job.opened job.registers ≡ Found job.opened
   pub len : length_after (geometry_in job) t job.opened job.registers job.passed ≡ length job.passed + remaining (action_in job) p (length job.passed)
 
+-- how it closes that passed its area
+abbrev pub area_end : AtWork → (no_data : Bool) → CommandEnd
+area_end job no_data = command_end (area_ends job.opened job.registers no_data)
+
 -- it closes so, and writes nothing
 pub record ClosesUnwritten (job : AtWork) (t : Sighted) (u : CommandEnd) : Type 0 where
   pub so : command_end (closing_in job t) ≡ u
@@ -267,17 +280,14 @@ pub record WillFill (job : AtWork) (w : Window) : Type 0 where
   pub none : job.passed ≡ []
 
 -- a track that is being written: the slot has the bytes that came, and zeros for those that may still come
-pub record HasFilled (job : AtWork) (w : Window) (u : CommandEnd) : Type 0 where
+pub record HasFilled (job : AtWork) (w : Window) (what : WrittenBy) : Type 0 where
   pub at_hand : AtHand job.cache (number_in job)
   pub size : length job.before ≡ (geometry_in job).track_size
-  pub filled : IsFilled job (slot_in job) w u
+  pub filled : IsFilled job (slot_in job) w (closes_by job.registers job.opened what)
   pub slot_is : slot_in job ≡ filled.head ++ (padded (drop filled.lead job.passed) filled.room ++ filled.tail)
-  pub found : IsFound job (track_of job.before) (Filled w u)
-  pub takes : (action_in job ≡ action.GiveSense → ⊥) × (action_in job ≡ action.Read → ⊥)
+  pub found : IsFound job (track_of job.before) (Filled w what)
+  pub takes : is_giving (action_in job) ≡ false
   pub some : 0 < length job.passed
-  pub stays : u.moves_off ≡ false
-  pub cylinder : u.registers.cylinder ≡ job.registers.cylinder
-  pub head : u.registers.head ≡ job.registers.head
 
 -- a command that works by a credit has the credit's track at hand
 abbrev pub CreditAtHand : Aim → CacheState → ℕ → Type 0
@@ -286,12 +296,12 @@ CreditAtHand _ c n = Unit {0}
 
 -- where the bytes of a command stand that are still to pass, and how it closes
 abbrev pub IsPlaced : AtWork → Transfer → Type 0
-IsPlaced job (Sense b u) = HasSense job b × IsFound job (track_of (slot_in job)) (Sense b u) × ClosesUnwritten job (track_of (slot_in job)) u
+IsPlaced job (Sense b) = HasSense job b × IsFound job (track_of (slot_in job)) (Sense b) × ClosesUnwritten job (track_of (slot_in job)) (area_end job false)
 IsPlaced job (Field f) = HasField job f × IsFound job (track_of (slot_in job)) (Field f) × ((closing_in job (track_of (slot_in job))).written ≡ None)
-IsPlaced job (Read w u) = HasRead job w × IsFound job (track_of (slot_in job)) (Read w u) × ClosesUnwritten job (track_of (slot_in job)) u
+IsPlaced job (Read w no_data) = HasRead job w × IsFound job (track_of (slot_in job)) (Read w no_data) × ClosesUnwritten job (track_of (slot_in job)) (area_end job no_data)
 IsPlaced job (Search w so_far) = HasSearched job w so_far × IsFound job (track_of (slot_in job)) (Search w so_far)
-IsPlaced job (Fill w u) = WillFill job w × IsFound job (track_of (slot_in job)) (Fill w u) × ClosesUnwritten job (track_of (slot_in job)) u
-IsPlaced job (Filled w u) = HasFilled job w u
+IsPlaced job (Fill w no_data) = WillFill job w × IsFound job (track_of (slot_in job)) (Fill w no_data) × ClosesUnwritten job (track_of (slot_in job)) (area_end job no_data)
+IsPlaced job (Filled w what) = HasFilled job w what
 
 -- What a look has found.
 
@@ -311,14 +321,14 @@ AreaIsThere t o _ = Unit {0}
 
 -- where the bytes of a command stand that has just found its area
 abbrev pub IsFirstPlace : (slot : List ℕ) → Opened → Registers → Transfer → Type 0
-IsFirstPlace slot o r (Sense b u) = (action_of o.command ≡ action.GiveSense) × (b ≡ sense_bytes r.sense) × (u ≡ command_end (area_ends o r false))
+IsFirstPlace slot o r (Sense b) = (action_of o.command ≡ action.GiveSense) × (b ≡ sense_bytes r.sense)
 IsFirstPlace slot o r (Field f) = IsField (action_of o.command)
-IsFirstPlace slot o r (Read w u) =
-    (action_of o.command ≡ action.Read) × Lies slot w (bytes_at (extent_of o.command) (track_of slot) o.area) × (u ≡ command_end (end_of_area (track_of slot) o r))
+IsFirstPlace slot o r (Read w no_data) =
+    (action_of o.command ≡ action.Read) × Lies slot w (bytes_at (extent_of o.command) (track_of slot) o.area) × (command_end (area_ends o r no_data) ≡ command_end (end_of_area (track_of slot) o r))
 IsFirstPlace slot o r (Search w so_far) =
     (action_of o.command ≡ action.Search) × Lies slot w (bytes_at (extent_of o.command) (track_of slot) o.area) × (so_far ≡ order.Equal)
-IsFirstPlace slot o r (Fill w u) =
-    (action_of o.command ≡ action.Update) × Lies slot w (bytes_at (extent_of o.command) (track_of slot) o.area) × PlaceIn (extent_of o.command) (track_in slot) o.area w × (u ≡ command_end (end_of_area (track_of slot) o r))
+IsFirstPlace slot o r (Fill w no_data) =
+    (action_of o.command ≡ action.Update) × Lies slot w (bytes_at (extent_of o.command) (track_of slot) o.area) × PlaceIn (extent_of o.command) (track_in slot) o.area w × (command_end (area_ends o r no_data) ≡ command_end (end_of_area (track_of slot) o r))
 IsFirstPlace slot o r _ = ⊥
 
 -- the arm and the credit are as they were
@@ -365,7 +375,7 @@ StageIs c r before passed _ = CreditIs r.credit c (track_under c.image.geometry 
 
 -- whether the track is being written
 abbrev pub is_filled_by : Transfer → Bool
-is_filled_by (Filled w u) = true
+is_filled_by (Filled w what) = true
 is_filled_by _ = false
 
 -- the same, of what the drive does
@@ -406,12 +416,12 @@ next_progress p n place = record { opened = p.opened; moved = p.moved + n; left 
 
 -- so many bytes may be given that have this place
 abbrev pub MayGive : Transfer → ℕ → Type 0
-MayGive (Read w u) n = (n ≤ w.len) × (w.start + w.len < 2 ^ 32)
+MayGive (Read w no_data) n = (n ≤ w.len) × (w.start + w.len < 2 ^ 32)
 MayGive _ n = Unit {0}
 
 -- the place of those behind them
 abbrev pub given_on : Transfer → ℕ → Transfer
-given_on (Read w u) n = Read (record { start = w.start + n; len = w.len - n }) u
+given_on (Read w no_data) n = Read (record { start = w.start + n; len = w.len - n }) no_data
 given_on p n = p
 
 -- How a command closes, by its place.
@@ -429,10 +439,10 @@ field_ends _ g o r b = ends r ending_status
 abbrev pub command_end_at : Geometry → Registers → Opened → (moved : ℕ) → Transfer → CommandEnd
 command_end_at g r o moved (Field f) = command_end (field_ends (action_of o.command) g o r (take moved f))
 command_end_at g r o moved (Search w so_far) = command_end (search_ends o r (nat_lt 0 moved && accepts (comparison o.command) so_far) (w.len == 0))
-command_end_at g r o moved (Sense b u) = u
-command_end_at g r o moved (Read w u) = u
-command_end_at g r o moved (Fill w u) = u
-command_end_at g r o moved (Filled w u) = u
+command_end_at g r o moved (Sense b) = command_end (area_ends o r false)
+command_end_at g r o moved (Read w no_data) = command_end (area_ends o r no_data)
+command_end_at g r o moved (Fill w no_data) = command_end (area_ends o r no_data)
+command_end_at g r o moved (Filled w what) = closes_by r o what
 
 -- no more bytes passed than the field has
 abbrev pub MovedInField : Action → (moved : ℕ) → Transfer → Type 0
@@ -441,7 +451,7 @@ MovedInField a moved _ = Unit {0}
 
 -- the mark of a track that a command leaves whose arm stays
 abbrev pub mark_left : Transfer → Mark → Mark
-mark_left (Filled w u) m = Written
+mark_left (Filled w what) m = Written
 mark_left _ m = m
 
 -- What a field is, once it came whole.

@@ -8,23 +8,18 @@ use Rattle.ckd_command.specs.Answers.{seen_as, SeenStays, closed_as, ClosedStays
 use Rattle.ckd_command.specs.Commands.{beginning, sight}
 use Rattle.ckd_drive.specs.declared.job.Job.{Job}
 use Rattle.ckd_drive.specs.declared.answers.Stage.{Stage as StageHeld}
-use Rattle.ckd_drive.specs.Transfers.{Transfer}
 use Rattle.ckd_drive.specs.Stage.{Stage}
 use Rattle.ckd_drive.specs.Invariant.{HalfDone, own_track, own_slot, Absorbs, Kept, kept, Parts, parts_of, BeginsWell, AreaIsThere, command_end_at}
-use Rattle.ckd_drive.specs.Fields.{place_seen, progress_seen, stage_seen, IsBegunHeld, IsLookedHeld}
+use Rattle.ckd_drive.specs.Fields.{progress_seen, stage_seen, IsBegunHeld, IsLookedHeld}
 use Rattle.ckd_drive.specs.Calls.{Begins, Looks}
-
--- where the bytes of a job stand that are still to pass
-abbrev pub place_of : {S : Type 0} → Job S → Transfer
-place_of j = place_seen j.registers j.opened j.progress.place
 
 -- the command half done that a job holds
 abbrev pub half_done : {S : Type 0} → Job S → HalfDone
-half_done j = record { cache = j.cache; registers = j.registers; before = j.before.bytes; passed = j.passed.bytes; progress = progress_seen j.registers j.opened j.progress }
+half_done j = record { cache = j.cache; registers = j.registers; before = j.before.bytes; passed = j.passed.bytes; progress = progress_seen j.opened j.progress }
 
 -- what a drive of this job does, by its stage
 abbrev pub stage_of : {S : Type 0} → Job S → StageHeld → Stage
-stage_of j s = stage_seen j.registers j.opened j.progress s
+stage_of j s = stage_seen j.opened j.progress s
 
 -- what a drive of this job keeps from command to command
 abbrev pub kept_in : {S : Type 0} → Job S → Mark → Kept
@@ -37,7 +32,7 @@ parts_held j m s = parts_of (kept_in j m) (stage_of j s) j.before.bytes j.passed
 -- A job takes these bytes, into its cache where the command writes; the rest have the place that is left, and nothing else
 -- changes.
 pub record Takes {S : Type 0} (old : Job S) (more : List ℕ) (new : Job S) : Type 0 where
-  pub absorbs : Absorbs (half_done old) more new.cache new.before.bytes (place_of new)
+  pub absorbs : Absorbs (half_done old) more new.cache new.before.bytes new.progress.place
   pub stays : new ≡ record old { cache = new.cache; before = new.before; progress = record old.progress { place = new.progress.place } }
 
 -- what a code leads to fits the track under the arm of a job
@@ -63,6 +58,6 @@ pub record LooksTo {S : Type 0} (old : Job S) (was : Mark) (new : Job S) (now : 
 
 -- a job closes its command so by the bytes that passed; nothing but the registers changes
 pub record ClosesTo {S : Type 0} (old : Job S) (closed : Closed) (new : Job S) : Type 0 where
-  pub closes : closed_as closed new.registers ≡ command_end_at old.cache.image.geometry old.registers old.opened old.progress.moved (place_of old)
+  pub closes : closed_as closed new.registers ≡ command_end_at old.cache.image.geometry old.registers old.opened old.progress.moved old.progress.place
   pub registers : ClosedStays closed old.registers new.registers
   pub stays : new ≡ record old { registers = new.registers }

@@ -1,5 +1,4 @@
 pub mod Work
-pub mod Transfers
 pub mod Stage
 pub mod Invariant
 pub mod Fields

@@ -9,7 +9,6 @@ ghost use Rattle.ckd_drive.specs.Jobs.{kept_in, BeginsBy, Starts};
 ghost use Rattle.ckd_drive.specs.Calls.{Leaves, Loses, begun_at, idle_drive};
 ghost use Rattle.ckd_sense.specs.declared.sense_bytes.TheConstants.Sense.{STORE_FAULT};
 ghost use Rattle.ckd_command.specs.Answers.{moved_to};
-ghost use Rattle.ckd_command.specs.declared.registers.Registers.{Registers};
 ghost use Rattle.ckd_command.specs.declared.begin.Opened.{Opened};
 
 use crate::answers::{Begun, Stage};
@@ -29,7 +28,7 @@ pub(crate) fn lose(registers: &mut Registers)
 /// What a begin answers that came to this stage.
 pub(crate) fn begun(stage: Stage) -> Begun
     requires { IsBegunHeld stage }
-    ensures { (o : Opened) (r : Registers) (p : Progress) → result ≡ begun_at (stage_seen r o p stage) }
+    ensures { (o : Opened) (p : Progress) → result ≡ begun_at (stage_seen o p stage) }
 {
     match stage {
         Stage::Idle => Begun::Rejected,

@@ -1,16 +1,13 @@
 //! A command closes, by its bytes that have passed.
 
 ghost use Rattle.std.specs.Prelude.{◌≡◌, ◌≤◌, length};
-ghost use Rattle.ckd_command.specs.declared.registers.Registers.{Registers};
-ghost use Rattle.ckd_command.specs.declared.begin.Opened.{Opened};
 ghost use Rattle.ckd_command.specs.Tables.{action_of};
 ghost use Rattle.ckd_command.specs.Commands.{command_end, whole_field, at_end, fails};
 ghost use Rattle.ckd_command.specs.Answers.{closed_as, ClosedStays};
 ghost use Rattle.ckd_sense.specs.declared.sense_bytes.TheConstants.Sense.{WRONG_HOME_ADDRESS};
 ghost use Rattle.ckd_drive.specs.Work.{settled_mark, owed_mark};
-ghost use Rattle.ckd_drive.specs.Invariant.{field_ends, MovedInField, mark_left, field_size};
-ghost use Rattle.ckd_drive.specs.Fields.{place_seen, closes_by};
-ghost use Rattle.ckd_drive.specs.Jobs.{place_of, ClosesTo};
+ghost use Rattle.ckd_drive.specs.Invariant.{field_ends, MovedInField, mark_left, field_size, closes_by};
+ghost use Rattle.ckd_drive.specs.Jobs.{ClosesTo};
 
 use crate::job::Job;
 use crate::transfer::{Transfer, Written};
@@ -44,7 +41,7 @@ pub(crate) const FAILED: DriveEnding = DriveEnding {
 /// The mark of a track that a command leaves whose arm stays.
 #[inline(always)]
 pub(crate) fn mark_left(place: &Transfer, mark: Mark) -> Mark
-    ensures { (o : Opened) (r : Registers) → result ≡ mark_left (place_seen r o place.now) mark }
+    ensures { result ≡ mark_left place.now mark }
 {
     match place {
         Transfer::Filled(_, _) => Mark::Written,
@@ -129,7 +126,7 @@ impl<S: ImageStore> Job<S> {
     /// How the command closes, as far as it is known by the place of its bytes and by how many have passed.
     #[inline(always)]
     pub(crate) fn close(&mut self) -> Closed
-        requires { MovedInField (action_of self.old.opened.command) self.old.progress.moved (place_of self.old) }
+        requires { MovedInField (action_of self.old.opened.command) self.old.progress.moved self.old.progress.place }
         ensures { ClosesTo self.old result self.new }
     {
         let geometry = self.cache.geometry();

@@ -4,7 +4,7 @@ ghost use Rattle.std.specs.Prelude.{◌≡◌, Some, ◌<◌, List, ℕ};
 ghost use Rattle.ckd_command.specs.declared.tables.Aim.TheVariants.{Next, NoArea};
 ghost use Rattle.ckd_command.specs.Tables.{aim, action_of};
 ghost use Rattle.ckd_drive.specs.Invariant.{Stands, own_track, remaining, AreaOf, IsFirstPlace, ReadsWhole};
-ghost use Rattle.ckd_drive.specs.Fields.{stage_seen, IsLookedHeld, place_seen, IsReady};
+ghost use Rattle.ckd_drive.specs.Fields.{stage_seen, IsLookedHeld, IsReady};
 ghost use Rattle.ckd_drive.specs.Jobs.{half_done, kept_in, Sees, LooksTo};
 ghost use Rattle.ckd_drive.specs.Calls.{looked_at, looking_drive};
 ghost use Rattle.ckd_command.specs.declared.registers.Registers.{Registers};
@@ -31,7 +31,7 @@ use std::cmp::Ordering;
 fn ready(action: Action, progress: &mut Progress, place: Transfer) -> Stage
     ensures place { progress.new.place ≡ place }
     ensures passing { IsLookedHeld result }
-    ensures ready { (o : Opened) (r : Registers) → action ≡ action_of o.command → IsReady r o progress.new result }
+    ensures ready { (o : Opened) → action ≡ action_of o.command → IsReady o progress.new result }
 {
     let left = transfer::remaining(action, &place, 0);
     progress.moved = 0;
@@ -42,7 +42,7 @@ fn ready(action: Action, progress: &mut Progress, place: Transfer) -> Stage
 
 /// All the bytes may pass that are known to be left.
 pub(crate) fn make_ready(action: Action, progress: &mut Progress)
-    ensures { (o : Opened) (r : Registers) → progress.new ≡ record progress.old { left = remaining action (place_seen r o progress.old.place) progress.old.moved } }
+    ensures { progress.new ≡ record progress.old { left = remaining action progress.old.place progress.old.moved } }
 {
     progress.left = transfer::remaining(action, &progress.place, progress.moved);
 }
@@ -50,7 +50,7 @@ pub(crate) fn make_ready(action: Action, progress: &mut Progress)
 /// What a look answers that came to this stage, with so many bytes that may pass.
 pub(crate) fn looked(stage: Stage, left: usize) -> Look
     requires { IsLookedHeld stage }
-    ensures { (o : Opened) (r : Registers) (p : Progress) → p.left ≡ left → result ≡ looked_at (stage_seen r o p stage) }
+    ensures { (o : Opened) (p : Progress) → p.left ≡ left → result ≡ looked_at (stage_seen o p stage) }
 {
     match stage {
         Stage::Idle => unreachable!(),
@@ -71,8 +71,8 @@ fn place_without_area(
     requires command { command ≡ opened.now.command }
     requires aim { aim opened.now.command ≡ NoArea }
     requires transfers { action_of opened.now.command ≡ NoTransfer → ⊥ }
-    ensures first { (slot : List ℕ) → IsFirstPlace slot opened.now registers.now (place_seen registers.now opened.now progress.new.place) }
-    ensures ready { IsReady registers.now opened.now progress.new result }
+    ensures first { (slot : List ℕ) → IsFirstPlace slot opened.now registers.now progress.new.place }
+    ensures ready { IsReady opened.now progress.new result }
     ensures passing { IsLookedHeld result }
 {
     let action = tables::action_of(command);
@@ -95,8 +95,8 @@ fn place_on(
     requires aim { aim opened.now.command ≡ NoArea → ⊥ }
     requires readable { ReadsWhole (action_of opened.now.command) (track_of buffer.now) }
     requires there { AreaOf (track_of buffer.now) opened.now }
-    ensures first { (r : Registers) → IsFirstPlace buffer.now opened.now r (place_seen r opened.now progress.new.place) }
-    ensures ready { (r : Registers) → IsReady r opened.now progress.new result }
+    ensures first { (r : Registers) → IsFirstPlace buffer.now opened.now r progress.new.place }
+    ensures ready { IsReady opened.now progress.new result }
     ensures passing { IsLookedHeld result }
 {
     let action = tables::action_of(command);

@@ -1,14 +1,12 @@
 //! The bytes of a command that pass: where they stand, and what becomes of those that it takes.
 
 ghost use Rattle.std.specs.Prelude.{◌≡◌, ◌≤◌, ◌<◌, ◌+◌, length, ◌-◌, ◌^◌, slice_range};
-ghost use Rattle.ckd_drive.specs.Invariant.{MayTake, whole_of, remaining, field_size, given_on};
-ghost use Rattle.ckd_drive.specs.Fields.{place_seen, IsNoSearch, MayGiveHeld};
+ghost use Rattle.ckd_drive.specs.Invariant.{MayTake, MayGive, whole_of, remaining, field_size, given_on};
+ghost use Rattle.ckd_drive.specs.Fields.{IsNoSearch};
 ghost use Rattle.ckd_drive.specs.Jobs.{half_done, Takes};
 ghost use Rattle.ckd_command.specs.Commands.{own_home_address};
 ghost use Rattle.std.specs.Ordering.{nat_cmp, ordering_then};
 ghost use Rattle.std.specs.Cmp.Lexicographic.{slice_cmp};
-ghost use Rattle.ckd_command.specs.declared.registers.Registers.{Registers};
-ghost use Rattle.ckd_command.specs.declared.begin.Opened.{Opened};
 ghost use Rattle.ckd_command.specs.Tables.{action_of};
 ghost use Rattle.ckd_track.specs.Changes.{overwritten};
 ghost use Rattle.ckd_drive.specs.declared.transfer.Transfer.TheVariants as held;
@@ -87,7 +85,7 @@ pub(crate) fn field_size(action: Action) -> usize
 
 /// How many bytes are still to pass, as far as that is known.
 pub(crate) fn remaining(action: Action, place: &Transfer, moved: usize) -> usize
-    ensures { (o : Opened) (r : Registers) → result ≡ remaining action (place_seen r o place.now) moved }
+    ensures { result ≡ remaining action place.now moved }
 {
     match place {
         Transfer::Sense(_) => 6usize.saturating_sub(moved),
@@ -113,8 +111,8 @@ fn behind(window: Window, n: usize) -> Window
 
 /// So many more bytes of this place are given.
 pub(crate) fn give_on(place: &mut Transfer, n: usize)
-    requires { MayGiveHeld place.old n }
-    ensures { (o : Opened) (r : Registers) → place_seen r o place.new ≡ given_on (place_seen r o place.old) n }
+    requires { MayGive place.old n }
+    ensures { place.new ≡ given_on place.old n }
 {
     if let Transfer::Read(window, _) = place {
         *window = behind(*window, n);

@@ -2,8 +2,7 @@ use Rattle.std.proofs.Common.{◌∙◌, refl}
 use Rattle.ckd_command.specs.Commands.{beginning}
 use Rattle.ckd_drive.specs.Jobs.{kept_in, stage_of}
 use Rattle.ckd_drive.proofs.Reported.{begin_reports}
-use Rattle.ckd_drive.proofs.Standing.{well_begun}
-use Rattle.ckd_drive.proofs.Starts.{has_begun}
+use Rattle.ckd_drive.proofs.Starts.{has_begun, well_begun}
 use Rattle.ckd_drive.proofs.Inside.{parts_in}
 use Rattle.ckd_drive.proofs.drive.Drive.begin.Goals as goal
 
@@ -23,5 +22,5 @@ returns g c =
     let s = c.start-self-inside in
     let j = s.new.self in
     let x = has_begun (parts_in c.self.inside) (kept_in j s.new.mark) (stage_of j s.result) j.before.bytes j.passed.bytes c.args.self.now c.args.code c.self.view_is c.requires s.ensures.state in
-    let answer = c.begun.ensures j.opened j.registers j.progress ∙ x.answer in
+    let answer = c.begun.ensures j.opened j.progress ∙ x.answer in
     record { state = x.comes.state; answer = answer; calls = x.comes.calls; reported = begin_reports c.args.self.now _ c.args.code _ x.comes.state answer x.comes.calls }

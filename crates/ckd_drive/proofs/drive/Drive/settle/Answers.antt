@@ -1,6 +1,9 @@
 use Rattle.std.proofs.Common.{◌∙◌, ap, sym, refl, [], ℕ, List, slice_index_or, unwrap_or}
 use Rattle.ckd_cache.specs.Cache.{CacheState}
+use Rattle.ckd_command.specs.declared.registers.Mark.TheVariants.{Lost}
 use Rattle.ckd_command.specs.Drive.{is_written}
+use Rattle.ckd_drive.specs.Calls.{Loses}
+use Rattle.ckd_drive.specs.Invariant.{kept}
 use Rattle.ckd_drive.specs.Work.{DriveState}
 use Rattle.ckd_drive.proofs.Calls.{changed_is, calls_of_save, calls_of_failed_save}
 use Rattle.ckd_drive.proofs.Reported.{settle_reports}
@@ -17,9 +20,9 @@ returns-in-Ok-clause-state g c =
 pub returns-in-Err-clause-state : goal.returns-in-Err-clause-state
 returns-in-Err-clause-state g c =
     let i = c.self.inside in
-    let left : List ℕ = slice_index_or c.save.new.self.image.slots (unwrap_or i.job.cache.held 0) [] in
-    rw c.lose.ensures
-    (unsettled_state (parts_in i) c.save.new.self left c.args.self.now c.self.invariant c.self.view_is c.requires c.in-Err.ensures.fails c.in-Err.ensures.err refl c.in-Err.ensures.size)
+    let came = kept c.save.new.self c.lose.new.registers Lost in
+    let l : Loses i.job.cache i.job.registers came = record { changed = c.in-Err.ensures.fails; left = slice_index_or c.save.new.self.image.slots (unwrap_or i.job.cache.held 0) []; size = c.in-Err.ensures.size; there = refl; cache = c.in-Err.ensures.err; registers = c.lose.ensures; mark = refl } in
+    unsettled_state (parts_in i) came c.args.self.now c.self.invariant c.self.view_is c.requires l
 
 pub returns-in-Ok-clause-calls : goal.returns-in-Ok-clause-calls
 returns-in-Ok-clause-calls g c =

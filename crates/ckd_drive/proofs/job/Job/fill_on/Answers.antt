@@ -1,27 +1,15 @@
-use Rattle.std.proofs.Common.{◌≡◌, refl}
-use Rattle.ckd_cache.specs.Cache.{slot_held}
-use Rattle.ckd_drive.specs.Transfers.{Filled}
-use Rattle.ckd_drive.specs.Invariant.{own_track, own_slot}
-use Rattle.ckd_drive.specs.Fields.{closes_by}
+use Rattle.std.proofs.Common.{refl}
 use Rattle.ckd_drive.specs.Jobs.{half_done}
-use Rattle.ckd_drive.proofs.Looks.{slot_is}
 use Rattle.ckd_drive.proofs.Fills.{filled_absorbs}
 use Rattle.ckd_drive.proofs.job.Job.fill_on.Goals as goal
 
 pub put-requires-clause-records : goal.put-requires-clause-records
 put-requires-clause-records g c =
     let half = half_done c.args.self.now in
-    let closes = closes_by half.registers half.progress.opened c.args.written in
-    let at : half.progress.place ≡ Filled c.args.window closes = rw c.requires.at refl in
-    let k = filled_absorbs half c.args.bytes.now c.args.window closes c.requires.may at in
-    let old : slot_held half.cache ≡ own_slot half = slot_is half.cache (own_track half) (slot_held half.cache) k.held refl in
-    rw old k.records
+    (filled_absorbs half c.args.bytes.now c.args.window c.args.written c.requires.may c.requires.at).records
 
 pub returns : goal.returns
 returns g c =
     let half = half_done c.args.self.now in
-    let closes = closes_by half.registers half.progress.opened c.args.written in
-    let at : half.progress.place ≡ Filled c.args.window closes = rw c.requires.at refl in
-    let k = filled_absorbs half c.args.bytes.now c.args.window closes c.requires.may at in
-    let old : slot_held half.cache ≡ own_slot half = slot_is half.cache (own_track half) (slot_held half.cache) k.held refl in
-    rw (c.behind.ensures, c.put.ensures, old) record { absorbs = k.absorbs; stays = refl }
+    let k = filled_absorbs half c.args.bytes.now c.args.window c.args.written c.requires.may c.requires.at in
+    rw (c.behind.ensures, c.put.ensures) record { absorbs = k.absorbs; stays = refl }

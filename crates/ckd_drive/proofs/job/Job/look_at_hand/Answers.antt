@@ -6,14 +6,14 @@ use Rattle.ckd_command.specs.Tables.{action_of}
 use Rattle.ckd_command.specs.Commands.{sight}
 use Rattle.ckd_cache.specs.Cache.{CacheState}
 use Rattle.ckd_drive.specs.Invariant.{number_under, slot_under, ReadsWhole}
-use Rattle.ckd_drive.specs.Fields.{place_seen, stage_seen}
+use Rattle.ckd_drive.specs.Fields.{stage_seen}
 use Rattle.ckd_drive.specs.Calls.{Leaves, Loses}
 use Rattle.ckd_drive.specs.Jobs.{kept_in}
 use Rattle.ckd_drive.proofs.Calls.{loads_saved}
-use Rattle.ckd_drive.proofs.Sights.{look_again, found_whole}
-use Rattle.ckd_drive.proofs.Standing.{on_ok, on_err}
-use Rattle.ckd_drive.proofs.Looks.{slot_is, first_at}
-use Rattle.ckd_drive.proofs.FirstLooks.{found_looks, passed_looks, missed_looks, next_looks, lost_looks}
+use Rattle.ckd_command.proofs.Sights.{look_again}
+use Rattle.ckd_drive.proofs.Sights.{found_whole}
+use Rattle.ckd_drive.proofs.Standing.{on_ok, on_err, slot_is}
+use Rattle.ckd_drive.proofs.Looks.{found_looks, passed_looks, missed_looks, next_looks, lost_looks}
 use Rattle.ckd_drive.proofs.job.Job.look_at_hand.Goals as goal
 
 pub place_on-requires-clause-readable : goal.place_on-requires-clause-readable
@@ -49,12 +49,12 @@ returns-in-Found g c =
     let slot : c.buffer.result.now ≡ slot_under was = c.buffer.ensures.slot ∙ rw c.look_at.ensures.stays (slot_is was.cache (number_under was) _ c.requires.held refl) in
     let p = c.place_on.new.progress in
     let placed = rw c.look_at.ensures.stays at (c.place_on.ensures.first r) in
-    let ready = rw c.look_at.ensures.stays at (c.place_on.ensures.ready r) in
+    let ready = rw c.look_at.ensures.stays at c.place_on.ensures.ready in
     rw (c.look_at.ensures.stays, stays)
     record {
       looks = record {
-        stage = found_looks was asked o (place_seen r o p.place) (stage_seen r o p c.place_on.result) c.requires.stands
-            (first_at c.buffer.result.now (slot_under was) o r (place_seen r o p.place) slot placed) (λ _. record { held = c.requires.held; whole = whole }) again.1 (sym first) ready;
+        stage = found_looks was asked o p.place (stage_seen o p c.place_on.result) c.requires.stands
+            (rw slot at placed) (λ _. record { held = c.requires.held; whole = whole }) again.1 (sym first) ready;
         looked = c.place_on.ensures.passing;
       };
       loads = refl;

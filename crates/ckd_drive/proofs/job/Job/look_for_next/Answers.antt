@@ -3,8 +3,8 @@ use Rattle.ckd_cache.specs.Cache.{holds, after_hold, after_failed_hold}
 use Rattle.ckd_drive.specs.Invariant.{number_under}
 use Rattle.ckd_drive.specs.Jobs.{kept_in, stage_of}
 use Rattle.ckd_drive.proofs.Standing.{on_ok, on_err}
-use Rattle.ckd_drive.proofs.FirstLooks.{held_looks, unloaded_looks}
 use Rattle.ckd_drive.proofs.job.Job.look_for_next.Goals as goal
+use Rattle.ckd_drive.proofs.Looks.{held_looks, unloaded_looks}
 
 pub returns : goal.returns
 returns g c =

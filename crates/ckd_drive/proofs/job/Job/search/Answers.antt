@@ -1,20 +1,17 @@
-use Rattle.std.proofs.Common.{◌≡◌, ◌∙◌, refl, subst}
-use Rattle.ckd_drive.specs.Transfers.{Transfer, Search}
-use Rattle.ckd_drive.specs.Invariant.{IsPlaced, at_work, own_track, own_slot}
+use Rattle.std.proofs.Common.{◌≡◌, ◌∙◌, refl}
+use Rattle.ckd_drive.specs.Invariant.{own_track, own_slot}
 use Rattle.ckd_drive.specs.Jobs.{half_done}
-use Rattle.ckd_drive.proofs.Looks.{slot_is}
 use Rattle.ckd_drive.proofs.Takes.{search_absorbs}
 use Rattle.ckd_drive.proofs.job.Job.search.Goals as goal
+use Rattle.ckd_drive.proofs.Standing.{slot_is}
 
 pub returns : goal.returns
 returns g c =
     let half = half_done c.args.self.now in
-    let at : half.progress.place ≡ Search c.args.window c.args.so_far = rw c.requires.at refl in
-    let P : Transfer → Type 0 = λ y. IsPlaced (at_work half) y in
-    let placed = subst P at c.requires.may.works.goes.placed in
+    let placed = rw c.requires.at at c.requires.may.works.goes.placed in
     let slot : c.bytes.result.now ≡ own_slot half = c.bytes.ensures ∙ slot_is half.cache (own_track half) c.buffer.result.now placed.0.at_hand.held c.buffer.ensures.slot in
     rw (c.search_on.ensures, c.behind.ensures)
     record {
-      absorbs = search_absorbs half c.args.bytes.now c.bytes.result.now c.args.window c.args.so_far c.compared-so_far.result c.requires.may at slot c.compared-so_far.ensures;
+      absorbs = search_absorbs half c.args.bytes.now c.bytes.result.now c.args.window c.args.so_far c.compared-so_far.result c.requires.may c.requires.at slot c.compared-so_far.ensures;
       stays = refl;
     }

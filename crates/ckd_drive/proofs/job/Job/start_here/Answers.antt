@@ -21,8 +21,7 @@ returns-in-Some g c =
     let was = kept_in c.args.self.now c.args.mark.now in
     let came = kept_in c.leave.new.self c.leave.new.mark in
     let q = c.begin_command.new.registers in
-    let zero : beginning c.args.code was.registers ≡ ToCylinderZero q c.in-ToCylinderZero.next = sym (rw c.in-ToCylinderZero.is at c.begin_command.ensures) in
-    let is : beginning c.args.code was.registers ≡ ToCylinderZero q (Some c.in-Some.next) = rw c.in-Some.is at zero in
+    let is : beginning c.args.code was.registers ≡ ToCylinderZero q (Some c.in-Some.next) = sym (rw (c.in-ToCylinderZero.is, c.in-Some.is) at c.begin_command.ensures) in
     let left : Leaves was.cache came (moved_to q 0 0) = on_ok c.leave.result _ (sym c.is_err.ensures.value ∙ c.if-is_err.false) c.leave.ensures.leaves in
     record { state = zero_begins was came q c.in-Some.next (beginning c.args.code was.registers) _ c.requires.idle c.requires.well is left refl; begun = tt }
 
@@ -31,7 +30,6 @@ returns-in-None g c =
     let was = kept_in c.args.self.now c.args.mark.now in
     let came = kept_in c.leave.new.self c.leave.new.mark in
     let q = c.begin_command.new.registers in
-    let zero : beginning c.args.code was.registers ≡ ToCylinderZero q c.in-ToCylinderZero.next = sym (rw c.in-ToCylinderZero.is at c.begin_command.ensures) in
-    let is : beginning c.args.code was.registers ≡ ToCylinderZero q None = rw c.in-None.is at zero in
+    let is : beginning c.args.code was.registers ≡ ToCylinderZero q None = sym (rw (c.in-ToCylinderZero.is, c.in-None.is) at c.begin_command.ensures) in
     let left : Leaves was.cache came (moved_to q 0 0) = on_ok c.leave.result _ (sym c.is_err.ensures.value ∙ c.if-is_err.false) c.leave.ensures.leaves in
     record { state = zero_ends was came q (beginning c.args.code was.registers) c.requires.idle c.requires.well is left; begun = tt }

@@ -1,0 +1,91 @@
+-- What a look comes to: one of these ways, and the same again for a command whose area was found.
+use Rattle.std.proofs.Common.{◌≡◌, ap, refl, sym, subst, true, false, Bool, Some}
+use Rattle.std.proofs.lemmas.Bool.{cond_both}
+use Rattle.std.specs.Prelude.{bit_and, not, ◌&&◌, ◌==◌, ◌+◌, if◌then◌else◌}
+use Rattle.ckd_track.specs.Model.{heads_of}
+use Rattle.ckd_track.specs.Track.{track_or_none}
+use Rattle.ckd_track.specs.declared.geometries.Geometry.{Geometry}
+use Rattle.ckd_position.specs.Areas.{next_of_kind}
+use Rattle.ckd_position.specs.Contents.{Sighted, is_readable}
+use Rattle.ckd_position.specs.declared.areas.Area.{Area}
+use Rattle.ckd_position.specs.declared.areas.Next.{Next as NextArea}
+use Rattle.ckd_position.specs.declared.areas.Next.TheVariants as next
+use Rattle.ckd_position.specs.declared.areas.Position.TheVariants.{AtIndex}
+use Rattle.ckd_sense.specs.Masks.{allows_head_change}
+use Rattle.ckd_sense.specs.declared.commands.Command.{Command}
+use Rattle.ckd_sense.specs.declared.sense_bytes.Sense.{Sense}
+use Rattle.ckd_sense.specs.declared.sense_bytes.TheConstants.Sense as cause
+use Rattle.ckd_command.specs.declared.registers.Registers.{Registers}
+use Rattle.ckd_command.specs.declared.registers.Lap.{Lap}
+use Rattle.ckd_command.specs.declared.registers.Lap.TheVariants.{First, Second}
+use Rattle.ckd_command.specs.declared.tables.Aim.{Aim}
+use Rattle.ckd_command.specs.declared.tables.Aim.TheVariants.{NoArea, Next, Credited}
+use Rattle.ckd_command.specs.declared.begin.Opened.{Opened}
+use Rattle.ckd_command.specs.Answers.{Sight, Found, IndexPassed, NextHead, Missed, moved_to}
+use Rattle.ckd_command.specs.Tables.{aim, action_of, needs_readable}
+use Rattle.ckd_command.specs.Commands.{sight, sight_of, look_for, next_head, turned, at_index, with_cause}
+
+turning : (P : Sight → Type 0) (r : Registers) (l : Lap) → P (IndexPassed (record r { position = AtIndex; lap = Second })) → P (Missed (with_cause (at_index r) cause.NO_RECORD_FOUND)) → P (turned r l)
+turning P r First passed missed = passed
+turning P r Second passed missed = missed
+
+-- a look that passes the index goes on by one of these ways; it fails for no fault of the store
+pub passing : (P : Sight → Type 0) (g : Geometry) (o : Opened) (r : Registers) → P (IndexPassed (record r { position = AtIndex; lap = Second }))
+    → ((r.head + 1 == heads_of g.model) ≡ false → P (NextHead (moved_to r r.cylinder (r.head + 1)))) → ((c : Sense) → bit_and c.0 cause.EQUIPMENT_CHECK.0 ≡ 0 → P (Missed (with_cause (at_index r) c)))
+    → P (sight_of g o r next.IndexPassed)
+passing P g o r passed head missed =
+    cond_both o.multi_track (next_head g r) (turned r r.lap) P
+    (λ _. cond_both (not (allows_head_change r.file_mask)) _ _ P (λ _. missed cause.HEAD_CHANGE_NOT_ALLOWED refl) (λ _. cond_both (r.head + 1 == heads_of g.model) _ _ P (λ _. missed cause.END_OF_CYLINDER refl) head))
+    (λ _. turning P r r.lap passed (missed cause.NO_RECORD_FOUND refl))
+
+-- what holds of these ways holds of every look
+pub sight_by : (P : Sight → Type 0) (g : Geometry) (t : Sighted) (o : Opened) (r : Registers) → P (Found o) → ((a : Area) → P (Found (record o { area = Some a })))
+    → P (Missed (with_cause r cause.UNREADABLE_TRACK)) → P (IndexPassed (record r { position = AtIndex; lap = Second }))
+    → ((r.head + 1 == heads_of g.model) ≡ false → P (NextHead (moved_to r r.cylinder (r.head + 1)))) → ((c : Sense) → bit_and c.0 cause.EQUIPMENT_CHECK.0 ≡ 0 → P (Missed (with_cause (at_index r) c)))
+    → P (sight g t o r)
+unfolding sight
+sight_by P g t o r had found unread passed head missed = go (aim o.command)
+  where
+    at : (n : NextArea) → P (sight_of g o r n)
+    at (next.Found a) = found a
+    at next.IndexPassed = passing P g o r passed head missed
+
+    go : (a : Aim) → P (look_for g t o r a)
+    go (Next kind) = cond_both (needs_readable (action_of o.command) && not (is_readable t)) _ _ P (λ _. unread) (λ _. at (next_of_kind (track_or_none t) r.position kind))
+    go _ = had
+
+-- a command that looks for no area has found it
+pub sight_without : (g : Geometry) (t : Sighted) (o : Opened) (r : Registers) → aim o.command ≡ NoArea → sight g t o r ≡ Found o
+unfolding sight
+sight_without g t o r e = rw e refl
+
+pub sight_credited : (g : Geometry) (t : Sighted) (o : Opened) (r : Registers) → aim o.command ≡ Credited → sight g t o r ≡ Found o
+unfolding sight
+sight_credited g t o r e = rw e refl
+
+-- a command whose area was found finds it again
+abbrev FoundAgain : Geometry → Sighted → (o o' : Opened) → Registers → Aim → Type 0
+FoundAgain g t o o' r a = (o'.command ≡ o.command) × (look_for g t o' r a ≡ Found o')
+
+again_for : (g : Geometry) (o o' : Opened) (r : Registers) (x : NextArea) → Found o' ≡ sight_of g o r x → (o'.command ≡ o.command) × (sight_of g o' r x ≡ Found o')
+again_for g o o' r (next.Found a) e = (let same : o' ≡ record o { area = Some a } = cc in (ap (λ (x : Opened). x.command) same, rw same refl))
+again_for g o o' r next.IndexPassed e = absurd (passing (λ s. Found o' ≡ s → ⊥) g o r (λ e. cc) (λ _. λ e. cc) (λ c _. λ e. cc) e)
+
+again_when : (b : Bool) (g : Geometry) (o o' : Opened) (r : Registers) (x : NextArea) → Found o' ≡ (if b then Missed (with_cause r cause.UNREADABLE_TRACK) else sight_of g o r x)
+    → (o'.command ≡ o.command) × ((if b then Missed (with_cause r cause.UNREADABLE_TRACK) else sight_of g o' r x) ≡ Found o')
+again_when true g o o' r x e = absurd cc
+again_when false g o o' r x e = again_for g o o' r x e
+
+again_aim : (a : Aim) (g : Geometry) (t : Sighted) (o o' : Opened) (r : Registers) → Found o' ≡ look_for g t o r a → FoundAgain g t o o' r a
+again_aim (Next kind) g t o o' r e =
+    let f = again_when (needs_readable (action_of o.command) && not (is_readable t)) g o o' r (next_of_kind (track_or_none t) r.position kind) e in
+    let P = λ (c : Command). (if needs_readable (action_of c) && not (is_readable t) then Missed (with_cause r cause.UNREADABLE_TRACK) else sight_of g o' r (next_of_kind (track_or_none t) r.position kind)) ≡ Found o' in
+    (f.0, subst P (sym f.0) f.1)
+again_aim _ g t o o' r e = (let same : o' ≡ o = cc in (ap (λ (x : Opened). x.command) same, refl))
+
+pub look_again : (g : Geometry) (t : Sighted) (o o' : Opened) (r : Registers) → Found o' ≡ sight g t o r → (o'.command ≡ o.command) × (sight g t o' r ≡ Found o')
+unfolding sight
+look_again g t o o' r e =
+    let f = again_aim (aim o.command) g t o o' r e in
+    let P = λ (a : Aim). look_for g t o' r a ≡ Found o' in
+    (f.0, subst P (ap aim (sym f.0)) f.1)
