@@ -24,7 +24,7 @@ returns-in-Immediate-clause-comes g c =
     let b = c.in-Immediate.ensures in
     let e = c.conclude in
     immediately a.self.now.key (place_of a.self.now.place) a.storage.now c.in-GoodCcw.ccw a.drive.now c.begin.new.self c.in-GoodCcw.ensures.fetched c.requires.fits.stands.saved b.state
-    e.new.self e.result e.new.drive b.answer b.reported e.ensures.loads e.ensures.unwritten (place_of c.go_by.new.self) c.go_by.ensures e.ensures.comes
+    e.new.self e.result e.new.drive b.answer b.reported e.ensures.loads e.ensures.unwritten (place_of c.go_by.new.self) c.go_by.ensures (e.ensures.comes a.storage.now)
 
 pub returns-in-Immediate-clause-quiet : goal.returns-in-Immediate-clause-quiet
 returns-in-Immediate-clause-quiet g c =

@@ -25,4 +25,4 @@ returns-clause-comes g c =
     (λ x. completes r.key r.ccw r.address (place_of r.place) a.storage.now d0 f.new.drive f.result x i.result f.ensures
     (no_chain r.place.residual _ (sym c.chains_data.ensures ∙ c.if-chains_data.false)) (no_count r.place.residual f.result.left c.requires.residual)
     (i.ensures ∙ ap (λ n. not (suppresses_length r.ccw) && differs n f.result.left) (sym c.requires.residual)))
-    (ap (λ (d : DriveState). d.image) f.ensures.drive) (ap (λ (d : DriveState). d.state) f.ensures.drive) e.ensures.loads e.ensures.comes)
+    (ap (λ (d : DriveState). d.image) f.ensures.drive) (ap (λ (d : DriveState). d.state) f.ensures.drive) e.ensures.loads (e.ensures.comes a.storage.now))

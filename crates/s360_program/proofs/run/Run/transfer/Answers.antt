@@ -28,7 +28,7 @@ returns-then-flow-eq0-clause-steps g c =
     r.key a.storage.now e.new.self e.result d0 f.new.drive e.new.drive
     (λ x. completes r.key r.ccw r.address (place_of r.place) a.storage.now d0 f.new.drive f.result x i.result f.ensures (is_counted r.place.residual _ some) (no_more r.place.residual f.result.left none)
     (i.ensures ∙ ap (λ n. not (suppresses_length r.ccw) && differs r.place.residual n) (sym none)))
-    (ap (λ (d : DriveState). d.image) f.ensures.drive) (ap (λ (d : DriveState). d.state) f.ensures.drive) e.ensures.loads e.ensures.comes))
+    (ap (λ (d : DriveState). d.image) f.ensures.drive) (ap (λ (d : DriveState). d.state) f.ensures.drive) e.ensures.loads (e.ensures.comes a.storage.now)))
 
 pub returns-in-Ok-clause-steps : goal.returns-in-Ok-clause-steps
 returns-in-Ok-clause-steps g c =
@@ -53,4 +53,4 @@ returns-in-Err-clause-steps g c =
     (unit_steps r.key (phase_by (stage.Moving r.ccw r.address) (place_of r.place) a.storage.now d0.state d0.work) a.most e.new.self p.new.storage e.result d0 e.new.drive c.requires.some
     (unit_comes (λ x. unit x r.key (phase_by (stage.Moving r.ccw r.address) (place_of r.place) a.storage.now d0.state d0.work))
     (λ x. EndsIn p.new.storage (ending x r.key (place_of r.place) (closed_of x p.new.drive p.new.drive.work) (status_of c.in-Err.condition)))
-    r.key p.new.storage e.new.self e.result d0 p.new.drive e.new.drive k.3 k.1 k.2 e.ensures.loads e.ensures.comes))
+    r.key p.new.storage e.new.self e.result d0 p.new.drive e.new.drive k.3 k.1 k.2 e.ensures.loads (e.ensures.comes p.new.storage)))
