@@ -27,26 +27,14 @@ use Rattle.s360_program.proofs.Meeting.{ends_after, ends_now, comes_after, met_n
 
 pub rejected_is : (b : AfterBegin) (d0 d1 : DriveState) → begun.Rejected ≡ answer_of_begin b → d1 ≡ with_image (after_begun b d0) d1.image → b ≡ Rejected d1.state
 rejected_is (Rejected s) d0 d1 a e = ap Rejected (sym (ap (λ (d : DriveState). d.state) e))
-rejected_is (Immediate s motion) d0 d1 a e = absurd (never a)
-  where
-    never : begun.Rejected ≡ begun.Immediate → ⊥
-    never h = cc
-rejected_is (Started o) d0 d1 a e = absurd (never a)
-  where
-    never : begun.Rejected ≡ begun.Started → ⊥
-    never h = cc
+rejected_is (Immediate s motion) d0 d1 a e = absurd (cc a)
+rejected_is (Started o) d0 d1 a e = absurd (cc a)
 
 pub immediate_is : (b : AfterBegin) (d0 d1 : DriveState) → begun.Immediate ≡ answer_of_begin b → d1 ≡ with_image (after_begun b d0) d1.image
     → (motion : Bool) × (b ≡ Immediate d1.state motion) × (d1.work ≡ Over (immediate_ending motion))
-immediate_is (Rejected s) d0 d1 a e = absurd (never a)
-  where
-    never : begun.Immediate ≡ begun.Rejected → ⊥
-    never h = cc
+immediate_is (Rejected s) d0 d1 a e = absurd (cc a)
 immediate_is (Immediate s motion) d0 d1 a e = (motion, ap (λ s. Immediate s motion) (sym (ap (λ (d : DriveState). d.state) e)), ap (λ (d : DriveState). d.work) e)
-immediate_is (Started o) d0 d1 a e = absurd (never a)
-  where
-    never : begun.Immediate ≡ begun.Started → ⊥
-    never h = cc
+immediate_is (Started o) d0 d1 a e = absurd (cc a)
 
 -- a call that did not fail met no fault
 pub unfailed : (Failed : Type 0) (d0 d1 : DriveState) → (Failed → ⊥) → Reports Failed d0 d1 → d1.image.failures ≡ d0.image.failures
@@ -94,10 +82,7 @@ module _ (key : ℕ) (p : Place) (s : Storage) (ccw : Ccw) (d0 d1 : DriveState) 
 
   -- it is over at once
   pub immediate_same : Reports (begun.Immediate ≡ begun.Rejected) d0 d1 → d1.image.failures ≡ d0.image.failures
-  immediate_same reports = unfailed (begun.Immediate ≡ begun.Rejected) d0 d1 other reports
-    where
-      other : begun.Immediate ≡ begun.Rejected → ⊥
-      other h = cc
+  immediate_same reports = unfailed (begun.Immediate ≡ begun.Rejected) d0 d1 (λ h. cc) reports
 
   pub immediate_calm : begun.Immediate ≡ answer_of_begin (begin (fault_met d0 d1) ccw.code d0.state) → Reports (begun.Immediate ≡ begun.Rejected) d0 d1
       → Calm (tells_equipment_check (drive_of d0.state).sense ≡ false) d1.state

@@ -1,3 +1,4 @@
+pub mod Cases
 pub mod Ties
 pub mod Fetches
 pub mod MovingBytes

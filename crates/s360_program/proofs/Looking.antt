@@ -33,26 +33,14 @@ use Rattle.s360_program.proofs.Meeting.{ends_after, more_after, met_none}
 
 failed_is : (k : AfterLook) (d0 d1 : DriveState) → seen.Failed ≡ answer_of_look d1.work → d1 ≡ with_image (after_sight k d0) d1.image → k ≡ Failed d1.state
 failed_is (Failed t) d0 d1 a e = ap Failed (sym (ap (λ (d : DriveState). d.state) e))
-failed_is (Passed q) d0 d1 a e = absurd (never (a ∙ ap (λ (d : DriveState). answer_of_look d.work) e))
-  where
-    never : seen.Failed ≡ seen.Passed → ⊥
-    never h = cc
-failed_is (Ready q) d0 d1 a e = absurd (never (a ∙ ap (λ (d : DriveState). answer_of_look d.work) e))
-  where
-    never : seen.Failed ≡ seen.Ready (length_of q []) → ⊥
-    never h = cc
+failed_is (Passed q) d0 d1 a e = absurd (cc (a ∙ ap (λ (d : DriveState). answer_of_look d.work) e))
+failed_is (Ready q) d0 d1 a e = absurd (cc (a ∙ ap (λ (d : DriveState). answer_of_look d.work) e))
 
 passed_is : (k : AfterLook) (d0 d1 : DriveState) → seen.Passed ≡ answer_of_look d1.work → d1 ≡ with_image (after_sight k d0) d1.image
     → (q : Opened) × (k ≡ Passed (record { opened = q; state = d1.state })) × (d1.work ≡ Looking q)
 passed_is (Passed q) d0 d1 a e = (q.opened, ap (λ s. Passed (record { opened = q.opened; state = s })) (sym (ap (λ (d : DriveState). d.state) e)), ap (λ (d : DriveState). d.work) e)
-passed_is (Failed t) d0 d1 a e = absurd (never (a ∙ ap (λ (d : DriveState). answer_of_look d.work) e))
-  where
-    never : seen.Passed ≡ seen.Failed → ⊥
-    never h = cc
-passed_is (Ready q) d0 d1 a e = absurd (never (a ∙ ap (λ (d : DriveState). answer_of_look d.work) e))
-  where
-    never : seen.Passed ≡ seen.Ready (length_of q []) → ⊥
-    never h = cc
+passed_is (Failed t) d0 d1 a e = absurd (cc (a ∙ ap (λ (d : DriveState). answer_of_look d.work) e))
+passed_is (Ready q) d0 d1 a e = absurd (cc (a ∙ ap (λ (d : DriveState). answer_of_look d.work) e))
 
 ready_is : (left : ℕ) (k : AfterLook) (d0 d1 : DriveState) → seen.Ready left ≡ answer_of_look d1.work → d1 ≡ with_image (after_sight k d0) d1.image
     → (q : Opened) × (k ≡ Ready (record { opened = q; state = d1.state })) × (d1.work ≡ Passing q [] (length_of (record { opened = q; state = d1.state }) []))
@@ -62,14 +50,8 @@ ready_is left (Ready q) d0 d1 a e =
       ap (λ s. Ready (record { opened = q.opened; state = s })) (sym st),
       ap (λ (d : DriveState). d.work) e ∙ ap (λ s. Passing q.opened [] (length_of (record { opened = q.opened; state = s }) [])) (sym st),
     )
-ready_is left (Failed t) d0 d1 a e = absurd (never (a ∙ ap (λ (d : DriveState). answer_of_look d.work) e))
-  where
-    never : seen.Ready left ≡ seen.Failed → ⊥
-    never h = cc
-ready_is left (Passed q) d0 d1 a e = absurd (never (a ∙ ap (λ (d : DriveState). answer_of_look d.work) e))
-  where
-    never : seen.Ready left ≡ seen.Passed → ⊥
-    never h = cc
+ready_is left (Failed t) d0 d1 a e = absurd (cc (a ∙ ap (λ (d : DriveState). answer_of_look d.work) e))
+ready_is left (Passed q) d0 d1 a e = absurd (cc (a ∙ ap (λ (d : DriveState). answer_of_look d.work) e))
 
 -- the drive looks for the area of a command
 pub looking_is : (r : Run) (d : DriveState) → Fits r d → r.comes ≡ comes.Look → (o : Opened) × (d.work ≡ Looking o)
@@ -132,11 +114,8 @@ module _ (r : Run) (s : Storage) (d0 d1 : DriveState) (fits : Fits r d0) (comes_
     no_check = calm.quiet;
   }
     where
-      never : seen.Passed ≡ seen.Failed → ⊥
-      never h = cc
-
       same : d1.image.failures ≡ d0.image.failures
-      same = unfailed (d1.work ≡ Over failed_ending) d0 d1 (not_over d1.work seen.Passed answer never) reports
+      same = unfailed (d1.work ≡ Over failed_ending) d0 d1 (not_over d1.work seen.Passed answer (λ h. cc)) reports
 
       q : (q : Opened) × (look (fault_met d0 d1) O ≡ Passed (record { opened = q; state = d1.state })) × (d1.work ≡ Looking q)
       q = passed_is (look (fault_met d0 d1) O) d0 d1 answer sighted
@@ -150,11 +129,8 @@ module _ (r : Run) (s : Storage) (d0 d1 : DriveState) (fits : Fits r d0) (comes_
   -- the area is found, and the unit goes on
 
   module _ (left : ℕ) (answer : seen.Ready left ≡ answer_of_look d1.work) (reports : Reports (d1.work ≡ Over failed_ending) d0 d1) where
-    never_failed : seen.Ready left ≡ seen.Failed → ⊥
-    never_failed h = cc
-
     ready_same : d1.image.failures ≡ d0.image.failures
-    ready_same = unfailed (d1.work ≡ Over failed_ending) d0 d1 (not_over d1.work (seen.Ready left) answer never_failed) reports
+    ready_same = unfailed (d1.work ≡ Over failed_ending) d0 d1 (not_over d1.work (seen.Ready left) answer (λ h. cc)) reports
 
     abbrev ready : (q : Opened) × (look (fault_met d0 d1) O ≡ Ready (record { opened = q; state = d1.state })) × (d1.work ≡ Passing q [] (length_of (record { opened = q; state = d1.state }) []))
     ready = ready_is left (look (fault_met d0 d1) O) d0 d1 answer sighted

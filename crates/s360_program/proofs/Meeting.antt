@@ -1,5 +1,5 @@
 -- Faults that the calls of one unit meet together.
-use Rattle.std.proofs.Common.{◌≡◌, ◌⊎◌, inl, inr, ℕ, ◌+◌, ◌<◌, ◌≤◌, refl, sym, ap, subst, ◌∙◌, arith, true, false, Bool, not, ◌&&◌, ◌==◌, List, [], Option, Some, None}
+use Rattle.std.proofs.Common.{◌≡◌, ◌⊎◌, inl, inr, ℕ, ◌+◌, ◌<◌, ◌≤◌, refl, sym, ap, subst, ◌∙◌, arith, true, false, Bool, not, ◌&&◌, ◌||◌, ◌==◌, List, [], Option, Some, None}
 use Rattle.std.specs.Prelude.{slice_index_or, if◌then◌else◌}
 use Rattle.std.proofs.lemmas.Bool.Decides.{nat_tests}
 use Rattle.std.proofs.lemmas.Nat.{and_or_self}
@@ -295,23 +295,15 @@ once l m d0 d1 k = record { calls = go m k.saves k.loads; lasting = k.lasting; g
 pub both : (n k : ℕ) (d0 d1 d2 : DriveState) → CallsAtMost n d0 d1 → CallsAtMost k d1 d2 → CallsAtMost (n + k) d0 d2
 both n k d0 d1 d2 a b = record { calls = omega (arith, a.calls, b.calls); lasting = b.lasting ∙ a.lasting; geometry = b.geometry ∙ a.geometry }
 
--- a call that saved leaves nothing to be saved by the next
+-- Two calls of which at most one saves, and which load nothing: the other one leaves the image.
+
+pub saves_together : (m w : Bool) (d0 d1 d2 : DriveState) → (m ≡ true → w ≡ false) → CallsStore false m d0 d1 → CallsStore false w d1 d2 → CallsStore false (m || w) d0 d2
+saves_together true w d0 d1 d2 only a b =
+    subst (λ (i : ImageState). CallsStore false true d0 (record d2 { image = i })) (sym (untouched w d1 d2 (only refl) b))
+    (record { loads = a.loads; saves = a.saves; failures = a.failures; slots = a.slots; untouched = a.untouched; lasting = a.lasting; geometry = a.geometry })
+saves_together false w d0 d1 d2 only a b =
+    subst (λ (i : ImageState). CallsStore false w (record d0 { image = i }) d2) (untouched false d0 d1 refl a)
+    (record { loads = b.loads; saves = b.saves; failures = b.failures; slots = b.slots; untouched = b.untouched; lasting = b.lasting; geometry = b.geometry })
+
 pub once_together : (m w : Bool) (d0 d1 d2 : DriveState) → (m ≡ true → w ≡ false) → CallsStore false m d0 d1 → CallsStore false w d1 d2 → CallsAtMost 1 d0 d2
-once_together m w d0 d1 d2 only a b = record {
-  calls = go m w only a.saves b.saves;
-  lasting = b.lasting ∙ a.lasting;
-  geometry = b.geometry ∙ a.geometry;
-}
-  where
-    la : d1.image.loads ≡ d0.image.loads
-    la = loads_none m d0 d1 a
-
-    lb : d2.image.loads ≡ d1.image.loads
-    lb = loads_none w d1 d2 b
-
-    go : (m w : Bool) → (m ≡ true → w ≡ false) → d1.image.saves ≡ d0.image.saves + (if m then 1 else 0) → d2.image.saves ≡ d1.image.saves + (if w then 1 else 0)
-        → d2.image.loads + d2.image.saves ≤ d0.image.loads + d0.image.saves + 1
-    go true true only x y = never (sym (only refl))
-    go true false only x y = omega (arith, la, lb)
-    go false true only x y = omega (arith, la, lb)
-    go false false only x y = omega (arith, la, lb)
+once_together m w d0 d1 d2 only a b = once false (m || w) d0 d2 (saves_together m w d0 d1 d2 only a b)

@@ -21,6 +21,7 @@ use Rattle.s360_program.specs.declared.run.Run.{Run}
 use Rattle.s360_program.specs.Stage.{Stage}
 use Rattle.s360_program.specs.Stage as stage
 use Rattle.s360_program.specs.declared.run.Comes.TheVariants as comes
+use Rattle.s360_program.proofs.Cases.{by_stage}
 use Rattle.s360_program.proofs.Looking.{looking_is}
 use Rattle.s360_program.proofs.Meeting.{untouched}
 
@@ -47,25 +48,12 @@ same_next aim_is.Credited = refl
 
 -- the drive is quiet where the phase is
 pub phase_quiet : (r : RunningState) (s : Storage) (d : DriveState) → Stands r d → NeedsNoStore (phase_in r s d) → IsQuiet d
-phase_quiet r s d t h = go r.stage d.work t.fits h
-  where
-    go : (g : Stage) (w : Work) → StageFits g d.state w → NeedsNoStore (phase_by g r.place s d.state w) → IsQuiet (record d { work = w })
-    go stage.Between Idle f h = record { unwritten = h.unwritten; closes = h.unwritten; looks = refl }
-    go stage.Between (Over e) f h = absurd f
-    go stage.Between (Looking o) f h = absurd f
-    go stage.Between (Passing o b l) f h = absurd f
-    go (stage.Looking ccw) Idle f h = absurd f
-    go (stage.Looking ccw) (Over e) f h = absurd f
-    go (stage.Looking ccw) (Looking o) f h = record { unwritten = h.unwritten; closes = h.unwritten; looks = sym (same_next (aim o.command)) ∙ h.looks }
-    go (stage.Looking ccw) (Passing o b l) f h = absurd f
-    go (stage.Moving ccw a) Idle f h = absurd f
-    go (stage.Moving ccw a) (Over e) f h = absurd f
-    go (stage.Moving ccw a) (Looking o) f h = absurd f
-    go (stage.Moving ccw a) (Passing o b l) f h = record {
-      unwritten = left_not (is_written d.state) _ h.unwritten;
-      closes = right_not (is_written d.state) _ h.unwritten;
-      looks = refl;
-    }
+phase_quiet r s d t =
+    by_stage d.state (λ g w. NeedsNoStore (phase_by g r.place s d.state w) → IsQuiet (record d { work = w }))
+    (λ h. record { unwritten = h.unwritten; closes = h.unwritten; looks = refl })
+    (λ ccw o h. record { unwritten = h.unwritten; closes = h.unwritten; looks = sym (same_next (aim o.command)) ∙ h.looks })
+    (λ ccw a o b l h. record { unwritten = left_not (is_written d.state) _ h.unwritten; closes = right_not (is_written d.state) _ h.unwritten; looks = refl })
+    r.stage d.work t.fits
 
 -- and units of which each needs no call make none, where the next ones need none either
 pub still_quiet : (key : ℕ) (phase : ProgramPhase) (done more : ℕ) (r : RunningState) (s : Storage) (d0 d1 d2 : DriveState) → done < more → Stands r d1 → walk (units done) key phase ≡ StandsIn (phase_in r s d1)
@@ -144,10 +132,7 @@ saves_not d (Passing o b l) h = refl
 looks_no_more : (left : ℕ) (w : Work) → seen.Ready left ≡ answer_of_look w → look_loads_of w ≡ false
 looks_no_more left Idle h = refl
 looks_no_more left (Over e) h = refl
-looks_no_more left (Looking o) h = absurd (other h)
-  where
-    other : seen.Ready left ≡ seen.Passed → ⊥
-    other h = cc
+looks_no_more left (Looking o) h = absurd (cc h)
 looks_no_more left (Passing o b l) h = refl
 
 pub finds_quiet : (r : Run) (left : ℕ) (d0 d1 d2 : DriveState) → Fits r d0 → r.comes ≡ comes.Look → d1 ≡ with_image (after_look (fault_met d0 d1) d0) d1.image

@@ -9,9 +9,9 @@ use Rattle.s360_program.specs.Stage.{stage_of}
 use Rattle.s360_program.specs.Stands.{phase_in}
 use Rattle.s360_program.specs.Steps.{run_of, told_of, EndsBy}
 use Rattle.s360_program.specs.declared.conditions.ChannelCondition.TheVariants as condition
-use Rattle.s360_program.proofs.Cutting.{same_ends, cut_untouched, cut_touched, untouched_written, touched_written, end_moved, saves_together}
+use Rattle.s360_program.proofs.Cutting.{same_ends, cut_untouched, cut_touched, untouched_written, touched_written, end_moved}
 use Rattle.s360_program.proofs.Ends.{stops}
-use Rattle.s360_program.proofs.Meeting.{ends_now}
+use Rattle.s360_program.proofs.Meeting.{ends_now, saves_together}
 use Rattle.s360_program.proofs.run.Run.cut.Goals as goal
 
 pub returns-then-not-has_moved-clause-cut : goal.returns-then-not-has_moved-clause-cut
@@ -21,13 +21,13 @@ returns-then-not-has_moved-clause-cut g c = λ s.
     let p = c.end_program in
     subst (λ t. EndsBy (λ f. EndsIn s ((standing_in r.key (phase_in (run_of r) s d)).cut f)) t s d p.new.drive) (sym c.told.ensures)
     (ends_now (λ f. EndsIn s ((standing_in r.key (phase_in (run_of r) s d)).cut f)) (untouched d.state) r.key (place_of r.place) condition.Clear s (told_of p.new.run) _ d p.new.drive
-    (λ f. ap (EndsIn s) (cut_untouched r.key (stage_of r) (place_of r.place) s d d.work f (sym c.has_moved.ensures ∙ c.if-not-has_moved.true))) refl c.requires.stands.saved p.ensures.calls p.ensures.reported p.ensures.ending)
+    (λ f. ap (EndsIn s) (cut_untouched r.key (stage_of r) (place_of r.place) s d d.work f c.requires.stands.fits (sym c.has_moved.ensures ∙ c.if-not-has_moved.true))) refl c.requires.stands.saved p.ensures.calls p.ensures.reported p.ensures.ending)
 
 pub returns-then-not-has_moved-clause-calls : goal.returns-then-not-has_moved-clause-calls
 returns-then-not-has_moved-clause-calls g c = λ s.
     let r = c.args.self.now in
     let d = c.args.drive.now in
-    subst (λ w. CallsStore false w d c.end_program.new.drive) (untouched_written (stage_of r) (place_of r.place) s d.state d.work (sym c.has_moved.ensures ∙ c.if-not-has_moved.true)) c.end_program.ensures.calls
+    subst (λ w. CallsStore false w d c.end_program.new.drive) (untouched_written (stage_of r) (place_of r.place) s d.state d.work c.requires.stands.fits (sym c.has_moved.ensures ∙ c.if-not-has_moved.true)) c.end_program.ensures.calls
 
 pub returns-clause-cut : goal.returns-clause-cut
 returns-clause-cut g c = λ s.

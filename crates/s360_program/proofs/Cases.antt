@@ -1,0 +1,25 @@
+-- What a running program is at, by cases.
+use Rattle.std.proofs.Common.{List, ℕ}
+use Rattle.s360_words.specs.declared.words.Ccw.{Ccw}
+use Rattle.ckd_command.specs.declared.begin.Opened.{Opened}
+use Rattle.ckd_command.specs.Drive.{State}
+use Rattle.ckd_drive.specs.Work.{Work, Idle, Over, Looking, Passing}
+use Rattle.s360_program.specs.Stands.{StageFits}
+use Rattle.s360_program.specs.Stage.{Stage}
+use Rattle.s360_program.specs.Stage as stage
+
+-- what holds of each stage beside what the drive is at then holds wherever the two fit
+pub by_stage : (s : State) (P : Stage → Work → Type 0) → P stage.Between Idle → ((ccw : Ccw) (o : Opened) → P (stage.Looking ccw) (Looking o))
+    → ((ccw : Ccw) (a : ℕ) (o : Opened) (b : List ℕ) (left : ℕ) → P (stage.Moving ccw a) (Passing o b left)) → (g : Stage) (w : Work) → StageFits g s w → P g w
+by_stage s P between looking moving stage.Between Idle f = between
+by_stage s P between looking moving (stage.Looking ccw) (Looking o) f = looking ccw o
+by_stage s P between looking moving (stage.Moving ccw a) (Passing o b left) f = moving ccw a o b left
+by_stage s P between looking moving stage.Between (Over e) f = absurd f
+by_stage s P between looking moving stage.Between (Looking o) f = absurd f
+by_stage s P between looking moving stage.Between (Passing o b left) f = absurd f
+by_stage s P between looking moving (stage.Looking ccw) Idle f = absurd f
+by_stage s P between looking moving (stage.Looking ccw) (Over e) f = absurd f
+by_stage s P between looking moving (stage.Looking ccw) (Passing o b left) f = absurd f
+by_stage s P between looking moving (stage.Moving ccw a) Idle f = absurd f
+by_stage s P between looking moving (stage.Moving ccw a) (Over e) f = absurd f
+by_stage s P between looking moving (stage.Moving ccw a) (Looking o) f = absurd f
