@@ -51,9 +51,9 @@ pub misses : (key : ℕ) (p q : Place) (s : Storage) (told : Csw × Bool) (So : 
     → q ≡ past_no_ccw p → IsEnding (ending (fault_met d0 d2) key q (untouched d0.state) PROGRAM_CHECK) told d2
     → EndsBy (λ f. unit f key (Between (record { storage = s; place = p; state = d0.state }))) told s d0 d2
 misses key p q s told So d0 d2 h saved settles tells_of past is =
-    ends_now (λ f. unit f key (Between (record { storage = s; place = p; state = d0.state }))) (untouched d0.state) key (past_no_ccw p) condition.ProgramCheck s told So d0 d2
-    (λ f. ap (next_fetched f key (record { storage = s; place = p; state = d0.state })) (sym h)) refl saved settles tells_of
-    (subst (λ q. IsEnding (ending (fault_met d0 d2) key q (untouched d0.state) PROGRAM_CHECK) told d2) past is)
+    ends_now (λ f. unit f key (Between (record { storage = s; place = p; state = d0.state }))) (untouched d0.state) key (past_no_ccw p) condition.ProgramCheck s told So d0 d2 refl saved
+    (record { calls = settles; reports = tells_of; is = subst (λ q. IsEnding (ending (fault_met d0 d2) key q (untouched d0.state) PROGRAM_CHECK) told d2) past is })
+    (λ f. ap (next_fetched f key (record { storage = s; place = p; state = d0.state })) (sym h))
 
 -- A command is there.
 
@@ -72,13 +72,19 @@ module _ (key : ℕ) (p : Place) (s : Storage) (ccw : Ccw) (d0 d1 : DriveState) 
       → (q : Place) → q ≡ past_ccw p ccw → IsEnding (ending (fault_met d1 d2) key q (failed d1.state) no_channel_status) told d2
       → EndsBy (λ f. unit f key (Between (record { storage = s; place = p; state = d0.state }))) told s d0 d2
   rejects told So d2 answer calls reports settles tells_of q past is =
-      ends_after (λ f. begin f ccw.code d0.state ≡ Rejected d1.state) (begun.Rejected ≡ begun.Rejected) So (λ f. unit f key (Between before)) (failed d1.state) key (past_ccw p ccw) condition.Clear s told
+      ends_after (λ f. unit f key (Between before)) (failed d1.state) key (past_ccw p ccw) condition.Clear s told So (λ f. begin f ccw.code d0.state ≡ Rejected d1.state) (begun.Rejected ≡ begun.Rejected)
       false (begin_saves ccw.code d0) d0 d1 d2
+      (record {
+        stable = λ at left w. begin_stable ccw.code d0.state left (Rejected d1.state) at w;
+        calm = λ at. subst (BegunCalm (tells_equipment_check (drive_of d0.state).sense ≡ false)) at calm_begun;
+        fails = λ h. refl;
+        at = rejected_is (begin (fault_met d0 d1) ccw.code d0.state) d0 d1 answer state;
+        same = refl;
+        calls = calls;
+        reports = reports;
+      })
+      (record { calls = settles; reports = tells_of; is = subst (λ q. IsEnding (ending (fault_met d1 d2) key q (failed d1.state) no_channel_status) told d2) past is })
       (λ f at. ap (next_fetched f key before) (sym there) ∙ ap (next_begun f key (requested before ccw)) at)
-      (λ at left w. begin_stable ccw.code d0.state left (Rejected d1.state) at w)
-      (λ at. subst (BegunCalm (tells_equipment_check (drive_of d0.state).sense ≡ false)) at calm_begun)
-      (λ h. refl) (rejected_is (begin (fault_met d0 d1) ccw.code d0.state) d0 d1 answer state) refl calls reports settles tells_of
-      (subst (λ q. IsEnding (ending (fault_met d1 d2) key q (failed d1.state) no_channel_status) told d2) past is)
 
   -- it is over at once
   pub immediate_same : Reports (begun.Immediate ≡ begun.Rejected) d0 d1 → d1.image.failures ≡ d0.image.failures

@@ -91,12 +91,18 @@ module _ (r : Run) (s : Storage) (d0 d1 : DriveState) (fits : Fits r d0) (comes_
       → IsEnding (ending (fault_met d1 d2) r.key (place_of r.place) (failed d1.state) no_channel_status) told d2
       → EndsBy (λ f. unit f r.key (phase_in (run_of r) s d0)) told s d0 d2
   look_fails told So d2 answer calls reports settles tells_of is =
-      ends_after (λ f. look f O ≡ Failed d1.state) (d1.work ≡ Over failed_ending) So (λ f. unit f r.key (phase_in (run_of r) s d0)) (failed d1.state) r.key (place_of r.place) condition.Clear s told
+      ends_after (λ f. unit f r.key (phase_in (run_of r) s d0)) (failed d1.state) r.key (place_of r.place) condition.Clear s told So (λ f. look f O ≡ Failed d1.state) (d1.work ≡ Over failed_ending)
       (look_loads d0) (look_saves d0) d0 d1 d2
-      (λ f h. ap (unit f r.key) looks ∙ ap (next_looked f r.key Q) h)
-      (λ h left w. look_stable left O (Failed d1.state) h tt)
-      (λ h. subst (LookCalm (tells_equipment_check (drive_of d0.state).sense ≡ false)) h calm_look)
-      (λ h. refl) (failed_is (look (fault_met d0 d1) O) d0 d1 answer sighted) refl calls reports settles tells_of is
+      (record {
+        stable = λ h left w. look_stable left O (Failed d1.state) h tt;
+        calm = λ h. subst (LookCalm (tells_equipment_check (drive_of d0.state).sense ≡ false)) h calm_look;
+        fails = λ h. refl;
+        at = failed_is (look (fault_met d0 d1) O) d0 d1 answer sighted;
+        same = refl;
+        calls = calls;
+        reports = reports;
+      })
+      (record { calls = settles; reports = tells_of; is = is }) (λ f h. ap (unit f r.key) looks ∙ ap (next_looked f r.key Q) h)
 
   not_over : (w : Work) (k : seen.the_data) → k ≡ answer_of_look w → (k ≡ seen.Failed → ⊥) → w ≡ Over failed_ending → ⊥
   not_over w k e n h = n (e ∙ ap answer_of_look h)

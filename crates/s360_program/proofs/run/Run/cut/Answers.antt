@@ -20,8 +20,9 @@ returns-then-not-has_moved-clause-cut g c = λ s.
     let d = c.args.drive.now in
     let p = c.end_program in
     subst (λ t. EndsBy (λ f. EndsIn s ((standing_in r.key (phase_in (run_of r) s d)).cut f)) t s d p.new.drive) (sym c.told.ensures)
-    (ends_now (λ f. EndsIn s ((standing_in r.key (phase_in (run_of r) s d)).cut f)) (untouched d.state) r.key (place_of r.place) condition.Clear s (told_of p.new.run) _ d p.new.drive
-    (λ f. ap (EndsIn s) (cut_untouched r.key (stage_of r) (place_of r.place) s d d.work f c.requires.stands.fits (sym c.has_moved.ensures ∙ c.if-not-has_moved.true))) refl c.requires.stands.saved p.ensures.calls p.ensures.reported p.ensures.ending)
+    (ends_now (λ f. EndsIn s ((standing_in r.key (phase_in (run_of r) s d)).cut f)) (untouched d.state) r.key (place_of r.place) condition.Clear s (told_of p.new.run) _ d p.new.drive refl c.requires.stands.saved
+    (record { calls = p.ensures.calls; reports = p.ensures.reported; is = p.ensures.ending })
+    (λ f. ap (EndsIn s) (cut_untouched r.key (stage_of r) (place_of r.place) s d d.work f c.requires.stands.fits (sym c.has_moved.ensures ∙ c.if-not-has_moved.true))))
 
 pub returns-then-not-has_moved-clause-calls : goal.returns-then-not-has_moved-clause-calls
 returns-then-not-has_moved-clause-calls g c = λ s.
@@ -38,7 +39,9 @@ returns-clause-cut g c = λ s.
     subst (λ t. EndsBy (λ f. EndsIn s ((standing_in r.key (phase_in (run_of r) s d)).cut f)) t s d p.new.drive) (sym c.told-2.ensures)
     (same_ends (λ f. EndsIn s ((standing_in r.key (phase_in (run_of r) s d)).cut f)) (λ f. EndsIn s (ending f r.key (place_of r.place) (closed_of f d d.work) no_channel_status)) (told_of p.new.run) s d p.new.drive
     (λ f. ap (EndsIn s) (cut_touched r.key (stage_of r) (place_of r.place) s d d.work f c.requires.stands.fits (sym c.has_moved.ensures ∙ c.if-not-has_moved.false)))
-    (stops r.key (place_of r.place) condition.Clear s (told_of p.new.run) _ d e.new.self p.new.drive e.result c.requires.stands.saved e.ensures.state e.ensures.ending e.ensures.calls e.ensures.reported p.ensures.calls p.ensures.reported p.ensures.ending))
+    (stops r.key (place_of r.place) condition.Clear s (told_of p.new.run) _ d e.new.self p.new.drive e.result
+    (record { saved = c.requires.stands.saved; state = e.ensures.state; ending = e.ensures.ending; calls = e.ensures.calls; reports = e.ensures.reported })
+    (record { calls = p.ensures.calls; reports = p.ensures.reported; is = p.ensures.ending })))
 
 pub returns-clause-calls : goal.returns-clause-calls
 returns-clause-calls g c = λ s.
