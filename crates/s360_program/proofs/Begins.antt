@@ -21,7 +21,7 @@ use Rattle.s360_program.specs.declared.conditions.ChannelCondition.TheVariants a
 use Rattle.s360_program.specs.declared.run.Run.{Run}
 use Rattle.s360_program.specs.declared.run.Step.{Step}
 use Rattle.s360_program.proofs.Ends.{calm_before}
-use Rattle.s360_program.proofs.Meeting.{ends_after, ends_now, comes_after, met_none}
+use Rattle.s360_program.proofs.Meeting.{unfailed, ends_after, ends_now, comes_after, met_none}
 
 -- What was begun, by what the drive answers.
 
@@ -35,14 +35,6 @@ pub immediate_is : (b : AfterBegin) (d0 d1 : DriveState) → begun.Immediate ≡
 immediate_is (Rejected s) d0 d1 a e = absurd (cc a)
 immediate_is (Immediate s motion) d0 d1 a e = (motion, ap (λ s. Immediate s motion) (sym (ap (λ (d : DriveState). d.state) e)), ap (λ (d : DriveState). d.work) e)
 immediate_is (Started o) d0 d1 a e = absurd (cc a)
-
--- a call that did not fail met no fault
-pub unfailed : (Failed : Type 0) (d0 d1 : DriveState) → (Failed → ⊥) → Reports Failed d0 d1 → d1.image.failures ≡ d0.image.failures
-unfailed Failed d0 d1 n reports = go reports.failed
-  where
-    go : (d1.image.failures ≡ d0.image.failures) ⊎ (Failed × (tells_equipment_check d1.state.registers.sense ≡ true) × (is_written d1.state ≡ false)) → d1.image.failures ≡ d0.image.failures
-    go (inl h) = h
-    go (inr h) = absurd (n h.0)
 
 -- No command is there.
 

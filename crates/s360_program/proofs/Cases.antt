@@ -1,5 +1,5 @@
 -- What a running program is at, by cases.
-use Rattle.std.proofs.Common.{List, ℕ}
+use Rattle.std.proofs.Common.{◌≡◌, Bool, true, false, List, ℕ}
 use Rattle.s360_words.specs.declared.words.Ccw.{Ccw}
 use Rattle.ckd_command.specs.declared.begin.Opened.{Opened}
 use Rattle.ckd_command.specs.Drive.{State}
@@ -7,6 +7,10 @@ use Rattle.ckd_drive.specs.Work.{Work, Idle, Over, Looking, Passing}
 use Rattle.s360_program.specs.Stands.{StageFits}
 use Rattle.s360_program.specs.Stage.{Stage}
 use Rattle.s360_program.specs.Stage as stage
+
+-- a test has one answer
+pub never : {P : Type 0} → ◌≡◌ {A = Bool} false true → P
+never h = absurd (cc)
 
 -- what holds of each stage beside what the drive is at then holds wherever the two fit
 pub by_stage : (s : State) (P : Stage → Work → Type 0) → P stage.Between Idle → ((ccw : Ccw) (o : Opened) → P (stage.Looking ccw) (Looking o))

@@ -21,11 +21,8 @@ use Rattle.s360_program.specs.Stands.{StageFits, phase_by}
 use Rattle.s360_program.specs.Steps.{EndsBy, has_moved}
 use Rattle.s360_program.specs.Stage.{Stage}
 use Rattle.s360_program.specs.Stage as stage
-use Rattle.s360_program.proofs.Cases.{by_stage}
+use Rattle.s360_program.proofs.Cases.{never, by_stage}
 use Rattle.s360_program.proofs.Meeting.{met_none, untouched as image_untouched}
-
-never : {P : Type 0} → ◌≡◌ {A = Bool} false true → P
-never h = absurd (cc)
 
 pub same_ends : (next later : Option Fault → Next) (told : Csw × Bool) (s : Storage) (d0 d1 : DriveState) → ((f : Option Fault) → next f ≡ later f) → EndsBy later told s d0 d1 → EndsBy next told s d0 d1
 same_ends next later told s d0 d1 e h = record { fault = h.fault; met = h.met; ending = h.ending; ends = e h.fault ∙ h.ends; is_ending = h.is_ending; told_of = h.told_of }
@@ -56,7 +53,7 @@ cut_touched key g p s d w f fits =
 
 -- Whether it saves a track.
 
-untouched_unwritten : (o : Open) → is_written (close None o []).state ≡ true → is_written o.state ≡ true
+pub untouched_unwritten : (o : Open) → is_written (close None o []).state ≡ true → is_written o.state ≡ true
 untouched_unwritten o h = go (close_writes o [] h)
   where
     go : (is_written o.state ≡ true) ⊎ ((is_write_command o ≡ true) × (◌≡◌ {A = List ℕ} [] [] → ⊥)) → is_written o.state ≡ true

@@ -25,7 +25,8 @@ use Rattle.s360_program.specs.declared.conditions.ChannelCondition.{ChannelCondi
 use Rattle.s360_program.specs.declared.run.Run.{Run}
 use Rattle.s360_program.specs.Stage.{stage_of}
 use Rattle.s360_program.specs.Stage as stage
-use Rattle.s360_program.proofs.Meeting.{Settles, ends_after, met_none}
+use Rattle.s360_program.proofs.Cases.{never}
+use Rattle.s360_program.proofs.Meeting.{unfailed, Settles, ends_after, met_none}
 
 -- a drive in which no track is reported as not saved, before any call
 pub calm_before : (d : DriveState) → unsaved d.state ≡ None → Calm (tells_equipment_check (drive_of d.state).sense ≡ false) d.state
@@ -87,9 +88,6 @@ module _ (key : ℕ) (p : Place) (k : ChannelCondition) (s : Storage) (told : Cs
 
 -- The next command follows: the end met no fault, since a failed end stops the chain.
 
-never : {P : Type 0} → ◌≡◌ {A = Bool} false true → P
-never h = absurd (cc)
-
 not_failed : (ccw : Ccw) (e : DriveEnding) (k : ChannelCondition) → chains_after ccw e.unit k ≡ true → e ≡ failed_ending → ⊥
 not_failed ccw e k h is = go (chains_command ccw) (is_clear (status_of k)) (subst (λ (e : DriveEnding). chains_after ccw e.unit k ≡ true) is h)
   where
@@ -97,12 +95,8 @@ not_failed ccw e k h is = go (chains_command ccw) (is_clear (status_of k)) (subs
     go true c h = never h
     go false c h = never h
 
-pub good_end : (ccw : Ccw) (k : ChannelCondition) (d0 d1 : DriveState) (e : DriveEnding) → Reports (e ≡ failed_ending) d0 d1 → chains_after ccw e.unit k ≡ true → d1.image.failures ≡ d0.image.failures
-good_end ccw k d0 d1 e reports chains = go reports.failed
-  where
-    go : (d1.image.failures ≡ d0.image.failures) ⊎ ((e ≡ failed_ending) × (tells_equipment_check d1.state.registers.sense ≡ true) × (is_written d1.state ≡ false)) → d1.image.failures ≡ d0.image.failures
-    go (inl h) = h
-    go (inr h) = absurd (not_failed ccw e k chains h.0)
+good_end : (ccw : Ccw) (k : ChannelCondition) (d0 d1 : DriveState) (e : DriveEnding) → Reports (e ≡ failed_ending) d0 d1 → chains_after ccw e.unit k ≡ true → d1.image.failures ≡ d0.image.failures
+good_end ccw k d0 d1 e reports chains = unfailed (e ≡ failed_ending) d0 d1 (not_failed ccw e k chains) reports
 
 pub chains_on : (r q : Run) (s : Storage) (ccw : Ccw) (incorrect : Bool) (k : ChannelCondition) (d0 d1 : DriveState) (e : DriveEnding) → EndsCommand e d0 d1
     → k ≡ condition_for incorrect e.unit → chains_after ccw e.unit k ≡ true

@@ -25,9 +25,8 @@ use Rattle.s360_program.specs.Stage as stage
 use Rattle.s360_program.specs.declared.run.Comes.TheVariants as comes
 use Rattle.s360_program.specs.declared.run.Step.{Step}
 use Rattle.s360_program.specs.declared.run.Step.TheVariants as step
-use Rattle.s360_program.proofs.Begins.{unfailed}
 use Rattle.s360_program.proofs.Ends.{calm_before}
-use Rattle.s360_program.proofs.Meeting.{ends_after, more_after, met_none}
+use Rattle.s360_program.proofs.Meeting.{unfailed, ends_after, more_after, met_none}
 
 -- What was seen, by what the drive answers.
 

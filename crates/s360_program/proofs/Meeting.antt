@@ -27,9 +27,7 @@ use Rattle.s360_program.specs.declared.conditions.ChannelCondition.TheVariants a
 use Rattle.s360_program.specs.declared.run.Run.{Run}
 use Rattle.s360_program.specs.declared.run.Step.{Step}
 use Rattle.s360_program.specs.declared.run.Step.TheVariants as step
-
-never : {P : Type 0} → ◌≡◌ {A = Bool} false true → P
-never h = absurd (cc)
+use Rattle.s360_program.proofs.Cases.{never}
 
 -- The fault that a call met.
 
@@ -94,6 +92,14 @@ saving_failed w So d1 d2 calls reports rose = (saved w calls, sense reports.fail
     sense : (d2.image.failures ≡ d1.image.failures) ⊎ (So × (tells_equipment_check d2.state.registers.sense ≡ true) × (is_written d2.state ≡ false)) → tells_equipment_check d2.state.registers.sense ≡ true
     sense (inl x) = absurd (not_both x)
     sense (inr x) = x.1
+
+-- a call that did not fail met no fault
+pub unfailed : (Failed : Type 0) (d0 d1 : DriveState) → (Failed → ⊥) → Reports Failed d0 d1 → d1.image.failures ≡ d0.image.failures
+unfailed Failed d0 d1 n reports = go reports.failed
+  where
+    go : (d1.image.failures ≡ d0.image.failures) ⊎ (Failed × (tells_equipment_check d1.state.registers.sense ≡ true) × (is_written d1.state ≡ false)) → d1.image.failures ≡ d0.image.failures
+    go (inl h) = h
+    go (inr h) = absurd (n h.0)
 
 -- Settling.
 

@@ -21,12 +21,10 @@ use Rattle.s360_program.specs.declared.run.Run.{Run}
 use Rattle.s360_program.specs.Stage.{Stage}
 use Rattle.s360_program.specs.Stage as stage
 use Rattle.s360_program.specs.declared.run.Comes.TheVariants as comes
-use Rattle.s360_program.proofs.Cases.{by_stage}
+use Rattle.s360_program.proofs.Cases.{never, by_stage}
+use Rattle.s360_program.proofs.Cutting.{untouched_unwritten}
 use Rattle.s360_program.proofs.Looking.{looking_is}
 use Rattle.s360_program.proofs.Meeting.{untouched}
-
-never : {P : Type 0} → ◌≡◌ {A = Bool} false true → P
-never h = absurd (cc)
 
 -- what holds only where another thing does, does not where that does not
 not_so : (a b : Bool) → (b ≡ true → a ≡ true) → a ≡ false → b ≡ false
@@ -77,11 +75,7 @@ begun_quiet f code d0 d1 e idle w is =
     go (Started o) t k i = (let n = not_so (is_written d0.state) (is_written o.state) t.written w in (n, n))
 
 no_byte : (o : Open) → is_written (state_of o) ≡ false → is_written (close None o []).state ≡ false
-no_byte o w = not_so (is_written (state_of o)) (is_written (close None o []).state) (λ h. go (close_writes o [] h)) w
-  where
-    go : (is_written (state_of o) ≡ true) ⊎ ((is_write_command o ≡ true) × (◌≡◌ {A = List ℕ} [] [] → ⊥)) → is_written (state_of o) ≡ true
-    go (inl x) = x
-    go (inr x) = absurd (x.1 refl)
+no_byte o w = not_so (is_written (state_of o)) (is_written (close None o []).state) (untouched_unwritten o) w
 
 -- nor does a look, also where it finds the area
 pub looked_quiet : (f : Option Fault) (o : Opened) (d0 d1 : DriveState) → unsaved d0.state ≡ None → d0.work ≡ Looking o → is_written d0.state ≡ false

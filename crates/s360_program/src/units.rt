@@ -231,7 +231,7 @@ impl Run {
         }
         let flow = flow_of(drive);
         if flow.left == 0 {
-            let incorrect = is_incorrect(self.ccw, residual, 0);
+            let incorrect = is_incorrect(self.ccw, residual, flow.left);
             return self.conclude(self.ccw, incorrect, drive);
         }
         let most = least(most, residual, flow.left);
