@@ -9,5 +9,4 @@ pub mod Transferring
 pub mod Looking
 pub mod Advancing
 pub mod Cutting
-pub mod Immediately
 pub mod Quiet

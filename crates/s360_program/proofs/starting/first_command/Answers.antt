@@ -1,4 +1,4 @@
-use Rattle.s360_program.proofs.Immediately.{first_immediate, first_quiet}
+use Rattle.s360_program.proofs.Begins.{first_immediate, first_quiet}
 use Rattle.s360_program.proofs.starting.first_command.Goals as goal
 
 pub returns-in-Immediate-clause-begun : goal.returns-in-Immediate-clause-begun
