@@ -173,8 +173,8 @@ module _ (key : ℕ) (ccw : Ccw) (p : KeptPlace) (d0 d1 d2 : DriveState) (unwrit
     end_of motion = ending None key (place_of p) (immediate d1.state motion) no_channel_status
 
     chosen : (m : Bool) → chains_command ccw ≡ true → next_chosen (choice None key asked_for (immediate d1.state m) no_channel_status) ≡ GoesOn (Between (record { storage = s; place = place_of p; state = d1.state }))
-    chosen true h = ap (λ b. next_chosen (if b && not (stops_chaining (immediate d1.state true).unit) && is_clear no_channel_status then Chains (record { storage = s; place = past_modifier (place_of p) (immediate d1.state true); state = d1.state }) else Ends s (end_of true))) h
-    chosen false h = ap (λ b. next_chosen (if b && not (stops_chaining (immediate d1.state false).unit) && is_clear no_channel_status then Chains (record { storage = s; place = past_modifier (place_of p) (immediate d1.state false); state = d1.state }) else Ends s (end_of false))) h
+    chosen true h = rw h
+    chosen false h = rw h
 
     begun_by : (a : First) → ImmediateDone key ccw p over.0 a d1 d2 → key < 16 → p.next ≤ 2 ^ 24 → p.last ≤ 2 ^ 24 → FirstBegun key s ccw p a d0 d2
     begun_by first.Rejected h k n l = absurd h

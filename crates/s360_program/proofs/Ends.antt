@@ -82,18 +82,16 @@ module _ (key : ℕ) (p : Place) (k : ChannelCondition) (s : Storage) (told : Cs
       → EndsBy (λ f. next_chosen (choice f key (record { storage = s; ccw = ccw; place = p }) (closed_of f d0 d0.work) (status_of (condition_for incorrect (closed_of f d0 d0.work).unit)))) told s d0 d2
   concludes ccw incorrect same no_chain =
       ends_closed (λ f. next_chosen (choice f key (record { storage = s; ccw = ccw; place = p }) (closed_of f d0 d0.work) (status_of (condition_for incorrect (closed_of f d0 d0.work).unit))))
-      (λ f at. ap (λ (c : Closed). next_chosen (choice f key (record { storage = s; ccw = ccw; place = p }) c (status_of (condition_for incorrect c.unit)))) at
-      ∙ ap (λ k. next_chosen (choice f key (record { storage = s; ccw = ccw; place = p }) (closed_with d1.state e) (status_of k))) (sym same)
-      ∙ ap (λ b. next_chosen (if b then Chains (record { storage = s; place = past_modifier p (closed_with d1.state e); state = d1.state }) else Ends s (ending f key p (closed_with d1.state e) (status_of k)))) no_chain)
+      (λ f at. rw (at, ← same, no_chain))
 
 -- The next command follows: the end met no fault, since a failed end stops the chain.
 
 not_failed : (ccw : Ccw) (e : DriveEnding) (k : ChannelCondition) → chains_after ccw e.unit k ≡ true → e ≡ failed_ending → ⊥
-not_failed ccw e k h is = go (chains_command ccw) (is_clear (status_of k)) (subst (λ (e : DriveEnding). chains_after ccw e.unit k ≡ true) is h)
+not_failed ccw e k h is = go (chains_command ccw) (rw is at h)
   where
-    go : (b c : Bool) → ((b && false) && c) ≡ true → ⊥
-    go true c h = never h
-    go false c h = never h
+    go : (b : Bool) → ((b && false) && is_clear (status_of k)) ≡ true → ⊥
+    go true h = never h
+    go false h = never h
 
 good_end : (ccw : Ccw) (k : ChannelCondition) (d0 d1 : DriveState) (e : DriveEnding) → Reports (e ≡ failed_ending) d0 d1 → chains_after ccw e.unit k ≡ true → d1.image.failures ≡ d0.image.failures
 good_end ccw k d0 d1 e reports chains = unfailed (e ≡ failed_ending) d0 d1 (not_failed ccw e k chains) reports
@@ -126,8 +124,4 @@ chains_on r q s ccw incorrect k d0 d1 e over same chains small key between place
     idle = ap (λ (d : DriveState). d.work) over.state
 
     next : next_chosen (choice None r.key (request_at s ccw r) (closed_of None d0 d0.work) (status_of (condition_for incorrect (closed_of None d0 d0.work).unit))) ≡ GoesOn (Between (record { storage = s; place = place_of q.place; state = d1.state }))
-    next =
-        ap (λ (c : Closed). next_chosen (choice None r.key (request_at s ccw r) c (status_of (condition_for incorrect c.unit)))) at
-        ∙ ap (λ k. next_chosen (choice None r.key (request_at s ccw r) (closed_with d1.state e) (status_of k))) (sym same)
-        ∙ ap (λ b. next_chosen (if b then Chains (record { storage = s; place = past_modifier (place_of r.place) (closed_with d1.state e); state = d1.state }) else Ends s (ending None r.key (place_of r.place) (closed_with d1.state e) (status_of k)))) chains
-        ∙ ap (λ p. GoesOn (Between (record { storage = s; place = p; state = d1.state }))) (sym place)
+    next = rw (at, ← same, chains, place)

@@ -31,13 +31,9 @@ not_so : (a b : Bool) → (b ≡ true → a ≡ true) → a ≡ false → b ≡ 
 not_so a false h e = refl
 not_so a true h e = sym (sym e ∙ h refl)
 
-left_not : (a b : Bool) → (a || b) ≡ false → a ≡ false
-left_not true b h = h
-left_not false b h = refl
-
-right_not : (a b : Bool) → (a || b) ≡ false → b ≡ false
-right_not true b h = never (sym h)
-right_not false b h = h
+neither : (a b : Bool) → (a || b) ≡ false → (a ≡ false) × (b ≡ false)
+neither true b h = never (sym h)
+neither false b h = (refl, h)
 
 same_next : (a : Aim) → looks_next a ≡ is_next a
 same_next aim_is.NoArea = refl
@@ -50,7 +46,7 @@ phase_quiet r s d t =
     by_stage d.state (λ g w. NeedsNoStore (phase_by g r.place s d.state w) → IsQuiet (record d { work = w }))
     (λ h. record { unwritten = h.unwritten; closes = h.unwritten; looks = refl })
     (λ ccw o h. record { unwritten = h.unwritten; closes = h.unwritten; looks = sym (same_next (aim o.command)) ∙ h.looks })
-    (λ ccw a o b l h. record { unwritten = left_not (is_written d.state) _ h.unwritten; closes = right_not (is_written d.state) _ h.unwritten; looks = refl })
+    (λ ccw a o b l h. let n = neither (is_written d.state) _ h.unwritten in record { unwritten = n.0; closes = n.1; looks = refl })
     r.stage d.work t.fits
 
 -- and units of which each needs no call make none, where the next ones need none either

@@ -202,10 +202,8 @@ module _ (key : ℕ) (ccw : Ccw) (a most m : ℕ) (p : Place) (s s2 : Storage) (
 
       steps : walk (units m) key (Moving O t) ≡ StandsIn (phase_by (stage.Moving ccw (a + m)) (record p { residual = p.residual - m }) s2 d2.state d2.work)
       steps =
-          ap (λ u. walk u key (Moving O t)) (sym (append-nil (units m)))
-          ∙ at_once m key [] O t k.may
-          ∙ ap (λ x. StandsIn (phase_by (stage.Moving ccw (a + m)) (record p { residual = p.residual - m }) x d0.state (moved_on (next_bytes m O t) (Passing o b flow.left)))) (sym k.storage)
-          ∙ ap (λ (d : DriveState). StandsIn (phase_by (stage.Moving ccw (a + m)) (record p { residual = p.residual - m }) s2 d.state d.work)) (sym k.drive)
+          ap (λ u. walk u key (Moving O t)) (sym (append-nil (units m))) ∙ at_once m key [] O t k.may
+          ∙ rw (k.drive, k.storage) refl
 
 -- so few that they are asked for, counted and left
 pub record IsLeast (few most residual left : ℕ) : Type 0 where
