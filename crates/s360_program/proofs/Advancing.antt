@@ -11,7 +11,7 @@ use Rattle.s360_runs.specs.Laws.{walked_on}
 use Rattle.s360_runs.specs.Scripts.{units, OneUnit}
 use Rattle.s360_runs.specs.Units.{ProgramPhase, Next, EndsIn, standing_in, unit, walk, on_next, StandsIn}
 use Rattle.s360_runs.proofs.Walks.{walks_on}
-use Rattle.s360_program.specs.Advances.{IsMet, IsEnding, CameToEnd, Cuts, TellsOf, CutTellsOf}
+use Rattle.s360_program.specs.Advances.{IsMet, CameToEnd, Cuts, TellsOf, CutTellsOf}
 use Rattle.s360_program.specs.Steps.{IsMetBy, EndsBy, ToldOf}
 
 -- units behind units

@@ -1,5 +1,5 @@
 -- What the beginning of a command comes to.
-use Rattle.std.proofs.Common.{◌≡◌, ◌⊎◌, inl, inr, ℕ, ◌+◌, refl, sym, ap, subst, ◌∙◌, arith, true, false, Bool, List, Option, Some, None, ◌≤◌, ◌<◌, ◌^◌, not, ◌&&◌}
+use Rattle.std.proofs.Common.{◌≡◌, ℕ, ◌+◌, refl, sym, ap, subst, ◌∙◌, arith, true, false, Bool, List, Option, Some, None, ◌≤◌, ◌<◌, ◌^◌, ◌&&◌}
 use Rattle.ckd_image.specs.Image.{ImageState}
 use Rattle.s360_words.specs.Storage.{Storage}
 use Rattle.s360_words.specs.declared.flags.TheConstants.ChannelStatus.{PROGRAM_CHECK}
@@ -8,10 +8,10 @@ use Rattle.s360_words.specs.declared.words.Csw.{Csw}
 use Rattle.ckd_command.specs.Drive.{Fault, SaveFails, AfterBegin, Rejected, Immediate, Started, begin, drive_of, is_written, unsaved, tells_equipment_check}
 use Rattle.ckd_command.proofs.Marks.{Calm, BegunCalm, begin_calm}
 use Rattle.ckd_command.proofs.Stable.{begin_stable}
-use Rattle.s360_runs.specs.Commands.{choice, requested, Point, Chains, Ends, past_modifier}
+use Rattle.s360_runs.specs.Commands.{choice, requested, Point}
 use Rattle.s360_runs.specs.Endings.{ending, failed, untouched, immediate, Ending}
 use Rattle.s360_runs.specs.Places.{Place, fetch, NoCcw, GoodCcw, past_ccw, past_no_ccw}
-use Rattle.s360_runs.specs.Status.{no_channel_status, with_interruption, stops_chaining, is_clear, tells}
+use Rattle.s360_runs.specs.Status.{no_channel_status, with_interruption, tells}
 use Rattle.s360_runs.specs.Units.{Between, unit, next_fetched, next_begun, next_chosen, GoesOn}
 use Rattle.ckd_drive.specs.Work.{DriveState, Over, fault_met, with_image, CallsStore, Reports, after_begun, after_begin, answer_of_begin, immediate_ending, closed_of, begin_saves, goes_to_cylinder_zero}
 use Rattle.s360_program.specs.Advances.{IsEnding}

@@ -1,5 +1,5 @@
 -- What a running program is at, by cases.
-use Rattle.std.proofs.Common.{◌≡◌, Bool, true, false, List, ℕ}
+use Rattle.std.proofs.Common.{◌≡◌, Bool, true, false, List, [], ◌∷◌, ℕ}
 use Rattle.s360_words.specs.declared.words.Ccw.{Ccw}
 use Rattle.ckd_command.specs.declared.begin.Opened.{Opened}
 use Rattle.ckd_command.specs.Drive.{State}
@@ -12,18 +12,20 @@ use Rattle.s360_program.specs.Stage as stage
 pub never : {P : Type 0} → ◌≡◌ {A = Bool} false true → P
 never h = absurd (cc)
 
--- what holds of each stage beside what the drive is at then holds wherever the two fit
+-- what holds of each stage beside what the drive is at then, where bytes have passed and where none have, holds wherever the two fit
 pub by_stage : (s : State) (P : Stage → Work → Type 0) → P stage.Between Idle → ((ccw : Ccw) (o : Opened) → P (stage.Looking ccw) (Looking o))
-    → ((ccw : Ccw) (a : ℕ) (o : Opened) (b : List ℕ) (left : ℕ) → P (stage.Moving ccw a) (Passing o b left)) → (g : Stage) (w : Work) → StageFits g s w → P g w
-by_stage s P between looking moving stage.Between Idle f = between
-by_stage s P between looking moving (stage.Looking ccw) (Looking o) f = looking ccw o
-by_stage s P between looking moving (stage.Moving ccw a) (Passing o b left) f = moving ccw a o b left
-by_stage s P between looking moving stage.Between (Over e) f = absurd f
-by_stage s P between looking moving stage.Between (Looking o) f = absurd f
-by_stage s P between looking moving stage.Between (Passing o b left) f = absurd f
-by_stage s P between looking moving (stage.Looking ccw) Idle f = absurd f
-by_stage s P between looking moving (stage.Looking ccw) (Over e) f = absurd f
-by_stage s P between looking moving (stage.Looking ccw) (Passing o b left) f = absurd f
-by_stage s P between looking moving (stage.Moving ccw a) Idle f = absurd f
-by_stage s P between looking moving (stage.Moving ccw a) (Over e) f = absurd f
-by_stage s P between looking moving (stage.Moving ccw a) (Looking o) f = absurd f
+    → ((ccw : Ccw) (a : ℕ) (o : Opened) (left : ℕ) → P (stage.Moving ccw a) (Passing o [] left))
+    → ((ccw : Ccw) (a : ℕ) (o : Opened) (x : ℕ) (b : List ℕ) (left : ℕ) → P (stage.Moving ccw a) (Passing o (x ∷ b) left)) → (g : Stage) (w : Work) → StageFits g s w → P g w
+by_stage s P between looking none some stage.Between Idle f = between
+by_stage s P between looking none some (stage.Looking ccw) (Looking o) f = looking ccw o
+by_stage s P between looking none some (stage.Moving ccw a) (Passing o [] left) f = none ccw a o left
+by_stage s P between looking none some (stage.Moving ccw a) (Passing o (x ∷ b) left) f = some ccw a o x b left
+by_stage s P between looking none some stage.Between (Over e) f = absurd f
+by_stage s P between looking none some stage.Between (Looking o) f = absurd f
+by_stage s P between looking none some stage.Between (Passing o b left) f = absurd f
+by_stage s P between looking none some (stage.Looking ccw) Idle f = absurd f
+by_stage s P between looking none some (stage.Looking ccw) (Over e) f = absurd f
+by_stage s P between looking none some (stage.Looking ccw) (Passing o b left) f = absurd f
+by_stage s P between looking none some (stage.Moving ccw a) Idle f = absurd f
+by_stage s P between looking none some (stage.Moving ccw a) (Over e) f = absurd f
+by_stage s P between looking none some (stage.Moving ccw a) (Looking o) f = absurd f

@@ -1,6 +1,5 @@
 -- Cuts.
-use Rattle.std.proofs.Common.{◌≡◌, ◌⊎◌, inl, inr, ℕ, ◌+◌, refl, sym, ap, ◌∙◌, arith, true, false, Bool, ◌&&◌, ◌||◌, List, [], ◌∷◌, Option, Some, None}
-use Rattle.std.specs.Prelude.{if◌then◌else◌}
+use Rattle.std.proofs.Common.{◌≡◌, ◌⊎◌, inl, inr, ℕ, refl, sym, ap, ◌∙◌, true, false, Bool, ◌&&◌, ◌||◌, List, [], ◌∷◌, Option, Some, None}
 use Rattle.ckd_image.specs.Image.{ImageState}
 use Rattle.ckd_track.specs.Track.{Track}
 use Rattle.s360_words.specs.declared.words.Ccw.{Ccw}
@@ -33,23 +32,13 @@ pub cut_untouched : (key : ℕ) (g : Stage) (p : Place) (s : Storage) (d : Drive
     → (standing_in key (phase_by g p s d.state w)).cut f ≡ ending f key p (untouched d.state) no_channel_status
 cut_untouched key g p s d w f fits =
     by_stage d.state (λ g w. has_moved w ≡ false → (standing_in key (phase_by g p s d.state w)).cut f ≡ ending f key p (untouched d.state) no_channel_status)
-    (λ h. refl) (λ ccw o h. refl) (λ ccw a o b l. go ccw a o b l) g w fits
-  where
-    go : (ccw : Ccw) (a : ℕ) (o : Opened) (b : List ℕ) (l : ℕ) → has_moved (Passing o b l) ≡ false
-        → (standing_in key (phase_by (stage.Moving ccw a) p s d.state (Passing o b l))).cut f ≡ ending f key p (untouched d.state) no_channel_status
-    go ccw a o [] l h = refl
-    go ccw a o (x ∷ b) l h = never (sym h)
+    (λ h. refl) (λ ccw o h. refl) (λ ccw a o l h. refl) (λ ccw a o x b l h. never (sym h)) g w fits
 
 pub cut_touched : (key : ℕ) (g : Stage) (p : Place) (s : Storage) (d : DriveState) (w : Work) (f : Option Fault) → StageFits g d.state w → has_moved w ≡ true
     → (standing_in key (phase_by g p s d.state w)).cut f ≡ ending f key p (closed_of f d w) no_channel_status
 cut_touched key g p s d w f fits =
     by_stage d.state (λ g w. has_moved w ≡ true → (standing_in key (phase_by g p s d.state w)).cut f ≡ ending f key p (closed_of f d w) no_channel_status)
-    (λ h. never h) (λ ccw o h. never h) (λ ccw a o b l. go ccw a o b l) g w fits
-  where
-    go : (ccw : Ccw) (a : ℕ) (o : Opened) (b : List ℕ) (l : ℕ) → has_moved (Passing o b l) ≡ true
-        → (standing_in key (phase_by (stage.Moving ccw a) p s d.state (Passing o b l))).cut f ≡ ending f key p (closed_of f d (Passing o b l)) no_channel_status
-    go ccw a o [] l h = never h
-    go ccw a o (x ∷ b) l h = refl
+    (λ h. never h) (λ ccw o h. never h) (λ ccw a o l h. never h) (λ ccw a o x b l h. refl) g w fits
 
 -- Whether it saves a track.
 
@@ -67,11 +56,8 @@ joins false false h = refl
 
 pub untouched_written : (g : Stage) (p : Place) (s : Storage) (st : State) (w : Work) → StageFits g st w → has_moved w ≡ false → is_written st ≡ has_written (phase_by g p s st w)
 untouched_written g p s st w fits =
-    by_stage st (λ g w. has_moved w ≡ false → is_written st ≡ has_written (phase_by g p s st w)) (λ h. refl) (λ ccw o h. refl) (λ ccw a o b l. go ccw a o b l) g w fits
-  where
-    go : (ccw : Ccw) (a : ℕ) (o : Opened) (b : List ℕ) (l : ℕ) → has_moved (Passing o b l) ≡ false → is_written st ≡ has_written (phase_by (stage.Moving ccw a) p s st (Passing o b l))
-    go ccw a o [] l h = sym (joins (is_written st) (is_written (close None (record { opened = o; state = st }) []).state) (untouched_unwritten (record { opened = o; state = st })))
-    go ccw a o (x ∷ b) l h = never (sym h)
+    by_stage st (λ g w. has_moved w ≡ false → is_written st ≡ has_written (phase_by g p s st w)) (λ h. refl) (λ ccw o h. refl)
+    (λ ccw a o l h. sym (joins (is_written st) _ (untouched_unwritten (record { opened = o; state = st })))) (λ ccw a o x b l h. never (sym h)) g w fits
 
 stays_written : (s : State) (c : Closing) (m : Bool) → m ≡ false → is_written s ≡ true → is_written (closed None s c m).state ≡ true
 stays_written s c true e w = never (sym e)
@@ -122,7 +108,7 @@ touched_written g p s d0 d1 fits moved state calls = by_saves (end_saves d0) ref
     written : (saves : Bool) → end_saves_of d0 d0.work ≡ saves → (saves || is_written (closed_of None d0 d0.work).state) ≡ has_written (phase_by g p s d0.state d0.work)
     written saves e =
         by_stage d0.state (λ g w. has_moved w ≡ true → end_saves_of d0 w ≡ saves → (saves || is_written (closed_of None d0 w).state) ≡ has_written (phase_by g p s d0.state w))
-        (λ h. never h) (λ ccw o h. never h) (λ ccw a o b l h. by_end saves o b l) g d0.work fits moved e
+        (λ h. never h) (λ ccw o h. never h) (λ ccw a o l h. never h) (λ ccw a o x b l h. by_end saves o (x ∷ b) l) g d0.work fits moved e
       where
         by_end : (saves : Bool) (o : Opened) (b : List ℕ) (l : ℕ) → end_saves_of d0 (Passing o b l) ≡ saves
             → (saves || is_written (close None (record { opened = o; state = d0.state }) b).state) ≡ (is_written d0.state || is_written (close None (record { opened = o; state = d0.state }) b).state)

@@ -1,6 +1,5 @@
 -- What the end of a command comes to.
-use Rattle.std.proofs.Common.{◌≡◌, ℕ, refl, sym, ap, subst, ◌∙◌, true, false, Bool, ◌&&◌, ◌⊎◌, inl, inr, ◌<◌, List, Option, Some, None}
-use Rattle.std.specs.Prelude.{if◌then◌else◌}
+use Rattle.std.proofs.Common.{◌≡◌, ℕ, refl, sym, ap, subst, ◌∙◌, true, false, Bool, ◌&&◌, ◌<◌, List, Option, Some, None}
 use Rattle.s360_words.specs.Storage.{Storage}
 use Rattle.s360_words.specs.Words.{chains_command}
 use Rattle.s360_words.specs.declared.flags.TheConstants.UnitStatus.{UNIT_CHECK}
@@ -10,14 +9,13 @@ use Rattle.ckd_command.specs.declared.close.DriveEnding.{DriveEnding}
 use Rattle.ckd_command.specs.Drive.{Closed, Fault, SaveFails, drive_of, is_written, unsaved, tells_equipment_check}
 use Rattle.ckd_command.proofs.Marks.{Calm, close_calm}
 use Rattle.ckd_command.proofs.Stable.{close_stable}
-use Rattle.s360_runs.specs.Commands.{choice, Chains, Ends, past_modifier}
+use Rattle.s360_runs.specs.Commands.{choice}
 use Rattle.s360_runs.specs.Endings.{ending}
 use Rattle.s360_runs.specs.Places.{Place}
 use Rattle.s360_runs.specs.Status.{tells, is_clear}
 use Rattle.s360_runs.specs.Units.{Between, Next, GoesOn, EndsIn, next_chosen}
 use Rattle.s360_runs.specs.Unsaved.{GainsNoCheck}
 use Rattle.ckd_drive.specs.Work.{DriveState, Work, Idle, Over, Looking, Passing, fault_met, with_image, CallsStore, Reports, after_end, closed_of, ending_of, end_saves, failed_ending}
-use Rattle.s360_program.specs.Advances.{IsEnding}
 use Rattle.s360_program.specs.Place.{place_of, modified_place}
 use Rattle.s360_program.specs.Stands.{StageFits, StageWithin, PlaceWithin, phase_by}
 use Rattle.s360_program.specs.Steps.{EndsBy, GoesBy, closed_with, request_at, status_of, condition_for, chains_after}

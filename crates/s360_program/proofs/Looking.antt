@@ -149,17 +149,8 @@ module _ (r : Run) (s : Storage) (d0 d1 : DriveState) (fits : Fits r d0) (comes_
     pub look_fits : Fits (record r { comes = comes.Bytes; address = r.ccw.address }) d1
     look_fits = record {
       within = record { key = fits.within.key; place = fits.within.place; stage = subst (λ g. StageWithin g (place_of r.place)) at fits.within.stage };
-      stands = record { fits = subst (StageFits (stage.Moving r.ccw r.ccw.address) d1.state) (sym ready.2) (all L, λ g. just L, λ h. just L); saved = ready_calm.saved };
+      stands = record { fits = subst (StageFits (stage.Moving r.ccw r.ccw.address) d1.state) (sym ready.2) (omega arith, λ g. omega arith, λ h. omega arith); saved = ready_calm.saved };
     }
-      where
-        all : (n : ℕ) → 0 + n ≤ n
-        all n = omega arith
-
-        just : (n : ℕ) → 0 + n ≡ n
-        just n = omega arith
-
-        L : ℕ
-        L = length_of (record { opened = ready.0; state = d1.state }) []
 
     moves : (f : Option Fault) → look f O ≡ Ready (record { opened = ready.0; state = d1.state })
         → unit f r.key (phase_in (run_of r) s d0) ≡ unit f r.key (phase_by (stage.Moving r.ccw r.ccw.address) (place_of r.place) s d1.state d1.work)

@@ -1,6 +1,6 @@
 -- Faults that the calls of one unit meet together.
-use Rattle.std.proofs.Common.{◌≡◌, ◌⊎◌, inl, inr, ℕ, ◌+◌, ◌<◌, ◌≤◌, refl, sym, ap, subst, ◌∙◌, arith, true, false, Bool, not, ◌&&◌, ◌||◌, ◌==◌, List, [], Option, Some, None}
-use Rattle.std.specs.Prelude.{slice_index_or, if◌then◌else◌}
+use Rattle.std.proofs.Common.{◌≡◌, ◌⊎◌, inl, inr, ℕ, ◌+◌, ◌<◌, ◌≤◌, refl, sym, ap, subst, ◌∙◌, arith, true, false, Bool, not, ◌&&◌, ◌||◌, ◌==◌, List, Option, Some, None}
+use Rattle.std.specs.Prelude.{if◌then◌else◌}
 use Rattle.std.proofs.lemmas.Bool.Decides.{nat_tests}
 use Rattle.std.proofs.lemmas.Nat.{and_or_self}
 use Rattle.ckd_image.specs.Image.{ImageState}
@@ -12,7 +12,7 @@ use Rattle.s360_words.specs.declared.flags.UnitStatus.{UnitStatus}
 use Rattle.s360_words.specs.declared.words.Csw.{Csw}
 use Rattle.ckd_command.specs.declared.registers.Mark.{Mark}
 use Rattle.ckd_command.specs.declared.registers.Mark.TheVariants.{Saved, Written, Lost}
-use Rattle.ckd_command.specs.Drive.{IdleDrive, Closed, Fault, LoadFails, SaveFails, drive_of, is_written, is_written_by, left_by, saving, settled, with_unit_check, number_under, unsaved, tells_equipment_check}
+use Rattle.ckd_command.specs.Drive.{IdleDrive, Closed, Fault, LoadFails, SaveFails, drive_of, is_written, is_written_by, left_by, saving, settled, with_unit_check, unsaved, tells_equipment_check}
 use Rattle.ckd_command.proofs.Marks.{Calm}
 use Rattle.s360_runs.specs.Endings.{ending, settled_ending}
 use Rattle.s360_runs.specs.Places.{Place}
@@ -124,8 +124,7 @@ settled_failed left c h = go c.state.mark h
     go Written k = ap (λ n. not (n == 0)) (and_or_self 0x02 c.unit.0)
 
 ending_unwritten : (f g : Option Fault) (key : ℕ) (p : Place) (c : Closed) (k : ChannelCondition) → is_written c.state ≡ false → ending f key p c (status_of k) ≡ ending g key p c (status_of k)
-ending_unwritten f g key p c k h =
-    ap (λ c. settled_ending key p c (status_of k)) (settled_unwritten f c h) ∙ sym (ap (λ c. settled_ending key p c (status_of k)) (settled_unwritten g c h))
+ending_unwritten f g key p c k h = rw (settled_unwritten f c h, settled_unwritten g c h)
 
 -- incorrect length is not reported beside unit check
 length_untold : (asked : Bool) (unit : UnitStatus) (k : ChannelCondition) → tells unit UNIT_CHECK ≡ true → has (with_interruption asked (beside unit (status_of k))).0 INCORRECT_LENGTH.0 ≡ false

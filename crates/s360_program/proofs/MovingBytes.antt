@@ -1,11 +1,11 @@
 -- Bytes that may move one after another.
-use Rattle.std.proofs.Common.{◌≡◌, ◌⊎◌, inl, inr, ℕ, zero, suc, ◌+◌, ◌-◌, ◌<◌, ◌≤◌, ◌/◌, refl, sym, ap, subst, ◌∙◌, arith, true, false, Bool, not, ◌&&◌, List, [], ◌∷◌, ◌++◌, nat_lt, length, take, drop, length-append, length-drop, length-take-le}
-use Rattle.std.specs.Prelude.{if◌then◌else◌, ◌==◌, is_some, slice_get, slice_index, slice_range, Ok, Err, IsTrue}
+use Rattle.std.proofs.Common.{◌≡◌, ◌⊎◌, inl, inr, ℕ, zero, suc, ◌+◌, ◌-◌, ◌<◌, ◌≤◌, refl, sym, ap, subst, ◌∙◌, arith, true, false, Bool, not, ◌&&◌, List, ◌++◌, nat_lt, length, take, drop, length-append, length-drop, length-take-le}
+use Rattle.std.specs.Prelude.{if◌then◌else◌, ◌==◌, is_some, slice_get, slice_range, Ok, Err, IsTrue}
 use Rattle.std.proofs.lemmas.Bool.Decides.{nat_tests}
 use Rattle.std.proofs.lemmas.Option.{slice_get_past, slice_get-get_or}
 use Rattle.std.proofs.lemmas.List.{take-take}
 use Rattle.s360_words.specs.Storage.{Storage, stored, admits, key_at, may_store}
-use Rattle.s360_words.specs.Words.{chains_data, skips}
+use Rattle.s360_words.specs.Words.{skips}
 use Rattle.s360_words.specs.declared.words.Ccw.{Ccw}
 use Rattle.s360_words.specs.declared.flags.TheConstants.ChannelStatus.{PROGRAM_CHECK, PROTECTION_CHECK}
 use Rattle.s360_words.proofs.Overwriting.{length-overwritten, overwritten-none}
@@ -13,9 +13,8 @@ use Rattle.ckd_command.specs.Drive.{State, Open, gives, given, length_of}
 use Rattle.ckd_command.specs.Tables.{is_giving, action_of}
 use Rattle.ckd_command.proofs.Lengths.{length_grows, gives_length}
 use Rattle.s360_runs.specs.Laws.{MayMove}
-use Rattle.s360_runs.specs.Places.{Place, fetch}
 use Rattle.s360_runs.specs.Status.{no_channel_status, is_clear}
-use Rattle.s360_runs.specs.Transfers.{Transfer, Moves, Completes, transfer_unit, chained_data, byte_or_check, check_of, needs_byte, after_bytes, next_bytes, storage_after}
+use Rattle.s360_runs.specs.Transfers.{Transfer, Moves, transfer_unit, check_of, after_bytes, next_bytes}
 use Rattle.ckd_drive.specs.Work.{DriveState, Work, Idle, Over, Looking, Passing, takes_now, gives_now, given_now, passed_of, left_of, moved_on}
 use Rattle.s360_program.specs.Advances.{KeepsStorage}
 use Rattle.s360_program.specs.Steps.{MovesBy, MovesBytesBy, transfer_by, status_of, refused}
@@ -114,8 +113,11 @@ may_give m key o t g r free = may_move m key o (AreFree key o) t keeps free r (s
         rw g (
           free_checked key t.ccw t.storage t.address (subst (IsFree key t.ccw t.storage) (first t.address) (free.1 0 (omega arith))),
           one,
-          (omega (arith, length-append t.bytes (take 1 (drop (length t.bytes) (given o))), one, free.0), λ i h. free_behind key t.ccw t.storage t.address (t.address + 1 + i) (take 1 (drop (length t.bytes) (given o))) (not (skips t.ccw))
-              (subst (IsFree key t.ccw t.storage) (next t.address i) (free.1 (suc i) (omega arith)))),
+          (
+            omega (arith, length-append t.bytes (take 1 (drop (length t.bytes) (given o))), one, free.0),
+            λ i h. free_behind key t.ccw t.storage t.address (t.address + 1 + i) (take 1 (drop (length t.bytes) (given o))) (not (skips t.ccw))
+                (subst (IsFree key t.ccw t.storage) (next t.address i) (free.1 (suc i) (omega arith))),
+          ),
         )
 
 -- What moves.

@@ -1,24 +1,24 @@
 -- Units that need no call of the store.
-use Rattle.std.proofs.Common.{◌≡◌, ◌⊎◌, inl, inr, ℕ, ◌<◌, arith, refl, sym, ap, ◌∙◌, subst, true, false, Bool, ◌&&◌, ◌||◌, ◌+◌, [], List, Option, None}
+use Rattle.std.proofs.Common.{◌≡◌, ◌⊎◌, inl, inr, ℕ, ◌<◌, arith, refl, sym, ap, ◌∙◌, subst, true, false, Bool, ◌&&◌, ◌||◌, ◌+◌, [], ◌∷◌, Option, None, List}
 use Rattle.s360_words.specs.Storage.{Storage}
+use Rattle.s360_words.specs.declared.words.Ccw.{Ccw}
 use Rattle.ckd_command.specs.Commands.{beginning, sight}
-use Rattle.ckd_command.specs.Drive.{Fault, Open, state_of, AfterBegin, Rejected, Immediate, Started, begin, AfterLook, Ready, Passed, Failed, look, close, is_written, is_write_command, track_under, unsaved}
+use Rattle.ckd_command.specs.Drive.{Fault, Open, state_of, AfterBegin, Rejected, Immediate, Started, begin, AfterLook, Ready, Passed, Failed, look, close, is_written, track_under, unsaved}
 use Rattle.ckd_command.specs.Tables.{aim}
 use Rattle.ckd_command.specs.declared.tables.Aim.{Aim}
 use Rattle.ckd_command.specs.declared.tables.Aim.TheVariants as aim_is
 use Rattle.ckd_command.specs.declared.begin.Opened.{Opened}
-use Rattle.ckd_command.proofs.Marks.{BegunTraces, begin_traces, LookTraces, look_traces, close_writes}
+use Rattle.ckd_command.proofs.Marks.{BegunTraces, begin_traces, LookTraces, look_traces}
 use Rattle.ckd_drive.specs.Work.{DriveState, Work, Idle, Over, Looking, Passing, is_idle, with_image, after_begun, after_begin, after_sight, after_look, after_look_of, closed_of, is_next, CallsStore, fault_met, begin_saves, goes_to_cylinder_zero, look_loads, look_loads_of, look_saves, look_saves_of, goes_to_next_head, answer_of_look}
 use Rattle.ckd_drive.specs.declared.answers.Look.TheVariants as seen
 use Rattle.s360_runs.specs.Scripts.{units}
 use Rattle.s360_runs.specs.StoreCalls.{is_next as looks_next}
 use Rattle.s360_runs.specs.Units.{ProgramPhase, walk, StandsIn}
 use Rattle.s360_program.specs.Advances.{NeedsNoStore, NeedNoStore}
-use Rattle.s360_program.specs.Stands.{RunningState, Stands, StageFits, phase_by, phase_in}
+use Rattle.s360_program.specs.Stands.{RunningState, Stands, phase_by, phase_in}
 use Rattle.s360_program.specs.Steps.{Fits, Flows, FlowsBy, IsQuiet, with_left}
 use Rattle.s360_program.specs.declared.moving.Flow.{Flow}
 use Rattle.s360_program.specs.declared.run.Run.{Run}
-use Rattle.s360_program.specs.Stage.{Stage}
 use Rattle.s360_program.specs.Stage as stage
 use Rattle.s360_program.specs.declared.run.Comes.TheVariants as comes
 use Rattle.s360_program.proofs.Cases.{never, by_stage}
@@ -46,8 +46,11 @@ phase_quiet r s d t =
     by_stage d.state (λ g w. NeedsNoStore (phase_by g r.place s d.state w) → IsQuiet (record d { work = w }))
     (λ h. record { unwritten = h.unwritten; closes = h.unwritten; looks = refl })
     (λ ccw o h. record { unwritten = h.unwritten; closes = h.unwritten; looks = sym (same_next (aim o.command)) ∙ h.looks })
-    (λ ccw a o b l h. let n = neither (is_written d.state) _ h.unwritten in record { unwritten = n.0; closes = n.1; looks = refl })
+    (λ ccw a o l. moving o [] l) (λ ccw a o x b l. moving o (x ∷ b) l)
     r.stage d.work t.fits
+  where
+    moving : (o : Opened) (b : List ℕ) (l : ℕ) {ccw : Ccw} {a : ℕ} → NeedsNoStore (phase_by (stage.Moving ccw a) r.place s d.state (Passing o b l)) → IsQuiet (record d { work = Passing o b l })
+    moving o b l h = let n = neither (is_written d.state) _ h.unwritten in record { unwritten = n.0; closes = n.1; looks = refl }
 
 -- and units of which each needs no call make none, where the next ones need none either
 pub still_quiet : (key : ℕ) (phase : ProgramPhase) (done more : ℕ) (r : RunningState) (s : Storage) (d0 d1 d2 : DriveState) → done < more → Stands r d1 → walk (units done) key phase ≡ StandsIn (phase_in r s d1)

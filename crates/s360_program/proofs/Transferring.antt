@@ -8,16 +8,16 @@ use Rattle.s360_words.specs.Words.{chains_data, suppresses_length}
 use Rattle.s360_words.specs.declared.flags.TheConstants.ChannelStatus.{INCORRECT_LENGTH}
 use Rattle.s360_words.specs.declared.flags.TheConstants.UnitStatus.{UNIT_CHECK}
 use Rattle.s360_words.specs.declared.words.Ccw.{Ccw}
-use Rattle.ckd_command.specs.Drive.{State, Open, gives, Closed, Fault, length_of, close, drive_of, unsaved, tells_equipment_check}
+use Rattle.ckd_command.specs.Drive.{State, Open, Fault, length_of, close, drive_of, unsaved, tells_equipment_check}
 use Rattle.ckd_command.proofs.Lengths.{length_grows, length_stays, gives_length}
-use Rattle.ckd_drive.specs.Work.{DriveState, Work, Idle, Over, Looking, Passing, closed_of, moved_on}
+use Rattle.ckd_drive.specs.Work.{DriveState, Work, Idle, Over, Looking, Passing, closed_of}
 use Rattle.s360_runs.specs.Commands.{choice}
 use Rattle.s360_runs.specs.Endings.{ending}
-use Rattle.s360_runs.specs.Places.{Place, fetch}
+use Rattle.s360_runs.specs.Places.{Place}
 use Rattle.s360_runs.specs.Scripts.{units}
 use Rattle.s360_runs.specs.Status.{no_channel_status, tells}
-use Rattle.s360_runs.specs.Transfers.{Transfer, Moves, Stops, Completes, chained_data, byte_or_check, check_of, needs_byte, after_bytes, next_bytes}
-use Rattle.s360_runs.specs.Units.{ProgramPhase, Moving, Next, EndsIn, unit, next_chosen, next_moved, walk, on_next, StandsIn}
+use Rattle.s360_runs.specs.Transfers.{Transfer, next_bytes}
+use Rattle.s360_runs.specs.Units.{ProgramPhase, Moving, Next, EndsIn, unit, next_chosen, walk, on_next, StandsIn}
 use Rattle.s360_program.specs.Place.{place_of}
 use Rattle.s360_program.specs.Stands.{LeftFits, StageFits, StageWithin, phase_by, phase_in}
 use Rattle.s360_program.specs.Steps.{run_of, Fits, ComesBy, Steps, WalksBy, Flows, FlowsBy, with_left, MovesBytes, MovesBytesBy, MovesBytesAs, status_of, condition_for, differs, request_at}
@@ -95,9 +95,14 @@ module _ (key : ℕ) (ccw : Ccw) (a : ℕ) (p : Place) (s : Storage) (d0 d1 : Dr
   completes_by f incorrect (Over x) told needs spent drive i = absurd told
   completes_by f incorrect (Looking o) told needs spent drive i = absurd told
   completes_by f incorrect (Passing o b l) told needs spent drive i =
-      rw (needs, no_byte p.residual flow.left (length b) (length_of (record { opened = o; state = d0.state }) b) told.1 spent, drive,
-      ← (same_length p.residual flow.left (length b) (length_of (record { opened = o; state = d0.state }) b) told.1 told.2), ← i,
-      told_length (tells (close f (record { opened = o; state = d0.state }) b).unit UNIT_CHECK) incorrect)
+      rw (
+        needs,
+        no_byte p.residual flow.left (length b) (length_of (record { opened = o; state = d0.state }) b) told.1 spent,
+        drive,
+        ← (same_length p.residual flow.left (length b) (length_of (record { opened = o; state = d0.state }) b) told.1 told.2),
+        ← i,
+        told_length (tells (close f (record { opened = o; state = d0.state }) b).unit UNIT_CHECK) incorrect,
+      )
 
   -- a check stops it
   checks_by : (check : ChannelCondition) (most : ℕ) (s2 : Storage) (d2 : DriveState) (w : Work) → FlowsBy flow d0.state w → (p.residual == 0 && chains_data ccw) ≡ false → (p.residual == 0 || flow.left == 0) ≡ false

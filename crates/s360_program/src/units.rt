@@ -133,12 +133,7 @@ impl Run {
 
     // The end of a command, and the choice of the next; whether its length is incorrect is known.
     #[inline(always)]
-    fn conclude<S: ImageStore>(
-        &mut self,
-        ccw: Ccw,
-        incorrect: bool,
-        drive: &mut Drive<S>,
-    ) -> Step
+    fn conclude<S: ImageStore>(&mut self, ccw: Ccw, incorrect: bool, drive: &mut Drive<S>) -> Step
         requires key { self.old.key < 16 }
         requires next { self.old.place.next ≤ 2 ^ 24 }
         requires last { self.old.place.last ≤ 2 ^ 24 + 8 }
@@ -162,11 +157,7 @@ impl Run {
 
     // A check closes the command by the bytes that passed, and ends the program. Out of the way of the units that go on.
     #[inline(never)]
-    fn stop<S: ImageStore>(
-        &mut self,
-        condition: ChannelCondition,
-        drive: &mut Drive<S>,
-    ) -> Step
+    fn stop<S: ImageStore>(&mut self, condition: ChannelCondition, drive: &mut Drive<S>) -> Step
         requires may { may_end drive.old.work ≡ true }
         requires saved { unsaved drive.old.state ≡ None }
         ensures comes { (s : StorageState) → ComesBy self.old.key (λ f. EndsIn s (ending f self.old.key (run_of self.old).place (closed_of f drive.old drive.old.work) (status_of condition))) result self.new s drive.old drive.new }
