@@ -12,8 +12,7 @@ returns-clause-cut g c = λ s.
     let r = c.self.inside.run in
     let m = c.cut-motion in
     let d = c.args.drive.now in
-    subst (λ (r : RunningState). Cuts r.key (phase_in r s d) (m.result.0, m.result.1, c.unsaved.result) d m.new.drive) c.self.view_is
-    (cuts r.key (phase_in (run_of r) s d) m.result c.unsaved.result s d m.new.drive (m.ensures.cut s) c.unsaved.ensures)
+    rw (← c.self.view_is) (cuts r.key (phase_in (run_of r) s d) m.result c.unsaved.result s d m.new.drive (m.ensures.cut s) c.unsaved.ensures)
 
 nothing : Storage
 nothing = record { bytes = []; keys = [] }

@@ -22,7 +22,7 @@ returns-then-not-has_moved g c =
     let none = sym c.has_moved.ensures ∙ c.if-not-has_moved.true in
     record {
       cut = λ s.
-          subst (λ t. EndsBy (λ f. EndsIn s ((standing_in r.key (phase_in (run_of r) s d)).cut f)) t s d p.new.drive) (sym c.told.ensures)
+          rw c.told.ensures
           (ends_now (λ f. EndsIn s ((standing_in r.key (phase_in (run_of r) s d)).cut f)) (untouched d.state) r.key (place_of r.place) condition.Clear s (told_of p.new.run) _ d p.new.drive refl c.requires.stands.saved
           (record { calls = p.ensures.calls; reports = p.ensures.reported; is = p.ensures.ending })
           (λ f. ap (EndsIn s) (cut_untouched r.key (stage_of r) (place_of r.place) s d d.work f c.requires.stands.fits none)));
@@ -39,7 +39,7 @@ returns g c =
     let some = sym c.has_moved.ensures ∙ c.if-not-has_moved.false in
     record {
       cut = λ s.
-          subst (λ t. EndsBy (λ f. EndsIn s ((standing_in r.key (phase_in (run_of r) s d)).cut f)) t s d p.new.drive) (sym c.told-2.ensures)
+          rw c.told-2.ensures
           (same_ends (λ f. EndsIn s ((standing_in r.key (phase_in (run_of r) s d)).cut f)) (λ f. EndsIn s (ending f r.key (place_of r.place) (closed_of f d d.work) no_channel_status)) (told_of p.new.run) s d p.new.drive
           (λ f. ap (EndsIn s) (cut_touched r.key (stage_of r) (place_of r.place) s d d.work f c.requires.stands.fits some))
           (stops r.key (place_of r.place) condition.Clear s (told_of p.new.run) _ d e.new.self p.new.drive e.result
