@@ -122,10 +122,7 @@ module _ (key : ℕ) (p : Place) (s : Storage) (ccw : Ccw) (d0 d1 : DriveState) 
 
       stable : (left : List ℕ) → d2.image.failures ≡ d1.image.failures + 1 → (w : Bool) → is_written d1.state ≡ w → begin (Some (SaveFails left)) ccw.code d0.state ≡ Immediate d1.state b.0
       stable left rose true w = begin_stable ccw.code d0.state left (Immediate d1.state b.0) none w
-      stable left rose false w = absurd (never (ap (λ (i : ImageState). i.failures) (unwritten w (closed_unwritten w))) rose)
-        where
-          never : d2.image.failures ≡ d1.image.failures → d2.image.failures ≡ d1.image.failures + 1 → ⊥
-          never x y = omega arith
+      stable left rose false w = absurd (omega (arith, rose, ap (λ (i : ImageState). i.failures) (unwritten w (closed_unwritten w))))
 
       over : (m : Bool) → immediate d1.state m ≡ record { state = d1.state; unit = (immediate_ending m).unit; motion = m }
       over true = refl

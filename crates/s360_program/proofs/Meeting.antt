@@ -183,10 +183,7 @@ module _ (next : Option Fault → Next) (c : Closed) (key : ℕ) (p : Place) (k 
         is_ending = is;
         told_of = record { saved = is.drive.unsaved ∙ (call.calm at).saved; no_check = subst (λ e. GainsNoCheck (drive_of d0.state) e) (sym is.drive.drive) (call.calm at).quiet };
       }
-      second h at (Some LoadFails) m is = absurd (no m.1)
-        where
-          no : d1.image.loads < d2.image.loads → ⊥
-          no k = omega (arith, loads_none (is_written d1.state) d1 d2 end.calls)
+      second h at (Some LoadFails) m is = absurd (omega (arith, m.1, loads_none (is_written d1.state) d1 d2 end.calls))
       second h at (Some (SaveFails left)) m is =
           let x = saving_failed (is_written d1.state) So d1 d2 end.calls end.reports m in
           let w : is_written c.state ≡ true = ap is_written call.same ∙ x.0 in
@@ -225,11 +222,8 @@ module _ (next : Option Fault → Next) (c : Closed) (key : ℕ) (p : Place) (k 
           drive : drive_of d2.state ≡ drive_of d1.state
           drive = end.is.drive.drive ∙ ap (λ (c : Closed). drive_of c.state) kept ∙ ap drive_of call.same
 
-          never_both : d2.image.failures ≡ d0.image.failures → d2.image.failures ≡ d0.image.failures + 1 → ⊥
-          never_both x y = omega arith
-
           told_by : (f : Option Fault) → IsMetBy f d0 d2 → ToldOf f told.0 d0 d2
-          told_by None m = absurd (never_both m (ap (λ (i : ImageState). i.failures) image ∙ rose))
+          told_by None m = absurd (omega (arith, m, rose, ap (λ (i : ImageState). i.failures) image))
           told_by (Some f) m =
               tells_fault (fault_met d1 d2) key p c k told d2 (ap (λ (c : Closed). tells c.unit UNIT_CHECK) kept ∙ call.fails failed)
               (ap (λ (d : IdleDrive). tells_equipment_check d.sense) drive ∙ sense) end.is
@@ -270,10 +264,7 @@ more_after At next later s told d0 d1 d2 e at stable same loads quiet is = go is
 
     go : (f : Option Fault) → IsMetBy f d1 d2 → later f ≡ EndsIn s is.ending → ToldOf f told.0 d1 d2 → EndsBy next told s d0 d2
     go None m n t = by None (m ∙ same) (e None at ∙ n) (record { saved = t.saved; no_check = λ q. t.no_check (quiet q) })
-    go (Some LoadFails) m n t = absurd (no m.1)
-      where
-        no : d1.image.loads < d2.image.loads → ⊥
-        no k = omega (arith, loads)
+    go (Some LoadFails) m n t = absurd (omega (arith, m.1, loads))
     go (Some (SaveFails left)) m n t = by (Some (SaveFails left)) (m ∙ ap (λ n. n + 1) same) (e (Some (SaveFails left)) (stable left m) ∙ n) t
 
 pub comes_after : (At : Option Fault → Type 0) (next later : Option Fault → Next) (key : ℕ) (s : Storage) (r : Run) (a : Step) (d0 d1 d2 : DriveState)

@@ -21,10 +21,7 @@ use Rattle.s360_program.specs.Steps.{MovesBy, MovesBytesBy, transfer_by, status_
 
 -- so many bytes from a place on, as they are taken
 ranged : (xs : List ℕ) (at m : ℕ) → slice_range xs at (at + m) ≡ take m (drop at xs)
-ranged xs at m = ap (λ n. take n (drop at xs)) (span at m)
-  where
-    span : (at m : ℕ) → at + m - at ≡ m
-    span at m = omega arith
+ranged xs at m = let span : at + m - at ≡ m = omega arith in ap (λ n. take n (drop at xs)) span
 
 counted : (xs : List ℕ) (at m : ℕ) → at + m ≤ length xs → length (take m (drop at xs)) ≡ m
 counted xs at m h = omega (arith, length-take-le m (drop at xs) (omega (arith, length-drop at xs)))

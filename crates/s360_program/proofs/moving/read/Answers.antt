@@ -19,10 +19,7 @@ slice_bounds-given-end g c =
     c.from-2.ensures ∙ sym (lent_size d d.work q.moving q.gives c.next_bytes.result.now c.next_bytes.ensures.bytes c.args.most q.left) ∙ ap (λ n. length (take n c.next_bytes.result.now)) (sym c.from-2.ensures)
 
 at_zero : (s : Storage) (key a n : ℕ) → n ≡ 0 → may_store s key (a + n) ≡ false → may_store s key a ≡ false
-at_zero s key a n e h = ap (may_store s key) (none a n e) ∙ h
-  where
-    none : (a n : ℕ) → n ≡ 0 → a ≡ a + n
-    none a n e = omega arith
+at_zero s key a n e h = let same : a ≡ a + n = omega arith in ap (may_store s key) same ∙ h
 
 pub returns-then-n-eq0-clause-moves : goal.returns-then-n-eq0-clause-moves
 returns-then-n-eq0-clause-moves g c =
