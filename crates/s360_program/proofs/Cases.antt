@@ -1,5 +1,5 @@
 -- What a running program is at, by cases.
-use Rattle.std.proofs.Common.{◌≡◌, Bool, true, false, List, [], ◌∷◌, ℕ}
+use Rattle.std.proofs.Common.{◌≡◌, ◌⊎◌, inl, inr, Bool, true, false, List, [], ◌∷◌, ℕ}
 use Rattle.s360_words.specs.declared.words.Ccw.{Ccw}
 use Rattle.ckd_command.specs.declared.begin.Opened.{Opened}
 use Rattle.ckd_command.specs.Drive.{State}
@@ -11,6 +11,15 @@ use Rattle.s360_program.specs.Stage as stage
 -- a test has one answer
 pub never : {P : Type 0} → ◌≡◌ {A = Bool} false true → P
 never h = absurd (cc)
+
+-- of two things the one whose other can't be
+pub only_left : {A B : Type 0} → A ⊎ B → (B → ⊥) → A
+only_left (inl x) n = x
+only_left (inr y) n = absurd (n y)
+
+pub only_right : {A B : Type 0} → A ⊎ B → (A → ⊥) → B
+only_right (inl x) n = absurd (n x)
+only_right (inr y) n = y
 
 -- what holds of each stage beside what the drive is at then, where bytes have passed and where none have, holds wherever the two fit
 pub by_stage : (s : State) (P : Stage → Work → Type 0) → P stage.Between Idle → ((ccw : Ccw) (o : Opened) → P (stage.Looking ccw) (Looking o))

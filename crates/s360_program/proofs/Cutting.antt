@@ -1,13 +1,12 @@
 -- Cuts.
-use Rattle.std.proofs.Common.{◌≡◌, ◌⊎◌, inl, inr, ℕ, refl, sym, ap, ◌∙◌, true, false, Bool, ◌&&◌, ◌||◌, List, [], ◌∷◌, Option, Some, None}
+use Rattle.std.proofs.Common.{◌≡◌, ℕ, refl, sym, ap, ◌∙◌, true, false, Bool, ◌&&◌, ◌||◌, List, [], ◌∷◌, Option, Some, None}
 use Rattle.ckd_image.specs.Image.{ImageState}
 use Rattle.ckd_track.specs.Track.{Track}
-use Rattle.s360_words.specs.declared.words.Ccw.{Ccw}
 use Rattle.ckd_command.specs.declared.begin.Opened.{Opened}
 use Rattle.s360_words.specs.Storage.{Storage}
 use Rattle.s360_words.specs.declared.words.Csw.{Csw}
 use Rattle.ckd_command.specs.Commands.{Closing, closing}
-use Rattle.ckd_command.specs.Drive.{Fault, State, Open, close, closed, with_written, with_registers, is_written, is_write_command, track_under}
+use Rattle.ckd_command.specs.Drive.{Fault, State, Open, close, closed, with_written, with_registers, is_written, track_under}
 use Rattle.ckd_command.proofs.Marks.{close_writes}
 use Rattle.ckd_command.proofs.Stable.{close_moved}
 use Rattle.ckd_drive.specs.Work.{DriveState, Work, Idle, Over, Looking, Passing, fault_met, with_image, closed_of, after_end, end_saves, end_saves_of, CallsStore}
@@ -19,8 +18,7 @@ use Rattle.s360_runs.specs.Unsaved.{has_written}
 use Rattle.s360_program.specs.Stands.{StageFits, phase_by}
 use Rattle.s360_program.specs.Steps.{EndsBy, has_moved}
 use Rattle.s360_program.specs.Stage.{Stage}
-use Rattle.s360_program.specs.Stage as stage
-use Rattle.s360_program.proofs.Cases.{never, by_stage}
+use Rattle.s360_program.proofs.Cases.{never, only_left, by_stage}
 use Rattle.s360_program.proofs.Meeting.{met_none, untouched as image_untouched}
 
 pub same_ends : (next later : Option Fault → Next) (told : Csw × Bool) (s : Storage) (d0 d1 : DriveState) → ((f : Option Fault) → next f ≡ later f) → EndsBy later told s d0 d1 → EndsBy next told s d0 d1
@@ -43,11 +41,7 @@ cut_touched key g p s d w f fits =
 -- Whether it saves a track.
 
 pub untouched_unwritten : (o : Open) → is_written (close None o []).state ≡ true → is_written o.state ≡ true
-untouched_unwritten o h = go (close_writes o [] h)
-  where
-    go : (is_written o.state ≡ true) ⊎ ((is_write_command o ≡ true) × (◌≡◌ {A = List ℕ} [] [] → ⊥)) → is_written o.state ≡ true
-    go (inl x) = x
-    go (inr x) = absurd (x.1 refl)
+untouched_unwritten o h = only_left (close_writes o [] h) (λ x. x.1 refl)
 
 joins : (a b : Bool) → (b ≡ true → a ≡ true) → (a || b) ≡ a
 joins true b h = refl

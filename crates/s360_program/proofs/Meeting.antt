@@ -1,5 +1,5 @@
 -- Faults that the calls of one unit meet together.
-use Rattle.std.proofs.Common.{◌≡◌, ◌⊎◌, inl, inr, ℕ, ◌+◌, ◌<◌, ◌≤◌, refl, sym, ap, subst, ◌∙◌, arith, true, false, Bool, not, ◌&&◌, ◌||◌, ◌==◌, List, Option, Some, None}
+use Rattle.std.proofs.Common.{◌≡◌, ◌⊎◌, inl, inr, ℕ, ◌+◌, ◌≤◌, refl, sym, ap, subst, ◌∙◌, arith, true, false, Bool, not, ◌&&◌, ◌||◌, ◌==◌, List, Option, Some, None}
 use Rattle.std.specs.Prelude.{if◌then◌else◌}
 use Rattle.std.proofs.lemmas.Bool.Decides.{nat_tests}
 use Rattle.std.proofs.lemmas.Nat.{and_or_self}
@@ -14,7 +14,7 @@ use Rattle.ckd_command.specs.declared.registers.Mark.{Mark}
 use Rattle.ckd_command.specs.declared.registers.Mark.TheVariants.{Saved, Written, Lost}
 use Rattle.ckd_command.specs.Drive.{IdleDrive, Closed, Fault, LoadFails, SaveFails, drive_of, is_written, is_written_by, left_by, saving, settled, with_unit_check, unsaved, tells_equipment_check}
 use Rattle.ckd_command.proofs.Marks.{Calm}
-use Rattle.s360_runs.specs.Endings.{ending, settled_ending}
+use Rattle.s360_runs.specs.Endings.{ending}
 use Rattle.s360_runs.specs.Places.{Place}
 use Rattle.s360_runs.specs.Status.{tells, beside, with_interruption}
 use Rattle.s360_runs.specs.Units.{Next, EndsIn}
@@ -27,7 +27,7 @@ use Rattle.s360_program.specs.declared.conditions.ChannelCondition.TheVariants a
 use Rattle.s360_program.specs.declared.run.Run.{Run}
 use Rattle.s360_program.specs.declared.run.Step.{Step}
 use Rattle.s360_program.specs.declared.run.Step.TheVariants as step
-use Rattle.s360_program.proofs.Cases.{never}
+use Rattle.s360_program.proofs.Cases.{never, only_left, only_right}
 
 -- The fault that a call met.
 
@@ -56,11 +56,7 @@ met_by l m d0 d1 k = go m k.saves k.failures
 
 -- a call that loads nothing
 pub loads_none : (m : Bool) (d0 d1 : DriveState) → CallsStore false m d0 d1 → d1.image.loads ≡ d0.image.loads
-loads_none m d0 d1 k = go k.loads
-  where
-    go : (d1.image.loads ≡ d0.image.loads) ⊎ ((false ≡ true) × (m ≡ false) × (d1.image.loads ≡ d0.image.loads + 1)) → d1.image.loads ≡ d0.image.loads
-    go (inl h) = h
-    go (inr h) = never h.0
+loads_none m d0 d1 k = only_left k.loads (λ h. never h.0)
 
 -- and saves nothing leaves the image
 pub untouched : (m : Bool) (d0 d1 : DriveState) → m ≡ false → CallsStore false m d0 d1 → d1.image ≡ d0.image
@@ -80,7 +76,7 @@ before l m d0 d1 d2 e b =
 -- a call that loads nothing and fails has failed to save, and the sense says so
 saving_failed : (w : Bool) (So : Type 0) (d1 d2 : DriveState) → CallsStore false w d1 d2 → Reports So d1 d2 → d2.image.failures ≡ d1.image.failures + 1
     → (w ≡ true) × (tells_equipment_check d2.state.registers.sense ≡ true)
-saving_failed w So d1 d2 calls reports rose = (saved w calls, sense reports.failed)
+saving_failed w So d1 d2 calls reports rose = (saved w calls, (only_right reports.failed not_both).1)
   where
     not_both : d2.image.failures ≡ d1.image.failures → ⊥
     not_both same = omega arith
@@ -89,17 +85,9 @@ saving_failed w So d1 d2 calls reports rose = (saved w calls, sense reports.fail
     saved true k = refl
     saved false k = absurd (not_both (ap (λ (i : ImageState). i.failures) (untouched false d1 d2 refl k)))
 
-    sense : (d2.image.failures ≡ d1.image.failures) ⊎ (So × (tells_equipment_check d2.state.registers.sense ≡ true) × (is_written d2.state ≡ false)) → tells_equipment_check d2.state.registers.sense ≡ true
-    sense (inl x) = absurd (not_both x)
-    sense (inr x) = x.1
-
 -- a call that did not fail met no fault
 pub unfailed : (Failed : Type 0) (d0 d1 : DriveState) → (Failed → ⊥) → Reports Failed d0 d1 → d1.image.failures ≡ d0.image.failures
-unfailed Failed d0 d1 n reports = go reports.failed
-  where
-    go : (d1.image.failures ≡ d0.image.failures) ⊎ (Failed × (tells_equipment_check d1.state.registers.sense ≡ true) × (is_written d1.state ≡ false)) → d1.image.failures ≡ d0.image.failures
-    go (inl h) = h
-    go (inr h) = absurd (n h.0)
+unfailed Failed d0 d1 n reports = only_left reports.failed (λ h. n h.0)
 
 -- Settling.
 

@@ -1,5 +1,5 @@
 -- Units that need no call of the store.
-use Rattle.std.proofs.Common.{◌≡◌, ◌⊎◌, inl, inr, ℕ, ◌<◌, arith, refl, sym, ap, ◌∙◌, subst, true, false, Bool, ◌&&◌, ◌||◌, ◌+◌, [], ◌∷◌, Option, None, List}
+use Rattle.std.proofs.Common.{◌≡◌, ℕ, ◌<◌, arith, refl, sym, ap, ◌∙◌, subst, true, false, Bool, ◌&&◌, ◌||◌, [], ◌∷◌, Option, None, List}
 use Rattle.s360_words.specs.Storage.{Storage}
 use Rattle.s360_words.specs.declared.words.Ccw.{Ccw}
 use Rattle.ckd_command.specs.Commands.{beginning, sight}
@@ -21,7 +21,7 @@ use Rattle.s360_program.specs.declared.moving.Flow.{Flow}
 use Rattle.s360_program.specs.declared.run.Run.{Run}
 use Rattle.s360_program.specs.Stage as stage
 use Rattle.s360_program.specs.declared.run.Comes.TheVariants as comes
-use Rattle.s360_program.proofs.Cases.{never, by_stage}
+use Rattle.s360_program.proofs.Cases.{never, only_left, by_stage}
 use Rattle.s360_program.proofs.Cutting.{untouched_unwritten}
 use Rattle.s360_program.proofs.Looking.{looking_is}
 use Rattle.s360_program.proofs.Meeting.{untouched}
@@ -110,11 +110,7 @@ immediately_quiet f code d0 d1 d2 saved idle is calls later q =
     later w.0 w.1 ∙ untouched (begin_saves code d0) d0 d1 (ap (λ b. b && goes_to_cylinder_zero (beginning code d0.state.registers)) q.unwritten) calls
 
 look_untouched : (d0 d1 : DriveState) → look_saves d0 ≡ false → look_loads d0 ≡ false → CallsStore (look_loads d0) (look_saves d0) d0 d1 → d1.image ≡ d0.image
-look_untouched d0 d1 saves loads calls = calls.untouched saves (go calls.loads)
-  where
-    go : (d1.image.loads ≡ d0.image.loads) ⊎ ((look_loads d0 ≡ true) × (look_saves d0 ≡ false) × (d1.image.loads ≡ d0.image.loads + 1)) → d1.image.loads ≡ d0.image.loads
-    go (inl h) = h
-    go (inr h) = never (sym loads ∙ h.0)
+look_untouched d0 d1 saves loads calls = calls.untouched saves (only_left calls.loads (λ h. never (sym loads ∙ h.0)))
 
 saves_not : (d : DriveState) (w : Work) → is_written d.state ≡ false → look_saves_of d w ≡ false
 saves_not d Idle h = refl

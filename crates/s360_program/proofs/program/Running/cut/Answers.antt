@@ -1,8 +1,7 @@
-use Rattle.std.proofs.Common.{subst, []}
+use Rattle.std.proofs.Common.{[]}
 use Rattle.s360_runs.specs.Units.{EndsIn, standing_in}
 use Rattle.s360_words.specs.Storage.{Storage}
-use Rattle.s360_program.specs.Advances.{Cuts}
-use Rattle.s360_program.specs.Stands.{RunningState, phase_in}
+use Rattle.s360_program.specs.Stands.{phase_in}
 use Rattle.s360_program.specs.Steps.{run_of}
 use Rattle.s360_program.proofs.Advancing.{cuts, cut_tells}
 use Rattle.s360_program.proofs.program.Running.cut.Goals as goal

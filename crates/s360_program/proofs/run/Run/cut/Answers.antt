@@ -7,7 +7,7 @@ use Rattle.s360_runs.specs.Units.{EndsIn, standing_in}
 use Rattle.s360_program.specs.Place.{place_of}
 use Rattle.s360_program.specs.Stage.{stage_of}
 use Rattle.s360_program.specs.Stands.{phase_in}
-use Rattle.s360_program.specs.Steps.{run_of, told_of, EndsBy}
+use Rattle.s360_program.specs.Steps.{run_of, told_of}
 use Rattle.s360_program.specs.declared.conditions.ChannelCondition.TheVariants as condition
 use Rattle.s360_program.proofs.Cutting.{same_ends, cut_untouched, cut_touched, untouched_written, touched_written, end_moved}
 use Rattle.s360_program.proofs.Ends.{stops}
