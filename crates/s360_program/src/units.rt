@@ -117,6 +117,8 @@ impl Run {
             Fetched::GoodCcw(ccw) => ccw,
         };
         self.place.go_by(ccw);
+        // kept before it is known to work, while its parts are at hand
+        self.keep(ccw);
         match drive.begin(ccw.code) {
             Begun::Rejected => {
                 end_program(self, FAILED, ChannelCondition::Clear, drive);
@@ -124,7 +126,6 @@ impl Run {
             }
             Begun::Immediate => self.conclude(ccw, false, drive),
             Begun::Started => {
-                self.keep(ccw);
                 self.comes = Comes::Look;
                 Step::Units(1)
             }
