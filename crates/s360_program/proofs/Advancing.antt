@@ -11,7 +11,7 @@ use Rattle.s360_runs.specs.Laws.{walked_on}
 use Rattle.s360_runs.specs.Scripts.{units, OneUnit}
 use Rattle.s360_runs.specs.Units.{ProgramPhase, Next, EndsIn, standing_in, unit, walk, on_next, StandsIn}
 use Rattle.s360_runs.proofs.Walks.{walks_on}
-use Rattle.s360_program.specs.Advances.{IsMet, IsEnding, CameToEnd, Cuts, TellsOf, CutTellsOf}
+use Rattle.s360_program.specs.Advances.{IsMet, CameToEnd, Cuts, TellsOf, CutTellsOf}
 use Rattle.s360_program.specs.Steps.{IsMetBy, EndsBy, ToldOf}
 
 -- units behind units
@@ -47,19 +47,16 @@ pub cuts : (key : ℕ) (phase : ProgramPhase) (told : Csw × Bool) (lost : Optio
 cuts key phase told lost s d0 d2 h l = record {
   fault = h.fault;
   met = met_since h.fault d0 d0 d2 refl h.met;
-  is_ending = subst (λ e. IsEnding e (told.0, told.1) d2) (sym same) (record { csw = h.is_ending.csw; motion = h.is_ending.motion; drive = h.is_ending.drive });
+  is_ending = rw same (record { csw = h.is_ending.csw; motion = h.is_ending.motion; drive = h.is_ending.drive });
   unsaved = l ∙ h.is_ending.drive.unsaved ∙ sym (ap (λ (e : Ending). e.unsaved) same);
 }
   where
-    one : (x y : Ending) → EndsIn s x ≡ EndsIn s y → x ≡ y
-    one x y e = cc
-
     same : (standing_in key phase).cut h.fault ≡ h.ending
-    same = one _ _ h.ends
+    same = cc h.ends
 
 pub cut_tells : (next : Option Fault → Next) (told : Csw × Bool) (lost : Option (ℕ × ℕ)) (s : Storage) (d0 d2 : DriveState) → EndsBy next told s d0 d2 → lost ≡ unsaved d2.state
     → (d2.image.failures ≡ d0.image.failures) ⊎ (is_some (unsaved d2.state) ≡ true) → CutTellsOf (told.0, told.1, lost) d0 d2
-cut_tells next told lost s d0 d2 h l some = record { fault = by h.fault h.met h.told_of; unsaved = tells some }
+cut_tells next told lost s d0 d2 h l some = record { fault = by h.fault h.met h.told_of; unsaved = rw l some }
   where
     never_both : (a b : ℕ) → b ≡ a → b ≡ a + 1 → ⊥
     never_both a b x y = omega arith
@@ -71,7 +68,3 @@ cut_tells next told lost s d0 d2 h l some = record { fault = by h.fault h.met h.
     by : (f : Option Fault) → IsMetBy f d0 d2 → ToldOf f told.0 d0 d2 → TellsOf (Some (told.0, told.1)) d0 d2
     by None m t = record { failed = inl m; good = λ e. t }
     by (Some f) m t = record { failed = inr (rose f m, t); good = λ e. absurd (never_both d0.image.failures d2.image.failures e (rose f m)) }
-
-    tells : (d2.image.failures ≡ d0.image.failures) ⊎ (is_some (unsaved d2.state) ≡ true) → (d2.image.failures ≡ d0.image.failures) ⊎ (is_some lost ≡ true)
-    tells (inl e) = inl e
-    tells (inr e) = inr (ap is_some l ∙ e)

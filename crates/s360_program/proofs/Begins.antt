@@ -1,5 +1,5 @@
 -- What the beginning of a command comes to.
-use Rattle.std.proofs.Common.{◌≡◌, ◌⊎◌, inl, inr, ℕ, ◌+◌, refl, sym, ap, subst, ◌∙◌, arith, true, false, Bool, List, Option, Some, None}
+use Rattle.std.proofs.Common.{◌≡◌, ℕ, ◌+◌, refl, sym, ap, subst, ◌∙◌, arith, true, false, Bool, List, Option, Some, None, ◌≤◌, ◌<◌, ◌^◌, ◌&&◌}
 use Rattle.ckd_image.specs.Image.{ImageState}
 use Rattle.s360_words.specs.Storage.{Storage}
 use Rattle.s360_words.specs.declared.flags.TheConstants.ChannelStatus.{PROGRAM_CHECK}
@@ -9,11 +9,11 @@ use Rattle.ckd_command.specs.Drive.{Fault, SaveFails, AfterBegin, Rejected, Imme
 use Rattle.ckd_command.proofs.Marks.{Calm, BegunCalm, begin_calm}
 use Rattle.ckd_command.proofs.Stable.{begin_stable}
 use Rattle.s360_runs.specs.Commands.{choice, requested, Point}
-use Rattle.s360_runs.specs.Endings.{ending, failed, untouched, immediate}
+use Rattle.s360_runs.specs.Endings.{ending, failed, untouched, immediate, Ending}
 use Rattle.s360_runs.specs.Places.{Place, fetch, NoCcw, GoodCcw, past_ccw, past_no_ccw}
-use Rattle.s360_runs.specs.Status.{no_channel_status}
-use Rattle.s360_runs.specs.Units.{Between, unit, next_fetched, next_begun, next_chosen}
-use Rattle.ckd_drive.specs.Work.{DriveState, Over, fault_met, with_image, CallsStore, Reports, after_begun, after_begin, answer_of_begin, immediate_ending, closed_of, begin_saves}
+use Rattle.s360_runs.specs.Status.{no_channel_status, with_interruption, tells}
+use Rattle.s360_runs.specs.Units.{Between, unit, next_fetched, next_begun, next_chosen, GoesOn}
+use Rattle.ckd_drive.specs.Work.{DriveState, Over, fault_met, with_image, CallsStore, Reports, after_begun, after_begin, answer_of_begin, immediate_ending, closed_of, begin_saves, goes_to_cylinder_zero}
 use Rattle.s360_program.specs.Advances.{IsEnding}
 use Rattle.s360_program.specs.Steps.{EndsBy, ComesBy, status_of, condition_for}
 use Rattle.ckd_drive.specs.declared.answers.Begun.TheVariants as begun
@@ -21,40 +21,34 @@ use Rattle.s360_program.specs.declared.conditions.ChannelCondition.TheVariants a
 use Rattle.s360_program.specs.declared.run.Run.{Run}
 use Rattle.s360_program.specs.declared.run.Step.{Step}
 use Rattle.s360_program.proofs.Ends.{calm_before}
-use Rattle.s360_program.proofs.Meeting.{ends_after, ends_now, comes_after, met_none}
+use Rattle.s360_program.proofs.Meeting.{unfailed, ends_after, ends_now, comes_after, met_none, untouched as image_untouched}
+use Rattle.std.specs.Prelude.{if◌then◌else◌}
+use Rattle.s360_words.specs.Words.{chains_command}
+use Rattle.s360_words.specs.declared.flags.TheConstants.UnitStatus.{UNIT_CHECK}
+use Rattle.ckd_command.specs.Commands.{beginning}
+use Rattle.s360_runs.specs.Starts.{first_begun, AcceptedStart, ImmediateStart}
+use Rattle.s360_runs.specs.Transfers.{Request}
+use Rattle.s360_runs.specs.Unsaved.{GainsNoCheck}
+use Rattle.s360_program.specs.Place.{place_of}
+use Rattle.s360_program.specs.Stands.{RunningState, StageFits, Stands, Within, phase_in}
+use Rattle.s360_program.specs.Starting.{ImmediateDone, FirstBegun, StartsQuietly, request_for}
+use Rattle.s360_program.specs.declared.place.Place.{Place as KeptPlace}
+use Rattle.s360_program.specs.Stage as stage
+use Rattle.s360_program.specs.declared.starting.First.{First}
+use Rattle.s360_program.specs.declared.starting.First.TheVariants as first
 
 -- What was begun, by what the drive answers.
 
 pub rejected_is : (b : AfterBegin) (d0 d1 : DriveState) → begun.Rejected ≡ answer_of_begin b → d1 ≡ with_image (after_begun b d0) d1.image → b ≡ Rejected d1.state
 rejected_is (Rejected s) d0 d1 a e = ap Rejected (sym (ap (λ (d : DriveState). d.state) e))
-rejected_is (Immediate s motion) d0 d1 a e = absurd (never a)
-  where
-    never : begun.Rejected ≡ begun.Immediate → ⊥
-    never h = cc
-rejected_is (Started o) d0 d1 a e = absurd (never a)
-  where
-    never : begun.Rejected ≡ begun.Started → ⊥
-    never h = cc
+rejected_is (Immediate s motion) d0 d1 a e = absurd (cc a)
+rejected_is (Started o) d0 d1 a e = absurd (cc a)
 
 pub immediate_is : (b : AfterBegin) (d0 d1 : DriveState) → begun.Immediate ≡ answer_of_begin b → d1 ≡ with_image (after_begun b d0) d1.image
     → (motion : Bool) × (b ≡ Immediate d1.state motion) × (d1.work ≡ Over (immediate_ending motion))
-immediate_is (Rejected s) d0 d1 a e = absurd (never a)
-  where
-    never : begun.Immediate ≡ begun.Rejected → ⊥
-    never h = cc
+immediate_is (Rejected s) d0 d1 a e = absurd (cc a)
 immediate_is (Immediate s motion) d0 d1 a e = (motion, ap (λ s. Immediate s motion) (sym (ap (λ (d : DriveState). d.state) e)), ap (λ (d : DriveState). d.work) e)
-immediate_is (Started o) d0 d1 a e = absurd (never a)
-  where
-    never : begun.Immediate ≡ begun.Started → ⊥
-    never h = cc
-
--- a call that did not fail met no fault
-pub unfailed : (Failed : Type 0) (d0 d1 : DriveState) → (Failed → ⊥) → Reports Failed d0 d1 → d1.image.failures ≡ d0.image.failures
-unfailed Failed d0 d1 n reports = go reports.failed
-  where
-    go : (d1.image.failures ≡ d0.image.failures) ⊎ (Failed × (tells_equipment_check d1.state.registers.sense ≡ true) × (is_written d1.state ≡ false)) → d1.image.failures ≡ d0.image.failures
-    go (inl h) = h
-    go (inr h) = absurd (n h.0)
+immediate_is (Started o) d0 d1 a e = absurd (cc a)
 
 -- No command is there.
 
@@ -63,9 +57,9 @@ pub misses : (key : ℕ) (p q : Place) (s : Storage) (told : Csw × Bool) (So : 
     → q ≡ past_no_ccw p → IsEnding (ending (fault_met d0 d2) key q (untouched d0.state) PROGRAM_CHECK) told d2
     → EndsBy (λ f. unit f key (Between (record { storage = s; place = p; state = d0.state }))) told s d0 d2
 misses key p q s told So d0 d2 h saved settles tells_of past is =
-    ends_now (λ f. unit f key (Between (record { storage = s; place = p; state = d0.state }))) (untouched d0.state) key (past_no_ccw p) condition.ProgramCheck s told So d0 d2
-    (λ f. ap (next_fetched f key (record { storage = s; place = p; state = d0.state })) (sym h)) refl saved settles tells_of
-    (subst (λ q. IsEnding (ending (fault_met d0 d2) key q (untouched d0.state) PROGRAM_CHECK) told d2) past is)
+    ends_now (λ f. unit f key (Between (record { storage = s; place = p; state = d0.state }))) (untouched d0.state) key (past_no_ccw p) condition.ProgramCheck s told So d0 d2 refl saved
+    (record { calls = settles; reports = tells_of; is = subst (λ q. IsEnding (ending (fault_met d0 d2) key q (untouched d0.state) PROGRAM_CHECK) told d2) past is })
+    (λ f. ap (next_fetched f key (record { storage = s; place = p; state = d0.state })) (sym h))
 
 -- A command is there.
 
@@ -84,26 +78,23 @@ module _ (key : ℕ) (p : Place) (s : Storage) (ccw : Ccw) (d0 d1 : DriveState) 
       → (q : Place) → q ≡ past_ccw p ccw → IsEnding (ending (fault_met d1 d2) key q (failed d1.state) no_channel_status) told d2
       → EndsBy (λ f. unit f key (Between (record { storage = s; place = p; state = d0.state }))) told s d0 d2
   rejects told So d2 answer calls reports settles tells_of q past is =
-      ends_after (λ f. begin f ccw.code d0.state ≡ Rejected d1.state) (begun.Rejected ≡ begun.Rejected) So (λ f. unit f key (Between before)) (failed d1.state) key (past_ccw p ccw) condition.Clear s told
+      ends_after (λ f. unit f key (Between before)) (failed d1.state) key (past_ccw p ccw) condition.Clear s told So (λ f. begin f ccw.code d0.state ≡ Rejected d1.state) (begun.Rejected ≡ begun.Rejected)
       false (begin_saves ccw.code d0) d0 d1 d2
+      (record {
+        stable = λ at left w. begin_stable ccw.code d0.state left (Rejected d1.state) at w;
+        calm = λ at. subst (BegunCalm (tells_equipment_check (drive_of d0.state).sense ≡ false)) at calm_begun;
+        fails = λ h. refl;
+        at = rejected_is (begin (fault_met d0 d1) ccw.code d0.state) d0 d1 answer state;
+        same = refl;
+        calls = calls;
+        reports = reports;
+      })
+      (record { calls = settles; reports = tells_of; is = subst (λ q. IsEnding (ending (fault_met d1 d2) key q (failed d1.state) no_channel_status) told d2) past is })
       (λ f at. ap (next_fetched f key before) (sym there) ∙ ap (next_begun f key (requested before ccw)) at)
-      (λ at left w. begin_stable ccw.code d0.state left (Rejected d1.state) at w)
-      (λ at. subst (BegunCalm (tells_equipment_check (drive_of d0.state).sense ≡ false)) at calm_begun)
-      (λ h. refl) (rejected_is (begin (fault_met d0 d1) ccw.code d0.state) d0 d1 answer state) refl calls reports settles tells_of
-      (subst (λ q. IsEnding (ending (fault_met d1 d2) key q (failed d1.state) no_channel_status) told d2) past is)
 
   -- it is over at once
-  pub immediate_same : Reports (begun.Immediate ≡ begun.Rejected) d0 d1 → d1.image.failures ≡ d0.image.failures
-  immediate_same reports = unfailed (begun.Immediate ≡ begun.Rejected) d0 d1 other reports
-    where
-      other : begun.Immediate ≡ begun.Rejected → ⊥
-      other h = cc
-
-  pub immediate_calm : begun.Immediate ≡ answer_of_begin (begin (fault_met d0 d1) ccw.code d0.state) → Reports (begun.Immediate ≡ begun.Rejected) d0 d1
-      → Calm (tells_equipment_check (drive_of d0.state).sense ≡ false) d1.state
-  immediate_calm answer reports =
-      let b = immediate_is (begin (fault_met d0 d1) ccw.code d0.state) d0 d1 answer state in
-      subst (BegunCalm (tells_equipment_check (drive_of d0.state).sense ≡ false)) (ap (λ f. begin f ccw.code d0.state) (sym (met_none d0 d1 (immediate_same reports))) ∙ b.1) calm_begun
+  immediate_same : Reports (begun.Immediate ≡ begun.Rejected) d0 d1 → d1.image.failures ≡ d0.image.failures
+  immediate_same reports = unfailed (begun.Immediate ≡ begun.Rejected) d0 d1 (λ h. cc) reports
 
   pub immediately : (r1 : Run) (a : Step) (d2 : DriveState) → begun.Immediate ≡ answer_of_begin (begin (fault_met d0 d1) ccw.code d0.state) → Reports (begun.Immediate ≡ begun.Rejected) d0 d1
       → d2.image.loads ≡ d1.image.loads → (is_written d1.state ≡ false → is_written (closed_of None d1 d1.work).state ≡ false → d2.image ≡ d1.image)
@@ -114,7 +105,7 @@ module _ (key : ℕ) (p : Place) (s : Storage) (ccw : Ccw) (d0 d1 : DriveState) 
       comes_after (λ f. begin f ccw.code d0.state ≡ Immediate d1.state b.0) (λ f. unit f key (Between before))
       (λ f. next_chosen (choice f key (record { storage = s; ccw = ccw; place = past_ccw p ccw }) (closed_of f d1 d1.work) (status_of (condition_for false (closed_of f d1 d1.work).unit)))) key s r1 a d0 d1 d2
       (λ f at. ap (next_fetched f key before) (sym there) ∙ ap (next_begun f key (requested before ccw)) at ∙ chosen f)
-      none (λ left rose. stable left rose (is_written d1.state) refl) (immediate_same reports) loads (immediate_calm answer reports).quiet
+      none (λ left rose. stable left rose (is_written d1.state) refl) (immediate_same reports) loads calm.quiet
       (subst (λ q. ComesBy key (λ f. next_chosen (choice f key (record { storage = s; ccw = ccw; place = q }) (closed_of f d1 d1.work) (status_of (condition_for false (closed_of f d1 d1.work).unit)))) a r1 s d1 d2) past is)
     where
       b : (motion : Bool) × (begin (fault_met d0 d1) ccw.code d0.state ≡ Immediate d1.state motion) × (d1.work ≡ Over (immediate_ending motion))
@@ -123,15 +114,15 @@ module _ (key : ℕ) (p : Place) (s : Storage) (ccw : Ccw) (d0 d1 : DriveState) 
       none : begin None ccw.code d0.state ≡ Immediate d1.state b.0
       none = ap (λ f. begin f ccw.code d0.state) (sym (met_none d0 d1 (immediate_same reports))) ∙ b.1
 
+      calm : Calm (tells_equipment_check (drive_of d0.state).sense ≡ false) d1.state
+      calm = subst (BegunCalm (tells_equipment_check (drive_of d0.state).sense ≡ false)) none calm_begun
+
       closed_unwritten : is_written d1.state ≡ false → is_written (closed_of None d1 d1.work).state ≡ false
       closed_unwritten w = ap (λ v. is_written (closed_of None d1 v).state) b.2 ∙ w
 
       stable : (left : List ℕ) → d2.image.failures ≡ d1.image.failures + 1 → (w : Bool) → is_written d1.state ≡ w → begin (Some (SaveFails left)) ccw.code d0.state ≡ Immediate d1.state b.0
       stable left rose true w = begin_stable ccw.code d0.state left (Immediate d1.state b.0) none w
-      stable left rose false w = absurd (never (ap (λ (i : ImageState). i.failures) (unwritten w (closed_unwritten w))) rose)
-        where
-          never : d2.image.failures ≡ d1.image.failures → d2.image.failures ≡ d1.image.failures + 1 → ⊥
-          never x y = omega arith
+      stable left rose false w = absurd (omega (arith, rose, ap (λ (i : ImageState). i.failures) (unwritten w (closed_unwritten w))))
 
       over : (m : Bool) → immediate d1.state m ≡ record { state = d1.state; unit = (immediate_ending m).unit; motion = m }
       over true = refl
@@ -141,3 +132,67 @@ module _ (key : ℕ) (p : Place) (s : Storage) (ccw : Ccw) (d0 d1 : DriveState) 
           ≡ next_chosen (choice f key (record { storage = s; ccw = ccw; place = past_ccw p ccw }) (closed_of f d1 d1.work) (status_of (condition_for false (closed_of f d1 d1.work).unit)))
       chosen f =
           ap (λ c. next_chosen (choice f key (requested before ccw) c no_channel_status)) (over b.0 ∙ sym (ap (closed_of f d1) b.2))
+
+-- An immediate first command.
+
+plain : (asked b : Bool) → with_interruption asked (if b && false then no_channel_status else no_channel_status) ≡ with_interruption asked no_channel_status
+plain asked true = refl
+plain asked false = refl
+
+module _ (key : ℕ) (ccw : Ccw) (p : KeptPlace) (d0 d1 d2 : DriveState) (unwritten : is_written d0.state ≡ false) (saved : unsaved d0.state ≡ None)
+    (calls : CallsStore false (begin_saves ccw.code d0) d0 d1) (answer : begun.Immediate ≡ answer_of_begin (begin (fault_met d0 d1) ccw.code d0.state))
+    (state : d1 ≡ with_image (after_begin (fault_met d0 d1) ccw.code d0) d1.image) where
+  same : d1.image ≡ d0.image
+  same = image_untouched (begin_saves ccw.code d0) d0 d1 (ap (λ w. w && goes_to_cylinder_zero (beginning ccw.code d0.state.registers)) unwritten) calls
+
+  abbrev over : (motion : Bool) × (begin (fault_met d0 d1) ccw.code d0.state ≡ Immediate d1.state motion) × (d1.work ≡ Over (immediate_ending motion))
+  over = immediate_is (begin (fault_met d0 d1) ccw.code d0.state) d0 d1 answer state
+
+  none : begin None ccw.code d0.state ≡ Immediate d1.state over.0
+  none = ap (λ f. begin f ccw.code d0.state) (sym (met_none d0 d1 (ap (λ (i : ImageState). i.failures) same))) ∙ over.1
+
+  calm : Calm (tells_equipment_check (drive_of d0.state).sense ≡ false) d1.state
+  calm = subst (BegunCalm (tells_equipment_check (drive_of d0.state).sense ≡ false)) none (begin_calm _ ccw.code d0.state (calm_before d0 saved))
+
+  quiet_by : (a : First) → ImmediateDone key ccw p over.0 a d1 d2 → StartsQuietly d0 d2
+  quiet_by first.Rejected h = absurd h
+  quiet_by (first.Immediate told asked) h = record { image = h.1 ∙ same; no_check = subst (λ e. GainsNoCheck (drive_of d0.state) e) (sym h.5.drive) calm.quiet }
+  quiet_by (first.Accepted r) h = record { image = h.1 ∙ same; no_check = subst (λ st. GainsNoCheck (drive_of d0.state) (drive_of st)) (sym h.3) calm.quiet }
+
+  pub first_quiet : (a : First) → ((motion : Bool) → d1.work ≡ Over (immediate_ending motion) → ImmediateDone key ccw p motion a d1 d2) → StartsQuietly d0 d2
+  first_quiet a done = quiet_by a (done over.0 over.2)
+
+  module _ (s : Storage) where
+    abbrev asked_for : Request
+    asked_for = request_for s ccw p
+
+    abbrev end_of : Bool → Ending
+    end_of motion = ending None key (place_of p) (immediate d1.state motion) no_channel_status
+
+    chosen : (m : Bool) → chains_command ccw ≡ true → next_chosen (choice None key asked_for (immediate d1.state m) no_channel_status) ≡ GoesOn (Between (record { storage = s; place = place_of p; state = d1.state }))
+    chosen true h = rw h
+    chosen false h = rw h
+
+    begun_by : (a : First) → ImmediateDone key ccw p over.0 a d1 d2 → key < 16 → p.next ≤ 2 ^ 24 → p.last ≤ 2 ^ 24 → FirstBegun key s ccw p a d0 d2
+    begun_by first.Rejected h k n l = absurd h
+    begun_by (first.Immediate told asked) h k n l = record {
+      over = end_of over.0;
+      first = ap (first_begun key asked_for) none ∙ ap (λ b. if b then AcceptedStart else ImmediateStart (end_of over.0)) h.0;
+      unit = sym h.4;
+      motion = sym h.3;
+      channel = plain p.interruption (tells (immediate d1.state over.0).unit UNIT_CHECK) ∙ ap (λ b. with_interruption b no_channel_status) (sym h.2);
+      drive = h.5;
+    }
+    begun_by (first.Accepted r) h k n l = (
+      ap (first_begun key asked_for) none ∙ ap (λ b. if b then AcceptedStart else ImmediateStart (end_of over.0)) h.0,
+      ap (λ (r : RunningState). r.key) h.2,
+      record {
+        within = subst Within (sym h.2) (record { key = k; place = record { next = omega arith; last = omega arith }; stage = tt });
+        stands = subst (λ r. Stands r d2) (sym h.2) (record { fits = subst (StageFits stage.Between d2.state) (sym h.4) tt; saved = ap unsaved h.3 ∙ calm.saved });
+      },
+      ap (next_begun None key asked_for) none ∙ chosen over.0 h.0 ∙ ap (λ st. GoesOn (Between (record { storage = s; place = place_of p; state = st }))) (sym h.3)
+          ∙ sym (ap (λ r. GoesOn (phase_in r s d2)) h.2),
+    )
+
+    pub first_immediate : (a : First) → ((motion : Bool) → d1.work ≡ Over (immediate_ending motion) → ImmediateDone key ccw p motion a d1 d2) → key < 16 → p.next ≤ 2 ^ 24 → p.last ≤ 2 ^ 24 → FirstBegun key s ccw p a d0 d2
+    first_immediate a done k n l = begun_by a (done over.0 over.2) k n l

@@ -1,6 +1,5 @@
 -- What the end of a command comes to.
-use Rattle.std.proofs.Common.{◌≡◌, ℕ, refl, sym, ap, subst, ◌∙◌, true, false, Bool, ◌&&◌, ◌⊎◌, inl, inr, ◌<◌, List, Option, Some, None}
-use Rattle.std.specs.Prelude.{if◌then◌else◌}
+use Rattle.std.proofs.Common.{◌≡◌, ℕ, refl, sym, ap, subst, ◌∙◌, true, false, Bool, ◌&&◌, ◌<◌, List, Option, Some, None}
 use Rattle.s360_words.specs.Storage.{Storage}
 use Rattle.s360_words.specs.Words.{chains_command}
 use Rattle.s360_words.specs.declared.flags.TheConstants.UnitStatus.{UNIT_CHECK}
@@ -10,14 +9,13 @@ use Rattle.ckd_command.specs.declared.close.DriveEnding.{DriveEnding}
 use Rattle.ckd_command.specs.Drive.{Closed, Fault, SaveFails, drive_of, is_written, unsaved, tells_equipment_check}
 use Rattle.ckd_command.proofs.Marks.{Calm, close_calm}
 use Rattle.ckd_command.proofs.Stable.{close_stable}
-use Rattle.s360_runs.specs.Commands.{choice, Chains, Ends, past_modifier}
+use Rattle.s360_runs.specs.Commands.{choice}
 use Rattle.s360_runs.specs.Endings.{ending}
 use Rattle.s360_runs.specs.Places.{Place}
 use Rattle.s360_runs.specs.Status.{tells, is_clear}
 use Rattle.s360_runs.specs.Units.{Between, Next, GoesOn, EndsIn, next_chosen}
 use Rattle.s360_runs.specs.Unsaved.{GainsNoCheck}
 use Rattle.ckd_drive.specs.Work.{DriveState, Work, Idle, Over, Looking, Passing, fault_met, with_image, CallsStore, Reports, after_end, closed_of, ending_of, end_saves, failed_ending}
-use Rattle.s360_program.specs.Advances.{IsEnding}
 use Rattle.s360_program.specs.Place.{place_of, modified_place}
 use Rattle.s360_program.specs.Stands.{StageFits, StageWithin, PlaceWithin, phase_by}
 use Rattle.s360_program.specs.Steps.{EndsBy, GoesBy, closed_with, request_at, status_of, condition_for, chains_after}
@@ -25,7 +23,8 @@ use Rattle.s360_program.specs.declared.conditions.ChannelCondition.{ChannelCondi
 use Rattle.s360_program.specs.declared.run.Run.{Run}
 use Rattle.s360_program.specs.Stage.{stage_of}
 use Rattle.s360_program.specs.Stage as stage
-use Rattle.s360_program.proofs.Meeting.{ends_after, met_none}
+use Rattle.s360_program.proofs.Cases.{never}
+use Rattle.s360_program.proofs.Meeting.{unfailed, Settles, ends_after, met_none}
 
 -- a drive in which no track is reported as not saved, before any call
 pub calm_before : (d : DriveState) → unsaved d.state ≡ None → Calm (tells_equipment_check (drive_of d.state).sense ≡ false) d.state
@@ -49,24 +48,30 @@ closed_calm d (Over x) h = calm_before d h
 closed_calm d (Looking o) h = calm_before d h
 closed_calm d (Passing o b l) h = close_calm _ (record { opened = o; state = d.state }) b (calm_before d h)
 
-failed_tells : (e : DriveEnding) → e ≡ failed_ending → tells e.unit UNIT_CHECK ≡ true
-failed_tells e h = ap (λ (e : DriveEnding). tells e.unit UNIT_CHECK) h
-
 -- The program ends with the command.
 
+-- a command that ended, and how the drive answered it
+pub record EndsCommand (e : DriveEnding) (d0 d1 : DriveState) : Type 0 where
+  pub saved : unsaved d0.state ≡ None
+  pub state : d1 ≡ with_image (after_end (fault_met d0 d1) d0) d1.image
+  pub ending : e ≡ ending_of (closed_of (fault_met d0 d1) d0 d0.work)
+  pub calls : CallsStore false (end_saves d0) d0 d1
+  pub reports : Reports (e ≡ failed_ending) d0 d1
+
 module _ (key : ℕ) (p : Place) (k : ChannelCondition) (s : Storage) (told : Csw × Bool) (So : Type 0) (d0 d1 d2 : DriveState) (e : DriveEnding)
-    (saved : unsaved d0.state ≡ None)
-    (state : d1 ≡ with_image (after_end (fault_met d0 d1) d0) d1.image) (ended : e ≡ ending_of (closed_of (fault_met d0 d1) d0 d0.work))
-    (calls : CallsStore false (end_saves d0) d0 d1) (reports : Reports (e ≡ failed_ending) d0 d1)
-    (settles : CallsStore false (is_written d1.state) d1 d2) (tells_of : Reports So d1 d2)
-    (is : IsEnding (ending (fault_met d1 d2) key p (closed_with d1.state e) (status_of k)) told d2) where
+    (over : EndsCommand e d0 d1) (end : Settles So (closed_with d1.state e) key p k told d1 d2) where
   ends_closed : (next : Option Fault → Next) → ((f : Option Fault) → closed_of f d0 d0.work ≡ closed_with d1.state e → next f ≡ EndsIn s (ending f key p (closed_with d1.state e) (status_of k))) → EndsBy next told s d0 d2
-  ends_closed next nexts =
-      ends_after (λ f. closed_of f d0 d0.work ≡ closed_with d1.state e) (e ≡ failed_ending) So next (closed_with d1.state e) key p k s told false (end_saves d0) d0 d1 d2
-      nexts
-      (λ at left w. closed_stable d0 d0.work left (closed_with d1.state e) at w)
-      (λ at. subst (λ (c : Closed). Calm (tells_equipment_check (drive_of d0.state).sense ≡ false) c.state) at (closed_calm d0 d0.work saved))
-      (failed_tells e) (closed_is (fault_met d0 d1) d0 d1 e state ended) refl calls reports settles tells_of is
+  ends_closed next =
+      ends_after next (closed_with d1.state e) key p k s told So (λ f. closed_of f d0 d0.work ≡ closed_with d1.state e) (e ≡ failed_ending) false (end_saves d0) d0 d1 d2
+      (record {
+        stable = λ at left w. closed_stable d0 d0.work left (closed_with d1.state e) at w;
+        calm = λ at. subst (λ (c : Closed). Calm (tells_equipment_check (drive_of d0.state).sense ≡ false) c.state) at (closed_calm d0 d0.work over.saved);
+        fails = λ h. ap (λ (e : DriveEnding). tells e.unit UNIT_CHECK) h;
+        at = closed_is (fault_met d0 d1) d0 d1 e over.state over.ending;
+        same = refl;
+        calls = over.calls;
+        reports = over.reports;
+      }) end
 
   pub stops : EndsBy (λ f. EndsIn s (ending f key p (closed_of f d0 d0.work) (status_of k))) told s d0 d2
   stops = ends_closed (λ f. EndsIn s (ending f key p (closed_of f d0 d0.work) (status_of k))) (λ f at. ap (λ c. EndsIn s (ending f key p c (status_of k))) at)
@@ -75,35 +80,25 @@ module _ (key : ℕ) (p : Place) (k : ChannelCondition) (s : Storage) (told : Cs
       → EndsBy (λ f. next_chosen (choice f key (record { storage = s; ccw = ccw; place = p }) (closed_of f d0 d0.work) (status_of (condition_for incorrect (closed_of f d0 d0.work).unit)))) told s d0 d2
   concludes ccw incorrect same no_chain =
       ends_closed (λ f. next_chosen (choice f key (record { storage = s; ccw = ccw; place = p }) (closed_of f d0 d0.work) (status_of (condition_for incorrect (closed_of f d0 d0.work).unit))))
-      (λ f at. ap (λ (c : Closed). next_chosen (choice f key (record { storage = s; ccw = ccw; place = p }) c (status_of (condition_for incorrect c.unit)))) at
-      ∙ ap (λ k. next_chosen (choice f key (record { storage = s; ccw = ccw; place = p }) (closed_with d1.state e) (status_of k))) (sym same)
-      ∙ ap (λ b. next_chosen (if b then Chains (record { storage = s; place = past_modifier p (closed_with d1.state e); state = d1.state }) else Ends s (ending f key p (closed_with d1.state e) (status_of k)))) no_chain)
+      (λ f at. rw (at, ← same, no_chain))
 
 -- The next command follows: the end met no fault, since a failed end stops the chain.
 
-never : {P : Type 0} → ◌≡◌ {A = Bool} false true → P
-never h = absurd (cc)
-
 not_failed : (ccw : Ccw) (e : DriveEnding) (k : ChannelCondition) → chains_after ccw e.unit k ≡ true → e ≡ failed_ending → ⊥
-not_failed ccw e k h is = go (chains_command ccw) (is_clear (status_of k)) (subst (λ (e : DriveEnding). chains_after ccw e.unit k ≡ true) is h)
+not_failed ccw e k h is = go (chains_command ccw) (rw is at h)
   where
-    go : (b c : Bool) → ((b && false) && c) ≡ true → ⊥
-    go true c h = never h
-    go false c h = never h
+    go : (b : Bool) → ((b && false) && is_clear (status_of k)) ≡ true → ⊥
+    go true h = never h
+    go false h = never h
 
-pub good_end : (ccw : Ccw) (k : ChannelCondition) (d0 d1 : DriveState) (e : DriveEnding) → Reports (e ≡ failed_ending) d0 d1 → chains_after ccw e.unit k ≡ true → d1.image.failures ≡ d0.image.failures
-good_end ccw k d0 d1 e reports chains = go reports.failed
-  where
-    go : (d1.image.failures ≡ d0.image.failures) ⊎ ((e ≡ failed_ending) × (tells_equipment_check d1.state.registers.sense ≡ true) × (is_written d1.state ≡ false)) → d1.image.failures ≡ d0.image.failures
-    go (inl h) = h
-    go (inr h) = absurd (not_failed ccw e k chains h.0)
+good_end : (ccw : Ccw) (k : ChannelCondition) (d0 d1 : DriveState) (e : DriveEnding) → Reports (e ≡ failed_ending) d0 d1 → chains_after ccw e.unit k ≡ true → d1.image.failures ≡ d0.image.failures
+good_end ccw k d0 d1 e reports chains = unfailed (e ≡ failed_ending) d0 d1 (not_failed ccw e k chains) reports
 
-pub chains_on : (r q : Run) (s : Storage) (ccw : Ccw) (incorrect : Bool) (k : ChannelCondition) (d0 d1 : DriveState) (e : DriveEnding) → unsaved d0.state ≡ None
-    → d1 ≡ with_image (after_end (fault_met d0 d1) d0) d1.image → e ≡ ending_of (closed_of (fault_met d0 d1) d0 d0.work)
-    → Reports (e ≡ failed_ending) d0 d1 → k ≡ condition_for incorrect e.unit → chains_after ccw e.unit k ≡ true
+pub chains_on : (r q : Run) (s : Storage) (ccw : Ccw) (incorrect : Bool) (k : ChannelCondition) (d0 d1 : DriveState) (e : DriveEnding) → EndsCommand e d0 d1
+    → k ≡ condition_for incorrect e.unit → chains_after ccw e.unit k ≡ true
     → r.key < 16 → q.key ≡ r.key → stage_of q ≡ stage.Between → place_of q.place ≡ modified_place (place_of r.place) e.unit → PlaceWithin (place_of q.place)
     → GoesBy r.key (next_chosen (choice None r.key (request_at s ccw r) (closed_of None d0 d0.work) (status_of (condition_for incorrect (closed_of None d0 d0.work).unit)))) q s d0 d1
-chains_on r q s ccw incorrect k d0 d1 e saved state ended reports same chains small key between place within = record {
+chains_on r q s ccw incorrect k d0 d1 e over same chains small key between place within = record {
   failures = good;
   goes = next ∙ ap (λ g. GoesOn (phase_by g (place_of q.place) s d1.state d1.work)) (sym between);
   same_key = key;
@@ -115,20 +110,16 @@ chains_on r q s ccw incorrect k d0 d1 e saved state ended reports same chains sm
 }
   where
     good : d1.image.failures ≡ d0.image.failures
-    good = good_end ccw k d0 d1 e reports chains
+    good = good_end ccw k d0 d1 e over.reports chains
 
     at : closed_of None d0 d0.work ≡ closed_with d1.state e
-    at = ap (λ f. closed_of f d0 d0.work) (sym (met_none d0 d1 good)) ∙ closed_is (fault_met d0 d1) d0 d1 e state ended
+    at = ap (λ f. closed_of f d0 d0.work) (sym (met_none d0 d1 good)) ∙ closed_is (fault_met d0 d1) d0 d1 e over.state over.ending
 
     calm : Calm (tells_equipment_check (drive_of d0.state).sense ≡ false) (closed_of None d0 d0.work).state
-    calm = closed_calm d0 d0.work saved
+    calm = closed_calm d0 d0.work over.saved
 
     idle : d1.work ≡ Idle
-    idle = ap (λ (d : DriveState). d.work) state
+    idle = ap (λ (d : DriveState). d.work) over.state
 
     next : next_chosen (choice None r.key (request_at s ccw r) (closed_of None d0 d0.work) (status_of (condition_for incorrect (closed_of None d0 d0.work).unit))) ≡ GoesOn (Between (record { storage = s; place = place_of q.place; state = d1.state }))
-    next =
-        ap (λ (c : Closed). next_chosen (choice None r.key (request_at s ccw r) c (status_of (condition_for incorrect c.unit)))) at
-        ∙ ap (λ k. next_chosen (choice None r.key (request_at s ccw r) (closed_with d1.state e) (status_of k))) (sym same)
-        ∙ ap (λ b. next_chosen (if b then Chains (record { storage = s; place = past_modifier (place_of r.place) (closed_with d1.state e); state = d1.state }) else Ends s (ending None r.key (place_of r.place) (closed_with d1.state e) (status_of k)))) chains
-        ∙ ap (λ p. GoesOn (Between (record { storage = s; place = p; state = d1.state }))) (sym place)
+    next = rw (at, ← same, chains, place)

@@ -1,3 +1,4 @@
+pub mod Cases
 pub mod Ties
 pub mod Fetches
 pub mod MovingBytes
@@ -8,5 +9,4 @@ pub mod Transferring
 pub mod Looking
 pub mod Advancing
 pub mod Cutting
-pub mod Immediately
 pub mod Quiet

@@ -1,5 +1,5 @@
 -- What a look for the area of a command comes to.
-use Rattle.std.proofs.Common.{◌≡◌, ℕ, zero, suc, ◌+◌, ◌<◌, ◌≤◌, refl, sym, ap, subst, ◌∙◌, arith, false, Bool, [], Option, None}
+use Rattle.std.proofs.Common.{◌≡◌, ℕ, zero, suc, ◌<◌, refl, sym, ap, subst, ◌∙◌, arith, false, Bool, [], Option, None}
 use Rattle.s360_words.specs.Storage.{Storage}
 use Rattle.s360_words.specs.declared.words.Csw.{Csw}
 use Rattle.ckd_command.specs.declared.begin.Opened.{Opened}
@@ -25,34 +25,21 @@ use Rattle.s360_program.specs.Stage as stage
 use Rattle.s360_program.specs.declared.run.Comes.TheVariants as comes
 use Rattle.s360_program.specs.declared.run.Step.{Step}
 use Rattle.s360_program.specs.declared.run.Step.TheVariants as step
-use Rattle.s360_program.proofs.Begins.{unfailed}
 use Rattle.s360_program.proofs.Ends.{calm_before}
-use Rattle.s360_program.proofs.Meeting.{ends_after, more_after, met_none}
+use Rattle.s360_program.proofs.Meeting.{unfailed, ends_after, more_after, met_none}
 
 -- What was seen, by what the drive answers.
 
 failed_is : (k : AfterLook) (d0 d1 : DriveState) → seen.Failed ≡ answer_of_look d1.work → d1 ≡ with_image (after_sight k d0) d1.image → k ≡ Failed d1.state
 failed_is (Failed t) d0 d1 a e = ap Failed (sym (ap (λ (d : DriveState). d.state) e))
-failed_is (Passed q) d0 d1 a e = absurd (never (a ∙ ap (λ (d : DriveState). answer_of_look d.work) e))
-  where
-    never : seen.Failed ≡ seen.Passed → ⊥
-    never h = cc
-failed_is (Ready q) d0 d1 a e = absurd (never (a ∙ ap (λ (d : DriveState). answer_of_look d.work) e))
-  where
-    never : seen.Failed ≡ seen.Ready (length_of q []) → ⊥
-    never h = cc
+failed_is (Passed q) d0 d1 a e = absurd (cc (a ∙ ap (λ (d : DriveState). answer_of_look d.work) e))
+failed_is (Ready q) d0 d1 a e = absurd (cc (a ∙ ap (λ (d : DriveState). answer_of_look d.work) e))
 
 passed_is : (k : AfterLook) (d0 d1 : DriveState) → seen.Passed ≡ answer_of_look d1.work → d1 ≡ with_image (after_sight k d0) d1.image
     → (q : Opened) × (k ≡ Passed (record { opened = q; state = d1.state })) × (d1.work ≡ Looking q)
 passed_is (Passed q) d0 d1 a e = (q.opened, ap (λ s. Passed (record { opened = q.opened; state = s })) (sym (ap (λ (d : DriveState). d.state) e)), ap (λ (d : DriveState). d.work) e)
-passed_is (Failed t) d0 d1 a e = absurd (never (a ∙ ap (λ (d : DriveState). answer_of_look d.work) e))
-  where
-    never : seen.Passed ≡ seen.Failed → ⊥
-    never h = cc
-passed_is (Ready q) d0 d1 a e = absurd (never (a ∙ ap (λ (d : DriveState). answer_of_look d.work) e))
-  where
-    never : seen.Passed ≡ seen.Ready (length_of q []) → ⊥
-    never h = cc
+passed_is (Failed t) d0 d1 a e = absurd (cc (a ∙ ap (λ (d : DriveState). answer_of_look d.work) e))
+passed_is (Ready q) d0 d1 a e = absurd (cc (a ∙ ap (λ (d : DriveState). answer_of_look d.work) e))
 
 ready_is : (left : ℕ) (k : AfterLook) (d0 d1 : DriveState) → seen.Ready left ≡ answer_of_look d1.work → d1 ≡ with_image (after_sight k d0) d1.image
     → (q : Opened) × (k ≡ Ready (record { opened = q; state = d1.state })) × (d1.work ≡ Passing q [] (length_of (record { opened = q; state = d1.state }) []))
@@ -62,14 +49,8 @@ ready_is left (Ready q) d0 d1 a e =
       ap (λ s. Ready (record { opened = q.opened; state = s })) (sym st),
       ap (λ (d : DriveState). d.work) e ∙ ap (λ s. Passing q.opened [] (length_of (record { opened = q.opened; state = s }) [])) (sym st),
     )
-ready_is left (Failed t) d0 d1 a e = absurd (never (a ∙ ap (λ (d : DriveState). answer_of_look d.work) e))
-  where
-    never : seen.Ready left ≡ seen.Failed → ⊥
-    never h = cc
-ready_is left (Passed q) d0 d1 a e = absurd (never (a ∙ ap (λ (d : DriveState). answer_of_look d.work) e))
-  where
-    never : seen.Ready left ≡ seen.Passed → ⊥
-    never h = cc
+ready_is left (Failed t) d0 d1 a e = absurd (cc (a ∙ ap (λ (d : DriveState). answer_of_look d.work) e))
+ready_is left (Passed q) d0 d1 a e = absurd (cc (a ∙ ap (λ (d : DriveState). answer_of_look d.work) e))
 
 -- the drive looks for the area of a command
 pub looking_is : (r : Run) (d : DriveState) → Fits r d → r.comes ≡ comes.Look → (o : Opened) × (d.work ≡ Looking o)
@@ -109,12 +90,18 @@ module _ (r : Run) (s : Storage) (d0 d1 : DriveState) (fits : Fits r d0) (comes_
       → IsEnding (ending (fault_met d1 d2) r.key (place_of r.place) (failed d1.state) no_channel_status) told d2
       → EndsBy (λ f. unit f r.key (phase_in (run_of r) s d0)) told s d0 d2
   look_fails told So d2 answer calls reports settles tells_of is =
-      ends_after (λ f. look f O ≡ Failed d1.state) (d1.work ≡ Over failed_ending) So (λ f. unit f r.key (phase_in (run_of r) s d0)) (failed d1.state) r.key (place_of r.place) condition.Clear s told
+      ends_after (λ f. unit f r.key (phase_in (run_of r) s d0)) (failed d1.state) r.key (place_of r.place) condition.Clear s told So (λ f. look f O ≡ Failed d1.state) (d1.work ≡ Over failed_ending)
       (look_loads d0) (look_saves d0) d0 d1 d2
-      (λ f h. ap (unit f r.key) looks ∙ ap (next_looked f r.key Q) h)
-      (λ h left w. look_stable left O (Failed d1.state) h tt)
-      (λ h. subst (LookCalm (tells_equipment_check (drive_of d0.state).sense ≡ false)) h calm_look)
-      (λ h. refl) (failed_is (look (fault_met d0 d1) O) d0 d1 answer sighted) refl calls reports settles tells_of is
+      (record {
+        stable = λ h left w. look_stable left O (Failed d1.state) h tt;
+        calm = λ h. subst (LookCalm (tells_equipment_check (drive_of d0.state).sense ≡ false)) h calm_look;
+        fails = λ h. refl;
+        at = failed_is (look (fault_met d0 d1) O) d0 d1 answer sighted;
+        same = refl;
+        calls = calls;
+        reports = reports;
+      })
+      (record { calls = settles; reports = tells_of; is = is }) (λ f h. ap (unit f r.key) looks ∙ ap (next_looked f r.key Q) h)
 
   not_over : (w : Work) (k : seen.the_data) → k ≡ answer_of_look w → (k ≡ seen.Failed → ⊥) → w ≡ Over failed_ending → ⊥
   not_over w k e n h = n (e ∙ ap answer_of_look h)
@@ -132,11 +119,8 @@ module _ (r : Run) (s : Storage) (d0 d1 : DriveState) (fits : Fits r d0) (comes_
     no_check = calm.quiet;
   }
     where
-      never : seen.Passed ≡ seen.Failed → ⊥
-      never h = cc
-
       same : d1.image.failures ≡ d0.image.failures
-      same = unfailed (d1.work ≡ Over failed_ending) d0 d1 (not_over d1.work seen.Passed answer never) reports
+      same = unfailed (d1.work ≡ Over failed_ending) d0 d1 (not_over d1.work seen.Passed answer (λ h. cc)) reports
 
       q : (q : Opened) × (look (fault_met d0 d1) O ≡ Passed (record { opened = q; state = d1.state })) × (d1.work ≡ Looking q)
       q = passed_is (look (fault_met d0 d1) O) d0 d1 answer sighted
@@ -150,11 +134,8 @@ module _ (r : Run) (s : Storage) (d0 d1 : DriveState) (fits : Fits r d0) (comes_
   -- the area is found, and the unit goes on
 
   module _ (left : ℕ) (answer : seen.Ready left ≡ answer_of_look d1.work) (reports : Reports (d1.work ≡ Over failed_ending) d0 d1) where
-    never_failed : seen.Ready left ≡ seen.Failed → ⊥
-    never_failed h = cc
-
     ready_same : d1.image.failures ≡ d0.image.failures
-    ready_same = unfailed (d1.work ≡ Over failed_ending) d0 d1 (not_over d1.work (seen.Ready left) answer never_failed) reports
+    ready_same = unfailed (d1.work ≡ Over failed_ending) d0 d1 (not_over d1.work (seen.Ready left) answer (λ h. cc)) reports
 
     abbrev ready : (q : Opened) × (look (fault_met d0 d1) O ≡ Ready (record { opened = q; state = d1.state })) × (d1.work ≡ Passing q [] (length_of (record { opened = q; state = d1.state }) []))
     ready = ready_is left (look (fault_met d0 d1) O) d0 d1 answer sighted
@@ -168,17 +149,8 @@ module _ (r : Run) (s : Storage) (d0 d1 : DriveState) (fits : Fits r d0) (comes_
     pub look_fits : Fits (record r { comes = comes.Bytes; address = r.ccw.address }) d1
     look_fits = record {
       within = record { key = fits.within.key; place = fits.within.place; stage = subst (λ g. StageWithin g (place_of r.place)) at fits.within.stage };
-      stands = record { fits = subst (StageFits (stage.Moving r.ccw r.ccw.address) d1.state) (sym ready.2) (all L, λ g. just L, λ h. just L); saved = ready_calm.saved };
+      stands = record { fits = subst (StageFits (stage.Moving r.ccw r.ccw.address) d1.state) (sym ready.2) (omega arith, λ g. omega arith, λ h. omega arith); saved = ready_calm.saved };
     }
-      where
-        all : (n : ℕ) → 0 + n ≤ n
-        all n = omega arith
-
-        just : (n : ℕ) → 0 + n ≡ n
-        just n = omega arith
-
-        L : ℕ
-        L = length_of (record { opened = ready.0; state = d1.state }) []
 
     moves : (f : Option Fault) → look f O ≡ Ready (record { opened = ready.0; state = d1.state })
         → unit f r.key (phase_in (run_of r) s d0) ≡ unit f r.key (phase_by (stage.Moving r.ccw r.ccw.address) (place_of r.place) s d1.state d1.work)

@@ -1,6 +1,6 @@
 -- Faults that the calls of one unit meet together.
-use Rattle.std.proofs.Common.{◌≡◌, ◌⊎◌, inl, inr, ℕ, ◌+◌, ◌<◌, ◌≤◌, refl, sym, ap, subst, ◌∙◌, arith, true, false, Bool, not, ◌&&◌, ◌==◌, List, [], Option, Some, None}
-use Rattle.std.specs.Prelude.{slice_index_or, if◌then◌else◌}
+use Rattle.std.proofs.Common.{◌≡◌, ◌⊎◌, inl, inr, ℕ, ◌+◌, ◌≤◌, refl, sym, ap, subst, ◌∙◌, arith, true, false, Bool, not, ◌&&◌, ◌||◌, ◌==◌, List, Option, Some, None}
+use Rattle.std.specs.Prelude.{if◌then◌else◌}
 use Rattle.std.proofs.lemmas.Bool.Decides.{nat_tests}
 use Rattle.std.proofs.lemmas.Nat.{and_or_self}
 use Rattle.ckd_image.specs.Image.{ImageState}
@@ -12,9 +12,9 @@ use Rattle.s360_words.specs.declared.flags.UnitStatus.{UnitStatus}
 use Rattle.s360_words.specs.declared.words.Csw.{Csw}
 use Rattle.ckd_command.specs.declared.registers.Mark.{Mark}
 use Rattle.ckd_command.specs.declared.registers.Mark.TheVariants.{Saved, Written, Lost}
-use Rattle.ckd_command.specs.Drive.{IdleDrive, Closed, Fault, LoadFails, SaveFails, drive_of, is_written, is_written_by, left_by, saving, settled, with_unit_check, number_under, unsaved, tells_equipment_check}
+use Rattle.ckd_command.specs.Drive.{IdleDrive, Closed, Fault, LoadFails, SaveFails, drive_of, is_written, is_written_by, left_by, saving, settled, with_unit_check, unsaved, tells_equipment_check}
 use Rattle.ckd_command.proofs.Marks.{Calm}
-use Rattle.s360_runs.specs.Endings.{ending, settled_ending}
+use Rattle.s360_runs.specs.Endings.{ending}
 use Rattle.s360_runs.specs.Places.{Place}
 use Rattle.s360_runs.specs.Status.{tells, beside, with_interruption}
 use Rattle.s360_runs.specs.Units.{Next, EndsIn}
@@ -27,9 +27,7 @@ use Rattle.s360_program.specs.declared.conditions.ChannelCondition.TheVariants a
 use Rattle.s360_program.specs.declared.run.Run.{Run}
 use Rattle.s360_program.specs.declared.run.Step.{Step}
 use Rattle.s360_program.specs.declared.run.Step.TheVariants as step
-
-never : {P : Type 0} → ◌≡◌ {A = Bool} false true → P
-never h = absurd (cc)
+use Rattle.s360_program.proofs.Cases.{never, only_left, only_right}
 
 -- The fault that a call met.
 
@@ -39,60 +37,57 @@ self_equal n = grind (arith, nat_tests)
 one_more : (n : ℕ) → (n + 1 == n) ≡ false
 one_more n = grind (arith, nat_tests)
 
-abbrev by_counts : (failed saved : Bool) → List ℕ → Option Fault
-by_counts failed saved left = if failed then None else (if saved then Some LoadFails else Some (SaveFails left))
-
-left_in : (d0 d1 : DriveState) → List ℕ
-left_in d0 d1 = slice_index_or d1.image.slots (number_under d0.state) []
+none_more : (n : ℕ) → (n + 0 == n) ≡ true
+none_more n = grind (arith, nat_tests)
 
 pub met_none : (d0 d1 : DriveState) → d1.image.failures ≡ d0.image.failures → fault_met d0 d1 ≡ None
-met_none d0 d1 h =
-    ap (λ n. by_counts (n == d0.image.failures) (d1.image.saves == d0.image.saves) (slice_index_or d1.image.slots (number_under d0.state) [])) h
-    ∙ ap (λ b. by_counts b (d1.image.saves == d0.image.saves) (slice_index_or d1.image.slots (number_under d0.state) [])) (self_equal d0.image.failures)
+met_none d0 d1 h = rw (h, self_equal d0.image.failures)
 
 pub met_by : (l m : Bool) (d0 d1 : DriveState) → CallsStore l m d0 d1 → IsMetBy (fault_met d0 d1) d0 d1
 met_by l m d0 d1 k = go m k.saves k.failures
   where
-    left : List ℕ
-    left = slice_index_or d1.image.slots (number_under d0.state) []
-
-    failed : d1.image.failures ≡ d0.image.failures + 1 → (b : Bool) → (d1.image.saves == d0.image.saves) ≡ b → fault_met d0 d1 ≡ by_counts false b left
-    failed h b e =
-        ap (λ n. by_counts (n == d0.image.failures) (d1.image.saves == d0.image.saves) left) h
-        ∙ ap (λ b. by_counts b (d1.image.saves == d0.image.saves) left) (one_more d0.image.failures)
-        ∙ ap (λ b. by_counts false b left) e
-
     go : (m : Bool) → d1.image.saves ≡ d0.image.saves + (if m then 1 else 0)
         → (d1.image.failures ≡ d0.image.failures) ⊎ ((d1.image.failures ≡ d0.image.failures + 1) × ((m ≡ true) ⊎ (d1.image.loads ≡ d0.image.loads + 1)))
         → IsMetBy (fault_met d0 d1) d0 d1
-    go m s (inl h) = subst (λ f. IsMetBy f d0 d1) (sym (met_none d0 d1 h)) h
-    go true s (inr h) =
-        subst (λ f. IsMetBy f d0 d1) (sym (failed h.0 false (ap (λ n. n == d0.image.saves) s ∙ one_more d0.image.saves))) h.0
+    go m s (inl h) = rw (h, self_equal d0.image.failures)
+    go true s (inr h) = rw (h.0, one_more d0.image.failures, s, one_more d0.image.saves)
     go false s (inr (h, inl x)) = never x
-    go false s (inr (h, inr x)) =
-        subst (λ f. IsMetBy f d0 d1) (sym (failed h true (ap (λ n. n == d0.image.saves) (s ∙ none d0.image.saves) ∙ self_equal d0.image.saves))) (h, risen d0.image.loads d1.image.loads x)
-      where
-        none : (n : ℕ) → n + 0 ≡ n
-        none n = omega arith
-
-        risen : (a b : ℕ) → b ≡ a + 1 → a < b
-        risen a b h = omega arith
-
--- a call that saves nothing and loads nothing leaves the image
-pub untouched : (m : Bool) (d0 d1 : DriveState) → m ≡ false → CallsStore false m d0 d1 → d1.image ≡ d0.image
-untouched m d0 d1 e k = k.untouched e (go k.loads)
-  where
-    go : (d1.image.loads ≡ d0.image.loads) ⊎ ((false ≡ true) × (m ≡ false) × (d1.image.loads ≡ d0.image.loads + 1)) → d1.image.loads ≡ d0.image.loads
-    go (inl h) = h
-    go (inr h) = never h.0
+    go false s (inr (h, inr x)) = rw (h, one_more d0.image.failures, s, none_more d0.image.saves) (refl, omega (arith, x))
 
 -- a call that loads nothing
 pub loads_none : (m : Bool) (d0 d1 : DriveState) → CallsStore false m d0 d1 → d1.image.loads ≡ d0.image.loads
-loads_none m d0 d1 k = go k.loads
+loads_none m d0 d1 k = only_left k.loads (λ h. never h.0)
+
+-- and saves nothing leaves the image
+pub untouched : (m : Bool) (d0 d1 : DriveState) → m ≡ false → CallsStore false m d0 d1 → d1.image ≡ d0.image
+untouched m d0 d1 e k = k.untouched e (loads_none m d0 d1 k)
+
+-- what a call makes of the store is said of the images alone
+behind : (l m : Bool) (d0 d1 d2 : DriveState) → d2.image ≡ d1.image → CallsStore l m d0 d1 → CallsStore l m d0 d2
+behind l m d0 d1 d2 e a =
+    subst (λ (i : ImageState). CallsStore l m d0 (record d2 { image = i })) (sym e)
+    (record { loads = a.loads; saves = a.saves; failures = a.failures; slots = a.slots; untouched = a.untouched; lasting = a.lasting; geometry = a.geometry })
+
+before : (l m : Bool) (d0 d1 d2 : DriveState) → d1.image ≡ d0.image → CallsStore l m d1 d2 → CallsStore l m d0 d2
+before l m d0 d1 d2 e b =
+    subst (λ (i : ImageState). CallsStore l m (record d0 { image = i }) d2) e
+    (record { loads = b.loads; saves = b.saves; failures = b.failures; slots = b.slots; untouched = b.untouched; lasting = b.lasting; geometry = b.geometry })
+
+-- a call that loads nothing and fails has failed to save, and the sense says so
+saving_failed : (w : Bool) (So : Type 0) (d1 d2 : DriveState) → CallsStore false w d1 d2 → Reports So d1 d2 → d2.image.failures ≡ d1.image.failures + 1
+    → (w ≡ true) × (tells_equipment_check d2.state.registers.sense ≡ true)
+saving_failed w So d1 d2 calls reports rose = (saved w calls, (only_right reports.failed not_both).1)
   where
-    go : (d1.image.loads ≡ d0.image.loads) ⊎ ((false ≡ true) × (m ≡ false) × (d1.image.loads ≡ d0.image.loads + 1)) → d1.image.loads ≡ d0.image.loads
-    go (inl h) = h
-    go (inr h) = never h.0
+    not_both : d2.image.failures ≡ d1.image.failures → ⊥
+    not_both same = omega arith
+
+    saved : (w : Bool) → CallsStore false w d1 d2 → w ≡ true
+    saved true k = refl
+    saved false k = absurd (not_both (ap (λ (i : ImageState). i.failures) (untouched false d1 d2 refl k)))
+
+-- a call that did not fail met no fault
+pub unfailed : (Failed : Type 0) (d0 d1 : DriveState) → (Failed → ⊥) → Reports Failed d0 d1 → d1.image.failures ≡ d0.image.failures
+unfailed Failed d0 d1 n reports = only_left reports.failed (λ h. n h.0)
 
 -- Settling.
 
@@ -117,8 +112,7 @@ settled_failed left c h = go c.state.mark h
     go Written k = ap (λ n. not (n == 0)) (and_or_self 0x02 c.unit.0)
 
 ending_unwritten : (f g : Option Fault) (key : ℕ) (p : Place) (c : Closed) (k : ChannelCondition) → is_written c.state ≡ false → ending f key p c (status_of k) ≡ ending g key p c (status_of k)
-ending_unwritten f g key p c k h =
-    ap (λ c. settled_ending key p c (status_of k)) (settled_unwritten f c h) ∙ sym (ap (λ c. settled_ending key p c (status_of k)) (settled_unwritten g c h))
+ending_unwritten f g key p c k h = rw (settled_unwritten f c h, settled_unwritten g c h)
 
 -- incorrect length is not reported beside unit check
 length_untold : (asked : Bool) (unit : UnitStatus) (k : ChannelCondition) → tells unit UNIT_CHECK ≡ true → has (with_interruption asked (beside unit (status_of k))).0 INCORRECT_LENGTH.0 ≡ false
@@ -146,110 +140,104 @@ tells_fault f key p c k told d unit sense is = record {
 }
 
 -- A call of the drive, and then the end of the program: together they meet the fault of the one that failed. `At f` says that with
--- the fault f the call comes to what it came to.
-pub ends_after : (At : Option Fault → Type 0) (Failed So : Type 0) (next : Option Fault → Next) (c : Closed) (key : ℕ) (p : Place) (k : ChannelCondition) (s : Storage) (told : Csw × Bool) (l m : Bool) (d0 d1 d2 : DriveState)
-    → ((f : Option Fault) → At f → next f ≡ EndsIn s (ending f key p c (status_of k)))
-    → (At None → (left : List ℕ) → is_written c.state ≡ true → At (Some (SaveFails left)))
-    → (At None → Calm (tells_equipment_check (drive_of d0.state).sense ≡ false) c.state)
-    → (Failed → tells c.unit UNIT_CHECK ≡ true)
-    → At (fault_met d0 d1) → c.state ≡ d1.state → CallsStore l m d0 d1 → Reports Failed d0 d1
-    → CallsStore false (is_written d1.state) d1 d2 → Reports So d1 d2
-    → IsEnding (ending (fault_met d1 d2) key p c (status_of k)) told d2 → EndsBy next told s d0 d2
-ends_after At Failed So next c key p k s told l m d0 d1 d2 nexts stable calm fails at same calls reports settles tells_of is = by_count calls.failures
-  where
-    by : (f g : Option Fault) → IsMetBy f d0 d2 → next f ≡ EndsIn s (ending g key p c (status_of k)) → IsEnding (ending g key p c (status_of k)) told d2 → ToldOf f told.0 d0 d2 → EndsBy next told s d0 d2
-    by f g m e is t = record { fault = f; met = m; ending = ending g key p c (status_of k); ends = e; is_ending = is; told_of = t }
+-- the fault f the call comes to what it came to: a command that is over so.
+pub record Call (At : Option Fault → Type 0) (Failed : Type 0) (l m : Bool) (c : Closed) (d0 d1 : DriveState) : Type 0 where
+  pub stable : At None → (left : List ℕ) → is_written c.state ≡ true → At (Some (SaveFails left))
+  pub calm : At None → Calm (tells_equipment_check (drive_of d0.state).sense ≡ false) c.state
+  pub fails : Failed → tells c.unit UNIT_CHECK ≡ true
+  pub at : At (fault_met d0 d1)
+  pub same : c.state ≡ d1.state
+  pub calls : CallsStore l m d0 d1
+  pub reports : Reports Failed d0 d1
 
-    -- the second call, where the first one did not fail
-    by_second : d1.image.failures ≡ d0.image.failures → At None → (f : Option Fault) → IsMetBy f d1 d2 → IsEnding (ending f key p c (status_of k)) told d2 → EndsBy next told s d0 d2
-    by_second h at None m is =
-        by None None (m ∙ h) (nexts None at) is
-        (record { saved = is.drive.unsaved ∙ (calm at).saved; no_check = subst (λ e. GainsNoCheck (drive_of d0.state) e) (sym is.drive.drive) (calm at).quiet })
-    by_second h at (Some LoadFails) m is = absurd (no m.1)
-      where
-        no : d1.image.loads < d2.image.loads → ⊥
-        no k = omega (arith, loads_none (is_written d1.state) d1 d2 settles)
-    by_second h at (Some (SaveFails left)) m is = by_failure settles.failures
-      where
-        never_loads : d2.image.loads ≡ d1.image.loads → d2.image.loads ≡ d1.image.loads + 1 → ⊥
-        never_loads x y = omega arith
+-- the end of the program, which settles the drive
+pub record Settles (So : Type 0) (c : Closed) (key : ℕ) (p : Place) (k : ChannelCondition) (told : Csw × Bool) (d1 d2 : DriveState) : Type 0 where
+  pub calls : CallsStore false (is_written d1.state) d1 d2
+  pub reports : Reports So d1 d2
+  pub is : IsEnding (ending (fault_met d1 d2) key p c (status_of k)) told d2
 
-        never_same : d2.image.failures ≡ d1.image.failures → d2.image.failures ≡ d1.image.failures + 1 → ⊥
-        never_same x y = omega arith
+module _ (next : Option Fault → Next) (c : Closed) (key : ℕ) (p : Place) (k : ChannelCondition) (s : Storage) (told : Csw × Bool) (So : Type 0) where
+  pub ends_after : (At : Option Fault → Type 0) (Failed : Type 0) (l m : Bool) (d0 d1 d2 : DriveState) → Call At Failed l m c d0 d1 → Settles So c key p k told d1 d2
+      → ((f : Option Fault) → At f → next f ≡ EndsIn s (ending f key p c (status_of k))) → EndsBy next told s d0 d2
+  ends_after At Failed l m d0 d1 d2 call end nexts = by_count call.calls.failures call.reports.failed
+    where
+      -- the second call, where the first one did not fail
+      second : d1.image.failures ≡ d0.image.failures → At None → (f : Option Fault) → IsMetBy f d1 d2 → IsEnding (ending f key p c (status_of k)) told d2 → EndsBy next told s d0 d2
+      second h at None m is = record {
+        fault = None;
+        met = m ∙ h;
+        ending = ending None key p c (status_of k);
+        ends = nexts None at;
+        is_ending = is;
+        told_of = record { saved = is.drive.unsaved ∙ (call.calm at).saved; no_check = subst (λ e. GainsNoCheck (drive_of d0.state) e) (sym is.drive.drive) (call.calm at).quiet };
+      }
+      second h at (Some LoadFails) m is = absurd (omega (arith, m.1, loads_none (is_written d1.state) d1 d2 end.calls))
+      second h at (Some (SaveFails left)) m is =
+          let x = saving_failed (is_written d1.state) So d1 d2 end.calls end.reports m in
+          let w : is_written c.state ≡ true = ap is_written call.same ∙ x.0 in
+          record {
+            fault = Some (SaveFails left);
+            met = m ∙ ap (λ n. n + 1) h;
+            ending = ending (Some (SaveFails left)) key p c (status_of k);
+            ends = nexts (Some (SaveFails left)) (call.stable at left w);
+            is_ending = is;
+            told_of = tells_fault (Some (SaveFails left)) key p c k told d2 (settled_failed left c w) x.1 is;
+          }
 
-        written : is_written d1.state ≡ true → EndsBy next told s d0 d2
-        written w =
-            let cw : is_written c.state ≡ true = ap is_written same ∙ w in
-            by (Some (SaveFails left)) (Some (SaveFails left)) (m ∙ ap (λ n. n + 1) h) (nexts (Some (SaveFails left)) (stable at left cw)) is
-            (tells_fault (Some (SaveFails left)) key p c k told d2 (settled_failed left c cw) (sense tells_of.failed) is)
-          where
-            sense : (d2.image.failures ≡ d1.image.failures) ⊎ (So × (tells_equipment_check d2.state.registers.sense ≡ true) × (is_written d2.state ≡ false)) → tells_equipment_check d2.state.registers.sense ≡ true
-            sense (inl x) = absurd (never_same x m)
-            sense (inr x) = x.1
+      -- the first one failed, and nothing is saved by the second
+      first : d1.image.failures ≡ d0.image.failures + 1 → Failed → tells_equipment_check d1.state.registers.sense ≡ true → is_written d1.state ≡ false → EndsBy next told s d0 d2
+      first rose failed sense w = record {
+        fault = fault_met d0 d2;
+        met = met;
+        ending = ending (fault_met d1 d2) key p c (status_of k);
+        ends = nexts (fault_met d0 d2) (subst (λ i. At (fault_met d0 (record d2 { image = i }))) (sym image) call.at) ∙ ap (λ e. EndsIn s e) (ending_unwritten (fault_met d0 d2) (fault_met d1 d2) key p c k cw);
+        is_ending = end.is;
+        told_of = told_by (fault_met d0 d2) met;
+      }
+        where
+          cw : is_written c.state ≡ false
+          cw = ap is_written call.same ∙ w
 
-        by_failure : (d2.image.failures ≡ d1.image.failures) ⊎ ((d2.image.failures ≡ d1.image.failures + 1) × ((is_written d1.state ≡ true) ⊎ (d2.image.loads ≡ d1.image.loads + 1))) → EndsBy next told s d0 d2
-        by_failure (inl x) = absurd (never_same x m)
-        by_failure (inr (x, inl w)) = written w
-        by_failure (inr (x, inr y)) = absurd (never_loads (loads_none (is_written d1.state) d1 d2 settles) y)
+          image : d2.image ≡ d1.image
+          image = untouched (is_written d1.state) d1 d2 w end.calls
 
-    -- the first one failed, and nothing is saved by the second
-    moved : d2.image ≡ d1.image → (f : Option Fault) → IsMetBy f d0 d1 → IsMetBy f d0 d2
-    moved e None m = ap (λ (i : ImageState). i.failures) e ∙ m
-    moved e (Some LoadFails) m = (ap (λ (i : ImageState). i.failures) e ∙ m.0, subst (λ (i : ImageState). d0.image.loads < i.loads) (sym e) m.1)
-    moved e (Some (SaveFails left)) m = ap (λ (i : ImageState). i.failures) e ∙ m
+          met : IsMetBy (fault_met d0 d2) d0 d2
+          met = met_by l m d0 d2 (behind l m d0 d1 d2 image call.calls)
 
-    by_first : d1.image.failures ≡ d0.image.failures + 1 → Failed → tells_equipment_check d1.state.registers.sense ≡ true → is_written d1.state ≡ false → (f : Option Fault) → At f → IsMetBy f d0 d2 → EndsBy next told s d0 d2
-    by_first rose failed sense w f at m =
-        by f (fault_met d1 d2) m (nexts f at ∙ ap (λ e. EndsIn s e) (ending_unwritten f (fault_met d1 d2) key p c k cw)) is (told_by f m)
-      where
-        cw : is_written c.state ≡ false
-        cw = ap is_written same ∙ w
+          kept : settled (fault_met d1 d2) c ≡ c
+          kept = settled_unwritten (fault_met d1 d2) c cw
 
-        kept : settled (fault_met d1 d2) c ≡ c
-        kept = settled_unwritten (fault_met d1 d2) c cw
+          drive : drive_of d2.state ≡ drive_of d1.state
+          drive = end.is.drive.drive ∙ ap (λ (c : Closed). drive_of c.state) kept ∙ ap drive_of call.same
 
-        drive : drive_of d2.state ≡ drive_of d1.state
-        drive = is.drive.drive ∙ ap (λ (c : Closed). drive_of c.state) kept ∙ ap drive_of same
+          told_by : (f : Option Fault) → IsMetBy f d0 d2 → ToldOf f told.0 d0 d2
+          told_by None m = absurd (omega (arith, m, rose, ap (λ (i : ImageState). i.failures) image))
+          told_by (Some f) m =
+              tells_fault (fault_met d1 d2) key p c k told d2 (ap (λ (c : Closed). tells c.unit UNIT_CHECK) kept ∙ call.fails failed)
+              (ap (λ (d : IdleDrive). tells_equipment_check d.sense) drive ∙ sense) end.is
 
-        check : tells_equipment_check d2.state.registers.sense ≡ true
-        check = ap (λ (d : IdleDrive). tells_equipment_check d.sense) drive ∙ sense
+      by_count : (d1.image.failures ≡ d0.image.failures) ⊎ ((d1.image.failures ≡ d0.image.failures + 1) × ((m ≡ true) ⊎ (d1.image.loads ≡ d0.image.loads + 1)))
+          → (d1.image.failures ≡ d0.image.failures) ⊎ (Failed × (tells_equipment_check d1.state.registers.sense ≡ true) × (is_written d1.state ≡ false)) → EndsBy next told s d0 d2
+      by_count (inr h) (inr r) = first h.0 r.0 r.1 r.2
+      by_count (inl h) r = second h (subst At (met_none d0 d1 h) call.at) (fault_met d1 d2) (met_by false (is_written d1.state) d1 d2 end.calls) end.is
+      by_count (inr x) (inl h) = second h (subst At (met_none d0 d1 h) call.at) (fault_met d1 d2) (met_by false (is_written d1.state) d1 d2 end.calls) end.is
 
-        image : d2.image ≡ d1.image
-        image = untouched (is_written d1.state) d1 d2 w settles
-
-        never_both : d2.image.failures ≡ d0.image.failures → d2.image.failures ≡ d0.image.failures + 1 → ⊥
-        never_both x y = omega arith
-
-        told_by : (f : Option Fault) → IsMetBy f d0 d2 → ToldOf f told.0 d0 d2
-        told_by None m = absurd (never_both m (ap (λ (i : ImageState). i.failures) image ∙ rose))
-        told_by (Some f) m = tells_fault (fault_met d1 d2) key p c k told d2 (ap (λ (c : Closed). tells c.unit UNIT_CHECK) kept ∙ fails failed) check is
-
-    by_report : d1.image.failures ≡ d0.image.failures + 1 → (d1.image.failures ≡ d0.image.failures) ⊎ (Failed × (tells_equipment_check d1.state.registers.sense ≡ true) × (is_written d1.state ≡ false)) → EndsBy next told s d0 d2
-    by_report rose (inl h) = absurd (never_both h rose)
-      where
-        never_both : d1.image.failures ≡ d0.image.failures → d1.image.failures ≡ d0.image.failures + 1 → ⊥
-        never_both x y = omega arith
-    by_report rose (inr h) =
-        by_first rose h.0 h.1 h.2 (fault_met d0 d1) at (moved (untouched (is_written d1.state) d1 d2 h.2 settles) (fault_met d0 d1) (met_by l m d0 d1 calls))
-
-    by_count : (d1.image.failures ≡ d0.image.failures) ⊎ ((d1.image.failures ≡ d0.image.failures + 1) × ((m ≡ true) ⊎ (d1.image.loads ≡ d0.image.loads + 1))) → EndsBy next told s d0 d2
-    by_count (inl h) = by_second h (subst At (met_none d0 d1 h) at) (fault_met d1 d2) (met_by false (is_written d1.state) d1 d2 settles) is
-    by_count (inr h) = by_report h.0 reports.failed
-
--- The program ends by one call of the drive, its last.
-pub ends_now : (next : Option Fault → Next) (c : Closed) (key : ℕ) (p : Place) (k : ChannelCondition) (s : Storage) (told : Csw × Bool) (So : Type 0) (d0 d2 : DriveState)
-    → ((f : Option Fault) → next f ≡ EndsIn s (ending f key p c (status_of k))) → c.state ≡ d0.state → unsaved d0.state ≡ None
-    → CallsStore false (is_written d0.state) d0 d2 → Reports So d0 d2
-    → IsEnding (ending (fault_met d0 d2) key p c (status_of k)) told d2 → EndsBy next told s d0 d2
-ends_now next c key p k s told So d0 d2 nexts same saved settles tells_of is =
-    ends_after (λ f. Unit {0}) ⊥ So next c key p k s told false false d0 d0 d2 (λ f at. nexts f) (λ at left w. tt)
-    (λ at. record { saved = ap unsaved same ∙ saved; quiet = λ q. ap (λ s. tells_equipment_check (drive_of s).sense) same ∙ q })
-    (λ x. absurd x) tt same
-    (record { loads = inl refl; saves = none d0.image.saves; failures = inl refl; slots = λ e. refl; untouched = λ e l. refl; lasting = refl; geometry = refl })
-    (record { failed = inl refl; good = λ h k. k }) settles tells_of is
-  where
-    none : (n : ℕ) → n ≡ n + 0
-    none n = omega arith
+  -- The program ends by one call of the drive, its last.
+  pub ends_now : (d0 d2 : DriveState) → c.state ≡ d0.state → unsaved d0.state ≡ None → Settles So c key p k told d0 d2
+      → ((f : Option Fault) → next f ≡ EndsIn s (ending f key p c (status_of k))) → EndsBy next told s d0 d2
+  ends_now d0 d2 same saved end nexts =
+      ends_after (λ f. Unit {0}) ⊥ false false d0 d0 d2 (record {
+        stable = λ at left w. tt;
+        calm = λ at. record { saved = ap unsaved same ∙ saved; quiet = λ q. ap (λ s. tells_equipment_check (drive_of s).sense) same ∙ q };
+        fails = λ x. absurd x;
+        at = tt;
+        same = same;
+        calls = record { loads = inl refl; saves = none d0.image.saves; failures = inl refl; slots = λ e. refl; untouched = λ e l. refl; lasting = refl; geometry = refl };
+        reports = record { failed = inl refl; good = λ h k. k };
+      }) end (λ f at. nexts f)
+    where
+      none : (n : ℕ) → n ≡ n + 0
+      none n = omega arith
 
 -- A call of the drive goes well, and more calls follow.
 
@@ -264,10 +252,7 @@ more_after At next later s told d0 d1 d2 e at stable same loads quiet is = go is
 
     go : (f : Option Fault) → IsMetBy f d1 d2 → later f ≡ EndsIn s is.ending → ToldOf f told.0 d1 d2 → EndsBy next told s d0 d2
     go None m n t = by None (m ∙ same) (e None at ∙ n) (record { saved = t.saved; no_check = λ q. t.no_check (quiet q) })
-    go (Some LoadFails) m n t = absurd (no m.1)
-      where
-        no : d1.image.loads < d2.image.loads → ⊥
-        no k = omega (arith, loads)
+    go (Some LoadFails) m n t = absurd (omega (arith, m.1, loads))
     go (Some (SaveFails left)) m n t = by (Some (SaveFails left)) (m ∙ ap (λ n. n + 1) same) (e (Some (SaveFails left)) (stable left m) ∙ n) t
 
 pub comes_after : (At : Option Fault → Type 0) (next later : Option Fault → Next) (key : ℕ) (s : Storage) (r : Run) (a : Step) (d0 d1 d2 : DriveState)
@@ -295,23 +280,11 @@ once l m d0 d1 k = record { calls = go m k.saves k.loads; lasting = k.lasting; g
 pub both : (n k : ℕ) (d0 d1 d2 : DriveState) → CallsAtMost n d0 d1 → CallsAtMost k d1 d2 → CallsAtMost (n + k) d0 d2
 both n k d0 d1 d2 a b = record { calls = omega (arith, a.calls, b.calls); lasting = b.lasting ∙ a.lasting; geometry = b.geometry ∙ a.geometry }
 
--- a call that saved leaves nothing to be saved by the next
+-- Two calls of which at most one saves, and which load nothing: the other one leaves the image.
+
+pub saves_together : (m w : Bool) (d0 d1 d2 : DriveState) → (m ≡ true → w ≡ false) → CallsStore false m d0 d1 → CallsStore false w d1 d2 → CallsStore false (m || w) d0 d2
+saves_together true w d0 d1 d2 only a b = behind false true d0 d1 d2 (untouched w d1 d2 (only refl) b) a
+saves_together false w d0 d1 d2 only a b = before false w d0 d1 d2 (untouched false d0 d1 refl a) b
+
 pub once_together : (m w : Bool) (d0 d1 d2 : DriveState) → (m ≡ true → w ≡ false) → CallsStore false m d0 d1 → CallsStore false w d1 d2 → CallsAtMost 1 d0 d2
-once_together m w d0 d1 d2 only a b = record {
-  calls = go m w only a.saves b.saves;
-  lasting = b.lasting ∙ a.lasting;
-  geometry = b.geometry ∙ a.geometry;
-}
-  where
-    la : d1.image.loads ≡ d0.image.loads
-    la = loads_none m d0 d1 a
-
-    lb : d2.image.loads ≡ d1.image.loads
-    lb = loads_none w d1 d2 b
-
-    go : (m w : Bool) → (m ≡ true → w ≡ false) → d1.image.saves ≡ d0.image.saves + (if m then 1 else 0) → d2.image.saves ≡ d1.image.saves + (if w then 1 else 0)
-        → d2.image.loads + d2.image.saves ≤ d0.image.loads + d0.image.saves + 1
-    go true true only x y = never (sym (only refl))
-    go true false only x y = omega (arith, la, lb)
-    go false true only x y = omega (arith, la, lb)
-    go false false only x y = omega (arith, la, lb)
+once_together m w d0 d1 d2 only a b = once false (m || w) d0 d2 (saves_together m w d0 d1 d2 only a b)

@@ -1,44 +1,39 @@
 -- Units that need no call of the store.
-use Rattle.std.proofs.Common.{◌≡◌, ◌⊎◌, inl, inr, ℕ, ◌<◌, arith, refl, sym, ap, ◌∙◌, subst, true, false, Bool, ◌&&◌, ◌||◌, ◌+◌, [], List, Option, None}
+use Rattle.std.proofs.Common.{◌≡◌, ℕ, ◌<◌, arith, refl, sym, ap, ◌∙◌, subst, true, false, Bool, ◌&&◌, ◌||◌, [], ◌∷◌, Option, None, List}
 use Rattle.s360_words.specs.Storage.{Storage}
+use Rattle.s360_words.specs.declared.words.Ccw.{Ccw}
 use Rattle.ckd_command.specs.Commands.{beginning, sight}
-use Rattle.ckd_command.specs.Drive.{Fault, Open, state_of, AfterBegin, Rejected, Immediate, Started, begin, AfterLook, Ready, Passed, Failed, look, close, is_written, is_write_command, track_under, unsaved}
+use Rattle.ckd_command.specs.Drive.{Fault, Open, state_of, AfterBegin, Rejected, Immediate, Started, begin, AfterLook, Ready, Passed, Failed, look, close, is_written, track_under, unsaved}
 use Rattle.ckd_command.specs.Tables.{aim}
 use Rattle.ckd_command.specs.declared.tables.Aim.{Aim}
 use Rattle.ckd_command.specs.declared.tables.Aim.TheVariants as aim_is
 use Rattle.ckd_command.specs.declared.begin.Opened.{Opened}
-use Rattle.ckd_command.proofs.Marks.{BegunTraces, begin_traces, LookTraces, look_traces, close_writes}
+use Rattle.ckd_command.proofs.Marks.{BegunTraces, begin_traces, LookTraces, look_traces}
 use Rattle.ckd_drive.specs.Work.{DriveState, Work, Idle, Over, Looking, Passing, is_idle, with_image, after_begun, after_begin, after_sight, after_look, after_look_of, closed_of, is_next, CallsStore, fault_met, begin_saves, goes_to_cylinder_zero, look_loads, look_loads_of, look_saves, look_saves_of, goes_to_next_head, answer_of_look}
 use Rattle.ckd_drive.specs.declared.answers.Look.TheVariants as seen
 use Rattle.s360_runs.specs.Scripts.{units}
 use Rattle.s360_runs.specs.StoreCalls.{is_next as looks_next}
 use Rattle.s360_runs.specs.Units.{ProgramPhase, walk, StandsIn}
 use Rattle.s360_program.specs.Advances.{NeedsNoStore, NeedNoStore}
-use Rattle.s360_program.specs.Stands.{RunningState, Stands, StageFits, phase_by, phase_in}
+use Rattle.s360_program.specs.Stands.{RunningState, Stands, phase_by, phase_in}
 use Rattle.s360_program.specs.Steps.{Fits, Flows, FlowsBy, IsQuiet, with_left}
 use Rattle.s360_program.specs.declared.moving.Flow.{Flow}
 use Rattle.s360_program.specs.declared.run.Run.{Run}
-use Rattle.s360_program.specs.Stage.{Stage}
 use Rattle.s360_program.specs.Stage as stage
 use Rattle.s360_program.specs.declared.run.Comes.TheVariants as comes
+use Rattle.s360_program.proofs.Cases.{never, only_left, by_stage}
+use Rattle.s360_program.proofs.Cutting.{untouched_unwritten}
 use Rattle.s360_program.proofs.Looking.{looking_is}
 use Rattle.s360_program.proofs.Meeting.{untouched}
-
-never : {P : Type 0} → ◌≡◌ {A = Bool} false true → P
-never h = absurd (cc)
 
 -- what holds only where another thing does, does not where that does not
 not_so : (a b : Bool) → (b ≡ true → a ≡ true) → a ≡ false → b ≡ false
 not_so a false h e = refl
 not_so a true h e = sym (sym e ∙ h refl)
 
-left_not : (a b : Bool) → (a || b) ≡ false → a ≡ false
-left_not true b h = h
-left_not false b h = refl
-
-right_not : (a b : Bool) → (a || b) ≡ false → b ≡ false
-right_not true b h = never (sym h)
-right_not false b h = h
+neither : (a b : Bool) → (a || b) ≡ false → (a ≡ false) × (b ≡ false)
+neither true b h = never (sym h)
+neither false b h = (refl, h)
 
 same_next : (a : Aim) → looks_next a ≡ is_next a
 same_next aim_is.NoArea = refl
@@ -47,25 +42,15 @@ same_next aim_is.Credited = refl
 
 -- the drive is quiet where the phase is
 pub phase_quiet : (r : RunningState) (s : Storage) (d : DriveState) → Stands r d → NeedsNoStore (phase_in r s d) → IsQuiet d
-phase_quiet r s d t h = go r.stage d.work t.fits h
+phase_quiet r s d t =
+    by_stage d.state (λ g w. NeedsNoStore (phase_by g r.place s d.state w) → IsQuiet (record d { work = w }))
+    (λ h. record { unwritten = h.unwritten; closes = h.unwritten; looks = refl })
+    (λ ccw o h. record { unwritten = h.unwritten; closes = h.unwritten; looks = sym (same_next (aim o.command)) ∙ h.looks })
+    (λ ccw a o l. moving o [] l) (λ ccw a o x b l. moving o (x ∷ b) l)
+    r.stage d.work t.fits
   where
-    go : (g : Stage) (w : Work) → StageFits g d.state w → NeedsNoStore (phase_by g r.place s d.state w) → IsQuiet (record d { work = w })
-    go stage.Between Idle f h = record { unwritten = h.unwritten; closes = h.unwritten; looks = refl }
-    go stage.Between (Over e) f h = absurd f
-    go stage.Between (Looking o) f h = absurd f
-    go stage.Between (Passing o b l) f h = absurd f
-    go (stage.Looking ccw) Idle f h = absurd f
-    go (stage.Looking ccw) (Over e) f h = absurd f
-    go (stage.Looking ccw) (Looking o) f h = record { unwritten = h.unwritten; closes = h.unwritten; looks = sym (same_next (aim o.command)) ∙ h.looks }
-    go (stage.Looking ccw) (Passing o b l) f h = absurd f
-    go (stage.Moving ccw a) Idle f h = absurd f
-    go (stage.Moving ccw a) (Over e) f h = absurd f
-    go (stage.Moving ccw a) (Looking o) f h = absurd f
-    go (stage.Moving ccw a) (Passing o b l) f h = record {
-      unwritten = left_not (is_written d.state) _ h.unwritten;
-      closes = right_not (is_written d.state) _ h.unwritten;
-      looks = refl;
-    }
+    moving : (o : Opened) (b : List ℕ) (l : ℕ) {ccw : Ccw} {a : ℕ} → NeedsNoStore (phase_by (stage.Moving ccw a) r.place s d.state (Passing o b l)) → IsQuiet (record d { work = Passing o b l })
+    moving o b l h = let n = neither (is_written d.state) _ h.unwritten in record { unwritten = n.0; closes = n.1; looks = refl }
 
 -- and units of which each needs no call make none, where the next ones need none either
 pub still_quiet : (key : ℕ) (phase : ProgramPhase) (done more : ℕ) (r : RunningState) (s : Storage) (d0 d1 d2 : DriveState) → done < more → Stands r d1 → walk (units done) key phase ≡ StandsIn (phase_in r s d1)
@@ -89,11 +74,7 @@ begun_quiet f code d0 d1 e idle w is =
     go (Started o) t k i = (let n = not_so (is_written d0.state) (is_written o.state) t.written w in (n, n))
 
 no_byte : (o : Open) → is_written (state_of o) ≡ false → is_written (close None o []).state ≡ false
-no_byte o w = not_so (is_written (state_of o)) (is_written (close None o []).state) (λ h. go (close_writes o [] h)) w
-  where
-    go : (is_written (state_of o) ≡ true) ⊎ ((is_write_command o ≡ true) × (◌≡◌ {A = List ℕ} [] [] → ⊥)) → is_written (state_of o) ≡ true
-    go (inl x) = x
-    go (inr x) = absurd (x.1 refl)
+no_byte o w = not_so (is_written (state_of o)) (is_written (close None o []).state) (untouched_unwritten o) w
 
 -- nor does a look, also where it finds the area
 pub looked_quiet : (f : Option Fault) (o : Opened) (d0 d1 : DriveState) → unsaved d0.state ≡ None → d0.work ≡ Looking o → is_written d0.state ≡ false
@@ -129,11 +110,7 @@ immediately_quiet f code d0 d1 d2 saved idle is calls later q =
     later w.0 w.1 ∙ untouched (begin_saves code d0) d0 d1 (ap (λ b. b && goes_to_cylinder_zero (beginning code d0.state.registers)) q.unwritten) calls
 
 look_untouched : (d0 d1 : DriveState) → look_saves d0 ≡ false → look_loads d0 ≡ false → CallsStore (look_loads d0) (look_saves d0) d0 d1 → d1.image ≡ d0.image
-look_untouched d0 d1 saves loads calls = calls.untouched saves (go calls.loads)
-  where
-    go : (d1.image.loads ≡ d0.image.loads) ⊎ ((look_loads d0 ≡ true) × (look_saves d0 ≡ false) × (d1.image.loads ≡ d0.image.loads + 1)) → d1.image.loads ≡ d0.image.loads
-    go (inl h) = h
-    go (inr h) = never (sym loads ∙ h.0)
+look_untouched d0 d1 saves loads calls = calls.untouched saves (only_left calls.loads (λ h. never (sym loads ∙ h.0)))
 
 saves_not : (d : DriveState) (w : Work) → is_written d.state ≡ false → look_saves_of d w ≡ false
 saves_not d Idle h = refl
@@ -144,10 +121,7 @@ saves_not d (Passing o b l) h = refl
 looks_no_more : (left : ℕ) (w : Work) → seen.Ready left ≡ answer_of_look w → look_loads_of w ≡ false
 looks_no_more left Idle h = refl
 looks_no_more left (Over e) h = refl
-looks_no_more left (Looking o) h = absurd (other h)
-  where
-    other : seen.Ready left ≡ seen.Passed → ⊥
-    other h = cc
+looks_no_more left (Looking o) h = absurd (cc h)
 looks_no_more left (Passing o b l) h = refl
 
 pub finds_quiet : (r : Run) (left : ℕ) (d0 d1 d2 : DriveState) → Fits r d0 → r.comes ≡ comes.Look → d1 ≡ with_image (after_look (fault_met d0 d1) d0) d1.image

@@ -1,18 +1,16 @@
 -- A running program and the run of its start.
 use Rattle.std.proofs.Common.{◌≡◌, refl, sym, ap, subst, ◌∙◌, arith, ℕ, ◌+◌, [], ◌∷◌, ◌++◌, append_assoc, append-nil, zero, suc, Option}
 use Rattle.s360_words.specs.Storage.{Storage, Change, changed}
-use Rattle.ckd_command.specs.Drive.{State, Fault}
+use Rattle.ckd_command.specs.Drive.{Fault}
 use Rattle.s360_runs.specs.Endings.{Ended}
 use Rattle.s360_runs.specs.Laws as law
-use Rattle.s360_runs.specs.Places.{Place}
 use Rattle.s360_runs.specs.Runs.{run, start_point}
 use Rattle.s360_runs.specs.Scripts.{Script, units, OneUnit, Outside, TakesInterruption, units_in}
 use Rattle.s360_runs.specs.Units.{StandsAt, phase_past, walk, on_next, Between}
 use Rattle.s360_program.specs.Laws.{AcceptedStands, StandsAfterUnits, EndsAfterUnits, SeenOfRun, StandsAfterChange, StandsAfterInterruption}
-use Rattle.s360_program.specs.Stands.{phase_in, phase_by}
-use Rattle.ckd_drive.specs.Work.{Work, Idle, Over, Looking, Passing}
-use Rattle.s360_program.specs.Stage.{Stage}
-use Rattle.s360_program.specs.Stage as stage
+use Rattle.s360_program.specs.Stands.{RunningState, Stands, phase_in, phase_by}
+use Rattle.ckd_drive.specs.Work.{DriveState}
+use Rattle.s360_program.proofs.Cases.{by_stage}
 
 pub accepted : law.StandsAtStart → law.StandsAfterWalk → AcceptedStands
 accepted at after s r d a = record {
@@ -52,21 +50,14 @@ ends_after ends stays s script r st st' d d' asked did told at e more =
 pub seen : SeenOfRun
 seen s script r st d at = ap (λ l. run l s) (sym (append-nil script)) ∙ at.run []
 
-changed_by : (g : Stage) (p : Place) (s : Storage) (c : Change) (d : State) (w : Work) → phase_past (Outside c) (phase_by g p s d w) ≡ phase_by g p (changed c s) d w
-changed_by stage.Between p s c d w = refl
-changed_by (stage.Looking ccw) p s c d Idle = refl
-changed_by (stage.Looking ccw) p s c d (Over e) = refl
-changed_by (stage.Looking ccw) p s c d (Looking o) = refl
-changed_by (stage.Looking ccw) p s c d (Passing o b left) = refl
-changed_by (stage.Moving ccw a) p s c d Idle = refl
-changed_by (stage.Moving ccw a) p s c d (Over e) = refl
-changed_by (stage.Moving ccw a) p s c d (Looking o) = refl
-changed_by (stage.Moving ccw a) p s c d (Passing o b left) = refl
+changed_by : (r : RunningState) (s : Storage) (c : Change) (d : DriveState) → Stands r d → phase_past (Outside c) (phase_in r s d) ≡ phase_in r (changed c s) d
+changed_by r s c d t =
+    by_stage d.state (λ g w. phase_past (Outside c) (phase_by g r.place s d.state w) ≡ phase_by g r.place (changed c s) d.state w) refl (λ ccw o. refl) (λ ccw a o l. refl) (λ ccw a o x b l. refl) r.stage d.work t.fits
 
 pub after_change : law.StandsAfterWalk → StandsAfterChange
 after_change after s script r st d c at = record {
   together = at.together;
-  run = after s script (Outside c ∷ []) r.key (phase_in r st d) (phase_in r (changed c st) d) at.run (ap (λ g. walk [] r.key g) (changed_by r.stage r.place st c d.state d.work));
+  run = after s script (Outside c ∷ []) r.key (phase_in r st d) (phase_in r (changed c st) d) at.run (ap (λ g. walk [] r.key g) (changed_by r st c d at.together));
 }
 
 pub after_interruption : law.StandsAfterWalk → StandsAfterInterruption

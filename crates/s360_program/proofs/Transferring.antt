@@ -1,5 +1,5 @@
 -- What each way through a unit of a command whose area is found comes to.
-use Rattle.std.proofs.Common.{◌≡◌, ◌⊎◌, inl, inr, ℕ, zero, suc, ◌+◌, ◌-◌, ◌<◌, ◌≤◌, ◌^◌, refl, sym, ap, subst, ◌∙◌, arith, true, false, Bool, not, ◌&&◌, ◌||◌, [], ◌++◌, Option, nat_lt, length, append-nil, length-append}
+use Rattle.std.proofs.Common.{◌≡◌, ◌⊎◌, inl, inr, ℕ, zero, suc, ◌+◌, ◌-◌, ◌<◌, ◌≤◌, ◌^◌, refl, sym, ap, subst, ◌∙◌, arith, true, false, Bool, not, ◌&&◌, ◌||◌, List, [], ◌++◌, Option, nat_lt, length, append-nil, length-append}
 use Rattle.std.specs.Prelude.{if◌then◌else◌, ◌==◌, Ok, Err}
 use Rattle.std.proofs.lemmas.Bool.Decides.{nat_tests}
 use Rattle.ckd_image.specs.Image.{ImageState}
@@ -8,19 +8,19 @@ use Rattle.s360_words.specs.Words.{chains_data, suppresses_length}
 use Rattle.s360_words.specs.declared.flags.TheConstants.ChannelStatus.{INCORRECT_LENGTH}
 use Rattle.s360_words.specs.declared.flags.TheConstants.UnitStatus.{UNIT_CHECK}
 use Rattle.s360_words.specs.declared.words.Ccw.{Ccw}
-use Rattle.ckd_command.specs.Drive.{State, Open, gives, Closed, Fault, length_of, close, drive_of, unsaved, tells_equipment_check}
+use Rattle.ckd_command.specs.Drive.{State, Open, Fault, length_of, close, drive_of, unsaved, tells_equipment_check}
 use Rattle.ckd_command.proofs.Lengths.{length_grows, length_stays, gives_length}
-use Rattle.ckd_drive.specs.Work.{DriveState, Work, Idle, Over, Looking, Passing, closed_of, moved_on}
+use Rattle.ckd_drive.specs.Work.{DriveState, Work, Idle, Over, Looking, Passing, closed_of}
 use Rattle.s360_runs.specs.Commands.{choice}
 use Rattle.s360_runs.specs.Endings.{ending}
-use Rattle.s360_runs.specs.Places.{Place, fetch}
+use Rattle.s360_runs.specs.Places.{Place}
 use Rattle.s360_runs.specs.Scripts.{units}
 use Rattle.s360_runs.specs.Status.{no_channel_status, tells}
-use Rattle.s360_runs.specs.Transfers.{Transfer, Moves, Stops, Completes, chained_data, byte_or_check, check_of, needs_byte, after_bytes, next_bytes}
-use Rattle.s360_runs.specs.Units.{ProgramPhase, Moving, Next, EndsIn, unit, next_chosen, next_moved, walk, on_next, StandsIn}
+use Rattle.s360_runs.specs.Transfers.{Transfer, next_bytes}
+use Rattle.s360_runs.specs.Units.{ProgramPhase, Moving, Next, EndsIn, unit, next_chosen, walk, on_next, StandsIn}
 use Rattle.s360_program.specs.Place.{place_of}
-use Rattle.s360_program.specs.Stands.{StageFits, StageWithin, phase_by, phase_in}
-use Rattle.s360_program.specs.Steps.{run_of, Fits, ComesBy, Steps, WalksBy, Flows, FlowsBy, with_left, MovesBytes, MovesBytesBy, MovesBytesAs, status_of, condition_for, differs}
+use Rattle.s360_program.specs.Stands.{LeftFits, StageFits, StageWithin, phase_by, phase_in}
+use Rattle.s360_program.specs.Steps.{run_of, Fits, ComesBy, Steps, WalksBy, Flows, FlowsBy, with_left, MovesBytes, MovesBytesBy, MovesBytesAs, status_of, condition_for, differs, request_at}
 use Rattle.s360_program.specs.declared.conditions.ChannelCondition.{ChannelCondition}
 use Rattle.s360_program.specs.declared.conditions.ChannelCondition.TheVariants as condition
 use Rattle.s360_program.specs.declared.moving.Flow.{Flow}
@@ -59,41 +59,26 @@ unit_comes next later key s r a d0 d1 d2 e image state loads is =
 -- The end of a command.
 
 same_length : (r left m L : ℕ) → (left ≡ 0 → m ≡ L) → m + left ≤ L → differs r left ≡ ((m == L && nat_lt 0 r) || (r == 0 && nat_lt m L))
-same_length zero zero m L h le = let e : m ≡ L = h refl in grind (arith, nat_tests)
-same_length zero (suc left) m L h le = grind (arith, nat_tests)
-same_length (suc r) zero m L h le = let e : m ≡ L = h refl in grind (arith, nat_tests)
-same_length (suc r) (suc left) m L h le = grind (arith, nat_tests)
+same_length r zero m L h le = let e : m ≡ L = h refl in grind (arith, nat_tests)
+same_length r (suc left) m L h le = grind (arith, nat_tests)
 
 no_byte : (r left m L : ℕ) → (left ≡ 0 → m ≡ L) → (r == 0 || left == 0) ≡ true → (nat_lt 0 r && nat_lt m L) ≡ false
-no_byte zero left m L h z = grind (arith, nat_tests)
-no_byte (suc r) zero m L h z = let e : m ≡ L = h refl in grind (arith, nat_tests)
-no_byte (suc r) (suc left) m L h z = grind (arith, nat_tests)
+no_byte r zero m L h z = let e : m ≡ L = h refl in grind (arith, nat_tests)
+no_byte r (suc left) m L h z = grind (arith, nat_tests)
 
 a_byte : (r left m L : ℕ) → m + left ≤ L → (r == 0 || left == 0) ≡ false → (nat_lt 0 r && nat_lt m L) ≡ true
-a_byte zero left m L h z = grind (arith, nat_tests)
-a_byte (suc r) zero m L h z = grind (arith, nat_tests)
-a_byte (suc r) (suc left) m L h z = grind (arith, nat_tests)
+a_byte r left m L h z = grind (arith, nat_tests)
 
 -- how the count stands, as the definitions ask for it
-pub is_counted : (r : ℕ) (b : Bool) → 0 < r → (r == 0 && b) ≡ false
-is_counted zero b h = absurd (omega arith)
-is_counted (suc r) b h = grind (arith, nat_tests)
-
-pub no_chain : (r : ℕ) (b : Bool) → b ≡ false → (r == 0 && b) ≡ false
-no_chain zero b h = h
+no_chain : (r : ℕ) (b : Bool) → (r ≡ 0 → b ≡ false) → (r == 0 && b) ≡ false
+no_chain zero b h = h refl
 no_chain (suc r) b h = grind (arith, nat_tests)
 
-pub no_count : (r left : ℕ) → r ≡ 0 → (r == 0 || left == 0) ≡ true
-no_count r left h = ap (λ r. r == 0 || left == 0) h
+no_more : (r left : ℕ) → (r ≡ 0) ⊎ (left ≡ 0) → (r == 0 || left == 0) ≡ true
+no_more r left h = grind (arith, nat_tests)
 
-pub no_more : (r left : ℕ) → left ≡ 0 → (r == 0 || left == 0) ≡ true
-no_more zero left h = refl
-no_more (suc r) left h = grind (arith, nat_tests)
-
-pub some_more : (r left : ℕ) → 0 < r → 0 < left → (r == 0 || left == 0) ≡ false
-some_more zero left h k = absurd (omega arith)
-some_more (suc r) zero h k = absurd (omega arith)
-some_more (suc r) (suc left) h k = grind (arith, nat_tests)
+some_more : (r left : ℕ) → 0 < r → 0 < left → (r == 0 || left == 0) ≡ false
+some_more r left h k = grind (arith, nat_tests)
 
 told_length : (b i : Bool) → (if not b && i then INCORRECT_LENGTH else no_channel_status) ≡ status_of (if i && not b then condition.IncorrectLength else condition.Clear)
 told_length true true = refl
@@ -110,22 +95,14 @@ module _ (key : ℕ) (ccw : Ccw) (a : ℕ) (p : Place) (s : Storage) (d0 d1 : Dr
   completes_by f incorrect (Over x) told needs spent drive i = absurd told
   completes_by f incorrect (Looking o) told needs spent drive i = absurd told
   completes_by f incorrect (Passing o b l) told needs spent drive i =
-      let O : Open = record { opened = o; state = d0.state } in
-      let t : Transfer = record { storage = s; ccw = ccw; place = p; address = a; bytes = b } in
-      let c : Closed = close f O b in
-      ap (λ n. next_moved f key O t (if n then chained_data t (fetch s p false) else (if needs_byte O t then byte_or_check O t (check_of key O t) else Completes))) needs
-      ∙ ap (λ n. next_moved f key O t (if n then byte_or_check O t (check_of key O t) else Completes)) (no_byte p.residual flow.left (length b) (length_of O b) told.1 spent)
-      ∙ ap (λ x. next_chosen (choice f key (record { storage = s; ccw = ccw; place = p }) c (if not (tells c.unit UNIT_CHECK) && (not (suppresses_length ccw) && x) then INCORRECT_LENGTH else no_channel_status)))
-      (sym (same_length p.residual flow.left (length b) (length_of O b) told.1 told.2))
-      ∙ ap (λ x. next_chosen (choice f key (record { storage = s; ccw = ccw; place = p }) c (if not (tells c.unit UNIT_CHECK) && x then INCORRECT_LENGTH else no_channel_status))) (sym i)
-      ∙ ap (λ k. next_chosen (choice f key (record { storage = s; ccw = ccw; place = p }) c k)) (told_length (tells c.unit UNIT_CHECK) incorrect)
-      ∙ sym (ap (λ (d : DriveState). next_chosen (choice f key (record { storage = s; ccw = ccw; place = p }) (closed_of f d d.work) (status_of (condition_for incorrect (closed_of f d d.work).unit)))) drive)
-
-  pub completes : (f : Option Fault) (incorrect : Bool) → Flows flow d0 d1 → (p.residual == 0 && chains_data ccw) ≡ false → (p.residual == 0 || flow.left == 0) ≡ true
-      → incorrect ≡ (not (suppresses_length ccw) && differs p.residual flow.left)
-      → unit f key (phase_by (stage.Moving ccw a) p s d0.state d0.work)
-      ≡ next_chosen (choice f key (record { storage = s; ccw = ccw; place = p }) (closed_of f d1 d1.work) (status_of (condition_for incorrect (closed_of f d1 d1.work).unit)))
-  completes f incorrect flows needs spent i = completes_by f incorrect d0.work flows.told needs spent flows.drive i
+      rw (
+        needs,
+        no_byte p.residual flow.left (length b) (length_of (record { opened = o; state = d0.state }) b) told.1 spent,
+        drive,
+        ← (same_length p.residual flow.left (length b) (length_of (record { opened = o; state = d0.state }) b) told.1 told.2),
+        ← i,
+        told_length (tells (close f (record { opened = o; state = d0.state }) b).unit UNIT_CHECK) incorrect,
+      )
 
   -- a check stops it
   checks_by : (check : ChannelCondition) (most : ℕ) (s2 : Storage) (d2 : DriveState) (w : Work) → FlowsBy flow d0.state w → (p.residual == 0 && chains_data ccw) ≡ false → (p.residual == 0 || flow.left == 0) ≡ false
@@ -136,25 +113,45 @@ module _ (key : ℕ) (ccw : Ccw) (a : ℕ) (p : Place) (s : Storage) (d0 d1 : Dr
   checks_by check most s2 d2 (Over x) told needs spent h = absurd told
   checks_by check most s2 d2 (Looking o) told needs spent h = absurd told
   checks_by check most s2 d2 (Passing o b l) told needs spent q =
-      (q.0, ap (λ (d : DriveState). d.image) q.1, ap (λ (d : DriveState). d.state) q.1, ends)
-    where
-      ends : (f : Option Fault) → unit f key (Moving (record { opened = o; state = d0.state }) (record { storage = s; ccw = ccw; place = p; address = a; bytes = b })) ≡ EndsIn s2 (ending f key p (closed_of f d2 d2.work) (status_of check))
-      ends f =
-          let O : Open = record { opened = o; state = d0.state } in
-          let t : Transfer = record { storage = s; ccw = ccw; place = p; address = a; bytes = b } in
-          ap (λ n. next_moved f key O t (if n then chained_data t (fetch s p false) else (if needs_byte O t then byte_or_check O t (check_of key O t) else Completes))) needs
-          ∙ ap (λ n. next_moved f key O t (if n then byte_or_check O t (check_of key O t) else Completes)) (a_byte p.residual flow.left (length b) (length_of O b) told.2 spent)
-          ∙ ap (λ c. next_moved f key O t (byte_or_check O t c)) (q.3 p)
-          ∙ ap (λ n. next_moved f key O t (if n then Moves (after_bytes 1 O t) else Stops t (status_of check))) q.2
-          ∙ ap (λ s. EndsIn s (ending f key p (close f O b) (status_of check))) (sym q.0)
-          ∙ ap (λ (d : DriveState). EndsIn s2 (ending f key p (closed_of f d d.work) (status_of check))) (sym q.1)
+      let O : Open = record { opened = o; state = d0.state } in (
+        q.0,
+        ap (λ (d : DriveState). d.image) q.1,
+        ap (λ (d : DriveState). d.state) q.1,
+        λ f. rw (q.0, q.1, needs, a_byte p.residual flow.left (length b) (length_of O b) told.2 spent, q.3 p, q.2),
+      )
 
-  pub checks : (check : ChannelCondition) (most : ℕ) (s2 : Storage) (d2 : DriveState) → Flows flow d0 d1 → (p.residual == 0 && chains_data ccw) ≡ false → (p.residual == 0 || flow.left == 0) ≡ false
-      → MovesBytes key ccw a most s d1 (Err check) s2 d2
-      → (s2 ≡ s) × (d2.image ≡ d0.image) × (d2.state ≡ d0.state)
-      × ((f : Option Fault) → unit f key (phase_by (stage.Moving ccw a) p s d0.state d0.work) ≡ EndsIn s2 (ending f key p (closed_of f d2 d2.work) (status_of check)))
-  checks check most s2 d2 flows needs spent h =
-      checks_by check most s2 d2 d0.work flows.told needs spent (subst (λ (d : DriveState). MovesBytesBy key ccw a most (Err check) s s2 d d2 d.work) flows.drive h)
+-- where bytes come next they come under the last word
+bytes_come : (r : Run) → r.comes ≡ comes.Bytes → stage_of r ≡ stage.Moving r.ccw r.address
+bytes_come r at = ap (λ c. stage_by c r.ccw r.address) at
+
+module _ (r r2 : Run) (s : Storage) (a : Step) (d0 d1 d2 : DriveState) (flow : Flow) (at : r.comes ≡ comes.Bytes) (flows : Flows flow d0 d1) where
+  unit_there : (f : Option Fault) → unit f r.key (phase_in (run_of r) s d0) ≡ unit f r.key (phase_by (stage.Moving r.ccw r.address) (place_of r.place) s d0.state d0.work)
+  unit_there f = ap (λ g. unit f r.key (phase_by g (place_of r.place) s d0.state d0.work)) (bytes_come r at)
+
+  -- the count or the drive's bytes are spent, and the command ends
+  pub completes : (incorrect : Bool) → (r.place.residual ≡ 0 → chains_data r.ccw ≡ false) → (r.place.residual ≡ 0) ⊎ (flow.left ≡ 0)
+      → incorrect ≡ (not (suppresses_length r.ccw) && differs r.place.residual flow.left) → d2.image.loads ≡ d1.image.loads
+      → ComesBy r.key (λ f. next_chosen (choice f r.key (request_at s r.ccw r) (closed_of f d1 d1.work) (status_of (condition_for incorrect (closed_of f d1 d1.work).unit)))) a r2 s d1 d2
+      → ComesBy r.key (λ f. unit f r.key (phase_in (run_of r) s d0)) a r2 s d0 d2
+  completes incorrect needs spent i =
+      unit_comes (λ f. unit f r.key (phase_in (run_of r) s d0))
+      (λ f. next_chosen (choice f r.key (request_at s r.ccw r) (closed_of f d1 d1.work) (status_of (condition_for incorrect (closed_of f d1 d1.work).unit)))) r.key s r2 a d0 d1 d2
+      (λ f. unit_there f ∙ completes_by r.key r.ccw r.address (place_of r.place) s d0 d1 flow f incorrect d0.work flows.told
+      (no_chain r.place.residual (chains_data r.ccw) needs) (no_more r.place.residual flow.left spent) flows.drive i)
+      (ap (λ (d : DriveState). d.image) flows.drive) (ap (λ (d : DriveState). d.state) flows.drive)
+
+  -- a check stops the command
+  pub checks : (check : ChannelCondition) (few : ℕ) (s2 : Storage) (d : DriveState) → 0 < r.place.residual → 0 < flow.left → MovesBytes r.key r.ccw r.address few s d1 (Err check) s2 d → d2.image.loads ≡ d.image.loads
+      → ComesBy r.key (λ f. EndsIn s2 (ending f r.key (place_of r.place) (closed_of f d d.work) (status_of check))) a r2 s2 d d2
+      → ComesBy r.key (λ f. unit f r.key (phase_in (run_of r) s d0)) a r2 s2 d0 d2
+  checks check few s2 d some more h =
+      unit_comes (λ f. unit f r.key (phase_in (run_of r) s d0)) (λ f. EndsIn s2 (ending f r.key (place_of r.place) (closed_of f d d.work) (status_of check))) r.key s2 r2 a d0 d d2
+      (λ f. unit_there f ∙ k.3 f) k.1 k.2
+    where
+      k : (s2 ≡ s) × (d.image ≡ d0.image) × (d.state ≡ d0.state)
+          × ((f : Option Fault) → unit f r.key (phase_by (stage.Moving r.ccw r.address) (place_of r.place) s d0.state d0.work) ≡ EndsIn s2 (ending f r.key (place_of r.place) (closed_of f d d.work) (status_of check)))
+      k = checks_by r.key r.ccw r.address (place_of r.place) s d0 d1 flow check few s2 d d0.work flows.told (no_chain r.place.residual (chains_data r.ccw) (λ z. absurd (omega arith))) (some_more r.place.residual flow.left some more)
+          (subst (λ (d' : DriveState). MovesBytesBy r.key r.ccw r.address few (Err check) s s2 d' d d'.work) flows.drive h)
 
 -- Bytes.
 
@@ -172,7 +169,7 @@ module _ (key : ℕ) (ccw : Ccw) (a most m : ℕ) (p : Place) (s s2 : Storage) (
   moved_by (Looking o) told ml mr q = absurd told
   moved_by (Passing o b l) told ml mr q = (
     steps,
-    subst (λ (d : DriveState). StageFits (stage.Moving ccw (a + m)) d.state d.work) (sym k.drive) (within, exact, told_on),
+    subst (λ (d : DriveState). StageFits (stage.Moving ccw (a + m)) d.state d.work) (sym k.drive) fits,
     ap (λ (d : DriveState). d.image) k.drive,
     ap (λ (d : DriveState). d.state) k.drive,
     q.0,
@@ -181,9 +178,6 @@ module _ (key : ℕ) (ccw : Ccw) (a most m : ℕ) (p : Place) (s s2 : Storage) (
     where
       both : (m most r : ℕ) → m ≤ most → most ≤ r → m ≤ r
       both m most r x y = omega arith
-
-      sums : (b n left m L N : ℕ) → n ≡ m → m ≤ left → b + left ≤ L → L ≤ N → (b + n) + (left - n) ≤ N
-      sums b n left m L N e le h g = omega arith
 
       O : Open
       O = record { opened = o; state = d0.state }
@@ -194,70 +188,57 @@ module _ (key : ℕ) (ccw : Ccw) (a most m : ℕ) (p : Place) (s s2 : Storage) (
       k : MovesBytesAs m key O t (Passing o b flow.left) s2 (record d0 { work = Passing o b flow.left }) d2
       k = q.2 p (both m most p.residual q.1 mr)
 
-      within : length (b ++ next_bytes m O t) + (flow.left - length (next_bytes m O t)) ≤ length_of O (b ++ next_bytes m O t)
-      within =
-          subst (λ x. x + (flow.left - length (next_bytes m O t)) ≤ length_of O (b ++ next_bytes m O t)) (sym (length-append b (next_bytes m O t)))
-          (sums (length b) (length (next_bytes m O t)) flow.left m (length_of O b) (length_of O (b ++ next_bytes m O t)) k.count (both m most flow.left q.1 ml) told.2 (length_grows O b (next_bytes m O t)))
+      new : List ℕ
+      new = next_bytes m O t
 
-      few : length (next_bytes m O t) ≤ flow.left
-      few = (let le : m ≤ flow.left = both m most flow.left q.1 ml in omega (arith, k.count, le))
+      sum : length (b ++ new) + (flow.left - length new) ≡ length b + flow.left
+      sum = let few : m ≤ flow.left = both m most flow.left q.1 ml in omega (arith, length-append b new, k.count, few)
 
-      same_sum : (b n left T : ℕ) → n ≤ left → b + left ≡ T → (b + n) + (left - n) ≡ T
-      same_sum b n left T h e = omega arith
-
-      sum_is : (T : ℕ) → length b + flow.left ≡ T → length (b ++ next_bytes m O t) + (flow.left - length (next_bytes m O t)) ≡ T
-      sum_is T e =
-          subst (λ x. x + (flow.left - length (next_bytes m O t)) ≡ T) (sym (length-append b (next_bytes m O t)))
-          (same_sum (length b) (length (next_bytes m O t)) flow.left T few e)
-
-      exact : gives O ≡ true → length (b ++ next_bytes m O t) + (flow.left - length (next_bytes m O t)) ≡ length_of O (b ++ next_bytes m O t)
-      exact = λ g. sum_is (length_of O b) (told.3 g) ∙ (gives_length O b g ∙ sym (gives_length O (b ++ next_bytes m O t) g))
-
-      told_on : (length (b ++ next_bytes m O t) + (flow.left - length (next_bytes m O t)) ≡ 8 → ⊥) → length (b ++ next_bytes m O t) + (flow.left - length (next_bytes m O t)) ≡ length_of O (b ++ next_bytes m O t)
-      told_on h = go (length_stays O b (next_bytes m O t))
+      fits : LeftFits O (b ++ new) (flow.left - length new)
+      fits = rw sum (
+        omega (arith, told.2, length_grows O b new),
+        λ g. told.3 g ∙ gives_length O b g ∙ sym (gives_length O (b ++ new) g),
+        λ h. by_length h (length_stays O b new),
+      )
         where
-          not_eight : length b + flow.left ≡ 8 → ⊥
-          not_eight e = h (sum_is 8 e)
-
-          go : (length_of O b ≡ 8) ⊎ (length_of O b ≡ length_of O (b ++ next_bytes m O t))
-              → length (b ++ next_bytes m O t) + (flow.left - length (next_bytes m O t)) ≡ length_of O (b ++ next_bytes m O t)
-          go (inl eight) = absurd (not_eight (told.4 not_eight ∙ eight))
-          go (inr same) = sum_is (length_of O (b ++ next_bytes m O t)) (told.4 not_eight ∙ same)
+          by_length : (length b + flow.left ≡ 8 → ⊥) → (length_of O b ≡ 8) ⊎ (length_of O b ≡ length_of O (b ++ new)) → length b + flow.left ≡ length_of O (b ++ new)
+          by_length h (inl eight) = absurd (h (told.4 h ∙ eight))
+          by_length h (inr same) = told.4 h ∙ same
 
       steps : walk (units m) key (Moving O t) ≡ StandsIn (phase_by (stage.Moving ccw (a + m)) (record p { residual = p.residual - m }) s2 d2.state d2.work)
       steps =
-          ap (λ u. walk u key (Moving O t)) (sym (append-nil (units m)))
-          ∙ at_once m key [] O t k.may
-          ∙ ap (λ x. StandsIn (phase_by (stage.Moving ccw (a + m)) (record p { residual = p.residual - m }) x d0.state (moved_on (next_bytes m O t) (Passing o b flow.left)))) (sym k.storage)
-          ∙ ap (λ (d : DriveState). StandsIn (phase_by (stage.Moving ccw (a + m)) (record p { residual = p.residual - m }) s2 d.state d.work)) (sym k.drive)
+          ap (λ u. walk u key (Moving O t)) (sym (append-nil (units m))) ∙ at_once m key [] O t k.may
+          ∙ rw (k.drive, k.storage) refl
+
+-- so few that they are asked for, counted and left
+pub record IsLeast (few most residual left : ℕ) : Type 0 where
+  pub asked : few ≤ most
+  pub counted : few ≤ residual
+  pub has : few ≤ left
 
 pub moves_on : (r : Run) (most few m n : ℕ) (s s2 : Storage) (d0 d1 d2 : DriveState) (flow : Flow) → Fits r d0 → r.comes ≡ comes.Bytes → Flows flow d0 d1
-    → few ≤ most → few ≤ r.place.residual → few ≤ flow.left → MovesBytes r.key r.ccw r.address few s d1 (Ok m) s2 d2 → n ≡ m
+    → IsLeast few most r.place.residual flow.left → MovesBytes r.key r.ccw r.address few s d1 (Ok m) s2 d2 → n ≡ m
     → WalksBy r.key (phase_in (run_of r) s d0) most m (record r { place = record r.place { residual = r.place.residual - m }; address = r.address + n }) s2 d0 d2
-moves_on r most few m n s s2 d0 d1 d2 flow fits at flows fm fr fl h e =
+moves_on r most few m n s s2 d0 d1 d2 flow fits at flows least h e =
     subst (λ n. WalksBy r.key (phase_in (run_of r) s d0) most m (record r { place = record r.place { residual = r.place.residual - m }; address = r.address + n }) s2 d0 d2) (sym e)
     (subst (λ c. WalksBy r.key (phase_in (run_of r) s d0) most m (record r { place = record r.place { residual = r.place.residual - m }; comes = c; address = r.address + m }) s2 d0 d2) (sym at) (record {
       some = x.4;
-      few = omega (arith, x.5, fm);
+      few = omega (arith, x.5, least.asked);
       failures = ap (λ (i : ImageState). i.failures) x.2;
       goes = ap (λ c. walk (units m) r.key (phase_by (stage_by c r.ccw r.address) (place_of r.place) s d0.state d0.work)) at ∙ x.0;
       same_key = refl;
       fits = record {
-        within = record { key = fits.within.key; place = record { next = fits.within.place.next; last = fits.within.place.last }; stage = (narrow.0, smaller r.address r.place.residual m (omega (arith, x.5, fr)) narrow.1) };
+        within = record { key = fits.within.key; place = record { next = fits.within.place.next; last = fits.within.place.last }; stage = (narrow.0, smaller r.address r.place.residual m (omega (arith, x.5, least.counted)) narrow.1) };
         stands = record { fits = x.1; saved = ap unsaved x.3 ∙ fits.stands.saved };
       };
       no_check = λ q. ap (λ (s : State). tells_equipment_check (drive_of s).sense) x.3 ∙ q;
     }))
   where
     x : IsMoved r.key r.ccw r.address few m (place_of r.place) s s2 d0 d2 flow d0.work
-    x = moved_by r.key r.ccw r.address few m (place_of r.place) s s2 d0 d2 flow d0.work flows.told fl fr (subst (λ (d : DriveState). MovesBytesBy r.key r.ccw r.address few (Ok m) s s2 d d2 d.work) flows.drive h)
+    x = moved_by r.key r.ccw r.address few m (place_of r.place) s s2 d0 d2 flow d0.work flows.told least.has least.counted (subst (λ (d : DriveState). MovesBytesBy r.key r.ccw r.address few (Ok m) s s2 d d2 d.work) flows.drive h)
 
     narrow : StageWithin (stage.Moving r.ccw r.address) (place_of r.place)
     narrow = subst (λ c. StageWithin (stage_by c r.ccw r.address) (place_of r.place)) at fits.within.stage
 
     smaller : (a r m : ℕ) → m ≤ r → a + r < 2 ^ 25 → (a + m) + (r - m) < 2 ^ 25
     smaller a r m le h = omega arith
-
--- where bytes come next they come under the last word
-pub bytes_come : (r : Run) → r.comes ≡ comes.Bytes → stage_of r ≡ stage.Moving r.ccw r.address
-bytes_come r at = ap (λ c. stage_by c r.ccw r.address) at

@@ -62,6 +62,10 @@ condition_for incorrect unit = if incorrect && not (tells unit UNIT_CHECK) then 
 abbrev pub chains_after : Ccw → UnitStatus → ChannelCondition → Bool
 chains_after ccw unit c = chains_command ccw && not (stops_chaining unit) && is_clear (status_of c)
 
+-- why no byte may be stored at an address: it is outside storage, or its block is protected
+abbrev pub refused : (inside : Bool) → ChannelCondition
+refused inside = if inside then condition.ProtectionCheck else condition.ProgramCheck
+
 -- Faults.
 
 -- calls together met this fault, by what the image counted: a failed load only where one was made

@@ -13,7 +13,7 @@ use s360_words::{Ccw, ChannelStatus, Csw, UnitStatus};
 
 /// What the channel itself has to report.
 #[derive(Clone, Copy, Debug, PartialEq, Eq)]
-pub enum ChannelCondition {
+pub(crate) enum ChannelCondition {
     /// Nothing.
     Clear,
     /// The count and the drive's length differ.
@@ -26,7 +26,7 @@ pub enum ChannelCondition {
 
 impl ChannelCondition {
     /// How the length of a command is reported: incorrect length is not reported beside unit check.
-    pub fn of_length(incorrect: bool, unit: UnitStatus) -> ChannelCondition
+    pub(crate) fn of_length(incorrect: bool, unit: UnitStatus) -> ChannelCondition
         ensures { result ≡ condition_for incorrect unit }
     {
         if incorrect && !unit.intersects(UnitStatus::UNIT_CHECK) {
@@ -37,7 +37,7 @@ impl ChannelCondition {
     }
 
     /// The channel status of this condition.
-    pub fn status(self) -> ChannelStatus
+    pub(crate) fn status(self) -> ChannelStatus
         ensures { result ≡ status_of self }
     {
         match self {
@@ -49,7 +49,7 @@ impl ChannelCondition {
     }
 
     /// The same beside the unit status of the program's end.
-    pub fn beside(self, unit: UnitStatus) -> ChannelStatus
+    pub(crate) fn beside(self, unit: UnitStatus) -> ChannelStatus
         ensures { result ≡ beside unit (status_of self) }
     {
         if unit.intersects(UnitStatus::UNIT_CHECK) && self == ChannelCondition::IncorrectLength {
@@ -61,7 +61,7 @@ impl ChannelCondition {
 }
 
 /// Whether the next command follows: the word asks for it, and neither the unit status nor the channel's condition stops it.
-pub fn chains(ccw: Ccw, unit: UnitStatus, condition: ChannelCondition) -> bool
+pub(crate) fn chains(ccw: Ccw, unit: UnitStatus, condition: ChannelCondition) -> bool
     ensures { result ≡ chains_after ccw unit condition }
 {
     ccw.chains_command()
@@ -70,7 +70,7 @@ pub fn chains(ccw: Ccw, unit: UnitStatus, condition: ChannelCondition) -> bool
 }
 
 /// An interruption that was asked for and not taken is reported with the ending.
-pub fn with_interruption(asked: bool, status: ChannelStatus) -> ChannelStatus
+pub(crate) fn with_interruption(asked: bool, status: ChannelStatus) -> ChannelStatus
     ensures { result ≡ with_interruption asked status }
 {
     if asked {
@@ -81,7 +81,7 @@ pub fn with_interruption(asked: bool, status: ChannelStatus) -> ChannelStatus
 }
 
 /// The channel status word at a place: its command address is that of the last word plus 8, and its count what is left there.
-pub fn csw_at(key: u8, place: &Place, unit: UnitStatus, channel: ChannelStatus) -> Csw
+pub(crate) fn csw_at(key: u8, place: &Place, unit: UnitStatus, channel: ChannelStatus) -> Csw
     ensures { result ≡ csw_at key (place_of place.now) unit channel }
 {
     Csw {

@@ -10,27 +10,27 @@ ghost use Rattle.s360_program.specs.Steps.{status_of, closed_with, told_of};
 
 use crate::conditions::{ChannelCondition, csw_at, with_interruption};
 use crate::run::{Ended, Run};
-use ckd_command::DriveEnding;
+use ckd_command::{CHANNEL_AND_DEVICE_END, DriveEnding, END_WITH_UNIT_CHECK};
 use ckd_drive::Drive;
 use ckd_image::ImageStore;
 use s360_words::{Csw, UnitStatus};
 
 /// No command is open, or none of its bytes has passed.
-pub const UNTOUCHED: DriveEnding = DriveEnding {
-    unit: UnitStatus(0x0C),
+pub(crate) const UNTOUCHED: DriveEnding = DriveEnding {
+    unit: CHANNEL_AND_DEVICE_END,
     motion: false,
 };
 
 /// A command was rejected, or found no area.
-pub const FAILED: DriveEnding = DriveEnding {
-    unit: UnitStatus(0x0E),
+pub(crate) const FAILED: DriveEnding = DriveEnding {
+    unit: END_WITH_UNIT_CHECK,
     motion: false,
 };
 
 /// Ends a program whose last command ended so: the drive saves the track that was written.
 // Out of the way of the units that go on, which it made slower.
 #[inline(never)]
-pub fn end_program<S: ImageStore>(
+pub(crate) fn end_program<S: ImageStore>(
     run: &mut Run,
     drive_ending: DriveEnding,
     condition: ChannelCondition,
@@ -55,7 +55,7 @@ pub fn end_program<S: ImageStore>(
 
 /// The channel status word of a program that ended so, where it stands, and whether the arm still moves.
 #[inline(always)]
-pub fn told(run: &Run) -> (Csw, bool)
+pub(crate) fn told(run: &Run) -> (Csw, bool)
     ensures { result ≡ told_of run.now }
 {
     let ended = run.ended;

@@ -1,10 +1,11 @@
 //! Bytes between storage and a drive, as many at once as may pass (Principles of Operation, Input/Output Operations: 'Skipping',
 //! 'Program Check', 'Protection Check').
 
-ghost use Rattle.std.specs.Prelude.{◌≡◌, ◌<◌, ◌≤◌, ◌+◌, ◌^◌, true, false, length, slice_range, ◌||◌, ◌==◌};
+ghost use Rattle.std.specs.Prelude.{nat_lt, ℕ, ◌≡◌, ◌<◌, ◌≤◌, ◌+◌, ◌^◌, true, false, length, slice_range, ◌||◌, ◌==◌};
+ghost use Rattle.s360_words.specs.declared.words.Ccw.{Ccw};
 ghost use Rattle.ckd_drive.specs.Work.{left_of, gives_now, takes_now, given_now, passed_of, moved_on};
 ghost use Rattle.s360_program.specs.Advances.{KeepsStorage};
-ghost use Rattle.s360_program.specs.Steps.{Flows, HasFound, IsMoving, MovesBytes};
+ghost use Rattle.s360_program.specs.Steps.{Flows, HasFound, IsMoving, MovesBytes, refused};
 
 use crate::conditions::ChannelCondition;
 use ckd_drive::{Drive, Look, Phase};
@@ -13,11 +14,11 @@ use s360_words::{Ccw, Storage};
 
 /// Whether a drive gives the bytes of a command, or takes them, and how many are left.
 #[derive(Clone, Copy, Debug, PartialEq, Eq)]
-pub struct Flow {
+pub(crate) struct Flow {
     /// Whether it gives them.
-    pub gives: bool,
+    pub(crate) gives: bool,
     /// How many more may pass now.
-    pub left: usize,
+    pub(crate) left: usize,
 }
 
 // The bytes of a count area, which a formatting write asks for first.
@@ -25,7 +26,7 @@ const COUNT_AREA: usize = 8;
 
 /// What a drive has or wants now. Where eight bytes have passed, and nothing is left of the drive's last look, another one
 /// reports: a formatting write wants more once the count area came. With any other number all bytes have passed.
-pub fn flow_of<S: ImageStore>(drive: &mut Drive<S>) -> Flow
+pub(crate) fn flow_of<S: ImageStore>(drive: &mut Drive<S>) -> Flow
     requires { HasFound drive.old }
     ensures { Flows result drive.old drive.new }
 {
@@ -45,7 +46,7 @@ pub fn flow_of<S: ImageStore>(drive: &mut Drive<S>) -> Flow
 
 /// Moves so many bytes at once at most, and at least one, or says why the first may not move.
 #[inline(always)]
-pub fn move_bytes<S: ImageStore>(
+pub(crate) fn move_bytes<S: ImageStore>(
     gives: bool,
     key: u8,
     ccw: Ccw,
@@ -67,15 +68,13 @@ pub fn move_bytes<S: ImageStore>(
     if gives {
         read(key, ccw, address, most, storage, drive)
     } else {
-        write(key, ccw, address, most, storage, drive)
+        write(address, most, storage, drive)
     }
 }
 
 // The drive takes bytes of storage, as they stand there.
 #[inline(always)]
 fn write<S: ImageStore>(
-    _key: u8,
-    _ccw: Ccw,
     address: u32,
     most: u16,
     storage: &Storage,
@@ -86,7 +85,7 @@ fn write<S: ImageStore>(
     requires left { most ≤ left_of drive.old.work }
     requires moving { IsMoving drive.old }
     requires narrow { address < 2 ^ 25 }
-    ensures moves { MovesBytes _key _ccw address most storage.now drive.old result storage.now drive.new }
+    ensures moves { (key : ℕ) (ccw : Ccw) → MovesBytes key ccw address most storage.now drive.old result storage.now drive.new }
     ensures image { drive.new.image ≡ drive.old.image }
 {
     let bytes = storage.bytes_from(address, usize::from(most));
@@ -124,12 +123,19 @@ fn read<S: ImageStore>(
     let given = &drive.next_bytes()[..usize::from(most)];
     let n = storage.store(address, given, key);
     if n == 0 {
-        return Err(if address >= storage.size() {
-            ChannelCondition::ProgramCheck
-        } else {
-            ChannelCondition::ProtectionCheck
-        });
+        return Err(refusal(storage, address));
     }
     drive.pass(n);
     Ok(n as u16)
+}
+
+// Why no byte may be stored at an address: it is outside storage, or its block is protected.
+fn refusal(storage: &Storage, address: u32) -> ChannelCondition
+    ensures { result ≡ refused (nat_lt address (length storage.now.bytes)) }
+{
+    if address >= storage.size() {
+        ChannelCondition::ProgramCheck
+    } else {
+        ChannelCondition::ProtectionCheck
+    }
 }

@@ -11,22 +11,22 @@ use s360_words::{Ccw, Storage, UnitStatus};
 
 /// The channel's place in a program.
 #[derive(Clone, Copy, Debug, PartialEq, Eq)]
-pub struct Place {
+pub(crate) struct Place {
     /// Where the next word is.
-    pub next: u32,
+    pub(crate) next: u32,
     /// Whether that may be a transfer in channel.
-    pub may_transfer: bool,
+    pub(crate) may_transfer: bool,
     /// Where the last word was whose fetch was tried.
-    pub last: u32,
+    pub(crate) last: u32,
     /// The count left in the last good word.
-    pub residual: u16,
+    pub(crate) residual: u16,
     /// Whether an interruption is asked for and not yet taken.
-    pub interruption: bool,
+    pub(crate) interruption: bool,
 }
 
 /// What is found where a channel command word is fetched.
 #[derive(Clone, Copy, Debug, PartialEq, Eq)]
-pub enum Fetched {
+pub(crate) enum Fetched {
     /// None that may stand there, which is a program check.
     NoCcw,
     /// A transfer in channel to this address.
@@ -44,7 +44,7 @@ fn is_invalid(begins: bool, ccw: Ccw) -> bool
 
 impl Place {
     /// The place before the first word, which may be no transfer in channel.
-    pub fn first(address: u32) -> Place
+    pub(crate) fn first(address: u32) -> Place
         ensures { place_of result ≡ first_place address }
     {
         Place {
@@ -57,7 +57,7 @@ impl Place {
     }
 
     /// Fetches the next word, which begins a command or chains data.
-    pub fn fetch(&self, storage: &Storage, begins: bool) -> Fetched
+    pub(crate) fn fetch(&self, storage: &Storage, begins: bool) -> Fetched
         ensures fetched { fetched_of result ≡ fetch storage.now (place_of self.now) begins }
         ensures within { FetchedWithin (place_of self.now) (fetched_of result) }
     {
@@ -84,7 +84,7 @@ impl Place {
     }
 
     /// Goes by a good word.
-    pub fn go_by(&mut self, ccw: Ccw)
+    pub(crate) fn go_by(&mut self, ccw: Ccw)
         requires { self.old.next + 8 ≤ 2 ^ 24 }
         ensures { place_of self.new ≡ past_ccw (place_of self.old) ccw }
     {
@@ -98,7 +98,7 @@ impl Place {
     }
 
     /// Goes to where a transfer in channel leads.
-    pub fn transfer(&mut self, address: u32)
+    pub(crate) fn transfer(&mut self, address: u32)
         ensures { place_of self.new ≡ past_transfer (place_of self.old) address }
     {
         self.last = self.next;
@@ -107,14 +107,14 @@ impl Place {
     }
 
     /// Stays where no word was found.
-    pub fn miss(&mut self)
+    pub(crate) fn miss(&mut self)
         ensures { place_of self.new ≡ past_no_ccw (place_of self.old) }
     {
         self.last = self.next;
     }
 
     /// Goes past the next word, where status modifier says so.
-    pub fn modify(&mut self, unit: UnitStatus)
+    pub(crate) fn modify(&mut self, unit: UnitStatus)
         requires { self.old.next ≤ 2 ^ 24 }
         ensures place { place_of self.new ≡ modified_place (place_of self.old) unit }
         ensures next { self.new.next ≤ 2 ^ 24 + 8 }

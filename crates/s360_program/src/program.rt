@@ -92,7 +92,7 @@ impl Running {
         };
         drive.begin_program();
         place.go_by(ccw);
-        match first_command(caw.key, place, ccw, storage, drive) {
+        match first_command(caw.key, place, ccw, drive) {
             First::Rejected => Start::Rejected,
             First::Immediate(ending, asked) => Start::Immediate(ending, asked),
             First::Accepted(run) => Start::Accepted(Running { run }),

@@ -10,7 +10,7 @@ use s360_words::{Ccw, ChannelStatus, UnitStatus};
 
 /// What comes next.
 #[derive(Clone, Copy, Debug, PartialEq, Eq)]
-pub enum Comes {
+pub(crate) enum Comes {
     /// The fetch of a word that begins a command.
     NextCommand,
     /// A look for the area of the command of the last word.
@@ -21,35 +21,35 @@ pub enum Comes {
 
 /// What a running program keeps. It is flat, since it is changed in place with each unit.
 #[derive(Clone, Copy, Debug, PartialEq, Eq)]
-pub struct Run {
+pub(crate) struct Run {
     /// The protection key of its stores.
-    pub key: u8,
+    pub(crate) key: u8,
     /// What comes next.
-    pub comes: Comes,
+    pub(crate) comes: Comes,
     /// Where the channel is in it.
-    pub place: Place,
+    pub(crate) place: Place,
     /// The last good word, where a command is open.
-    pub ccw: Ccw,
+    pub(crate) ccw: Ccw,
     /// The address from or to which bytes pass.
-    pub address: u32,
+    pub(crate) address: u32,
     /// What its end reported, once it is over.
-    pub ended: Ended,
+    pub(crate) ended: Ended,
 }
 
 /// What a program's end reports beside where the channel is in it.
 #[derive(Clone, Copy, Debug, PartialEq, Eq)]
-pub struct Ended {
+pub(crate) struct Ended {
     /// The unit status.
-    pub unit: UnitStatus,
+    pub(crate) unit: UnitStatus,
     /// The channel status.
-    pub channel: ChannelStatus,
+    pub(crate) channel: ChannelStatus,
     /// Whether the arm still moves.
-    pub motion: bool,
+    pub(crate) motion: bool,
 }
 
 /// What units came to.
 #[derive(Clone, Copy, Debug, PartialEq, Eq)]
-pub enum Step {
+pub(crate) enum Step {
     /// So many were done, and the program goes on.
     Units(u16),
     /// One was done, and the program is over.
@@ -57,7 +57,7 @@ pub enum Step {
 }
 
 /// No end has been reported.
-pub const NOT_ENDED: Ended = Ended {
+pub(crate) const NOT_ENDED: Ended = Ended {
     unit: UnitStatus(0),
     channel: ChannelStatus(0),
     motion: false,
@@ -65,7 +65,7 @@ pub const NOT_ENDED: Ended = Ended {
 
 impl Run {
     /// What the next unit does.
-    pub fn at_work(&self) -> AtWork
+    pub(crate) fn at_work(&self) -> AtWork
         ensures { result ≡ work_at (stage_of self.now) }
     {
         match self.comes {
@@ -78,7 +78,7 @@ impl Run {
     /// Keeps the word of the command that works.
     // Part by part, which is leaner than the whole: the parts were just read from storage.
     #[inline(always)]
-    pub fn keep(&mut self, ccw: Ccw)
+    pub(crate) fn keep(&mut self, ccw: Ccw)
         ensures { self.new ≡ record self.old { ccw = ccw } }
     {
         self.ccw.code = ccw.code;

@@ -1,6 +1,7 @@
 //! The first command of a program, as Start I/O begins it (Principles of Operation, Input/Output Operations: 'Start I/O').
 
 ghost use Rattle.std.specs.Prelude.{Bool, ◌≡◌, ◌<◌, ◌≤◌, ◌^◌, true, false, None};
+ghost use Rattle.s360_words.specs.Storage.{Storage as StorageState};
 ghost use Rattle.ckd_command.specs.Drive.{is_written, unsaved};
 ghost use Rattle.ckd_drive.specs.Work.{is_idle, may_end, immediate_ending, Over};
 ghost use Rattle.s360_program.specs.Starting.{FirstBegun, ImmediateDone, StartsQuietly};
@@ -10,11 +11,11 @@ use crate::run::{Comes, NOT_ENDED, Run};
 use ckd_command::DriveEnding;
 use ckd_drive::{Begun, Drive};
 use ckd_image::ImageStore;
-use s360_words::{Ccw, Storage};
+use s360_words::Ccw;
 
 /// What the first command comes to.
 #[derive(Clone, Copy, Debug, PartialEq, Eq)]
-pub enum First {
+pub(crate) enum First {
     /// The drive rejects it.
     Rejected,
     /// It is over at once, and no other follows; and whether an interruption was asked for.
@@ -24,11 +25,10 @@ pub enum First {
 }
 
 /// Begins the first command, whose word is at this place.
-pub fn first_command<S: ImageStore>(
+pub(crate) fn first_command<S: ImageStore>(
     key: u8,
     place: Place,
     ccw: Ccw,
-    _storage: &Storage,
     drive: &mut Drive<S>,
 ) -> First
     requires idle { is_idle drive.old.work ≡ true }
@@ -39,7 +39,7 @@ pub fn first_command<S: ImageStore>(
     requires last { place.last ≤ 2 ^ 24 }
     requires address { ccw.address < 2 ^ 24 }
     requires count { place.residual < 2 ^ 16 }
-    ensures begun { FirstBegun key _storage.now ccw place result drive.old drive.new }
+    ensures begun { (s : StorageState) → FirstBegun key s ccw place result drive.old drive.new }
     ensures quiet { StartsQuietly drive.old drive.new }
 {
     match drive.begin(ccw.code) {

@@ -25,7 +25,7 @@ use s360_words::{Ccw, Csw, Storage};
 
 impl Run {
     /// Does so many units, unless the program ends before.
-    pub fn advance<S: ImageStore>(
+    pub(crate) fn advance<S: ImageStore>(
         &mut self,
         units: u32,
         storage: &mut Storage,
@@ -59,7 +59,7 @@ impl Run {
     }
 
     /// Cuts the program: the open command is closed by the bytes that have passed, where any have.
-    pub fn cut<S: ImageStore>(&mut self, drive: &mut Drive<S>) -> (Csw, bool)
+    pub(crate) fn cut<S: ImageStore>(&mut self, drive: &mut Drive<S>) -> (Csw, bool)
         requires { Fits self.old drive.old }
         ensures cut { (s : StorageState) → EndsBy (λ f. EndsIn s ((standing_in self.old.key (phase_in (run_of self.old) s drive.old)).cut f)) result s drive.old drive.new }
         ensures calls { (s : StorageState) → CallsStore false (has_written (phase_in (run_of self.old) s drive.old)) drive.old drive.new }
@@ -75,7 +75,7 @@ impl Run {
     }
 
     /// Does one unit, or more where bytes move together, and at most as many as are asked for.
-    pub fn step<S: ImageStore>(
+    pub(crate) fn step<S: ImageStore>(
         &mut self,
         most: u32,
         storage: &mut Storage,
@@ -117,14 +117,15 @@ impl Run {
             Fetched::GoodCcw(ccw) => ccw,
         };
         self.place.go_by(ccw);
+        // kept before it is known to work, while its parts are at hand
+        self.keep(ccw);
         match drive.begin(ccw.code) {
             Begun::Rejected => {
                 end_program(self, FAILED, ChannelCondition::Clear, drive);
                 Step::Over
             }
-            Begun::Immediate => self.conclude(ccw, false, storage, drive),
+            Begun::Immediate => self.conclude(ccw, false, drive),
             Begun::Started => {
-                self.keep(ccw);
                 self.comes = Comes::Look;
                 Step::Units(1)
             }
@@ -133,19 +134,13 @@ impl Run {
 
     // The end of a command, and the choice of the next; whether its length is incorrect is known.
     #[inline(always)]
-    fn conclude<S: ImageStore>(
-        &mut self,
-        ccw: Ccw,
-        incorrect: bool,
-        _storage: &Storage,
-        drive: &mut Drive<S>,
-    ) -> Step
+    fn conclude<S: ImageStore>(&mut self, ccw: Ccw, incorrect: bool, drive: &mut Drive<S>) -> Step
         requires key { self.old.key < 16 }
         requires next { self.old.place.next ≤ 2 ^ 24 }
         requires last { self.old.place.last ≤ 2 ^ 24 + 8 }
         requires may { may_end drive.old.work ≡ true }
         requires saved { unsaved drive.old.state ≡ None }
-        ensures comes { ComesBy self.old.key (λ f. next_chosen (choice f self.old.key (request_at _storage.now ccw self.old) (closed_of f drive.old drive.old.work) (status_of (condition_for incorrect (closed_of f drive.old drive.old.work).unit)))) result self.new _storage.now drive.old drive.new }
+        ensures comes { (s : StorageState) → ComesBy self.old.key (λ f. next_chosen (choice f self.old.key (request_at s ccw self.old) (closed_of f drive.old drive.old.work) (status_of (condition_for incorrect (closed_of f drive.old drive.old.work).unit)))) result self.new s drive.old drive.new }
         ensures loads { drive.new.image.loads ≡ drive.old.image.loads }
         ensures calls { CallsAtMost 1 drive.old drive.new }
         ensures unwritten { is_written drive.old.state ≡ false → is_written (closed_of None drive.old drive.old.work).state ≡ false → drive.new.image ≡ drive.old.image }
@@ -163,15 +158,10 @@ impl Run {
 
     // A check closes the command by the bytes that passed, and ends the program. Out of the way of the units that go on.
     #[inline(never)]
-    fn stop<S: ImageStore>(
-        &mut self,
-        condition: ChannelCondition,
-        _storage: &Storage,
-        drive: &mut Drive<S>,
-    ) -> Step
+    fn stop<S: ImageStore>(&mut self, condition: ChannelCondition, drive: &mut Drive<S>) -> Step
         requires may { may_end drive.old.work ≡ true }
         requires saved { unsaved drive.old.state ≡ None }
-        ensures comes { ComesBy self.old.key (λ f. EndsIn _storage.now (ending f self.old.key (run_of self.old).place (closed_of f drive.old drive.old.work) (status_of condition))) result self.new _storage.now drive.old drive.new }
+        ensures comes { (s : StorageState) → ComesBy self.old.key (λ f. EndsIn s (ending f self.old.key (run_of self.old).place (closed_of f drive.old drive.old.work) (status_of condition))) result self.new s drive.old drive.new }
         ensures loads { drive.new.image.loads ≡ drive.old.image.loads }
         ensures calls { CallsAtMost 1 drive.old drive.new }
         ensures quiet { IsQuiet drive.old → drive.new.image ≡ drive.old.image }
@@ -233,8 +223,8 @@ impl Run {
         }
         let flow = flow_of(drive);
         if flow.left == 0 {
-            let incorrect = is_incorrect(self.ccw, residual, 0);
-            return self.conclude(self.ccw, incorrect, storage, drive);
+            let incorrect = is_incorrect(self.ccw, residual, flow.left);
+            return self.conclude(self.ccw, incorrect, drive);
         }
         let most = least(most, residual, flow.left);
         let (key, ccw, address) = (self.key, self.ccw, self.address);
@@ -244,7 +234,7 @@ impl Run {
                 self.address += u32::from(m);
                 Step::Units(m)
             }
-            Err(condition) => self.stop(condition, storage, drive),
+            Err(condition) => self.stop(condition, drive),
         }
     }
 
@@ -264,7 +254,7 @@ impl Run {
         }
         let flow = flow_of(drive);
         let incorrect = is_incorrect(self.ccw, 0, flow.left);
-        self.conclude(self.ccw, incorrect, storage, drive)
+        self.conclude(self.ccw, incorrect, drive)
     }
 
     // The fetch of a word that has a further area of the command that works.
@@ -281,7 +271,7 @@ impl Run {
         match self.place.fetch(storage, false) {
             Fetched::NoCcw => {
                 self.place.miss();
-                self.stop(ChannelCondition::ProgramCheck, storage, drive)
+                self.stop(ChannelCondition::ProgramCheck, drive)
             }
             Fetched::TransferTo(address) => {
                 self.place.transfer(address);

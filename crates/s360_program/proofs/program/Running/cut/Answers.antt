@@ -1,8 +1,7 @@
-use Rattle.std.proofs.Common.{subst, []}
+use Rattle.std.proofs.Common.{[]}
 use Rattle.s360_runs.specs.Units.{EndsIn, standing_in}
 use Rattle.s360_words.specs.Storage.{Storage}
-use Rattle.s360_program.specs.Advances.{Cuts}
-use Rattle.s360_program.specs.Stands.{RunningState, phase_in}
+use Rattle.s360_program.specs.Stands.{phase_in}
 use Rattle.s360_program.specs.Steps.{run_of}
 use Rattle.s360_program.proofs.Advancing.{cuts, cut_tells}
 use Rattle.s360_program.proofs.program.Running.cut.Goals as goal
@@ -12,8 +11,7 @@ returns-clause-cut g c = λ s.
     let r = c.self.inside.run in
     let m = c.cut-motion in
     let d = c.args.drive.now in
-    subst (λ (r : RunningState). Cuts r.key (phase_in r s d) (m.result.0, m.result.1, c.unsaved.result) d m.new.drive) c.self.view_is
-    (cuts r.key (phase_in (run_of r) s d) m.result c.unsaved.result s d m.new.drive (m.ensures.cut s) c.unsaved.ensures)
+    rw (← c.self.view_is) (cuts r.key (phase_in (run_of r) s d) m.result c.unsaved.result s d m.new.drive (m.ensures.cut s) c.unsaved.ensures)
 
 nothing : Storage
 nothing = record { bytes = []; keys = [] }

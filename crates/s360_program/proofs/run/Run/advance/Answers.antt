@@ -1,7 +1,6 @@
-use Rattle.std.proofs.Common.{◌≡◌, ◌∙◌, ◌+◌, ◌-◌, ◌≤◌, ℕ, sym, subst, arith}
+use Rattle.std.proofs.Common.{◌≡◌, ◌∙◌, ◌+◌, ◌-◌, ◌≤◌, ℕ, subst, arith}
 use Rattle.s360_runs.specs.Scripts.{units}
 use Rattle.s360_runs.specs.Units.{walk, StandsIn}
-use Rattle.s360_program.specs.Advances.{CameToEnd}
 use Rattle.s360_program.specs.Stands.{phase_in}
 use Rattle.s360_program.specs.Steps.{run_of, told_of}
 use Rattle.s360_program.proofs.Advancing.{more_units, last_unit}
@@ -40,7 +39,7 @@ returns-in-Over-clause-advances g c =
     let i = c.loop-left.invariant in
     let l = c.loop-left in
     let a = c.args in
-    subst (λ t. CameToEnd a.self.now.key (phase_in (run_of a.self.now) a.storage.now a.drive.now) a.units ((a.units - l.left) + 1) t c.step.new.storage a.drive.now c.step.new.drive) (sym c.told.ensures)
+    rw c.told.ensures
     (last_unit a.self.now.key l.self.key (phase_in (run_of a.self.now) a.storage.now a.drive.now) (phase_in (run_of l.self) l.storage l.drive) (a.units - l.left) a.units (told_of c.step.new.self) c.step.new.storage a.drive.now l.drive c.step.new.drive
     i.key i.walked i.failures (omega (arith, i.within)) c.in-Over.ensures.steps)
 

@@ -1,4 +1,4 @@
-use Rattle.std.proofs.Common.{◌∙◌, refl, sym, ap, subst, false}
+use Rattle.std.proofs.Common.{◌∙◌, refl, sym, ap, subst, false, rules}
 use Rattle.ckd_command.specs.Drive.{is_written}
 use Rattle.ckd_drive.specs.Work.{CallsStore, closed_of, end_saves}
 use Rattle.s360_runs.specs.Endings.{ending, untouched}
@@ -7,44 +7,46 @@ use Rattle.s360_runs.specs.Units.{EndsIn, standing_in}
 use Rattle.s360_program.specs.Place.{place_of}
 use Rattle.s360_program.specs.Stage.{stage_of}
 use Rattle.s360_program.specs.Stands.{phase_in}
-use Rattle.s360_program.specs.Steps.{run_of, told_of, EndsBy}
+use Rattle.s360_program.specs.Steps.{run_of, told_of}
 use Rattle.s360_program.specs.declared.conditions.ChannelCondition.TheVariants as condition
-use Rattle.s360_program.proofs.Cutting.{same_ends, cut_untouched, cut_touched, untouched_written, touched_written, end_moved, saves_together}
+use Rattle.s360_program.proofs.Cutting.{same_ends, cut_untouched, cut_touched, untouched_written, touched_written, end_moved}
 use Rattle.s360_program.proofs.Ends.{stops}
-use Rattle.s360_program.proofs.Meeting.{ends_now}
+use Rattle.s360_program.proofs.Meeting.{ends_now, saves_together}
 use Rattle.s360_program.proofs.run.Run.cut.Goals as goal
 
-pub returns-then-not-has_moved-clause-cut : goal.returns-then-not-has_moved-clause-cut
-returns-then-not-has_moved-clause-cut g c = λ s.
+pub returns-then-not-has_moved : goal.returns-then-not-has_moved
+returns-then-not-has_moved g c =
     let r = c.args.self.now in
     let d = c.args.drive.now in
     let p = c.end_program in
-    subst (λ t. EndsBy (λ f. EndsIn s ((standing_in r.key (phase_in (run_of r) s d)).cut f)) t s d p.new.drive) (sym c.told.ensures)
-    (ends_now (λ f. EndsIn s ((standing_in r.key (phase_in (run_of r) s d)).cut f)) (untouched d.state) r.key (place_of r.place) condition.Clear s (told_of p.new.run) _ d p.new.drive
-    (λ f. ap (EndsIn s) (cut_untouched r.key (stage_of r) (place_of r.place) s d d.work f (sym c.has_moved.ensures ∙ c.if-not-has_moved.true))) refl c.requires.stands.saved p.ensures.calls p.ensures.reported p.ensures.ending)
+    let none = sym c.has_moved.ensures ∙ c.if-not-has_moved.true in
+    record {
+      cut = λ s.
+          rw c.told.ensures
+          (ends_now (λ f. EndsIn s ((standing_in r.key (phase_in (run_of r) s d)).cut f)) (untouched d.state) r.key (place_of r.place) condition.Clear s (told_of p.new.run) _ d p.new.drive refl c.requires.stands.saved
+          (record { calls = p.ensures.calls; reports = p.ensures.reported; is = p.ensures.ending })
+          (λ f. ap (EndsIn s) (cut_untouched r.key (stage_of r) (place_of r.place) s d d.work f c.requires.stands.fits none)));
+      calls = λ s. subst (λ w. CallsStore false w d p.new.drive) (untouched_written (stage_of r) (place_of r.place) s d.state d.work c.requires.stands.fits none) p.ensures.calls;
+      lost = search rules;
+    }
 
-pub returns-then-not-has_moved-clause-calls : goal.returns-then-not-has_moved-clause-calls
-returns-then-not-has_moved-clause-calls g c = λ s.
-    let r = c.args.self.now in
-    let d = c.args.drive.now in
-    subst (λ w. CallsStore false w d c.end_program.new.drive) (untouched_written (stage_of r) (place_of r.place) s d.state d.work (sym c.has_moved.ensures ∙ c.if-not-has_moved.true)) c.end_program.ensures.calls
-
-pub returns-clause-cut : goal.returns-clause-cut
-returns-clause-cut g c = λ s.
-    let r = c.args.self.now in
-    let d = c.args.drive.now in
-    let e = c.end-ending in
-    let p = c.end_program-2 in
-    subst (λ t. EndsBy (λ f. EndsIn s ((standing_in r.key (phase_in (run_of r) s d)).cut f)) t s d p.new.drive) (sym c.told-2.ensures)
-    (same_ends (λ f. EndsIn s ((standing_in r.key (phase_in (run_of r) s d)).cut f)) (λ f. EndsIn s (ending f r.key (place_of r.place) (closed_of f d d.work) no_channel_status)) (told_of p.new.run) s d p.new.drive
-    (λ f. ap (EndsIn s) (cut_touched r.key (stage_of r) (place_of r.place) s d d.work f c.requires.stands.fits (sym c.has_moved.ensures ∙ c.if-not-has_moved.false)))
-    (stops r.key (place_of r.place) condition.Clear s (told_of p.new.run) _ d e.new.self p.new.drive e.result c.requires.stands.saved e.ensures.state e.ensures.ending e.ensures.calls e.ensures.reported p.ensures.calls p.ensures.reported p.ensures.ending))
-
-pub returns-clause-calls : goal.returns-clause-calls
-returns-clause-calls g c = λ s.
+pub returns : goal.returns
+returns g c =
     let r = c.args.self.now in
     let d = c.args.drive.now in
     let e = c.end-ending in
     let p = c.end_program-2 in
-    subst (λ w. CallsStore false w d p.new.drive) (touched_written (stage_of r) (place_of r.place) s d e.new.self c.requires.stands.fits (sym c.has_moved.ensures ∙ c.if-not-has_moved.false) e.ensures.state e.ensures.calls)
-    (saves_together (end_saves d) (is_written e.new.self.state) d e.new.self p.new.drive (end_moved d e.new.self e.ensures.state) e.ensures.calls p.ensures.calls)
+    let some = sym c.has_moved.ensures ∙ c.if-not-has_moved.false in
+    record {
+      cut = λ s.
+          rw c.told-2.ensures
+          (same_ends (λ f. EndsIn s ((standing_in r.key (phase_in (run_of r) s d)).cut f)) (λ f. EndsIn s (ending f r.key (place_of r.place) (closed_of f d d.work) no_channel_status)) (told_of p.new.run) s d p.new.drive
+          (λ f. ap (EndsIn s) (cut_touched r.key (stage_of r) (place_of r.place) s d d.work f c.requires.stands.fits some))
+          (stops r.key (place_of r.place) condition.Clear s (told_of p.new.run) _ d e.new.self p.new.drive e.result
+          (record { saved = c.requires.stands.saved; state = e.ensures.state; ending = e.ensures.ending; calls = e.ensures.calls; reports = e.ensures.reported })
+          (record { calls = p.ensures.calls; reports = p.ensures.reported; is = p.ensures.ending })));
+      calls = λ s.
+          subst (λ w. CallsStore false w d p.new.drive) (touched_written (stage_of r) (place_of r.place) s d e.new.self c.requires.stands.fits some e.ensures.state e.ensures.calls)
+          (saves_together (end_saves d) (is_written e.new.self.state) d e.new.self p.new.drive (end_moved d e.new.self e.ensures.state) e.ensures.calls p.ensures.calls);
+      lost = search rules;
+    }

@@ -1,3 +1,4 @@
+use Rattle.std.proofs.Common.{rules}
 use Rattle.s360_program.proofs.Looking.{look_fails, look_passes, look_fits, look_finds}
 use Rattle.s360_program.proofs.Quiet.{finds_quiet}
 use Rattle.s360_program.proofs.run.Run.look.Goals as goal
@@ -21,15 +22,15 @@ transfer-requires-clause-fits g c =
     let l = c.in-Ready.ensures in
     look_fits a.self.now a.storage.now a.drive.now c.look.new.self c.requires.fits c.requires.stage l.state _ l.answer l.reported
 
-pub returns-in-Ready-clause-steps : goal.returns-in-Ready-clause-steps
-returns-in-Ready-clause-steps g c =
+pub returns-in-Ready : goal.returns-in-Ready
+returns-in-Ready g c =
     let a = c.args in
+    let q = c.requires in
     let l = c.in-Ready.ensures in
     let t = c.transfer in
-    look_finds a.self.now a.storage.now a.drive.now c.look.new.self c.requires.fits c.requires.stage l.state _ l.answer l.reported a.most t.new.self t.new.storage t.result t.new.drive t.ensures.loads t.ensures.steps
-
-pub returns-in-Ready-clause-quiet : goal.returns-in-Ready-clause-quiet
-returns-in-Ready-clause-quiet g c =
-    let a = c.args in
-    let l = c.in-Ready.ensures in
-    finds_quiet a.self.now _ a.drive.now c.look.new.self c.transfer.new.drive c.requires.fits c.requires.stage l.state l.answer l.calls c.transfer.ensures.quiet
+    record {
+      steps = look_finds a.self.now a.storage.now a.drive.now c.look.new.self q.fits q.stage l.state _ l.answer l.reported a.most t.new.self t.new.storage t.result t.new.drive t.ensures.loads t.ensures.steps;
+      storage = search rules;
+      calls = search rules;
+      quiet = finds_quiet a.self.now _ a.drive.now c.look.new.self t.new.drive q.fits q.stage l.state l.answer l.calls t.ensures.quiet;
+    }

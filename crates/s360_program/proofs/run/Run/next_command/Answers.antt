@@ -1,3 +1,4 @@
+use Rattle.std.proofs.Common.{rules}
 use Rattle.s360_program.specs.Place.{place_of}
 use Rattle.s360_program.proofs.Begins.{misses, rejects, immediately}
 use Rattle.s360_program.proofs.Quiet.{immediately_quiet}
@@ -16,17 +17,17 @@ returns-in-Rejected-clause-comes g c =
     let b = c.in-Rejected.ensures in
     let p = c.end_program-in-Rejected in
     rejects a.self.now.key (place_of a.self.now.place) a.storage.now c.in-GoodCcw.ccw a.drive.now c.begin.new.self c.in-GoodCcw.ensures.fetched c.requires.fits.stands.saved b.state
-    _ _ p.new.drive b.answer b.calls b.reported p.ensures.calls p.ensures.reported (place_of c.go_by.new.self) c.go_by.ensures p.ensures.ending
+    _ _ p.new.drive b.answer b.calls b.reported p.ensures.calls p.ensures.reported (place_of c.go_by.new.self) c.go_by.ensures (rw c.keep.ensures at p.ensures.ending)
 
-pub returns-in-Immediate-clause-comes : goal.returns-in-Immediate-clause-comes
-returns-in-Immediate-clause-comes g c =
+pub returns-in-Immediate : goal.returns-in-Immediate
+returns-in-Immediate g c =
     let a = c.args in
     let b = c.in-Immediate.ensures in
     let e = c.conclude in
-    immediately a.self.now.key (place_of a.self.now.place) a.storage.now c.in-GoodCcw.ccw a.drive.now c.begin.new.self c.in-GoodCcw.ensures.fetched c.requires.fits.stands.saved b.state
-    e.new.self e.result e.new.drive b.answer b.reported e.ensures.loads e.ensures.unwritten (place_of c.go_by.new.self) c.go_by.ensures e.ensures.comes
-
-pub returns-in-Immediate-clause-quiet : goal.returns-in-Immediate-clause-quiet
-returns-in-Immediate-clause-quiet g c =
-    let b = c.in-Immediate.ensures in
-    immediately_quiet _ c.in-GoodCcw.ccw.code c.args.drive.now c.begin.new.self c.conclude.new.drive c.requires.fits.stands.saved c.requires.idle b.state b.calls c.conclude.ensures.unwritten
+    let saved = c.requires.fits.stands.saved in
+    record {
+      comes = immediately a.self.now.key (place_of a.self.now.place) a.storage.now c.in-GoodCcw.ccw a.drive.now c.begin.new.self c.in-GoodCcw.ensures.fetched saved b.state
+          e.new.self e.result e.new.drive b.answer b.reported e.ensures.loads e.ensures.unwritten (place_of c.go_by.new.self) c.go_by.ensures (rw c.keep.ensures at (e.ensures.comes a.storage.now));
+      calls = search rules;
+      quiet = immediately_quiet _ c.in-GoodCcw.ccw.code a.drive.now c.begin.new.self e.new.drive saved c.requires.idle b.state b.calls e.ensures.unwritten;
+    }
