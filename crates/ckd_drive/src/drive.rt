@@ -89,6 +89,8 @@ impl<S: ImageStore> Drive<S> {
     /// and `look` is next. Every command takes the sequence credit away, and all but Sense make the sense bytes zero;
     /// Recalibrate and Read IPL send the arm to cylinder 0, head 0 (component descriptions of the 2841 and the 2314, the
     /// sections of the commands).
+    // In line, which each command of a channel program gains by.
+    #[inline(always)]
     pub fn begin(&mut self, code: u8) -> Begun
         requires { is_idle self.old.work ≡ true }
         ensures state { self.new ≡ with_image (after_begin (fault_met self.old self.new) code self.old) self.new.image }
