@@ -1,5 +1,5 @@
 -- The bytes of an area stand where its record stands.
-use Rattle.std.proofs.Common.{◌≡◌, ◌∙◌, ap, sym, subst, refl, ℕ, ◌+◌, ◌-◌, ◌/◌, ◌%◌, ◌≤◌, ◌<◌, List, [], ◌∷◌, ◌++◌, true, false, ◌==◌, length, take, drop, slice_index, length-drop, length-take, length-append, drop-drop, append_assoc, Option, Some, None, Result, Ok, Err, Fits, w8, get_or, IfOk, arith}
+use Rattle.std.proofs.Common.{◌≡◌, ◌∙◌, ap, sym, subst, refl, ℕ, ◌+◌, ◌-◌, ◌/◌, ◌%◌, ◌≤◌, ◌<◌, List, [], ◌∷◌, ◌++◌, true, false, ◌==◌, length, take, drop, slice_index, length-drop, length-take, length-append, drop-drop, Option, Some, None, Result, Ok, Err, Fits, w8, get_or, IfOk, arith}
 use Rattle.std.specs.Result.{result_ok}
 use Rattle.ckd_track.specs.declared.fault.SlotFault.{SlotFault}
 use Rattle.ckd_track.specs.Track.{number_of_records, offsets_of}

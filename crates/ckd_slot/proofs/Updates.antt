@@ -1,5 +1,5 @@
 -- Slots whose area is written bit by bit.
-use Rattle.std.proofs.Common.{◌≡◌, ◌∙◌, ap, sym, subst, ℕ, ◌+◌, ◌-◌, ◌≤◌, ◌<◌, max, false, Option, Some, None, List, ◌++◌, length, take, drop, replicate, length-append, append_assoc, Ok, arith}
+use Rattle.std.proofs.Common.{◌≡◌, ◌∙◌, ap, sym, subst, refl, ℕ, ◌+◌, ◌-◌, ◌≤◌, ◌<◌, max, false, Option, Some, None, List, ◌++◌, length, take, drop, replicate, length-append, append_assoc, Ok, arith}
 use Rattle.std.proofs.lemmas.List.{length-replicate, replicate-append-replicate, length-take-le, drop_at, take-append-drop}
 use Rattle.ckd_track.specs.Track.{Track, Spells, track_of, track_in, track_or_none, record_in, slot_of, end_mark}
 use Rattle.ckd_track.specs.Changes.{end_offset, overwritten, ended_at, IsZeroFrom}
@@ -24,7 +24,7 @@ ended_same s t off b spells is within =
     let last : e + 8 ≤ length s = omega (arith, place-le s t spells (length t.records), end_is t) in
     let same : length x ≡ length s = length-overwritten s off b (omega (arith, within, last)) in
     let tail : drop e x ≡ end_mark ++ replicate (length x - (e + 8)) 0 =
-    drop_over s off e b within (omega (arith, last)) ∙ ap (drop e) (is ∙ sym (ended s t spells)) ∙ drop_at (take e s) (end_mark ++ replicate (length s - (e + 8)) 0) e (length-take-le e s (omega (arith, last)))
+    drop_over s off e b within (omega (arith, last)) ∙ ap (drop e) (is ∙ sym (ended s t (length s) refl spells)) ∙ drop_at (take e s) (end_mark ++ replicate (length s - (e + 8)) 0) e (length-take-le e s (omega (arith, last)))
     ∙ ap (λ (n : ℕ). end_mark ++ replicate (n - (e + 8)) 0) (sym same) in
     rw (← tail) (take-append-drop e x)
 
