@@ -2,9 +2,10 @@
 
 use crate::commands::{NO_PATH, wrong};
 use crate::listings;
+use crate::options::{flag, json, word};
 use crate::requests::{DumpedPart, Numbers, Request, WordFault};
 use ckd_image::MOST_FILES;
-use clap::{Arg, ArgAction, ArgMatches, Command};
+use clap::{ArgAction, ArgMatches, Command};
 use std::alloc::{AllocError, Global};
 
 const TOO_MANY_PATHS: &str = "error: an image has at most eight files\n";
@@ -21,25 +22,18 @@ const ALL_NUMBERS: &str = "0-255";
 
 /// `dasd check`, with the words of a strict one.
 pub(crate) fn check_command<'a>(alloc: Global) -> Result<Command<'a>, AllocError> {
-    let strict = Arg::new(alloc, "strict")
-        .long("strict")
-        .action(ArgAction::SetTrue)
-        .help("prints all that a reader of the drive would trip over, with severities");
-    let command = listings::command(
+    listings::command(
         alloc,
         "check",
         "Prints the tracks of a volume that can't be read",
         "Example: dasd check --strict work.ckd",
-    )?;
-    command.arg(strict)?.arg(json(alloc))
-}
-
-/// The word for lines of JSON.
-pub(crate) fn json<'a>(alloc: Global) -> Arg<'a> {
-    Arg::new(alloc, "json")
-        .long("json")
-        .action(ArgAction::SetTrue)
-        .help("prints one object of JSON a line")
+    )?
+    .arg(flag(
+        alloc,
+        "strict",
+        "prints all that a reader of the drive would trip over, with severities",
+    ))?
+    .arg(json(alloc))
 }
 
 /// What `dasd check` is asked.
@@ -60,15 +54,18 @@ pub(crate) fn read_check<'a>(
 
 /// `dasd dump`.
 pub(crate) fn dump_command<'a>(alloc: Global) -> Result<Command<'a>, AllocError> {
-    let words = Arg::new(alloc, DUMP_WORDS)
-        .required(true)
-        .action(ArgAction::Append)
-        .num_args(3..)
-        .help("the files of an image, and numbers or ranges such as 0-2; records by their numbers");
     Command::new(alloc, "dump")
         .about("Prints the bytes of tracks in hexadecimal and in EBCDIC")
         .after_help("Example: dasd dump work.ckd 0 0-2 1-255")
-        .arg(words)?
+        .arg(
+            word(
+                alloc,
+                DUMP_WORDS,
+                "the files of an image, and numbers or ranges such as 0-2; records by their numbers",
+            )
+            .action(ArgAction::Append)
+            .num_args(3..),
+        )?
         .arg(json(alloc))
 }
 
@@ -138,27 +135,18 @@ pub(crate) fn compare_command<'a>(alloc: Global) -> Result<Command<'a>, AllocErr
     Command::new(alloc, "compare")
         .about("Prints what differs of two volumes, track by track")
         .after_help("Example: dasd compare monday.ckd tuesday.ckd")
-        .arg(compared(
+        .arg(word(
             alloc,
             "A",
             "an image; several files of one are joined by +, as big_1.ckd+big_2.ckd",
         ))?
-        .arg(compared(alloc, "B", "the image that it is compared with"))?
-        .arg(tracks(alloc))?
+        .arg(word(alloc, "B", "the image that it is compared with"))?
+        .arg(flag(
+            alloc,
+            "tracks",
+            "prints how many tracks differ, and no more",
+        ))?
         .arg(json(alloc))
-}
-
-// A volume that is compared.
-fn compared<'a>(alloc: Global, name: &'a str, help: &'a str) -> Arg<'a> {
-    Arg::new(alloc, name).required(true).help(help)
-}
-
-// The word for a count alone.
-fn tracks<'a>(alloc: Global) -> Arg<'a> {
-    Arg::new(alloc, "tracks")
-        .long("tracks")
-        .action(ArgAction::SetTrue)
-        .help("prints how many tracks differ, and no more")
 }
 
 /// What `dasd compare` is asked.

@@ -1,37 +1,43 @@
 //! The commands of `dasd`: each has a module of its own, for its options and for what they ask.
 
+use crate::options::flag;
 use crate::requests::{Asked, Request, WordFault};
 use crate::{archive, explain, extract, format, list, run, vtoc};
 use clap::error::ErrorKind;
-use clap::{Arg, ArgAction, ArgMatches, Command, Error};
+use clap::{ArgMatches, Command, Error};
 use std::alloc::{AllocError, Global};
 
 pub(crate) const NO_PATH: &str = "error: no path\n";
 
 fn dasd_command<'a>(alloc: Global) -> Result<Command<'a>, AllocError> {
-    Command::new(alloc, "dasd")
+    let dasd = Command::new(alloc, "dasd")
         .about("Formats, lists and checks CKD_P370 disk images, and runs decks over them")
         .version("1.1.0")
         .after_help("Example: dasd run 90=new:2311:1 < deck.txt")
-        .subcommand_required(true)
-        .subcommand(verbose(alloc, format::command(alloc)?)?)?
-        .subcommand(verbose(alloc, list::command(alloc)?)?)?
-        .subcommand(verbose(alloc, archive::check_command(alloc)?)?)?
-        .subcommand(verbose(alloc, archive::dump_command(alloc)?)?)?
-        .subcommand(verbose(alloc, archive::compare_command(alloc)?)?)?
-        .subcommand(verbose(alloc, vtoc::command(alloc)?)?)?
-        .subcommand(verbose(alloc, extract::command(alloc)?)?)?
-        .subcommand(verbose(alloc, explain::command(alloc)?)?)?
-        .subcommand(verbose(alloc, run::command(alloc)?)?)
+        .subcommand_required(true);
+    let dasd = with(alloc, dasd, format::command(alloc))?;
+    let dasd = with(alloc, dasd, list::command(alloc))?;
+    let dasd = with(alloc, dasd, archive::check_command(alloc))?;
+    let dasd = with(alloc, dasd, archive::dump_command(alloc))?;
+    let dasd = with(alloc, dasd, archive::compare_command(alloc))?;
+    let dasd = with(alloc, dasd, vtoc::command(alloc))?;
+    let dasd = with(alloc, dasd, extract::command(alloc))?;
+    let dasd = with(alloc, dasd, explain::command(alloc))?;
+    with(alloc, dasd, run::command(alloc))
 }
 
-// A command that may be asked to tell more.
-fn verbose<'a>(alloc: Global, command: Command<'a>) -> Result<Command<'a>, AllocError> {
-    let verbose = Arg::new(alloc, "verbose")
-        .long("verbose")
-        .action(ArgAction::SetTrue)
-        .help("tells more of a fault, also where standard error is no terminal");
-    command.arg(verbose)
+// The program with one command more, which may be asked to tell more.
+fn with<'a>(
+    alloc: Global,
+    dasd: Command<'a>,
+    command: Result<Command<'a>, AllocError>,
+) -> Result<Command<'a>, AllocError> {
+    let verbose = flag(
+        alloc,
+        "verbose",
+        "tells more of a fault, also where standard error is no terminal",
+    );
+    dasd.subcommand(command?.arg(verbose)?)
 }
 
 /// Reads the words of `dasd`, the first of which is the program's name.

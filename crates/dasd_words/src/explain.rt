@@ -1,9 +1,10 @@
 //! The words of `dasd explain`: numbers that somebody has noted, in hexadecimal digits.
 
 use crate::commands::wrong;
+use crate::options::{word, words};
 use crate::requests::{Noted, Request, WordFault};
 use arrayvec::ArrayVec;
-use clap::{Arg, ArgAction, ArgMatches, Command};
+use clap::{ArgMatches, Command};
 use std::alloc::{AllocError, Global};
 
 const NO_NUMBER: &str = "error: no number\n";
@@ -28,20 +29,17 @@ const MOST_BYTES: usize = 8;
 
 /// The command, with its words.
 pub(crate) fn command<'a>(alloc: Global) -> Result<Command<'a>, AllocError> {
-    let kind = Arg::new(alloc, "NUMBER")
-        .required(true)
-        .value_parser(["csw", "sense", "ccw"].as_slice())
-        .help("what the digits are");
-    let digits = Arg::new(alloc, "DIGITS")
-        .required(true)
-        .action(ArgAction::Append)
-        .num_args(1..)
-        .help("hexadecimal digits, in one word or in several");
     Command::new(alloc, "explain")
         .about("Says in words what status, sense bytes and command words mean")
         .after_help(NUMBER_TABLE)
-        .arg(kind)?
-        .arg(digits)
+        .arg(word(alloc, "NUMBER", "what the digits are").value_parser([
+            "csw", "sense", "ccw",
+        ].as_slice()))?
+        .arg(words(
+            alloc,
+            "DIGITS",
+            "hexadecimal digits, in one word or in several",
+        ))
 }
 
 /// What it is asked to say.

@@ -1,9 +1,10 @@
 //! The words of `dasd extract`.
 
-use crate::archive::{json, read_paths};
+use crate::archive::read_paths;
 use crate::commands::{NO_PATH, wrong};
+use crate::options::{flag, json, option, words};
 use crate::requests::{ExtractedSet, ExtractedVolume, Request, SetName, WordFault};
-use clap::{Arg, ArgAction, ArgMatches, Command};
+use clap::{Arg, ArgMatches, Command};
 use std::alloc::{AllocError, Global};
 
 /// The name of the words of an extraction.
@@ -16,33 +17,37 @@ const ALL_JSON: &str = "error: --json goes with --all\n";
 
 /// The command, with its words.
 pub(crate) fn command<'a>(alloc: Global) -> Result<Command<'a>, AllocError> {
-    let words = Arg::new(alloc, WORDS)
-        .required(true)
-        .action(ArgAction::Append)
-        .num_args(1..)
-        .help(
-            "the files of an image, and a data set, as PAYROLL or SYS1.MACLIB(OPEN); with --all no name",
-        );
-    let to = Arg::new(alloc, "to")
-        .long("to")
-        .value_name("FILE")
-        .conflicts_with("all")?
-        .help("a new file for what is taken out; standard output where there is none");
-    let all = Arg::new(alloc, "all").long("all").value_name("DIR").help(
-        "takes out all data sets and members, each into a new file of this folder",
-    );
-    let text = Arg::new(alloc, "text")
-        .long("text")
-        .action(ArgAction::SetTrue)
-        .help("writes records as lines of text, from EBCDIC; without it, blocks as they stand");
     Command::new(alloc, "extract")
         .about("Takes data sets and members of partitioned ones out of a volume")
         .after_help("Example: dasd extract pack.ckd 'SYS1.MACLIB(OPEN)' --text --to open.txt")
-        .arg(words)?
-        .arg(to)?
-        .arg(all)?
-        .arg(text)?
+        .arg(words(
+            alloc,
+            WORDS,
+            "the files of an image, and a data set, as PAYROLL or SYS1.MACLIB(OPEN); with --all no name",
+        ))?
+        .arg(to(alloc)?)?
+        .arg(option(
+            alloc,
+            "all",
+            "DIR",
+            "takes out all data sets and members, each into a new file of this folder",
+        ))?
+        .arg(flag(
+            alloc,
+            "text",
+            "writes records as lines of text, from EBCDIC; without it, blocks as they stand",
+        ))?
         .arg(json(alloc))
+}
+
+fn to<'a>(alloc: Global) -> Result<Arg<'a>, AllocError> {
+    option(
+        alloc,
+        "to",
+        "FILE",
+        "a new file for what is taken out; standard output where there is none",
+    )
+    .conflicts_with("all")
 }
 
 /// What it is asked: the last word is the name, and all before it are paths; with `--all` all are paths.

@@ -1,10 +1,11 @@
 //! The words of `dasd format`.
 
 use crate::commands::{NO_PATH, wrong};
+use crate::options::{flag, option, word};
 use crate::requests::{Request, WordFault};
 use crate::volumes::read_model;
 use ckd_track::DriveModel;
-use clap::{Arg, ArgAction, ArgMatches, Command};
+use clap::{Arg, ArgMatches, Command};
 use std::alloc::{AllocError, Global};
 
 /// The number of cylinders without the word for it.
@@ -12,32 +13,29 @@ const CYLINDERS: u16 = 203;
 
 /// The command, with its options.
 pub(crate) fn command<'a>(alloc: Global) -> Result<Command<'a>, AllocError> {
-    let path = Arg::new(alloc, "PATH").required(true).help(
-        "the image file, which is made, or replaced if it is there",
-    );
-    let model = Arg::new(alloc, "model")
-        .long("model")
-        .value_name("M")
-        .default_value("2311")
-        .value_parser(["2311", "2314"].as_slice())
-        .help("the drive");
-    let cylinders = Arg::new(alloc, "cylinders")
-        .long("cylinders")
-        .value_name("N")
-        .default_value("203")
-        .value_parser(clap::value_parser!(u16).range(1..))
-        .help("the number of cylinders");
-    let keeps = Arg::new(alloc, "no-replace")
-        .long("no-replace")
-        .action(ArgAction::SetTrue)
-        .help("refuses to replace a file");
     Command::new(alloc, "format")
         .about("Writes a new image")
         .after_help("Example: dasd format work.ckd --model 2314 --cylinders 10")
-        .arg(path)?
-        .arg(model)?
-        .arg(cylinders)?
-        .arg(keeps)
+        .arg(word(
+            alloc,
+            "PATH",
+            "the image file, which is made, or replaced if it is there",
+        ))?
+        .arg(model(alloc))?
+        .arg(cylinders(alloc))?
+        .arg(flag(alloc, "no-replace", "refuses to replace a file"))
+}
+
+fn model<'a>(alloc: Global) -> Arg<'a> {
+    option(alloc, "model", "M", "the drive")
+        .default_value("2311")
+        .value_parser(["2311", "2314"].as_slice())
+}
+
+fn cylinders<'a>(alloc: Global) -> Arg<'a> {
+    option(alloc, "cylinders", "N", "the number of cylinders")
+        .default_value("203")
+        .value_parser(clap::value_parser!(u16).range(1..))
 }
 
 /// What it is asked to do.

@@ -9,6 +9,7 @@ mod extract;
 mod format;
 mod list;
 mod listings;
+mod options;
 mod requests;
 mod run;
 mod volumes;

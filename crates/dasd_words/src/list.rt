@@ -1,31 +1,35 @@
 //! The words of `dasd list`.
 
-use crate::archive::{json, read_numbers};
+use crate::archive::read_numbers;
 use crate::commands::wrong;
 use crate::listings;
+use crate::options::{flag, json, option};
 use crate::requests::{ListedPart, Numbers, Request, WordFault};
-use clap::{Arg, ArgAction, ArgMatches, Command};
+use clap::{ArgMatches, Command};
 use std::alloc::{AllocError, Global};
 
 const NO_CYLINDERS: &str = "error: --cylinder wants a number or a range, as 3 or 0-2\n";
 
 /// The command, with its words.
 pub(crate) fn command<'a>(alloc: Global) -> Result<Command<'a>, AllocError> {
-    let cylinders = Arg::new(alloc, "cylinder")
-        .long("cylinder")
-        .value_name("A-B")
-        .help("lists the cylinders from A to B, or one that is a number alone");
-    let used = Arg::new(alloc, "used")
-        .long("used")
-        .action(ArgAction::SetTrue)
-        .help("lists only tracks that have more than one record or can't be read");
-    let command = listings::command(
+    listings::command(
         alloc,
         "list",
         "Prints a volume with its tracks and records",
         "Example: dasd list work.ckd",
-    )?;
-    command.arg(cylinders)?.arg(used)?.arg(json(alloc))
+    )?
+    .arg(option(
+        alloc,
+        "cylinder",
+        "A-B",
+        "lists the cylinders from A to B, or one that is a number alone",
+    ))?
+    .arg(flag(
+        alloc,
+        "used",
+        "lists only tracks that have more than one record or can't be read",
+    ))?
+    .arg(json(alloc))
 }
 
 /// What it is asked.

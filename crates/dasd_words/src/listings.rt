@@ -1,9 +1,10 @@
 //! The words of a command over the files of one image.
 
 use crate::commands::{NO_PATH, wrong};
+use crate::options::word;
 use crate::requests::WordFault;
 use ckd_image::MOST_FILES;
-use clap::{Arg, ArgAction, ArgMatches, Command};
+use clap::{ArgAction, ArgMatches, Command};
 use std::alloc::{AllocError, Global};
 
 const TOO_MANY_PATHS: &str = "error: an image has at most eight files\n";
@@ -15,15 +16,18 @@ pub(crate) fn command<'a>(
     about: &'a str,
     example: &'a str,
 ) -> Result<Command<'a>, AllocError> {
-    let paths = Arg::new(alloc, "PATH")
-        .required(true)
-        .action(ArgAction::Append)
-        .num_args(1..=8)
-        .help("the image file, or the files of one image in their order");
     Command::new(alloc, name)
         .about(about)
         .after_help(example)
-        .arg(paths)
+        .arg(
+            word(
+                alloc,
+                "PATH",
+                "the image file, or the files of one image in their order",
+            )
+            .action(ArgAction::Append)
+            .num_args(1..=8),
+        )
 }
 
 /// The files that it is asked of.

@@ -1,9 +1,10 @@
 //! The words of `dasd run`.
 
 use crate::decks::DECK_TABLE;
+use crate::options::{flag, option, words};
 use crate::requests::{DeckRun, Request, TraceTarget, WordFault};
 use crate::volumes::{Volume, add_volume, read_volume};
-use clap::{Arg, ArgAction, ArgMatches, Command};
+use clap::{Arg, ArgMatches, Command};
 use std::alloc::{AllocError, Global};
 
 /// What an option is without its word.
@@ -13,45 +14,50 @@ const CHANNEL: u8 = 1;
 
 /// The command, with its options.
 pub(crate) fn command<'a>(alloc: Global) -> Result<Command<'a>, AllocError> {
-    let storage = Arg::new(alloc, "storage")
-        .long("storage")
-        .value_name("N")
-        .default_value("65536")
-        .value_parser(clap::value_parser!(u32))
-        .help("the size of main storage in bytes");
-    let channel = Arg::new(alloc, "channel")
-        .long("channel")
-        .value_name("N")
-        .default_value("1")
-        .value_parser(clap::value_parser!(u8))
-        .help("the number of the channel");
-    let deck = Arg::new(alloc, "deck")
-        .long("deck")
-        .value_name("FILE")
-        .help("the deck; standard input where there is none");
-    let trace = Arg::new(alloc, "trace")
-        .long("trace")
-        .action(ArgAction::SetTrue)
-        .help("tells on standard error what each channel command word does");
-    let trace_to = Arg::new(alloc, "trace-to")
-        .long("trace-to")
-        .value_name("FILE")
-        .conflicts_with("trace")?
-        .help("as --trace, into a file, whose bytes are replaced");
-    let volumes = Arg::new(alloc, "VOLUME")
-        .required(true)
-        .action(ArgAction::Append)
-        .num_args(1..)
-        .help("a drive: UU=PATH, or UU=new:M:N for a new volume in memory");
     Command::new(alloc, "run")
         .about("Runs a deck of channel instructions, and replaces the images that it changed")
         .after_help(DECK_TABLE)
-        .arg(storage)?
-        .arg(channel)?
-        .arg(deck)?
-        .arg(trace)?
-        .arg(trace_to)?
-        .arg(volumes)
+        .arg(storage(alloc))?
+        .arg(channel(alloc))?
+        .arg(option(
+            alloc,
+            "deck",
+            "FILE",
+            "the deck; standard input where there is none",
+        ))?
+        .arg(flag(
+            alloc,
+            "trace",
+            "tells on standard error what each channel command word does",
+        ))?
+        .arg(trace_to(alloc)?)?
+        .arg(words(
+            alloc,
+            "VOLUME",
+            "a drive: UU=PATH, or UU=new:M:N for a new volume in memory",
+        ))
+}
+
+fn storage<'a>(alloc: Global) -> Arg<'a> {
+    option(alloc, "storage", "N", "the size of main storage in bytes")
+        .default_value("65536")
+        .value_parser(clap::value_parser!(u32))
+}
+
+fn channel<'a>(alloc: Global) -> Arg<'a> {
+    option(alloc, "channel", "N", "the number of the channel")
+        .default_value("1")
+        .value_parser(clap::value_parser!(u8))
+}
+
+fn trace_to<'a>(alloc: Global) -> Result<Arg<'a>, AllocError> {
+    option(
+        alloc,
+        "trace-to",
+        "FILE",
+        "as --trace, into a file, whose bytes are replaced",
+    )
+    .conflicts_with("trace")
 }
 
 /// What it is asked to do.

@@ -1,7 +1,7 @@
 //! The words of `dasd vtoc`.
 
-use crate::archive::json;
 use crate::listings;
+use crate::options::json;
 use crate::requests::{Request, WordFault};
 use clap::{ArgMatches, Command};
 use std::alloc::{AllocError, Global};
