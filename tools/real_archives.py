@@ -3,7 +3,7 @@
 tools/rows/archives.rows has rows, with an empty line between. The first line of a row is its name. A line such as `track 3 21 C1*80`
 puts bytes into the slot of a track of a new 2311 of one cylinder, from a place on; one that begins with `other` does so with the
 volume that a comparison is made with. A line `check`, `dump` or `compare` is a command over the volumes as the lines of the whole row
-make them. tools/rows/archives.answers has for each row its name, and then what its commands print. Both were worked out by hand."""
+make them; one that must end with another status than 0 has it at its end, as `status 1`. tools/rows/archives.answers has for each row its name, and then what its commands print. Both were worked out by hand."""
 
 from pathlib import Path
 
@@ -33,28 +33,31 @@ def made(lines, kind):
 
 
 def command(line):
-    """The words of `dasd` for a line of a row; none for a line that is no command."""
-    word, *rest = line.split()
+    """The words of `dasd` for a line of a row, and the status that they must end with; none for a line that is no command."""
+    said, _, status = line.partition(" status ")
+    word, *rest = said.split()
     if word not in ("check", "dump", "compare"):
         return None
     style = {"text": [], "json": ["--json"]}[rest[0]]
     if word == "check":
-        return ["check", "--strict", *style, "a.ckd"]
-    if word == "dump":
-        return ["dump", *style, "a.ckd", *rest[1:]]
-    return ["compare", *({"lists": [], "counts": ["--tracks"]}[rest[1]]), *style, "a.ckd", "b.ckd"]
+        words = ["check", "--strict", *style, "a.ckd"]
+    elif word == "dump":
+        words = ["dump", *style, "a.ckd", *rest[1:]]
+    else:
+        words = ["compare", *({"lists": [], "counts": ["--tracks"]}[rest[1]]), *style, "a.ckd", "b.ckd"]
+    return words, int(status or 0)
 
 
 def player(lines, wanted):
-    """Plays a row: what its commands print, one behind another, and that they say nothing on standard error."""
+    """Plays a row: what its commands print, one behind another, the status of each, and that they say nothing on standard error."""
 
     def play(s):
         s.put("a.ckd", made(lines, "track"))
         s.put("b.ckd", made(lines, "other"))
         printed = ""
-        for words in filter(None, map(command, lines)):
+        for words, wanted_status in filter(None, map(command, lines)):
             status, out, told = s.dasd(*words)
-            same((status in (0, 1), told), (True, ""), " ".join(words))
+            same((status, told), (wanted_status, ""), " ".join(words))
             printed += out
         same(printed, wanted)
 

@@ -1,6 +1,7 @@
 """The program `dasd`, or any that takes the same words: each vector is one run, its deck on standard input.
 
-A traced program also writes a trace of each run, into a file that is thrown away: its answers and volumes must be those without.
+A traced program also writes a trace of each run: its answers and volumes must be those without, and the trace tells of each Start I/O what
+its answer says.
 """
 import os
 import shlex
@@ -12,6 +13,22 @@ from ..volumes import BadImage, Volume
 from . import Emulator
 
 
+def starts(lines):
+    """Of each Start I/O that these lines tell of: its unit and its condition code."""
+    return [line.replace(",", "").split()[1:4] for line in lines if line.startswith("SIO ")]
+
+
+def tells_of(outcome, trace):
+    """Whether a trace has the starts that the answers have. A run that ends with a fault may not have printed its last answers."""
+    try:
+        with open(trace, encoding="latin1") as text:
+            traced = starts(text)
+    except FileNotFoundError:
+        return outcome.fault is not None
+    answered = starts(outcome.answers)
+    return traced[: len(answered)] == answered and (outcome.fault is not None or len(traced) == len(answered))
+
+
 class DasdProgram(Emulator):
     def __init__(self, command, traced=False, seconds=60):
         self.name = "dasd, traced" if traced else "dasd"
@@ -19,7 +36,7 @@ class DasdProgram(Emulator):
 
     def play(self, vector):
         with tempfile.TemporaryDirectory() as room:
-            words, paths = [], {}
+            words, paths, trace = [], {}, os.path.join(room, "trace")
             for unit, volume in vector.before().items():
                 paths[unit] = []
                 for number, data in enumerate(volume.files()):
@@ -30,12 +47,15 @@ class DasdProgram(Emulator):
                     words.append("%02X=%s" % (unit, path))
             options = ["run", "--storage", str(vector.storage), "--channel", str(vector.channel)]
             if self.traced:
-                options += ["--trace-to", os.path.join(room, "trace")]
+                options += ["--trace-to", trace]
             try:
                 ran = subprocess.run([*self.command, *options, *words], input=vector.deck, capture_output=True, timeout=self.seconds)
             except (OSError, subprocess.TimeoutExpired) as fault:
                 return Outcome(broke="the program did not end well: %s" % fault)
-            return self.outcome(ran, paths)
+            outcome = self.outcome(ran, paths)
+            if self.traced and outcome.broke is None and not tells_of(outcome, trace):
+                return Outcome(broke="the trace tells of other starts than the answers")
+            return outcome
 
     @staticmethod
     def outcome(ran, paths):
