@@ -7,13 +7,14 @@ import tempfile
 import unittest
 import xml.etree.ElementTree as xml
 
+from suite.adapters.dasd import tells_of
 from suite.adapters.model import ModelEmulator
 from suite.adapters.protocol import Broke, ProtocolEmulator
 from suite.adapters.spoiled import Spoiled
 from suite.drive import Profile
 from suite.marks import NEEDS, PROFILE, manual_of, needs_of, profile_of, read_rules
 from suite.report import LEFT_OUT, RIGHT, WRONG, Result, junit, table
-from suite.vectors import HERE, all_vectors, difference
+from suite.vectors import HERE, Outcome, all_vectors, difference
 
 VECTORS = all_vectors()
 RULES = read_rules()
@@ -120,6 +121,30 @@ class WrongEmulators(unittest.TestCase):
         vector = next(it for it in VECTORS if it.name == "write-data-clears-behind-the-end-mark")
         self.assertIsNotNone(difference(vector, model.play(vector)))
         self.assertIsNone(difference(vector, model.play(vector), ["zeros"]))
+
+
+class Traces(unittest.TestCase):
+    """A traced run of `dasd` is held to the starts that its answers tell of."""
+
+    def told(self, trace, fault=None):
+        with tempfile.TemporaryDirectory() as room:
+            path = os.path.join(room, "trace")
+            if trace is not None:
+                with open(path, "w", encoding="latin1") as it:
+                    it.write(trace)
+            return tells_of(Outcome(["SIO 190 CC 0", "STEP 5", "SIO 191 CC 3"], fault), path)
+
+    def test_the_same_starts_are_right(self):
+        self.assertTrue(self.told("SIO 190 CC 0, started\n 000400 03 No-Operation\nSIO 191 CC 3, no such drive\n"))
+
+    def test_a_start_too_few_or_another_condition_code_is_wrong(self):
+        self.assertFalse(self.told("SIO 190 CC 0, started\n"))
+        self.assertFalse(self.told("SIO 190 CC 2, busy\nSIO 191 CC 3, no such drive\n"))
+        self.assertFalse(self.told(""))
+
+    def test_no_trace_is_right_only_for_a_deck_that_was_refused(self):
+        self.assertFalse(self.told(None))
+        self.assertTrue(self.told(None, "line 1: no such word"))
 
 
 class Runner(unittest.TestCase):
