@@ -25,7 +25,7 @@ pub never_both : {P : Type 0} (x : Option (ℕ × ℕ)) → x ≡ None → is_so
 never_both None e h = absurd (cc)
 never_both (Some t) e h = absurd (cc)
 
-untrue : {P : Type 0} → false ≡ true → P
+pub untrue : {P : Type 0} → false ≡ true → P
 untrue h = absurd (cc)
 
 -- whether a track is lost does not hang on where the arm is
@@ -35,16 +35,12 @@ anywhere Written r q e = refl
 anywhere Lost r q e = absurd (cc)
 
 -- what holds where a save goes, and where a track that was written is lost, holds of a save
-by_save : {A : Type 0} (P : A → Type 0) (f : Option Fault) (s : State) (fails : State → A) (goes : A) → P goes → ((left : List ℕ) → s.mark ≡ Written → P (fails (lost s left))) → P (moving_off f s fails goes)
+pub by_save : {A : Type 0} (P : A → Type 0) (f : Option Fault) (s : State) (fails : State → A) (goes : A) → P goes → ((left : List ℕ) → s.mark ≡ Written → P (fails (lost s left))) → P (moving_off f s fails goes)
 by_save P f s fails goes h k = go f s.mark refl
   where
     go : (f : Option Fault) (m : Mark) → s.mark ≡ m → P (saving (left_by f m) s fails goes)
     go (Some (SaveFails left)) Written e = k left e
     go _ _ e = h
-
--- and without a fault
-by_save_alone : {A : Type 0} (P : A → Type 0) (s : State) (fails : State → A) (goes : A) → P goes → P (moving_off None s fails goes)
-by_save_alone P s fails goes h = h
 
 -- Only what was written is lost, or is written behind it.
 
@@ -181,7 +177,7 @@ begin_calm Q code s h = go (beginning code s.registers) (beginning_silent code s
     go (answer.Rejected r) k = calm_registers Q s r h k
     go (answer.Immediate r) k = calm_registers Q s r h k
     go (answer.Started r o) k = calm_registers Q s r h k
-    go (answer.ToCylinderZero r o) k = by_save_alone (BegunCalm Q) (with_registers s r) Rejected (at_cylinder_zero s r o) (at_zero r o k)
+    go (answer.ToCylinderZero r o) k = at_zero r o k
 
 abbrev pub LookCalm : Type 0 → AfterLook → Type 0
 LookCalm Q (Ready o) = Calm Q (state_of o)
@@ -194,7 +190,7 @@ look_calm Q o h = go (aim o.opened.command) _ (sight_silent o.state.volume.geome
     at : (s : Sight) → SightSilent o.state.registers s → LookCalm Q (looked None o s)
     at (answer.Found opened) k = h
     at (answer.IndexPassed r) k = calm_registers Q o.state r h k
-    at (answer.NextHead r) k = by_save_alone (LookCalm Q) o.state Failed (Passed (record o { state = moved o.state r })) (calm_moved Q o.state r h k)
+    at (answer.NextHead r) k = calm_moved Q o.state r h k
     at (answer.Missed r) k = calm_registers Q o.state r h k
 
     go : (a : Aim) (s : Sight) → SightSilent o.state.registers s → LookCalm Q (look_for None o a s)
@@ -208,5 +204,5 @@ close_calm Q o b h = go (closing_of o b) (closing_of o b).moves_off (closing_fac
     stays c (Some t) k = record { saved = refl; quiet = λ q. k (h.quiet q) }
 
     go : (c : Closing) (moves_off : Bool) → NotTold o.state.registers c.registers → Calm Q (closed None o.state c moves_off).state
-    go c true k = by_save_alone (λ x. Calm Q x.state) o.state failed (closed_moving o.state c) (calm_moved Q o.state c.registers h k)
+    go c true k = calm_moved Q o.state c.registers h k
     go c false k = stays c c.written k
