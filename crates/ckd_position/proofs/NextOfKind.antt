@@ -10,7 +10,7 @@ use Rattle.ckd_position.specs.declared.areas.Part.TheVariants.{Count, Key, Data}
 use Rattle.ckd_position.specs.declared.areas.Area.{Area}
 use Rattle.ckd_position.specs.declared.areas.Area.TheVariants.{HomeAddress, Of}
 use Rattle.ckd_position.specs.declared.areas.Position.{Position}
-use Rattle.ckd_position.specs.declared.areas.Position.TheVariants.{AtIndex, At}
+use Rattle.ckd_position.specs.declared.areas.Position.TheVariants.{At}
 use Rattle.ckd_position.specs.declared.areas.Kind.TheVariants as kind
 use Rattle.ckd_position.specs.declared.areas.Next.TheVariants.{IndexPassed}
 use Rattle.ckd_position.specs.Areas.{areas_from, areas, has_key, found, is_behind, takes, next_of_kind}
@@ -50,17 +50,13 @@ none_found test none (a ∷ as') = rw (none a) (none_found test none as')
 
 -- the count areas of the records that have begun have passed
 count_passed : (t : Track) (p : Position) (j : ℕ) → j < records_begun t p → is_behind p (Of Count j) ≡ false
-count_passed t AtIndex j h = absurd (omega arith)
-count_passed t (At HomeAddress) j h = absurd (omega arith)
 count_passed t (At (Of Count i)) j h = grind (arith, nat_tests)
-count_passed t (At (Of Key i)) j h = grind (arith, nat_tests)
-count_passed t (At (Of Data i)) j h = grind (arith, nat_tests)
+count_passed t _ j h = grind (arith, nat_tests)
 
 -- and every area of the others is still to pass
 still_behind : (t : Track) (p : Position) (part : Part) (j : ℕ) → records_begun t p ≤ j → j < length t.records → is_behind p (Of part j) ≡ true
-still_behind t AtIndex part j h l = refl
-still_behind t (At HomeAddress) part j h l = refl
 still_behind t (At (Of q i)) part j h l = grind (arith, nat_tests)
+still_behind t _ part j h l = refl
 
 pub any_count : (t : Track) (p : Position) → next_of_kind t p kind.AnyCount ≡ part_on t Count (records_begun t p)
 any_count t p = part_found (takes kind.AnyCount p) Count t (records_begun t p) (record {
@@ -80,11 +76,9 @@ pub no_first_count : (t : Track) (p : Position) → 0 < records_begun t p → ne
 no_first_count t p h = none_found (takes kind.FirstCount p) none (areas t)
   where
     none : (a : Area) → takes kind.FirstCount p a ≡ false
-    none HomeAddress = refl
     none (Of Count zero) = count_passed t p 0 h
     none (Of Count (suc i)) = grind (arith, nat_tests)
-    none (Of Key i) = refl
-    none (Of Data i) = refl
+    none _ = refl
 
 pub later_count : (t : Track) (p : Position) → next_of_kind t p kind.LaterCount ≡ part_on t Count (max (records_begun t p) 1)
 later_count t p = part_found (takes kind.LaterCount p) Count t (max (records_begun t p) 1) (record {
@@ -120,26 +114,17 @@ pub no_first_data : (t : Track) (p : Position) → is_behind p (Of Data 1) ≡ f
 no_first_data t p e = none_found (takes kind.FirstData p) none (areas t)
   where
     none : (a : Area) → takes kind.FirstData p a ≡ false
-    none HomeAddress = refl
-    none (Of Count i) = refl
-    none (Of Key i) = refl
-    none (Of Data zero) = refl
     none (Of Data (suc zero)) = e
     none (Of Data (suc (suc i))) = grind (arith, nat_tests)
+    none _ = refl
 
 data_passed : (t : Track) (p : Position) (j : ℕ) → j < data_record t p → takes kind.Data p (Of Data j) ≡ false
-data_passed t AtIndex j h = grind (arith, nat_tests)
-data_passed t (At HomeAddress) j h = grind (arith, nat_tests)
 data_passed t (At (Of Count i)) j h = grind (arith, nat_tests)
-data_passed t (At (Of Key i)) j h = grind (arith, nat_tests)
-data_passed t (At (Of Data i)) j h = grind (arith, nat_tests)
+data_passed t _ j h = grind (arith, nat_tests)
 
 data_taken : (t : Track) (p : Position) → data_record t p < length t.records → takes kind.Data p (Of Data (data_record t p)) ≡ true
-data_taken t AtIndex l = refl
-data_taken t (At HomeAddress) l = refl
 data_taken t (At (Of Count i)) l = grind (arith, nat_tests)
-data_taken t (At (Of Key i)) l = grind (arith, nat_tests)
-data_taken t (At (Of Data i)) l = grind (arith, nat_tests)
+data_taken t _ l = grind (arith, nat_tests)
 
 pub next_data : (t : Track) (p : Position) → next_of_kind t p kind.Data ≡ part_on t Data (data_record t p)
 next_data t p = part_found (takes kind.Data p) Data t (data_record t p) (record {
@@ -151,26 +136,17 @@ next_data t p = part_found (takes kind.Data p) Data t (data_record t p) (record 
 -- Key areas, and key and data areas together.
 
 key_passed : (t : Track) (p : Position) (j : ℕ) → j < key_record t p → takes kind.Key p (Of Key j) ≡ false
-key_passed t AtIndex j h = grind (arith, nat_tests)
-key_passed t (At HomeAddress) j h = grind (arith, nat_tests)
 key_passed t (At (Of Count i)) j h = grind (arith, nat_tests)
-key_passed t (At (Of Key i)) j h = grind (arith, nat_tests)
-key_passed t (At (Of Data i)) j h = grind (arith, nat_tests)
+key_passed t _ j h = grind (arith, nat_tests)
 
 key_taken : (t : Track) (p : Position) (j : ℕ) → key_record t p ≤ j → j < length t.records → takes kind.Key p (Of Key j) ≡ true
-key_taken t AtIndex j h l = grind (arith, nat_tests)
-key_taken t (At HomeAddress) j h l = grind (arith, nat_tests)
 key_taken t (At (Of Count i)) j h l = grind (arith, nat_tests)
-key_taken t (At (Of Key i)) j h l = grind (arith, nat_tests)
-key_taken t (At (Of Data i)) j h l = grind (arith, nat_tests)
+key_taken t _ j h l = grind (arith, nat_tests)
 
 -- key and data are taken together where the key is
 whole_taken : (p : Position) (j : ℕ) → takes kind.KeyAndData p (Of Data j) ≡ takes kind.Key p (Of Key j)
-whole_taken AtIndex j = grind (arith, nat_tests)
-whole_taken (At HomeAddress) j = grind (arith, nat_tests)
 whole_taken (At (Of Count i)) j = grind (arith, nat_tests)
-whole_taken (At (Of Key i)) j = grind (arith, nat_tests)
-whole_taken (At (Of Data i)) j = grind (arith, nat_tests)
+whole_taken _ j = grind (arith, nat_tests)
 
 pub next_key_and_data : (t : Track) (p : Position) → next_of_kind t p kind.KeyAndData ≡ part_on t Data (key_record t p)
 next_key_and_data t p = part_found (takes kind.KeyAndData p) Data t (key_record t p) (record {
