@@ -65,6 +65,9 @@ ha_slot s ha five room =
     let front : take 5 (overwritten s 0 ha) ≡ ha ++ [] = take_at ha (drop (0 + length ha) s) 5 five ∙ sym (append-nil ha) in
     ended_at-slot (overwritten s 0 ha) (bare_track ha) 5 (length s) (length-overwritten s 0 ha (omega arith)) front room
 
+pub ha_read : (ha : List ℕ) (n : ℕ) → length ha ≡ 5 → track_of (slot_of n (bare_track ha)) ≡ Ok (bare_track ha)
+ha_read ha n five = slot_of_reads n (bare_track ha) five (All-nil IsRecord)
+
 -- Other bytes in the areas of a record.
 
 module _ (s : List ℕ) (t : Track) (spells : Spells s t) (i : ℕ) (lt : i < length t.records) where
