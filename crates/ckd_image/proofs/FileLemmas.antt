@@ -166,8 +166,6 @@ module _ {S : Type 0} where
 
   located : (content : S → List ℕ) (size : ℕ) (files : List (Option S)) (tracks : List ℕ) (track : ℕ) → HoldTracks content size files tracks → length files ≡ length tracks → track < sum tracks → Located content size files track (place_in tracks track)
   located content size [] [] track holds count h = absurd (omega arith)
-  located content size [] (n ∷ tracks) track holds count h = absurd (omega arith)
-  located content size (f ∷ files) [] track holds count h = absurd (omega arith)
   located content size (f ∷ files) (n ∷ tracks) track holds count h =
       by (nat_lt track n) refl (λ above. located content size files tracks (track - n) (tracks_behind content size f files n tracks holds).1 (omega arith) (below above (subst (λ (k : ℕ). track < k) (sum_cons n tracks) h)))
     where
@@ -177,6 +175,7 @@ module _ {S : Type 0} where
       by : (b : Bool) → nat_lt track n ≡ b → (n ≤ track → Located content size files (track - n) (place_in tracks (track - n))) → Located content size (f ∷ files) track (if b then record { file = 0; track = track } else behind (place_in tracks (track - n)))
       by true e next = first_located content size f files n tracks track holds (ltb-true track n e)
       by false e next = let above = ltb-false track n e in next_located content size f files n tracks track (place_in tracks (track - n)) holds above (next above)
+  located content size _ _ track holds count h = absurd (omega arith)
 
   pub located_at : (content : S → List ℕ) (size : ℕ) (files : List (Option S)) (tracks : List ℕ) (track : ℕ) (p : SlotPlace) → HoldTracks content size files tracks → length files ≡ length tracks → track < sum tracks → p ≡ place_in tracks track → Located content size files track p
   located_at content size files tracks track p holds count h is = rw is (located content size files tracks track holds count h)
