@@ -1,5 +1,5 @@
 -- Where the arm and the head stand in the parts of a command: they leave a track only where the definitions say that they do.
-use Rattle.std.proofs.Common.{◌≡◌, ℕ, refl, false, List, [], Some, None}
+use Rattle.std.proofs.Common.{rules, ◌≡◌, ℕ, refl, false, List, [], Some, None}
 use Rattle.ckd_track.specs.declared.geometries.Geometry.{Geometry}
 use Rattle.ckd_position.specs.Contents.{Sighted}
 use Rattle.ckd_sense.specs.declared.commands.Command.{Command}
@@ -35,18 +35,8 @@ BeginsAt before (ToCylinderZero r None) = AtSameTrack before r
 BeginsAt before (ToCylinderZero r (Some o)) = AtSameTrack before r × NoSenseFor (aim o.command) r.sense
 
 no_sense : (c : Command) (r : Registers) → NoSenseFor (aim c) (cleared c r).sense
-no_sense command.Sense r = tt
-no_sense command.NoOperation r = tt
-no_sense command.Recalibrate r = tt
-no_sense command.Seek r = tt
-no_sense command.SeekCylinder r = tt
-no_sense command.SeekHead r = tt
-no_sense command.SetFileMask r = tt
-no_sense command.WriteR0 r = tt
-no_sense command.WriteCountKeyAndData r = tt
-no_sense command.WriteData r = tt
-no_sense command.WriteKeyAndData r = tt
-no_sense _ r = refl
+no_sense command.Sense r = search rules
+no_sense _ r = search rules
 
 starts_at : (c : Command) (before r : Registers) (o : Opened) → AtSameTrack before r → NoSenseFor (aim o.command) r.sense → BeginsAt before (started c r o)
 starts_at command.NoOperation before r o h k = h

@@ -80,37 +80,33 @@ LookTraces before (Ready o) = Traces before (state_of o)
 LookTraces before (Passed o) = Traces before (state_of o)
 LookTraces before (Failed s) = Traces before s
 
-pub look_traces : (f : Option Fault) (o : Open) → unsaved (state_of o) ≡ None → LookTraces (state_of o) (look f o)
-look_traces f o e = go f (aim o.opened.command) _
-  where
-    at : (f : Option Fault) (s : Sight) → LookTraces o.state (looked f o s)
-    at f (answer.Found opened) = same_mark o.state o.state.registers e
-    at f (answer.IndexPassed r) = same_mark o.state r e
-    at f (answer.NextHead r) = by_save (LookTraces o.state) f o.state Failed (Passed (record o { state = moved o.state r })) (saved_mark o.state r) (λ left w. lost_mark o.state o.state left w)
-    at f (answer.Missed r) = same_mark o.state r e
-
-    go : (f : Option Fault) (a : Aim) (s : Sight) → LookTraces o.state (look_for f o a s)
-    go (Some LoadFails) (Next kind) s = same_mark o.state _ e
-    go f _ s = at f s
-
 -- nothing is lost where the area is found
 abbrev pub LookFinds : AfterLook → Type 0
 LookFinds (Ready o) = unsaved (state_of o) ≡ None
 LookFinds (Passed o) = Unit {0}
 LookFinds (Failed s) = Unit {0}
 
-pub look_finds : (f : Option Fault) (o : Open) → unsaved (state_of o) ≡ None → LookFinds (look f o)
-look_finds f o e = go f (aim o.opened.command) _
-  where
-    at : (f : Option Fault) (s : Sight) → LookFinds (looked f o s)
-    at f (answer.Found opened) = e
-    at f (answer.IndexPassed r) = tt
-    at f (answer.NextHead r) = by_save LookFinds f o.state Failed (Passed (record o { state = moved o.state r })) tt (λ left w. tt)
-    at f (answer.Missed r) = tt
+abbrev LookKeeps : State → AfterLook → Type 0
+LookKeeps before l = LookTraces before l × LookFinds l
 
-    go : (f : Option Fault) (a : Aim) (s : Sight) → LookFinds (look_for f o a s)
-    go (Some LoadFails) (Next kind) s = tt
+look_keeps : (f : Option Fault) (o : Open) → unsaved (state_of o) ≡ None → LookKeeps (state_of o) (look f o)
+look_keeps f o e = go f (aim o.opened.command) _
+  where
+    at : (f : Option Fault) (s : Sight) → LookKeeps o.state (looked f o s)
+    at f (answer.Found opened) = (same_mark o.state o.state.registers e, e)
+    at f (answer.IndexPassed r) = (same_mark o.state r e, tt)
+    at f (answer.NextHead r) = by_save (LookKeeps o.state) f o.state Failed (Passed (record o { state = moved o.state r })) (saved_mark o.state r, tt) (λ left w. (lost_mark o.state o.state left w, tt))
+    at f (answer.Missed r) = (same_mark o.state r e, tt)
+
+    go : (f : Option Fault) (a : Aim) (s : Sight) → LookKeeps o.state (look_for f o a s)
+    go (Some LoadFails) (Next kind) s = (same_mark o.state _ e, tt)
     go f _ s = at f s
+
+pub look_traces : (f : Option Fault) (o : Open) → unsaved (state_of o) ≡ None → LookTraces (state_of o) (look f o)
+look_traces f o e = (look_keeps f o e).0
+
+pub look_finds : (f : Option Fault) (o : Open) → unsaved (state_of o) ≡ None → LookFinds (look f o)
+look_finds f o e = (look_keeps f o e).1
 
 -- a command that is closed loses what was written before, and what it writes it writes without a fault too
 pub record CloseTraces (before alone after : State) : Type 0 where
