@@ -32,14 +32,22 @@ part_found test part t n is = by (cases_lt n (length t.records))
         (ap found (is.first h (has_key (record_in t n)) (areas_from (n + 1) (drop (n + 1) t.records))))
     by (inr h) = rw (is.home_address, skip test n 0 n t.records is.before (omega arith), drop_all n t.records h, le-ltb n (length t.records) h) refl
 
-count_first : (test : Area → Bool) (n : ℕ) → test (Of Count n) ≡ true → (b : Bool) (rest : List Area) → find test (with_key b n ++ rest) ≡ Some (Of Count n)
-count_first test n c true rest = rw c refl
-count_first test n c false rest = rw c refl
+-- a look that takes only count areas, and one that takes only data areas
+count_found : (test : Area → Bool) (t : Track) (n : ℕ) → test HomeAddress ≡ false → ((j : ℕ) → test (Of Key j) ≡ false) → ((j : ℕ) → test (Of Data j) ≡ false)
+    → ((j : ℕ) → j < n → test (Of Count j) ≡ false) → (n < length t.records → test (Of Count n) ≡ true) → found (find test (areas t)) ≡ part_on t Count n
+count_found test t n home key body before here = part_found test Count t n (record { home_address = home; before = record { count = before; key = λ j _. key j; body = λ j _. body j }; first = λ l. first (here l) })
+  where
+    first : test (Of Count n) ≡ true → (b : Bool) (rest : List Area) → find test (with_key b n ++ rest) ≡ Some (Of Count n)
+    first c true rest = rw c refl
+    first c false rest = rw c refl
 
-data_first : (test : Area → Bool) (n : ℕ) → test (Of Count n) ≡ false → test (Of Key n) ≡ false → test (Of Data n) ≡ true
-    → (b : Bool) (rest : List Area) → find test (with_key b n ++ rest) ≡ Some (Of Data n)
-data_first test n c k d true rest = rw (c, k, d) refl
-data_first test n c k d false rest = rw (c, d) refl
+data_found : (test : Area → Bool) (t : Track) (n : ℕ) → test HomeAddress ≡ false → ((j : ℕ) → test (Of Count j) ≡ false) → ((j : ℕ) → test (Of Key j) ≡ false)
+    → ((j : ℕ) → j < n → test (Of Data j) ≡ false) → (n < length t.records → test (Of Data n) ≡ true) → found (find test (areas t)) ≡ part_on t Data n
+data_found test t n home count key before here = part_found test Data t n (record { home_address = home; before = record { count = λ j _. count j; key = λ j _. key j; body = before }; first = λ l. first (here l) })
+  where
+    first : test (Of Data n) ≡ true → (b : Bool) (rest : List Area) → find test (with_key b n ++ rest) ≡ Some (Of Data n)
+    first d true rest = rw (count n, key n, d) refl
+    first d false rest = rw (count n, d) refl
 
 -- nothing is taken
 none_found : (test : Area → Bool) → ((a : Area) → test a ≡ false) → (as' : List Area) → found (find test as') ≡ IndexPassed
@@ -59,18 +67,10 @@ still_behind t (At (Of q i)) part j h l = grind (arith, nat_tests)
 still_behind t _ part j h l = refl
 
 pub any_count : (t : Track) (p : Position) → next_of_kind t p kind.AnyCount ≡ part_on t Count (records_begun t p)
-any_count t p = part_found (takes kind.AnyCount p) Count t (records_begun t p) (record {
-  home_address = refl;
-  before = record { count = count_passed t p; key = λ j h. refl; body = λ j h. refl };
-  first = λ l. count_first _ _ (still_behind t p Count (records_begun t p) (omega arith) l);
-})
+any_count t p = count_found (takes kind.AnyCount p) t _ refl (λ j. refl) (λ j. refl) (count_passed t p) (λ l. still_behind t p Count (records_begun t p) (omega arith) l)
 
 pub first_count : (t : Track) (p : Position) → records_begun t p ≡ 0 → next_of_kind t p kind.FirstCount ≡ part_on t Count 0
-first_count t p e = part_found (takes kind.FirstCount p) Count t 0 (record {
-  home_address = refl;
-  before = record { count = λ j h. absurd (omega (arith, h)); key = λ j h. refl; body = λ j h. refl };
-  first = λ l. count_first _ _ (still_behind t p Count 0 (omega arith) l);
-})
+first_count t p e = count_found (takes kind.FirstCount p) t 0 refl (λ j. refl) (λ j. refl) (λ j h. absurd (omega (arith, h))) (λ l. still_behind t p Count 0 (omega arith) l)
 
 pub no_first_count : (t : Track) (p : Position) → 0 < records_begun t p → next_of_kind t p kind.FirstCount ≡ IndexPassed
 no_first_count t p h = none_found (takes kind.FirstCount p) none (areas t)
@@ -81,11 +81,8 @@ no_first_count t p h = none_found (takes kind.FirstCount p) none (areas t)
     none _ = refl
 
 pub later_count : (t : Track) (p : Position) → next_of_kind t p kind.LaterCount ≡ part_on t Count (max (records_begun t p) 1)
-later_count t p = part_found (takes kind.LaterCount p) Count t (max (records_begun t p) 1) (record {
-  home_address = refl;
-  before = record { count = before; key = λ j h. refl; body = λ j h. refl };
-  first = λ l. let b = still_behind t p Count (max (records_begun t p) 1) (omega arith) l in count_first _ _ (grind (arith, nat_tests));
-})
+later_count t p = count_found (takes kind.LaterCount p) t _ refl (λ j. refl) (λ j. refl) before
+    (λ l. let b = still_behind t p Count (max (records_begun t p) 1) (omega arith) l in grind (arith, nat_tests))
   where
     before : (j : ℕ) → j < max (records_begun t p) 1 → takes kind.LaterCount p (Of Count j) ≡ false
     before zero h = refl
@@ -104,11 +101,7 @@ no_home_address t a = none_found (takes kind.HomeAddress (At a)) (none a) (areas
 -- Data areas.
 
 pub first_data : (t : Track) (p : Position) → is_behind p (Of Data 1) ≡ true → next_of_kind t p kind.FirstData ≡ part_on t Data 1
-first_data t p e = part_found (takes kind.FirstData p) Data t 1 (record {
-  home_address = refl;
-  before = record { count = λ j h. refl; key = λ j h. refl; body = λ j h. grind (arith, nat_tests) };
-  first = λ l. data_first _ _ refl refl e;
-})
+first_data t p e = data_found (takes kind.FirstData p) t 1 refl (λ j. refl) (λ j. refl) (λ j h. grind (arith, nat_tests)) (λ l. e)
 
 pub no_first_data : (t : Track) (p : Position) → is_behind p (Of Data 1) ≡ false → next_of_kind t p kind.FirstData ≡ IndexPassed
 no_first_data t p e = none_found (takes kind.FirstData p) none (areas t)
@@ -127,11 +120,7 @@ data_taken t (At (Of Count i)) l = grind (arith, nat_tests)
 data_taken t _ l = grind (arith, nat_tests)
 
 pub next_data : (t : Track) (p : Position) → next_of_kind t p kind.Data ≡ part_on t Data (data_record t p)
-next_data t p = part_found (takes kind.Data p) Data t (data_record t p) (record {
-  home_address = refl;
-  before = record { count = λ j h. refl; key = λ j h. refl; body = data_passed t p };
-  first = λ l. data_first _ _ refl refl (data_taken t p l);
-})
+next_data t p = data_found (takes kind.Data p) t _ refl (λ j. refl) (λ j. refl) (data_passed t p) (data_taken t p)
 
 -- Key areas, and key and data areas together.
 
@@ -149,11 +138,8 @@ whole_taken (At (Of Count i)) j = grind (arith, nat_tests)
 whole_taken _ j = grind (arith, nat_tests)
 
 pub next_key_and_data : (t : Track) (p : Position) → next_of_kind t p kind.KeyAndData ≡ part_on t Data (key_record t p)
-next_key_and_data t p = part_found (takes kind.KeyAndData p) Data t (key_record t p) (record {
-  home_address = refl;
-  before = record { count = λ j h. refl; key = λ j h. refl; body = λ j h. whole_taken p j ∙ key_passed t p j h };
-  first = λ l. data_first _ _ refl refl (whole_taken p (key_record t p) ∙ key_taken t p (key_record t p) (omega arith) l);
-})
+next_key_and_data t p = data_found (takes kind.KeyAndData p) t _ refl (λ j. refl) (λ j. refl) (λ j h. whole_taken p j ∙ key_passed t p j h)
+    (λ l. whole_taken p (key_record t p) ∙ key_taken t p (key_record t p) (omega arith) l)
 
 -- a look that takes each key area from record i on is one for the first key area there
 first_key : (p : Position) (i : ℕ) (rs : List Record) → ((j : ℕ) → i ≤ j → j < i + length rs → takes kind.Key p (Of Key j) ≡ true)
