@@ -1,6 +1,7 @@
 -- What the parts of a command come to without a fault they come to with a failed saving too, which is met later: where the track
 -- is still written, so that none was saved.
 use Rattle.std.proofs.Common.{◌≡◌, refl, sym, ap, subst, ◌∙◌, true, false, Bool, List, ℕ, Option, Some, None}
+use Rattle.ckd_command.specs.declared.registers.Registers.{Registers}
 use Rattle.ckd_command.specs.declared.tables.Aim.{Aim}
 use Rattle.ckd_command.specs.declared.begin.Opened.{Opened}
 use Rattle.ckd_command.specs.Answers.{Beginning, Sight}
@@ -18,25 +19,15 @@ begun_state (Rejected s) = s
 begun_state (Immediate s motion) = s
 begun_state (Started o) = o.state
 
--- whether a beginning sends the arm to cylinder 0, head 0
-abbrev pub moves_arm : Beginning → Bool
-moves_arm (answer.ToCylinderZero r o) = true
-moves_arm b = false
-
-begun_moved : (f : Option Fault) (s : State) (b : Beginning) → moves_arm b ≡ true → is_written (begun_state (begun f s b)) ≡ false
-begun_moved f s (answer.ToCylinderZero r o) h =
-    by_save (λ b. is_written (begun_state b) ≡ false) f (with_registers s r) Rejected (at_cylinder_zero s r o) (at_zero o) (λ left _. refl)
+begun_moved : (f : Option Fault) (s : State) (r : Registers) (o : Option Opened) → is_written (begun_state (begun f s (answer.ToCylinderZero r o))) ≡ false
+begun_moved f s r o = by_save (λ b. is_written (begun_state b) ≡ false) f (with_registers s r) Rejected (at_cylinder_zero s r o) (at_zero o) (λ left _. refl)
   where
     at_zero : (o : Option Opened) → is_written (begun_state (at_cylinder_zero s r o)) ≡ false
     at_zero None = refl
     at_zero (Some o) = refl
-begun_moved f s _ h = untrue h
-
-pub begin_moved : (f : Option Fault) (code : ℕ) (s : State) → moves_arm (commands.beginning code s.registers) ≡ true → is_written (begun_state (begin f code s)) ≡ false
-begin_moved f code s h = begun_moved f s (commands.beginning code s.registers) h
 
 begun_stable : (s : State) (b : Beginning) (left : List ℕ) → is_written (begun_state (begun None s b)) ≡ true → begun (Some (SaveFails left)) s b ≡ begun None s b
-begun_stable s (answer.ToCylinderZero r o) left h = untrue (sym (begun_moved None s (answer.ToCylinderZero r o) refl) ∙ h)
+begun_stable s (answer.ToCylinderZero r o) left h = untrue (sym (begun_moved None s r o) ∙ h)
 begun_stable s _ left h = refl
 
 pub begin_stable : (code : ℕ) (s : State) (left : List ℕ) (b : AfterBegin) → begin None code s ≡ b → is_written (begun_state b) ≡ true → begin (Some (SaveFails left)) code s ≡ b
@@ -74,7 +65,4 @@ closed_stable s c left false h = refl
 
 pub close_stable : (o : Open) (b left : List ℕ) (c : Closed) → close None o b ≡ c → is_written c.state ≡ true → close (Some (SaveFails left)) o b ≡ c
 close_stable o b left c e h =
-    go (closing o.state.volume.geometry (track_under o.state) o.opened o.state.registers b) (ap (λ (c : Closed). is_written c.state) e ∙ h) ∙ e
-  where
-    go : (c : Closing) → is_written (closed None o.state c c.moves_off).state ≡ true → closed (Some (SaveFails left)) o.state c c.moves_off ≡ closed None o.state c c.moves_off
-    go c h = closed_stable o.state c left c.moves_off h
+    closed_stable o.state (closing o.state.volume.geometry (track_under o.state) o.opened o.state.registers b) left _ (ap (λ (c : Closed). is_written c.state) e ∙ h) ∙ e

@@ -18,24 +18,20 @@ use Rattle.ckd_position.specs.Looks.{part_on, records_begun, key_record, data_re
 use Rattle.ckd_position.proofs.Walk.{with_key, NoneBefore, skip}
 
 -- a look takes no area before record n, and of that record this part first
-record Takes (test : Area → Bool) (part : Part) (t : Track) (n : ℕ) : Type 0 where
-  home_address : test HomeAddress ≡ false
-  before : NoneBefore test n
-  first : n < length t.records → (b : Bool) (rest : List Area) → find test (with_key b n ++ rest) ≡ Some (Of part n)
-
-part_found : (test : Area → Bool) (part : Part) (t : Track) (n : ℕ) → Takes test part t n → found (find test (areas t)) ≡ part_on t part n
-part_found test part t n is = by (cases_lt n (length t.records))
+part_found : (test : Area → Bool) (part : Part) (t : Track) (n : ℕ) → test HomeAddress ≡ false → NoneBefore test n → (n < length t.records → (b : Bool) (rest : List Area) → find test (with_key b n ++ rest) ≡ Some (Of part n))
+    → found (find test (areas t)) ≡ part_on t part n
+part_found test part t n home before first = by (cases_lt n (length t.records))
   where
     by : (n < length t.records) ⊎ (length t.records ≤ n) → found (find test (areas t)) ≡ part_on t part n
     by (inl h) =
-        rw (is.home_address, skip test n 0 n t.records is.before (omega arith), drop_more t.records n no_record h, lt-ltb n (length t.records) h)
-        (ap found (is.first h (has_key (record_in t n)) (areas_from (n + 1) (drop (n + 1) t.records))))
-    by (inr h) = rw (is.home_address, skip test n 0 n t.records is.before (omega arith), drop_all n t.records h, le-ltb n (length t.records) h) refl
+        rw (home, skip test n 0 n t.records before (omega arith), drop_more t.records n no_record h, lt-ltb n (length t.records) h)
+        (ap found (first h (has_key (record_in t n)) (areas_from (n + 1) (drop (n + 1) t.records))))
+    by (inr h) = rw (home, skip test n 0 n t.records before (omega arith), drop_all n t.records h, le-ltb n (length t.records) h) refl
 
 -- a look that takes only count areas, and one that takes only data areas
 count_found : (test : Area → Bool) (t : Track) (n : ℕ) → test HomeAddress ≡ false → ((j : ℕ) → test (Of Key j) ≡ false) → ((j : ℕ) → test (Of Data j) ≡ false)
     → ((j : ℕ) → j < n → test (Of Count j) ≡ false) → (n < length t.records → test (Of Count n) ≡ true) → found (find test (areas t)) ≡ part_on t Count n
-count_found test t n home key body before here = part_found test Count t n (record { home_address = home; before = record { count = before; key = λ j _. key j; body = λ j _. body j }; first = λ l. first (here l) })
+count_found test t n home key body before here = part_found test Count t n home (record { count = before; key = λ j _. key j; body = λ j _. body j }) (λ l. first (here l))
   where
     first : test (Of Count n) ≡ true → (b : Bool) (rest : List Area) → find test (with_key b n ++ rest) ≡ Some (Of Count n)
     first c true rest = rw c refl
@@ -43,7 +39,7 @@ count_found test t n home key body before here = part_found test Count t n (reco
 
 data_found : (test : Area → Bool) (t : Track) (n : ℕ) → test HomeAddress ≡ false → ((j : ℕ) → test (Of Count j) ≡ false) → ((j : ℕ) → test (Of Key j) ≡ false)
     → ((j : ℕ) → j < n → test (Of Data j) ≡ false) → (n < length t.records → test (Of Data n) ≡ true) → found (find test (areas t)) ≡ part_on t Data n
-data_found test t n home count key before here = part_found test Data t n (record { home_address = home; before = record { count = λ j _. count j; key = λ j _. key j; body = before }; first = λ l. first (here l) })
+data_found test t n home count key before here = part_found test Data t n home (record { count = λ j _. count j; key = λ j _. key j; body = before }) (λ l. first (here l))
   where
     first : test (Of Data n) ≡ true → (b : Bool) (rest : List Area) → find test (with_key b n ++ rest) ≡ Some (Of Data n)
     first d true rest = rw (count n, key n, d) refl
