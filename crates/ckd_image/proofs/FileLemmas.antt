@@ -108,9 +108,8 @@ module _ {S : Type 0} where
       put : (files : List (Option S)) (tracks : List ℕ) (place : ℕ) (x : Option S) → HoldTracks content size files tracks → place < length files → IsSome (file_at files place) → IsSome x → length (held content [] x) ≡ length (held content [] (file_at files place)) → HoldTracks content size (set files place x) tracks
       put [] tracks place x holds h a b e = absurd (omega arith)
       put (f ∷ files) [] place x holds h a b e = absurd holds
-      put (None ∷ files) (n ∷ tracks) zero x holds h a b e = cc
-      put (Some s ∷ files) (n ∷ tracks) zero None holds h a b e = cc
       put (Some s ∷ files) (n ∷ tracks) zero (Some y) holds h a b e = (e ∙ holds.0, holds.1)
+      put _ (n ∷ tracks) zero _ holds h a b e = cc
       put (None ∷ files) (n ∷ tracks) (suc place) x holds h a b e = (holds.0, put files tracks place x holds.1 (omega arith) a b e)
       put (Some s ∷ files) (n ∷ tracks) (suc place) x holds h a b e = (holds.0, put files tracks place x holds.1 (omega arith) a b e)
 
