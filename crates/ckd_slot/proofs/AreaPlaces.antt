@@ -121,5 +121,4 @@ read_by slot table (Ok n) (Ok t) fit is number offs within =
     let h = has_offsets slot (take n table) offs in
     record { read = h.0; spells = read_is_spelled slot (track_in slot) (are_bytes slot fit) h.0; within = within; table = h.1 }
 read_by slot table (Err fault) (Err f) fit is number offs within = rw is refl
-read_by slot table (Ok n) (Err f) fit is number offs within = absurd cc
-read_by slot table (Err fault) (Ok t) fit is number offs within = absurd cc
+read_by slot table _ _ fit is number offs within = absurd cc

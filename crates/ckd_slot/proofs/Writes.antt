@@ -176,12 +176,6 @@ module _ {slot : List ℕ} {model : DriveModel} {before : Option ℕ} {after : O
   spells_made : Spells (slot_of (length slot) made) made
   spells_made = slot_of_spells (length slot) made format_fits.home_address format_fits.records
 
-  pub kept_room : (offsets : List ℕ) → (length slot - 5) / 8 ≤ length offsets → number_up_to before + 1 ≤ length offsets
-  kept_room offsets long =
-      let many : length made.records ≡ number_up_to before + 1 =
-      ap (λ (x : Track). length x.records) (sym made_is) ∙ length-append (kept_records before (track_in slot)) (record_at (count ++ zeros) ∷ []) ∙ (let n = length-kept (track_in slot) before k.there in omega (arith, n)) in
-      omega (arith, few_records (slot_of (length slot) made) made spells_made, length-slot_of (length slot) made k.room, many, long)
-
   format_table : (offsets : List ℕ) (n at : ℕ) → take n offsets ≡ record_offsets (track_in slot) → number_up_to before ≤ n → number_up_to before < length offsets → at ≡ end_of_records (track_in slot) (number_up_to before)
       → take (number_up_to before + 1) (set offsets (number_up_to before) at) ≡ record_offsets made
   format_table offsets n at table le lt e =
@@ -199,7 +193,7 @@ module _ {slot : List ℕ} {model : DriveModel} {before : Option ℕ} {after : O
       → IsIndexed (slot_of (length slot) made) (set offsets (number_up_to before) at) (Some (number_up_to before + 1))
   format_indexed offsets None at x r e = absurd (let no : is_readable (track_of slot) ≡ false = x.read in cc)
   format_indexed offsets (Some n) at x r e =
-      let room = kept_room offsets x.room in
+      let room : number_up_to before + 1 ≤ length offsets = omega (arith, few_records slot (track_in slot) k.spells, up_to_le (track_in slot) before k.there, x.room) in
       let size = length-set offsets (number_up_to before) at in
       indexed_slot (length slot) made (set offsets (number_up_to before) at) (number_up_to before + 1) format_fits (omega (arith, x.room, size)) x.size (omega (arith, room, size))
       (format_table offsets n at x.read.table (omega (arith, up_to_le (track_in slot) before k.there, how_many x.read)) (omega (arith, room)) e)
