@@ -1,17 +1,17 @@
 -- What the writes leave of a slot that spells a whole track.
-use Rattle.std.proofs.Common.{◌≡◌, ◌∙◌, ap, sym, refl, inl, inr, ℕ, ◌+◌, ◌≤◌, ◌<◌, ◌⊎◌, false, List, [], ◌∷◌, ◌++◌, length, length-append, append_assoc, take, drop, flat_map, slice_index, set, bytes_eq, All, Ok, Option, None, Some, arith}
+use Rattle.std.proofs.Common.{◌≡◌, ◌∙◌, ap, sym, refl, inl, inr, ℕ, ◌+◌, ◌≤◌, ◌<◌, ◌⊎◌, false, List, [], ◌∷◌, ◌++◌, length, length-append, append_assoc, take, drop, flat_map, slice_index, set, bytes_eq, Ok, Option, None, Some, arith}
 use Rattle.std.specs.Result.{result_unwrap_or}
 use Rattle.std.proofs.lemmas.Bool.{cases_lt}
 use Rattle.std.proofs.lemmas.Grind.{flat_map-append}
 use Rattle.std.proofs.lemmas.List.{take-append-drop, append-nil, take_at, drop_all, get_or_append_left}
-use Rattle.std.proofs.lemmas.List.Elements.{All-nil, All-append, All-push, All-set, All-take}
+use Rattle.std.proofs.lemmas.List.Elements.{All-nil, All-append, All-push, All-set}
 use Rattle.ckd_track.specs.Track.{Record, Track, IsRecord, Spells, count_area, record_bytes, record_size, record_in, record_offsets, end_mark, spelling, body_length, record_at, size_at, track_of, slot_of}
 use Rattle.ckd_track.specs.Changes.{bare_track, kept_records, with_record, with_data, with_body, with_key_data, data_offset, offset_behind, end_offset, overwritten, ended_at}
 use Rattle.ckd_track.proofs.Spelled.{reads_back}
 use Rattle.ckd_track.proofs.Reading.{told_size}
 use Rattle.ckd_track.proofs.Laws.{AreBytes, begins_with_record}
-use Rattle.ckd_track.proofs.Slots.{slot_of_reads}
-use Rattle.ckd_track.proofs.Places.{length-record_bytes, place, offset_is, drop-place, place-le, place-before, place-one, front, behind, behind-one, record_is, end_is}
+use Rattle.ckd_track.proofs.Slots.{kept_are, slot_of_reads}
+use Rattle.ckd_track.proofs.Places.{length-record_bytes, place, offset_is, drop-place, place-le, place-before, place-one, behind, behind-one, record_is, end_is}
 use Rattle.ckd_track.proofs.Rewritten.{length-overwritten, ended_at-slot, ended, changed_spells, changed_end, data_is_record, body_lengths, body_is_record, Rewrites, written, record_written}
 
 -- The walk over the records.
@@ -135,10 +135,6 @@ length-spelling_new t after new = omega (arith, ap length (flat_map-append recor
 
 module _ (s : List ℕ) (t : Track) (spells : Spells s t) (after : Option ℕ) (count body : List ℕ) (eight : length count ≡ 8) (made : Makes count body)
     (room : length (spelling (with_record after (record_at (count ++ body)) t)) ≤ length s) where
-  kept_are : (after : Option ℕ) → All IsRecord (kept_records after t)
-  kept_are None = All-nil IsRecord
-  kept_are (Some i) = All-take IsRecord (i + 1) t.records spells.records
-
   front_of : (after : Option ℕ) → offset_behind t after + 8 + length body ≤ length s
       → take (offset_behind t after + 8 + length body) (overwritten (overwritten s (offset_behind t after) count) (offset_behind t after + 8) body)
       ≡ t.home_address ++ flat_map record_bytes (kept_records after t ++ record_at (count ++ body) ∷ [])
@@ -159,4 +155,4 @@ module _ (s : List ℕ) (t : Track) (spells : Spells s t) (after : Option ℕ) (
 
   pub new_read : track_of (slot_of (length s) (with_record after (record_at (count ++ body)) t)) ≡ Ok (with_record after (record_at (count ++ body)) t)
   new_read = slot_of_reads (length s) (with_record after (record_at (count ++ body)) t) spells.home_address
-      (All-push IsRecord (kept_records after t) (record_at (count ++ body)) (kept_are after) made.is_record)
+      (All-push IsRecord (kept_records after t) (record_at (count ++ body)) (kept_are after t spells.records) made.is_record)
