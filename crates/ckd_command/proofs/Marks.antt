@@ -18,9 +18,6 @@ use Rattle.ckd_command.proofs.CommandFacts.{NotTold, BeginsSilent, SightSilent, 
 
 -- Marks.
 
-abbrev no_track : Option (ℕ × ℕ)
-no_track = None
-
 pub never_both : {P : Type 0} (x : Option (ℕ × ℕ)) → x ≡ None → is_some x ≡ true → P
 never_both None e h = absurd (cc)
 never_both (Some t) e h = absurd (cc)
@@ -52,7 +49,7 @@ same_mark : (s : State) (r : Registers) → unsaved s ≡ None → Traces s (wit
 same_mark s r e = record { lost = never_both (unsaved_by s.mark r) (anywhere s.mark s.registers r e); written = λ w. w }
 
 saved_mark : (s : State) (r : Registers) → Traces s (moved s r)
-saved_mark s r = record { lost = never_both no_track refl; written = untrue }
+saved_mark s r = record { lost = never_both None refl; written = untrue }
 
 lost_mark : (before s : State) (left : List ℕ) → before.mark ≡ Written → Traces before (lost s left)
 lost_mark before s left e = record { lost = λ h. ap is_written_by e; written = untrue }
@@ -125,7 +122,7 @@ close_traces f o b e = go (closing_of o b) (closing_of o b).moves_off
 
     go : (c : Closing) (moves_off : Bool) → CloseTraces o.state (closed None o.state c moves_off).state (closed f o.state c moves_off).state
     go c true = by_save (λ x. CloseTraces o.state (closed None o.state c true).state x.state) f o.state failed (closed_moving o.state c)
-        (record { lost = never_both no_track refl; written = untrue })
+        (record { lost = never_both None refl; written = untrue })
         (λ left w. record { lost = λ h. ap is_written_by w; written = untrue })
     go c false = record { lost = never_both (unsaved (with_registers (with_written o.state c.written) c.registers)) (stays c c.written); written = λ w. w }
 
