@@ -1,13 +1,12 @@
 -- How a command begins, looks and closes, whatever the drive remembers and whatever the track holds.
 use Rattle.std.proofs.Common.{◌≡◌, ℕ, refl, ap, ◌∙◌, true, false, Bool, cond, List, [], ◌∷◌, Option, Some, None, ◌⊎◌, inl, inr}
-use Rattle.std.specs.Prelude.{bit_and, Ok, Err, not, ◌&&◌, ◌==◌, length, nat_lt, slice_range, take, bytes_eq}
+use Rattle.std.specs.Prelude.{bit_and, Ok, not, ◌&&◌, ◌==◌, length, nat_lt, slice_range, take, bytes_eq}
+use Rattle.std.proofs.lemmas.Bool.{cond_both}
 use Rattle.std.proofs.lemmas.Nat.{and_or_apart, and_or_self}
 use Rattle.s360_words.specs.Words.{has}
 use Rattle.ckd_track.specs.Track.{Record, Track}
 use Rattle.ckd_track.specs.Model.{heads_of}
-use Rattle.ckd_track.specs.Changes.{bare_track}
 use Rattle.ckd_track.specs.declared.geometries.Geometry.{Geometry}
-use Rattle.ckd_position.specs.Comparisons.{is_satisfied}
 use Rattle.ckd_position.specs.declared.areas.Area.{Area}
 use Rattle.ckd_sense.specs.Commands.{decoded}
 use Rattle.ckd_sense.specs.Masks.{is_write, permit_of}
@@ -25,9 +24,9 @@ use Rattle.ckd_command.specs.declared.begin.Opened.{Opened}
 use Rattle.ckd_command.specs.Answers.{Beginning, Rejected, Immediate, Started, ToCylinderZero}
 use Rattle.ckd_command.specs.Answers.{Sight, Found, IndexPassed, NextHead, Missed}
 use Rattle.ckd_command.proofs.Sights.{sight_by}
-use Rattle.ckd_command.specs.Tables.{action_of, extent_of, comparison, ends_with_data}
-use Rattle.ckd_position.specs.Contents.{Sighted, has_no_data, replaced, formatted, kept}
-use Rattle.ckd_command.specs.Commands.{Closing, ends, fails, writes, closing, close_by, whole_field, with_cause, at_end, seek_cylinder_and_head, seek_head, set_file_mask, search, search_ends, area_bytes, end_of_area, update, updated, format, format_ends, new_record_fits, write_home_address, own_home_address, home_address_ends, ending_status, unit_exception_status, number, beginning, begin_decoded, begin_allowed, started, cleared, refusal, refusal_under, is_out_of_sequence, sight, at_index}
+use Rattle.ckd_command.specs.Tables.{action_of, extent_of, ends_with_data}
+use Rattle.ckd_position.specs.Contents.{Sighted, replaced, kept}
+use Rattle.ckd_command.specs.Commands.{Closing, ends, fails, writes, closing, close_by, whole_field, with_cause, at_end, seek_cylinder_and_head, seek_head, set_file_mask, search_ends, area_ends, end_of_area, update, updated, format, format_ends, new_record_fits, write_home_address, own_home_address, home_address_ends, ending_status, number, beginning, begin_decoded, begin_allowed, started, cleared, refusal, refusal_under, is_out_of_sequence, sight, at_index}
 
 -- Equipment check, which is of the store alone.
 
@@ -46,7 +45,23 @@ NotTold before after = tells_store before ≡ false → tells_store after ≡ fa
 with_other : (r : Registers) (bits : ℕ) → bit_and bits cause.EQUIPMENT_CHECK.0 ≡ 0 → NotTold r (with_cause r (record { 0 = bits }))
 with_other r bits h e = ap (λ n. not (n == 0)) (and_or_apart cause.EQUIPMENT_CHECK.0 r.sense.0 bits h) ∙ e
 
+-- Where the arm and the head stand.
+
+-- the arm and the head are where they were
+pub record AtSameTrack (before after : Registers) : Type 0 where
+  pub cylinder : after.cylinder ≡ before.cylinder
+  pub head : after.head ≡ before.head
+
+-- the arm and the head stay, and equipment check is not reported
+record Stays (before after : Registers) : Type 0 where
+  arm : AtSameTrack before after
+  not_told : NotTold before after
+
 -- How a command closes.
+
+-- the arm moves only where it leaves the track
+abbrev pub ClosesAt : Registers → Closing → Type 0
+ClosesAt before c = (c.moves_off ≡ true) ⊎ ((c.motion ≡ false) × AtSameTrack before c.registers)
 
 -- with channel end, and device end unless the arm still moves; no track is written without a byte, nor by a command that is no
 -- write; and equipment check is not reported
@@ -55,83 +70,69 @@ pub record IsClosing (before : Registers) (b : List ℕ) (write : Bool) (c : Clo
   pub device_end : has c.unit 0x04 ≡ not c.motion
   pub written : (c.written ≡ None) ⊎ ((b ≡ [] → ⊥) × (write ≡ true))
   pub not_told : NotTold before c.registers
+  pub arm : ClosesAt before c
 
-plain : (r s : Registers) (b : List ℕ) (w : Bool) → NotTold r s → IsClosing r b w (ends s ending_status)
-plain r s b w h = record { channel_end = refl; device_end = refl; written = inl refl; not_told = h }
+itself : (r s : Registers) → s.cylinder ≡ r.cylinder → s.head ≡ r.head → s.sense ≡ r.sense → Stays r s
+itself r s c h e = record { arm = record { cylinder = c; head = h }; not_told = λ k. rw e k }
 
-check : (r s : Registers) (b : List ℕ) (w : Bool) (bits : ℕ) → bit_and bits cause.EQUIPMENT_CHECK.0 ≡ 0 → NotTold r s → IsClosing r b w (fails s (record { 0 = bits }))
-check r s b w bits h k = record { channel_end = refl; device_end = refl; written = inl refl; not_told = λ e. with_other s bits h (k e) }
+module _ (r : Registers) (b : List ℕ) (w : Bool) where
+  abbrev Closes : Closing → Type 0
+  Closes = IsClosing r b w
 
-writing : (r : Registers) (x : ℕ) (b : List ℕ) (t : Track) (c : Closing) → IsClosing r (x ∷ b) true c → IsClosing r (x ∷ b) true (writes t c)
-writing r x b t c h = record { channel_end = h.channel_end; device_end = h.device_end; written = inr (λ e. absurd (cc), refl); not_told = h.not_told }
+  plain : (s : Registers) (unit : ℕ) → has unit 0x08 ≡ true → has unit 0x04 ≡ true → Stays r s → Closes (ends s unit)
+  plain s unit c d k = record { channel_end = c; device_end = d; written = inl refl; not_told = k.not_told; arm = inr (refl, k.arm) }
 
-either : (r : Registers) (b : List ℕ) (w a : Bool) (x y : Closing) → IsClosing r b w x → IsClosing r b w y → IsClosing r b w (cond a x y)
-either r b w true x y p q = p
-either r b w false x y p q = q
+  check : (s : Registers) (bits : ℕ) → bit_and bits cause.EQUIPMENT_CHECK.0 ≡ 0 → Stays r s → Closes (fails s (record { 0 = bits }))
+  check s bits h k = plain (with_cause s (record { 0 = bits })) _ refl refl (record { arm = record { cylinder = k.arm.cylinder; head = k.arm.head }; not_told = λ e. with_other s bits h (k.not_told e) })
 
--- a field that must come whole, where the registers have gone on without telling anything
-whole_from : (r s : Registers) (b : List ℕ) (w : Bool) (size : ℕ) (c : Closing) → NotTold r s → ((x : ℕ) (rest : List ℕ) → b ≡ x ∷ rest → IsClosing r b w c) → IsClosing r b w (whole_field s b size c)
-whole_from r s [] w size c k h = plain r s [] w k
-whole_from r s (x ∷ b) w size c k h =
-    either r (x ∷ b) w (length (x ∷ b) == 0) (ends s ending_status) (cond (nat_lt (length (x ∷ b)) size) (fails s cause.FIELD_CUT_SHORT) c) (plain r s (x ∷ b) w k)
-    (either r (x ∷ b) w (nat_lt (length (x ∷ b)) size) (fails s cause.FIELD_CUT_SHORT) c (check r s (x ∷ b) w cause.FIELD_CUT_SHORT.0 refl k) (h x b refl))
+  writing : (t : Track) (c : Closing) → w ≡ true → (b ≡ [] → ⊥) → Closes c → Closes (writes t c)
+  writing t c write some h = record { channel_end = h.channel_end; device_end = h.device_end; written = inr (some, write); not_told = h.not_told; arm = h.arm }
 
-whole : (r : Registers) (b : List ℕ) (w : Bool) (size : ℕ) (c : Closing) → ((x : ℕ) (rest : List ℕ) → b ≡ x ∷ rest → IsClosing r b w c) → IsClosing r b w (whole_field r b size c)
-whole r b w size c h = whole_from r r b w size c (λ e. e) h
+  either : (a : Bool) (x y : Closing) → Closes x → Closes y → Closes (cond a x y)
+  either a x y p q = cond_both a x y Closes (λ _. p) (λ _. q)
 
-seeks : (g : Geometry) (r : Registers) (b : List ℕ) (w : Bool) → IsClosing r b w (seek_cylinder_and_head g r b)
-seeks g r b w =
-    let cylinder = number (slice_range b 2 4) in
-    let head = number (slice_range b 4 6) in
-    either r b w (number (take 2 b) == 0 && nat_lt cylinder g.cylinders && nat_lt head (heads_of g.model)) _ _
-    (record { channel_end = refl; device_end = refl; written = inl refl; not_told = λ e. e }) (check r r b w cause.SEEK_ADDRESS_OUTSIDE.0 refl (λ e. e))
+  -- without a byte, and with one
+  by_bytes : (x y : Closing) → Closes x → ((b ≡ [] → ⊥) → Closes y) → Closes (cond (length b == 0) x y)
+  by_bytes x y p q = cond_both (length b == 0) x y Closes (λ _. p) (λ some. q (λ none. let f = rw none at some in cc))
 
-head_seeks : (g : Geometry) (r : Registers) (b : List ℕ) (w : Bool) → IsClosing r b w (seek_head g r b)
-head_seeks g r b w =
-    let head = number (slice_range b 4 6) in
-    either r b w (nat_lt head (heads_of g.model)) _ _
-    (record { channel_end = refl; device_end = refl; written = inl refl; not_told = λ e. e }) (check r r b w cause.SEEK_ADDRESS_OUTSIDE.0 refl (λ e. e))
+  -- a field that must come whole, where the registers have gone on without telling anything
+  whole : (s : Registers) (size : ℕ) (c : Closing) → Stays r s → ((b ≡ [] → ⊥) → Closes c) → Closes (whole_field s b size c)
+  whole s size c k h = by_bytes (ends s ending_status) _ (plain s _ refl refl k) (λ some. either (nat_lt (length b) size) _ c (check s _ refl k) (h some))
 
-masks : (r : Registers) (b : List ℕ) (w : Bool) → IsClosing r b w (set_file_mask r b)
-masks r [] w = plain r r [] w (λ e. e)
-masks r (x ∷ b) w = record { channel_end = refl; device_end = refl; written = inl refl; not_told = λ e. e }
+  seeks : (g : Geometry) → Closes (seek_cylinder_and_head g r b)
+  seeks g = either (number (take 2 b) == 0 && nat_lt (number (slice_range b 2 4)) g.cylinders && nat_lt (number (slice_range b 4 6)) (heads_of g.model)) _ _
+      (record { channel_end = refl; device_end = refl; written = inl refl; not_told = λ e. e; arm = inl refl }) (check r _ refl (itself _ _ refl refl refl))
 
-searches : (t : Sighted) (o : Opened) (r : Registers) (b : List ℕ) (w : Bool) → IsClosing r b w (search t o r b)
-searches t o r b w = go (nat_lt 0 (length b) && is_satisfied (comparison o.command) (area_bytes t o r) b) _
-  where
-    go : (satisfied all : Bool) → IsClosing r b w (search_ends o r satisfied all)
-    go true all = record { channel_end = refl; device_end = refl; written = inl refl; not_told = λ e. e }
-    go false all = record { channel_end = refl; device_end = refl; written = inl refl; not_told = λ e. e }
+  head_seeks : (g : Geometry) → Closes (seek_head g r b)
+  head_seeks g = either (nat_lt (number (slice_range b 4 6)) (heads_of g.model)) _ _
+      (record { channel_end = refl; device_end = refl; written = inl refl; not_told = λ e. e; arm = inl refl }) (check r _ refl (itself _ _ refl refl refl))
 
-area_end : (t : Sighted) (o : Opened) (r : Registers) (b : List ℕ) (w : Bool) → IsClosing r b w (end_of_area t o r)
-area_end t o r b w = go (ends_with_data (extent_of o.command) && has_no_data t o.area)
-  where
-    go : (x : Bool) → IsClosing r b w (ends (at_end o r) (cond x unit_exception_status ending_status))
-    go true = record { channel_end = refl; device_end = refl; written = inl refl; not_told = λ e. e }
-    go false = record { channel_end = refl; device_end = refl; written = inl refl; not_told = λ e. e }
+  masks : (bytes : List ℕ) → Closes (set_file_mask r bytes)
+  masks [] = plain r _ refl refl (itself _ _ refl refl refl)
+  masks (x ∷ bytes) = plain _ _ refl refl (itself _ _ refl refl refl)
 
-updates : (change : Record → Record) (t : Sighted) (o : Opened) (r : Registers) (b : List ℕ) → IsClosing r b true (update change t o r b)
-updates change t o r [] = area_end t o r [] true
-updates change t o r (x ∷ b) =
-    let end = area_end t o r (x ∷ b) true in
-    either r (x ∷ b) true (length (x ∷ b) == 0) (end_of_area t o r) (updated t o.area change (end_of_area t o r)) end (go t o.area (end_of_area t o r) end)
-  where
-    go : (t : Sighted) (a : Option Area) (c : Closing) → IsClosing r (x ∷ b) true c → IsClosing r (x ∷ b) true (updated t a change c)
-    go (Ok t) (Some a) c h = writing r x b _ c h
-    go (Ok t) None c h = h
-    go (Err fault) a c h = h
+  searches : (o : Opened) (satisfied all : Bool) → Closes (search_ends o r satisfied all)
+  searches o true all = plain _ _ refl refl (itself _ _ refl refl refl)
+  searches o false all = plain _ _ refl refl (itself _ _ refl refl refl)
 
-formats : (g : Geometry) (t : Sighted) (o : Opened) (r : Registers) (b : List ℕ) (x : ℕ) (rest : List ℕ) → b ≡ x ∷ rest → IsClosing r b true (format g t o r b)
-formats g t o r [] x rest e = absurd (cc)
-formats g t o r (y ∷ b) x rest e = either r (y ∷ b) true (new_record_fits g t o (y ∷ b)) (writes (formatted t o.area (y ∷ b)) (format_ends r (length (kept t o.area)))) (fails r cause.RECORD_DOES_NOT_FIT)
-    (writing r y b _ (format_ends r (length (kept t o.area))) (record { channel_end = refl; device_end = refl; written = inl refl; not_told = λ e. e }))
-    (check r r (y ∷ b) true cause.RECORD_DOES_NOT_FIT.0 refl (λ e. e))
+  area_end : (o : Opened) (no_data : Bool) → Closes (area_ends o r no_data)
+  area_end o no_data = cond_both (ends_with_data (extent_of o.command) && no_data) _ _ (λ unit. Closes (ends (at_end o r) unit)) (λ _. plain _ _ refl refl (itself _ _ refl refl refl))
+      (λ _. plain _ _ refl refl (itself _ _ refl refl refl))
 
-homes : (o : Opened) (r : Registers) (b : List ℕ) (x : ℕ) (rest : List ℕ) → b ≡ x ∷ rest → IsClosing r b true (write_home_address o r b)
-homes o r [] x rest e = absurd (cc)
-homes o r (y ∷ b) x rest e = either r (y ∷ b) true (bytes_eq (y ∷ b) (own_home_address r)) (writes (bare_track (y ∷ b)) (home_address_ends o r)) (fails (at_end o r) cause.WRONG_HOME_ADDRESS)
-    (writing r y b _ (home_address_ends o r) (record { channel_end = refl; device_end = refl; written = inl refl; not_told = λ e. e }))
-    (check r (at_end o r) (y ∷ b) true cause.WRONG_HOME_ADDRESS.0 refl (λ e. e))
+  updates : (change : Record → Record) (t : Sighted) (o : Opened) → w ≡ true → Closes (update change t o r b)
+  updates change t o write = by_bytes (end_of_area t o r) _ (area_end o _) (go t o.area (end_of_area t o r) (area_end o _))
+    where
+      go : (t : Sighted) (a : Option Area) (c : Closing) → Closes c → (b ≡ [] → ⊥) → Closes (updated t a change c)
+      go (Ok t) (Some a) c h some = writing _ c write some h
+      go _ _ c h some = h
+
+  formats : (g : Geometry) (t : Sighted) (o : Opened) → w ≡ true → (b ≡ [] → ⊥) → Closes (format g t o r b)
+  formats g t o write some = either (new_record_fits g t o b) _ _
+      (writing _ (format_ends r (length (kept t o.area))) write some (plain _ _ refl refl (itself _ _ refl refl refl))) (check r _ refl (itself _ _ refl refl refl))
+
+  homes : (o : Opened) → w ≡ true → (b ≡ [] → ⊥) → Closes (write_home_address o r b)
+  homes o write some = either (bytes_eq b (own_home_address r)) _ _
+      (writing _ (home_address_ends o r) write some (plain _ _ refl refl (itself _ _ refl refl refl))) (check (at_end o r) _ refl (itself _ _ refl refl refl))
 
 -- the actions of the writes
 abbrev writes_by : Action → Bool
@@ -145,14 +146,14 @@ is_write_by command.Sense = refl
 is_write_by _ = refl
 
 closes : (a : Action) (g : Geometry) (t : Sighted) (o : Opened) (r : Registers) (b : List ℕ) → IsClosing r b (writes_by a) (close_by a g t o r b)
-closes action.SeekCylinderAndHead g t o r b = whole r b _ 6 _ (λ x rest e. seeks g r b _)
-closes action.SeekHead g t o r b = whole r b _ 6 _ (λ x rest e. head_seeks g r b _)
-closes action.SetFileMask g t o r b = masks r b _
-closes action.Search g t o r b = searches t o r b _
-closes action.WriteHomeAddress g t o r b = whole_from r (at_end o r) b true 5 (write_home_address o r b) (λ e. e) (homes o r b)
-closes action.Format g t o r b = whole r b true 8 (format g t o r b) (formats g t o r b)
-closes action.Update g t o r b = updates (replaced (extent_of o.command) b) t o r b
-closes _ g t o r b = area_end t o r b _
+closes action.SeekCylinderAndHead g t o r b = whole r b _ r 6 _ (itself _ _ refl refl refl) (λ some. seeks r b _ g)
+closes action.SeekHead g t o r b = whole r b _ r 6 _ (itself _ _ refl refl refl) (λ some. head_seeks r b _ g)
+closes action.SetFileMask g t o r b = masks r b _ b
+closes action.Search g t o r b = searches r b _ o _ _
+closes action.WriteHomeAddress g t o r b = whole r b _ (at_end o r) 5 _ (itself _ _ refl refl refl) (homes r b _ o refl)
+closes action.Format g t o r b = whole r b _ r 8 _ (itself _ _ refl refl refl) (formats r b _ g t o refl)
+closes action.Update g t o r b = updates r b _ (replaced (extent_of o.command) b) t o refl
+closes _ g t o r b = area_end r b _ o _
 
 pub closing_facts : (g : Geometry) (t : Sighted) (o : Opened) (r : Registers) (b : List ℕ) → IsClosing r b (is_write o.command) (closing g t o r b)
 unfolding closing
@@ -182,23 +183,24 @@ IsOther None = Unit {0}
 refusals : (p : Permit) (c : Command) (r : Registers) → IsOther (refusal_under p c r)
 refusals NoWrite c r = refl
 refusals NoSeek c r = refl
-refusals Yes c r = go (is_out_of_sequence c r)
+refusals Yes c r = cond_both (is_out_of_sequence c r) (Some cause.OUT_OF_SEQUENCE) None IsOther (λ _. refl) (λ _. tt)
+
+-- what holds where a command is refused, and where it starts, holds of every beginning
+pub beginning_by : (P : Beginning → Type 0) (code : ℕ) (r : Registers) → ((c : Command) (bits : ℕ) → bit_and bits cause.EQUIPMENT_CHECK.0 ≡ 0 → P (Rejected (with_cause (cleared c r) (record { 0 = bits }))))
+    → ((c : Command) (o : Opened) → o.command ≡ c → P (started c (cleared c r) o)) → P (beginning code r)
+unfolding beginning
+beginning_by P code r refused starts = go (decoded code)
   where
-    go : (b : Bool) → IsOther (cond b (Some cause.OUT_OF_SEQUENCE) None)
-    go true = refl
-    go false = tt
+    by : (c : CommandCode) (x : Option Sense) → IsOther x → P (begin_allowed c r x)
+    by c (Some s) h = refused c.command s.0 h
+    by c None h = starts c.command _ refl
 
-allowed_silent : (c : CommandCode) (r : Registers) (x : Option Sense) → IsOther x → BeginsSilent r (begin_allowed c r x)
-allowed_silent c r (Some s) h = λ e. with_other (cleared c.command r) s.0 h (cleared_silent c.command r e)
-allowed_silent c r None h = starts_silent c.command r (cleared c.command r) _ (cleared_silent c.command r)
-
-decoded_silent : (c : Option CommandCode) (r : Registers) → BeginsSilent r (begin_decoded c r)
-decoded_silent None r = λ e. refl
-decoded_silent (Some c) r = allowed_silent c r (refusal c.command r) (refusals (permit_of r.file_mask c.command) c.command r)
+    go : (c : Option CommandCode) → P (begin_decoded c r)
+    go None = refused command.NoOperation cause.INVALID_COMMAND.0 refl
+    go (Some c) = by c (refusal c.command r) (refusals (permit_of r.file_mask c.command) c.command r)
 
 pub beginning_silent : (code : ℕ) (r : Registers) → BeginsSilent r (beginning code r)
-unfolding beginning
-beginning_silent code r = decoded_silent (decoded code) r
+beginning_silent code r = beginning_by (BeginsSilent r) code r (λ c bits h. λ e. with_other (cleared c r) bits h (cleared_silent c r e)) (λ c o _. starts_silent c r (cleared c r) o (cleared_silent c r))
 
 -- How it looks: equipment check is not reported.
 

@@ -37,9 +37,6 @@ eight_least : (c : Bool) (n : ℕ) → 8 ≤ (if c then 8 else 8 + n)
 eight_least true n = omega arith
 eight_least false n = omega arith
 
-equal_le : (x y : ℕ) → x ≡ y → x ≤ y
-equal_le x y e = omega arith
-
 -- the count bytes give the lengths, whatever comes behind them
 pub record SameCount (b more : List ℕ) : Type 0 where
   pub short : nat_lt (length (b ++ more)) 8 ≡ false
@@ -62,37 +59,20 @@ format_stays g t o b more k =
 format_eight : (g : Geometry) (t : Sighted) (o : Opened) (b : List ℕ) → nat_lt (length b) 8 ≡ true → format_length g t o b ≡ 8
 format_eight g t o b k = ap (λ s. if s || not (new_record_fits g t o b) then 8 else 8 + body_length b) k
 
-format_grows : (g : Geometry) (t : Sighted) (o : Opened) (b more : List ℕ) → format_length g t o b ≤ format_length g t o (b ++ more)
-format_grows g t o b more = go (nat_lt (length b) 8) refl
-  where
-    go : (short : Bool) → nat_lt (length b) 8 ≡ short → format_length g t o b ≤ format_length g t o (b ++ more)
-    go true k = subst (λ n. n ≤ format_length g t o (b ++ more)) (sym (format_eight g t o b k)) (eight_least (nat_lt (length (b ++ more)) 8 || not (new_record_fits g t o (b ++ more))) (body_length (b ++ more)))
-    go false k = equal_le (format_length g t o b) (format_length g t o (b ++ more)) (format_stays g t o b more k)
+-- with more bytes the length is the same; or it was 8, and is no less than that
+abbrev Changes : ℕ → ℕ → Type 0
+Changes before after = (before ≡ after) ⊎ ((before ≡ 8) × (8 ≤ after))
 
-pub length_grows : (o : Open) (b more : List ℕ) → length_of o b ≤ length_of o (b ++ more)
-length_grows o b more = go (action_of o.opened.command) refl
-  where
-    same : (a : Action) → action_of o.opened.command ≡ a
-        → length_for a o.state.volume.geometry (track_under o.state) o.opened o.state.registers b ≡ length_for a o.state.volume.geometry (track_under o.state) o.opened o.state.registers (b ++ more)
-        → length_of o b ≤ length_of o (b ++ more)
-    same a e h = equal_le (length_of o b) (length_of o (b ++ more)) (length_in a o b e ∙ h ∙ sym (length_in a o (b ++ more) e))
+grows : (x y : ℕ) → Changes x y → x ≤ y
+grows x y (inl e) = omega arith
+grows x y (inr h) = omega arith
 
-    go : (a : Action) → action_of o.opened.command ≡ a → length_of o b ≤ length_of o (b ++ more)
-    go action.Format e = subst (λ n. n ≤ length_of o (b ++ more)) (sym (length_in action.Format o b e))
-        (subst (λ n. format_length o.state.volume.geometry (track_under o.state) o.opened b ≤ n) (sym (length_in action.Format o (b ++ more) e)) (format_grows o.state.volume.geometry (track_under o.state) o.opened b more))
-    go action.GiveSense e = same action.GiveSense e refl
-    go action.Read e = same action.Read e refl
-    go action.NoTransfer e = same action.NoTransfer e refl
-    go action.SeekCylinderAndHead e = same action.SeekCylinderAndHead e refl
-    go action.SeekHead e = same action.SeekHead e refl
-    go action.SetFileMask e = same action.SetFileMask e refl
-    go action.Search e = same action.Search e refl
-    go action.WriteHomeAddress e = same action.WriteHomeAddress e refl
-    go action.Update e = same action.Update e refl
+stays : (x y : ℕ) → Changes x y → (x ≡ 8) ⊎ (x ≡ y)
+stays x y (inl e) = inr e
+stays x y (inr h) = inl h.0
 
--- a length that bytes change is that of a count area
-pub length_stays : (o : Open) (b more : List ℕ) → (length_of o b ≡ 8) ⊎ (length_of o b ≡ length_of o (b ++ more))
-length_stays o b more = go (action_of o.opened.command) refl
+length_changes : (o : Open) (b more : List ℕ) → Changes (length_of o b) (length_of o (b ++ more))
+length_changes o b more = go (action_of o.opened.command) refl
   where
     G : Geometry
     G = o.state.volume.geometry
@@ -101,21 +81,23 @@ length_stays o b more = go (action_of o.opened.command) refl
     T = track_under o.state
 
     same : (a : Action) → action_of o.opened.command ≡ a → length_for a G T o.opened o.state.registers b ≡ length_for a G T o.opened o.state.registers (b ++ more)
-        → (length_of o b ≡ 8) ⊎ (length_of o b ≡ length_of o (b ++ more))
-    same a e h = inr (length_in a o b e ∙ h ∙ sym (length_in a o (b ++ more) e))
+        → Changes (length_of o b) (length_of o (b ++ more))
+    same a e h = inl (length_in a o b e ∙ h ∙ sym (length_in a o (b ++ more) e))
 
-    formats : action_of o.opened.command ≡ action.Format → (short : Bool) → nat_lt (length b) 8 ≡ short → (length_of o b ≡ 8) ⊎ (length_of o b ≡ length_of o (b ++ more))
-    formats e true k = inl (length_in action.Format o b e ∙ format_eight G T o.opened b k)
+    formats : action_of o.opened.command ≡ action.Format → (short : Bool) → nat_lt (length b) 8 ≡ short → Changes (length_of o b) (length_of o (b ++ more))
+    formats e true k = inr (
+      length_in action.Format o b e ∙ format_eight G T o.opened b k,
+      subst (λ n. 8 ≤ n) (sym (length_in action.Format o (b ++ more) e)) (eight_least (nat_lt (length (b ++ more)) 8 || not (new_record_fits G T o.opened (b ++ more))) (body_length (b ++ more))),
+    )
     formats e false k = same action.Format e (format_stays G T o.opened b more k)
 
-    go : (a : Action) → action_of o.opened.command ≡ a → (length_of o b ≡ 8) ⊎ (length_of o b ≡ length_of o (b ++ more))
+    go : (a : Action) → action_of o.opened.command ≡ a → Changes (length_of o b) (length_of o (b ++ more))
     go action.Format e = formats e (nat_lt (length b) 8) refl
-    go action.GiveSense e = same action.GiveSense e refl
-    go action.Read e = same action.Read e refl
-    go action.NoTransfer e = same action.NoTransfer e refl
-    go action.SeekCylinderAndHead e = same action.SeekCylinderAndHead e refl
-    go action.SeekHead e = same action.SeekHead e refl
-    go action.SetFileMask e = same action.SetFileMask e refl
-    go action.Search e = same action.Search e refl
-    go action.WriteHomeAddress e = same action.WriteHomeAddress e refl
-    go action.Update e = same action.Update e refl
+    go _ e = same _ e refl
+
+pub length_grows : (o : Open) (b more : List ℕ) → length_of o b ≤ length_of o (b ++ more)
+length_grows o b more = grows _ _ (length_changes o b more)
+
+-- a length that bytes change is that of a count area
+pub length_stays : (o : Open) (b more : List ℕ) → (length_of o b ≡ 8) ⊎ (length_of o b ≡ length_of o (b ++ more))
+length_stays o b more = stays _ _ (length_changes o b more)

@@ -18,14 +18,11 @@ use Rattle.ckd_command.proofs.CommandFacts.{NotTold, BeginsSilent, SightSilent, 
 
 -- Marks.
 
-abbrev no_track : Option (ℕ × ℕ)
-no_track = None
-
 pub never_both : {P : Type 0} (x : Option (ℕ × ℕ)) → x ≡ None → is_some x ≡ true → P
 never_both None e h = absurd (cc)
 never_both (Some t) e h = absurd (cc)
 
-untrue : {P : Type 0} → false ≡ true → P
+pub untrue : {P : Type 0} → false ≡ true → P
 untrue h = absurd (cc)
 
 -- whether a track is lost does not hang on where the arm is
@@ -35,16 +32,12 @@ anywhere Written r q e = refl
 anywhere Lost r q e = absurd (cc)
 
 -- what holds where a save goes, and where a track that was written is lost, holds of a save
-by_save : {A : Type 0} (P : A → Type 0) (f : Option Fault) (s : State) (fails : State → A) (goes : A) → P goes → ((left : List ℕ) → s.mark ≡ Written → P (fails (lost s left))) → P (moving_off f s fails goes)
+pub by_save : {A : Type 0} (P : A → Type 0) (f : Option Fault) (s : State) (fails : State → A) (goes : A) → P goes → ((left : List ℕ) → s.mark ≡ Written → P (fails (lost s left))) → P (moving_off f s fails goes)
 by_save P f s fails goes h k = go f s.mark refl
   where
     go : (f : Option Fault) (m : Mark) → s.mark ≡ m → P (saving (left_by f m) s fails goes)
     go (Some (SaveFails left)) Written e = k left e
     go _ _ e = h
-
--- and without a fault
-by_save_alone : {A : Type 0} (P : A → Type 0) (s : State) (fails : State → A) (goes : A) → P goes → P (moving_off None s fails goes)
-by_save_alone P s fails goes h = h
 
 -- Only what was written is lost, or is written behind it.
 
@@ -56,7 +49,7 @@ same_mark : (s : State) (r : Registers) → unsaved s ≡ None → Traces s (wit
 same_mark s r e = record { lost = never_both (unsaved_by s.mark r) (anywhere s.mark s.registers r e); written = λ w. w }
 
 saved_mark : (s : State) (r : Registers) → Traces s (moved s r)
-saved_mark s r = record { lost = never_both no_track refl; written = untrue }
+saved_mark s r = record { lost = never_both None refl; written = untrue }
 
 lost_mark : (before s : State) (left : List ℕ) → before.mark ≡ Written → Traces before (lost s left)
 lost_mark before s left e = record { lost = λ h. ap is_written_by e; written = untrue }
@@ -84,37 +77,33 @@ LookTraces before (Ready o) = Traces before (state_of o)
 LookTraces before (Passed o) = Traces before (state_of o)
 LookTraces before (Failed s) = Traces before s
 
-pub look_traces : (f : Option Fault) (o : Open) → unsaved (state_of o) ≡ None → LookTraces (state_of o) (look f o)
-look_traces f o e = go f (aim o.opened.command) _
-  where
-    at : (f : Option Fault) (s : Sight) → LookTraces o.state (looked f o s)
-    at f (answer.Found opened) = same_mark o.state o.state.registers e
-    at f (answer.IndexPassed r) = same_mark o.state r e
-    at f (answer.NextHead r) = by_save (LookTraces o.state) f o.state Failed (Passed (record o { state = moved o.state r })) (saved_mark o.state r) (λ left w. lost_mark o.state o.state left w)
-    at f (answer.Missed r) = same_mark o.state r e
-
-    go : (f : Option Fault) (a : Aim) (s : Sight) → LookTraces o.state (look_for f o a s)
-    go (Some LoadFails) (Next kind) s = same_mark o.state _ e
-    go f _ s = at f s
-
 -- nothing is lost where the area is found
 abbrev pub LookFinds : AfterLook → Type 0
 LookFinds (Ready o) = unsaved (state_of o) ≡ None
 LookFinds (Passed o) = Unit {0}
 LookFinds (Failed s) = Unit {0}
 
-pub look_finds : (f : Option Fault) (o : Open) → unsaved (state_of o) ≡ None → LookFinds (look f o)
-look_finds f o e = go f (aim o.opened.command) _
-  where
-    at : (f : Option Fault) (s : Sight) → LookFinds (looked f o s)
-    at f (answer.Found opened) = e
-    at f (answer.IndexPassed r) = tt
-    at f (answer.NextHead r) = by_save LookFinds f o.state Failed (Passed (record o { state = moved o.state r })) tt (λ left w. tt)
-    at f (answer.Missed r) = tt
+abbrev LookKeeps : State → AfterLook → Type 0
+LookKeeps before l = LookTraces before l × LookFinds l
 
-    go : (f : Option Fault) (a : Aim) (s : Sight) → LookFinds (look_for f o a s)
-    go (Some LoadFails) (Next kind) s = tt
+look_keeps : (f : Option Fault) (o : Open) → unsaved (state_of o) ≡ None → LookKeeps (state_of o) (look f o)
+look_keeps f o e = go f (aim o.opened.command) _
+  where
+    at : (f : Option Fault) (s : Sight) → LookKeeps o.state (looked f o s)
+    at f (answer.Found opened) = (same_mark o.state o.state.registers e, e)
+    at f (answer.IndexPassed r) = (same_mark o.state r e, tt)
+    at f (answer.NextHead r) = by_save (LookKeeps o.state) f o.state Failed (Passed (record o { state = moved o.state r })) (saved_mark o.state r, tt) (λ left w. (lost_mark o.state o.state left w, tt))
+    at f (answer.Missed r) = (same_mark o.state r e, tt)
+
+    go : (f : Option Fault) (a : Aim) (s : Sight) → LookKeeps o.state (look_for f o a s)
+    go (Some LoadFails) (Next kind) s = (same_mark o.state _ e, tt)
     go f _ s = at f s
+
+pub look_traces : (f : Option Fault) (o : Open) → unsaved (state_of o) ≡ None → LookTraces (state_of o) (look f o)
+look_traces f o e = (look_keeps f o e).0
+
+pub look_finds : (f : Option Fault) (o : Open) → unsaved (state_of o) ≡ None → LookFinds (look f o)
+look_finds f o e = (look_keeps f o e).1
 
 -- a command that is closed loses what was written before, and what it writes it writes without a fault too
 pub record CloseTraces (before alone after : State) : Type 0 where
@@ -133,7 +122,7 @@ close_traces f o b e = go (closing_of o b) (closing_of o b).moves_off
 
     go : (c : Closing) (moves_off : Bool) → CloseTraces o.state (closed None o.state c moves_off).state (closed f o.state c moves_off).state
     go c true = by_save (λ x. CloseTraces o.state (closed None o.state c true).state x.state) f o.state failed (closed_moving o.state c)
-        (record { lost = never_both no_track refl; written = untrue })
+        (record { lost = never_both None refl; written = untrue })
         (λ left w. record { lost = λ h. ap is_written_by w; written = untrue })
     go c false = record { lost = never_both (unsaved (with_registers (with_written o.state c.written) c.registers)) (stays c c.written); written = λ w. w }
 
@@ -181,7 +170,7 @@ begin_calm Q code s h = go (beginning code s.registers) (beginning_silent code s
     go (answer.Rejected r) k = calm_registers Q s r h k
     go (answer.Immediate r) k = calm_registers Q s r h k
     go (answer.Started r o) k = calm_registers Q s r h k
-    go (answer.ToCylinderZero r o) k = by_save_alone (BegunCalm Q) (with_registers s r) Rejected (at_cylinder_zero s r o) (at_zero r o k)
+    go (answer.ToCylinderZero r o) k = at_zero r o k
 
 abbrev pub LookCalm : Type 0 → AfterLook → Type 0
 LookCalm Q (Ready o) = Calm Q (state_of o)
@@ -194,7 +183,7 @@ look_calm Q o h = go (aim o.opened.command) _ (sight_silent o.state.volume.geome
     at : (s : Sight) → SightSilent o.state.registers s → LookCalm Q (looked None o s)
     at (answer.Found opened) k = h
     at (answer.IndexPassed r) k = calm_registers Q o.state r h k
-    at (answer.NextHead r) k = by_save_alone (LookCalm Q) o.state Failed (Passed (record o { state = moved o.state r })) (calm_moved Q o.state r h k)
+    at (answer.NextHead r) k = calm_moved Q o.state r h k
     at (answer.Missed r) k = calm_registers Q o.state r h k
 
     go : (a : Aim) (s : Sight) → SightSilent o.state.registers s → LookCalm Q (look_for None o a s)
@@ -208,5 +197,5 @@ close_calm Q o b h = go (closing_of o b) (closing_of o b).moves_off (closing_fac
     stays c (Some t) k = record { saved = refl; quiet = λ q. k (h.quiet q) }
 
     go : (c : Closing) (moves_off : Bool) → NotTold o.state.registers c.registers → Calm Q (closed None o.state c moves_off).state
-    go c true k = by_save_alone (λ x. Calm Q x.state) o.state failed (closed_moving o.state c) (calm_moved Q o.state c.registers h k)
+    go c true k = calm_moved Q o.state c.registers h k
     go c false k = stays c c.written k

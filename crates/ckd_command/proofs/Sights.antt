@@ -1,7 +1,7 @@
 -- What a look comes to: one of these ways, and the same again for a command whose area was found.
-use Rattle.std.proofs.Common.{◌≡◌, ap, refl, sym, subst, true, false, Bool, Some}
+use Rattle.std.proofs.Common.{◌≡◌, ap, refl, sym, subst, false, Option, Some, ◌∙◌}
 use Rattle.std.proofs.lemmas.Bool.{cond_both}
-use Rattle.std.specs.Prelude.{bit_and, not, ◌&&◌, ◌==◌, ◌+◌, if◌then◌else◌}
+use Rattle.std.specs.Prelude.{bit_and, not, ◌&&◌, ◌==◌, ◌+◌}
 use Rattle.ckd_track.specs.Model.{heads_of}
 use Rattle.ckd_track.specs.Track.{track_or_none}
 use Rattle.ckd_track.specs.declared.geometries.Geometry.{Geometry}
@@ -12,7 +12,6 @@ use Rattle.ckd_position.specs.declared.areas.Next.{Next as NextArea}
 use Rattle.ckd_position.specs.declared.areas.Next.TheVariants as next
 use Rattle.ckd_position.specs.declared.areas.Position.TheVariants.{AtIndex}
 use Rattle.ckd_sense.specs.Masks.{allows_head_change}
-use Rattle.ckd_sense.specs.declared.commands.Command.{Command}
 use Rattle.ckd_sense.specs.declared.sense_bytes.Sense.{Sense}
 use Rattle.ckd_sense.specs.declared.sense_bytes.TheConstants.Sense as cause
 use Rattle.ckd_command.specs.declared.registers.Registers.{Registers}
@@ -63,29 +62,22 @@ pub sight_credited : (g : Geometry) (t : Sighted) (o : Opened) (r : Registers) �
 unfolding sight
 sight_credited g t o r e = rw e refl
 
--- a command whose area was found finds it again
-abbrev FoundAgain : Geometry → Sighted → (o o' : Opened) → Registers → Aim → Type 0
-FoundAgain g t o o' r a = (o'.command ≡ o.command) × (look_for g t o' r a ≡ Found o')
+-- a command whose area was found finds it again: it is the same but for the area, which a look does not read
+abbrev IsSameBut : Opened → Sight → Type 0
+IsSameBut o (Found o') = o' ≡ record o { area = o'.area }
+IsSameBut o _ = Unit {0}
 
-again_for : (g : Geometry) (o o' : Opened) (r : Registers) (x : NextArea) → Found o' ≡ sight_of g o r x → (o'.command ≡ o.command) × (sight_of g o' r x ≡ Found o')
-again_for g o o' r (next.Found a) e = (let same : o' ≡ record o { area = Some a } = cc in (ap (λ (x : Opened). x.command) same, rw same refl))
-again_for g o o' r next.IndexPassed e = absurd (passing (λ s. Found o' ≡ s → ⊥) g o r (λ e. cc) (λ _. λ e. cc) (λ c _. λ e. cc) e)
+same_sight : (g : Geometry) (o : Opened) (r : Registers) (a : Option Area) (n : NextArea) → sight_of g (record o { area = a }) r n ≡ sight_of g o r n
+same_sight g o r a (next.Found b) = refl
+same_sight g o r a next.IndexPassed = refl
 
-again_when : (b : Bool) (g : Geometry) (o o' : Opened) (r : Registers) (x : NextArea) → Found o' ≡ (if b then Missed (with_cause r cause.UNREADABLE_TRACK) else sight_of g o r x)
-    → (o'.command ≡ o.command) × ((if b then Missed (with_cause r cause.UNREADABLE_TRACK) else sight_of g o' r x) ≡ Found o')
-again_when true g o o' r x e = absurd cc
-again_when false g o o' r x e = again_for g o o' r x e
-
-again_aim : (a : Aim) (g : Geometry) (t : Sighted) (o o' : Opened) (r : Registers) → Found o' ≡ look_for g t o r a → FoundAgain g t o o' r a
-again_aim (Next kind) g t o o' r e =
-    let f = again_when (needs_readable (action_of o.command) && not (is_readable t)) g o o' r (next_of_kind (track_or_none t) r.position kind) e in
-    let P = λ (c : Command). (if needs_readable (action_of c) && not (is_readable t) then Missed (with_cause r cause.UNREADABLE_TRACK) else sight_of g o' r (next_of_kind (track_or_none t) r.position kind)) ≡ Found o' in
-    (f.0, subst P (sym f.0) f.1)
-again_aim _ g t o o' r e = (let same : o' ≡ o = cc in (ap (λ (x : Opened). x.command) same, refl))
+again : (k : Aim) (g : Geometry) (t : Sighted) (o : Opened) (r : Registers) (a : Option Area) → Found (record o { area = a }) ≡ look_for g t o r k → look_for g t (record o { area = a }) r k ≡ Found (record o { area = a })
+again (Next kind) g t o r a e = rw (same_sight g o r a (next_of_kind (track_or_none t) r.position kind)) (sym e)
+again _ g t o r a e = refl
 
 pub look_again : (g : Geometry) (t : Sighted) (o o' : Opened) (r : Registers) → Found o' ≡ sight g t o r → (o'.command ≡ o.command) × (sight g t o' r ≡ Found o')
 unfolding sight
 look_again g t o o' r e =
-    let f = again_aim (aim o.command) g t o o' r e in
-    let P = λ (a : Aim). look_for g t o' r a ≡ Found o' in
-    (f.0, subst P (ap aim (sym f.0)) f.1)
+    let same : o' ≡ record o { area = o'.area } = subst (IsSameBut o) (sym e) (sight_by (IsSameBut o) g t o r refl (λ a. refl) tt tt (λ _. tt) (λ c h. tt)) in
+    let found = again (aim o.command) g t o r o'.area (ap Found (sym same) ∙ e) in
+    (ap (λ (x : Opened). x.command) same, rw same found)

@@ -1,6 +1,7 @@
 -- What the parts of a command come to without a fault they come to with a failed saving too, which is met later: where the track
 -- is still written, so that none was saved.
 use Rattle.std.proofs.Common.{◌≡◌, refl, sym, ap, subst, ◌∙◌, true, false, Bool, List, ℕ, Option, Some, None}
+use Rattle.ckd_command.specs.declared.registers.Registers.{Registers}
 use Rattle.ckd_command.specs.declared.tables.Aim.{Aim}
 use Rattle.ckd_command.specs.declared.begin.Opened.{Opened}
 use Rattle.ckd_command.specs.Answers.{Beginning, Sight}
@@ -8,18 +9,8 @@ use Rattle.ckd_command.specs.Answers as answer
 use Rattle.ckd_command.specs.Tables.{aim}
 use Rattle.ckd_command.specs.Commands.{Closing, closing}
 use Rattle.ckd_command.specs.Commands as commands
-use Rattle.ckd_command.specs.Drive.{State, Fault, SaveFails, left_by, lost, saving, moving_off, with_registers, is_written, Open, track_under, AfterBegin, Rejected, Immediate, Started, begin, begun, at_cylinder_zero, AfterLook, Passed, look, looked, look_for, Closed, failed, close, closed, closed_moving}
-
-never : {P : Type 0} → ◌≡◌ {A = Bool} false true → P
-never h = absurd (cc)
-
--- a track that is left is written no more, whether it could be saved or not
-left_behind : {A : Type 0} (P : A → Type 0) (f : Option Fault) (s : State) (fails : State → A) (goes : A) → P goes → ((left : List ℕ) → P (fails (lost s left))) → P (moving_off f s fails goes)
-left_behind P f s fails goes h k = go (left_by f s.mark)
-  where
-    go : (left : Option (List ℕ)) → P (saving left s fails goes)
-    go None = h
-    go (Some left) = k left
+use Rattle.ckd_command.specs.Drive.{State, Fault, SaveFails, with_registers, is_written, Open, track_under, AfterBegin, Rejected, Immediate, Started, begin, begun, at_cylinder_zero, AfterLook, Passed, look, looked, look_for, Closed, failed, close, closed, closed_moving}
+use Rattle.ckd_command.proofs.Marks.{by_save, untrue}
 
 -- Begin.
 
@@ -28,25 +19,15 @@ begun_state (Rejected s) = s
 begun_state (Immediate s motion) = s
 begun_state (Started o) = o.state
 
--- whether a beginning sends the arm to cylinder 0, head 0
-abbrev pub moves_arm : Beginning → Bool
-moves_arm (answer.ToCylinderZero r o) = true
-moves_arm b = false
-
-begun_moved : (f : Option Fault) (s : State) (b : Beginning) → moves_arm b ≡ true → is_written (begun_state (begun f s b)) ≡ false
-begun_moved f s (answer.ToCylinderZero r o) h =
-    left_behind (λ b. is_written (begun_state b) ≡ false) f (with_registers s r) Rejected (at_cylinder_zero s r o) (at_zero o) (λ left. refl)
+begun_moved : (f : Option Fault) (s : State) (r : Registers) (o : Option Opened) → is_written (begun_state (begun f s (answer.ToCylinderZero r o))) ≡ false
+begun_moved f s r o = by_save (λ b. is_written (begun_state b) ≡ false) f (with_registers s r) Rejected (at_cylinder_zero s r o) (at_zero o) (λ left _. refl)
   where
     at_zero : (o : Option Opened) → is_written (begun_state (at_cylinder_zero s r o)) ≡ false
     at_zero None = refl
     at_zero (Some o) = refl
-begun_moved f s _ h = never h
-
-pub begin_moved : (f : Option Fault) (code : ℕ) (s : State) → moves_arm (commands.beginning code s.registers) ≡ true → is_written (begun_state (begin f code s)) ≡ false
-begin_moved f code s h = begun_moved f s (commands.beginning code s.registers) h
 
 begun_stable : (s : State) (b : Beginning) (left : List ℕ) → is_written (begun_state (begun None s b)) ≡ true → begun (Some (SaveFails left)) s b ≡ begun None s b
-begun_stable s (answer.ToCylinderZero r o) left h = never (sym (begun_moved None s (answer.ToCylinderZero r o) refl) ∙ h)
+begun_stable s (answer.ToCylinderZero r o) left h = untrue (sym (begun_moved None s r o) ∙ h)
 begun_stable s _ left h = refl
 
 pub begin_stable : (code : ℕ) (s : State) (left : List ℕ) (b : AfterBegin) → begin None code s ≡ b → is_written (begun_state b) ≡ true → begin (Some (SaveFails left)) code s ≡ b
@@ -72,19 +53,16 @@ look_stable left o l e h = look_for_stable left o (aim o.opened.command) _ (subs
 -- Close.
 
 closed_moved : (f : Option Fault) (s : State) (c : Closing) (m : Bool) → m ≡ true → is_written (closed f s c m).state ≡ false
-closed_moved f s c true h = left_behind (λ c. is_written c.state ≡ false) f s failed (closed_moving s c) refl (λ left. refl)
-closed_moved f s c false h = never h
+closed_moved f s c true h = by_save (λ c. is_written c.state ≡ false) f s failed (closed_moving s c) refl (λ left _. refl)
+closed_moved f s c false h = untrue h
 
 pub close_moved : (f : Option Fault) (o : Open) (b : List ℕ) → (closing o.state.volume.geometry (track_under o.state) o.opened o.state.registers b).moves_off ≡ true → is_written (close f o b).state ≡ false
 close_moved f o b h = closed_moved f o.state (closing o.state.volume.geometry (track_under o.state) o.opened o.state.registers b) _ h
 
 closed_stable : (s : State) (c : Closing) (left : List ℕ) (m : Bool) → is_written (closed None s c m).state ≡ true → closed (Some (SaveFails left)) s c m ≡ closed None s c m
-closed_stable s c left true h = never (sym (closed_moved None s c true refl) ∙ h)
+closed_stable s c left true h = untrue (sym (closed_moved None s c true refl) ∙ h)
 closed_stable s c left false h = refl
 
 pub close_stable : (o : Open) (b left : List ℕ) (c : Closed) → close None o b ≡ c → is_written c.state ≡ true → close (Some (SaveFails left)) o b ≡ c
 close_stable o b left c e h =
-    go (closing o.state.volume.geometry (track_under o.state) o.opened o.state.registers b) (ap (λ (c : Closed). is_written c.state) e ∙ h) ∙ e
-  where
-    go : (c : Closing) → is_written (closed None o.state c c.moves_off).state ≡ true → closed (Some (SaveFails left)) o.state c c.moves_off ≡ closed None o.state c c.moves_off
-    go c h = closed_stable o.state c left c.moves_off h
+    closed_stable o.state (closing o.state.volume.geometry (track_under o.state) o.opened o.state.registers b) left _ (ap (λ (c : Closed). is_written c.state) e ∙ h) ∙ e

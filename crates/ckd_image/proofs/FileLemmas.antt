@@ -108,9 +108,8 @@ module _ {S : Type 0} where
       put : (files : List (Option S)) (tracks : List ℕ) (place : ℕ) (x : Option S) → HoldTracks content size files tracks → place < length files → IsSome (file_at files place) → IsSome x → length (held content [] x) ≡ length (held content [] (file_at files place)) → HoldTracks content size (set files place x) tracks
       put [] tracks place x holds h a b e = absurd (omega arith)
       put (f ∷ files) [] place x holds h a b e = absurd holds
-      put (None ∷ files) (n ∷ tracks) zero x holds h a b e = cc
-      put (Some s ∷ files) (n ∷ tracks) zero None holds h a b e = cc
       put (Some s ∷ files) (n ∷ tracks) zero (Some y) holds h a b e = (e ∙ holds.0, holds.1)
+      put _ (n ∷ tracks) zero _ holds h a b e = cc
       put (None ∷ files) (n ∷ tracks) (suc place) x holds h a b e = (holds.0, put files tracks place x holds.1 (omega arith) a b e)
       put (Some s ∷ files) (n ∷ tracks) (suc place) x holds h a b e = (holds.0, put files tracks place x holds.1 (omega arith) a b e)
 
@@ -166,8 +165,6 @@ module _ {S : Type 0} where
 
   located : (content : S → List ℕ) (size : ℕ) (files : List (Option S)) (tracks : List ℕ) (track : ℕ) → HoldTracks content size files tracks → length files ≡ length tracks → track < sum tracks → Located content size files track (place_in tracks track)
   located content size [] [] track holds count h = absurd (omega arith)
-  located content size [] (n ∷ tracks) track holds count h = absurd (omega arith)
-  located content size (f ∷ files) [] track holds count h = absurd (omega arith)
   located content size (f ∷ files) (n ∷ tracks) track holds count h =
       by (nat_lt track n) refl (λ above. located content size files tracks (track - n) (tracks_behind content size f files n tracks holds).1 (omega arith) (below above (subst (λ (k : ℕ). track < k) (sum_cons n tracks) h)))
     where
@@ -177,6 +174,7 @@ module _ {S : Type 0} where
       by : (b : Bool) → nat_lt track n ≡ b → (n ≤ track → Located content size files (track - n) (place_in tracks (track - n))) → Located content size (f ∷ files) track (if b then record { file = 0; track = track } else behind (place_in tracks (track - n)))
       by true e next = first_located content size f files n tracks track holds (ltb-true track n e)
       by false e next = let above = ltb-false track n e in next_located content size f files n tracks track (place_in tracks (track - n)) holds above (next above)
+  located content size _ _ track holds count h = absurd (omega arith)
 
   pub located_at : (content : S → List ℕ) (size : ℕ) (files : List (Option S)) (tracks : List ℕ) (track : ℕ) (p : SlotPlace) → HoldTracks content size files tracks → length files ≡ length tracks → track < sum tracks → p ≡ place_in tracks track → Located content size files track p
   located_at content size files tracks track p holds count h is = rw is (located content size files tracks track holds count h)

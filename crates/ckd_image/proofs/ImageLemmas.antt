@@ -63,13 +63,12 @@ cancel a b c some e = sym (mul-div_cancel a some) ∙ ap (λ (k : ℕ). k / c) e
 module _ {S : Type 0} where
   bytes_held : (content : S → List ℕ) (size : ℕ) (files : List (Option S)) (tracks : List ℕ) → HoldTracks content size files tracks → length files ≡ length tracks → length (slot_bytes (each content files)) ≡ sum tracks * size
   bytes_held content size [] [] holds count = sym (zero-mul size)
-  bytes_held content size [] (n ∷ tracks) holds count = absurd (omega arith)
-  bytes_held content size (f ∷ files) [] holds count = absurd (omega arith)
   bytes_held content size (f ∷ files) (n ∷ tracks) holds count =
       let first = tracks_behind content size f files n tracks holds in
       let ih = bytes_held content size files tracks first.1 (omega arith) in
       let all : sum (n ∷ tracks) * size ≡ n * size + sum tracks * size = ap (λ (k : ℕ). k * size) (sum_cons n tracks) ∙ add-mul n (sum tracks) size in
       rw slot_bytes-cons (length-append (drop 512 (held content [] f)) (slot_bytes (each content files)) ∙ omega (arith, ih, first.0, all))
+  bytes_held content size _ _ holds count = absurd (omega arith)
 
   pub tracks_held : (content : S → List ℕ) (g : Geometry) (files : List (Option S)) (tracks : List ℕ) → mount_of (each content files) ≡ Ok g → HoldTracks content g.track_size files tracks → length files ≡ length tracks → sum tracks ≡ tracks_of g
   tracks_held content g files tracks mounts holds count =

@@ -5,12 +5,11 @@ use Rattle.std.proofs.Math.ListN.{get_or-map}
 use Rattle.std.proofs.Math.Seq.{take-suc}
 use Rattle.std.proofs.Math.Nat.{mul-div_cancel}
 use Rattle.std.proofs.lemmas.List.Elements.{All-push, All-set, All-head, All-tail}
-use Rattle.std.specs.List.{AllByRecursion}
 use Rattle.ckd_image.specs.declared.header.FileHeader.{FileHeader}
 use Rattle.ckd_image.specs.declared.fault.MountFault.{MountFault}
 use Rattle.ckd_image.specs.declared.fault.MountFault.TheVariants.{StoreFault}
 use Rattle.ckd_image.specs.Header.{Head, no_head, head_of, header_of, then_with, headers_of}
-use Rattle.ckd_image.specs.Files.{file_at, held, each, HoldTracks, HoldsWhole, HeaderRefused, HeadersRefused}
+use Rattle.ckd_image.specs.Files.{file_at, held, each, HoldsWhole, HeaderRefused, HeadersRefused}
 use Rattle.ckd_image.proofs.FileLemmas.{Changed, each_same}
 -- this lemma is passed on
 pub use Rattle.ckd_image.proofs.FileLemmas.{each-append}

@@ -1,14 +1,11 @@
 -- Slots of one size in a row of bytes.
-use Rattle.std.proofs.Common.{◌≡◌, ℕ, zero, suc, ◌+◌, ◌*◌, ◌<◌, ◌≤◌, List, [], ◌∷◌, ◌++◌, length, take, drop, get_or, set, All, refl, sym, ap, ◌∙◌, arith, length-drop}
+use Rattle.std.proofs.Common.{◌≡◌, ℕ, zero, suc, ◌+◌, ◌*◌, ◌<◌, ◌≤◌, List, [], ◌++◌, length, take, drop, get_or, set, All, refl, sym, ap, ◌∙◌, arith, length-drop}
 use Rattle.std.proofs.lemmas.List.{length-take-le, drop-drop, take_at, drop_at, take-append-drop, nil_from_length, get_or_default}
 use Rattle.std.proofs.Math.Nat.{zero-add, zero-mul, suc-mul, mul-le-mul_right}
 use Rattle.std.specs.List.{concat}
 use Rattle.ckd_image.specs.Store.{overwritten}
 use Rattle.ckd_image.specs.Slots.{slots_in}
 use Rattle.ckd_image.proofs.Writes.{take-overwritten_before, drop-overwritten_before}
-
-ap2 : {x y : List ℕ} {xs ys : List (List ℕ)} → x ≡ y → xs ≡ ys → ◌≡◌ {A = List (List ℕ)} (x ∷ xs) (y ∷ ys)
-ap2 {x} {y} {xs} {ys} e f = ap (λ (z : List ℕ). z ∷ xs) e ∙ ap (λ (zs : List (List ℕ)). y ∷ zs) f
 
 pub length-slots_in : (size n : ℕ) (bytes : List ℕ) → length (slots_in size n bytes) ≡ n
 unfolding slots_in
@@ -48,12 +45,13 @@ unfolding slots_in
 slots_in-overwritten size zero k bytes slot h l room = absurd (omega arith)
 slots_in-overwritten size (suc n) zero bytes slot h l room =
     let start = zero-mul size in
-    rw (start, zero-add (length slot)) (ap2 (take_at slot (drop (length slot) bytes) size l) (ap (slots_in size n) (drop_at slot (drop (length slot) bytes) size l ∙ ap (λ (m : ℕ). drop m bytes) l)))
+    let first = take_at slot (drop (length slot) bytes) size l in
+    let others = ap (slots_in size n) (drop_at slot (drop (length slot) bytes) size l ∙ ap (λ (m : ℕ). drop m bytes) l) in
+    rw (start, zero-add (length slot), first, others) refl
 slots_in-overwritten size (suc n) (suc k) bytes slot h l room =
     let at : suc k * size ≡ size + k * size = omega (arith, suc-mul k size) in
     let whole : size + n * size ≤ length bytes = omega (arith, suc-mul n size) in
     let below : k < n = omega arith in
     let in_front : size + k * size ≤ length bytes = omega (arith, slot_within size n k below) in
     let rest : n * size ≤ length (drop size bytes) = simp length-drop (omega arith) in
-    rw at (ap2 (take-overwritten_before bytes slot (size + k * size) size (omega arith) in_front)
-    (ap (slots_in size n) (drop-overwritten_before bytes slot size (k * size) in_front) ∙ slots_in-overwritten size n k (drop size bytes) slot below l rest))
+    rw (at, take-overwritten_before bytes slot (size + k * size) size (omega arith) in_front, drop-overwritten_before bytes slot size (k * size) in_front, slots_in-overwritten size n k (drop size bytes) slot below l rest) refl

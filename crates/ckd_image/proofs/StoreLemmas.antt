@@ -27,3 +27,6 @@ module _ {S : Type 0} where
   pub others_whole : (content : S → List ℕ) (size : ℕ) (f : Option S) (files : List (Option S)) → AllByRecursion (HoldsWhole size) (each content (f ∷ files)) → AllByRecursion (HoldsWhole size) (each content files)
   others_whole content size None files whole = whole
   others_whole content size (Some s) files whole = whole.1
+
+-- what counting the tracks of each file asks
+pub ruleset counting = (holds_more, first_whole, others_whole)

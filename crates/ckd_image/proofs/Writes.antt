@@ -1,6 +1,7 @@
 -- What writes leave of a content.
-use Rattle.std.proofs.Common.{◌≡◌, ℕ, ◌+◌, ◌-◌, ◌≤◌, slice_range, List, ◌++◌, length, take, drop, sym, ap, ◌∙◌, arith, length-append, length-drop, length-take}
-use Rattle.std.proofs.lemmas.List.{append_assoc, drop-append-le, length-take-le, drop-drop, drop_at, take_at, take-take, drop-take}
+use Rattle.std.proofs.Common.{◌≡◌, ℕ, ◌+◌, ◌≤◌, slice_range, List, ◌++◌, length, take, drop, refl, sym, ap, ◌∙◌, arith, length-append, length-drop, length-take}
+use Rattle.std.proofs.lemmas.List.{append_assoc, drop-append-le, length-take-le, drop-drop, take_at, take-take, drop-take}
+use Rattle.std.proofs.lemmas.Slice.{drop-put_mid}
 use Rattle.std.proofs.lemmas.List.Edits.{split_between, length-between}
 use Rattle.ckd_image.specs.Store.{overwritten, Torn}
 
@@ -15,12 +16,7 @@ take-overwritten old bytes at h =
 
 -- behind the bytes, from any place on
 pub drop-overwritten : (old bytes : List ℕ) (at n : ℕ) → at ≤ length old → length bytes ≤ n → drop (at + n) (overwritten old at bytes) ≡ drop (at + n) old
-drop-overwritten old bytes at n h k =
-    let front : length (take at old ++ bytes) ≡ at + length bytes = simp (length-append, length-take) (omega arith) in
-    let split : at + n ≡ (at + length bytes) + (n - length bytes) = omega arith in
-    rw split (sym (drop-drop (n - length bytes) (at + length bytes) (overwritten old at bytes))
-    ∙ ap (drop (n - length bytes)) (drop_at (take at old ++ bytes) _ (at + length bytes) front)
-    ∙ drop-drop (n - length bytes) (at + length bytes) old)
+drop-overwritten old bytes at n h k = rw (append_assoc, ← (drop-drop (length bytes) at old)) (drop-put_mid at (length bytes) old bytes (at + n) (omega arith) h refl)
 
 -- a write of no more bytes, within the content, is a torn one
 pub torn_within : (old bytes : List ℕ) (at count : ℕ) → at + length bytes ≤ length old → length bytes ≤ count → Torn old (overwritten old at bytes) at count

@@ -137,6 +137,7 @@ fn tracks_in<S: ImageStore>(file: &Option<S>, size: u32) -> u32
 }
 
 /// How many tracks of this many bytes each file holds.
+#[tactic(auto, using(crate::proofs::StoreLemmas::counting))]
 pub(crate) fn count_tracks<S: ImageStore>(stores: &Stores<S>, size: u32) -> [u32; MOST_FILES]
     requires some { 0 < size }
     requires whole { AllByRecursion (HoldsWhole size) (each S.content (listed stores.now)) }

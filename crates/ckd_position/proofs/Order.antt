@@ -33,15 +33,11 @@ order_means [] (y ∷ ys) le = absurd (omega arith)
 order_means (x ∷ xs) (y ∷ ys) le = at_first x y xs ys (nat_cmp x y) _ refl (order_means xs ys (omega arith))
 
 meant : (c : Compare) (o : Ordering) (xs ys : List ℕ) → Means o xs ys → IsTrue (accepts c o) → Satisfies c xs ys
-meant compare.Equal Less xs ys m h = cc
 meant compare.Equal Equal xs ys m h = m
-meant compare.Equal Greater xs ys m h = cc
-meant compare.High Less xs ys m h = cc
-meant compare.High Equal xs ys m h = cc
 meant compare.High Greater xs ys m h = m
-meant compare.EqualOrHigh Less xs ys m h = cc
 meant compare.EqualOrHigh Equal xs ys m h = inl m
 meant compare.EqualOrHigh Greater xs ys m h = inr m
+meant _ _ xs ys m h = cc
 
 same_told : (xs : List ℕ) → slice_cmp nat_cmp xs xs ≡ Equal
 same_told [] = refl

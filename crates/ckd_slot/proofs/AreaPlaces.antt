@@ -1,5 +1,5 @@
 -- The bytes of an area stand where its record stands.
-use Rattle.std.proofs.Common.{◌≡◌, ◌∙◌, ap, sym, subst, refl, ℕ, ◌+◌, ◌-◌, ◌/◌, ◌%◌, ◌≤◌, ◌<◌, List, [], ◌∷◌, ◌++◌, true, false, ◌==◌, length, take, drop, slice_index, length-drop, length-take, length-append, drop-drop, Option, Some, None, Result, Ok, Err, Fits, w8, get_or, IfOk, arith}
+use Rattle.std.proofs.Common.{◌≡◌, ◌∙◌, ap, sym, refl, ℕ, ◌+◌, ◌-◌, ◌/◌, ◌%◌, ◌≤◌, ◌<◌, List, [], ◌∷◌, ◌++◌, true, false, ◌==◌, length, take, drop, slice_index, length-drop, length-take, length-append, drop-drop, Option, Some, None, Result, Ok, Err, Fits, w8, get_or, IfOk, arith}
 use Rattle.std.specs.Result.{result_ok}
 use Rattle.ckd_track.specs.declared.fault.SlotFault.{SlotFault}
 use Rattle.ckd_track.specs.Track.{number_of_records, offsets_of}
@@ -32,32 +32,26 @@ home_lies slot t e s = record { within = omega arith; size = refl; here = refl }
 lies_by : (slot bytes : List ℕ) (at n : ℕ) → at + n ≤ length slot → length bytes ≡ n → take n (drop at slot) ≡ bytes → Lies slot (record { start = at; len = n }) bytes
 lies_by slot bytes at n room size here = let e : at + n - at ≡ n = omega arith in record { within = room; size = size; here = rw e here }
 
-pub record_lies : (slot : List ℕ) (r : Record) (at : ℕ) (e : Extent) (part : Part) (i : ℕ) (t : Sighted) → StandsAt slot at r → record_on t i ≡ r
+pub record_lies : (slot : List ℕ) (r : Record) (at : ℕ) (e : Extent) (part : Part) (i : ℕ) (t : Sighted) → StandsAt slot at r → PartsAt slot at r → record_on t i ≡ r
     → Lies slot (record_place e at (key_length (drop at slot)) (data_length (drop at slot))) (bytes_of e t (Of part i))
-record_lies slot r at extent.Identifier part i t s is =
-    let p = parts_at slot at r s in
+record_lies slot r at extent.Identifier part i t s p is =
     let id : take 5 (drop at slot) ≡ r.id = sym (take-take 5 8 (drop at slot) (omega arith)) ∙ ap (take 5) p.count ∙ take_at r.id (length r.key_area ∷ length r.data_area / 256 ∷ length r.data_area % 256 ∷ []) 5 s.is_record.id in
     rw (is, bytes_of) (lies_by slot r.id at 5 (omega (arith, p.within)) s.is_record.id id)
-record_lies slot r at extent.Count part i t s is =
-    let p = parts_at slot at r s in
+record_lies slot r at extent.Count part i t s p is =
     rw (is, bytes_of) (lies_by slot (count_area r) at 8 (omega (arith, p.within)) (omega (arith, ap length p.count, length-take 8 (drop at slot), length-drop at slot, p.within)) p.count)
-record_lies slot r at extent.Key part i t s is =
-    let p = parts_at slot at r s in
+record_lies slot r at extent.Key part i t s p is =
     rw (is, bytes_of, p.key_size) (lies_by slot r.key_area (at + 8) (length r.key_area) (omega (arith, p.within)) refl p.key_area)
-record_lies slot r at extent.Data part i t s is =
-    let p = parts_at slot at r s in
+record_lies slot r at extent.Data part i t s p is =
     rw (is, bytes_of, p.key_size, p.data_size) (lies_by slot r.data_area (at + 8 + length r.key_area) (length r.data_area) (omega (arith, p.within)) refl p.data_area)
-record_lies slot r at extent.KeyAndData part i t s is =
-    let p = parts_at slot at r s in
+record_lies slot r at extent.KeyAndData part i t s p is =
     let n = length r.key_area + length r.data_area in
     let both : take n (drop (at + 8) slot) ≡ r.key_area ++ r.data_area = take-add (length r.key_area) (length r.data_area) (drop (at + 8) slot) ∙ rw (p.key_area, drop-drop (length r.key_area) (at + 8) slot, p.data_area) refl in
     rw (is, bytes_of, p.key_size, p.data_size) (lies_by slot (r.key_area ++ r.data_area) (at + 8) n (omega (arith, p.within)) (length-append r.key_area r.data_area) both)
-record_lies slot r at extent.CountKeyAndData part i t s is =
-    let p = parts_at slot at r s in
+record_lies slot r at extent.CountKeyAndData part i t s p is =
     let n = 8 + length r.key_area + length r.data_area in
     let own : length (record_bytes r) ≡ n = omega (arith, (reads_back r [] s.is_record).own) in
     rw (is, bytes_of, p.key_size, p.data_size) (lies_by slot (record_bytes r) at n (omega (arith, p.within)) own (ap (take n) s.bytes ∙ take_at (record_bytes r) s.rest n own))
-record_lies slot r at e part i t s is = record { within = omega arith; size = refl; here = refl }
+record_lies slot r at e part i t s p is = record { within = omega arith; size = refl; here = refl }
 
 -- a slot that reads whole spells the track that is read of it
 pub record Reads (slot : List ℕ) : Type 0 where
@@ -70,13 +64,11 @@ reads {slot} {offsets} {records = None} x e = absurd (let no : is_readable (trac
 
 pub home_window : {slot : List ℕ} (e : Extent) → Reads slot → Lies slot (home_address_place e) (bytes_of e (track_of slot) HomeAddress)
 home_window {slot} e r =
-    let P : Sighted → Type 0 = λ t. Lies slot (home_address_place e) (bytes_of e t HomeAddress) in
-    subst P (sym r.read) (home_lies slot (track_in slot) e r.spells)
+    rw r.read (home_lies slot (track_in slot) e r.spells)
 
 pub standing : {slot : List ℕ} (i at : ℕ) → Reads slot → StandsThere slot i (Some at) → StandsAt slot at (record_in (track_in slot) i)
 standing {slot} i at r there =
-    let P : ℕ → Type 0 = λ a. StandsAt slot a (record_in (track_in slot) i) in
-    subst P (sym there.1) (stands slot (track_in slot) i r.spells there.0)
+    rw there.1 (stands slot (track_in slot) i r.spells there.0)
 
 -- what its count area says
 pub parts_there : {slot : List ℕ} (i at : ℕ) → Reads slot → StandsThere slot i (Some at) → PartsAt slot at (record_in (track_in slot) i)
@@ -88,8 +80,7 @@ room_there i at r there = omega (arith, (parts_there i at r there).within)
 pub record_window : {slot : List ℕ} (e : Extent) (part : Part) (i at : ℕ) → Reads slot → StandsThere slot i (Some at)
     → Lies slot (record_place e at (key_length (drop at slot)) (data_length (drop at slot))) (bytes_of e (track_of slot) (Of part i))
 record_window {slot} e part i at r there =
-    let P : Sighted → Type 0 = λ t. Lies slot (record_place e at (key_length (drop at slot)) (data_length (drop at slot))) (bytes_of e t (Of part i)) in
-    subst P (sym r.read) (record_lies slot (record_in (track_in slot) i) at e part i (Ok (track_in slot)) (standing i at r there) refl)
+    rw r.read (record_lies slot (record_in (track_in slot) i) at e part i (Ok (track_in slot)) (standing i at r there) (parts_there i at r there) refl)
 
 not_there : (t : Sighted) (i : ℕ) → length (records_on t) ≤ i → record_on t i ≡ no_record
 not_there t i le = get_or_past (records_on t) i no_record le
@@ -98,19 +89,14 @@ lies_nowhere : (slot bytes : List ℕ) → bytes ≡ [] → Lies slot (record { 
 lies_nowhere slot bytes e = rw e (record { within = omega arith; size = refl; here = refl })
 
 pub no_window : (slot : List ℕ) (e : Extent) (part : Part) (i : ℕ) → StandsThere slot i None → HasBytes e (track_of slot) (Of part i) → Lies slot (record { start = 0; len = 0 }) (bytes_of e (track_of slot) (Of part i))
-no_window slot extent.Identifier part i le on = lies_nowhere slot _ (ap (λ (r : Record). r.id) (not_there (track_of slot) i le))
 no_window slot extent.Count part i le on = absurd (omega (arith, le, on))
-no_window slot extent.Key part i le on = lies_nowhere slot _ (ap (λ (r : Record). r.key_area) (not_there (track_of slot) i le))
-no_window slot extent.Data part i le on = lies_nowhere slot _ (ap (λ (r : Record). r.data_area) (not_there (track_of slot) i le))
-no_window slot extent.KeyAndData part i le on = lies_nowhere slot _ (ap (λ (r : Record). r.key_area ++ r.data_area) (not_there (track_of slot) i le))
 no_window slot extent.CountKeyAndData part i le on = absurd (omega (arith, le, on))
-no_window slot e part i le on = lies_nowhere slot _ refl
+no_window slot _ part i le on = lies_nowhere slot _ (let none = not_there (track_of slot) i le in cc)
 
 -- whether a record has data is read off its count area
 pub no_data_there : {slot : List ℕ} (i at : ℕ) → Reads slot → StandsThere slot i (Some at) → data_length (drop at slot) ≡ length (record_on (track_of slot) i).data_area
 no_data_there {slot} i at r there =
-    let P : Sighted → Type 0 = λ t. data_length (drop at slot) ≡ length (record_on t i).data_area in
-    subst P (sym r.read) (parts_there i at r there).data_size
+    rw r.read (parts_there i at r there).data_size
 
 pub no_data_nowhere : (slot : List ℕ) (i : ℕ) → StandsThere slot i None → (length (record_on (track_of slot) i).data_area == 0) ≡ true
 no_data_nowhere slot i le = rw (not_there (track_of slot) i le) refl
@@ -126,8 +112,7 @@ table_there {slot} {offsets} {n} i at t lt e =
 
 pub table_past : {slot offsets : List ℕ} {n : ℕ} (i : ℕ) → Tabled slot offsets n → n ≤ i → StandsThere slot i None
 table_past {slot} i t le =
-    let P : Sighted → Type 0 = λ x. length (records_on x) ≤ i in
-    subst P (sym t.read) (omega (arith, how_many t))
+    rw t.read (omega (arith, how_many t))
 
 -- what the answer of an index says of the slot
 pub read_by : (slot table : List ℕ) (answer : Result ℕ SlotFault) (t : Sighted) → ((i : ℕ) → Fits w8 (get_or slot i 0)) → track_of slot ≡ t → answer ≡ number_of_records t
@@ -136,5 +121,4 @@ read_by slot table (Ok n) (Ok t) fit is number offs within =
     let h = has_offsets slot (take n table) offs in
     record { read = h.0; spells = read_is_spelled slot (track_in slot) (are_bytes slot fit) h.0; within = within; table = h.1 }
 read_by slot table (Err fault) (Err f) fit is number offs within = rw is refl
-read_by slot table (Ok n) (Err f) fit is number offs within = absurd cc
-read_by slot table (Err fault) (Ok t) fit is number offs within = absurd cc
+read_by slot table _ _ fit is number offs within = absurd cc

@@ -1,5 +1,5 @@
 -- Slots whose area is written bit by bit.
-use Rattle.std.proofs.Common.{◌≡◌, ◌∙◌, ap, sym, subst, refl, ℕ, ◌+◌, ◌-◌, ◌≤◌, ◌<◌, max, false, Option, Some, None, List, ◌++◌, length, take, drop, replicate, length-append, append_assoc, Ok, arith}
+use Rattle.std.proofs.Common.{◌≡◌, ◌∙◌, ap, sym, refl, ℕ, ◌+◌, ◌-◌, ◌≤◌, ◌<◌, max, false, Option, Some, None, List, ◌++◌, length, take, drop, replicate, length-append, append_assoc, Ok, arith}
 use Rattle.std.proofs.lemmas.List.{length-replicate, replicate-append-replicate, length-take-le, drop_at, take-append-drop}
 use Rattle.ckd_track.specs.Track.{Track, Spells, track_of, track_in, track_or_none, record_in, slot_of, end_mark}
 use Rattle.ckd_track.specs.Changes.{end_offset, overwritten, ended_at, IsZeroFrom}
@@ -43,9 +43,8 @@ form_of size t0 e part i body u f lt same =
     let spells = slot_of_spells size t0 f.home_address f.records in
     let k = update_is e s0 t0 part i body u spells lt same in
     let t' = with_record_changed (replaced e body) (Of part i) t0 in
-    let F : ℕ → Type 0 = λ m. FitsSlot m t' in
     record {
-      fits = subst F long k.fits;
+      fits = rw long at k.fits;
       lengths = k.lengths;
       within = omega (arith, k.within, long, place-le s0 t0 spells (length t0.records), end_is t0);
       slot = ap (λ (m : ℕ). slot_of m t') (sym long) ∙ sym k.law ∙ ended_same s0 t0 (update_offset e t0 i) body spells (ap (λ (m : ℕ). slot_of m t0) (sym long)) k.within;
@@ -71,10 +70,9 @@ padded_on head tail passed more room le =
 -- A slot of this size that was made of a track whose records are as long as those of another.
 pub same_records : (size : ℕ) (old new : List ℕ) (t : Track) → track_of old ≡ Ok (track_in old) → FitsSlot size t → new ≡ slot_of size t → lengths_on t ≡ lengths_on (track_in old) → SameRecords old new
 same_records size old new t reads f is long =
-    let P : List ℕ → Type 0 = λ x. SameRecords old x in
     let read = slot_of_reads size t f.home_address f.records in
     let same : track_in (slot_of size t) ≡ t = ap track_or_none read in
-    subst P (sym is) (record { old_read = reads; spells = rw same (slot_of_spells size t f.home_address f.records); read = rw same read; lengths = rw same long })
+    rw is (record { old_read = reads; spells = rw same (slot_of_spells size t f.home_address f.records); read = rw same read; lengths = rw same long })
 
 -- A slot and its table where other bytes were put that leave the records in their places.
 put_indexed : {old new offsets : List ℕ} {records : Option ℕ} → IsIndexed old offsets records → SameRecords old new → length new ≡ length old → IsIndexed new offsets records

@@ -2,7 +2,6 @@
 use Rattle.std.proofs.Common.{◌≡◌, ◌∙◌, ap, sym, subst, refl, ℕ, ◌+◌, ◌-◌, ◌/◌, ◌^◌, ◌≤◌, ◌<◌, min, List, [], ◌∷◌, ◌++◌, Bool, true, false, length, take, drop, set, flat_map, replicate, slice_index, bytes_eq, length-append, length-take, length-set, append-nil, Option, Some, None, Ok, unwrap_or, All, sum_by, arith}
 use Rattle.std.specs.Option.{ForSome}
 use Rattle.std.proofs.lemmas.List.{length-replicate, take_min, take_at, take-take, take_more_set, get_or_at}
-use Rattle.std.proofs.lemmas.List.Folds.{length-flat_map-take}
 use Rattle.std.proofs.Math.Seq.{map-set_same}
 use Rattle.std.proofs.lemmas.List.Elements.{All-set, All-nil, All-take, All-push, All-replicate}
 use Rattle.ckd_track.specs.Track.{Record, Track, IsRecord, Spells, track_of, track_in, track_or_none, record_in, no_record, record_offsets, offsets_from, record_size, record_bytes, record_at, body_length, key_length, data_length, spelling, slot_of, end_mark}
@@ -12,7 +11,7 @@ use Rattle.ckd_track.proofs.Places.{length-record_bytes, place, place-one, offse
 use Rattle.ckd_track.proofs.Offsets.{few_records}
 use Rattle.ckd_track.proofs.Slots.{slot_of_spells, slot_of_reads, length-slot_of, length-spelling, offsets-append, offsets-take}
 use Rattle.ckd_track.proofs.Rewritten.{length-overwritten, data_is_record, body_is_record, body_lengths}
-use Rattle.ckd_track.proofs.Writing.{Makes, makes, new_slot, new_room, data_slot, key_data_slot}
+use Rattle.ckd_track.proofs.Writing.{record-before, Makes, makes, new_slot, new_room, data_slot, key_data_slot}
 use Rattle.ckd_track.specs.declared.model.DriveModel.{DriveModel}
 use Rattle.ckd_track.specs.Model.{capacity_of}
 use Rattle.ckd_track.specs.Charges.{has_room}
@@ -169,20 +168,13 @@ module _ {slot : List ℕ} {model : DriveModel} {before : Option ℕ} {after : O
 
   pub format_fits : FitsSlot (length slot) made
   format_fits =
-      let F : Track → Type 0 = λ x. FitsSlot (length slot) x in
-      subst F made_is (record { home_address = k.spells.home_address; records = All-push IsRecord (kept_records before (track_in slot)) (record_at (count ++ zeros)) kept_are makes_new.is_record; room = made_room })
+      rw (← made_is) (record { home_address = k.spells.home_address; records = All-push IsRecord (kept_records before (track_in slot)) (record_at (count ++ zeros)) kept_are makes_new.is_record; room = made_room })
     where
       kept_are : All IsRecord (kept_records before (track_in slot))
       kept_are = rw kept_take (All-take IsRecord (number_up_to before) (track_in slot).records k.spells.records)
 
   spells_made : Spells (slot_of (length slot) made) made
   spells_made = slot_of_spells (length slot) made format_fits.home_address format_fits.records
-
-  pub kept_room : (offsets : List ℕ) → (length slot - 5) / 8 ≤ length offsets → number_up_to before + 1 ≤ length offsets
-  kept_room offsets long =
-      let many : length made.records ≡ number_up_to before + 1 =
-      ap (λ (x : Track). length x.records) (sym made_is) ∙ length-append (kept_records before (track_in slot)) (record_at (count ++ zeros) ∷ []) ∙ (let n = length-kept (track_in slot) before k.there in omega (arith, n)) in
-      omega (arith, few_records (slot_of (length slot) made) made spells_made, length-slot_of (length slot) made k.room, many, long)
 
   format_table : (offsets : List ℕ) (n at : ℕ) → take n offsets ≡ record_offsets (track_in slot) → number_up_to before ≤ n → number_up_to before < length offsets → at ≡ end_of_records (track_in slot) (number_up_to before)
       → take (number_up_to before + 1) (set offsets (number_up_to before) at) ≡ record_offsets made
@@ -201,7 +193,7 @@ module _ {slot : List ℕ} {model : DriveModel} {before : Option ℕ} {after : O
       → IsIndexed (slot_of (length slot) made) (set offsets (number_up_to before) at) (Some (number_up_to before + 1))
   format_indexed offsets None at x r e = absurd (let no : is_readable (track_of slot) ≡ false = x.read in cc)
   format_indexed offsets (Some n) at x r e =
-      let room = kept_room offsets x.room in
+      let room : number_up_to before + 1 ≤ length offsets = omega (arith, few_records slot (track_in slot) k.spells, up_to_le (track_in slot) before k.there, x.room) in
       let size = length-set offsets (number_up_to before) at in
       indexed_slot (length slot) made (set offsets (number_up_to before) at) (number_up_to before + 1) format_fits (omega (arith, x.room, size)) x.size (omega (arith, room, size))
       (format_table offsets n at x.read.table (omega (arith, up_to_le (track_in slot) before k.there, how_many x.read)) (omega (arith, room)) e)
@@ -256,10 +248,6 @@ updated_by slot t i off body r s lt within is same law =
       lengths = map-set_same lengths_of t.records i r no_record same;
     }
 
-record_end : (slot : List ℕ) (t : Track) (i : ℕ) → Spells slot t → i < length t.records → slice_index (record_offsets t) i + record_size (record_in t i) ≤ end_offset t
-record_end slot t i s lt =
-    omega (arith, offset_is slot t s i lt, length-flat_map-take record_bytes t.records i no_record lt, length-record_bytes (record_in t i) (s.records i no_record lt))
-
 -- The window of an update, and the record with other bytes in it.
 abbrev pub update_offset : Extent → Track → ℕ → ℕ
 update_offset extent.KeyAndData t i = slice_index (record_offsets t) i + 8
@@ -277,11 +265,11 @@ pub update_is : (e : Extent) (slot : List ℕ) (t : Track) (part : Part) (i : �
     → IsUpdated slot t (update_offset e t i) body (with_record_changed (replaced e body) (Of part i) t)
 update_is extent.Data slot t part i body u s lt same =
     rw (padded_whole body (length (record_in t i).data_area) same)
-    (updated_by slot t i (data_offset t i) body (record (record_in t i) { data_area = body }) s lt (omega (arith, record_end slot t i s lt, same)) (data_is_record slot t s i lt body same) (ap (λ (n : ℕ). let l : ℕ × ℕ = (length (record_in t i).key_area, n) in l) same) (data_slot slot t s i lt body same))
+    (updated_by slot t i (data_offset t i) body (record (record_in t i) { data_area = body }) s lt (omega (arith, record-before slot t s i lt, same)) (data_is_record slot t s i lt body same) (ap (λ (n : ℕ). let l : ℕ × ℕ = (length (record_in t i).key_area, n) in l) same) (data_slot slot t s i lt body same))
 update_is extent.KeyAndData slot t part i body u s lt same =
     let l = body_lengths slot t s i lt body same in
     rw (padded_whole body (length (record_in t i).key_area + length (record_in t i).data_area) same)
-    (updated_by slot t i (slice_index (record_offsets t) i + 8) body (with_body body (record_in t i)) s lt (omega (arith, record_end slot t i s lt, same)) (body_is_record slot t s i lt body same) (rw (l.key_area, l.data_area) refl) (key_data_slot slot t s i lt body same))
+    (updated_by slot t i (slice_index (record_offsets t) i + 8) body (with_body body (record_in t i)) s lt (omega (arith, record-before slot t s i lt, same)) (body_is_record slot t s i lt body same) (rw (l.key_area, l.data_area) refl) (key_data_slot slot t s i lt body same))
 update_is e slot t part i body u s lt same = absurd u
 
 pub update_place : (e : Extent) (t : Track) (part : Part) (i : ℕ) (w : Window) → IsUpdate e → i < length t.records → IsPlaceOf e t (Of part i) w → (w.start ≡ update_offset e t i) × (w.len ≡ update_length e (record_in t i))

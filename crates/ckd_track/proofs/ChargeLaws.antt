@@ -1,48 +1,43 @@
 -- What fits a track's capacity fits its slot.
-use Rattle.std.proofs.Common.{◌≡◌, ap, ℕ, zero, suc, ◌+◌, ◌≤◌, ◌<◌, true, false, Option, None, Some, List, [], ◌∷◌, ◌++◌, length, length-append, take, slice_index, slice_index_or, All, sum_by, flat_map, bytes_eq, arith}
+use Rattle.std.proofs.Common.{◌≡◌, ap, ℕ, zero, suc, ◌+◌, ◌≤◌, ◌<◌, true, false, Option, None, List, [], ◌∷◌, ◌++◌, length, length-append, take, slice_index, slice_index_or, All, sum_by, flat_map, bytes_eq, arith}
 use Rattle.std.proofs.lemmas.Bool.Decides.{nat_tests}
 use Rattle.std.proofs.lemmas.Grind.{flat_map-append}
 use Rattle.std.proofs.lemmas.List.{take_more, take-take, take_all, length-take, length-drop, get_or_append_left}
-use Rattle.std.proofs.lemmas.List.Elements.{All-nil, All-head, All-tail, All-take}
-use Rattle.std.proofs.lemmas.List.Sums.{sum_by-cons, sum_by_push, sum_by-take-le}
+use Rattle.std.proofs.lemmas.List.Elements.{All-head, All-tail}
+use Rattle.std.proofs.lemmas.List.Sums.{sum_by-le-sum_by, sum_by_push, sum_by-take-le}
 use Rattle.std.proofs.lemmas.Slice.Eq.{bytes_eq-Decides}
 use Rattle.std.proofs.lemmas.Bool.{false_from_ne_true}
 use Rattle.ckd_track.specs.declared.model.DriveModel.{DriveModel}
 use Rattle.ckd_track.specs.declared.model.DriveModel.TheVariants.{D2311, D2314}
 use Rattle.ckd_track.specs.Model.{capacity_of}
-use Rattle.ckd_track.specs.Track.{Record, Track, IsRecord, no_record, record_bytes, end_mark, spelling, record_at, key_length, data_length}
+use Rattle.ckd_track.specs.Track.{Record, Track, IsRecord, no_record, record_bytes, record_size, end_mark, spelling, record_at, key_length, data_length}
 use Rattle.ckd_track.specs.Charges.{charge_of, last_charge_of, r0_charge_of, record_charge, charge_at, kept_charges, capacity_left, new_charge, has_room, LeavesRoom}
 use Rattle.ckd_track.specs.Changes.{kept_records}
 use Rattle.ckd_track.proofs.Places.{length-record_bytes}
+use Rattle.ckd_track.proofs.Slots.{kept_are, length-records}
 
 -- No charge is below the bytes that it is for.
 
-charge-le : (model : DriveModel) (kl dl : ℕ) → 8 + (kl + dl) ≤ charge_of model kl dl
-charge-le D2311 kl dl = omega arith
-charge-le D2314 kl dl = omega arith
+record Covers (model : DriveModel) (kl dl : ℕ) : Type 0 where
+  kept : 8 + (kl + dl) ≤ charge_of model kl dl
+  first : kl + dl ≤ 8 + r0_charge_of model kl dl
+  last : kl + dl ≤ last_charge_of model kl dl
+  most : capacity_of model ≤ 7294
 
-r0_charge-le : (model : DriveModel) (kl dl : ℕ) → kl + dl ≤ 8 + r0_charge_of model kl dl
-r0_charge-le D2311 kl dl = omega arith
-r0_charge-le D2314 kl dl = omega arith
-
-last_charge-le : (model : DriveModel) (kl dl : ℕ) → kl + dl ≤ last_charge_of model kl dl
-last_charge-le D2311 kl dl = omega arith
-last_charge-le D2314 kl dl = omega arith
+covers : (model : DriveModel) (kl dl : ℕ) → Covers model kl dl
+covers D2311 kl dl = record { kept = omega arith; first = omega arith; last = omega arith; most = omega arith }
+covers D2314 kl dl = record { kept = omega arith; first = omega arith; last = omega arith; most = omega arith }
 
 others-le : (model : DriveModel) (rs : List Record) → All IsRecord rs → length (flat_map record_bytes rs) ≤ sum_by (record_charge model) rs
-others-le model [] are = omega arith
-others-le model (r ∷ rs) are =
-    let more = others-le model rs (All-tail IsRecord r rs are) in
-    let own = length-record_bytes r (All-head IsRecord r rs are) in
-    omega (arith, more, own, charge-le model (length r.key_area) (length r.data_area), length-append (record_bytes r) (flat_map record_bytes rs), sum_by-cons (record_charge model) r rs)
+others-le model rs are = omega (arith, length-records rs are, sum_by-le-sum_by record_size (record_charge model) rs (λ r. (covers model (length r.key_area) (length r.data_area)).kept))
 
 kept_and_new-le : (model : DriveModel) (kept : List Record) (kl dl : ℕ) → All IsRecord kept
     → length (flat_map record_bytes kept) + (kl + dl) ≤ 16 + (kept_charges model kept + new_charge model kept kl dl)
-kept_and_new-le model [] kl dl are = omega (arith, r0_charge-le model kl dl)
+kept_and_new-le model [] kl dl are = omega (arith, (covers model kl dl).first)
 kept_and_new-le model (r ∷ rs) kl dl are =
     let others = others-le model rs (All-tail IsRecord r rs are) in
     let own = length-record_bytes r (All-head IsRecord r rs are) in
-    omega (arith, others, own, r0_charge-le model (length r.key_area) (length r.data_area), last_charge-le model kl dl, length-append (record_bytes r) (flat_map record_bytes rs))
+    omega (arith, others, own, (covers model (length r.key_area) (length r.data_area)).first, (covers model kl dl).last, length-append (record_bytes r) (flat_map record_bytes rs))
 
 -- What fits has room.
 
@@ -74,17 +69,11 @@ pub leaves_room : (model : DriveModel) (t : Track) (after : Option ℕ) (kl dl :
     → LeavesRoom (capacity_of model + 37) after kl dl t
 leaves_room model t after kl dl home are fits = λ count body eight key long both.
     let n = new_lengths count body eight (rw (key, long) both) in
-    room model t.home_address (kept_records after t) (record_at (count ++ body)) home (all after) n.0 (rw (n.1, n.2, key, long) fits)
-  where
-    all : (after : Option ℕ) → All IsRecord (kept_records after t)
-    all None = All-nil IsRecord
-    all (Some i) = All-take IsRecord (i + 1) t.records are
+    room model t.home_address (kept_records after t) (record_at (count ++ body)) home (kept_are after t are) n.0 (rw (n.1, n.2, key, long) fits)
 
 lengths-le : (model : DriveModel) (kept : List Record) (kl dl : ℕ) → has_room model kept kl dl ≡ true → kl + dl ≤ 8 + 7294
-lengths-le D2311 [] kl dl fits = let h = r0_charge-le D2311 kl dl in grind (arith, nat_tests)
-lengths-le D2314 [] kl dl fits = let h = r0_charge-le D2314 kl dl in grind (arith, nat_tests)
-lengths-le D2311 (r ∷ rs) kl dl fits = let h = last_charge-le D2311 kl dl in grind (arith, nat_tests)
-lengths-le D2314 (r ∷ rs) kl dl fits = let h = last_charge-le D2314 kl dl in grind (arith, nat_tests)
+lengths-le model [] kl dl fits = let c = covers model kl dl in grind (arith, nat_tests)
+lengths-le model (r ∷ rs) kl dl fits = let c = covers model kl dl in grind (arith, nat_tests)
 
 -- a count of eight bytes FF, which is the end mark, fits no track
 pub no_end_mark : (model : DriveModel) (kept : List Record) (count : List ℕ) → has_room model kept (key_length count) (data_length count) ≡ true → bytes_eq count end_mark ≡ false

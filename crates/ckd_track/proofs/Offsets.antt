@@ -1,7 +1,7 @@
 -- Where the records of a slot stand.
-use Rattle.std.proofs.Common.{◌≡◌, ◌∙◌, ap, refl, ℕ, suc, ◌+◌, ◌*◌, ◌≤◌, ◌<◌, List, [], ◌∷◌, ◌++◌, length, drop, take, get_or, slice_index, length-drop, length-append, drop-drop, append_assoc, Option, Some, Result, Ok, Err, IsOk, All, IfSome, Bor, Fits, w8, arith}
+use Rattle.std.proofs.Common.{◌≡◌, ◌∙◌, ap, refl, ℕ, suc, ◌+◌, ◌-◌, ◌*◌, ◌≤◌, ◌<◌, List, [], ◌∷◌, ◌++◌, length, drop, take, get_or, slice_index, length-drop, length-append, drop-drop, append_assoc, Option, Some, Result, Ok, Err, IsOk, All, IfSome, Bor, Fits, w8, arith}
 use Rattle.std.proofs.lemmas.Grind.{get_or_default_zero}
-use Rattle.std.proofs.lemmas.List.{take_at}
+use Rattle.std.proofs.lemmas.List.{take_at, take_rest}
 use Rattle.std.proofs.lemmas.Option.{MatchOption-at_some}
 use Rattle.std.specs.Prelude.{⊤, flat_map}
 use Rattle.ckd_track.specs.declared.fault.SlotFault.{SlotFault}
@@ -121,11 +121,15 @@ next_is slot i at size fit e lt is =
 pub ruleset walking = (first_offset, bytes_within, next_is)
 
 -- the bytes at a record's offset, by a view's value
-pub begins_in : (slot : List ℕ) (t : Track) (i at : ℕ) → Spells slot (track_in slot) → track_in slot ≡ t → at ≡ slice_index (record_offsets t) i → i < length t.records → BeginsWith (drop at slot) (record_in t i) × (at ≤ length slot)
-begins_in slot t i at spelled is e lt =
+pub begins_in : (slot : List ℕ) (t : Track) (i at : ℕ) → at ≡ slice_index (record_offsets t) i → track_in slot ≡ t → Spells slot (track_in slot) → i < length t.records
+    → BeginsWith (take (length slot - at) (drop at slot)) (record_in t i)
+begins_in slot t i at e is spelled lt =
     let s : StandsAt slot at (record_in t i) = rw e (stands slot t i (rw is at spelled) lt) in
     let back = reads_back (record_in t i) s.rest s.is_record in
-    (rw s.bytes (record { is_record = s.is_record; same = back.same; count = back.count; room = omega (arith, back.long, back.size, s.room) }), omega (arith, (parts_at slot at (record_in t i) s).within))
+    rw (take_rest slot at, s.bytes) (record { is_record = s.is_record; same = back.same; count = back.count; room = omega (arith, back.long, back.size, s.room) })
+
+pub begins_within : (slot : List ℕ) (t : Track) (i at : ℕ) → at ≡ slice_index (record_offsets t) i → track_in slot ≡ t → Spells slot (track_in slot) → i < length t.records → at ≤ length slot
+begins_within slot t i at e is spelled lt = omega (arith, (parts_at slot at (record_in t i) (rw e (stands slot t i (rw is at spelled) lt))).within)
 
 -- the offsets of a view's table
 pub table_is : (slot : List ℕ) (offsets : Option (Bor (List ℕ))) (o : Bor (List ℕ)) → offsets ≡ Some o → IfSome offsets (λ o. offsets_of slot ≡ Ok o.now) → o.now ≡ record_offsets (track_in slot)
@@ -134,6 +138,22 @@ table_is slot offsets o is table = (has_offsets slot o.now (MatchOption-at_some 
 pub home_is : (slot : List ℕ) (t : Track) → Spells slot t → take 5 slot ≡ t.home_address
 home_is slot t is = ap (take 5) (is.bytes ∙ append_assoc t.home_address (flat_map record_bytes t.records ++ end_mark) is.rest) ∙ take_at t.home_address _ 5 is.home_address
 
+-- by a view's value
+pub home_in : (slot : List ℕ) (t : Track) → track_in slot ≡ t → Spells slot (track_in slot) → take 5 slot ≡ t.home_address
+home_in slot t is spelled = home_is slot t (rw is at spelled)
+
 -- the records of a slot, of eight bytes or more each, and the end mark are in the slot
 pub few_records : (slot : List ℕ) (t : Track) → Spells slot t → 13 + 8 * length t.records ≤ length slot
 few_records slot t is = omega (arith, long_enough t.records is.records, ap length is.bytes, is.home_address, length-append {A = ℕ})
+
+-- what a table of offsets shows
+pub table_spells : (slot offsets : List ℕ) → ((i : ℕ) → Fits w8 (get_or slot i 0)) → offsets_of slot ≡ Ok offsets → Spells slot (track_in slot)
+table_spells slot offsets fit e = read_is_spelled slot (track_in slot) (are_bytes slot fit) (has_offsets slot offsets e).0
+
+pub table_read : (slot offsets : List ℕ) → offsets_of slot ≡ Ok offsets → track_of slot ≡ Ok (track_in slot)
+table_read slot offsets e = (has_offsets slot offsets e).0
+
+pub table_counts : (slot offsets : List ℕ) → offsets_of slot ≡ Ok offsets → length offsets ≡ length (track_in slot).records
+table_counts slot offsets e = ap length (has_offsets slot offsets e).1 ∙ length-offsets_from 5 (track_in slot).records
+
+pub ruleset viewing = (table_spells, table_read, table_counts)

@@ -81,14 +81,19 @@ whole_slot s long = let all : length s - 0 ≡ length s = omega arith in rw (all
 
 -- Counting the records.
 
--- how many records were read after n others, or the same fault
-abbrev pub counts : ℕ → Result (List Record) SlotFault → Result ℕ SlotFault
-counts n (Ok rs) = Ok (n + length rs)
-counts n (Err fault) = Err fault
+-- what is made of the records that were read, or the same fault
+abbrev pub mapped : {A : Type 0} → (List Record → A) → Result (List Record) SlotFault → Result A SlotFault
+mapped f (Ok rs) = Ok (f rs)
+mapped f (Err fault) = Err fault
 
-counts-followed_by : (n : ℕ) (r : Record) (others : Result (List Record) SlotFault) → counts n (followed_by r others) ≡ counts (n + 1) others
-counts-followed_by n r (Ok rs) = ap Ok (omega arith)
-counts-followed_by n r (Err fault) = refl
+-- how many records were read after n others
+abbrev pub counts : ℕ → Result (List Record) SlotFault → Result ℕ SlotFault
+counts n = mapped (λ rs. n + length rs)
+
+-- one record further, what is made of the others is made of all
+followed : {A : Type 0} (f g : List Record → A) (r : Record) (others : Result (List Record) SlotFault) → ((rs : List Record) → f (r ∷ rs) ≡ g rs) → mapped f (followed_by r others) ≡ mapped g others
+followed f g r (Ok rs) same = ap Ok (same rs)
+followed f g r (Err fault) same = refl
 
 number_on : (ha : List ℕ) (rs : Result (List Record) SlotFault) → counts 0 rs ≡ number_of_records (behind_home_address ha rs)
 number_on ha (Ok rs) = ap Ok (omega arith)
@@ -99,7 +104,7 @@ unfolding track_of
 count_from s long = rw (← (whole_slot s long)) (number_on (take 5 s) (records_of s))
 
 pub count_on : (s : List ℕ) (n at size : ℕ) → n < length s → size_at at (drop at s) ≡ Ok (Some size) → counts n (walk s n at) ≡ counts (n + 1) (walk s (n + 1) (at + size))
-count_on s n at size lt e = ap (counts n) (step_on s n at size lt e) ∙ counts-followed_by n _ _
+count_on s n at size lt e = ap (counts n) (step_on s n at size lt e) ∙ followed _ _ _ _ (λ rs. omega arith)
 
 pub count_stops : (s : List ℕ) (n at : ℕ) → n < length s → size_at at (drop at s) ≡ Ok None → counts n (walk s n at) ≡ Ok n
 count_stops s n at lt e = ap (counts n) (step s n at _ lt e) ∙ ap Ok (omega arith)
@@ -118,15 +123,9 @@ pub ruleset counting = (short_number, size_within, count_from, count_on, count_s
 
 -- Noting the offsets.
 
--- the offsets noted so far and those of the records behind, or the same fault
+-- the offsets noted so far and those of the records behind
 abbrev pub noted : List ℕ → ℕ → Result (List Record) SlotFault → Result (List ℕ) SlotFault
-noted so_far at (Ok rs) = Ok (so_far ++ offsets_from at rs)
-noted so_far at (Err fault) = Err fault
-
-noted-followed_by : (so_far : List ℕ) (at : ℕ) (r : Record) (others : Result (List Record) SlotFault)
-    → noted so_far at (followed_by r others) ≡ noted (so_far ++ at ∷ []) (at + record_size r) others
-noted-followed_by so_far at r (Ok rs) = ap Ok (sym (append_assoc so_far (at ∷ []) _))
-noted-followed_by so_far at r (Err fault) = refl
+noted so_far at = mapped (λ rs. so_far ++ offsets_from at rs)
 
 offsets_are : (ha : List ℕ) (rs : Result (List Record) SlotFault) → noted [] 5 rs ≡ offsets_on (behind_home_address ha rs)
 offsets_are ha (Ok rs) = refl
@@ -140,7 +139,7 @@ pub note_on : (s so_far : List ℕ) (n at size : ℕ) → n < length s → size_
     → noted so_far at (walk s n at) ≡ noted (so_far ++ at ∷ []) (at + size) (walk s (n + 1) (at + size))
 note_on s so_far n at size lt e =
     let is = size_of_record_at size (drop at s) (size_tells at (drop at s) _ e) in
-    ap (noted so_far at) (step_on s n at size lt e) ∙ rw (← is) (noted-followed_by so_far at (record_at (drop at s)) _)
+    ap (noted so_far at) (step_on s n at size lt e) ∙ rw (← is) (followed _ _ _ _ (λ rs. sym (append_assoc so_far (at ∷ []) _)))
 
 pub note_stops : (s so_far : List ℕ) (n at : ℕ) → n < length s → size_at at (drop at s) ≡ Ok None → noted so_far at (walk s n at) ≡ Ok so_far
 note_stops s so_far n at lt e = ap (noted so_far at) (step s n at _ lt e) ∙ ap Ok (append-nil so_far)

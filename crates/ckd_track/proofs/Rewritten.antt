@@ -1,10 +1,10 @@
 -- What a slot spells after other bytes were written into it.
 use Rattle.std.proofs.Common.{◌≡◌, ◌∙◌, ap, refl, ℕ, suc, ◌+◌, ◌≤◌, ◌<◌, List, [], ◌∷◌, ◌++◌, length, length-append, append_assoc, take, drop, drop-drop, flat_map, set, add-one, arith}
 use Rattle.std.proofs.lemmas.Grind.{flat_map-append}
-use Rattle.std.proofs.lemmas.List.{take_at, drop_at, take_all, set_split, length-take, length-drop, length-take-le, take-append-drop, flat_map_more}
+use Rattle.std.proofs.lemmas.List.{take_at, drop_at, take_all, set_split, length-take, length-drop, length-take-le, flat_map_more}
 use Rattle.std.proofs.lemmas.List.Elements.{All-set}
 use Rattle.std.proofs.lemmas.Slice.{take-put_mid, drop-put_mid}
-use Rattle.ckd_track.specs.Track.{Record, Track, IsRecord, Spells, record_bytes, record_size, record_in, count_area, end_mark, slot_of}
+use Rattle.ckd_track.specs.Track.{Record, Track, IsRecord, Spells, record_bytes, record_size, record_in, end_mark, slot_of}
 use Rattle.ckd_track.specs.Changes.{end_offset, overwritten, ended_at, with_body}
 use Rattle.ckd_track.proofs.Places.{place, length-record_bytes, front, behind, split_at, length-front, take-place, place-le, behind-one, record_is, end_is}
 
@@ -49,26 +49,39 @@ ended s t n long spells =
 
 -- Another record of the same length in a record's place.
 
-length-count_area : (r : Record) → length r.id ≡ 5 → length (count_area r) ≡ 8
-length-count_area r five = grind (arith, length-append {A = ℕ})
-
 pub record SameLengths (old new : Record) : Type 0 where
   pub key_area : length new.key_area ≡ length old.key_area
   pub data_area : length new.data_area ≡ length old.data_area
+
+-- with the same id and areas as long as before it is a record too
+same_is_record : (r : Record) (key_area data_area : List ℕ) → IsRecord r → SameLengths r (record r { key_area = key_area; data_area = data_area }) → IsRecord (record r { key_area = key_area; data_area = data_area })
+same_is_record r key_area data_area is l = record {
+  id = is.id;
+  key_area = rw l.key_area is.key_area;
+  data_area = rw l.data_area is.data_area;
+  no_end_mark = rw (l.key_area, l.data_area) is.no_end_mark;
+}
+
+-- the bytes of the one record are those of the other, but for these from an offset on
+pub record Rewrites (old new : Record) (off : ℕ) (body : List ℕ) : Type 0 where
+  pub first : List ℕ
+  pub others : List ℕ
+  pub was : record_bytes old ≡ first ++ others
+  pub is : record_bytes new ≡ first ++ body
+  pub same : length body ≡ length others
+  pub place : length first ≡ off
 
 module _ (s : List ℕ) (t : Track) (spells : Spells s t) (i : ℕ) (lt : i < length t.records) where
   split_record : s ≡ front s t spells i ++ (record_bytes (record_in t i) ++ behind s t spells (i + 1))
   split_record = split_at s t spells i ∙ ap (λ (l : List ℕ). front s t spells i ++ l) (behind-one s t spells i lt)
 
-  -- other bytes behind the first ones of the record
-  written : (first old new : List ℕ) (r : Record) (at : ℕ) → record_bytes (record_in t i) ≡ first ++ old → record_bytes r ≡ first ++ new → length new ≡ length old → at ≡ place t i + length first
-      → overwritten s at new ≡ front s t spells i ++ (record_bytes r ++ behind s t spells (i + 1))
-  written first old new r at was is same e =
+  pub written : (r : Record) (off : ℕ) (body : List ℕ) → Rewrites (record_in t i) r off body → overwritten s (place t i + off) body ≡ front s t spells i ++ (record_bytes r ++ behind s t spells (i + 1))
+  written r off body w =
       let f = front s t spells i in
       let y = behind s t spells (i + 1) in
-      let whole : s ≡ (f ++ first) ++ (old ++ y) = split_record ∙ rw was (simp append_assoc) in
-      ap (λ (l : List ℕ). overwritten l at new) whole ∙ overwritten-middle (f ++ first) old y new at (omega (arith, e, length-front s t spells i, length-append f first)) same
-      ∙ rw is (simp append_assoc)
+      let whole : s ≡ (f ++ w.first) ++ (w.others ++ y) = split_record ∙ rw w.was (simp append_assoc) in
+      ap (λ (l : List ℕ). overwritten l (place t i + off) body) whole
+      ∙ overwritten-middle (f ++ w.first) w.others y body (place t i + off) (omega (arith, w.place, length-front s t spells i, length-append f w.first)) w.same ∙ rw w.is (simp append_assoc)
 
   module _ (r : Record) (is : IsRecord r) (same : record_size r ≡ record_size (record_in t i)) where
     abbrev changed : Track
@@ -97,24 +110,8 @@ module _ (s : List ℕ) (t : Track) (spells : Spells s t) (i : ℕ) (lt : i < le
       length-append {A = ℕ},
     )
 
-  -- other bytes in its data area
-
   pub data_is_record : (body : List ℕ) → length body ≡ length (record_in t i).data_area → IsRecord (record (record_in t i) { data_area = body })
-  data_is_record body same = let r = record_is s t spells i lt in record {
-    id = r.id;
-    key_area = r.key_area;
-    data_area = rw same r.data_area;
-    no_end_mark = rw same r.no_end_mark;
-  }
-
-  pub data_written : (body : List ℕ) → length body ≡ length (record_in t i).data_area
-      → overwritten s (place t i + (8 + length (record_in t i).key_area)) body ≡ front s t spells i ++ (record_bytes (record (record_in t i) { data_area = body }) ++ behind s t spells (i + 1))
-  data_written body same =
-      let r = record_in t i in
-      written (count_area r ++ r.key_area) r.data_area body (record r { data_area = body }) (place t i + (8 + length r.key_area)) refl (rw same refl) same
-      (omega (arith, length-count_area r (record_is s t spells i lt).id, length-append (count_area r) r.key_area))
-
-  -- other bytes in its key area and its data area
+  data_is_record body same = same_is_record (record_in t i) (record_in t i).key_area body (record_is s t spells i lt) (record { key_area = refl; data_area = same })
 
   pub body_lengths : (body : List ℕ) → length body ≡ length (record_in t i).key_area + length (record_in t i).data_area → SameLengths (record_in t i) (with_body body (record_in t i))
   body_lengths body same = record {
@@ -123,21 +120,7 @@ module _ (s : List ℕ) (t : Track) (spells : Spells s t) (i : ℕ) (lt : i < le
   }
 
   pub body_is_record : (body : List ℕ) → length body ≡ length (record_in t i).key_area + length (record_in t i).data_area → IsRecord (with_body body (record_in t i))
-  body_is_record body same = let r = record_is s t spells i lt in let l = body_lengths body same in record {
-    id = r.id;
-    key_area = rw l.key_area r.key_area;
-    data_area = rw l.data_area r.data_area;
-    no_end_mark = rw (l.key_area, l.data_area) r.no_end_mark;
-  }
-
-  pub body_written : (body : List ℕ) → length body ≡ length (record_in t i).key_area + length (record_in t i).data_area
-      → overwritten s (place t i + 8) body ≡ front s t spells i ++ (record_bytes (with_body body (record_in t i)) ++ behind s t spells (i + 1))
-  body_written body same =
-      let r = record_in t i in
-      let l = body_lengths body same in
-      let new : record_bytes (with_body body r) ≡ count_area r ++ body = rw (l.key_area, l.data_area) (simp (append_assoc, take-append-drop)) in
-      written (count_area r) (r.key_area ++ r.data_area) body (with_body body r) (place t i + 8) (simp append_assoc) new (omega (arith, length-append r.key_area r.data_area))
-      (omega (arith, length-count_area r (record_is s t spells i lt).id))
+  body_is_record body same = same_is_record (record_in t i) _ _ (record_is s t spells i lt) (body_lengths body same)
 
 -- A new record behind the first k: of two writes it names the slot, the place, both texts and their lengths, and the record that they make.
 

@@ -1,9 +1,10 @@
 -- Slots that spell a track, and the offsets of a track that is changed.
-use Rattle.std.proofs.Common.{◌≡◌, ap, refl, ℕ, zero, suc, ◌+◌, ◌-◌, ◌≤◌, List, [], ◌∷◌, ◌++◌, length, take, slice_index_or, slice_set, flat_map, replicate, length-append, sum_by, Ok, All, arith}
+use Rattle.std.proofs.Common.{◌≡◌, ap, refl, ℕ, zero, suc, ◌+◌, ◌-◌, ◌≤◌, List, [], ◌∷◌, ◌++◌, length, take, slice_index_or, slice_set, flat_map, replicate, length-append, sum_by, Ok, Option, None, Some, All, arith}
 use Rattle.std.proofs.lemmas.List.{length-replicate}
-use Rattle.std.proofs.lemmas.List.Elements.{All-head, All-tail}
+use Rattle.std.proofs.lemmas.List.Elements.{All-nil, All-take, All-head, All-tail}
 use Rattle.std.proofs.lemmas.List.Sums.{sum_by-cons}
 use Rattle.ckd_track.specs.Track.{Record, Track, IsRecord, Spells, spelling, slot_of, record_bytes, record_size, track_of, no_record, offsets_from}
+use Rattle.ckd_track.specs.Changes.{kept_records}
 use Rattle.ckd_track.proofs.Spelled.{reads_back}
 use Rattle.ckd_track.proofs.Laws.{spelled_is_read}
 
@@ -29,6 +30,11 @@ length-records (r ∷ rs) are =
 -- what a track takes in a slot: the home address, its records and the end mark
 pub length-spelling : (t : Track) → length t.home_address ≡ 5 → All IsRecord t.records → length (spelling t) ≡ 5 + sum_by record_size t.records + 8
 length-spelling t ha are = omega (arith, ha, length-append {A = ℕ}, length-records t.records are)
+
+-- the records that a new one leaves before it are records
+pub kept_are : (after : Option ℕ) (t : Track) → All IsRecord t.records → All IsRecord (kept_records after t)
+kept_are None t are = All-nil IsRecord
+kept_are (Some i) t are = All-take IsRecord (i + 1) t.records are
 
 -- Offsets.
 

@@ -1,18 +1,7 @@
 -- A record's bytes are read back as that record.
-use Rattle.std.proofs.Common.{◌≡◌, sym, refl, ℕ, zero, suc, ◌+◌, ◌-◌, ◌*◌, ◌/◌, ◌%◌, ◌≤◌, false, List, [], ◌∷◌, ◌++◌, length, length-append, drop, take, drop-drop, bytes_eq, arith}
+use Rattle.std.proofs.Common.{◌≡◌, sym, refl, ℕ, ◌+◌, ◌-◌, ◌*◌, ◌/◌, ◌%◌, false, List, [], ◌∷◌, ◌++◌, length, length-append, drop, take, drop-drop, bytes_eq, arith}
 use Rattle.std.proofs.lemmas.Grind.{common_steps}
-use Rattle.std.proofs.lemmas.List.{nil_from_length}
 use Rattle.ckd_track.specs.Track.{Record, record_bytes, count_area, record_at, record_size, body_length, key_length, IsRecord, begins_with_end_mark, end_mark}
-
--- this holds of every list that begins with n elements
-abbrev OfFront : ℕ → (List ℕ → Type 0) → Type 0
-OfFront zero P = (rest : List ℕ) → P rest
-OfFront (suc n) P = (x : ℕ) → OfFront n (λ xs. P (x ∷ xs))
-
-by_front : (n : ℕ) (P : List ℕ → Type 0) → OfFront n P → (xs : List ℕ) → n ≤ length xs → P xs
-by_front zero P f xs long = f xs
-by_front (suc n) P f [] long = absurd (omega (arith, long))
-by_front (suc n) P f (x ∷ xs) long = by_front n (λ ys. P (x ∷ ys)) (f x) xs (omega (arith, long))
 
 -- what bytes that begin with a record's are read as
 pub record ReadsBack (r : Record) (rest : List ℕ) : Type 0 where
@@ -33,27 +22,29 @@ parts : (key body rest : List ℕ) → (take (length key) (key ++ body ++ rest) 
 parts key body rest = (grind (arith, common_steps), grind (arith, common_steps), grind (arith, common_steps))
 
 pub reads_back : (r : Record) (rest : List ℕ) → IsRecord r → ReadsBack r rest
-reads_back r rest is =
-    by_front 5 (λ id. length id ≡ 5 → bytes_eq (count_area (record r { id = id })) end_mark ≡ false → ReadsBack (record r { id = id }) rest) (λ a b c d e none five no_mark.
-    let key = r.key_area in
-    let body = r.data_area in
-    let n = length body in
-    let nil : none ≡ [] = nil_from_length none (omega (arith, five)) in
-    let xs = a ∷ b ∷ c ∷ d ∷ e ∷ length key ∷ n / 256 ∷ n % 256 ∷ (key ++ body ++ rest) in
-    let p = parts key body rest in
-    let size : length key + (n / 256 * 256 + n % 256) ≡ length key + n = omega arith in
-    let the_body : take n (drop (8 + length key) xs) ≡ body = rw (sym (drop-drop (length key) 8 xs)) p.1 in
-    let k : 8 + length key - 8 ≡ length key = omega arith in
-    let d : 8 + (length key + n) - (8 + length key) ≡ n = omega arith in
-    rw nil (record {
-      key_size = refl;
-      size = size;
-      same = rw (size, k, d, p.0, the_body) refl;
-      behind = rw (sym (drop-drop (length key + n) 8 xs)) p.2;
-      count = refl;
-      the_key = p.0;
-      the_body = the_body;
-      long = grind (arith, length-append {A = ℕ});
-      own = grind (arith, length-append {A = ℕ});
-      no_end_mark = rw nil at no_mark;
-    })) r.id (omega (arith, is.id)) is.id is.no_end_mark
+reads_back r rest is = go r.id is.id is.no_end_mark
+  where
+    go : (id : List ℕ) → length id ≡ 5 → bytes_eq (count_area (record r { id = id })) end_mark ≡ false → ReadsBack (record r { id = id }) rest
+    go (a ∷ b ∷ c ∷ d ∷ e ∷ []) five no_mark =
+        let key = r.key_area in
+        let body = r.data_area in
+        let n = length body in
+        let xs = a ∷ b ∷ c ∷ d ∷ e ∷ length key ∷ n / 256 ∷ n % 256 ∷ (key ++ body ++ rest) in
+        let p = parts key body rest in
+        let size : length key + (n / 256 * 256 + n % 256) ≡ length key + n = omega arith in
+        let the_body : take n (drop (8 + length key) xs) ≡ body = rw (sym (drop-drop (length key) 8 xs)) p.1 in
+        let k : 8 + length key - 8 ≡ length key = omega arith in
+        let d : 8 + (length key + n) - (8 + length key) ≡ n = omega arith in
+        record {
+          key_size = refl;
+          size = size;
+          same = rw (size, k, d, p.0, the_body) refl;
+          behind = rw (sym (drop-drop (length key + n) 8 xs)) p.2;
+          count = refl;
+          the_key = p.0;
+          the_body = the_body;
+          long = grind (arith, length-append {A = ℕ});
+          own = grind (arith, length-append {A = ℕ});
+          no_end_mark = no_mark;
+        }
+    go id five no_mark = absurd (omega (arith, five))

@@ -1,18 +1,18 @@
 -- What the writes leave of a slot that spells a whole track.
-use Rattle.std.proofs.Common.{◌≡◌, ◌∙◌, ap, sym, refl, inl, inr, ℕ, ◌+◌, ◌≤◌, ◌<◌, ◌⊎◌, false, List, [], ◌∷◌, ◌++◌, length, length-append, take, drop, flat_map, slice_index, set, bytes_eq, All, Ok, Option, None, Some, arith}
+use Rattle.std.proofs.Common.{◌≡◌, ◌∙◌, ap, sym, refl, inl, inr, ℕ, ◌+◌, ◌≤◌, ◌<◌, ◌⊎◌, false, List, [], ◌∷◌, ◌++◌, length, length-append, append_assoc, take, drop, flat_map, slice_index, set, bytes_eq, Ok, Option, None, Some, arith}
 use Rattle.std.specs.Result.{result_unwrap_or}
 use Rattle.std.proofs.lemmas.Bool.{cases_lt}
 use Rattle.std.proofs.lemmas.Grind.{flat_map-append}
-use Rattle.std.proofs.lemmas.List.{append-nil, take_at, drop_all, get_or_append_left}
-use Rattle.std.proofs.lemmas.List.Elements.{All-nil, All-append, All-push, All-set, All-take}
-use Rattle.ckd_track.specs.Track.{Record, Track, IsRecord, Spells, record_bytes, record_size, record_in, record_offsets, end_mark, spelling, body_length, record_at, size_at, track_of, slot_of}
+use Rattle.std.proofs.lemmas.List.{take-append-drop, append-nil, take_at, drop_all, get_or_append_left}
+use Rattle.std.proofs.lemmas.List.Elements.{All-nil, All-append, All-push, All-set}
+use Rattle.ckd_track.specs.Track.{Record, Track, IsRecord, Spells, count_area, record_bytes, record_size, record_in, record_offsets, end_mark, spelling, body_length, record_at, size_at, track_of, slot_of}
 use Rattle.ckd_track.specs.Changes.{bare_track, kept_records, with_record, with_data, with_body, with_key_data, data_offset, offset_behind, end_offset, overwritten, ended_at}
 use Rattle.ckd_track.proofs.Spelled.{reads_back}
 use Rattle.ckd_track.proofs.Reading.{told_size}
 use Rattle.ckd_track.proofs.Laws.{AreBytes, begins_with_record}
-use Rattle.ckd_track.proofs.Slots.{slot_of_reads}
-use Rattle.ckd_track.proofs.Places.{place, offset_is, drop-place, place-le, place-before, place-one, front, behind, behind-one, record_is, end_is}
-use Rattle.ckd_track.proofs.Rewritten.{length-overwritten, ended_at-slot, ended, changed_spells, changed_end, data_is_record, data_written, body_lengths, body_is_record, body_written, record_written}
+use Rattle.ckd_track.proofs.Slots.{kept_are, slot_of_reads}
+use Rattle.ckd_track.proofs.Places.{length-record_bytes, place, offset_is, drop-place, place-le, place-before, place-one, behind, behind-one, record_is, end_is}
+use Rattle.ckd_track.proofs.Rewritten.{length-overwritten, ended_at-slot, ended, changed_spells, changed_end, data_is_record, body_lengths, body_is_record, Rewrites, written, record_written}
 
 -- The walk over the records.
 
@@ -65,25 +65,36 @@ ha_slot s ha five room =
     let front : take 5 (overwritten s 0 ha) ≡ ha ++ [] = take_at ha (drop (0 + length ha) s) 5 five ∙ sym (append-nil ha) in
     ended_at-slot (overwritten s 0 ha) (bare_track ha) 5 (length s) (length-overwritten s 0 ha (omega arith)) front room
 
+pub ha_read : (ha : List ℕ) (n : ℕ) → length ha ≡ 5 → track_of (slot_of n (bare_track ha)) ≡ Ok (bare_track ha)
+ha_read ha n five = slot_of_reads n (bare_track ha) five (All-nil IsRecord)
+
 -- Other bytes in the areas of a record.
 
 module _ (s : List ℕ) (t : Track) (spells : Spells s t) (i : ℕ) (lt : i < length t.records) where
   -- with another record of its size in the place of record i, and zeros behind the end mark
-  changed_slot : (r : Record) (is : IsRecord r) (same : record_size r ≡ record_size (record_in t i)) (at : ℕ) (b : List ℕ) → at + length b ≤ end_offset t
-      → overwritten s at b ≡ front s t spells i ++ (record_bytes r ++ behind s t spells (i + 1)) → ended_at (overwritten s at b) (end_offset t) ≡ slot_of (length s) (record t { records = set t.records i r })
-  changed_slot r is same at b within written =
-      let long = length-overwritten s at b (omega (arith, within, end_is t, place-le s t spells (length t.records))) in
-      rw (← (changed_end s t spells i lt r is same))
-      (ended (overwritten s at b) (record t { records = set t.records i r }) (length s) long (changed_spells s t spells i lt r is same (overwritten s at b) written))
+  changed_slot : (r : Record) (off : ℕ) (body : List ℕ) → IsRecord r → Rewrites (record_in t i) r off body
+      → ended_at (overwritten s (slice_index (record_offsets t) i + off) body) (end_offset t) ≡ slot_of (length s) (record t { records = set t.records i r })
+  changed_slot r off body is w =
+      let at = slice_index (record_offsets t) i + off in
+      let before = length-record_bytes (record_in t i) (record_is s t spells i lt) in
+      let size : record_size r ≡ record_size (record_in t i) = omega (arith, before, length-record_bytes r is, ap length w.was, ap length w.is, w.same, length-append w.first w.others, length-append w.first body) in
+      let within : off + length body ≤ record_size (record_in t i) = omega (arith, before, ap length w.was, w.same, w.place, length-append w.first w.others) in
+      let long = length-overwritten s at body (omega (arith, within, record-before s t spells i lt, end_is t, place-le s t spells (length t.records))) in
+      rw (← (changed_end s t spells i lt r is size))
+      (ended (overwritten s at body) _ (length s) long (changed_spells s t spells i lt r is size _ (rw (offset_is s t spells i lt) (written s t spells i lt r off body w))))
 
   changed_read : (r : Record) → IsRecord r → (n : ℕ) → track_of (slot_of n (record t { records = set t.records i r })) ≡ Ok (record t { records = set t.records i r })
   changed_read r is n = slot_of_reads n (record t { records = set t.records i r }) spells.home_address (All-set IsRecord t.records i r is spells.records)
 
+  eight : length (count_area (record_in t i)) ≡ 8
+  eight = omega (arith, (record_is s t spells i lt).id, length-append {A = ℕ})
+
   module _ (body : List ℕ) (same : length body ≡ length (record_in t i).data_area) where
     pub data_slot : ended_at (overwritten s (data_offset t i) body) (end_offset t) ≡ slot_of (length s) (with_data i body t)
     data_slot =
-        changed_slot (record (record_in t i) { data_area = body }) (data_is_record s t spells i lt body same) (omega (arith, same)) (data_offset t i) body
-        (omega (arith, same, record-before s t spells i lt)) (rw (offset_is s t spells i lt) (data_written s t spells i lt body same))
+        let r = record_in t i in
+        let w : Rewrites r (record r { data_area = body }) (8 + length r.key_area) body = record { first = count_area r ++ r.key_area; others = r.data_area; was = refl; is = rw same refl; same = same; place = omega (arith, eight, length-append (count_area r) r.key_area) } in
+        changed_slot _ _ body (data_is_record s t spells i lt body same) w
 
     pub data_read : track_of (slot_of (length s) (with_data i body t)) ≡ Ok (with_data i body t)
     data_read = changed_read _ (data_is_record s t spells i lt body same) (length s)
@@ -91,9 +102,11 @@ module _ (s : List ℕ) (t : Track) (spells : Spells s t) (i : ℕ) (lt : i < le
   module _ (body : List ℕ) (same : length body ≡ length (record_in t i).key_area + length (record_in t i).data_area) where
     pub key_data_slot : ended_at (overwritten s (slice_index (record_offsets t) i + 8) body) (end_offset t) ≡ slot_of (length s) (with_key_data i body t)
     key_data_slot =
+        let r = record_in t i in
         let l = body_lengths s t spells i lt body same in
-        changed_slot (with_body body (record_in t i)) (body_is_record s t spells i lt body same) (omega (arith, l.key_area, l.data_area)) (slice_index (record_offsets t) i + 8) body
-        (omega (arith, same, record-before s t spells i lt)) (rw (offset_is s t spells i lt) (body_written s t spells i lt body same))
+        let new : record_bytes (with_body body r) ≡ count_area r ++ body = rw (l.key_area, l.data_area) (simp (append_assoc, take-append-drop)) in
+        let w : Rewrites r (with_body body r) 8 body = record { first = count_area r; others = r.key_area ++ r.data_area; was = simp append_assoc; is = new; same = omega (arith, same, length-append r.key_area r.data_area); place = eight } in
+        changed_slot _ _ body (body_is_record s t spells i lt body same) w
 
     pub key_data_read : track_of (slot_of (length s) (with_key_data i body t)) ≡ Ok (with_key_data i body t)
     key_data_read = changed_read _ (body_is_record s t spells i lt body same) (length s)
@@ -122,10 +135,6 @@ length-spelling_new t after new = omega (arith, ap length (flat_map-append recor
 
 module _ (s : List ℕ) (t : Track) (spells : Spells s t) (after : Option ℕ) (count body : List ℕ) (eight : length count ≡ 8) (made : Makes count body)
     (room : length (spelling (with_record after (record_at (count ++ body)) t)) ≤ length s) where
-  kept_are : (after : Option ℕ) → All IsRecord (kept_records after t)
-  kept_are None = All-nil IsRecord
-  kept_are (Some i) = All-take IsRecord (i + 1) t.records spells.records
-
   front_of : (after : Option ℕ) → offset_behind t after + 8 + length body ≤ length s
       → take (offset_behind t after + 8 + length body) (overwritten (overwritten s (offset_behind t after) count) (offset_behind t after + 8) body)
       ≡ t.home_address ++ flat_map record_bytes (kept_records after t ++ record_at (count ++ body) ∷ [])
@@ -146,4 +155,4 @@ module _ (s : List ℕ) (t : Track) (spells : Spells s t) (after : Option ℕ) (
 
   pub new_read : track_of (slot_of (length s) (with_record after (record_at (count ++ body)) t)) ≡ Ok (with_record after (record_at (count ++ body)) t)
   new_read = slot_of_reads (length s) (with_record after (record_at (count ++ body)) t) spells.home_address
-      (All-push IsRecord (kept_records after t) (record_at (count ++ body)) (kept_are after) made.is_record)
+      (All-push IsRecord (kept_records after t) (record_at (count ++ body)) (kept_are after t spells.records) made.is_record)

@@ -1,6 +1,6 @@
 -- Zeros up to the slot's end.
 use Rattle.std.proofs.Common.{◌≡◌, ◌∙◌, ap, sym, refl, ℕ, ◌+◌, ◌-◌, ◌≤◌, ◌<◌, max, List, ◌++◌, length, take, drop, replicate, length-append, length-take, drop-drop, append_assoc, arith}
-use Rattle.std.proofs.lemmas.List.{length-replicate, drop_at, drop-replicate, drop-take, drop-append-le, replicate-append-replicate, take-take, take-append-le, length-take-le}
+use Rattle.std.proofs.lemmas.List.{length-replicate, drop_at, drop-replicate, replicate-append-replicate, length-take-le}
 use Rattle.std.proofs.Math.Seq.{take-append-add}
 use Rattle.ckd_track.specs.Track.{end_mark}
 use Rattle.ckd_track.specs.Changes.{overwritten, ended_at, IsZeroFrom}
@@ -18,6 +18,13 @@ pub zero_over : (s : List ℕ) (at : ℕ) (b : List ℕ) (z k : ℕ) → IsZeroF
 zero_over s at b z k is le within room =
     let long = length-overwritten s at b (omega (arith, within, room)) in
     record { within = omega (arith, long, room); zeros = rw long (drop_over s at k b within room ∙ (zero_later s z k is le room).zeros) }
+
+-- the same of the slot that a write at its front leaves, and of one that a clearing leaves
+pub zero_front : (s new b : List ℕ) (z k : ℕ) → new ≡ overwritten s 0 b → IsZeroFrom s z → z ≤ k → length b ≤ k → k ≤ length s → IsZeroFrom new k
+zero_front s new b z k is zeros le within room = rw is (zero_over s 0 b z k zeros le (omega arith) room)
+
+pub zero_cleared : (s new : List ℕ) (at n z k : ℕ) → new ≡ overwritten s at (replicate n 0) → IsZeroFrom s z → z ≤ k → at + n ≤ k → k ≤ length s → IsZeroFrom new k
+zero_cleared s new at n z k is zeros le within room = rw is (zero_over s at (replicate n 0) z k zeros le (omega (arith, within, length-replicate {A = ℕ} n 0)) room)
 
 zero_ended : (s : List ℕ) (at : ℕ) → at + 8 ≤ length s → IsZeroFrom (ended_at s at) (at + 8)
 zero_ended s at room =
@@ -49,33 +56,20 @@ new_zeros s at count n new eight room is =
 
 -- Zeros in an area first, and then its bytes.
 
--- bytes that are written within the front of a list
-overwritten-front : (p q : List ℕ) (at : ℕ) (b : List ℕ) → at + length b ≤ length p → overwritten (p ++ q) at b ≡ overwritten p at b ++ q
-overwritten-front p q at b within =
-    rw (take-append-le at p q (omega (arith, within)), drop-append-le (at + length b) p q within) (simp append_assoc)
-
-take-over : (s : List ℕ) (at : ℕ) (b : List ℕ) (e : ℕ) → at + length b ≤ e → e ≤ length s → overwritten (take e s) at b ≡ take e (overwritten s at b)
-take-over s at b e within room =
+-- what was written and ended, in its parts
+ended-over : (s : List ℕ) (at : ℕ) (b : List ℕ) (e : ℕ) → at + length b ≤ e → e + 8 ≤ length s
+    → ended_at (overwritten s at b) e ≡ take at s ++ (b ++ (take (e - (at + length b)) (drop (at + length b) s) ++ (end_mark ++ replicate (length s - (e + 8)) 0)))
+ended-over s at b e within room =
     let n : at + length b + (e - (at + length b)) ≡ e = omega (arith, within) in
     let front : length (take at s ++ b) ≡ at + length b = omega (arith, length-append (take at s) b, length-take-le at s (omega (arith, within, room))) in
-    let rest = drop (at + length b) s in
-    let whole : take e (overwritten s at b) ≡ (take at s ++ b) ++ take (e - (at + length b)) rest =
-    rw (← append_assoc) (rw (front, n) at (take-append-add (take at s ++ b) rest (e - (at + length b)))) in
-    rw (whole, take-take at e s (omega (arith, within))) (ap (λ (x : List ℕ). take at s ++ (b ++ x)) (rw n at (drop-take (at + length b) (e - (at + length b)) s)) ∙ simp append_assoc)
-
-overwritten-ended : (s : List ℕ) (at : ℕ) (b : List ℕ) (e : ℕ) → at + length b ≤ e → e + 8 ≤ length s → overwritten (ended_at s e) at b ≡ ended_at (overwritten s at b) e
-overwritten-ended s at b e within room =
-    let long = length-overwritten s at b (omega (arith, within, room)) in
-    rw (long, ← (take-over s at b e within (omega (arith, room))))
-    (overwritten-front (take e s) (end_mark ++ replicate (length s - (e + 8)) 0) at b (omega (arith, length-take e s, within, room)))
-
-overwritten-again : (s : List ℕ) (at : ℕ) (a b : List ℕ) → length b ≡ length a → at + length a ≤ length s → overwritten (overwritten s at a) at b ≡ overwritten s at b
-overwritten-again s at a b same room = overwritten-middle (take at s) a (drop (at + length a) s) b at (omega (arith, length-take at s, room)) same ∙ rw same refl
+    let whole : take e (overwritten s at b) ≡ (take at s ++ b) ++ take (e - (at + length b)) (drop (at + length b) s) =
+    rw (← append_assoc) (rw (front, n) at (take-append-add (take at s ++ b) (drop (at + length b) s) (e - (at + length b)))) in
+    rw (length-overwritten s at b (omega (arith, within, room)), whole) (simp append_assoc)
 
 -- an area that is cleared before the end mark, and then written whole, is written
 pub cleared_first : (s : List ℕ) (at : ℕ) (b : List ℕ) (e : ℕ) → at + length b ≤ e → e + 8 ≤ length s → overwritten (ended_at (overwritten s at (replicate (length b) 0)) e) at b ≡ ended_at (overwritten s at b) e
 cleared_first s at b e within room =
     let many = length-replicate {A = ℕ} (length b) 0 in
-    let long = length-overwritten s at (replicate (length b) 0) (omega (arith, many, within, room)) in
-    overwritten-ended (overwritten s at (replicate (length b) 0)) at b e within (omega (arith, long, room))
-    ∙ ap (λ (x : List ℕ). ended_at x e) (overwritten-again s at (replicate (length b) 0) b (sym many) (omega (arith, many, within, room)))
+    ap (λ (x : List ℕ). overwritten x at b) (ended-over s at (replicate (length b) 0) e (omega (arith, many, within)) room)
+    ∙ overwritten-middle (take at s) (replicate (length b) 0) _ b at (length-take-le at s (omega (arith, within, room))) (sym many)
+    ∙ rw many (sym (ended-over s at b e within room))

@@ -32,6 +32,7 @@ impl<'a> Model for TrackView<'a> {
 
 impl<'a> TrackView<'a> {
     /// The home address: flag, cylinder and head (1, 2 and 2 bytes, big-endian).
+    #[tactic(auto, using(crate::proofs::Offsets::home_in))]
     pub fn ha(&self) -> &'a [u8]
         ensures bytes { result.now ≡ self.now.home_address }
         ensures five { length self.now.home_address ≡ 5 }
@@ -86,6 +87,7 @@ impl<'a> TrackView<'a> {
     }
 
     /// The slot from record `i`'s count area on.
+    #[tactic(auto, using(crate::proofs::Offsets::begins_within))]
     fn from_record(&self, i: usize) -> &'a [u8]
         requires { i < length self.now.records }
         ensures { BeginsWith result.now (record_in self.now i) }
@@ -129,6 +131,7 @@ pub fn read_slot<'a>(slot: &'a [u8]) -> Result<TrackView<'a>, SlotFault>
 
 /// The view that [`read_slot`] gives of the slot, which finds a record by a table of offsets, as
 /// [`index_slot`](crate::index_slot) makes it.
+#[tactic(auto, using(crate::proofs::Offsets::viewing))]
 pub fn view_at<'a>(slot: &'a [u8], offsets: &'a [u32]) -> TrackView<'a>
     requires { offsets_of slot.now ≡ Ok offsets.now }
     ensures track { track_of slot.now ≡ Ok result }

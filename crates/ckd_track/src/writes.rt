@@ -46,6 +46,7 @@ pub fn put_end_mark(slot: &mut [u8], at: usize, zeros_from: usize)
 }
 
 /// Writes a home address, and behind it the end mark and zeros; from `zeros_from` on all bytes of the slot are zero before.
+#[tactic(auto, using(crate::proofs::Zeros::zero_front))]
 pub fn put_home_address(slot: &mut [u8], home_address: &[u8; 5], zeros_from: usize)
     requires room { 13 ≤ length slot.old }
     requires zeros { IsZeroFrom slot.old zeros_from }
@@ -70,6 +71,7 @@ pub fn format_record(slot: &mut [u8], at: usize, count: &[u8; 8], body: usize, z
 
 /// Writes so many zeros from an offset on, before the end mark, and zeros behind that; from `zeros_from` on all bytes of the
 /// slot are zero before.
+#[tactic(auto, using(crate::proofs::Zeros::zero_cleared))]
 pub fn clear_area(slot: &mut [u8], at: usize, n: usize, end: usize, zeros_from: usize)
     requires area { at + n ≤ end }
     requires end { end + 8 ≤ length slot.old }
@@ -131,6 +133,7 @@ fn place_behind(slot: &[u8], after: Option<usize>) -> usize
 
 /// Writes the home address (flag, cylinder and head: 1, 2 and 2 bytes, big-endian) and removes all records. The slot has
 /// room for it and the end mark, 13 bytes; it need not spell a track before.
+#[tactic(auto, using(crate::proofs::Writing::ha_slot, crate::proofs::Writing::ha_read))]
 pub fn write_ha(slot: &mut [u8], ha: [u8; 5])
     requires { 13 ≤ length slot.old }
     ensures slot { slot.new ≡ slot_of (length slot.old) (bare_track ha) }
@@ -164,6 +167,7 @@ pub fn put_record(slot: &mut [u8], after: Option<usize>, count: [u8; 8], body: &
 }
 
 // Writes bytes in the place of others before the end mark, and zeros behind it.
+#[tactic(auto, using(crate::proofs::Zeros::cleared_first))]
 fn rewrite(slot: &mut [u8], at: usize, bytes: &[u8])
     requires whole { IsOk (track_of slot.old) }
     requires within { at + length bytes.now ≤ end_offset (track_in slot.old) }

@@ -6,7 +6,7 @@ use Rattle.ckd_track.proofs.Offsets.{are_bytes, few_records}
 use Rattle.ckd_position.specs.Contents.{formatted}
 use Rattle.ckd_slot.specs.Buffer.{end_of_records, number_up_to}
 use Rattle.ckd_slot.proofs.AreaPlaces.{reads}
-use Rattle.ckd_slot.proofs.Writes.{Fitting, fitting, format_room, format_slot, format_fits, format_indexed, format_keeps, format_place, kept_room, length-kept, up_to_le}
+use Rattle.ckd_slot.proofs.Writes.{Fitting, fitting, format_room, format_slot, format_fits, format_indexed, format_keeps, format_place, length-kept, up_to_le}
 use Rattle.ckd_track.proofs.Zeros.{new_zeros}
 use Rattle.ckd_slot.proofs.buffer.TrackBuffer.format.Goals as goal
 
@@ -31,12 +31,8 @@ pub index_mut-requires : goal.index_mut-requires
 index_mut-requires c =
     let s = c.args.self.now in
     let x = rw c.self.view_is at c.self.invariant in
-    let b = c.before-2.result in
-    let r = reads (rw c.self.view_is at c.self.invariant) c.requires.readable in
-    let seen = ap track_of (sym (c.deref.ensures.value ∙ c.self.view_is)) ∙ c.view_at-view.ensures.track in
-    let k = fitting s c.args.model b c.args.after c.args.count c.view_at-view.result c.records_up_to-kept.result c.fits.result r.spells (are_bytes c.args.count (search rules)) (search rules) c.before-2.ensures.kept c.before-2.ensures.there seen c.records_up_to-kept.ensures c.fits.ensures.fits c.if-not-fits.false c.requires.size in
-    let room = kept_room k c.self.inside.offsets.items x.indexed.room in
-    rw c.records_up_to-kept.ensures (omega (arith, room))
+    let few = few_records s (track_in s) (reads x c.requires.readable).spells in
+    rw c.records_up_to-kept.ensures (omega (arith, up_to_le (track_in s) c.before-2.result c.before-2.ensures.there, few, x.indexed.room))
 
 pub overflow_add-self : goal.overflow_add-self
 overflow_add-self c =
