@@ -35,14 +35,14 @@ TIMES = 8  # so much longer may a wrong body take
 LAYERS = {
     "test_tracks": ["ckd_track"],
     "test_images": ["ckd_image"],
-    "test_drives": ["ckd_position", "ckd_sense", "ckd_command", "ckd_slot", "ckd_cache", "ckd_drive"],
+    "test_drives": ["ckd_position", "ckd_sense", "ckd_command", "ckd_slot", "ckd_drive"],
     "test_programs": ["s360_words", "s360_program"],
     "test_channel_rows": ["s360_program", "s360_channel", "s360_deck"],
     "test_random_lists": ["s360_program", "s360_channel"],
     "test_hostile_images": ["ckd_track", "ckd_image"],
     "test_decks": ["s360_program", "s360_channel", "s360_deck"],
     "test_dasd_rows": ["dasd_volumes", "dasd_jobs", "dasd_run"],
-    "differ": ["s360_words", "ckd_position", "ckd_sense", "ckd_command", "ckd_slot", "ckd_cache", "ckd_drive", "s360_program", "s360_channel"],
+    "differ": ["s360_words", "ckd_position", "ckd_sense", "ckd_command", "ckd_slot", "ckd_drive", "s360_program", "s360_channel"],
     "real_files": ["dasd_volumes", "dasd_archive", "volume_labels", "dasd_jobs", "dasd_run", "dasd_cmd"],
 }
 # The suites that are scripts over a built `dasd`, whose path stands for MADE.

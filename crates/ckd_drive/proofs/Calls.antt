@@ -1,7 +1,7 @@
 -- How often a call uses the store.
 use Rattle.std.proofs.Common.{◌≡◌, ◌∙◌, inl, inr, ap, sym, refl, ℕ, ◌+◌, List, Bool, true, false, ◌||◌, arith}
 use Rattle.std.proofs.Math.Bool.{or-false}
-use Rattle.ckd_cache.specs.Cache.{CacheState, saved, after_save, after_failed_save, after_failed_hold}
+use Rattle.ckd_slot.specs.Cache.{CacheState, saved, after_save, after_failed_save, after_failed_hold}
 use Rattle.ckd_command.specs.Drive.{is_written_by}
 use Rattle.ckd_drive.specs.Work.{DriveState, CallsStore}
 use Rattle.ckd_drive.specs.Invariant.{Stands, is_filled, Parts}

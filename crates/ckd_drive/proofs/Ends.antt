@@ -22,7 +22,7 @@ use Rattle.ckd_drive.specs.Stage.{Progress, Idle, Passing}
 use Rattle.ckd_command.specs.Tables.{action_of}
 use Rattle.ckd_position.specs.Contents.{Sighted}
 use Rattle.ckd_command.specs.Commands.{Closing, IsAtTrack, area_bytes, closing, close_by, command_end, search_ends, own_home_address, new_record_fits, number as number_of, whole_field, at_end}
-use Rattle.ckd_cache.specs.Cache.{CacheState, after_save, after_failed_save}
+use Rattle.ckd_slot.specs.Cache.{CacheState, after_save, after_failed_save}
 use Rattle.ckd_drive.specs.Invariant.{Stands, mark_left, HasFilled, state_of, IsPlaced, IsField, CreditIs, AtHand, command_end_at, field_ends, seen_by, track_under, is_filled, is_filled_by, Kept, kept, Parts, parts_of, track_in_reach, AtWork, geometry_in, number_in, slot_in, closing_in, work_in, closes_by}
 use Rattle.ckd_command.specs.Drive.{closed_staying, SaveFails, is_written_by}
 use Rattle.ckd_command.specs.declared.close.DriveEnding.{DriveEnding}

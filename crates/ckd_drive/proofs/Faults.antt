@@ -9,7 +9,7 @@ use Rattle.ckd_command.specs.declared.begin.Opened.{Opened}
 use Rattle.ckd_command.specs.Answers.{ToCylinderZero}
 use Rattle.ckd_command.specs.Commands.{with_cause}
 use Rattle.ckd_command.specs.Drive.{LoadFails, SaveFails, number_under, is_written_by}
-use Rattle.ckd_cache.specs.Cache.{CacheState, after_failed_save}
+use Rattle.ckd_slot.specs.Cache.{CacheState, after_failed_save}
 use Rattle.ckd_drive.specs.Work.{DriveState, fault_met}
 use Rattle.ckd_drive.specs.Invariant.{BeginsWell, IsCleared, Stands, is_filled, Kept, Parts, slot_at, state_of, track_in_reach}
 use Rattle.std.proofs.lemmas.List.Elements.{All-get_or}

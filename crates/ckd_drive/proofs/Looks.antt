@@ -17,7 +17,7 @@ use Rattle.ckd_command.specs.Commands.{Closing, sight, command_end, IsAtTrack, l
 use Rattle.ckd_drive.proofs.Fields.{field_unwritten, field_wants, no_byte}
 use Rattle.ckd_command.proofs.Closings.{area_by, closing_by, sense_closes, sense_length}
 use Rattle.ckd_command.proofs.Lengths.{length_by}
-use Rattle.ckd_cache.specs.Cache.{CacheState, holds, loaded, after_hold, after_failed_hold, after_save, after_failed_save}
+use Rattle.ckd_slot.specs.Cache.{CacheState, holds, loaded, after_hold, after_failed_hold, after_save, after_failed_save}
 use Rattle.ckd_drive.specs.Invariant.{IsFirstPlace, IsPlaced, IsField, ReadsWhole, FieldAtHand, AtHand, slot_at, AtWork, geometry_in, number_in, slot_in, Stands, StaysAt, CreditAtHand, remaining, state_of, track_under, is_filled_by, Kept, Parts, parts_of, number_under, slot_under, work_of, kept}
 use Rattle.ckd_track.specs.declared.geometries.Geometry.{Geometry}
 use Rattle.ckd_command.specs.declared.registers.Registers.{Registers}

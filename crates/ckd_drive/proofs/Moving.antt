@@ -14,7 +14,7 @@ use Rattle.ckd_command.specs.Tables.{is_giving}
 use Rattle.ckd_position.specs.Contents.{Sighted}
 use Rattle.ckd_command.specs.Commands.{Closing, area_bytes, length_after, command_end}
 use Rattle.ckd_slot.specs.Buffer.{Lies}
-use Rattle.ckd_cache.specs.Cache.{CacheState, IsVolume, slot_held}
+use Rattle.ckd_slot.specs.Cache.{CacheState, IsVolume, slot_held}
 use Rattle.ckd_drive.specs.Work as work
 use Rattle.ckd_drive.specs.Work.{DriveState, gives_now, left_of, given_now, passed_of, moved_on}
 use Rattle.ckd_drive.specs.Invariant.{Stands, IsPlaced, IsField, ClosesUnwritten, remaining, next_progress, given_on, state_of, slot_at, track_under, is_filled_by, Parts, track_in_reach, AtWork, closing_in, HalfDone, Works, Absorbs, own_slot, own_track, action_now, seen_with, at_work, kept, parts_of}

@@ -18,7 +18,7 @@ use Rattle.ckd_command.specs.Tables.{action_of, is_giving}
 use Rattle.ckd_position.specs.Contents.{Sighted, padded}
 use Rattle.ckd_command.specs.Commands.{Closing, sight, length_after, closing, command_end, own_home_address, home_address_ends, writes}
 use Rattle.ckd_slot.specs.Buffer.{lengths_on}
-use Rattle.ckd_cache.specs.Cache.{slot_held, with_held}
+use Rattle.ckd_slot.specs.Cache.{slot_held, with_held}
 use Rattle.ckd_drive.specs.declared.transfer.Written.{Written}
 use Rattle.ckd_drive.specs.declared.transfer.Written.TheVariants as written
 use Rattle.ckd_drive.specs.Invariant.{HalfDone, Works, MayTake, Absorbs, own_track, own_slot, action_now, HasFilled, IsFilled, slot_at, track_under, is_filled_by, whole_of, AtWork, geometry_in, slot_in, action_in, at_work, with_taken, closes_by}

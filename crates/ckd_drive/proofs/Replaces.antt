@@ -21,7 +21,7 @@ use Rattle.ckd_command.specs.Tables.{action_of, extent_of}
 use Rattle.ckd_position.specs.Contents.{bytes_of, padded, replaced, with_record_changed}
 use Rattle.ckd_command.specs.Commands.{Closing, bytes_at, area_bytes, sight, end_of_area, command_end, area_ends}
 use Rattle.ckd_slot.specs.Buffer.{FitsSlot, IsUpdate, IsRecordOf, SameRecords, IsPlaceOf, lengths_on}
-use Rattle.ckd_cache.specs.Cache.{CacheState, with_held, slot_held}
+use Rattle.ckd_slot.specs.Cache.{CacheState, with_held, slot_held}
 use Rattle.ckd_drive.specs.declared.transfer.Written.TheVariants as written
 use Rattle.ckd_drive.specs.Invariant.{HalfDone, MayTake, Absorbs, own_track, own_slot, action_now, IsFilled, AtHand, slot_at, track_under, AtWork, geometry_in, action_in}
 use Rattle.ckd_slot.proofs.Writes.{update_offset, update_length, update_place}

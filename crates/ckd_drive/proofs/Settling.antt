@@ -5,7 +5,7 @@ use Rattle.ckd_command.specs.declared.registers.Mark.TheVariants.{Lost}
 use Rattle.ckd_drive.specs.declared.transfer.Transfer.{Transfer}
 use Rattle.ckd_drive.specs.declared.transfer.Transfer.TheVariants.{Filled}
 use Rattle.ckd_drive.specs.Stage.{Stage, Idle, Passing}
-use Rattle.ckd_cache.specs.Cache.{CacheState, after_save, after_failed_save}
+use Rattle.ckd_slot.specs.Cache.{CacheState, after_save, after_failed_save}
 use Rattle.ckd_drive.specs.Work.{DriveState, passed_of, fault_met, with_image, after_settle, settled_mark}
 use Rattle.ckd_drive.specs.Invariant.{Stands, StageIs, IsPlaced, state_of, work_of, seen, is_filled, is_filled_by, Kept, kept, Parts, parts_of, track_in_reach, AtWork}
 use Rattle.ckd_drive.specs.Calls.{Loses}

@@ -15,7 +15,7 @@ use Rattle.ckd_image.specs.declared.store.StoreFault.{StoreFault}
 use Rattle.ckd_command.specs.declared.registers.Mark.TheVariants.{Saved, Lost}
 use Rattle.ckd_drive.specs.Stage.{Stage, Idle, Passing, Progress}
 use Rattle.ckd_command.specs.Answers.{moved_to}
-use Rattle.ckd_cache.specs.Cache.{CacheState, IsVolume, saved, after_save, after_failed_save, after_failed_hold, slot_held}
+use Rattle.ckd_slot.specs.Cache.{CacheState, IsVolume, saved, after_save, after_failed_save, after_failed_hold, slot_held}
 use Rattle.ckd_drive.specs.Work.{is_idle}
 use Rattle.ckd_track.specs.Track.{track_of}
 use Rattle.ckd_drive.specs.declared.transfer.Transfer.{Transfer}

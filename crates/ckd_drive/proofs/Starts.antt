@@ -16,7 +16,7 @@ use Rattle.ckd_command.specs.declared.tables.Aim.TheVariants.{Credited}
 use Rattle.ckd_command.specs.declared.begin.Opened.{Opened}
 use Rattle.ckd_command.specs.Tables.{aim, credited}
 use Rattle.ckd_command.specs.Commands.{beginning, begin_decoded, begin_allowed, started, refusal, refusal_under, is_out_of_sequence, is_credited}
-use Rattle.ckd_cache.specs.Cache.{CacheState, after_save, after_failed_save}
+use Rattle.ckd_slot.specs.Cache.{CacheState, after_save, after_failed_save}
 use Rattle.ckd_drive.specs.Invariant.{CreditIs, CreditAtHand, BeginsWell, Stands, state_of, track_under, work_of, Kept, kept, Parts, parts_of, track_in_reach, number_under, IsCleared}
 use Rattle.ckd_command.specs.declared.registers.Mark.TheVariants.{Saved, Lost}
 use Rattle.ckd_drive.specs.Stage.{Stage, Idle, Over, Looking}

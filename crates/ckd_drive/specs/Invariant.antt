@@ -37,7 +37,7 @@ use Rattle.ckd_sense.specs.declared.sense_bytes.TheConstants.Sense as cause
 use Rattle.ckd_position.specs.Contents.{Sighted, is_readable, padded}
 use Rattle.ckd_command.specs.Commands.{Closing, IsAtTrack, sight as sight_on, area_bytes, bytes_at, area_ends, end_of_area, search_ends, whole_field, seek_cylinder_and_head, seek_head, set_file_mask, fails, ends, at_end, ending_status, length_after, closing, command_end, home_address_ends, format_ends}
 use Rattle.ckd_slot.specs.Buffer.{Lies, HasBytes, IsPlaceOf, FitsSlot, lengths_on}
-use Rattle.ckd_cache.specs.Cache.{CacheState, IsVolume}
+use Rattle.ckd_slot.specs.Cache.{CacheState, IsVolume}
 use Rattle.ckd_command.specs.Drive.{is_written_by}
 use Rattle.ckd_drive.specs.Work.{Work, Idle, Over, Looking, Passing, DriveState}
 

@@ -13,7 +13,7 @@ use crate::close::{ENDED, FAILED, IN_MOTION};
 use crate::job::Job;
 use crate::transfer::{Progress, Transfer};
 use crate::{begin, close, look, transfer};
-use ckd_cache::TrackCache;
+use ckd_slot::TrackCache;
 use ckd_command::{
     Closed, DriveEnding, Mark, Opened, Registers, first_registers, start_program, tables,
 };

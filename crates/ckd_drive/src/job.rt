@@ -1,7 +1,7 @@
 //! A command half done.
 
 use crate::transfer::Progress;
-use ckd_cache::TrackCache;
+use ckd_slot::TrackCache;
 use ckd_command::{Opened, Registers};
 use ckd_image::ImageStore;
 use ghost_data::Trace;

@@ -2,7 +2,7 @@
 
 use crate::calls::{Call, Came, begin, end};
 use anyhow::{Result, bail};
-use ckd_cache::TrackCache;
+use ckd_slot::TrackCache;
 use ckd_drive::Drive;
 use ckd_image::{Image, ImageStore, MemoryStore, image_len};
 use ckd_slot::TrackBuffer;

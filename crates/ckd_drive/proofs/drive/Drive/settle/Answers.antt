@@ -1,5 +1,5 @@
 use Rattle.std.proofs.Common.{◌∙◌, ap, sym, refl, [], ℕ, List, slice_index_or, unwrap_or}
-use Rattle.ckd_cache.specs.Cache.{CacheState}
+use Rattle.ckd_slot.specs.Cache.{CacheState}
 use Rattle.ckd_command.specs.declared.registers.Mark.TheVariants.{Lost}
 use Rattle.ckd_command.specs.Drive.{is_written}
 use Rattle.ckd_drive.specs.Calls.{Loses}

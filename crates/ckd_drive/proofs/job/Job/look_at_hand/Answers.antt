@@ -4,7 +4,7 @@ use Rattle.ckd_command.specs.declared.begin.Opened.{Opened}
 use Rattle.ckd_command.specs.Answers.{Found, IndexPassed, NextHead, Missed, moved_to}
 use Rattle.ckd_command.specs.Tables.{action_of}
 use Rattle.ckd_command.specs.Commands.{sight}
-use Rattle.ckd_cache.specs.Cache.{CacheState}
+use Rattle.ckd_slot.specs.Cache.{CacheState}
 use Rattle.ckd_drive.specs.Invariant.{number_under, slot_under, ReadsWhole}
 use Rattle.ckd_drive.specs.Fields.{stage_seen}
 use Rattle.ckd_drive.specs.Calls.{Leaves, Loses}

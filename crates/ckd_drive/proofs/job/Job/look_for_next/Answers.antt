@@ -1,5 +1,5 @@
 use Rattle.std.proofs.Common.{◌≡◌, ◌∙◌, sym, false}
-use Rattle.ckd_cache.specs.Cache.{holds, after_hold, after_failed_hold}
+use Rattle.ckd_slot.specs.Cache.{holds, after_hold, after_failed_hold}
 use Rattle.ckd_drive.specs.Invariant.{number_under}
 use Rattle.ckd_drive.specs.Jobs.{kept_in, stage_of}
 use Rattle.ckd_drive.proofs.Standing.{on_ok, on_err}

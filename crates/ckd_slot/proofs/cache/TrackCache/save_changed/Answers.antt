@@ -1,5 +1,5 @@
-use Rattle.ckd_cache.proofs.Caches.{failed_save}
-use Rattle.ckd_cache.proofs.cache.TrackCache.save_changed.Goals as goal
+use Rattle.ckd_slot.proofs.Caches.{failed_save}
+use Rattle.ckd_slot.proofs.cache.TrackCache.save_changed.Goals as goal
 
 pub returns-in-Err-clause-err : goal.returns-in-Err-clause-err
 returns-in-Err-clause-err g c =

@@ -1,7 +1,7 @@
 use Rattle.std.proofs.Common.{ℕ, List}
 use Rattle.ckd_track.specs.Changes.{overwritten}
-use Rattle.ckd_cache.proofs.Caches.{write_is}
-use Rattle.ckd_cache.proofs.cache.TrackCache.put.Goals as goal
+use Rattle.ckd_slot.proofs.Caches.{write_is}
+use Rattle.ckd_slot.proofs.cache.TrackCache.put.Goals as goal
 
 pub returns : goal.returns
 returns g c =

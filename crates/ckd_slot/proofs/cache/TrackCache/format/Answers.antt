@@ -1,8 +1,8 @@
 use Rattle.std.proofs.Common.{ℕ, List}
 use Rattle.ckd_track.specs.Track.{track_of, slot_of}
 use Rattle.ckd_position.specs.Contents.{formatted}
-use Rattle.ckd_cache.proofs.Caches.{write_is, held_is}
-use Rattle.ckd_cache.proofs.cache.TrackCache.format.Goals as goal
+use Rattle.ckd_slot.proofs.Caches.{write_is, held_is}
+use Rattle.ckd_slot.proofs.cache.TrackCache.format.Goals as goal
 
 pub returns : goal.returns
 returns g c =

@@ -1,8 +1,8 @@
 use Rattle.std.proofs.Common.{[], ℕ, List}
 use Rattle.ckd_track.specs.Track.{track_in, slot_of}
 use Rattle.ckd_position.specs.Contents.{with_record_changed, replaced}
-use Rattle.ckd_cache.proofs.Caches.{write_is, write_holds}
-use Rattle.ckd_cache.proofs.cache.TrackCache.clear.Goals as goal
+use Rattle.ckd_slot.proofs.Caches.{write_is, write_holds}
+use Rattle.ckd_slot.proofs.cache.TrackCache.clear.Goals as goal
 
 pub invariant_of-self : goal.invariant_of-self
 invariant_of-self g c = write_holds c.self.invariant (rw (← c.self.view_is) at c.requires.held) c.clear.ensures.size

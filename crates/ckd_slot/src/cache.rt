@@ -6,11 +6,12 @@ ghost use Rattle.ckd_track.specs.Track.{track_of, track_in, slot_of};
 ghost use Rattle.ckd_track.specs.Changes.{overwritten, bare_track};
 ghost use Rattle.ckd_position.specs.Contents.{is_readable, with_record_changed, replaced, kept};
 ghost use Rattle.ckd_slot.specs.Buffer.{SameRecords, FitsSlot, IsUpdate, IsRecordOf};
-ghost use Rattle.ckd_cache.specs.Cache.{slot_held, slot_at_hand, with_held, holds, after_hold, after_failed_hold, after_save, after_failed_save, IsVolume, FormatsHeld};
+ghost use Rattle.ckd_slot.specs.Cache.{slot_held, slot_at_hand, with_held, holds, after_hold, after_failed_hold, after_save, after_failed_save, IsVolume, FormatsHeld};
 
+use crate::buffer::TrackBuffer;
+use crate::windows::Window;
 use ckd_image::{Image, ImageStore, StoreFault};
 use ckd_position::{Area, Extent};
-use ckd_slot::{TrackBuffer, Window};
 use ckd_track::Geometry;
 use std::alloc::{AllocError, Global};
 use std::marker::Model;
@@ -27,7 +28,7 @@ pub struct TrackCache<S: ImageStore> {
 }
 
 impl<S: ImageStore> Model for TrackCache<S> {
-    ghost use Rattle.ckd_cache.specs.Cache.{CacheState, held_over, Holds};
+    ghost use Rattle.ckd_slot.specs.Cache.{CacheState, held_over, Holds};
 
     ghost Value = { CacheState };
 
