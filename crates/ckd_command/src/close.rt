@@ -22,6 +22,26 @@ pub struct DriveEnding {
     pub motion: bool,
 }
 
+impl DriveEnding {
+    /// Channel end and device end: the arm stays.
+    pub const ENDED: DriveEnding = DriveEnding {
+        unit: CHANNEL_AND_DEVICE_END,
+        motion: false,
+    };
+
+    /// Channel end alone: the arm still moves.
+    pub const IN_MOTION: DriveEnding = DriveEnding {
+        unit: UnitStatus(0x08),
+        motion: true,
+    };
+
+    /// Channel end, device end and unit check: the sense bytes say why.
+    pub const FAILED: DriveEnding = DriveEnding {
+        unit: END_WITH_UNIT_CHECK,
+        motion: false,
+    };
+}
+
 /// How a command closes, beside what it wrote and what the drive remembers then.
 #[derive(Clone, Copy, Debug, PartialEq, Eq)]
 pub enum Closed {
@@ -34,15 +54,12 @@ pub enum Closed {
 /// Channel end and device end.
 pub const CHANNEL_AND_DEVICE_END: UnitStatus = UnitStatus(0x0C);
 
-/// Channel end, device end and unit check.
-pub const END_WITH_UNIT_CHECK: UnitStatus = UnitStatus(0x0E);
+// Channel end, device end and unit check.
+const END_WITH_UNIT_CHECK: UnitStatus = UnitStatus(0x0E);
 
 const END_WITH_UNIT_EXCEPTION: UnitStatus = UnitStatus(0x0D);
 
 const END_WITH_STATUS_MODIFIER: UnitStatus = UnitStatus(0x4C);
-
-/// Channel end alone: the arm still moves.
-pub const CHANNEL_END_ALONE: UnitStatus = UnitStatus(0x08);
 
 /// The command ends in unit check, for this cause.
 pub fn close_in_unit_check(registers: &mut Registers, cause: Sense) -> Closed
@@ -155,14 +172,7 @@ pub fn close_seek(geometry: Geometry, registers: &mut Registers, address: &[u8])
     {
         return close_in_unit_check(registers, Sense::SEEK_ADDRESS_OUTSIDE);
     }
-    Closed::Moves(
-        cylinder,
-        head,
-        DriveEnding {
-            unit: CHANNEL_END_ALONE,
-            motion: true,
-        },
-    )
+    Closed::Moves(cylinder, head, DriveEnding::IN_MOTION)
 }
 
 /// Seek Head closes with a whole address.
@@ -175,14 +185,7 @@ pub fn close_seek_head(geometry: Geometry, registers: &mut Registers, address: &
     if head >= geometry.model.heads() {
         return close_in_unit_check(registers, Sense::SEEK_ADDRESS_OUTSIDE);
     }
-    Closed::Moves(
-        registers.cylinder,
-        head,
-        DriveEnding {
-            unit: CHANNEL_AND_DEVICE_END,
-            motion: false,
-        },
-    )
+    Closed::Moves(registers.cylinder, head, DriveEnding::ENDED)
 }
 
 /// The home address of the track under the arm, as Write Home Address must give it.

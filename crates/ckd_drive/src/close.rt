@@ -12,31 +12,13 @@ ghost use Rattle.ckd_drive.specs.Jobs.{ClosesTo};
 use crate::job::Job;
 use crate::transfer::{Transfer, Written};
 use ckd_command::{
-    Action, CHANNEL_AND_DEVICE_END, CHANNEL_END_ALONE, Closed, DriveEnding, END_WITH_UNIT_CHECK,
-    Mark, Opened, Registers, close_area, close_format, close_home_address, close_in_unit_check,
-    close_search, close_seek, close_seek_head, close_set_file_mask, end_at_area, tables,
+    Action, CHANNEL_AND_DEVICE_END, Closed, Mark, Opened, Registers, close_area, close_format,
+    close_home_address, close_in_unit_check, close_search, close_seek, close_seek_head,
+    close_set_file_mask, end_at_area, tables,
 };
 use ckd_image::ImageStore;
 use ckd_sense::Sense;
 use ckd_track::Geometry;
-
-/// How a command ends whose arm stays.
-pub(crate) const ENDED: DriveEnding = DriveEnding {
-    unit: CHANNEL_AND_DEVICE_END,
-    motion: false,
-};
-
-/// How a command ends whose arm still moves.
-pub(crate) const IN_MOTION: DriveEnding = DriveEnding {
-    unit: CHANNEL_END_ALONE,
-    motion: true,
-};
-
-/// How a command ends whose sense bytes say why it failed.
-pub(crate) const FAILED: DriveEnding = DriveEnding {
-    unit: END_WITH_UNIT_CHECK,
-    motion: false,
-};
 
 /// The mark of a track that a command leaves whose arm stays.
 #[inline(always)]

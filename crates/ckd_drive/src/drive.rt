@@ -9,16 +9,15 @@ ghost use Rattle.ckd_drive.specs.Calls.{Ends};
 ghost use Rattle.ckd_drive.specs.Work.{DriveState, Over, CallsStore, Reports, fault_met, begin_saves, look_loads, look_saves, end_saves, failed_ending, after_begin, after_look, moved_on, left_of, gives_now, takes_now, given_now, passed_of, closed_of, after_end, ending_of, is_idle, is_working, may_end, passes_now, after_settle, begun_program, answer_of_begin, answer_of_look, with_image, new_drive, without_sense, phase_of, Allows};
 
 use crate::answers::{Begun, Look, Phase, Stage};
-use crate::close::{ENDED, FAILED, IN_MOTION};
 use crate::job::Job;
 use crate::transfer::{Progress, Transfer};
 use crate::{begin, close, look, transfer};
-use ckd_slot::TrackCache;
 use ckd_command::{
     Closed, DriveEnding, Mark, Opened, Registers, first_registers, start_program, tables,
 };
 use ckd_image::{Image, ImageStore, StoreFault};
 use ckd_sense::{Command, Sense};
+use ckd_slot::TrackCache;
 use ckd_track::Geometry;
 use ghost_data::Trace;
 use std::alloc::{AllocError, Global};
@@ -255,15 +254,15 @@ impl<S: ImageStore> Drive<S> {
             Stage::Idle | Stage::Looking => unreachable!(),
             Stage::Ended => {
                 self.stage = Stage::Idle;
-                ENDED
+                DriveEnding::ENDED
             }
             Stage::InMotion => {
                 self.stage = Stage::Idle;
-                IN_MOTION
+                DriveEnding::IN_MOTION
             }
             Stage::Failed => {
                 self.stage = Stage::Idle;
-                FAILED
+                DriveEnding::FAILED
             }
             Stage::Passing => self.end_passing(),
         }
@@ -287,7 +286,7 @@ impl<S: ImageStore> Drive<S> {
             }
             Closed::Moves(cylinder, head, ending) => {
                 if self.job.leave(&mut self.mark, cylinder, head).is_err() {
-                    return FAILED;
+                    return DriveEnding::FAILED;
                 }
                 ending
             }

@@ -1,9 +1,9 @@
 //! A command half done.
 
 use crate::transfer::Progress;
-use ckd_slot::TrackCache;
 use ckd_command::{Opened, Registers};
 use ckd_image::ImageStore;
+use ckd_slot::TrackCache;
 use ghost_data::Trace;
 
 /// What a drive works with: its cache and its registers, and the command at hand.
