@@ -58,7 +58,11 @@ seen_as seen.Missed o r = Missed r
 -- how a command closed, by its answer and the registers that it left
 abbrev pub closed_as : Closed → Registers → CommandEnd
 closed_as (Stays unit) r = record { registers = r; ending = record { unit = unit; motion = false }; moves_off = false }
-closed_as (Moves cylinder head ending) r = record { registers = moved_to r cylinder head; ending = ending; moves_off = true }
+closed_as (Moves cylinder head ending) r = record {
+  registers = moved_to r cylinder head;
+  ending = ending;
+  moves_off = true;
+}
 
 -- Where the arm has still to leave the track, or an area is found, a call has changed nothing.
 

@@ -77,7 +77,13 @@ pub record IsAtTrack (g : Geometry) (r : Registers) : Type 0 where
 
 -- where a program begins: the track at its index, file mask 00 and none set, no credit, the first turn
 abbrev pub program_start : Registers → Registers
-program_start r = record r { position = AtIndex; file_mask = mask_of_byte 0x00; mask_set = false; credit = None; lap = First }
+program_start r = record r {
+  position = AtIndex;
+  file_mask = mask_of_byte 0x00;
+  mask_set = false;
+  credit = None;
+  lap = First;
+}
 
 -- the sense with this cause of unit check beside what it has
 abbrev pub with_cause : Registers → Sense → Registers
@@ -96,7 +102,11 @@ sense_after_begin _ sense = cause.ZERO
 
 -- every command takes the credit away; all but Sense make the sense zero; all but a search begin on the first turn
 abbrev pub cleared : Command → Registers → Registers
-cleared c r = record r { sense = sense_after_begin c r.sense; credit = None; lap = if is_search (action_of c) then r.lap else First }
+cleared c r = record r {
+  sense = sense_after_begin c r.sense;
+  credit = None;
+  lap = if is_search (action_of c) then r.lap else First;
+}
 
 -- whether a command works on the area that a credit names
 abbrev pub is_credited : Aim → Bool
@@ -130,7 +140,8 @@ started _ r o = Started r o
 abbrev pub begin_allowed : CommandCode → Registers → Option Sense → Beginning
 begin_allowed c r (Some cause) = Rejected (with_cause (cleared c.command r) cause)
 begin_allowed c r None =
-    started c.command (cleared c.command r) (record { command = c.command; multi_track = c.multi_track; area = credited c.command r.credit })
+    started c.command (cleared c.command r)
+    (record { command = c.command; multi_track = c.multi_track; area = credited c.command r.credit })
 
 -- a code that is no command's is rejected as invalid; it takes away what every command does
 abbrev pub begin_decoded : Option CommandCode → Registers → Beginning
@@ -246,7 +257,8 @@ at_end o r = record r { position = position_left (extent_of o.command) o.area r.
 -- a field that must come whole: no byte changes nothing, too few are a command reject
 abbrev pub whole_field : Registers → List ℕ → (size : ℕ) → Closing → Closing
 whole_field r b size change =
-    if length b == 0 then ends r ending_status else (if nat_lt (length b) size then fails r cause.FIELD_CUT_SHORT else change)
+    if length b == 0 then ends r ending_status
+    else (if nat_lt (length b) size then fails r cause.FIELD_CUT_SHORT else change)
 
 -- Seek and Seek Cylinder take the address BB, CC, HH; Seek Head looks at HH alone
 abbrev pub seek_cylinder_and_head : Geometry → Registers → List ℕ → Closing
@@ -254,7 +266,13 @@ seek_cylinder_and_head g r b =
     let cylinder = number (slice_range b 2 4) in
     let head = number (slice_range b 4 6) in
     if number (take 2 b) == 0 && nat_lt cylinder g.cylinders && nat_lt head (heads_of g.model)
-    then record { written = None; registers = moved_to r cylinder head; unit = in_motion_status; motion = true; moves_off = true }
+    then record {
+      written = None;
+      registers = moved_to r cylinder head;
+      unit = in_motion_status;
+      motion = true;
+      moves_off = true;
+    }
     else fails r cause.SEEK_ADDRESS_OUTSIDE
 
 -- the head of the address, where the drive has it: the arm stays, and the head leaves the track
@@ -340,7 +358,11 @@ close_by _ g t o r b = end_of_area t o r
 
 -- the same but for the track
 abbrev pub command_end : Closing → CommandEnd
-command_end c = record { registers = c.registers; ending = record { unit = record { 0 = c.unit }; motion = c.motion }; moves_off = c.moves_off }
+command_end c = record {
+  registers = c.registers;
+  ending = record { unit = record { 0 = c.unit }; motion = c.motion };
+  moves_off = c.moves_off;
+}
 
 -- the command where exactly the bytes b have passed in all
 unfoldable pub closing : Geometry → Sighted → Opened → Registers → List ℕ → Closing

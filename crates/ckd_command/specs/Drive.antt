@@ -53,7 +53,16 @@ tells_equipment_check sense = has sense.0 EQUIPMENT_CHECK.0
 
 -- what a drive remembers as a program begins
 abbrev pub registers_of : IdleDrive → Registers
-registers_of d = program_start (record { cylinder = d.cylinder; head = d.head; sense = d.sense; position = AtIndex; file_mask = mask_of_byte 0x00; mask_set = false; credit = None; lap = First })
+registers_of d = program_start (record {
+  cylinder = d.cylinder;
+  head = d.head;
+  sense = d.sense;
+  position = AtIndex;
+  file_mask = mask_of_byte 0x00;
+  mask_set = false;
+  credit = None;
+  lap = First;
+})
 
 -- a drive as a program begins on it: nothing is written yet
 abbrev pub begin_program : IdleDrive → State
@@ -61,7 +70,12 @@ begin_program d = record { volume = d.volume; registers = registers_of d; mark =
 
 -- what of the state stays between programs
 abbrev pub drive_of : State → IdleDrive
-drive_of s = record { volume = s.volume; cylinder = s.registers.cylinder; head = s.registers.head; sense = s.registers.sense }
+drive_of s = record {
+  volume = s.volume;
+  cylinder = s.registers.cylinder;
+  head = s.registers.head;
+  sense = s.registers.sense;
+}
 
 -- The track under the arm.
 
@@ -135,7 +149,9 @@ without_credit s = with_registers s (record s.registers { credit = None })
 
 -- the track is lost, whatever its slot then spells; a credit for it is none, and the slot keeps its length
 abbrev pub lost : State → List ℕ → State
-lost s left = record (with_store_fault (without_credit (with_slot s (overwritten (slot_under s) 0 left)))) { mark = Lost }
+lost s left = record (with_store_fault (without_credit (with_slot s (overwritten (slot_under s) 0 left)))) {
+  mark = Lost;
+}
 
 -- a written track is saved: one thing follows where that fails, and else another
 abbrev pub saving : {A : Type 0} → Option (List ℕ) → State → (fails : State → A) → (goes : A) → A
@@ -203,7 +219,8 @@ look_for f o _ s = looked f o s
 
 -- one look of a command at the track under the arm
 abbrev pub look : Option Fault → Open → AfterLook
-look f o = look_for f o (aim o.opened.command) (sight o.state.volume.geometry (track_under o.state) o.opened o.state.registers)
+look f o = look_for f o (aim o.opened.command)
+    (sight o.state.volume.geometry (track_under o.state) o.opened o.state.registers)
 
 -- The bytes that pass.
 
@@ -241,7 +258,11 @@ closed_moving s c = record { state = moved s c.registers; unit = record { 0 = c.
 
 -- the command is over at the same track, which is written where the command has written it
 abbrev pub closed_staying : State → Closing → Closed
-closed_staying s c = record { state = with_registers (with_written s c.written) c.registers; unit = record { 0 = c.unit }; motion = c.motion }
+closed_staying s c = record {
+  state = with_registers (with_written s c.written) c.registers;
+  unit = record { 0 = c.unit };
+  motion = c.motion;
+}
 
 -- a track that was written is saved before the arm or the head leaves it; where that fails the command ends with unit
 -- check
@@ -284,4 +305,13 @@ first_drive v = record { volume = v; cylinder = 0; head = 0; sense = ZERO }
 
 -- the registers of a new drive
 abbrev pub first_registers : Registers
-first_registers = record { cylinder = 0; head = 0; sense = ZERO; position = AtIndex; file_mask = mask_of_byte 0x00; mask_set = false; credit = None; lap = First }
+first_registers = record {
+  cylinder = 0;
+  head = 0;
+  sense = ZERO;
+  position = AtIndex;
+  file_mask = mask_of_byte 0x00;
+  mask_set = false;
+  credit = None;
+  lap = First;
+}

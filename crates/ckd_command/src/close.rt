@@ -87,7 +87,8 @@ pub fn close_search(
     satisfied: bool,
     whole: bool,
 ) -> Closed
-    ensures closes { closed_as result registers.new ≡ command_end (search_ends opened.now registers.old satisfied whole) }
+    ensures closes { closed_as result registers.new
+        ≡ command_end (search_ends opened.now registers.old satisfied whole) }
     ensures stays { ClosedStays result registers.old registers.new }
 {
     end_at_area(opened, registers);
@@ -161,7 +162,8 @@ fn number_at(bytes: &[u8], at: usize) -> u16
 /// Seek and Seek Cylinder close with a whole address.
 pub fn close_seek(geometry: Geometry, registers: &mut Registers, address: &[u8]) -> Closed
     requires { length address.now ≡ 6 }
-    ensures closes { closed_as result registers.new ≡ command_end (seek_cylinder_and_head geometry registers.old address.now) }
+    ensures closes { closed_as result registers.new
+        ≡ command_end (seek_cylinder_and_head geometry registers.old address.now) }
     ensures stays { ClosedStays result registers.old registers.new }
 {
     let cylinder = number_at(address, 2);

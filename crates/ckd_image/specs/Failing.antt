@@ -30,7 +30,9 @@ after_call f = record f { calls = next_call f; made_to_fail = f.made_to_fail + (
 -- what a write that is made to fail leaves: its first 60 bytes, as far as they lie within the
 -- content
 abbrev pub after_torn_write : Stored → ℕ → List ℕ → Stored
-after_torn_write s at bytes = record s { content = overwritten s.content at (take (min 60 (length s.content - at)) bytes) }
+after_torn_write s at bytes = record s {
+  content = overwritten s.content at (take (min 60 (length s.content - at)) bytes);
+}
 
 -- the store after a write
 abbrev pub after_counted_write : Failing → ℕ → List ℕ → Failing

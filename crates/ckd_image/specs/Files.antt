@@ -19,7 +19,8 @@ behind p = record p { file = p.file + 1 }
 -- number in that file
 abbrev pub place_in : List ℕ → ℕ → SlotPlace
 place_in [] track = record { file = 0; track = track }
-place_in (n ∷ tracks) track = if nat_lt track n then record { file = 0; track = track } else behind (place_in tracks (track - n))
+place_in (n ∷ tracks) track = if nat_lt track n then record { file = 0; track = track }
+    else behind (place_in tracks (track - n))
 
 module _ {S : Type 0} where
   -- the stores in order
@@ -28,7 +29,16 @@ module _ {S : Type 0} where
 
   -- a store alone
   abbrev pub alone : S → Stores S
-  alone s = record { first = Some s; second = None; third = None; fourth = None; fifth = None; sixth = None; seventh = None; eighth = None }
+  alone s = record {
+    first = Some s;
+    second = None;
+    third = None;
+    fourth = None;
+    fifth = None;
+    sixth = None;
+    seventh = None;
+    eighth = None;
+  }
 
   -- the file at a place, or none
   abbrev pub file_at : List (Option S) → ℕ → Option S
@@ -51,7 +61,8 @@ module _ {S : Type 0} where
   HoldTracks content size [] tracks = Unit {0}
   HoldTracks content size (s ∷ stores) [] = ⊥
   HoldTracks content size (None ∷ stores) (n ∷ tracks) = (n ≡ 0) × HoldTracks content size stores tracks
-  HoldTracks content size (Some s ∷ stores) (n ∷ tracks) = (length (content s) ≡ 512 + n * size) × HoldTracks content size stores tracks
+  HoldTracks content size (Some s ∷ stores) (n ∷ tracks) = (length (content s) ≡ 512 + n * size)
+      × HoldTracks content size stores tracks
 
 -- a file is a header and whole slots of this size, fewer than two to the 32 of them
 pub record HoldsWhole (size : ℕ) (file : List ℕ) : Type 0 where

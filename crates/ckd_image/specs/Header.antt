@@ -50,7 +50,8 @@ model_of device = if device == 0x11 then Some D2311 else (if device == 0x14 then
 -- the drive's heads and track size, its device type, file sequence 0 and highest cylinder 0
 abbrev pub fields_behind_id : DriveModel → List ℕ
 fields_behind_id model =
-    little_bytes 4 (heads_of model) ++ (little_bytes 4 (slot_size_of model) ++ (device_type_of model ∷ 0 ∷ little_bytes 2 0))
+    little_bytes 4 (heads_of model)
+    ++ (little_bytes 4 (slot_size_of model) ++ (device_type_of model ∷ 0 ∷ little_bytes 2 0))
 
 -- the reserved bytes behind the fields are zeros
 abbrev pub new_header : DriveModel → List ℕ
@@ -105,7 +106,8 @@ header_of f = if nat_lt f.len 512 then Err Length else fields_of f.header f.len
 
 -- this file belongs to the image of the first one, as the n-th
 abbrev pub is_part : FileHeader → ℕ → FileHeader → Bool
-is_part first n f = (f.sequence == n) && ((device_type_of f.model == device_type_of first.model) && (f.track_size == first.track_size))
+is_part first n f = (f.sequence == n) && ((device_type_of f.model == device_type_of first.model)
+    && (f.track_size == first.track_size))
 
 -- these are the files of the first one's image from the n-th to the last; the one before them has
 -- this highest cylinder
@@ -127,7 +129,8 @@ are_together (first ∷ second ∷ rest) = are_parts first 1 0 (first ∷ second
 abbrev pub cylinders_of : ℕ → ℕ → ℕ → Option ℕ
 cylinders_of size before len =
     let cylinders = (len - 512) / size in
-    if (512 + cylinders * size == len) && (nat_le 1 cylinders && nat_lt (before + cylinders) 65536) then Some (before + cylinders) else None
+    if (512 + cylinders * size == len) && (nat_le 1 cylinders && nat_lt (before + cylinders) 65536)
+    then Some (before + cylinders) else None
 
 -- the cylinders of all files, where each file but the last holds exactly those behind the file
 -- before it up to its highest one
@@ -135,7 +138,8 @@ abbrev pub cylinders_in : ℕ → ℕ → List FileHeader → Option ℕ
 cylinders_in size before [] = None
 cylinders_in size before (last ∷ []) = cylinders_of size before last.len
 cylinders_in size before (f ∷ g ∷ rest) =
-    if f.len == 512 + (f.highest_cylinder + 1 - before) * size then cylinders_in size (f.highest_cylinder + 1) (g ∷ rest) else None
+    if f.len == 512 + (f.highest_cylinder + 1 - before) * size
+    then cylinders_in size (f.highest_cylinder + 1) (g ∷ rest) else None
 
 -- the geometry of this drive with these cylinders, where there are such
 abbrev pub with_cylinders : DriveModel → ℕ → Option ℕ → Result Geometry MountFault
@@ -148,7 +152,8 @@ abbrev pub volume_of : List FileHeader → Result Geometry MountFault
 volume_of [] = Err Split
 volume_of (first ∷ rest) =
     if not (are_together (first ∷ rest)) then Err Split
-    else with_cylinders first.model first.track_size (cylinders_in (heads_of first.model * first.track_size) 0 (first ∷ rest))
+    else with_cylinders first.model first.track_size
+    (cylinders_in (heads_of first.model * first.track_size) 0 (first ∷ rest))
 
 -- Mount.
 

@@ -55,11 +55,13 @@ pub(crate) fn read_slot<S: ImageStore>(
     requires whole { length slot.old ≡ size }
     ensures read { OnOk result
         (slot.new ≡ slice_range (slot_bytes (each S.content (listed stores.old))) (track * size) (track * size + size)) }
-    ensures one { let place = place_in tracks.now track in listed stores.new ≡ slice_set (listed stores.old) place.file (file_at (listed stores.new) place.file) }
+    ensures one { let place = place_in tracks.now track in listed stores.new
+        ≡ slice_set (listed stores.old) place.file (file_at (listed stores.new) place.file) }
     ensures kept { each S.content (listed stores.new) ≡ each S.content (listed stores.old) }
     ensures held { HoldTracks S.content size (listed stores.new) tracks.now }
     ensures same { each S.origin (listed stores.new) ≡ each S.origin (listed stores.old) }
-    ensures counted { Counts (sum (each S.failures (listed stores.old))) (sum (each S.failures (listed stores.new))) result }
+    ensures counted { Counts (sum (each S.failures (listed stores.old))) (sum (each S.failures (listed stores.new)))
+        result }
 {
     let place = place_of(tracks, track);
     read_store(stores, place.file, slot_start(size, place.track), slot)
@@ -81,12 +83,16 @@ pub(crate) fn write_slot<S: ImageStore>(
         (slot_bytes (each S.content (listed stores.new)) ≡ overwritten (slot_bytes (each S.content (listed stores.old))) (track * size) slot.now) }
     ensures torn { OnErr result
         (Torn (slot_bytes (each S.content (listed stores.old))) (slot_bytes (each S.content (listed stores.new))) (track * size) size) }
-    ensures one { let place = place_in tracks.now track in listed stores.new ≡ slice_set (listed stores.old) place.file (file_at (listed stores.new) place.file) }
-    ensures heads { map head_of (each S.content (listed stores.new)) ≡ map head_of (each S.content (listed stores.old)) }
-    ensures headers { map (take 512) (each S.content (listed stores.new)) ≡ map (take 512) (each S.content (listed stores.old)) }
+    ensures one { let place = place_in tracks.now track in listed stores.new
+        ≡ slice_set (listed stores.old) place.file (file_at (listed stores.new) place.file) }
+    ensures heads { map head_of (each S.content (listed stores.new))
+        ≡ map head_of (each S.content (listed stores.old)) }
+    ensures headers { map (take 512) (each S.content (listed stores.new))
+        ≡ map (take 512) (each S.content (listed stores.old)) }
     ensures held { HoldTracks S.content size (listed stores.new) tracks.now }
     ensures same { each S.origin (listed stores.new) ≡ each S.origin (listed stores.old) }
-    ensures counted { Counts (sum (each S.failures (listed stores.old))) (sum (each S.failures (listed stores.new))) result }
+    ensures counted { Counts (sum (each S.failures (listed stores.old))) (sum (each S.failures (listed stores.new)))
+        result }
 {
     let place = place_of(tracks, track);
     write_store(stores, place.file, slot_start(size, place.track), slot)
@@ -96,7 +102,8 @@ pub(crate) fn write_slot<S: ImageStore>(
 pub(crate) fn read_header<S: ImageStore>(store: &mut S) -> Result<FileHeader, MountFault>
     ensures ok { IfOk result (λ h. header_of (head_of (S.content store.old)) ≡ Ok h) }
     ensures size { IfOk result (λ h. 0 < h.track_size) }
-    ensures err { IfErr result (λ e. HeaderRefused e (S.content store.old) (S.failures store.old) (S.failures store.new)) }
+    ensures err { IfErr result (λ e. HeaderRefused e (S.content store.old) (S.failures store.old)
+        (S.failures store.new)) }
     ensures kept { S.content store.new ≡ S.content store.old }
     ensures same { S.origin store.new ≡ S.origin store.old }
     ensures none { OnOk result (S.failures store.new ≡ S.failures store.old) }
@@ -121,12 +128,14 @@ fn read_header_at<S: ImageStore>(
     requires there { IsSome (file_at files.old place) }
     ensures ok { IfOk result (λ h. header_of (head_of (held S.content [] (file_at files.old place))) ≡ Ok h) }
     ensures size { IfOk result (λ h. 0 < h.track_size) }
-    ensures err { IfErr result (λ e. HeaderRefused e (held S.content [] (file_at files.old place)) (held S.failures 0 (file_at files.old place)) (held S.failures 0 (file_at files.new place))) }
+    ensures err { IfErr result (λ e. HeaderRefused e (held S.content [] (file_at files.old place))
+        (held S.failures 0 (file_at files.old place)) (held S.failures 0 (file_at files.new place))) }
     ensures files { files.new ≡ slice_set files.old place (file_at files.new place) }
     ensures there { IsSome (file_at files.new place) }
     ensures kept { held S.content [] (file_at files.new place) ≡ held S.content [] (file_at files.old place) }
     ensures same { held S.origin [] (file_at files.new place) ≡ held S.origin [] (file_at files.old place) }
-    ensures none { OnOk result (held S.failures 0 (file_at files.new place) ≡ held S.failures 0 (file_at files.old place)) }
+    ensures none { OnOk result (held S.failures 0 (file_at files.new place)
+        ≡ held S.failures 0 (file_at files.old place)) }
 {
     match &mut files[place] {
         Some(store) => read_header(store),
@@ -143,7 +152,8 @@ pub(crate) fn read_headers<S: ImageStore>(
     ensures ok { IfOk result (λ read. headers_of [] (map head_of (each S.content files.old)) ≡ Ok read.items) }
     ensures sizes { IfOk result (λ read. All (λ h. 0 < h.track_size) read.items) }
     ensures count { IfOk result (λ read. array_vec_len read ≡ length files.old) }
-    ensures err { IfErr result (λ e. HeadersRefused e (map head_of (each S.content files.old)) (each S.failures files.old) (each S.failures files.new)) }
+    ensures err { IfErr result (λ e. HeadersRefused e (map head_of (each S.content files.old))
+        (each S.failures files.old) (each S.failures files.new)) }
     ensures kept { each S.content files.new ≡ each S.content files.old }
     ensures same { each S.origin files.new ≡ each S.origin files.old }
     ensures none { OnOk result (each S.failures files.new ≡ each S.failures files.old) }
@@ -181,7 +191,8 @@ fn append<S: ImageStore>(stores: &mut ArrayVec<Option<S>, MOST_FILES>, file: Opt
     requires there { All IsSome stores.old.items }
     ensures content { each S.content stores.new.items ≡ each S.content stores.old.items ++ each S.content (file ∷ []) }
     ensures origins { each S.origin stores.new.items ≡ each S.origin stores.old.items ++ each S.origin (file ∷ []) }
-    ensures failures { each S.failures stores.new.items ≡ each S.failures stores.old.items ++ each S.failures (file ∷ []) }
+    ensures failures { each S.failures stores.new.items
+        ≡ each S.failures stores.old.items ++ each S.failures (file ∷ []) }
     ensures there { All IsSome stores.new.items }
     ensures count { array_vec_len stores.new ≤ array_vec_len stores.old + 1 }
 {

@@ -58,7 +58,8 @@ impl<S: ImageStore> Model for Image<S> {
 /// The image of this geometry in these files.
 fn image_of<S: ImageStore>(stores: Stores<S>, geometry: Geometry) -> Image<S>
     requires { mount_of (each S.content (listed stores)) ≡ Ok geometry }
-    ensures { result ≡ image_in geometry (each S.content (listed stores)) (each S.origin (listed stores)) (sum (each S.failures (listed stores))) }
+    ensures { result ≡ image_in geometry (each S.content (listed stores)) (each S.origin (listed stores))
+        (sum (each S.failures (listed stores))) }
 {
     let tracks = count_tracks(&stores, geometry.track_size);
     Image {

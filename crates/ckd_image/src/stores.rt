@@ -77,9 +77,12 @@ pub(crate) fn read_store<S: ImageStore>(
         (into.new ≡ slice_range (held S.content [] (file_at (listed stores.old) place)) at (at + length into.old)) }
     ensures files { listed stores.new ≡ slice_set (listed stores.old) place (file_at (listed stores.new) place) }
     ensures there { IsSome (file_at (listed stores.new) place) }
-    ensures kept { held S.content [] (file_at (listed stores.new) place) ≡ held S.content [] (file_at (listed stores.old) place) }
-    ensures same { held S.origin [] (file_at (listed stores.new) place) ≡ held S.origin [] (file_at (listed stores.old) place) }
-    ensures counted { Counts (held S.failures 0 (file_at (listed stores.old) place)) (held S.failures 0 (file_at (listed stores.new) place)) result }
+    ensures kept { held S.content [] (file_at (listed stores.new) place)
+        ≡ held S.content [] (file_at (listed stores.old) place) }
+    ensures same { held S.origin [] (file_at (listed stores.new) place)
+        ≡ held S.origin [] (file_at (listed stores.old) place) }
+    ensures counted { Counts (held S.failures 0 (file_at (listed stores.old) place))
+        (held S.failures 0 (file_at (listed stores.new) place)) result }
 {
     match place {
         0 => read_file(&mut stores.first, at, into),
@@ -109,8 +112,10 @@ pub(crate) fn write_store<S: ImageStore>(
         (Torn (held S.content [] (file_at (listed stores.old) place)) (held S.content [] (file_at (listed stores.new) place)) at (length bytes.now)) }
     ensures files { listed stores.new ≡ slice_set (listed stores.old) place (file_at (listed stores.new) place) }
     ensures there { IsSome (file_at (listed stores.new) place) }
-    ensures same { held S.origin [] (file_at (listed stores.new) place) ≡ held S.origin [] (file_at (listed stores.old) place) }
-    ensures counted { Counts (held S.failures 0 (file_at (listed stores.old) place)) (held S.failures 0 (file_at (listed stores.new) place)) result }
+    ensures same { held S.origin [] (file_at (listed stores.new) place)
+        ≡ held S.origin [] (file_at (listed stores.old) place) }
+    ensures counted { Counts (held S.failures 0 (file_at (listed stores.old) place))
+        (held S.failures 0 (file_at (listed stores.new) place)) result }
 {
     match place {
         0 => write_file(&mut stores.first, at, bytes),

@@ -18,7 +18,8 @@ is_satisfied compare area given = accepts compare (slice_cmp nat_cmp (take (leng
 
 -- up to some place the two are the same, and there the track's byte is greater
 abbrev pub IsHigher : List ℕ → List ℕ → Type 0
-IsHigher area given = (k : ℕ) × (k < length given) × (take k area ≡ take k given) × (slice_index given k < slice_index area k)
+IsHigher area given = (k : ℕ) × (k < length given) × (take k area ≡ take k given)
+    × (slice_index given k < slice_index area k)
 
 -- what each comparison means, where no more bytes are given than the area has
 abbrev pub Satisfies : Compare → List ℕ → List ℕ → Type 0

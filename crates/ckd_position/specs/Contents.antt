@@ -70,7 +70,9 @@ replaced _ b = with_data b
 
 -- the track with this change of the area's record; a home address is no record
 abbrev pub with_record_changed : (Record → Record) → Area → Track → Track
-with_record_changed change (Of part i) t = record t { records = slice_set t.records i (change (slice_index_or t.records i no_record)) }
+with_record_changed change (Of part i) t = record t {
+  records = slice_set t.records i (change (slice_index_or t.records i no_record));
+}
 with_record_changed change HomeAddress t = t
 
 -- A formatting write.

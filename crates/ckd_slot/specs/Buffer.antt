@@ -66,12 +66,14 @@ record_place _ at key data_bytes = record { start = 0; len = 0 }
 -- the window is where these bytes of a record of the track stand
 abbrev pub IsPlaceOf : Extent → Track → Area → Window → Type 0
 IsPlaceOf e t HomeAddress w = Unit {0}
-IsPlaceOf e t (Of part i) w = i < length t.records → w ≡ record_place e (slice_index (record_offsets t) i) (length (record_in t i).key_area) (length (record_in t i).data_area)
+IsPlaceOf e t (Of part i) w = i < length t.records → w ≡ record_place e (slice_index (record_offsets t) i)
+    (length (record_in t i).key_area) (length (record_in t i).data_area)
 
 -- record i stands there, or is not there
 abbrev pub StandsThere : List ℕ → ℕ → Option ℕ → Type 0
 StandsThere slot i None = length (records_on (track_of slot)) ≤ i
-StandsThere slot i (Some at) = (i < length (track_in slot).records) × (at ≡ slice_index (record_offsets (track_in slot)) i)
+StandsThere slot i (Some at) = (i < length (track_in slot).records)
+    × (at ≡ slice_index (record_offsets (track_in slot)) i)
 
 -- the area is one of the track's, or one of which no bytes are asked where it is none of the track's
 abbrev pub HasBytes : Extent → Sighted → Area → Type 0
@@ -123,7 +125,8 @@ abbrev pub fits_track : DriveModel → Option Area → (count : List ℕ) → Si
 fits_track model after count t = has_room model (kept t after) (key_length count) (data_length count)
 
 -- it fits a track of a slot of this size, has this number, and its key and data stand there
-pub record HasFormatted (model : DriveModel) (size : ℕ) (after : Option Area) (count : List ℕ) (t : Sighted) (number : ℕ) (rest : Window) : Type 0 where
+pub record HasFormatted (model : DriveModel) (size : ℕ) (after : Option Area) (count : List ℕ) (t : Sighted)
+    (number : ℕ) (rest : Window) : Type 0 where
   pub fits : fits_track model after count t ≡ true
   pub is_last : number ≡ length (kept t after)
   pub spelled : FitsSlot size (formatted t after count)
@@ -132,5 +135,6 @@ pub record HasFormatted (model : DriveModel) (size : ℕ) (after : Option Area) 
 -- the slot is that of the track with the new record, or stays where that does not fit
 abbrev pub Formats : DriveModel → Option Area → (count old new : List ℕ) → Option (ℕ × Window) → Type 0
 Formats model after count old new (Some n) =
-    HasFormatted model (length old) after count (track_of old) n.0 n.1 × (new ≡ slot_of (length old) (formatted (track_of old) after count))
+    HasFormatted model (length old) after count (track_of old) n.0 n.1
+    × (new ≡ slot_of (length old) (formatted (track_of old) after count))
 Formats model after count old new None = (fits_track model after count (track_of old) ≡ false) × (new ≡ old)

@@ -69,7 +69,10 @@ after_hold c track = record c { image = loaded c.image (holds c.held track); hel
 
 -- the slot could not be loaded: none is at hand
 abbrev pub after_failed_hold : CacheState → CacheState
-after_failed_hold c = record c { image = record c.image { loads = c.image.loads + 1; failures = c.image.failures + 1 }; held = None }
+after_failed_hold c = record c {
+  image = record c.image { loads = c.image.loads + 1; failures = c.image.failures + 1 };
+  held = None;
+}
 
 -- after a saving: the slot at hand is saved where it was changed
 abbrev pub saved : ImageState → List (List ℕ) → (changed : Bool) → ImageState
@@ -102,11 +105,14 @@ pub record IsVolume (c : CacheState) : Type 0 where
 
 -- after a formatting write: the slot at hand is that of the track with the new record, or stays where that does not fit
 abbrev pub after_format : CacheState → Option Area → (count : List ℕ) → CacheState
-after_format c after count = with_held c (slot_of c.image.geometry.track_size (formatted (track_of (slot_held c)) after count))
+after_format c after count = with_held c (slot_of c.image.geometry.track_size
+    (formatted (track_of (slot_held c)) after count))
 
 -- what a formatting write answers and leaves: the new record's number with the window of its key and data; or none,
 -- and nothing changes, where the record does not fit
 abbrev pub FormatsHeld : (old new : CacheState) → Option Area → (count : List ℕ) → Option (ℕ × Window) → Type 0
 FormatsHeld old new after count (Some n) =
-    HasFormatted old.image.geometry.model old.image.geometry.track_size after count (track_of (slot_held old)) n.0 n.1 × (new ≡ after_format old after count)
-FormatsHeld old new after count None = (fits_track old.image.geometry.model after count (track_of (slot_held old)) ≡ false) × (new ≡ old)
+    HasFormatted old.image.geometry.model old.image.geometry.track_size after count (track_of (slot_held old)) n.0 n.1
+    × (new ≡ after_format old after count)
+FormatsHeld old new after count None = (fits_track old.image.geometry.model after count (track_of (slot_held old))
+    ≡ false) × (new ≡ old)

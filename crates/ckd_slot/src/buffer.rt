@@ -184,7 +184,10 @@ impl TrackBuffer {
         requires size { length self.old ≡ image.old.geometry.track_size }
         ensures slot { OnOk result (self.new ≡ slice_index_or image.old.slots track []) }
         ensures ok { OnOk result (image.new ≡ record image.old { loads = image.old.loads + 1 }) }
-        ensures err { OnErr result (image.new ≡ record image.old { loads = image.old.loads + 1; failures = image.old.failures + 1 }) }
+        ensures err { OnErr result (image.new ≡ record image.old {
+          loads = image.old.loads + 1;
+          failures = image.old.failures + 1;
+        }) }
         ensures length { length self.new ≡ length self.old }
     {
         let answer = image.load(track, &mut self.slot);
@@ -345,7 +348,8 @@ impl TrackBuffer {
         requires readable { is_readable (track_of self.old) ≡ true }
         requires update { IsUpdate extent }
         requires there { IsRecordOf (track_in self.old) area }
-        ensures slot { self.new ≡ slot_of (length self.old) (with_record_changed (replaced extent []) area (track_in self.old)) }
+        ensures slot { self.new ≡ slot_of (length self.old)
+            (with_record_changed (replaced extent []) area (track_in self.old)) }
         ensures fits { FitsSlot (length self.old) (with_record_changed (replaced extent []) area (track_in self.old)) }
         ensures size { length self.new ≡ length self.old }
     {

@@ -51,7 +51,12 @@ impl<S: ImageStore> TrackCache<S> {
     ///
     /// Where there is no such memory the image comes back.
     pub fn new(alloc: Global, image: Image<S>) -> Result<TrackCache<S>, (AllocError, Image<S>)>
-        ensures ok { IfOk result (λ c. c ≡ record { image = image; slots = image.slots; held = None; changed = false }) }
+        ensures ok { IfOk result (λ c. c ≡ record {
+          image = image;
+          slots = image.slots;
+          held = None;
+          changed = false;
+        }) }
         ensures err { IfErr result (λ e. e.1 ≡ image) }
     {
         match TrackBuffer::new(alloc, image.geometry().track_size) {
@@ -167,8 +172,10 @@ impl<S: ImageStore> TrackCache<S> {
         requires readable { is_readable (track_of (slot_held self.old)) ≡ true }
         requires update { IsUpdate extent }
         requires there { IsRecordOf (track_in (slot_held self.old)) area }
-        ensures slot { self.new ≡ with_held self.old (slot_of self.old.image.geometry.track_size (with_record_changed (replaced extent []) area (track_in (slot_held self.old)))) }
-        ensures fits { FitsSlot self.old.image.geometry.track_size (with_record_changed (replaced extent []) area (track_in (slot_held self.old))) }
+        ensures slot { self.new ≡ with_held self.old (slot_of self.old.image.geometry.track_size
+            (with_record_changed (replaced extent []) area (track_in (slot_held self.old)))) }
+        ensures fits { FitsSlot self.old.image.geometry.track_size
+            (with_record_changed (replaced extent []) area (track_in (slot_held self.old))) }
     {
         self.buffer.clear(extent, area);
         self.changed = true;
@@ -195,9 +202,11 @@ impl<S: ImageStore> TrackCache<S> {
     #[inline(always)]
     pub fn save(&mut self) -> Result<(), StoreFault>
         ensures ok { OnOk result (self.new ≡ after_save self.old) }
-        ensures err { OnErr result (self.new ≡ after_failed_save self.old (slice_index_or self.new.image.slots (unwrap_or self.old.held 0) [])) }
+        ensures err { OnErr result (self.new ≡ after_failed_save self.old
+            (slice_index_or self.new.image.slots (unwrap_or self.old.held 0) [])) }
         ensures fails { OnErr result (self.old.changed ≡ true) }
-        ensures size { OnErr result (length (slice_index_or self.new.image.slots (unwrap_or self.old.held 0) []) ≡ self.old.image.geometry.track_size) }
+        ensures size { OnErr result (length (slice_index_or self.new.image.slots (unwrap_or self.old.held 0) [])
+            ≡ self.old.image.geometry.track_size) }
     {
         if !self.changed {
             return Ok(());
@@ -210,8 +219,10 @@ impl<S: ImageStore> TrackCache<S> {
     fn save_changed(&mut self) -> Result<(), StoreFault>
         requires { self.old.changed ≡ true }
         ensures ok { OnOk result (self.new ≡ after_save self.old) }
-        ensures err { OnErr result (self.new ≡ after_failed_save self.old (slice_index_or self.new.image.slots (unwrap_or self.old.held 0) [])) }
-        ensures size { OnErr result (length (slice_index_or self.new.image.slots (unwrap_or self.old.held 0) []) ≡ self.old.image.geometry.track_size) }
+        ensures err { OnErr result (self.new ≡ after_failed_save self.old
+            (slice_index_or self.new.image.slots (unwrap_or self.old.held 0) [])) }
+        ensures size { OnErr result (length (slice_index_or self.new.image.slots (unwrap_or self.old.held 0) [])
+            ≡ self.old.image.geometry.track_size) }
     {
         let Some(track) = self.held else {
             return Ok(());

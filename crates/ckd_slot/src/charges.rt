@@ -34,7 +34,8 @@ impl Charged {
         ensures within { self.new.records ≤ records }
         ensures model { self.new.model ≡ self.old.model }
         ensures stays { self.old.records ≤ records → self.new ≡ self.old }
-        ensures kept { (old new : List Record) → take records new ≡ take records old → IsCharged old self.old → IsCharged new self.new }
+        ensures kept { (old new : List Record) → take records new ≡ take records old → IsCharged old self.old
+            → IsCharged new self.new }
     {
         if self.records > records {
             *self = Charged::none(self.model);
@@ -55,7 +56,11 @@ impl Charged {
     fn reach(&mut self, model: DriveModel, view: &TrackView, records: usize)
         requires charged { IsCharged view.now.records self.old }
         requires there { records ≤ length view.now.records }
-        ensures { self.new ≡ record { model = model; records = records; left = capacity_left model (take records view.now.records) } }
+        ensures { self.new ≡ record {
+          model = model;
+          records = records;
+          left = capacity_left model (take records view.now.records);
+        } }
     {
         self.turn_to(model);
         self.keep(records);
@@ -76,8 +81,13 @@ impl Charged {
     ) -> bool
         requires charged { IsCharged view.now.records self.old }
         requires there { records ≤ length view.now.records }
-        ensures fits { result ≡ has_room model (take records view.now.records) (key_length count.now) (data_length count.now) }
-        ensures reached { self.new ≡ record { model = model; records = records; left = capacity_left model (take records view.now.records) } }
+        ensures fits { result ≡ has_room model (take records view.now.records) (key_length count.now)
+            (data_length count.now) }
+        ensures reached { self.new ≡ record {
+          model = model;
+          records = records;
+          left = capacity_left model (take records view.now.records);
+        } }
     {
         self.reach(model, view, records);
         let (kl, dl) = lengths(count);

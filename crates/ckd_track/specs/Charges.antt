@@ -32,7 +32,8 @@ record_charge model r = charge_of model (length r.key_area) (length r.data_area)
 -- records that others follow, record 0 by its own rule
 abbrev pub kept_charges : DriveModel → List Record → ℕ
 kept_charges model [] = 0
-kept_charges model (r0 ∷ others) = r0_charge_of model (length r0.key_area) (length r0.data_area) + sum_by (record_charge model) others
+kept_charges model (r0 ∷ others) = r0_charge_of model (length r0.key_area) (length r0.data_area)
+    + sum_by (record_charge model) others
 
 -- a new last record behind these, or a new record 0 where none are kept
 abbrev pub new_charge : DriveModel → List Record → ℕ → ℕ → ℕ
@@ -52,7 +53,8 @@ charge_at model i r =
 -- what records that others follow leave of the capacity, unless they take more
 abbrev pub capacity_left : DriveModel → List Record → Option ℕ
 capacity_left model kept =
-    if nat_le (kept_charges model kept) (capacity_of model) then Some (capacity_of model - kept_charges model kept) else None
+    if nat_le (kept_charges model kept) (capacity_of model) then Some (capacity_of model - kept_charges model kept)
+    else None
 
 -- the track with any new record of these lengths is spelled in so many bytes
 abbrev pub LeavesRoom : ℕ → Option ℕ → ℕ → ℕ → Track → Type 0

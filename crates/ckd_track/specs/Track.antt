@@ -115,7 +115,8 @@ records_from (suc most) at bytes =
     if nat_lt (length bytes) 8 then Err (NoEnd at)
     else (if begins_with_end_mark bytes then Ok []
     else (if nat_lt (length bytes) (8 + body_length bytes) then Err (RecordPastEnd at)
-    else followed_by (record_at bytes) (records_from most (at + (8 + body_length bytes)) (drop (8 + body_length bytes) bytes))))
+    else followed_by (record_at bytes)
+    (records_from most (at + (8 + body_length bytes)) (drop (8 + body_length bytes) bytes))))
 
 -- each record takes eight bytes or more, so the slot's length bounds their number
 abbrev pub records_of : List ℕ → Result (List Record) SlotFault

@@ -61,7 +61,8 @@ pub fn put_home_address(slot: &mut [u8], home_address: &[u8; 5], zeros_from: usi
 pub fn format_record(slot: &mut [u8], at: usize, count: &[u8; 8], body: usize, zeros_from: usize)
     requires room { at + 8 + body + 8 ≤ length slot.old }
     requires zeros { IsZeroFrom slot.old zeros_from }
-    ensures { slot.new ≡ ended_at (overwritten (overwritten slot.old at count.now) (at + 8) (replicate body 0)) (at + 8 + body) }
+    ensures { slot.new ≡ ended_at (overwritten (overwritten slot.old at count.now) (at + 8) (replicate body 0))
+        (at + 8 + body) }
 {
     let end = at + COUNT_LENGTH + body;
     overwrite(slot, at, count);

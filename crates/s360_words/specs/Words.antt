@@ -14,7 +14,8 @@ has byte bits = not (bit_and byte bits == 0)
 -- and there is none where one of bits 4 to 7 or 29 to 31 is not zero.
 abbrev pub caw_of : ℕ → Option Caw
 caw_of word =
-    if (word / 2 ^ 24 % 16 == 0) && (word % 8 == 0) then Some (record { key = word / 2 ^ 28; address = word % 2 ^ 24 }) else None
+    if (word / 2 ^ 24 % 16 == 0) && (word % 8 == 0) then Some (record { key = word / 2 ^ 28; address = word % 2 ^ 24 })
+    else None
 
 -- The channel command word of eight bytes: the command code, the data address, the flags, a byte that is ignored,
 -- and the count.
