@@ -10,9 +10,8 @@ pub no_more : (n : ℕ) → n ≡ n + 1 → ⊥
 no_more n e = omega (arith, e)
 
 -- where no command half done has changed the slot at hand, it is changed just where its track is written
-pub changed_is : (parts : Parts)
-    → Stands parts → is_filled parts.stage ≡ false → parts.cache.changed ≡ is_written_by parts.mark
-changed_is parts x f = (let marked : parts.cache.changed ≡ (is_written_by parts.mark || false) = rw f at x.marked in marked ∙ or-false (is_written_by parts.mark))
+pub changed_is : (d : Parts) → Stands d → is_filled d.stage d.job ≡ false → d.job.cache.changed ≡ is_written_by d.mark
+changed_is d x f = (let marked : d.job.cache.changed ≡ (is_written_by d.mark || false) = rw f at x.marked in marked ∙ or-false (is_written_by d.mark))
 
 pub loads_saved : (c : CacheState) → (after_save c).image.loads ≡ c.image.loads
 loads_saved c = elim c.changed as (λ b. (saved c.image c.slots b).loads ≡ c.image.loads) [ true ↦ refl | false ↦ refl ]

@@ -11,7 +11,7 @@ use Rattle.ckd_command.specs.Commands.{with_cause}
 use Rattle.ckd_command.specs.Drive.{LoadFails, SaveFails, number_under, is_written_by}
 use Rattle.ckd_cache.specs.Cache.{CacheState, after_failed_save}
 use Rattle.ckd_drive.specs.Work.{DriveState, fault_met}
-use Rattle.ckd_drive.specs.Invariant.{BeginsWell, IsCleared, Stands, is_filled, Kept, Parts, slot_at, state_of, track_in_reach}
+use Rattle.ckd_drive.specs.Invariant.{BeginsWell, IsCleared, Stands, is_filled, HalfDone, Parts, state_of, own_slot, own_track}
 use Rattle.std.proofs.lemmas.List.Elements.{All-get_or}
 use Rattle.s360_words.specs.Storage.{overwritten}
 use Rattle.ckd_image.specs.Image.{ImageState}
@@ -57,22 +57,25 @@ overwritten_whole (x ∷ xs) [] e = absurd (omega (arith, e))
 overwritten_whole (x ∷ xs) (y ∷ ys) e = ap (λ (r : List ℕ). y ∷ r) (overwritten_whole xs ys (omega (arith, e)))
 
 pub record SaveLost (d : Parts) (left : List ℕ) (new : DriveState) : Type 0 where
-  pub held : d.cache.held ≡ Some (track_in_reach d)
+  pub held : d.job.cache.held ≡ Some (own_track d.job)
   pub written : d.mark ≡ Written
-  pub whole : overwritten (slot_at d.cache.slots (track_in_reach d)) 0 left ≡ left
+  pub whole : overwritten (own_slot d.job) 0 left ≡ left
   pub fault : fault_met (state_of d) new ≡ Some (SaveFails left)
 
-pub save_lost : (d : Parts) (r : Registers) (came : Kept) (new : DriveState) → Stands d → is_filled d.stage ≡ false → (l : Loses d.cache r came) → new.image ≡ (after_failed_save d.cache l.left).image → SaveLost d l.left new
-save_lost d r came new x f l image =
-    let c = d.cache in
+-- whatever the registers were as it was left
+pub save_lost : (d : Parts) (h h' : HalfDone) (m : Mark) (new : DriveState) → Stands d → is_filled d.stage d.job ≡ false → h.cache ≡ d.job.cache → (l : Loses h h' m) → new.image ≡ (after_failed_save d.job.cache l.left).image → SaveLost d l.left new
+save_lost d h h' m new x f same l image =
+    let c = d.job.cache in
+    let n = own_track d.job in
     let left = l.left in
-    let held : c.held ≡ Some (track_in_reach d) = x.anchored l.changed in
-    let there : left ≡ slice_index_or (after_failed_save c left).image.slots (unwrap_or c.held 0) [] = l.there ∙ ap (λ (k : CacheState). slice_index_or k.image.slots (unwrap_or c.held 0) []) l.cache in
-    let left_is : slice_index_or (slice_set c.slots (track_in_reach d) left) (track_in_reach d) [] ≡ left = sym (rw held at there) in
-    let old : length (slot_at c.slots (track_in_reach d)) ≡ c.image.geometry.track_size = All-get_or (λ slot. length slot ≡ c.image.geometry.track_size) c.slots (track_in_reach d) [] (number_there d x) x.volume.sizes in
+    let changed : c.changed ≡ true = rw same at l.changed in
+    let held : c.held ≡ Some n = x.anchored changed in
+    let there : left ≡ slice_index_or (after_failed_save c left).image.slots (unwrap_or c.held 0) [] = rw same at (l.there ∙ ap (λ (k : HalfDone). slice_index_or k.cache.image.slots (unwrap_or h.cache.held 0) []) l.job) in
+    let left_is : slice_index_or (slice_set c.slots n left) n [] ≡ left = sym (rw held at there) in
+    let old : length (own_slot d.job) ≡ c.image.geometry.track_size = All-get_or (λ slot. length slot ≡ c.image.geometry.track_size) c.slots n [] (number_there d x) x.volume.sizes in
     record {
       held = held;
-      written = mark_written d.mark (sym (changed_is d x f) ∙ l.changed);
-      whole = overwritten_whole (slot_at c.slots (track_in_reach d)) left (l.size ∙ sym old);
+      written = mark_written d.mark (sym (changed_is d x f) ∙ changed);
+      whole = overwritten_whole (own_slot d.job) left (rw same at l.size ∙ sym old);
       fault = fault_saving (state_of d) new (ap (λ (i : ImageState). i.failures) image) (ap (λ (i : ImageState). i.saves) image) ∙ rw (image, held, left_is) refl;
     }

@@ -47,7 +47,7 @@ pub search_absorbs : (half : HalfDone) (more slot : List ℕ) (w : Window) (so_f
 search_absorbs half more slot w so_far now may at slot_is now_is =
     let c = half.cache in
     let passed = half.passed in
-    let o = half.progress.opened in
+    let o = half.opened in
     let t = track_of (own_slot half) in
     let left : half.progress.left ≤ w.len = rw at at may.works.goes.left in
     let le : length more ≤ w.len = omega (arith, left, may.room) in
@@ -75,7 +75,7 @@ collected_more f passed more e =
 -- what is known of a field, with more bytes
 pub record FieldGoes (half : HalfDone) (more f : List ℕ) : Type 0 where
   pub has : HasField (at_work half) f
-  pub again : sight half.cache.image.geometry (track_of (own_slot half)) half.progress.opened half.registers ≡ Found half.progress.opened
+  pub again : sight half.cache.image.geometry (track_of (own_slot half)) half.opened half.registers ≡ Found half.opened
   pub long : length (half.passed ++ more) ≡ length half.passed + length more
   pub room : length (half.passed ++ more) ≤ field_size (action_now half)
   pub collected : take (length (half.passed ++ more)) (overwritten f half.progress.moved more) ≡ half.passed ++ more
@@ -85,7 +85,7 @@ field_goes half more f may at =
     let passed = half.passed in
     let g = half.cache.image.geometry in
     let goes = may.works.goes in
-    let left : half.progress.left ≤ field_size (action_of half.progress.opened.command) - length passed = rw at at goes.left in
+    let left : half.progress.left ≤ field_size (action_of half.opened.command) - length passed = rw at at goes.left in
     let placed = rw at at goes.placed in
     let h = placed.0 in
     let far : length (passed ++ more) ≡ length passed + length more = length-append passed more in
@@ -99,20 +99,20 @@ field_goes half more f may at =
 
 pub field_absorbs : (half : HalfDone) (more f field : List ℕ)
     → MayTake half more → half.progress.place ≡ Field f → field ≡ overwritten f half.progress.moved more
-    → ChangesNothing (action_now half) half.cache.image.geometry (track_of (own_slot half)) half.progress.opened half.registers (half.passed ++ more)
+    → ChangesNothing (action_now half) half.cache.image.geometry (track_of (own_slot half)) half.opened half.registers (half.passed ++ more)
     → Absorbs half more half.cache half.before (Field field)
 field_absorbs half more f field may at is nothing =
     let r = half.registers in
     let p = half.progress in
     let g = half.cache.image.geometry in
     let n : ℕ = track_under g r in
-    let a = action_of p.opened.command in
+    let a = action_of half.opened.command in
     let t = track_of (slot_at half.cache.slots n) in
     let k = field_goes half more f may at in
-    let wants = length_by a g t p.opened r (half.passed ++ more) refl ∙ field_wants a g t p.opened r (half.passed ++ more) k.has.is_field k.room nothing in
+    let wants = length_by a g t half.opened r (half.passed ++ more) refl ∙ field_wants a g t half.opened r (half.passed ++ more) k.has.is_field k.room nothing in
     absorbs_plain half more (Field field) may.works (rw at refl) refl (rw at refl) (rw at (let far = k.long in omega (arith, far))) (
       record { is_field = k.has.is_field; room = k.room; collected = rw is k.collected; at_hand = k.has.at_hand },
       record { again = k.again; len = (let room = k.room in omega (arith, wants, room)) },
-      ap (λ (y : Closing). y.written) (closing_by a g t p.opened r (half.passed ++ more) refl) ∙ field_unwritten a g t p.opened r (half.passed ++ more) k.has.is_field k.room nothing,
+      ap (λ (y : Closing). y.written) (closing_by a g t half.opened r (half.passed ++ more) refl) ∙ field_unwritten a g t half.opened r (half.passed ++ more) k.has.is_field k.room nothing,
     )
     (omega (arith, k.room, k.long, field_small a))

@@ -1,6 +1,6 @@
 //! One drive.
 
-ghost use Rattle.std.specs.Prelude.{◌≡◌, ◌≤◌, ◌<◌, ◌+◌, ◌-◌, ◌^◌, ◌++◌, Some, None, true, false, [], length, slice_range, IfOk, IfErr, OnOk, OnErr, Option};
+ghost use Rattle.std.specs.Prelude.{◌≡◌, ◌≤◌, ◌+◌, Some, None, true, false, [], length, slice_range, IfOk, IfErr};
 ghost use Rattle.ckd_sense.specs.SenseBytes.{sense_bytes};
 ghost use Rattle.ckd_image.specs.Store.{Counts};
 ghost use Rattle.ckd_command.specs.Drive.{unsaved, begin, is_written};
@@ -286,10 +286,10 @@ impl<S: ImageStore> Drive<S> {
                 }
             }
             Closed::Moves(cylinder, head, ending) => {
-                if self.job.leave(&mut self.mark, cylinder, head).is_err() {
-                    return FAILED;
+                match self.job.leave(&mut self.mark, cylinder, head) {
+                    Ok(()) => ending,
+                    Err(_) => FAILED,
                 }
-                ending
             }
         }
     }

@@ -1,8 +1,7 @@
 //! The bytes of a command that pass: where they stand, and what becomes of those that it takes.
 
 ghost use Rattle.std.specs.Prelude.{◌≡◌, ◌≤◌, ◌<◌, ◌+◌, length, ◌-◌, ◌^◌, slice_range};
-ghost use Rattle.ckd_drive.specs.Invariant.{MayTake, MayGive, whole_of, remaining, field_size, given_on};
-ghost use Rattle.ckd_drive.specs.Fields.{IsNoSearch};
+ghost use Rattle.ckd_drive.specs.Invariant.{MayTake, MayGive, IsNoSearch, whole_of, remaining, field_size, given_on};
 ghost use Rattle.ckd_drive.specs.Jobs.{half_done, Takes};
 ghost use Rattle.ckd_command.specs.Commands.{own_home_address};
 ghost use Rattle.std.specs.Ordering.{nat_cmp, ordering_then};

@@ -3,7 +3,8 @@ use Rattle.ckd_cache.specs.Cache.{CacheState}
 use Rattle.ckd_command.specs.declared.registers.Mark.TheVariants.{Lost}
 use Rattle.ckd_command.specs.Drive.{is_written}
 use Rattle.ckd_drive.specs.Calls.{Loses}
-use Rattle.ckd_drive.specs.Invariant.{kept}
+use Rattle.ckd_drive.specs.Invariant.{HalfDone}
+use Rattle.ckd_drive.specs.Jobs.{half_done}
 use Rattle.ckd_drive.specs.Work.{DriveState}
 use Rattle.ckd_drive.proofs.Calls.{changed_is, calls_of_save, calls_of_failed_save}
 use Rattle.ckd_drive.proofs.Reported.{settle_reports}
@@ -20,8 +21,9 @@ returns-in-Ok-clause-state g c =
 pub returns-in-Err-clause-state : goal.returns-in-Err-clause-state
 returns-in-Err-clause-state g c =
     let i = c.self.inside in
-    let came = kept c.save.new.self c.lose.new.registers Lost in
-    let l : Loses i.job.cache i.job.registers came = record { changed = c.in-Err.ensures.fails; left = slice_index_or c.save.new.self.image.slots (unwrap_or i.job.cache.held 0) []; size = c.in-Err.ensures.size; there = refl; cache = c.in-Err.ensures.err; registers = c.lose.ensures; mark = refl } in
+    let came : HalfDone = record (half_done i.job) { cache = c.save.new.self; registers = c.lose.new.registers } in
+    let left = slice_index_or c.save.new.self.image.slots (unwrap_or i.job.cache.held 0) [] in
+    let l : Loses (half_done i.job) came Lost = record { changed = c.in-Err.ensures.fails; left = left; size = c.in-Err.ensures.size; there = refl; job = cc (c.in-Err.ensures.err, c.lose.ensures); mark_is = refl } in
     unsettled_state (parts_in i) came c.args.self.now c.self.invariant c.self.view_is c.requires l
 
 pub returns-in-Ok-clause-calls : goal.returns-in-Ok-clause-calls
