@@ -30,10 +30,9 @@ use Rattle.ckd_drive.specs.declared.transfer.Written.{Written}
 use Rattle.ckd_drive.specs.declared.transfer.Written.TheVariants as written
 use Rattle.ckd_drive.specs.Work.{DriveState, CallsStore, closed_of, ending_of, after_end, end_saves, failed_ending, fault_met, with_image}
 use Rattle.ckd_image.specs.Image.{ImageState}
-use Rattle.ckd_drive.proofs.Calls.{changed_is, calls_none, calls_of_save, calls_of_failed_save}
+use Rattle.ckd_drive.proofs.Calls.{changed_is, calls_none, calls_of_save, calls_of_failed_save, fault_none, lost_registers, save_lost}
 use Rattle.ckd_drive.specs.Calls.{Ends, Leaves, Loses}
 use Rattle.ckd_drive.proofs.Reported.{end_reports}
-use Rattle.ckd_drive.proofs.Faults.{fault_none, lost_registers, save_lost}
 use Rattle.ckd_drive.proofs.Standing.{no_credit, geometry_saved, failures_saved, saved_stands, lost_stands, seen_track, goes_of, no_filled_seen, number_there}
 use Rattle.ckd_command.proofs.Closings.{closing_by}
 

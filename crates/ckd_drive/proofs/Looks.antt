@@ -1,43 +1,80 @@
--- A command that looks for its area, and has just found where its bytes stand.
+-- What a look at a track finds, and a command that looks for its area and has just found where its bytes stand.
 use Rattle.std.proofs.Common.{◌≡◌, ◌∙◌, ap, sym, refl, ℕ, ◌+◌, List, [], true, Some, length, arith, false, ◌||◌, None, ◌==◌, Bool, Option}
-use Rattle.std.proofs.lemmas.Bool.{false_from_ne_true}
-use Rattle.ckd_track.specs.Track.{track_of}
+use Rattle.std.proofs.lemmas.Bool.{false_from_ne_true, true_from_ne_false}
+use Rattle.ckd_track.specs.Track.{track_of, track_or_none}
 use Rattle.ckd_sense.specs.declared.commands.Command.{Command}
 use Rattle.ckd_sense.specs.declared.commands.Command.TheVariants as command
 use Rattle.ckd_command.specs.declared.tables.Aim.TheVariants.{NoArea, Credited, Next}
 use Rattle.ckd_command.specs.declared.tables.Action.{Action}
 use Rattle.ckd_command.specs.declared.tables.Action.TheVariants as action
 use Rattle.ckd_command.specs.declared.begin.Opened.{Opened}
-use Rattle.ckd_command.specs.Answers.{Found, IndexPassed, NextHead, Missed}
+use Rattle.ckd_command.specs.Answers.{Found, IndexPassed, NextHead, Missed, moved_to}
 use Rattle.ckd_drive.specs.declared.transfer.Transfer.{Transfer}
 use Rattle.ckd_drive.specs.declared.transfer.Transfer.TheVariants.{Sense, Field, Read, Search, Fill, Filled}
-use Rattle.ckd_command.specs.Tables.{action_of, aim}
+use Rattle.ckd_command.specs.Tables.{action_of, aim, needs_readable}
 use Rattle.ckd_position.specs.Contents.{is_readable, Sighted}
-use Rattle.ckd_command.specs.Commands.{Closing, sight, command_end, IsAtTrack, length_after, with_cause}
+use Rattle.ckd_command.specs.Commands.{Closing, sight, command_end, IsAtTrack, length_after, with_cause, sight_of}
 use Rattle.ckd_drive.proofs.Fields.{field_unwritten, field_wants, no_byte}
 use Rattle.ckd_command.proofs.Closings.{area_by, closing_by, sense_closes, sense_length}
 use Rattle.ckd_command.proofs.Lengths.{length_by}
 use Rattle.ckd_cache.specs.Cache.{CacheState, holds, loaded, after_hold, after_failed_hold, after_save, after_failed_save}
-use Rattle.ckd_drive.specs.Invariant.{IsFirstPlace, IsPlaced, IsField, ReadsWhole, FieldAtHand, AtHand, slot_at, AtWork, geometry_in, number_in, slot_in, at_work, Stands, StaysAt, CreditAtHand, remaining, first_progress, state_of, track_under, is_filled_by, HalfDone, Parts, parts_of, own_track, own_slot}
+use Rattle.ckd_drive.specs.Invariant.{IsFirstPlace, IsPlaced, IsField, ReadsWhole, FieldAtHand, AtHand, slot_at, AtWork, geometry_in, number_in, slot_in, at_work, Stands, StaysAt, CreditAtHand, remaining, first_progress, state_of, track_under, is_filled_by, HalfDone, Parts, parts_of, own_track, own_slot, AreaIsThere, SightKeeps}
 use Rattle.ckd_track.specs.declared.geometries.Geometry.{Geometry}
 use Rattle.ckd_command.specs.declared.registers.Registers.{Registers}
 use Rattle.ckd_drive.specs.declared.transfer.Progress.{Progress}
 use Rattle.ckd_drive.specs.declared.answers.Stage.{Stage}
 use Rattle.ckd_drive.specs.declared.answers.Stage.TheVariants.{Looking, Passing, Failed}
 use Rattle.ckd_drive.specs.Work.{fault_met, with_image, after_look, DriveState, after_sight, look_loads, look_saves}
-use Rattle.ckd_command.specs.Drive.{is_written_by, AfterLook, Ready, LoadFails, look as look_by}
-use Rattle.ckd_drive.proofs.Faults.{fault_none, fault_loading, lost_registers, save_lost}
+use Rattle.ckd_command.specs.Drive.{is_written_by, AfterLook, Ready, LoadFails, look as look_by, Fault}
+use Rattle.ckd_drive.proofs.Calls.{fault_none, fault_loading, lost_registers, save_lost, changed_is, no_more, calls_none, calls_of_failed_save, calls_of_failed_hold, calls_behind_load, comes_saved}
 use Rattle.ckd_drive.specs.Calls.{Comes, Looks, Leaves, Loses}
-use Rattle.ckd_drive.proofs.Standing.{no_filled_seen, volume_not_held, geometry_saved, failures_saved, lost_stands, saved_stands}
+use Rattle.ckd_drive.proofs.Standing.{no_filled_seen, volume_not_held, geometry_saved, lost_stands}
 use Rattle.std.proofs.lemmas.Bool.Decides.{nat_tests}
 use Rattle.std.proofs.Math.Bool.{and-false, and-true}
 use Rattle.ckd_image.specs.Image.{ImageState}
 use Rattle.ckd_position.specs.declared.areas.Kind.{Kind}
 use Rattle.ckd_sense.specs.declared.sense_bytes.TheConstants.Sense.{STORE_FAULT}
 use Rattle.ckd_command.specs.declared.registers.Mark.{Mark}
-use Rattle.ckd_command.specs.declared.registers.Mark.TheVariants.{Saved, Lost}
-use Rattle.ckd_drive.proofs.Calls.{changed_is, no_more, loads_saved, calls_none, calls_of_save, calls_of_failed_save, calls_of_failed_hold, calls_behind_load}
-use Rattle.ckd_drive.proofs.Sights.{sight_keeps}
+use Rattle.ckd_command.specs.declared.registers.Mark.TheVariants.{Lost}
+use Rattle.ckd_track.specs.Model.{heads_of}
+use Rattle.ckd_position.specs.declared.areas.Area.{Area}
+use Rattle.ckd_position.specs.declared.areas.Area.TheVariants.{Of}
+use Rattle.ckd_position.specs.declared.areas.Next.{Next as NextArea}
+use Rattle.ckd_position.specs.declared.areas.Next.TheVariants as next
+use Rattle.ckd_position.specs.Areas.{IsOnTrack, IfFound}
+use Rattle.ckd_position.specs.declared.extents.Extent.{Extent}
+use Rattle.ckd_position.specs.declared.extents.Extent.TheVariants as extent
+use Rattle.ckd_command.proofs.Sights.{passing, sight_by}
+use Rattle.ckd_slot.specs.Buffer.{HasBytes}
+
+on_track : (e : Extent) (t : Sighted) (a : Area) → IsOnTrack (track_or_none t) a → HasBytes e t a
+on_track extent.Count t (Of part i) on = on
+on_track extent.CountKeyAndData t (Of part i) on = on
+on_track _ t _ on = tt
+
+pub seen_there : (g : Geometry) (t : Sighted) (o : Opened) (r : Registers) (x : NextArea) → IfFound x (IsOnTrack (track_or_none t)) → AreaIsThere t o (sight_of g o r x)
+seen_there g t o r (next.Found a) on = (refl, on_track _ t a on)
+seen_there g t o r next.IndexPassed on = passing (AreaIsThere t o) g o r tt (λ e. tt) (λ c h. tt)
+
+next_in : (g : Geometry) (r : Registers) (n : ℕ) → IsAtTrack g r → n ≡ heads_of g.model → (r.head + 1 == n) ≡ false → IsAtTrack g (moved_to r r.cylinder (r.head + 1))
+next_in g r n at is e = record { cylinder = at.cylinder; head = grind (arith, nat_tests, at.head) }
+
+-- where the arm is after a look
+pub sight_keeps : (g : Geometry) (t : Sighted) (o : Opened) (r : Registers) → IsAtTrack g r → SightKeeps g r (sight g t o r)
+sight_keeps g t o r at =
+    sight_by (SightKeeps g r) g t o r tt (λ a. tt) (record { cylinder = refl; head = refl; credit = refl }) (record { cylinder = refl; head = refl; credit = refl })
+    (λ e. (next_in g r (heads_of g.model) at refl e, refl)) (λ c h. record { cylinder = refl; head = refl; credit = refl })
+
+-- a track on which an area was found reads whole, where the command asks it
+whole_by : (act : Action) (t : Sighted) → (needs_readable act ≡ true → is_readable t ≡ true) → ReadsWhole act t
+whole_by action.WriteHomeAddress t h = tt
+whole_by _ t h = h refl
+
+pub found_whole : (g : Geometry) (t : Sighted) (o o' : Opened) (r : Registers) (k : Kind) → aim o.command ≡ Next k → Found o' ≡ sight g t o r → ReadsWhole (action_of o.command) t
+unfolding sight
+found_whole g t o o' r k is e = whole_by (action_of o.command) t (λ needs. true_from_ne_false (is_readable t) (λ unread. (let missed = rw (is, needs, unread) at e in cc)))
+
+-- What a command wants at hand.
 
 -- whether a command of this action works on an area
 abbrev needs_area : Action → Bool
@@ -138,28 +175,31 @@ stays_arm g r q k at = record { cylinder = rw k.cylinder at.cylinder; head = rw 
 pub stays_held : (c : CacheState) (r q : Registers) → StaysAt r q → c.held ≡ Some (track_under c.image.geometry r) → (c.changed ≡ true → c.held ≡ Some (track_under c.image.geometry q))
 stays_held c r q k held = λ _. held ∙ (rw (k.cylinder, k.head) refl)
 
+-- The store is not called.
+comes_quiet : (loads saves : Bool) (d now : Parts) (after : Option Fault → DriveState) → Stands now → now.job.cache.image ≡ d.job.cache.image → saves ≡ false
+    → state_of now ≡ with_image (after None) now.job.cache.image → Comes loads saves (state_of d) after now
+comes_quiet loads saves d now after x image s state =
+    let none : fault_met (state_of d) (state_of now) ≡ None = fault_none (state_of d) (state_of now) (ap (λ (i : ImageState). i.failures) image) in
+    record { stands = x; state = rw none state; calls = calls_none loads saves (state_of d) (state_of now) image s; at_hand = λ e. absurd (no_more d.job.cache.image.loads (sym (ap (λ (i : ImageState). i.loads) image) ∙ e)) }
+
 -- It finds its area.
 pub found_looks : (old : HalfDone) (was : Mark) (o : Opened) (p : Progress) (s : Stage)
     → Stands (parts_of old was Looking) → IsFirstPlace (own_slot old) o old.registers p.place → HandIfAimed old.cache (own_track old) o
     → sight old.cache.image.geometry (track_of (own_slot old)) o old.registers ≡ Found o → sight old.cache.image.geometry (track_of (own_slot old)) old.opened old.registers ≡ Found o
     → p ≡ first_progress (action_of o.command) p.place → s ≡ Passing → Looks (parts_of old was Looking) (parts_of (record old { opened = o; progress = p }) was s)
 found_looks old was o p s x f h again first p_is s_is =
-    let d = parts_of old was Looking in
     let c = old.cache in
     let place = p.place in
     let empty : is_filled_by place ≡ false = first_not_filled (own_slot old) o old.registers place f in
     let after : HalfDone = record old { opened = o; progress = first_progress (action_of o.command) place; passed = [] } in
     let placed = first_placed (at_work after) place f h again in
-    let none : fault_met (state_of d) (state_of (parts_of after was Passing)) ≡ None = fault_none (state_of d) (state_of (parts_of after was Passing)) refl in
     let len = first_len (at_work after) place f placed in
     let left_is : remaining (action_of o.command) place 0 ≡ length_after c.image.geometry (track_of (own_slot old)) o old.registers [] = omega (arith, len) in
     let marked : c.changed ≡ (is_written_by was || false) = x.marked in
-    rw (p_is, s_is) (record {
-      stands = record { volume = x.volume; arm = x.arm; anchored = x.anchored; marked = rw empty marked; work = record { moved = refl; left = omega arith; placed = placed; no_credit = x.work.no_credit } };
-      state = rw (none, no_filled_seen c.slots (own_track old) old.before place empty, first, left_is) refl;
-      calls = calls_none _ _ _ _ refl (rw first (and-false (is_written_by was)));
-      at_hand = λ e. absurd (no_more c.image.loads e);
-    })
+    rw (p_is, s_is)
+    (comes_quiet _ _ (parts_of old was Looking) (parts_of after was Passing) _
+    (record { volume = x.volume; arm = x.arm; anchored = x.anchored; marked = rw empty marked; work = record { moved = refl; left = omega arith; placed = placed; no_credit = x.work.no_credit } })
+    refl (rw first (and-false (is_written_by was))) (rw (no_filled_seen c.slots (own_track old) old.before place empty, first, left_is) refl))
 
 -- The index passes.
 pub passed_looks : (old : HalfDone) (was : Mark) (q : Registers) (k : Kind)
@@ -167,19 +207,18 @@ pub passed_looks : (old : HalfDone) (was : Mark) (q : Registers) (k : Kind)
     → sight old.cache.image.geometry (track_of (own_slot old)) old.opened old.registers ≡ IndexPassed q
     → Looks (parts_of old was Looking) (parts_of (record old { registers = q }) was Looking)
 passed_looks old was q k x aimed held sighted =
-    let d = parts_of old was Looking in
     let c = old.cache in
     let r = old.registers in
-    let g = c.image.geometry in
-    let keeps = rw sighted at (sight_keeps g (track_of (own_slot old)) old.opened r x.arm) in
-    let drive = state_of (parts_of (record old { registers = q; passed = [] }) was Looking) in
-    let none : fault_met (state_of d) drive ≡ None = fault_none (state_of d) drive refl in
-    record {
-      stands = record { volume = x.volume; arm = stays_arm g r q keeps x.arm; anchored = stays_held c r q keeps held; marked = x.marked; work = record { transfers = x.work.transfers; credit = rw aimed tt; no_credit = keeps.credit ∙ x.work.no_credit } };
-      state = rw (none, sighted) refl;
-      calls = calls_none _ _ _ _ refl (rw sighted (and-false (is_written_by was)));
-      at_hand = λ e. absurd (no_more c.image.loads e);
-    }
+    let keeps = rw sighted at (sight_keeps c.image.geometry (track_of (own_slot old)) old.opened r x.arm) in
+    comes_quiet _ _ (parts_of old was Looking) (parts_of (record old { registers = q; passed = [] }) was Looking) _
+    (record {
+      volume = x.volume;
+      arm = stays_arm c.image.geometry r q keeps x.arm;
+      anchored = stays_held c r q keeps held;
+      marked = x.marked;
+      work = record { transfers = x.work.transfers; credit = rw aimed tt; no_credit = keeps.credit ∙ x.work.no_credit };
+    })
+    refl (rw sighted (and-false (is_written_by was))) (rw sighted refl)
 
 -- It finds none.
 pub missed_looks : (old : HalfDone) (was : Mark) (q : Registers)
@@ -187,20 +226,13 @@ pub missed_looks : (old : HalfDone) (was : Mark) (q : Registers)
     → sight old.cache.image.geometry (track_of (own_slot old)) old.opened old.registers ≡ Missed q
     → Looks (parts_of old was Looking) (parts_of (record old { registers = q }) was Failed)
 missed_looks old was q x held sighted =
-    let d = parts_of old was Looking in
     let c = old.cache in
     let r = old.registers in
-    let g = c.image.geometry in
-    let keeps = rw sighted at (sight_keeps g (track_of (own_slot old)) old.opened r x.arm) in
+    let keeps = rw sighted at (sight_keeps c.image.geometry (track_of (own_slot old)) old.opened r x.arm) in
     let credit : q.credit ≡ None = keeps.credit ∙ x.work.no_credit in
-    let drive = state_of (parts_of (record old { registers = q; passed = [] }) was Failed) in
-    let none : fault_met (state_of d) drive ≡ None = fault_none (state_of d) drive refl in
-    record {
-      stands = record { volume = x.volume; arm = stays_arm g r q keeps x.arm; anchored = stays_held c r q keeps held; marked = x.marked; work = rw credit tt };
-      state = rw (none, sighted) refl;
-      calls = calls_none _ _ _ _ refl (rw sighted (and-false (is_written_by was)));
-      at_hand = λ e. absurd (no_more c.image.loads e);
-    }
+    comes_quiet _ _ (parts_of old was Looking) (parts_of (record old { registers = q; passed = [] }) was Failed) _
+    (record { volume = x.volume; arm = stays_arm c.image.geometry r q keeps x.arm; anchored = stays_held c r q keeps held; marked = x.marked; work = rw credit tt })
+    refl (rw sighted (and-false (is_written_by was))) (rw sighted refl)
 
 -- It goes on at the next head.
 pub next_looks : (old new : HalfDone) (was now : Mark) (q : Registers) (k : Kind)
@@ -208,18 +240,11 @@ pub next_looks : (old new : HalfDone) (was now : Mark) (q : Registers) (k : Kind
     → sight old.cache.image.geometry (track_of (own_slot old)) old.opened old.registers ≡ NextHead q
     → Leaves old new now q → Looks (parts_of old was Looking) (parts_of new now Looking)
 next_looks old new was now q k x aimed sighted l =
-    let d = parts_of old was Looking in
     let c = old.cache in
     let keeps = rw sighted at (sight_keeps c.image.geometry (track_of (own_slot old)) old.opened old.registers x.arm) in
-    let after : HalfDone = record old { cache = after_save c; registers = q; passed = [] } in
-    let drive = state_of (parts_of after Saved Looking) in
-    let none : fault_met (state_of d) drive ≡ None = fault_none (state_of d) drive (failures_saved c) in
-    rw (l.0, l.1) (record {
-      stands = saved_stands d after Looking x refl refl keeps.0 (record { transfers = x.work.transfers; credit = rw aimed tt; no_credit = keeps.1 ∙ x.work.no_credit });
-      state = rw (none, sighted, geometry_saved c) refl;
-      calls = calls_of_save _ _ c (state_of d) drive refl refl (changed_is d x refl ∙ rw sighted (sym (and-true (is_written_by was))));
-      at_hand = λ e. absurd (no_more c.image.loads (sym (loads_saved c) ∙ e));
-    })
+    rw (l.0, l.1)
+    (comes_saved _ _ (parts_of old was Looking) (record old { cache = after_save c; registers = q; passed = [] }) Looking _ x refl (rw sighted (and-true (is_written_by was))) refl refl keeps.0
+    (record { transfers = x.work.transfers; credit = rw aimed tt; no_credit = keeps.1 ∙ x.work.no_credit }) (rw (sighted, geometry_saved c) refl))
 
 -- The track can't be saved that it goes on from.
 pub lost_looks : (old new : HalfDone) (was now : Mark) (q : Registers)

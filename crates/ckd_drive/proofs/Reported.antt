@@ -16,8 +16,7 @@ use Rattle.ckd_command.proofs.CommandFacts.{NotTold, BeginsSilent, SightSilent, 
 use Rattle.ckd_drive.specs.declared.answers.Begun.{Begun}
 use Rattle.ckd_drive.specs.declared.answers.Begun.TheVariants as answer
 use Rattle.ckd_drive.specs.Work.{Work, Over, Looking, Passing, DriveState, CallsStore, Reports, fault_met, with_image, open_at, after_begin, after_begun, answer_of_begin, begin_saves, goes_to_cylinder_zero, after_look, after_look_of, after_sight, look_loads, look_loads_of, look_saves, look_saves_of, goes_to_next_head, failed_ending, after_end, closed_of, ending_of, end_saves, end_saves_of, after_settle, settled_state, is_next}
-use Rattle.ckd_drive.proofs.Faults.{fault_none, fault_loading, fault_saving, mark_written}
-use Rattle.ckd_drive.proofs.Calls.{no_more}
+use Rattle.ckd_drive.proofs.Calls.{fault_none, fault_loading, fault_saving, mark_written, no_more}
 
 -- What is reported.
 

@@ -1,12 +1,12 @@
 -- A drive that stands, and after its parts have changed.
-use Rattle.std.proofs.Common.{◌≡◌, ℕ, ◌+◌, ◌*◌, ◌<◌, ◌≤◌, length, refl, arith, add-one, ◌∙◌, List, Bool, true, false, None, unwrap_or, length-set, Some}
+use Rattle.std.proofs.Common.{◌≡◌, ℕ, ◌+◌, ◌*◌, ◌<◌, ◌≤◌, length, refl, arith, add-one, ◌∙◌, List, Bool, true, false, None, unwrap_or, length-set, Some, ap}
 use Rattle.std.proofs.Math.Nat.{mul-le-mul_right, suc-mul}
 use Rattle.ckd_track.specs.Model.{heads_of}
 use Rattle.ckd_track.specs.declared.geometries.Geometry.{Geometry}
 use Rattle.ckd_track.specs.Geometry.{tracks_of}
 use Rattle.ckd_command.specs.declared.registers.Registers.{Registers}
 use Rattle.ckd_command.specs.Commands.{IsAtTrack}
-use Rattle.ckd_drive.specs.Invariant.{Stands, track_under, HalfDone, Parts, own_track, StageIs, CreditIs, is_filled, work_of, parts_of, Goes, seen_by, slot_at, is_filled_by, AtWork, number_in}
+use Rattle.ckd_drive.specs.Invariant.{Stands, track_under, HalfDone, Parts, own_track, StageIs, CreditIs, is_filled, work_of, parts_of, Goes, seen_by, slot_at, is_filled_by, AtWork, number_in, state_of}
 use Rattle.std.proofs.lemmas.List.Elements.{All-set}
 use Rattle.ckd_track.specs.declared.model.DriveModel.{DriveModel}
 use Rattle.ckd_track.specs.declared.model.DriveModel.TheVariants.{D2311, D2314}
@@ -15,11 +15,13 @@ use Rattle.ckd_drive.specs.declared.answers.Stage.{Stage}
 use Rattle.ckd_drive.specs.declared.answers.Stage.TheVariants.{Idle, Passing}
 use Rattle.ckd_command.specs.Answers.{moved_to}
 use Rattle.ckd_cache.specs.Cache.{CacheState, IsVolume, saved, after_save, after_failed_save, after_failed_hold, slot_held}
-use Rattle.ckd_drive.specs.Work.{is_idle}
+use Rattle.ckd_drive.specs.Work.{is_idle, DriveState, passes_now}
 use Rattle.ckd_track.specs.Track.{track_of}
 use Rattle.ckd_drive.specs.declared.transfer.Transfer.{Transfer}
 use Rattle.ckd_drive.specs.declared.transfer.Transfer.TheVariants.{Filled}
 use Rattle.ckd_position.specs.Contents.{Sighted}
+use Rattle.ckd_drive.specs.declared.drive.Drive.TheInside.{Inside}
+use Rattle.ckd_drive.specs.Jobs.{parts_held}
 
 pub number_below : (g : Geometry) (r : Registers) → IsAtTrack g r → track_under g r < tracks_of g
 number_below g r at = below g.cylinders (heads_of g.model) r.cylinder r.head at.cylinder at.head
@@ -100,3 +102,16 @@ goes_of d x is = rw is at x.work
 
 pub slot_is : (c : CacheState) (n : ℕ) (slot : List ℕ) → c.held ≡ Some n → slot ≡ slot_held c → slot ≡ slot_at c.slots n
 slot_is c n slot held e = rw held at e
+
+-- What stands in a drive's own fields.
+
+abbrev pub parts_in : {S : Type 0} → Inside S → Parts
+parts_in i = parts_held i.job i.mark i.stage
+
+passing_stage : (s : Stage) (h : HalfDone) → passes_now (work_of s h) ≡ true → s ≡ Passing
+passing_stage Passing h e = refl
+passing_stage _ h e = absurd cc
+
+-- the stage of a drive whose bytes pass
+pub passing_in : (d : Parts) (now : DriveState) → state_of d ≡ now → passes_now now.work ≡ true → d.stage ≡ Passing
+passing_in d now is e = passing_stage d.stage d.job (ap (λ (y : DriveState). passes_now y.work) is ∙ e)

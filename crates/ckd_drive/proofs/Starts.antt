@@ -19,7 +19,7 @@ use Rattle.ckd_command.specs.Commands.{beginning, begin_decoded, begin_allowed, 
 use Rattle.ckd_cache.specs.Cache.{CacheState, after_save, after_failed_save}
 use Rattle.ckd_drive.specs.Invariant.{CreditIs, CreditAtHand, BeginsWell, Stands, state_of, work_of, HalfDone, Parts, parts_of, own_track, IsCleared}
 use Rattle.ckd_command.specs.declared.registers.Mark.{Mark}
-use Rattle.ckd_command.specs.declared.registers.Mark.TheVariants.{Saved, Lost}
+use Rattle.ckd_command.specs.declared.registers.Mark.TheVariants.{Lost}
 use Rattle.ckd_drive.specs.declared.answers.Stage.{Stage}
 use Rattle.ckd_drive.specs.declared.answers.Stage.TheVariants as stage
 use Rattle.ckd_command.specs.Answers.{moved_to, Beginning, ToCylinderZero}
@@ -27,9 +27,8 @@ use Rattle.ckd_drive.specs.Work.{DriveState, is_idle, fault_met, after_begun, af
 use Rattle.std.proofs.Math.Bool.{and-true}
 use Rattle.ckd_command.specs.Drive.{AfterBegin, Rejected, Immediate, Started, begin, is_written_by}
 use Rattle.ckd_drive.specs.Calls.{Comes, Begins, Leaves, Loses, begun_at}
-use Rattle.ckd_drive.proofs.Calls.{changed_is, no_more, loads_saved, calls_of_save, calls_of_failed_save}
-use Rattle.ckd_drive.proofs.Faults.{fault_none, lost_registers, to_zero, save_lost}
-use Rattle.ckd_drive.proofs.Standing.{at_zero, failures_saved, geometry_saved, idle_stage, no_credit, lost_stands, saved_stands}
+use Rattle.ckd_drive.proofs.Calls.{changed_is, no_more, calls_of_failed_save, lost_registers, to_zero, save_lost, comes_saved}
+use Rattle.ckd_drive.proofs.Standing.{at_zero, geometry_saved, idle_stage, no_credit, lost_stands}
 
 none_credited : (c : Command) → credited c None ≡ None
 none_credited command.WriteR0 = refl
@@ -98,36 +97,23 @@ pub zero_begins : (old new : HalfDone) (was now : Mark) (q : Registers) (o : Ope
     → Stands (parts_of old was stage.Idle) → BeginsWell old.cache (own_track old) old.registers b → b ≡ ToCylinderZero q (Some o) → Leaves old new now (moved_to q 0 0)
     → Begins (parts_of old was stage.Idle) (parts_of (record new { opened = o }) now stage.Looking) b
 zero_begins old new was now q o b x well is l =
-    let d = parts_of old was stage.Idle in
     let c = old.cache in
     let w = rw is at well in
-    let after : HalfDone = record old { cache = after_save c; registers = moved_to q 0 0; opened = o } in
-    let drive = state_of (parts_of after Saved stage.Looking) in
-    let none : fault_met (state_of d) drive ≡ None = fault_none (state_of d) drive (failures_saved c) in
-    rw (is, l.0, l.1) (record {
-      stands = saved_stands d after stage.Looking x refl refl (at_zero c q x.volume) (record { transfers = w.1; credit = rw w.2 tt; no_credit = w.0.credit });
-      state = rw (none, geometry_saved c) refl;
-      calls = calls_of_save _ _ c (state_of d) drive refl refl (changed_is d x refl ∙ sym (and-true (is_written_by was)));
-      at_hand = λ e. absurd (no_more c.image.loads (sym (loads_saved c) ∙ e));
-    })
+    rw (is, l.0, l.1)
+    (comes_saved _ _ (parts_of old was stage.Idle) (record old { cache = after_save c; registers = moved_to q 0 0; opened = o }) stage.Looking _ x refl (and-true (is_written_by was)) refl refl (at_zero c q x.volume)
+    (record { transfers = w.1; credit = rw w.2 tt; no_credit = w.0.credit }) (rw (geometry_saved c) refl))
 
 -- The arm goes there, and the command is over.
 pub zero_ends : (old new : HalfDone) (was now : Mark) (q : Registers) (b : Beginning)
     → Stands (parts_of old was stage.Idle) → BeginsWell old.cache (own_track old) old.registers b → b ≡ ToCylinderZero q None → Leaves old new now (moved_to q 0 0)
     → Begins (parts_of old was stage.Idle) (parts_of new now stage.InMotion) b
 zero_ends old new was now q b x well is l =
-    let d = parts_of old was stage.Idle in
     let c = old.cache in
-    let w = rw is at well in
-    let after : HalfDone = record old { cache = after_save c; registers = moved_to q 0 0 } in
-    let drive = state_of (parts_of after Saved stage.InMotion) in
-    let none : fault_met (state_of d) drive ≡ None = fault_none (state_of d) drive (failures_saved c) in
-    rw (is, l.0, l.1) (record {
-      stands = saved_stands d after stage.InMotion x refl refl (at_zero c q x.volume) (no_credit (after_save c) (moved_to q 0 0) (own_track after) w.credit);
-      state = rw (none, geometry_saved c) refl;
-      calls = calls_of_save _ _ c (state_of d) drive refl refl (changed_is d x refl ∙ sym (and-true (is_written_by was)));
-      at_hand = λ e. absurd (no_more c.image.loads (sym (loads_saved c) ∙ e));
-    })
+    let r = moved_to q 0 0 in
+    let after : HalfDone = record old { cache = after_save c; registers = r } in
+    rw (is, l.0, l.1)
+    (comes_saved _ _ (parts_of old was stage.Idle) after stage.InMotion _ x refl (and-true (is_written_by was)) refl refl (at_zero c q x.volume)
+    (no_credit (after_save c) r (own_track after) (rw is at well).credit) (rw (geometry_saved c) refl))
 
 -- The drive that was called.
 

@@ -1,6 +1,6 @@
 //! A drive begins a command, and its arm leaves a track for another.
 
-ghost use Rattle.std.specs.Prelude.{◌≡◌, None, OnOk, OnErr};
+ghost use Rattle.std.specs.Prelude.{◌≡◌, ℕ, None, OnOk, OnErr};
 ghost use Rattle.ckd_command.specs.Commands.{with_cause};
 ghost use Rattle.ckd_drive.specs.declared.answers.Stage.TheVariants as stage;
 ghost use Rattle.ckd_drive.specs.Invariant.{Stands};
@@ -58,12 +58,12 @@ impl<S: ImageStore> Job<S> {
         Ok(())
     }
 
-    // An idle drive starts the command that this code leads to.
+    // An idle drive starts the command that this code leads to, which is that of any code asked for that equals it.
     #[inline(always)]
     fn start_here(&mut self, mark: &mut Mark, code: u8) -> Stage
         requires idle { Stands (parts_held self.old mark.old stage.Idle) }
         requires well { BeginsBy code self.old }
-        ensures { Starts code self.old mark.old self.new mark.new result }
+        ensures { (asked : ℕ) → asked ≡ code → Starts asked self.old mark.old self.new mark.new result }
     {
         match begin_command(code, &mut self.registers) {
             Start::Rejected => Stage::Idle,

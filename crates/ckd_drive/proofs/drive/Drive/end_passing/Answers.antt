@@ -6,7 +6,7 @@ use Rattle.ckd_drive.specs.Calls.{Leaves, Loses}
 use Rattle.ckd_drive.specs.Invariant.{parts_of}
 use Rattle.ckd_drive.specs.Jobs.{half_done}
 use Rattle.ckd_drive.proofs.Ends.{Closes, Ended, stays_ends, leaves_ends, lost_ends}
-use Rattle.ckd_drive.proofs.Inside.{parts_in, passing_in}
+use Rattle.ckd_drive.proofs.Standing.{parts_in, passing_in}
 use Rattle.ckd_drive.proofs.drive.Drive.end_passing.Given.{Over}
 use Rattle.ckd_drive.proofs.drive.Drive.end_passing.Goals as goal
 use Rattle.ckd_drive.proofs.drive.Drive.end_passing.Goals.{in-Ok, in-Err}

@@ -1,6 +1,6 @@
 use Rattle.std.proofs.Common.{length}
 use Rattle.ckd_drive.proofs.Moving.{has_passed}
-use Rattle.ckd_drive.proofs.Inside.{parts_in}
+use Rattle.ckd_drive.proofs.Standing.{parts_in}
 use Rattle.ckd_drive.proofs.drive.Drive.give.Goals as goal
 
 pub invariant_of-self : goal.invariant_of-self

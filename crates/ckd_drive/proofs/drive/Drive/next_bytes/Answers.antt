@@ -1,6 +1,6 @@
 use Rattle.std.proofs.Common.{◌∙◌}
 use Rattle.ckd_drive.proofs.Moving.{sense_lends, read_lends}
-use Rattle.ckd_drive.proofs.Inside.{parts_in}
+use Rattle.ckd_drive.proofs.Standing.{parts_in}
 use Rattle.ckd_drive.proofs.drive.Drive.next_bytes.Goals as goal
 
 pub returns-in-Sense : goal.returns-in-Sense

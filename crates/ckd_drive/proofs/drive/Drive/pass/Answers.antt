@@ -1,5 +1,5 @@
 use Rattle.ckd_drive.proofs.Moving.{has_passed}
-use Rattle.ckd_drive.proofs.Inside.{parts_in}
+use Rattle.ckd_drive.proofs.Standing.{parts_in}
 use Rattle.ckd_drive.proofs.drive.Drive.pass.Goals as goal
 
 pub invariant_of-self : goal.invariant_of-self

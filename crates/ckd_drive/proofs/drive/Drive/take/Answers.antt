@@ -1,6 +1,6 @@
 use Rattle.ckd_drive.specs.Invariant.{Absorbs}
 use Rattle.ckd_drive.specs.Jobs.{half_done}
-use Rattle.ckd_drive.proofs.Inside.{parts_in}
+use Rattle.ckd_drive.proofs.Standing.{parts_in}
 use Rattle.ckd_drive.proofs.drive.Drive.take.Goals as goal
 use Rattle.ckd_drive.proofs.Moving.{taken_stands, taken_state}
 

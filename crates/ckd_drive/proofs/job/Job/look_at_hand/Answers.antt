@@ -1,4 +1,4 @@
-use Rattle.std.proofs.Common.{◌≡◌, ◌∙◌, ◌+◌, ap, sym, refl, Some}
+use Rattle.std.proofs.Common.{◌≡◌, ◌∙◌, ◌+◌, ap, sym, refl, Some, rules}
 use Rattle.ckd_track.specs.Track.{track_of}
 use Rattle.ckd_command.specs.declared.begin.Opened.{Opened}
 use Rattle.ckd_command.specs.Answers.{Found, IndexPassed, NextHead, Missed, moved_to}
@@ -9,13 +9,12 @@ use Rattle.ckd_drive.specs.Calls.{Leaves, Loses}
 use Rattle.ckd_drive.specs.Jobs.{half_done}
 use Rattle.ckd_drive.proofs.Calls.{loads_saved}
 use Rattle.ckd_command.proofs.Sights.{look_again}
-use Rattle.ckd_drive.proofs.Sights.{found_whole}
+use Rattle.ckd_drive.proofs.Looks.{found_whole, found_looks, passed_looks, missed_looks, next_looks, lost_looks}
 use Rattle.ckd_drive.proofs.Standing.{slot_is}
-use Rattle.ckd_drive.proofs.Looks.{found_looks, passed_looks, missed_looks, next_looks, lost_looks}
 use Rattle.ckd_drive.proofs.job.Job.look_at_hand.Goals as goal
 
-pub place_on-requires-clause-readable : goal.place_on-requires-clause-readable
-place_on-requires-clause-readable g c =
+pub place_on-requires : goal.place_on-requires
+place_on-requires g c =
     let old = half_done c.args.self.now in
     let t = track_of (own_slot old) in
     let o : Opened = record old.opened { area = Some c.in-Found.area } in
@@ -23,14 +22,8 @@ place_on-requires-clause-readable g c =
     let again = look_again old.cache.image.geometry t old.opened o old.registers first in
     let whole : ReadsWhole (action_of o.command) t = rw again.0 (found_whole old.cache.image.geometry t old.opened o old.registers c.args.kind c.requires.aim first) in
     let slot : c.buffer.result.now ≡ own_slot old = c.buffer.ensures.slot ∙ rw c.look_at.ensures.stays (slot_is old.cache (own_track old) _ c.requires.held refl) in
-    rw (slot, c.look_at.ensures.stays) whole
-
-pub place_on-requires-clause-there : goal.place_on-requires-clause-there
-place_on-requires-clause-there g c =
-    let old = half_done c.args.self.now in
     let there = rw c.in-Found.is at c.look_at.ensures.there in
-    let slot : c.buffer.result.now ≡ own_slot old = c.buffer.ensures.slot ∙ rw c.look_at.ensures.stays (slot_is old.cache (own_track old) _ c.requires.held refl) in
-    rw (slot, c.look_at.ensures.stays) there.1
+    record { command = search rules; aim = search rules; readable = rw (slot, c.look_at.ensures.stays) whole; there = rw (slot, c.look_at.ensures.stays) there.1 }
 
 pub returns-in-Found : goal.returns-in-Found
 returns-in-Found g c =
