@@ -103,9 +103,9 @@ marked_by false true false k = absurd (let e = k refl in cc)
 marked_by _ _ _ k = refl
 
 -- whatever the cache, the slot before and the place came to
-pub taken_stands : (d : Parts) (more : List ℕ) (c : CacheState) (before : List ℕ) (place : Transfer) → Stands d → d.stage ≡ Passing → Absorbs d.job more c before place
+pub taken_stands : {d : Parts} {more : List ℕ} {c : CacheState} {before : List ℕ} {place : Transfer} → Stands d → d.stage ≡ Passing → Absorbs d.job more c before place
     → Stands (parts_of (with_taken d.job more c before place) d.mark Passing)
-taken_stands d more c before place x is a =
+taken_stands {d} {more} {c} {before} {place} x is a =
     let marked : d.job.cache.changed ≡ (is_written_by d.mark || is_filled_by d.job.progress.place) = rw is at x.marked in
     let w = a.works in
     record {
@@ -117,9 +117,9 @@ taken_stands d more c before place x is a =
     }
 
 -- and is the drive that the definitions have
-pub taken_state : (d : Parts) (more : List ℕ) (c : CacheState) (before : List ℕ) (place : Transfer) (now : DriveState) → d.stage ≡ Passing → state_of d ≡ now → Absorbs d.job more c before place
+pub taken_state : {d : Parts} {more : List ℕ} {c : CacheState} {before : List ℕ} {place : Transfer} (now : DriveState) → d.stage ≡ Passing → state_of d ≡ now → Absorbs d.job more c before place
     → state_of (parts_of (with_taken d.job more c before place) d.mark Passing) ≡ record now { work = moved_on more now.work }
-taken_state d more c before place now is now_is a = rw (← now_is, is, a.image, a.seen_same) refl
+taken_state now is now_is a = rw (← now_is, is, a.image, a.seen_same) refl
 
 -- Bytes that are given.
 
@@ -254,6 +254,6 @@ has_passed d bytes now k x is now_is gives le long are =
     let range : more ≡ slice_range (given_now now now.work) (length (passed_of now.work)) (length (passed_of now.work) + k) = rw (are, behind_less (length (passed_of now.work)) (left_of now.work), behind_less (length (passed_of now.work)) k) (take-take k (left_of now.work) (drop (length (passed_of now.work)) (given_now now now.work)) le) in
     record {
       long = n;
-      stands = taken_stands d more d.job.cache d.job.before (given_on d.job.progress.place k) x is a;
-      state = taken_state d more d.job.cache d.job.before (given_on d.job.progress.place k) now is now_is a ∙ ap (λ (b : List ℕ). record now { work = moved_on b now.work }) range;
+      stands = taken_stands x is a;
+      state = taken_state {d = d} now is now_is a ∙ ap (λ (b : List ℕ). record now { work = moved_on b now.work }) range;
     }

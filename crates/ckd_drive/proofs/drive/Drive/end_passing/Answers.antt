@@ -16,8 +16,8 @@ stayed : (g : Over) (c : goal.After-self-in-Stays-1 g) → Ended c.args.self.now
 stayed g c =
     let d = parts_in c.self.inside in
     let k = c.close-closed in
-    let e : Closes d c.args.self.now (closed_as (Stays c.in-Stays.unit) k.new.self.registers) = record { stands = c.self.invariant; passes = passing_in d c.args.self.now c.self.view_is c.requires.passing; is = c.self.view_is; out = c.in-Stays.ensures.closes } in
-    rw (c.mark_left-self-inside.ensures, k.ensures.stays) (stays_ends e refl)
+    let e : Closes d (closed_as (Stays c.in-Stays.unit) k.new.self.registers) = record { stands = c.self.invariant; passes = passing_in d c.args.self.now c.self.view_is c.requires.passing; out = c.in-Stays.ensures.closes } in
+    rw (c.mark_left-self-inside.ensures, k.ensures.stays, ← c.self.view_is) (stays_ends e refl)
 
 pub invariant_of-self : goal.invariant_of-self
 invariant_of-self g c = (stayed g c).stands
@@ -32,12 +32,12 @@ moved g c =
     let k = c.close-closed in
     let new = half_done c.leave.new.self in
     let u = closed_as (Moves c.in-Moves.cylinder c.in-Moves.head c.in-Moves.ending) k.new.self.registers in
-    let e : Closes d c.args.self.now u = record { stands = c.self.invariant; passes = passing_in d c.args.self.now c.self.view_is c.requires.passing; is = c.self.view_is; out = c.in-Moves.ensures.closes } in
+    let e : Closes d u = record { stands = c.self.invariant; passes = passing_in d c.args.self.now c.self.view_is c.requires.passing; out = c.in-Moves.ensures.closes } in
     elim c.match-leave.branch [
-      | in-Ok w ↦ (let l : Leaves d.job new c.leave.new.mark u.registers = rw k.ensures.stays at w.in-Ok.ensures.leaves in rw w.result-is (leaves_ends new c.leave.new.mark e refl l))
+      | in-Ok w ↦ (let l : Leaves d.job new c.leave.new.mark u.registers = rw k.ensures.stays at w.in-Ok.ensures.leaves in rw (w.result-is, ← c.self.view_is) (leaves_ends new c.leave.new.mark e refl l))
       | in-Err w ↦
         (let l : Loses d.job new c.leave.new.mark = rw (k.ensures.stays, c.in-Moves.ensures.registers) at w.in-Err.ensures.loses in
-        rw w.result-is (lost_ends new c.leave.new.mark e refl l))
+        rw (w.result-is, ← c.self.view_is) (lost_ends new c.leave.new.mark e refl l))
     ]
 
 pub invariant_of-self-in-Moves : goal.invariant_of-self-in-Moves
