@@ -180,7 +180,12 @@ comes_quiet : (loads saves : Bool) (d now : Parts) (after : Option Fault → Dri
     → state_of now ≡ with_image (after None) now.job.cache.image → Comes loads saves (state_of d) after now
 comes_quiet loads saves d now after x image s state =
     let none : fault_met (state_of d) (state_of now) ≡ None = fault_none (state_of d) (state_of now) (ap (λ (i : ImageState). i.failures) image) in
-    record { stands = x; state = rw none state; calls = calls_none loads saves (state_of d) (state_of now) image s; at_hand = λ e. absurd (no_more d.job.cache.image.loads (sym (ap (λ (i : ImageState). i.loads) image) ∙ e)) }
+    record {
+      stands = x;
+      state = rw none state;
+      calls = calls_none loads saves (state_of d) (state_of now) image s;
+      at_hand = λ e. absurd (no_more d.job.cache.image.loads (sym (ap (λ (i : ImageState). i.loads) image) ∙ e));
+    }
 
 -- It finds its area.
 pub found_looks : (old : HalfDone) (was : Mark) (o : Opened) (p : Progress) (s : Stage)

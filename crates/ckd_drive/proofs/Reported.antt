@@ -32,8 +32,8 @@ pub record TellsFault (s : State) : Type 0 where
 lost_tells : (s : State) (left : List ℕ) → TellsFault (lost s left)
 lost_tells s left = record { told = store_fault_is_told (record s.registers { credit = None }); unwritten = refl }
 
--- what a call reports whose outcome goes by the fault that it met: none is told where it met none; else the outcome is so, and
--- told
+-- What a call reports whose outcome goes by the fault that it met: none is told where it met none; else the outcome is so, and
+-- told. Its premises are many, since four calls come here, each by facts of its own.
 reports_by : (so : Option Fault → Type 0) (loads saves : Bool) (old new : DriveState) (after : Option Fault → State)
     → new.state ≡ after (fault_met old new) → CallsStore loads saves old new → NotTold old.state.registers (after None).registers
     → ((left : List ℕ) → saves ≡ true → so (Some (SaveFails left)) × TellsFault (after (Some (SaveFails left))))

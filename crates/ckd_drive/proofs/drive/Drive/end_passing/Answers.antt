@@ -36,8 +36,8 @@ moved g c =
     elim c.match-leave.branch [
       | in-Ok w ↦ (let l : Leaves d.job new c.leave.new.mark u.registers = rw k.ensures.stays at w.in-Ok.ensures.leaves in rw (w.result-is, ← c.self.view_is) (leaves_ends new c.leave.new.mark e refl l))
       | in-Err w ↦
-        (let l : Loses d.job new c.leave.new.mark = rw (k.ensures.stays, c.in-Moves.ensures.registers) at w.in-Err.ensures.loses in
-        rw (w.result-is, ← c.self.view_is) (lost_ends new c.leave.new.mark e refl l))
+          (let l : Loses d.job new c.leave.new.mark = rw (k.ensures.stays, c.in-Moves.ensures.registers) at w.in-Err.ensures.loses in
+          rw (w.result-is, ← c.self.view_is) (lost_ends new c.leave.new.mark e refl l))
     ]
 
 pub invariant_of-self-in-Moves : goal.invariant_of-self-in-Moves
