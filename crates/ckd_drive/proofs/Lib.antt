@@ -7,7 +7,6 @@ pub mod Formats
 pub mod Replaces
 pub mod Calls
 pub mod Reported
-pub mod Told
 pub mod Starts
 pub mod Takes
 pub mod Standing

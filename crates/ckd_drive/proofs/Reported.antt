@@ -17,6 +17,7 @@ use Rattle.ckd_drive.specs.declared.answers.Begun.{Begun}
 use Rattle.ckd_drive.specs.declared.answers.Begun.TheVariants as answer
 use Rattle.ckd_drive.specs.Work.{Work, Over, Looking, Passing, DriveState, CallsStore, Reports, fault_met, with_image, open_at, after_begin, after_begun, answer_of_begin, begin_saves, goes_to_cylinder_zero, after_look, after_look_of, after_sight, look_loads, look_loads_of, look_saves, look_saves_of, goes_to_next_head, failed_ending, after_end, closed_of, ending_of, end_saves, end_saves_of, after_settle, settled_state, is_next}
 use Rattle.ckd_drive.proofs.Calls.{fault_none, fault_loading, fault_saving, mark_written, no_more}
+use Rattle.ckd_drive.specs.Laws.{Begin, Look, Pass, End, Settle, TellsFailures, EachCallTells, Start, Then, GainsByFailures, EachTrailTells}
 
 -- What is reported.
 
@@ -169,3 +170,28 @@ settle_reports old new state k =
     let is : settled_state (Some (SaveFails left)) old.state ≡ lost old.state left = rw written refl in
     (rw is refl, rw is (lost_tells old.state left))))
     (λ loaded more. absurd cc))
+
+-- Over any calls of the drive.
+
+-- what is reported where the count rose
+told : (loads saves : Bool) (so : Type 0) (old new : DriveState) → CallsStore loads saves old new → Reports so old new → TellsFailures old new
+told loads saves so old new k r = elim k.failures [
+  | inl same ↦ inl (same, r.good same)
+  | inr more ↦ elim r.failed [ inl same ↦ absurd (no_more old.image.failures (sym same ∙ more.0)) | inr x ↦ inr (more.0, x.1, x.2) ]
+]
+
+pub each_call_tells : EachCallTells
+each_call_tells old new (Begin code answer state answers calls reported) = told _ _ _ old new calls reported
+each_call_tells old new (Look state calls reported) = told _ _ _ old new calls reported
+each_call_tells old new (Pass work moved) = inl (ap (λ (d : DriveState). d.image.failures) moved, λ t. ap (λ (d : DriveState). tells_equipment_check d.state.registers.sense) (sym moved) ∙ t)
+each_call_tells old new (End ending state ends calls reported) = told _ _ _ old new calls reported
+each_call_tells old new (Settle state calls reported) = told _ _ _ old new calls reported
+
+-- one call more
+on : (first d e : DriveState) → GainsByFailures first d → TellsFailures d e → GainsByFailures first e
+on first d e x (inl y) = record { rose = x.rose; counted = y.0 ∙ x.counted; gained = λ none t. x.gained none (y.1 t) }
+on first d e x (inr y) = record { rose = x.rose + 1; counted = (let more = y.0 in let before = x.counted in omega (arith, more, before)); gained = λ none t. absurd (omega (arith, none)) }
+
+pub each_trail_tells : EachTrailTells
+each_trail_tells first _ Start = record { rose = 0; counted = omega arith; gained = λ none t. t }
+each_trail_tells first _ (Then d e trail call) = on first d e (each_trail_tells first d trail) (each_call_tells d e call)
