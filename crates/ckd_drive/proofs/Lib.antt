@@ -1,4 +1,3 @@
-pub mod Fields
 pub mod Moving
 pub mod Ends
 pub mod Fills

@@ -14,7 +14,7 @@ use Rattle.ckd_drive.specs.declared.transfer.Transfer.TheVariants.{Sense, Field,
 use Rattle.ckd_command.specs.Tables.{action_of, aim, needs_readable}
 use Rattle.ckd_position.specs.Contents.{is_readable, Sighted}
 use Rattle.ckd_command.specs.Commands.{Closing, sight, command_end, IsAtTrack, length_after, with_cause, sight_of}
-use Rattle.ckd_drive.proofs.Fields.{field_unwritten, field_wants, no_byte}
+use Rattle.ckd_drive.proofs.Takes.{field_unwritten, field_wants, no_byte}
 use Rattle.ckd_command.proofs.Closings.{area_by, closing_by, sense_closes, sense_length}
 use Rattle.ckd_command.proofs.Lengths.{length_by}
 use Rattle.ckd_cache.specs.Cache.{CacheState, holds, loaded, after_hold, after_failed_hold, after_save, after_failed_save}

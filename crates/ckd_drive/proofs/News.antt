@@ -26,8 +26,7 @@ use Rattle.ckd_slot.proofs.Writes.{bare_fits}
 use Rattle.ckd_drive.proofs.Fills.{there, new_slot_at, written_absorbs, reads_new}
 use Rattle.ckd_command.proofs.Closings.{closing_by}
 use Rattle.ckd_command.proofs.Lengths.{length_by}
-use Rattle.ckd_drive.proofs.Fields.{ChangesNothing}
-use Rattle.ckd_drive.proofs.Takes.{field_goes, field_absorbs}
+use Rattle.ckd_drive.proofs.Takes.{ChangesNothing, field_goes, field_absorbs}
 use Rattle.ckd_drive.proofs.Standing.{no_filled_seen, slot_is}
 
 -- a command whose first bytes change the track, once they came: the slot is this
