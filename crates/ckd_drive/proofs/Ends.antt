@@ -121,14 +121,6 @@ closes_so {d} e =
 off_so : {d : Parts} {u : CommandEnd} → Closes d u → (closing_seen d.job).moves_off ≡ u.moves_off
 off_so e = ap (λ (y : CommandEnd). y.moves_off) (closes_so e)
 
--- what a command closes to whose arm stays
-pub stays_closed : {d : Parts} {u : CommandEnd} → Closes d u → u.moves_off ≡ false
-    → closed_of None (state_of d) (state_of d).work ≡ record { state = record { volume = record { geometry = d.job.cache.image.geometry; slots = d.job.cache.slots }; registers = u.registers; mark = mark_left d.job.progress.place d.mark }; unit = u.ending.unit; motion = u.ending.motion }
-stays_closed {d} {u} e stays =
-    let goes = goes_of d e.stands e.passes in
-    let off : (closing_seen d.job).moves_off ≡ false = off_so e ∙ stays in
-    rw (e.passes, off) (staying (at_work d.job) d.mark d.job.progress.place u (number_there d e.stands) goes.placed (closes_so e))
-
 -- Where the arm is then, and the credit.
 
 pub record Lands (c : CacheState) (g : Geometry) (n : ℕ) (r : Registers) (u : CommandEnd) : Type 0 where
@@ -235,7 +227,10 @@ pub stays_ends : {d : Parts} {u : CommandEnd} → Closes d u → u.moves_off ≡
 stays_ends {d} {u} e off =
     let after : Parts = parts_of (record d.job { registers = u.registers }) (mark_left d.job.progress.place d.mark) Idle in
     let none : fault_met (state_of d) (state_of after) ≡ None = fault_none (state_of d) (state_of after) refl in
-    let closed = stays_closed e off in
+    let goes = goes_of d e.stands e.passes in
+    let stays : (closing_seen d.job).moves_off ≡ false = off_so e ∙ off in
+    let closed : closed_of None (state_of d) (state_of d).work ≡ record { state = (state_of after).state; unit = u.ending.unit; motion = u.ending.motion } =
+    rw (e.passes, stays) (staying (at_work d.job) d.mark d.job.progress.place u (number_there d e.stands) goes.placed (closes_so e)) in
     let k = (land e).stays off in
     let same : track_under d.job.cache.image.geometry u.registers ≡ own_track d.job = rw (k.0, k.1) refl in
     ended (state_of d) after u.ending
