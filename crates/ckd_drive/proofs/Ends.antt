@@ -18,22 +18,20 @@ use Rattle.ckd_command.specs.Answers.{CommandEnd}
 use Rattle.ckd_slot.specs.declared.windows.Window.{Window}
 use Rattle.ckd_drive.specs.declared.transfer.Transfer.{Transfer}
 use Rattle.ckd_drive.specs.declared.transfer.Transfer.TheVariants.{Field, Search, Filled}
-use Rattle.ckd_drive.specs.Stage.{Progress, Idle, Passing}
+use Rattle.ckd_drive.specs.declared.answers.Stage.TheVariants.{Idle, Passing}
 use Rattle.ckd_command.specs.Tables.{action_of}
 use Rattle.ckd_position.specs.Contents.{Sighted}
 use Rattle.ckd_command.specs.Commands.{Closing, IsAtTrack, area_bytes, closing, close_by, command_end, search_ends, own_home_address, new_record_fits, number as number_of, whole_field, at_end}
 use Rattle.ckd_slot.specs.Cache.{CacheState, after_save, after_failed_save}
-use Rattle.ckd_drive.specs.Invariant.{Stands, mark_left, HasFilled, state_of, IsPlaced, IsField, CreditIs, AtHand, command_end_at, field_ends, seen_by, track_under, is_filled, is_filled_by, Kept, kept, Parts, parts_of, track_in_reach, AtWork, geometry_in, number_in, slot_in, closing_in, work_in, closes_by}
+use Rattle.ckd_drive.specs.Invariant.{Stands, mark_left, HasFilled, state_of, IsPlaced, IsField, CreditIs, AtHand, command_end_at, field_ends, seen_by, track_under, is_filled, is_filled_by, HalfDone, Parts, parts_of, own_track, AtWork, at_work, geometry_in, number_in, slot_in, closing_in, closes_by}
 use Rattle.ckd_command.specs.Drive.{closed_staying, SaveFails, is_written_by}
 use Rattle.ckd_command.specs.declared.close.DriveEnding.{DriveEnding}
 use Rattle.ckd_drive.specs.declared.transfer.Written.{Written}
 use Rattle.ckd_drive.specs.declared.transfer.Written.TheVariants as written
 use Rattle.ckd_drive.specs.Work.{DriveState, CallsStore, closed_of, ending_of, after_end, end_saves, failed_ending, fault_met, with_image}
-use Rattle.ckd_image.specs.Image.{ImageState}
-use Rattle.ckd_drive.proofs.Calls.{changed_is, calls_none, calls_of_save, calls_of_failed_save}
+use Rattle.ckd_drive.proofs.Calls.{changed_is, calls_none, calls_of_save, calls_of_failed_save, fault_none, lost_registers, save_lost}
 use Rattle.ckd_drive.specs.Calls.{Ends, Leaves, Loses}
 use Rattle.ckd_drive.proofs.Reported.{end_reports}
-use Rattle.ckd_drive.proofs.Faults.{fault_none, lost_registers, save_lost}
 use Rattle.ckd_drive.proofs.Standing.{no_credit, geometry_saved, failures_saved, saved_stands, lost_stands, seen_track, goes_of, no_filled_seen, number_there}
 use Rattle.ckd_command.proofs.Closings.{closing_by}
 
@@ -105,24 +103,23 @@ staying job m (Filled w v) u lt x out = (let there = written_there job w v lt x 
 staying job m p u lt x out = rw (unwritten_is job p x refl, ← out) refl
 
 -- A drive stands while the bytes of a command pass, which would close so.
-pub record Closes (parts : Parts) (p : Progress) (now : DriveState) (u : CommandEnd) : Type 0 where
-  pub stands : Stands parts
-  pub passes : parts.stage ≡ Passing p
-  pub is : state_of parts ≡ now
-  pub out : u ≡ command_end_at parts.cache.image.geometry parts.registers p.opened p.moved p.place
+pub record Closes (d : Parts) (u : CommandEnd) : Type 0 where
+  pub stands : Stands d
+  pub passes : d.stage ≡ Passing
+  pub out : u ≡ command_end_at d.job.cache.image.geometry d.job.registers d.job.opened d.job.progress.moved d.job.progress.place
 
--- what a command closes to whose arm stays
-pub stays_closed : (parts : Parts) (p : Progress) (now : DriveState) (u : CommandEnd)
-    → Closes parts p now u → u.moves_off ≡ false
-    → closed_of None now now.work ≡ record { state = record { volume = record { geometry = parts.cache.image.geometry; slots = parts.cache.slots }; registers = u.registers; mark = mark_left p.place parts.mark }; unit = u.ending.unit; motion = u.ending.motion }
-stays_closed parts p now u e stays =
-    let job = work_in parts p.opened in
-    let goes = goes_of parts p e.stands e.passes in
-    let lt = number_there parts e.stands in
-    let k = closing_in job (seen_track job p.place) in
-    let o_is : command_end k ≡ u = command_end_is job p.place p.moved lt goes.placed goes.moved ∙ sym e.out in
-    let off : k.moves_off ≡ false = ap (λ (y : CommandEnd). y.moves_off) o_is ∙ stays in
-    rw (← e.is, e.passes, off) (staying job parts.mark p.place u lt goes.placed o_is)
+-- how the command closes by the definitions, and by the track as they see it
+abbrev closing_seen : HalfDone → Closing
+closing_seen h = closing_in (at_work h) (seen_track (at_work h) h.progress.place)
+
+-- it is the same
+closes_so : {d : Parts} {u : CommandEnd} → Closes d u → command_end (closing_seen d.job) ≡ u
+closes_so {d} e =
+    let goes = goes_of d e.stands e.passes in
+    command_end_is (at_work d.job) d.job.progress.place d.job.progress.moved (number_there d e.stands) goes.placed goes.moved ∙ sym e.out
+
+off_so : {d : Parts} {u : CommandEnd} → Closes d u → (closing_seen d.job).moves_off ≡ u.moves_off
+off_so e = ap (λ (y : CommandEnd). y.moves_off) (closes_so e)
 
 -- Where the arm is then, and the credit.
 
@@ -191,40 +188,28 @@ moving_unfilled job (Filled w what) moved x e = absurd (let stays = written_stay
 moving_unfilled job _ moved x e = refl
 
 -- what is known of a command that closes with the arm in motion
-pub record MovesOff (parts : Parts) (p : Progress) (u : CommandEnd) : Type 0 where
-  pub off : (closing_in (work_in parts p.opened) (seen_track (work_in parts p.opened) p.place)).moves_off ≡ true
-  pub so : command_end (closing_in (work_in parts p.opened) (seen_track (work_in parts p.opened) p.place)) ≡ u
-  pub unfilled : is_filled parts.stage ≡ false
-  pub plain : seen_by parts.cache.slots (track_in_reach parts) parts.before p.place ≡ parts.cache.slots
+pub record MovesOff (d : Parts) : Type 0 where
+  pub off : (closing_seen d.job).moves_off ≡ true
+  pub unfilled : is_filled d.stage d.job ≡ false
+  pub plain : seen_by d.job.cache.slots (own_track d.job) d.job.before d.job.progress.place ≡ d.job.cache.slots
 
-pub moves_off : (parts : Parts) (p : Progress) (now : DriveState) (u : CommandEnd) → Closes parts p now u → u.moves_off ≡ true → MovesOff parts p u
-moves_off parts p now u e moves =
-    let job = work_in parts p.opened in
-    let goes = goes_of parts p e.stands e.passes in
-    let so = command_end_is job p.place p.moved (number_there parts e.stands) goes.placed goes.moved ∙ sym e.out in
-    let unfilled : is_filled_by p.place ≡ false = moving_unfilled job p.place p.moved goes.placed (ap (λ (y : CommandEnd). y.moves_off) (sym e.out) ∙ moves) in
-    record {
-      off = ap (λ (y : CommandEnd). y.moves_off) so ∙ moves;
-      so = so;
-      unfilled = rw e.passes unfilled;
-      plain = no_filled_seen parts.cache.slots (track_in_reach parts) parts.before p.place unfilled;
-    }
+pub moves_off : {d : Parts} {u : CommandEnd} → Closes d u → u.moves_off ≡ true → MovesOff d
+moves_off {d} e moves =
+    let p = d.job.progress in
+    let goes = goes_of d e.stands e.passes in
+    let unfilled : is_filled_by p.place ≡ false = moving_unfilled (at_work d.job) p.place p.moved goes.placed (ap (λ (y : CommandEnd). y.moves_off) (sym e.out) ∙ moves) in
+    record { off = off_so e ∙ moves; unfilled = rw e.passes unfilled; plain = no_filled_seen d.job.cache.slots (own_track d.job) d.job.before p.place unfilled }
 
 -- The drive after the end.
 
-land : (parts : Parts) (p : Progress) (now : DriveState) (u : CommandEnd) → Closes parts p now u → Lands parts.cache parts.cache.image.geometry (track_in_reach parts) parts.registers u
-land parts p now u e =
-    let goes = goes_of parts p e.stands e.passes in
-    rw e.out (lands (work_in parts p.opened) p.place p.moved goes.placed goes.no_credit e.stands.arm)
+land : {d : Parts} {u : CommandEnd} → Closes d u → Lands d.job.cache d.job.cache.image.geometry (own_track d.job) d.job.registers u
+land {d} e =
+    let goes = goes_of d e.stands e.passes in
+    rw e.out (lands (at_work d.job) d.job.progress.place d.job.progress.moved goes.placed goes.no_credit e.stands.arm)
 
 -- which saving the definitions see at the end
-saves_at_end : (parts : Parts) (p : Progress) (now : DriveState) (u : CommandEnd) → Closes parts p now u → end_saves now ≡ (is_written_by parts.mark && u.moves_off)
-saves_at_end parts p now u e =
-    let job = work_in parts p.opened in
-    let goes = goes_of parts p e.stands e.passes in
-    let so = command_end_is job p.place p.moved (number_there parts e.stands) goes.placed goes.moved ∙ sym e.out in
-    let off : (closing_in job (seen_track job p.place)).moves_off ≡ u.moves_off = ap (λ (y : CommandEnd). y.moves_off) so in
-    rw (← e.is, e.passes, off) refl
+saves_at_end : {d : Parts} {u : CommandEnd} → Closes d u → end_saves (state_of d) ≡ (is_written_by d.mark && u.moves_off)
+saves_at_end {d} {u} e = (let off : (closing_seen d.job).moves_off ≡ u.moves_off = off_so e in rw (e.passes, off) refl)
 
 -- a drive that has ended its command so
 pub record Ended (now : DriveState) (after : Parts) (ending : DriveEnding) : Type 0 where
@@ -232,67 +217,63 @@ pub record Ended (now : DriveState) (after : Parts) (ending : DriveEnding) : Typ
   pub ends : Ends now (state_of after) ending
 
 -- it is that by its state, its ending and its calls
-ended : (now : DriveState) (after : Parts) (ending : DriveEnding) → Stands after → state_of after ≡ with_image (after_end (fault_met now (state_of after)) now) after.cache.image
+ended : (now : DriveState) (after : Parts) (ending : DriveEnding) → Stands after → state_of after ≡ with_image (after_end (fault_met now (state_of after)) now) after.job.cache.image
     → ending ≡ ending_of (closed_of (fault_met now (state_of after)) now now.work) → CallsStore false (end_saves now) now (state_of after) → Ended now after ending
 ended now after ending stands state says calls = record { stands = stands; ends = record { state = state; ends = says; calls = calls; reported = end_reports now (state_of after) ending state says calls } }
 
 -- the arm stays
-pub stays_ends : (parts : Parts) (p : Progress) (now : DriveState) (u : CommandEnd) → Closes parts p now u → u.moves_off ≡ false
-    → Ended now (record parts { registers = u.registers; mark = mark_left p.place parts.mark; stage = Idle }) u.ending
-stays_ends parts p now u e off =
-    let g = parts.cache.image.geometry in
-    let after : Parts = record parts { registers = u.registers; mark = mark_left p.place parts.mark; stage = Idle } in
-    let image : parts.cache.image ≡ now.image = ap (λ (d : DriveState). d.image) e.is in
-    let none : fault_met now (state_of after) ≡ None = fault_none now (state_of after) (ap (λ (i : ImageState). i.failures) image) in
-    let closed = stays_closed parts p now u e off in
-    let k = (land parts p now u e).stays off in
-    let same : track_under g u.registers ≡ track_in_reach parts = rw (k.0, k.1) refl in
-    ended now after u.ending
+pub stays_ends : {d : Parts} {u : CommandEnd} → Closes d u → u.moves_off ≡ false
+    → Ended (state_of d) (parts_of (record d.job { registers = u.registers }) (mark_left d.job.progress.place d.mark) Idle) u.ending
+stays_ends {d} {u} e off =
+    let after : Parts = parts_of (record d.job { registers = u.registers }) (mark_left d.job.progress.place d.mark) Idle in
+    let none : fault_met (state_of d) (state_of after) ≡ None = fault_none (state_of d) (state_of after) refl in
+    let goes = goes_of d e.stands e.passes in
+    let stays : (closing_seen d.job).moves_off ≡ false = off_so e ∙ off in
+    let closed : closed_of None (state_of d) (state_of d).work ≡ record { state = (state_of after).state; unit = u.ending.unit; motion = u.ending.motion } =
+    rw (e.passes, stays) (staying (at_work d.job) d.mark d.job.progress.place u (number_there d e.stands) goes.placed (closes_so e)) in
+    let k = (land e).stays off in
+    let same : track_under d.job.cache.image.geometry u.registers ≡ own_track d.job = rw (k.0, k.1) refl in
+    ended (state_of d) after u.ending
     (record {
       volume = e.stands.volume;
       arm = record { cylinder = rw k.0 e.stands.arm.cylinder; head = rw k.1 e.stands.arm.head };
       anchored = rw same e.stands.anchored;
-      marked = marks p.place parts.mark parts.cache.changed (rw e.passes at e.stands.marked);
+      marked = marks d.job.progress.place d.mark d.job.cache.changed (rw e.passes at e.stands.marked);
       work = rw same k.2;
     })
-    (rw (none, closed) refl) (rw (none, closed) refl) (calls_none _ _ now (state_of after) image (saves_at_end parts p now u e ∙ rw off (and-false (is_written_by parts.mark))))
+    (rw (none, closed) refl) (rw (none, closed) refl) (calls_none _ _ (state_of d) (state_of after) refl (saves_at_end e ∙ rw off (and-false (is_written_by d.mark))))
   where
     marks : (q : Transfer) (m : Mark) (b : Bool) → b ≡ (is_written_by m || is_filled_by q) → b ≡ (is_written_by (mark_left q m) || false)
     marks (Filled w u) Saved b e = e
     marks _ _ b e = e
 
 -- it moves, and the track that it leaves is saved
-pub leaves_ends : (parts : Parts) (came : Kept) (p : Progress) (now : DriveState) (u : CommandEnd) (before passed : List ℕ) → Closes parts p now u → u.moves_off ≡ true → Leaves parts.cache came u.registers
-    → Ended now (parts_of came Idle before passed) u.ending
-leaves_ends parts came p now u before passed e moves l =
-    let c = parts.cache in
-    let k = moves_off parts p now u e moves in
-    let at = (land parts p now u e).moves moves in
-    rw (l.cache, l.registers, l.mark) (
-    let after : Parts = parts_of (kept (after_save c) u.registers Saved) Idle before passed in
-    let image : now.image ≡ c.image = sym (ap (λ (d : DriveState). d.image) e.is) in
-    let none : fault_met now (state_of after) ≡ None = fault_none now (state_of after) (failures_saved c ∙ sym (ap (λ (i : ImageState). i.failures) image)) in
-    let closed : closed_of None now now.work ≡ record { state = record { volume = record { geometry = c.image.geometry; slots = c.slots }; registers = u.registers; mark = Saved }; unit = u.ending.unit; motion = u.ending.motion } =
-    rw (← e.is, e.passes, k.off, ← k.so, k.plain) refl in
-    ended now after u.ending
-    (saved_stands parts u.registers Idle before passed e.stands refl at.0 (no_credit (after_save c) u.registers (track_under (after_save c).image.geometry u.registers) at.1))
+pub leaves_ends : {d : Parts} {u : CommandEnd} (new : HalfDone) (m : Mark) → Closes d u → u.moves_off ≡ true → Leaves d.job new m u.registers → Ended (state_of d) (parts_of new m Idle) u.ending
+leaves_ends {d} {u} new m e moves l =
+    let c = d.job.cache in
+    let k = moves_off e moves in
+    let at = (land e).moves moves in
+    let after : Parts = parts_of (record d.job { cache = after_save c; registers = u.registers }) Saved Idle in
+    let none : fault_met (state_of d) (state_of after) ≡ None = fault_none (state_of d) (state_of after) (failures_saved c) in
+    let closed : closed_of None (state_of d) (state_of d).work ≡ record { state = record { volume = record { geometry = c.image.geometry; slots = c.slots }; registers = u.registers; mark = Saved }; unit = u.ending.unit; motion = u.ending.motion } =
+    rw (e.passes, k.off, ← closes_so e, k.plain) refl in
+    rw (l.0, l.1)
+    (ended (state_of d) after u.ending
+    (saved_stands d after.job Idle e.stands refl refl at.0 (no_credit (after_save c) u.registers (own_track after.job) at.1))
     (rw (none, closed, geometry_saved c) refl) (rw (none, closed) refl)
-    (calls_of_save _ _ c now (state_of after) image refl (changed_is parts e.stands k.unfilled ∙ sym (saves_at_end parts p now u e ∙ rw moves (and-true (is_written_by parts.mark))))))
+    (calls_of_save _ _ c (state_of d) (state_of after) refl refl (changed_is d e.stands k.unfilled ∙ sym (saves_at_end e ∙ rw moves (and-true (is_written_by d.mark))))))
 
 -- that track can't be saved
-pub lost_ends : (parts : Parts) (came : Kept) (p : Progress) (now : DriveState) (u : CommandEnd) (before passed : List ℕ) → Closes parts p now u → u.moves_off ≡ true → Loses parts.cache parts.registers came
-    → Ended now (parts_of came Idle before passed) failed_ending
-lost_ends parts came p now u before passed e moves l =
-    let c = parts.cache in
-    let k = moves_off parts p now u e moves in
-    rw (l.cache, l.registers, l.mark) (
-    let after : Parts = parts_of (kept (after_failed_save c l.left) (lost_registers parts.registers) Lost) Idle before passed in
-    let s = save_lost parts parts.registers came (state_of after) e.stands k.unfilled l refl in
-    let image : now.image ≡ c.image = sym (ap (λ (d : DriveState). d.image) e.is) in
-    let met : fault_met now (state_of after) ≡ Some (SaveFails l.left) = rw (← e.is) s.fault in
-    let closed : closed_of (Some (SaveFails l.left)) now now.work ≡ record { state = (state_of after).state; unit = record { 0 = 0x0E }; motion = false } =
-    rw (← e.is, e.passes, k.off, k.plain, s.written, s.held, s.whole) refl in
-    ended now after failed_ending
-    (lost_stands parts l.left (lost_registers parts.registers) Idle before passed e.stands l.size refl refl refl tt)
-    (rw (met, closed) refl) (rw (met, closed) refl)
-    (calls_of_failed_save _ _ c l.left now (state_of after) image refl (changed_is parts e.stands k.unfilled ∙ sym (saves_at_end parts p now u e ∙ rw moves (and-true (is_written_by parts.mark)))) l.changed))
+pub lost_ends : {d : Parts} {u : CommandEnd} (new : HalfDone) (m : Mark) → Closes d u → u.moves_off ≡ true → Loses d.job new m → Ended (state_of d) (parts_of new m Idle) failed_ending
+lost_ends {d} {u} new m e moves l =
+    let c = d.job.cache in
+    let k = moves_off e moves in
+    let after : Parts = parts_of (record d.job { cache = after_failed_save c l.left; registers = lost_registers d.job.registers }) Lost Idle in
+    let s = save_lost d d.job new m (state_of after) e.stands k.unfilled refl l refl in
+    let closed : closed_of (Some (SaveFails l.left)) (state_of d) (state_of d).work ≡ record { state = (state_of after).state; unit = record { 0 = 0x0E }; motion = false } =
+    rw (e.passes, k.off, k.plain, s.written, s.held, s.whole) refl in
+    rw (l.job, l.mark_is)
+    (ended (state_of d) after failed_ending
+    (lost_stands d l.left after.job Idle e.stands l.size refl refl refl refl tt)
+    (rw (s.fault, closed) refl) (rw (s.fault, closed) refl)
+    (calls_of_failed_save _ _ c l.left (state_of d) (state_of after) refl refl (changed_is d e.stands k.unfilled ∙ sym (saves_at_end e ∙ rw moves (and-true (is_written_by d.mark)))) l.changed))

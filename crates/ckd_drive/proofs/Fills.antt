@@ -208,7 +208,7 @@ filled_absorbs half more w what may at =
     let at_new = new_slot_at c n new h.at_hand.held lt in
     let w' : Window = record { start = w.start + length more; len = w.len - length more } in
     let now : List ℕ = slot_at (with_held c new).slots n in
-    let on = filled_on (at_work half) new now more w (closes_by half.registers half.progress.opened what) le (ap (λ (y : List ℕ). lengths_on (track_in y)) at_new ∙ lens) f in
+    let on = filled_on (at_work half) new now more w (closes_by half.registers half.opened what) le (ap (λ (y : List ℕ). lengths_on (track_in y)) at_new ∙ lens) f in
     let wants = f.wants more le in
     let has : HasFilled (at_work (with_taken half more (with_held c new) half.before (Filled w' what))) w' what = record {
       at_hand = record { held = h.at_hand.held; readable = rw at_new read.0 };

@@ -114,7 +114,7 @@ format_goes half more f field count may at is long e =
     let k = field_goes half more f may at in
     let goes = may.works.goes in
     let moved : p.moved + length more ≡ length (half.passed ++ more) = omega (arith, goes.moved, k.long) in
-    let new = is_count (action_of p.opened.command) (own_home_address half.registers) (p.moved + length more) field count e in
+    let new = is_count (action_of half.opened.command) (own_home_address half.registers) (p.moved + length more) field count e in
     let eight : length (half.passed ++ more) ≡ 8 = sym moved ∙ new.eight in
     let come : take 8 field ≡ half.passed ++ more = rw (eight, ← is) at k.collected in
     record {
@@ -127,7 +127,7 @@ format_goes half more f field count may at is long e =
 -- a record that does not fit
 pub format_stays : (half : HalfDone) (more f field count : List ℕ) → MayTake half more → half.progress.place ≡ Field f → field ≡ overwritten f half.progress.moved more → length field ≡ 8
     → whole_of (action_now half) (own_home_address half.registers) (half.progress.moved + length more) field ≡ whole.Count count
-    → fits_track half.cache.image.geometry.model half.progress.opened.area count (track_of (slot_held half.cache)) ≡ false → Absorbs half more half.cache half.before (Field field)
+    → fits_track half.cache.image.geometry.model half.opened.area count (track_of (slot_held half.cache)) ≡ false → Absorbs half more half.cache half.before (Field field)
 format_stays half more f field count may at is long e no_room =
     let k = format_goes half more f field count may at is long e in
     let held = slot_is half.cache (own_track half) (slot_held half.cache) k.at_hand.held refl in
@@ -136,8 +136,8 @@ format_stays half more f field count may at is long e no_room =
 -- a record that fits
 pub format_absorbs : (half : HalfDone) (more f field count : List ℕ) (i : ℕ) (w : Window) → MayTake half more → half.progress.place ≡ Field f → field ≡ overwritten f half.progress.moved more → length field ≡ 8
     → whole_of (action_now half) (own_home_address half.registers) (half.progress.moved + length more) field ≡ whole.Count count
-    → HasFormatted half.cache.image.geometry.model half.cache.image.geometry.track_size half.progress.opened.area count (track_of (slot_held half.cache)) i w
-    → Absorbs half more (after_format half.cache half.progress.opened.area count) (slot_held half.cache) (Filled w (written.Record i))
+    → HasFormatted half.cache.image.geometry.model half.cache.image.geometry.track_size half.opened.area count (track_of (slot_held half.cache)) i w
+    → Absorbs half more (after_format half.cache half.opened.area count) (slot_held half.cache) (Filled w (written.Record i))
 format_absorbs half more f field count i w may at is long e has =
     let k = format_goes half more f field count may at is long e in
     let c = half.cache in
@@ -146,7 +146,7 @@ format_absorbs half more f field count i w may at is long e has =
     let n : ℕ = track_under g r in
     let old = slot_at c.slots n in
     let t = track_of old in
-    let a = half.progress.opened.area in
+    let a = half.opened.area in
     let b = half.passed ++ more in
     let goes = field_goes half more f may at in
     let t0 = formatted t a b in

@@ -1,17 +1,11 @@
-pub mod Sights
-pub mod Fields
-pub mod Inside
 pub mod Moving
 pub mod Ends
-pub mod Settling
 pub mod Fills
 pub mod News
 pub mod Formats
 pub mod Replaces
 pub mod Calls
 pub mod Reported
-pub mod Told
-pub mod Faults
 pub mod Starts
 pub mod Takes
 pub mod Standing

@@ -1,40 +1,80 @@
--- A command that looks for its area, and has just found where its bytes stand.
-use Rattle.std.proofs.Common.{◌≡◌, ◌∙◌, ap, sym, refl, ℕ, ◌+◌, ◌-◌, List, [], true, Some, length, arith, false, ◌||◌, None, ◌==◌, Bool, Option}
-use Rattle.std.proofs.lemmas.Bool.{false_from_ne_true}
-use Rattle.ckd_track.specs.Track.{track_of}
+-- What a look at a track finds, and a command that looks for its area and has just found where its bytes stand.
+use Rattle.std.proofs.Common.{◌≡◌, ◌∙◌, ap, sym, refl, ℕ, ◌+◌, List, [], true, Some, length, arith, false, ◌||◌, None, ◌==◌, Bool, Option}
+use Rattle.std.proofs.lemmas.Bool.{false_from_ne_true, true_from_ne_false}
+use Rattle.ckd_track.specs.Track.{track_of, track_or_none}
 use Rattle.ckd_sense.specs.declared.commands.Command.{Command}
 use Rattle.ckd_sense.specs.declared.commands.Command.TheVariants as command
 use Rattle.ckd_command.specs.declared.tables.Aim.TheVariants.{NoArea, Credited, Next}
 use Rattle.ckd_command.specs.declared.tables.Action.{Action}
 use Rattle.ckd_command.specs.declared.tables.Action.TheVariants as action
 use Rattle.ckd_command.specs.declared.begin.Opened.{Opened}
-use Rattle.ckd_command.specs.Answers.{Found, IndexPassed, NextHead, Missed}
+use Rattle.ckd_command.specs.Answers.{Found, IndexPassed, NextHead, Missed, moved_to}
 use Rattle.ckd_drive.specs.declared.transfer.Transfer.{Transfer}
 use Rattle.ckd_drive.specs.declared.transfer.Transfer.TheVariants.{Sense, Field, Read, Search, Fill, Filled}
-use Rattle.ckd_command.specs.Tables.{action_of, aim}
+use Rattle.ckd_command.specs.Tables.{action_of, aim, needs_readable}
 use Rattle.ckd_position.specs.Contents.{is_readable, Sighted}
-use Rattle.ckd_command.specs.Commands.{Closing, sight, command_end, IsAtTrack, length_after, with_cause}
-use Rattle.ckd_drive.proofs.Fields.{field_unwritten, field_wants, no_byte}
+use Rattle.ckd_command.specs.Commands.{Closing, sight, command_end, IsAtTrack, length_after, with_cause, sight_of}
+use Rattle.ckd_drive.proofs.Takes.{field_unwritten, field_wants, no_byte}
 use Rattle.ckd_command.proofs.Closings.{area_by, closing_by, sense_closes, sense_length}
 use Rattle.ckd_command.proofs.Lengths.{length_by}
 use Rattle.ckd_slot.specs.Cache.{CacheState, holds, loaded, after_hold, after_failed_hold, after_save, after_failed_save}
-use Rattle.ckd_drive.specs.Invariant.{IsFirstPlace, IsPlaced, IsField, ReadsWhole, FieldAtHand, AtHand, slot_at, AtWork, geometry_in, number_in, slot_in, Stands, StaysAt, CreditAtHand, remaining, state_of, track_under, is_filled_by, Kept, Parts, parts_of, number_under, slot_under, work_of, kept}
+use Rattle.ckd_drive.specs.Invariant.{IsFirstPlace, IsPlaced, IsField, ReadsWhole, FieldAtHand, AtHand, slot_at, AtWork, geometry_in, number_in, slot_in, at_work, Stands, StaysAt, CreditAtHand, remaining, first_progress, state_of, track_under, is_filled_by, HalfDone, Parts, parts_of, own_track, own_slot, AreaIsThere, SightKeeps}
 use Rattle.ckd_track.specs.declared.geometries.Geometry.{Geometry}
 use Rattle.ckd_command.specs.declared.registers.Registers.{Registers}
-use Rattle.ckd_drive.specs.Stage.{Stage, Passing, Idle, Over, Looking}
-use Rattle.ckd_drive.specs.Work.{fault_met, with_image, after_look, DriveState, after_sight, answer_of_look, look_loads, look_saves, failed_ending}
-use Rattle.ckd_command.specs.Drive.{is_written_by, AfterLook, Ready, LoadFails, look as look_by}
-use Rattle.ckd_drive.proofs.Faults.{fault_none, fault_loading, lost_registers, save_lost}
-use Rattle.ckd_drive.specs.Calls.{looking_drive, Comes, Looks, Leaves, Loses, looked_at}
-use Rattle.ckd_drive.proofs.Standing.{no_filled_seen, volume_not_held, geometry_saved, failures_saved, lost_stands, saved_stands}
+use Rattle.ckd_drive.specs.declared.transfer.Progress.{Progress}
+use Rattle.ckd_drive.specs.declared.answers.Stage.{Stage}
+use Rattle.ckd_drive.specs.declared.answers.Stage.TheVariants.{Looking, Passing, Failed}
+use Rattle.ckd_drive.specs.Work.{fault_met, with_image, after_look, DriveState, after_sight, look_loads, look_saves}
+use Rattle.ckd_command.specs.Drive.{is_written_by, AfterLook, Ready, LoadFails, look as look_by, Fault}
+use Rattle.ckd_drive.proofs.Calls.{fault_none, fault_loading, lost_registers, save_lost, changed_is, no_more, calls_none, calls_of_failed_save, calls_of_failed_hold, calls_behind_load, comes_saved}
+use Rattle.ckd_drive.specs.Calls.{Comes, Looks, Leaves, Loses}
+use Rattle.ckd_drive.proofs.Standing.{no_filled_seen, volume_not_held, geometry_saved, lost_stands}
 use Rattle.std.proofs.lemmas.Bool.Decides.{nat_tests}
 use Rattle.std.proofs.Math.Bool.{and-false, and-true}
 use Rattle.ckd_image.specs.Image.{ImageState}
 use Rattle.ckd_position.specs.declared.areas.Kind.{Kind}
 use Rattle.ckd_sense.specs.declared.sense_bytes.TheConstants.Sense.{STORE_FAULT}
-use Rattle.ckd_command.specs.declared.registers.Mark.TheVariants.{Saved, Lost}
-use Rattle.ckd_drive.proofs.Calls.{changed_is, no_more, loads_saved, calls_none, calls_of_save, calls_of_failed_save, calls_of_failed_hold, calls_behind_load}
-use Rattle.ckd_drive.proofs.Sights.{sight_keeps}
+use Rattle.ckd_command.specs.declared.registers.Mark.{Mark}
+use Rattle.ckd_command.specs.declared.registers.Mark.TheVariants.{Lost}
+use Rattle.ckd_track.specs.Model.{heads_of}
+use Rattle.ckd_position.specs.declared.areas.Area.{Area}
+use Rattle.ckd_position.specs.declared.areas.Area.TheVariants.{Of}
+use Rattle.ckd_position.specs.declared.areas.Next.{Next as NextArea}
+use Rattle.ckd_position.specs.declared.areas.Next.TheVariants as next
+use Rattle.ckd_position.specs.Areas.{IsOnTrack, IfFound}
+use Rattle.ckd_position.specs.declared.extents.Extent.{Extent}
+use Rattle.ckd_position.specs.declared.extents.Extent.TheVariants as extent
+use Rattle.ckd_command.proofs.Sights.{passing, sight_by}
+use Rattle.ckd_slot.specs.Buffer.{HasBytes}
+
+on_track : (e : Extent) (t : Sighted) (a : Area) → IsOnTrack (track_or_none t) a → HasBytes e t a
+on_track extent.Count t (Of part i) on = on
+on_track extent.CountKeyAndData t (Of part i) on = on
+on_track _ t _ on = tt
+
+pub seen_there : (g : Geometry) (t : Sighted) (o : Opened) (r : Registers) (x : NextArea) → IfFound x (IsOnTrack (track_or_none t)) → AreaIsThere t o (sight_of g o r x)
+seen_there g t o r (next.Found a) on = (refl, on_track _ t a on)
+seen_there g t o r next.IndexPassed on = passing (AreaIsThere t o) g o r tt (λ e. tt) (λ c h. tt)
+
+next_in : (g : Geometry) (r : Registers) (n : ℕ) → IsAtTrack g r → n ≡ heads_of g.model → (r.head + 1 == n) ≡ false → IsAtTrack g (moved_to r r.cylinder (r.head + 1))
+next_in g r n at is e = record { cylinder = at.cylinder; head = grind (arith, nat_tests, at.head) }
+
+-- where the arm is after a look
+pub sight_keeps : (g : Geometry) (t : Sighted) (o : Opened) (r : Registers) → IsAtTrack g r → SightKeeps g r (sight g t o r)
+sight_keeps g t o r at =
+    sight_by (SightKeeps g r) g t o r tt (λ a. tt) (record { cylinder = refl; head = refl; credit = refl }) (record { cylinder = refl; head = refl; credit = refl })
+    (λ e. (next_in g r (heads_of g.model) at refl e, refl)) (λ c h. record { cylinder = refl; head = refl; credit = refl })
+
+-- a track on which an area was found reads whole, where the command asks it
+whole_by : (act : Action) (t : Sighted) → (needs_readable act ≡ true → is_readable t ≡ true) → ReadsWhole act t
+whole_by action.WriteHomeAddress t h = tt
+whole_by _ t h = h refl
+
+pub found_whole : (g : Geometry) (t : Sighted) (o o' : Opened) (r : Registers) (k : Kind) → aim o.command ≡ Next k → Found o' ≡ sight g t o r → ReadsWhole (action_of o.command) t
+unfolding sight
+found_whole g t o o' r k is e = whole_by (action_of o.command) t (λ needs. true_from_ne_false (is_readable t) (λ unread. (let missed = rw (is, needs, unread) at e in cc)))
+
+-- What a command wants at hand.
 
 -- whether a command of this action works on an area
 abbrev needs_area : Action → Bool
@@ -120,12 +160,6 @@ first_len job _ f x = x.1.len
 
 -- A look that finds the area.
 
-abbrev pub found_at : Opened → Transfer → Stage
-found_at o place = Passing (record { opened = o; moved = 0; left = remaining (action_of o.command) place 0; place = place })
-
-abbrev first_work : Kept → Opened → (before : List ℕ) → AtWork
-first_work was o before = record { cache = was.cache; registers = was.registers; opened = o; before = before; passed = [] }
-
 -- A command whose area is found.
 
 pub reads_whole : (a : Action) (t : Sighted) → is_readable t ≡ true → ReadsWhole a t
@@ -141,185 +175,159 @@ stays_arm g r q k at = record { cylinder = rw k.cylinder at.cylinder; head = rw 
 pub stays_held : (c : CacheState) (r q : Registers) → StaysAt r q → c.held ≡ Some (track_under c.image.geometry r) → (c.changed ≡ true → c.held ≡ Some (track_under c.image.geometry q))
 stays_held c r q k held = λ _. held ∙ (rw (k.cylinder, k.head) refl)
 
--- It finds its area.
-pub found_looks : (was : Kept) (o o' : Opened) (place : Transfer) (s : Stage)
-    → Stands (looking_drive was o) → IsFirstPlace (slot_under was) o' was.registers place → HandIfAimed was.cache (number_under was) o'
-    → sight was.cache.image.geometry (track_of (slot_under was)) o' was.registers ≡ Found o' → sight was.cache.image.geometry (track_of (slot_under was)) o was.registers ≡ Found o'
-    → s ≡ found_at o' place → Looks was was o s
-found_looks was o o' place s x f h again first is =
-    let c = was.cache in
-    let r = was.registers in
-    let empty : is_filled_by place ≡ false = first_not_filled (slot_under was) o' r place f in
-    rw is (λ before. (
-    let work = first_work was o' before in
-    let placed = first_placed work place f h again in
-    let old = state_of (looking_drive was o) in
-    let new = state_of (parts_of was (found_at o' place) before []) in
-    let none : fault_met old new ≡ None = fault_none old new refl in
-    let len = first_len work place f placed in
-    let left_is : remaining (action_of o'.command) place 0 ≡ length_after c.image.geometry (track_of (slot_under was)) o' r [] = omega (arith, len) in
-    let marked : c.changed ≡ (is_written_by was.mark || false) = x.marked in
+-- The store is not called.
+comes_quiet : (loads saves : Bool) (d now : Parts) (after : Option Fault → DriveState) → Stands now → now.job.cache.image ≡ d.job.cache.image → saves ≡ false
+    → state_of now ≡ with_image (after None) now.job.cache.image → Comes loads saves (state_of d) after now
+comes_quiet loads saves d now after x image s state =
+    let none : fault_met (state_of d) (state_of now) ≡ None = fault_none (state_of d) (state_of now) (ap (λ (i : ImageState). i.failures) image) in
     record {
-      stands = record { volume = x.volume; arm = x.arm; anchored = x.anchored; marked = rw empty marked; work = record { moved = refl; left = omega arith; placed = placed; no_credit = x.work.no_credit } };
-      state = rw (none, no_filled_seen c.slots (number_under was) before place empty, first, left_is) refl;
-      calls = calls_none _ _ _ _ refl (rw first (and-false (is_written_by was.mark)));
-      at_hand = λ e. absurd (no_more c.image.loads e);
-    }))
+      stands = x;
+      state = rw none state;
+      calls = calls_none loads saves (state_of d) (state_of now) image s;
+      at_hand = λ e. absurd (no_more d.job.cache.image.loads (sym (ap (λ (i : ImageState). i.loads) image) ∙ e));
+    }
+
+-- It finds its area.
+pub found_looks : (old : HalfDone) (was : Mark) (o : Opened) (p : Progress) (s : Stage)
+    → Stands (parts_of old was Looking) → IsFirstPlace (own_slot old) o old.registers p.place → HandIfAimed old.cache (own_track old) o
+    → sight old.cache.image.geometry (track_of (own_slot old)) o old.registers ≡ Found o → sight old.cache.image.geometry (track_of (own_slot old)) old.opened old.registers ≡ Found o
+    → p ≡ first_progress (action_of o.command) p.place → s ≡ Passing → Looks (parts_of old was Looking) (parts_of (record old { opened = o; progress = p }) was s)
+found_looks old was o p s x f h again first p_is s_is =
+    let c = old.cache in
+    let place = p.place in
+    let empty : is_filled_by place ≡ false = first_not_filled (own_slot old) o old.registers place f in
+    let after : HalfDone = record old { opened = o; progress = first_progress (action_of o.command) place; passed = [] } in
+    let placed = first_placed (at_work after) place f h again in
+    let len = first_len (at_work after) place f placed in
+    let left_is : remaining (action_of o.command) place 0 ≡ length_after c.image.geometry (track_of (own_slot old)) o old.registers [] = omega (arith, len) in
+    let marked : c.changed ≡ (is_written_by was || false) = x.marked in
+    rw (p_is, s_is)
+    (comes_quiet _ _ (parts_of old was Looking) (parts_of after was Passing) _
+    (record { volume = x.volume; arm = x.arm; anchored = x.anchored; marked = rw empty marked; work = record { moved = refl; left = omega arith; placed = placed; no_credit = x.work.no_credit } })
+    refl (rw first (and-false (is_written_by was))) (rw (no_filled_seen c.slots (own_track old) old.before place empty, first, left_is) refl))
 
 -- The index passes.
-pub passed_looks : (was : Kept) (q : Registers) (o : Opened) (k : Kind) (s : Stage)
-    → Stands (looking_drive was o) → aim o.command ≡ Next k → was.cache.held ≡ Some (number_under was)
-    → sight was.cache.image.geometry (track_of (slot_under was)) o was.registers ≡ IndexPassed q
-    → s ≡ Looking o → Looks was (record was { registers = q }) o s
-passed_looks was q o k s x aimed held sighted is =
-    let c = was.cache in
-    let r = was.registers in
-    rw is (λ before. (
-    let g = c.image.geometry in
-    let keeps = rw sighted at (sight_keeps g (track_of (slot_under was)) o r x.arm) in
-    let old = state_of (looking_drive was o) in
-    let new = state_of (parts_of (kept c q was.mark) (Looking o) before []) in
-    let none : fault_met old new ≡ None = fault_none old new refl in
-    record {
-      stands = record { volume = x.volume; arm = stays_arm g r q keeps x.arm; anchored = stays_held c r q keeps held; marked = x.marked; work = record { transfers = x.work.transfers; credit = rw aimed tt; no_credit = keeps.credit ∙ x.work.no_credit } };
-      state = rw (none, sighted) refl;
-      calls = calls_none _ _ _ _ refl (rw sighted (and-false (is_written_by was.mark)));
-      at_hand = λ e. absurd (no_more c.image.loads e);
-    }))
+pub passed_looks : (old : HalfDone) (was : Mark) (q : Registers) (k : Kind)
+    → Stands (parts_of old was Looking) → aim old.opened.command ≡ Next k → old.cache.held ≡ Some (own_track old)
+    → sight old.cache.image.geometry (track_of (own_slot old)) old.opened old.registers ≡ IndexPassed q
+    → Looks (parts_of old was Looking) (parts_of (record old { registers = q }) was Looking)
+passed_looks old was q k x aimed held sighted =
+    let c = old.cache in
+    let r = old.registers in
+    let keeps = rw sighted at (sight_keeps c.image.geometry (track_of (own_slot old)) old.opened r x.arm) in
+    comes_quiet _ _ (parts_of old was Looking) (parts_of (record old { registers = q; passed = [] }) was Looking) _
+    (record {
+      volume = x.volume;
+      arm = stays_arm c.image.geometry r q keeps x.arm;
+      anchored = stays_held c r q keeps held;
+      marked = x.marked;
+      work = record { transfers = x.work.transfers; credit = rw aimed tt; no_credit = keeps.credit ∙ x.work.no_credit };
+    })
+    refl (rw sighted (and-false (is_written_by was))) (rw sighted refl)
 
 -- It finds none.
-pub missed_looks : (was : Kept) (q : Registers) (o : Opened)
-    → Stands (looking_drive was o) → was.cache.held ≡ Some (number_under was)
-    → sight was.cache.image.geometry (track_of (slot_under was)) o was.registers ≡ Missed q
-    → Looks was (record was { registers = q }) o (Over failed_ending)
-missed_looks was q o x held sighted =
-    let c = was.cache in
-    let r = was.registers in
-    λ before. (
-    let g = c.image.geometry in
-    let keeps = rw sighted at (sight_keeps g (track_of (slot_under was)) o r x.arm) in
+pub missed_looks : (old : HalfDone) (was : Mark) (q : Registers)
+    → Stands (parts_of old was Looking) → old.cache.held ≡ Some (own_track old)
+    → sight old.cache.image.geometry (track_of (own_slot old)) old.opened old.registers ≡ Missed q
+    → Looks (parts_of old was Looking) (parts_of (record old { registers = q }) was Failed)
+missed_looks old was q x held sighted =
+    let c = old.cache in
+    let r = old.registers in
+    let keeps = rw sighted at (sight_keeps c.image.geometry (track_of (own_slot old)) old.opened r x.arm) in
     let credit : q.credit ≡ None = keeps.credit ∙ x.work.no_credit in
-    let old = state_of (looking_drive was o) in
-    let new = state_of (parts_of (kept c q was.mark) (Over failed_ending) before []) in
-    let none : fault_met old new ≡ None = fault_none old new refl in
-    record {
-      stands = record { volume = x.volume; arm = stays_arm g r q keeps x.arm; anchored = stays_held c r q keeps held; marked = x.marked; work = rw credit tt };
-      state = rw (none, sighted) refl;
-      calls = calls_none _ _ _ _ refl (rw sighted (and-false (is_written_by was.mark)));
-      at_hand = λ e. absurd (no_more c.image.loads e);
-    })
+    comes_quiet _ _ (parts_of old was Looking) (parts_of (record old { registers = q; passed = [] }) was Failed) _
+    (record { volume = x.volume; arm = stays_arm c.image.geometry r q keeps x.arm; anchored = stays_held c r q keeps held; marked = x.marked; work = rw credit tt })
+    refl (rw sighted (and-false (is_written_by was))) (rw sighted refl)
 
 -- It goes on at the next head.
-pub next_looks : (was came : Kept) (q : Registers) (o : Opened) (k : Kind) (s : Stage)
-    → Stands (looking_drive was o) → aim o.command ≡ Next k
-    → sight was.cache.image.geometry (track_of (slot_under was)) o was.registers ≡ NextHead q
-    → Leaves was.cache came q → s ≡ Looking o → Looks was came o s
-next_looks was came q o k s x aimed sighted l is =
-    let c = was.cache in
-    rw (is, l.cache, l.registers, l.mark) (λ before. (
-    let g = c.image.geometry in
-    let keeps = rw sighted at (sight_keeps g (track_of (slot_under was)) o was.registers x.arm) in
-    let old = state_of (looking_drive was o) in
-    let new = state_of (parts_of (kept (after_save c) q Saved) (Looking o) before []) in
-    let none : fault_met old new ≡ None = fault_none old new (failures_saved c) in
-    record {
-      stands = saved_stands (looking_drive was o) q (Looking o) before [] x refl keeps.0 (record { transfers = x.work.transfers; credit = rw aimed tt; no_credit = keeps.1 ∙ x.work.no_credit });
-      state = rw (none, sighted, geometry_saved c) refl;
-      calls = calls_of_save _ _ c old new refl refl (changed_is (looking_drive was o) x refl ∙ rw sighted (sym (and-true (is_written_by was.mark))));
-      at_hand = λ e. absurd (no_more c.image.loads (sym (loads_saved c) ∙ e));
-    }))
+pub next_looks : (old new : HalfDone) (was now : Mark) (q : Registers) (k : Kind)
+    → Stands (parts_of old was Looking) → aim old.opened.command ≡ Next k
+    → sight old.cache.image.geometry (track_of (own_slot old)) old.opened old.registers ≡ NextHead q
+    → Leaves old new now q → Looks (parts_of old was Looking) (parts_of new now Looking)
+next_looks old new was now q k x aimed sighted l =
+    let c = old.cache in
+    let keeps = rw sighted at (sight_keeps c.image.geometry (track_of (own_slot old)) old.opened old.registers x.arm) in
+    rw (l.0, l.1)
+    (comes_saved _ _ (parts_of old was Looking) (record old { cache = after_save c; registers = q; passed = [] }) Looking _ x refl (rw sighted (and-true (is_written_by was))) refl refl keeps.0
+    (record { transfers = x.work.transfers; credit = rw aimed tt; no_credit = keeps.1 ∙ x.work.no_credit }) (rw (sighted, geometry_saved c) refl))
 
 -- The track can't be saved that it goes on from.
-pub lost_looks : (was came : Kept) (q : Registers) (o : Opened)
-    → Stands (looking_drive was o)
-    → sight was.cache.image.geometry (track_of (slot_under was)) o was.registers ≡ NextHead q
-    → Loses was.cache was.registers came → Looks was came o (Over failed_ending)
-lost_looks was came q o x sighted l =
-    let c = was.cache in
-    rw (l.cache, l.registers, l.mark) (λ before. (
+pub lost_looks : (old new : HalfDone) (was now : Mark) (q : Registers)
+    → Stands (parts_of old was Looking)
+    → sight old.cache.image.geometry (track_of (own_slot old)) old.opened old.registers ≡ NextHead q
+    → Loses old new now → Looks (parts_of old was Looking) (parts_of new now Failed)
+lost_looks old new was now q x sighted l =
+    let d = parts_of old was Looking in
+    let c = old.cache in
     let left = l.left in
-    let old = state_of (looking_drive was o) in
-    let new = state_of (parts_of (kept (after_failed_save c left) (lost_registers was.registers) Lost) (Over failed_ending) before []) in
-    let s = save_lost (looking_drive was o) was.registers came new x refl l refl in
-    record {
-      stands = lost_stands (looking_drive was o) left (lost_registers was.registers) (Over failed_ending) before [] x l.size refl refl refl tt;
+    let after : HalfDone = record old { cache = after_failed_save c left; registers = lost_registers old.registers; passed = [] } in
+    let drive = state_of (parts_of after Lost Failed) in
+    let s = save_lost d old new now drive x refl refl l refl in
+    rw (l.job, l.mark_is) (record {
+      stands = lost_stands d left after Failed x l.size refl refl refl refl tt;
       state = rw (s.fault, sighted, s.written, s.held, s.whole) refl;
-      calls = calls_of_failed_save _ _ c left old new refl refl (changed_is (looking_drive was o) x refl ∙ rw sighted (sym (and-true (is_written_by was.mark)))) l.changed;
+      calls = calls_of_failed_save _ _ c left (state_of d) drive refl refl (changed_is d x refl ∙ rw sighted (sym (and-true (is_written_by was)))) l.changed;
       at_hand = λ e. absurd (no_more c.image.loads e);
-    }))
+    })
 
 -- Its track can't be loaded.
 no_other : (c : CacheState) (n : ℕ) → c.held ≡ Some n → holds c.held n ≡ false → ⊥
 no_other c n e not = (let same : (n == n) ≡ true = grind (arith, nat_tests) in let other : (n == n) ≡ false = rw e at not in cc)
 
 -- what is written is at hand
-not_written : (was : Kept) (o : Opened) → Stands (looking_drive was o) → holds was.cache.held (number_under was) ≡ false → is_written_by was.mark ≡ false
-not_written was o x not = sym (changed_is (looking_drive was o) x refl) ∙ false_from_ne_true was.cache.changed (λ e. no_other was.cache (number_under was) (x.anchored e) not)
+not_written : (old : HalfDone) (was : Mark) → Stands (parts_of old was Looking) → holds old.cache.held (own_track old) ≡ false → is_written_by was ≡ false
+not_written old was x not = sym (changed_is (parts_of old was Looking) x refl) ∙ false_from_ne_true old.cache.changed (λ e. no_other old.cache (own_track old) (x.anchored e) not)
 
-pub unloaded_looks : (was : Kept) (c' : CacheState) (r' : Registers) (o : Opened) (k : Kind)
-    → Stands (looking_drive was o) → aim o.command ≡ Next k
-    → holds was.cache.held (number_under was) ≡ false → c' ≡ after_failed_hold was.cache → r' ≡ with_cause was.registers STORE_FAULT → Looks was (kept c' r' was.mark) o (Over failed_ending)
-unloaded_looks was c' r' o k x aimed not e f =
-    let c = was.cache in
-    rw (e, f) (λ before. (
-    let old = state_of (looking_drive was o) in
-    let new = state_of (parts_of (kept (after_failed_hold c) (with_cause was.registers STORE_FAULT) was.mark) (Over failed_ending) before []) in
-    let met : fault_met old new ≡ Some LoadFails = fault_loading old new refl refl in
-    let unwritten : is_written_by was.mark ≡ false = not_written was o x not in
-    let credit : was.registers.credit ≡ None = x.work.no_credit in
-    record {
-      stands = record { volume = volume_not_held c x.volume; arm = record { cylinder = x.arm.cylinder; head = x.arm.head }; anchored = λ t. absurd (no_other c (track_under c.image.geometry was.registers) (x.anchored t) not); marked = x.marked; work = rw credit tt };
+pub unloaded_looks : (old : HalfDone) (was : Mark) (c' : CacheState) (r' : Registers) (k : Kind)
+    → Stands (parts_of old was Looking) → aim old.opened.command ≡ Next k
+    → holds old.cache.held (own_track old) ≡ false → c' ≡ after_failed_hold old.cache → r' ≡ with_cause old.registers STORE_FAULT
+    → Looks (parts_of old was Looking) (parts_of (record old { cache = c'; registers = r' }) was Failed)
+unloaded_looks old was c' r' k x aimed not e f =
+    let d = parts_of old was Looking in
+    let c = old.cache in
+    let drive = state_of (parts_of (record old { cache = after_failed_hold c; registers = with_cause old.registers STORE_FAULT; passed = [] }) was Failed) in
+    let met : fault_met (state_of d) drive ≡ Some LoadFails = fault_loading (state_of d) drive refl refl in
+    let unwritten : is_written_by was ≡ false = not_written old was x not in
+    let credit : old.registers.credit ≡ None = x.work.no_credit in
+    rw (e, f) (record {
+      stands = record { volume = volume_not_held c x.volume; arm = record { cylinder = x.arm.cylinder; head = x.arm.head }; anchored = λ t. absurd (no_other c (own_track old) (x.anchored t) not); marked = x.marked; work = rw credit tt };
       state = rw (met, aimed) refl;
-      calls = calls_of_failed_hold _ _ c old new refl refl (rw aimed refl) (rw unwritten refl);
+      calls = calls_of_failed_hold _ _ c (state_of d) drive refl refl (rw aimed refl) (rw unwritten refl);
       at_hand = λ _. unwritten;
-    }))
+    })
 
 -- Its track was loaded first.
 sighted_with : (l : AfterLook) (d : DriveState) (i j : ImageState) → with_image (after_sight l (with_image d j)) i ≡ with_image (after_sight l d) i
 sighted_with (Ready o) d i j = refl
 sighted_with _ d i j = refl
 
-abbrev with_loaded : Kept → (held : Option ℕ) → Bool → Kept
-with_loaded was held b = record was { cache = record was.cache { image = loaded was.cache.image b; held = held } }
+abbrev with_loaded : HalfDone → (held : Option ℕ) → Bool → HalfDone
+with_loaded old held b = record old { cache = record old.cache { image = loaded old.cache.image b; held = held } }
 
 -- whether it was loaded or at hand, over any drive that came of it
-loaded_looks : (b : Bool) (was came : Kept) (o : Opened) (k : Kind) (s : Stage) (held : Option ℕ)
-    → (b ≡ false → is_written_by was.mark ≡ false) → aim o.command ≡ Next k → came.cache.image.loads ≡ (loaded was.cache.image b).loads → Looks (with_loaded was held b) came o s → Looks was came o s
-loaded_looks true was came o k s held clean aimed e l = λ before. (let x = l before in record { stands = x.stands; state = x.state; calls = x.calls; at_hand = x.at_hand })
-loaded_looks false was came o k s held clean aimed e l = λ before. (
-    let x = l before in
-    let unwritten : is_written_by was.mark ≡ false = clean refl in
-    let old = state_of (looking_drive was o) in
-    let new = state_of (parts_of came s before []) in
+loaded_looks : (b : Bool) (old : HalfDone) (was : Mark) (k : Kind) (now : Parts) (held : Option ℕ)
+    → (b ≡ false → is_written_by was ≡ false) → aim old.opened.command ≡ Next k → now.job.cache.image.loads ≡ (loaded old.cache.image b).loads
+    → Looks (parts_of (with_loaded old held b) was Looking) now → Looks (parts_of old was Looking) now
+loaded_looks true old was k now held clean aimed e x = record { stands = x.stands; state = x.state; calls = x.calls; at_hand = x.at_hand }
+loaded_looks false old was k now held clean aimed e x =
+    let unwritten : is_written_by was ≡ false = clean refl in
+    let d = state_of (parts_of old was Looking) in
+    let new = state_of (parts_of (record now.job { passed = [] }) now.mark now.stage) in
     record {
       stands = x.stands;
-      state = x.state ∙ sighted_with (look_by (fault_met old new) (record { opened = o; state = old.state })) old came.cache.image (loaded was.cache.image false);
-      calls = calls_behind_load _ _ old (with_image old (loaded was.cache.image false)) new refl (rw aimed refl) (rw unwritten refl) e x.calls;
+      state = x.state ∙ sighted_with (look_by (fault_met d new) (record { opened = old.opened; state = d.state })) d now.job.cache.image (loaded old.cache.image false);
+      calls = calls_behind_load _ _ d (with_image d (loaded old.cache.image false)) new refl (rw aimed refl) (rw unwritten refl) e x.calls;
       at_hand = λ _. unwritten;
-    })
+    }
 
 -- the look of a drive that holds the track now is that of the drive that was asked
-pub held_looks : (was came : Kept) (d : CacheState) (o : Opened) (k : Kind) (s : Stage)
-    → Stands (looking_drive was o) → aim o.command ≡ Next k → d ≡ after_hold was.cache (number_under was) → came.cache.image.loads ≡ d.image.loads → Looks (kept d was.registers was.mark) came o s → Looks was came o s
-held_looks was came d o k s x aimed held loads l =
-    let n : ℕ = number_under was in
-    loaded_looks (holds was.cache.held n) was came o k s (Some n) (not_written was o x) aimed (rw held at loads) (rw held at l)
+pub held_looks : (old : HalfDone) (was : Mark) (c : CacheState) (k : Kind) (now : Parts)
+    → Stands (parts_of old was Looking) → aim old.opened.command ≡ Next k → c ≡ after_hold old.cache (own_track old) → now.job.cache.image.loads ≡ c.image.loads
+    → Looks (parts_of (record old { cache = c }) was Looking) now → Looks (parts_of old was Looking) now
+held_looks old was c k now x aimed held loads l =
+    loaded_looks (holds old.cache.held (own_track old)) old was k now (Some (own_track old)) (not_written old was x) aimed (rw held at loads) (rw held at l)
 
--- The drive that was called.
-
--- the answer goes by the stage
-looked_work : (s : Stage) (passed : List ℕ) → looked_at s ≡ answer_of_look (work_of s passed)
-looked_work Idle passed = refl
-looked_work _ passed = refl
-
--- what one call makes of the drive that looks
-pub record HasLooked (parts : Parts) (now : DriveState) : Type 0 where
-  pub comes : Comes (look_loads now) (look_saves now) now (λ f. after_look f now) parts
-  pub answer : looked_at parts.stage ≡ answer_of_look (work_of parts.stage parts.passed)
-
--- for its area
-pub has_looked : (parts : Parts) (came : Kept) (s' : Stage) (o : Opened) (before' passed' : List ℕ) (now : DriveState)
-    → parts.stage ≡ Looking o → state_of parts ≡ now → passed' ≡ [] → Looks (kept parts.cache parts.registers parts.mark) came o s' → HasLooked (parts_of came s' before' passed') now
-has_looked parts came s' o before' passed' now is now_is nothing l =
-    let now_at : now ≡ state_of (looking_drive (kept parts.cache parts.registers parts.mark) o) = sym now_is ∙ rw is refl in
-    rw (now_at, nothing) (record { comes = l before'; answer = looked_work s' [] })
+-- The drive that was called, once no byte has passed.
+pub has_looked : (old now : Parts) (passed : List ℕ) (d : DriveState) → state_of old ≡ d → passed ≡ [] → Looks old now
+    → Comes (look_loads d) (look_saves d) d (λ f. after_look f d) (parts_of (record now.job { passed = passed }) now.mark now.stage)
+has_looked old now passed d is nothing l = rw (← is, nothing) l

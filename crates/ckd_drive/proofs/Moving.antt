@@ -9,7 +9,7 @@ use Rattle.ckd_command.specs.Answers.{CommandEnd}
 use Rattle.ckd_slot.specs.declared.windows.Window.{Window}
 use Rattle.ckd_drive.specs.declared.transfer.Transfer.{Transfer}
 use Rattle.ckd_drive.specs.declared.transfer.Transfer.TheVariants.{Sense, Field, Read, Search, Fill, Filled}
-use Rattle.ckd_drive.specs.Stage.{Progress, Passing}
+use Rattle.ckd_drive.specs.declared.answers.Stage.TheVariants.{Passing}
 use Rattle.ckd_command.specs.Tables.{is_giving}
 use Rattle.ckd_position.specs.Contents.{Sighted}
 use Rattle.ckd_command.specs.Commands.{Closing, area_bytes, length_after, command_end}
@@ -17,7 +17,7 @@ use Rattle.ckd_slot.specs.Buffer.{Lies}
 use Rattle.ckd_slot.specs.Cache.{CacheState, IsVolume, slot_held}
 use Rattle.ckd_drive.specs.Work as work
 use Rattle.ckd_drive.specs.Work.{DriveState, gives_now, left_of, given_now, passed_of, moved_on}
-use Rattle.ckd_drive.specs.Invariant.{Stands, IsPlaced, IsField, ClosesUnwritten, remaining, next_progress, given_on, state_of, slot_at, track_under, is_filled_by, Parts, track_in_reach, AtWork, closing_in, HalfDone, Works, Absorbs, own_slot, own_track, action_now, seen_with, at_work, kept, parts_of}
+use Rattle.ckd_drive.specs.Invariant.{Stands, IsPlaced, IsField, ClosesUnwritten, remaining, given_on, state_of, slot_at, is_filled_by, Parts, AtWork, closing_in, HalfDone, Works, Absorbs, own_slot, own_track, action_now, seen_with, with_taken, at_work, parts_of}
 use Rattle.ckd_command.proofs.Closings.{area_by, closing_by, sense_closes as closes_sense, sense_length}
 use Rattle.ckd_command.proofs.Lengths.{length_by}
 use Rattle.ckd_drive.proofs.Standing.{goes_of, slot_is}
@@ -98,35 +98,28 @@ absorbs_plain half more place' x f f' seen rest placed small =
       small = small;
     }
 
--- the command half done of a drive whose bytes pass
-abbrev pub half_of : Parts → Progress → HalfDone
-half_of parts p = record { cache = parts.cache; registers = parts.registers; before = parts.before; passed = parts.passed; progress = p }
-
 marked_by : (w f f' : Bool) → (f ≡ true → f' ≡ true) → ((w || f) || f') ≡ (w || f')
 marked_by false true false k = absurd (let e = k refl in cc)
 marked_by _ _ _ k = refl
 
 -- whatever the cache, the slot before and the place came to
-pub taken_stands : (parts : Parts) (p : Progress) (more : List ℕ) (c' : CacheState) (before' : List ℕ) (place : Transfer) (k : ℕ)
-    → Stands parts → parts.stage ≡ Passing p → k ≡ length more → Absorbs (half_of parts p) more c' before' place
-    → Stands (parts_of (kept c' parts.registers parts.mark) (Passing (next_progress p k place)) before' (parts.passed ++ more))
-taken_stands parts p more c' before' place k x is n a =
-    let marked : parts.cache.changed ≡ (is_written_by parts.mark || is_filled_by p.place) = rw is at x.marked in
+pub taken_stands : {d : Parts} {more : List ℕ} {c : CacheState} {before : List ℕ} {place : Transfer} → Stands d → d.stage ≡ Passing → Absorbs d.job more c before place
+    → Stands (parts_of (with_taken d.job more c before place) d.mark Passing)
+taken_stands {d} {more} {c} {before} {place} x is a =
+    let marked : d.job.cache.changed ≡ (is_written_by d.mark || is_filled_by d.job.progress.place) = rw is at x.marked in
     let w = a.works in
-    let now : c'.changed ≡ (is_written_by parts.mark || is_filled_by place) = a.changed ∙ rw marked (marked_by (is_written_by parts.mark) (is_filled_by p.place) (is_filled_by place) a.still) in
     record {
       volume = w.volume;
       arm = w.arm;
       anchored = w.anchored;
-      marked = now;
-      work = rw n w.goes;
+      marked = a.changed ∙ rw marked (marked_by (is_written_by d.mark) (is_filled_by d.job.progress.place) (is_filled_by place) a.still);
+      work = w.goes;
     }
 
 -- and is the drive that the definitions have
-pub taken_state : (parts : Parts) (p : Progress) (more : List ℕ) (c' : CacheState) (before' : List ℕ) (place : Transfer) (now : DriveState) (k : ℕ)
-    → parts.stage ≡ Passing p → state_of parts ≡ now → k ≡ length more → Absorbs (half_of parts p) more c' before' place
-    → state_of (parts_of (kept c' parts.registers parts.mark) (Passing (next_progress p k place)) before' (parts.passed ++ more)) ≡ record now { work = moved_on more now.work }
-taken_state parts p more c' before' place now k is now_is n a = rw (← now_is, is, n, a.image, a.seen_same) refl
+pub taken_state : {d : Parts} {more : List ℕ} {c : CacheState} {before : List ℕ} {place : Transfer} (now : DriveState) → d.stage ≡ Passing → state_of d ≡ now → Absorbs d.job more c before place
+    → state_of (parts_of (with_taken d.job more c before place) d.mark Passing) ≡ record now { work = moved_on more now.work }
+taken_state now is now_is a = rw (← now_is, is, a.image, a.seen_same) refl
 
 -- Bytes that are given.
 
@@ -138,7 +131,7 @@ read_absorbs : (half : HalfDone) (more : List ℕ) (w : Window) (u : Bool) → W
 read_absorbs half more w u x at may =
     let g = half.cache.image.geometry in
     let r = half.registers in
-    let o = half.progress.opened in
+    let o = half.opened in
     let passed = half.passed in
     let t = track_of (own_slot half) in
     let left : half.progress.left ≤ w.len = rw at at x.goes.left in
@@ -159,7 +152,7 @@ sense_absorbs : (half : HalfDone) (more b : List ℕ) → Works half → half.pr
 sense_absorbs half more b x at may =
     let g = half.cache.image.geometry in
     let r = half.registers in
-    let o = half.progress.opened in
+    let o = half.opened in
     let passed = half.passed in
     let t = track_of (own_slot half) in
     let left : half.progress.left ≤ 6 - length passed = rw at at x.goes.left in
@@ -202,35 +195,36 @@ given_absorbs half more k x n may giving = rw n (by_place half.progress.place re
     by_place (Filled w u) at = absurd (not_given _ _ refl (rw at at placed).takes giving)
 
 -- what may be given: so many bytes, and they are what the definitions give
-pub record Lends (p : Progress) (now : DriveState) (bytes : List ℕ) : Type 0 where
+pub record Lends (now : DriveState) (bytes : List ℕ) : Type 0 where
   pub size : length bytes ≡ left_of now.work
   pub bytes_are : bytes ≡ slice_range (given_now now now.work) (length (passed_of now.work)) (length (passed_of now.work) + left_of now.work)
 
-pub sense_lends : (parts : Parts) (p : Progress) (b : List ℕ) (now : DriveState)
-    → Stands parts → parts.stage ≡ Passing p → p.place ≡ Sense b → state_of parts ≡ now → Lends p now (slice_range b p.moved (p.moved + p.left))
-sense_lends parts p b now x is at now_is =
-    let goes = goes_of parts p x is in
+pub sense_lends : (d : Parts) (b : List ℕ) (now : DriveState)
+    → Stands d → d.stage ≡ Passing → d.job.progress.place ≡ Sense b → state_of d ≡ now → Lends now (slice_range b d.job.progress.moved (d.job.progress.moved + d.job.progress.left))
+sense_lends d b now x is at now_is =
+    let p = d.job.progress in
+    let goes = goes_of d x is in
     let h = (rw at at goes.placed).0 in
-    let left : p.left ≤ 6 - length parts.passed = rw at at goes.left in
+    let left : p.left ≤ 6 - length d.job.passed = rw at at goes.left in
     let long : length b ≡ 6 = ap length h.bytes_are in
     let size : length (slice_range b p.moved (p.moved + p.left)) ≡ p.left = omega (arith, length-take (p.moved + p.left - p.moved) (drop p.moved b), length-drop p.moved b, long, left, goes.moved, h.room) in
     record {
       size = rw (← now_is, is) size;
-      bytes_are = rw (← now_is, is, ← goes.moved, area_by action.GiveSense _ p.opened parts.registers h.is_sense, h.bytes_are) refl;
+      bytes_are = rw (← now_is, is, ← goes.moved, area_by action.GiveSense _ d.job.opened d.job.registers h.is_sense, h.bytes_are) refl;
     }
 
 -- the bytes of an area, by the slot as the code reads it
-pub read_lends : (parts : Parts) (p : Progress) (slot : List ℕ) (w : Window) (u : Bool) (now : DriveState)
-    → Stands parts → parts.stage ≡ Passing p → p.place ≡ Read w u → slot ≡ slot_held parts.cache → state_of parts ≡ now → Lends p now (slice_range slot w.start (w.start + p.left))
-read_lends parts p slot w u now x is at here_is now_is =
-    let passed = parts.passed in
-    let g = parts.cache.image.geometry in
-    let old = slot_at parts.cache.slots (track_under g parts.registers) in
-    let goes = goes_of parts p x is in
+pub read_lends : (d : Parts) (slot : List ℕ) (w : Window) (u : Bool) (now : DriveState)
+    → Stands d → d.stage ≡ Passing → d.job.progress.place ≡ Read w u → slot ≡ slot_held d.job.cache → state_of d ≡ now → Lends now (slice_range slot w.start (w.start + d.job.progress.left))
+read_lends d slot w u now x is at here_is now_is =
+    let p = d.job.progress in
+    let passed = d.job.passed in
+    let old = own_slot d.job in
+    let goes = goes_of d x is in
     let left : p.left ≤ w.len = rw at at goes.left in
     let h = (rw at at goes.placed).0 in
-    let slot_now : slot ≡ old = slot_is parts.cache (track_in_reach parts) slot h.held here_is in
-    let area = area_bytes (track_of old) p.opened parts.registers in
+    let slot_now : slot ≡ old = slot_is d.job.cache (own_track d.job) slot h.held here_is in
+    let area = area_bytes (track_of old) d.job.opened d.job.registers in
     let here : slice_range old w.start (w.start + p.left) ≡ slice_range area (length passed) (length passed + p.left) =
     lies_first old (drop (length passed) area) w p.left h.lies left ∙ rw (behind_less (length passed) p.left) refl in
     let size : length (slice_range old w.start (w.start + p.left)) ≡ p.left = omega (arith, length-take (w.start + p.left - w.start) (drop w.start old), length-drop w.start old, left, h.lies.within) in
@@ -239,25 +233,27 @@ read_lends parts p slot w u now x is at here_is now_is =
       bytes_are = rw (slot_now, ← now_is, is, at) here;
     }
 
--- what passing so many bytes makes of the drive
-pub record HasPassed (parts : Parts) (p : Progress) (more : List ℕ) (now : DriveState) (k : ℕ) : Type 0 where
-  pub stands : Stands (record parts { stage = Passing (next_progress p k (given_on p.place k)); passed = parts.passed ++ more })
-  pub state : state_of (record parts { stage = Passing (next_progress p k (given_on p.place k)); passed = parts.passed ++ more })
+-- what passing so many of these bytes makes of the drive
+pub record HasPassed (d : Parts) (bytes : List ℕ) (now : DriveState) (k : ℕ) : Type 0 where
+  pub long : length (take k bytes) ≡ k
+  pub stands : Stands (parts_of (with_taken d.job (take k bytes) d.job.cache d.job.before (given_on d.job.progress.place k)) d.mark Passing)
+  pub state : state_of (parts_of (with_taken d.job (take k bytes) d.job.cache d.job.before (given_on d.job.progress.place k)) d.mark Passing)
       ≡ record now { work = moved_on (slice_range (given_now now now.work) (length (passed_of now.work)) (length (passed_of now.work) + k)) now.work }
 
 -- by the bytes that are lent, as the caller of a drive has them
-pub has_passed : (parts : Parts) (p : Progress) (bytes : List ℕ) (now : DriveState) (k : ℕ)
-    → Stands parts → parts.stage ≡ Passing p → state_of parts ≡ now → gives_now now.work ≡ true → k ≤ left_of now.work
+pub has_passed : (d : Parts) (bytes : List ℕ) (now : DriveState) (k : ℕ)
+    → Stands d → d.stage ≡ Passing → state_of d ≡ now → gives_now now.work ≡ true → k ≤ left_of now.work
     → length bytes ≡ left_of now.work → bytes ≡ slice_range (given_now now now.work) (length (passed_of now.work)) (length (passed_of now.work) + left_of now.work)
-    → HasPassed parts p (take k bytes) now k
-has_passed parts p bytes now k x is now_is gives le long are =
+    → HasPassed d bytes now k
+has_passed d bytes now k x is now_is gives le long are =
     let more : List ℕ = take k bytes in
-    let n : k ≡ length more = omega (arith, length-take k bytes, long, le) in
-    let work_is : now.work ≡ work.Passing p.opened parts.passed p.left = sym (ap (λ (d : DriveState). d.work) now_is) ∙ rw is refl in
-    let works : Works (half_of parts p) = record { volume = x.volume; arm = x.arm; anchored = x.anchored; goes = goes_of parts p x is } in
-    let a = given_absorbs (half_of parts p) more k works n (rw work_is at le) (rw work_is at gives) in
+    let n : length more ≡ k = omega (arith, length-take k bytes, long, le) in
+    let work_is : now.work ≡ work.Passing d.job.opened d.job.passed d.job.progress.left = sym (ap (λ (y : DriveState). y.work) now_is) ∙ rw is refl in
+    let works : Works d.job = record { volume = x.volume; arm = x.arm; anchored = x.anchored; goes = goes_of d x is } in
+    let a = given_absorbs d.job more k works (sym n) (rw work_is at le) (rw work_is at gives) in
     let range : more ≡ slice_range (given_now now now.work) (length (passed_of now.work)) (length (passed_of now.work) + k) = rw (are, behind_less (length (passed_of now.work)) (left_of now.work), behind_less (length (passed_of now.work)) k) (take-take k (left_of now.work) (drop (length (passed_of now.work)) (given_now now now.work)) le) in
     record {
-      stands = taken_stands parts p more parts.cache parts.before (given_on p.place k) k x is n a;
-      state = taken_state parts p more parts.cache parts.before (given_on p.place k) now k is now_is n a ∙ ap (λ (b : List ℕ). record now { work = moved_on b now.work }) range;
+      long = n;
+      stands = taken_stands x is a;
+      state = taken_state {d = d} now is now_is a ∙ ap (λ (b : List ℕ). record now { work = moved_on b now.work }) range;
     }

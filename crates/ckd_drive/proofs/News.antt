@@ -26,8 +26,7 @@ use Rattle.ckd_slot.proofs.Writes.{bare_fits}
 use Rattle.ckd_drive.proofs.Fills.{there, new_slot_at, written_absorbs, reads_new}
 use Rattle.ckd_command.proofs.Closings.{closing_by}
 use Rattle.ckd_command.proofs.Lengths.{length_by}
-use Rattle.ckd_drive.proofs.Fields.{ChangesNothing}
-use Rattle.ckd_drive.proofs.Takes.{field_goes, field_absorbs}
+use Rattle.ckd_drive.proofs.Takes.{ChangesNothing, field_goes, field_absorbs}
 use Rattle.ckd_drive.proofs.Standing.{no_filled_seen, slot_is}
 
 -- a command whose first bytes change the track, once they came: the slot is this
@@ -37,10 +36,10 @@ new_work half more new w what = at_work (with_taken half more (with_held half.ca
 -- it goes on
 pub newly_absorbs : (half : HalfDone) (more new : List ℕ) (w : Window) (what : Written) (le0 : length {A = ℕ} [] ≤ w.len)
     → Works half → half.cache.held ≡ Some (own_track half) → is_filled_by half.progress.place ≡ false
-    → sight half.cache.image.geometry (track_of (own_slot half)) half.progress.opened half.registers ≡ Found half.progress.opened
+    → sight half.cache.image.geometry (track_of (own_slot half)) half.opened half.registers ≡ Found half.opened
     → is_giving (action_now half) ≡ false
     → 0 < length half.passed + length more → half.progress.left - length more ≤ w.len → length half.passed + length more < 2 ^ 32
-    → (f : IsFilled (new_work half more new w what) (slot_in (new_work half more new w what)) w (closes_by half.registers half.progress.opened what))
+    → (f : IsFilled (new_work half more new w what) (slot_in (new_work half more new w what)) w (closes_by half.registers half.opened what))
     → new ≡ slot_of half.cache.image.geometry.track_size (f.closes [] le0).track
     → Absorbs half more (with_held half.cache new) (slot_held half.cache) (Filled w what)
 newly_absorbs half more new w what le0 x held plain again takes some left small f is =
@@ -56,7 +55,7 @@ newly_absorbs half more new w what le0 x held plain again takes some left small 
     let same : (passed ++ more) ++ [] ≡ passed ++ more = append-nil (passed ++ more) in
     let made : new ≡ f.head ++ (padded (drop f.lead ((passed ++ more) ++ [])) f.room ++ f.tail) = is ∙ sym (sym k.slot_is) in
     let made' : new ≡ f.head ++ (padded (drop f.lead (passed ++ more)) f.room ++ f.tail) = made ∙ ap (λ (b : List ℕ). f.head ++ (padded (drop f.lead b) f.room ++ f.tail)) same in
-    let wants : length_after g (track_of old) half.progress.opened half.registers (passed ++ more) ≡ f.lead + f.room = ap (λ (b : List ℕ). length_after g (track_of old) half.progress.opened half.registers b) (sym same) ∙ f.wants [] le0 in
+    let wants : length_after g (track_of old) half.opened half.registers (passed ++ more) ≡ f.lead + f.room = ap (λ (b : List ℕ). length_after g (track_of old) half.opened half.registers b) (sym same) ∙ f.wants [] le0 in
     let far = length-append passed more in
     let has : HasFilled (new_work half more new w what) w what = record {
       at_hand = record { held = held; readable = rw at_new read.0 };
@@ -111,7 +110,7 @@ field_stays half more f field may at is none =
     let moved : half.progress.moved + length more ≡ length (passed ++ more) = omega (arith, goes.moved, k.long) in
     let come : take (length (passed ++ more)) field ≡ passed ++ more = rw is k.collected in
     field_absorbs half more f field may at is
-    (no_change (action_of half.progress.opened.command) half.cache.image.geometry (track_of (slot_at half.cache.slots (track_under half.cache.image.geometry half.registers))) half.progress.opened half.registers (length (passed ++ more)) field (passed ++ more) (rw moved at none) refl come)
+    (no_change (action_of half.opened.command) half.cache.image.geometry (track_of (slot_at half.cache.slots (track_under half.cache.image.geometry half.registers))) half.opened half.registers (length (passed ++ more)) field (passed ++ more) (rw moved at none) refl come)
 
 -- the home address
 
@@ -169,7 +168,7 @@ home_absorbs half more f field h new may at is e new_is =
     let k = field_goes half more f may at in
     let goes = may.works.goes in
     let moved : p.moved + length more ≡ length (half.passed ++ more) = omega (arith, goes.moved, k.long) in
-    let home = is_home (action_of p.opened.command) (own_home_address r) (p.moved + length more) field h e in
+    let home = is_home (action_of half.opened.command) (own_home_address r) (p.moved + length more) field h e in
     let b = half.passed ++ more in
     let five : length b ≡ 5 = sym moved ∙ home.five in
     let come : take 5 field ≡ b = rw (five, ← is) at k.collected in

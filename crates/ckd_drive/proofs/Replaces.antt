@@ -139,19 +139,19 @@ fill_filled job part i b u is upd reads there lt some le so size =
 pub record FillGoes (half : HalfDone) (more : List ℕ) (a : Area) (w : Window) (no_data : Bool) : Type 0 where
   pub is : action_now half ≡ action.Update
   pub hand : AtHand half.cache (own_track half)
-  pub upd : IsUpdate (extent_of half.progress.opened.command)
+  pub upd : IsUpdate (extent_of half.opened.command)
   pub none : half.passed ≡ []
   pub le : length more ≤ w.len
   pub left : half.progress.left ≤ w.len
   pub there : IsRecordOf (track_in (own_slot half)) a
-  pub place : IsPlaceOf (extent_of half.progress.opened.command) (track_in (own_slot half)) a w
+  pub place : IsPlaceOf (extent_of half.opened.command) (track_in (own_slot half)) a w
   pub within : w.start + w.len ≤ half.cache.image.geometry.track_size
-  pub again : sight half.cache.image.geometry (track_of (own_slot half)) half.progress.opened half.registers ≡ Found half.progress.opened
-  pub size : length (area_bytes (track_of (own_slot half)) half.progress.opened half.registers) ≡ w.len
-  pub so : command_end (end_of_area (track_of (own_slot half)) half.progress.opened half.registers) ≡ command_end (area_ends half.progress.opened half.registers no_data)
+  pub again : sight half.cache.image.geometry (track_of (own_slot half)) half.opened half.registers ≡ Found half.opened
+  pub size : length (area_bytes (track_of (own_slot half)) half.opened half.registers) ≡ w.len
+  pub so : command_end (end_of_area (track_of (own_slot half)) half.opened half.registers) ≡ command_end (area_ends half.opened half.registers no_data)
 
 -- bytes that come belong to an area
-pub no_area : (half : HalfDone) (more : List ℕ) (w : Window) (no_data : Bool) → MayTake half more → half.progress.place ≡ Fill w no_data → half.progress.opened.area ≡ None → (length more == 0) ≡ false → ⊥
+pub no_area : (half : HalfDone) (more : List ℕ) (w : Window) (no_data : Bool) → MayTake half more → half.progress.place ≡ Fill w no_data → half.opened.area ≡ None → (length more == 0) ≡ false → ⊥
 no_area half more w no_data may at none came =
     let some : 0 < length more = grind (arith, nat_tests) in
     let g = half.cache.image.geometry in
@@ -159,11 +159,11 @@ no_area half more w no_data may at none came =
     let t = track_of (slot_at half.cache.slots n) in
     let left : half.progress.left ≤ w.len = rw at at may.works.goes.left in
     let h = (rw at at may.works.goes.placed).0 in
-    let bytes : area_bytes t half.progress.opened half.registers ≡ [] = area_by action.Update t half.progress.opened half.registers h.is_update ∙ rw none refl in
+    let bytes : area_bytes t half.opened half.registers ≡ [] = area_by action.Update t half.opened half.registers h.is_update ∙ rw none refl in
     let zero : 0 ≡ w.len = sym (ap length bytes) ∙ h.lies.size in
     omega (arith, zero, left, may.room, some)
 
-pub fill_goes : (half : HalfDone) (more : List ℕ) (a : Area) (w : Window) (no_data : Bool) → MayTake half more → half.progress.place ≡ Fill w no_data → half.progress.opened.area ≡ Some a → 0 < length more
+pub fill_goes : (half : HalfDone) (more : List ℕ) (a : Area) (w : Window) (no_data : Bool) → MayTake half more → half.progress.place ≡ Fill w no_data → half.opened.area ≡ Some a → 0 < length more
     → FillGoes half more a w no_data
 fill_goes half more a w no_data may at area some =
     let r = half.registers in
@@ -175,13 +175,13 @@ fill_goes half more a w no_data may at area some =
     let left : p.left ≤ w.len = rw at at may.works.goes.left in
     let placed = rw at at may.works.goes.placed in
     let h = placed.0 in
-    let e = extent_of p.opened.command in
-    let upd = update_extent p.opened.command h.is_update in
+    let e = extent_of half.opened.command in
+    let upd = update_extent half.opened.command h.is_update in
     let reads = old_read old h.at_hand.readable in
-    let bytes : area_bytes t p.opened r ≡ bytes_of e t a = area_by action.Update t p.opened r h.is_update ∙ ap (λ (y : Option Area). bytes_at e t y) area in
+    let bytes : area_bytes t half.opened r ≡ bytes_of e t a = area_by action.Update t half.opened r h.is_update ∙ ap (λ (y : Option Area). bytes_at e t y) area in
     let count : length (bytes_of e t a) ≡ w.len = ap length (sym bytes) ∙ h.lies.size in
     let full : 0 < length (bytes_of e t a) = omega (arith, count, left, may.room, some) in
-    let closes = closing_by action.Update g t p.opened r [] h.is_update in
+    let closes = closing_by action.Update g t half.opened r [] h.is_update in
     record {
       is = h.is_update;
       hand = h.at_hand;
@@ -199,23 +199,23 @@ fill_goes half more a w no_data may at area some =
 
 -- the slot that was cleared, and then gets bytes
 abbrev pub cleared_slot : HalfDone → Area → List ℕ
-cleared_slot half a = slot_of half.cache.image.geometry.track_size (with_record_changed (replaced (extent_of half.progress.opened.command) []) a (track_in (own_slot half)))
+cleared_slot half a = slot_of half.cache.image.geometry.track_size (with_record_changed (replaced (extent_of half.opened.command) []) a (track_in (own_slot half)))
 
 pub record Replaces (half : HalfDone) (more : List ℕ) (a : Area) (w : Window) (no_data : Bool) : Type 0 where
   pub records : SameRecords (cleared_slot half a) (overwritten (cleared_slot half a) w.start more)
   pub absorbs : Absorbs half more (with_held half.cache (overwritten (cleared_slot half a) w.start more)) (slot_held half.cache) (Filled (record { start = w.start + length more; len = w.len - length more }) (written.Area no_data))
 
 -- the drive then holds a track that is being written
-pub fill_absorbs : (half : HalfDone) (more : List ℕ) (a : Area) (w : Window) (no_data : Bool) → MayTake half more → half.progress.place ≡ Fill w no_data → half.progress.opened.area ≡ Some a → 0 < length more
-    → FillGoes half more a w no_data → FitsSlot half.cache.image.geometry.track_size (with_record_changed (replaced (extent_of half.progress.opened.command) []) a (track_in (own_slot half))) → Replaces half more a w no_data
+pub fill_absorbs : (half : HalfDone) (more : List ℕ) (a : Area) (w : Window) (no_data : Bool) → MayTake half more → half.progress.place ≡ Fill w no_data → half.opened.area ≡ Some a → 0 < length more
+    → FillGoes half more a w no_data → FitsSlot half.cache.image.geometry.track_size (with_record_changed (replaced (extent_of half.opened.command) []) a (track_in (own_slot half))) → Replaces half more a w no_data
 fill_absorbs half more HomeAddress w no_data may at area some k f = absurd k.there
 fill_absorbs half more (Of part i) w no_data may at area some k f =
-    let u = command_end (area_ends half.progress.opened half.registers no_data) in
+    let u = command_end (area_ends half.opened half.registers no_data) in
     let g = half.cache.image.geometry in
     let n : ℕ = track_under g half.registers in
     let old = slot_at half.cache.slots n in
     let size = g.track_size in
-    let e = extent_of half.progress.opened.command in
+    let e = extent_of half.opened.command in
     let t = track_in old in
     let t0 = cleared e part i t in
     let s1 = slot_of size t0 in
@@ -273,15 +273,15 @@ pub record FillsCleared (half : HalfDone) (more : List ℕ) (a : Area) (w : Wind
   pub records : SameRecords (slot_held c) (overwritten (slot_held c) w.start more)
   pub absorbs : Absorbs half more (with_held c (overwritten (slot_held c) w.start more)) (slot_held half.cache) (Filled (record { start = w.start + length more; len = w.len - length more }) (written.Area no_data))
 
-pub fill_there : (half : HalfDone) (more : List ℕ) (a : Area) (w : Window) (no_data : Bool) → MayTake half more → half.progress.place ≡ Fill w no_data → half.progress.opened.area ≡ Some a → (length more == 0) ≡ false → IsRecordOf (track_in (slot_held half.cache)) a
+pub fill_there : (half : HalfDone) (more : List ℕ) (a : Area) (w : Window) (no_data : Bool) → MayTake half more → half.progress.place ≡ Fill w no_data → half.opened.area ≡ Some a → (length more == 0) ≡ false → IsRecordOf (track_in (slot_held half.cache)) a
 fill_there half more a w no_data may at area came =
     let k = fill_goes half more a w no_data may at area (grind (arith, nat_tests)) in
     rw (slot_is half.cache (own_track half) (slot_held half.cache) k.hand.held refl) k.there
 
 -- by the cache as the code has it between the two writes
-pub fills_cleared : (half : HalfDone) (more : List ℕ) (a : Area) (w : Window) (no_data : Bool) (c : CacheState) → MayTake half more → half.progress.place ≡ Fill w no_data → half.progress.opened.area ≡ Some a → (length more == 0) ≡ false
-    → c ≡ with_held half.cache (slot_of half.cache.image.geometry.track_size (with_record_changed (replaced (extent_of half.progress.opened.command) []) a (track_in (slot_held half.cache))))
-    → FitsSlot half.cache.image.geometry.track_size (with_record_changed (replaced (extent_of half.progress.opened.command) []) a (track_in (slot_held half.cache))) → FillsCleared half more a w no_data c
+pub fills_cleared : (half : HalfDone) (more : List ℕ) (a : Area) (w : Window) (no_data : Bool) (c : CacheState) → MayTake half more → half.progress.place ≡ Fill w no_data → half.opened.area ≡ Some a → (length more == 0) ≡ false
+    → c ≡ with_held half.cache (slot_of half.cache.image.geometry.track_size (with_record_changed (replaced (extent_of half.opened.command) []) a (track_in (slot_held half.cache))))
+    → FitsSlot half.cache.image.geometry.track_size (with_record_changed (replaced (extent_of half.opened.command) []) a (track_in (slot_held half.cache))) → FillsCleared half more a w no_data c
 fills_cleared half more a w no_data c may at area came made fits =
     let some : 0 < length more = grind (arith, nat_tests) in
     let k = fill_goes half more a w no_data may at area some in

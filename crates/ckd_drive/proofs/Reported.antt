@@ -1,6 +1,6 @@
 -- A failed call of the store is reported: it follows from what the definitions say of the state, and from how often the
 -- store was called.
-use Rattle.std.proofs.Common.{◌≡◌, ◌∙◌, inl, inr, ◌⊎◌, ap, sym, refl, ℕ, ◌+◌, List, Bool, true, false, ◌&&◌, Option, Some, None, arith}
+use Rattle.std.proofs.Common.{◌≡◌, ◌∙◌, inl, inr, ◌⊎◌, ap, sym, subst, refl, ℕ, ◌+◌, List, Bool, true, false, ◌&&◌, Option, Some, None, arith}
 use Rattle.std.proofs.lemmas.Bool.{and_parts, true_from_ne_false}
 use Rattle.ckd_command.specs.declared.registers.Registers.{Registers}
 use Rattle.ckd_command.specs.declared.registers.Mark.TheVariants.{Written}
@@ -16,8 +16,8 @@ use Rattle.ckd_command.proofs.CommandFacts.{NotTold, BeginsSilent, SightSilent, 
 use Rattle.ckd_drive.specs.declared.answers.Begun.{Begun}
 use Rattle.ckd_drive.specs.declared.answers.Begun.TheVariants as answer
 use Rattle.ckd_drive.specs.Work.{Work, Over, Looking, Passing, DriveState, CallsStore, Reports, fault_met, with_image, open_at, after_begin, after_begun, answer_of_begin, begin_saves, goes_to_cylinder_zero, after_look, after_look_of, after_sight, look_loads, look_loads_of, look_saves, look_saves_of, goes_to_next_head, failed_ending, after_end, closed_of, ending_of, end_saves, end_saves_of, after_settle, settled_state, is_next}
-use Rattle.ckd_drive.proofs.Faults.{fault_none, fault_loading, fault_saving, mark_written}
-use Rattle.ckd_drive.proofs.Calls.{no_more}
+use Rattle.ckd_drive.proofs.Calls.{fault_none, fault_loading, fault_saving, mark_written, no_more}
+use Rattle.ckd_drive.specs.Laws.{Begin, Look, Pass, End, Settle, TellsFailures, EachCallTells, Start, Then, GainsByFailures, EachTrailTells}
 
 -- What is reported.
 
@@ -33,30 +33,31 @@ pub record TellsFault (s : State) : Type 0 where
 lost_tells : (s : State) (left : List ℕ) → TellsFault (lost s left)
 lost_tells s left = record { told = store_fault_is_told (record s.registers { credit = None }); unwritten = refl }
 
--- what a call reports that leaves this by the fault that it met
-reports_by : (so : Type 0) (loads saves : Bool) (old new : DriveState) (after : Option Fault → State)
+-- What a call reports whose outcome goes by the fault that it met: none is told where it met none; else the outcome is so, and
+-- told. Its premises are many, since four calls come here, each by facts of its own.
+reports_by : (so : Option Fault → Type 0) (loads saves : Bool) (old new : DriveState) (after : Option Fault → State)
     → new.state ≡ after (fault_met old new) → CallsStore loads saves old new → NotTold old.state.registers (after None).registers
-    → ((left : List ℕ) → saves ≡ true → fault_met old new ≡ Some (SaveFails left) → so × TellsFault (after (Some (SaveFails left))))
-    → (loads ≡ true → new.image.loads ≡ old.image.loads + 1 → fault_met old new ≡ Some LoadFails → so × TellsFault (after (Some LoadFails)))
-    → Reports so old new
+    → ((left : List ℕ) → saves ≡ true → so (Some (SaveFails left)) × TellsFault (after (Some (SaveFails left))))
+    → (loads ≡ true → new.image.loads ≡ old.image.loads + 1 → so (Some LoadFails) × TellsFault (after (Some LoadFails)))
+    → Reports (so (fault_met old new)) old new
 reports_by so loads saves old new after state k quiet saving loading = record {
   failed = elim k.failures [
     | inl same ↦ inl same
     | inr x ↦ elim x.1 [
-      | inl s ↦ (let saved = rw s at k.saves in let met = fault_saving old new x.0 saved in fails _ met (saving _ s met))
+      | inl s ↦ (let saved = rw s at k.saves in fails _ (fault_saving old new x.0 saved) (saving _ s))
       | inr more ↦ elim k.loads [
         | inl same ↦ absurd (no_more old.image.loads (sym same ∙ more))
-        | inr l ↦ (let saved = rw l.1 at k.saves in let met = fault_loading old new x.0 (omega (arith, saved)) in fails _ met (loading l.0 more met))
+        | inr l ↦ (let saved = rw l.1 at k.saves in fails _ (fault_loading old new x.0 (omega (arith, saved))) (loading l.0 more))
       ]
     ]
   ];
   good = λ same told. heard old.state.registers (after None).registers quiet (sym (ap (λ (x : State). tells_equipment_check x.registers.sense) (state ∙ ap after (fault_none old new same))) ∙ told);
 }
   where
-    fails : (f : Option Fault) → fault_met old new ≡ f → so × TellsFault (after f) → (new.image.failures ≡ old.image.failures) ⊎ (so × (tells_equipment_check new.state.registers.sense ≡ true) × (is_written new.state ≡ false))
+    fails : (f : Option Fault) → fault_met old new ≡ f → so f × TellsFault (after f) → (new.image.failures ≡ old.image.failures) ⊎ (so (fault_met old new) × (tells_equipment_check new.state.registers.sense ≡ true) × (is_written new.state ≡ false))
     fails f met x =
         let is : new.state ≡ after f = state ∙ ap after met in
-        inr (x.0, ap (λ (y : State). tells_equipment_check y.registers.sense) is ∙ x.1.told, ap (λ (y : State). is_written y) is ∙ x.1.unwritten)
+        inr (rw met x.0, rw is x.1.told, rw is x.1.unwritten)
 
 -- Begin.
 
@@ -80,12 +81,12 @@ pub begin_reports : (old new : DriveState) (code : ℕ) (a : Begun)
     → Reports (a ≡ answer.Rejected) old new
 begin_reports old new code a state says k =
     let b = beginning code old.state.registers in
-    reports_by (a ≡ answer.Rejected) false (begin_saves code old) old new (λ f. (after_begin f code old).state) (ap (λ (d : DriveState). d.state) state) k (begun_quiet old b (beginning_silent code old.state.registers))
-    (λ left saved met.
+    rw says (reports_by (λ f. answer_of_begin (begin f code old.state) ≡ answer.Rejected) false (begin_saves code old) old new (λ f. (after_begin f code old).state) (ap (λ (d : DriveState). d.state) state) k (begun_quiet old b (beginning_silent code old.state.registers))
+    (λ left saved.
     (let both = and_parts (is_written old.state) (goes_to_cylinder_zero b) saved in
     let x = loses_at_begin old.state b left both.0 both.1 in
-    (says ∙ rw (met, x.rejected) refl, rw x.rejected x.tells)))
-    (λ loaded more met. absurd cc)
+    (rw x.rejected refl, rw x.rejected x.tells)))
+    (λ loaded more. absurd cc))
 
 -- Look.
 
@@ -123,9 +124,10 @@ pub look_reports : (old new : DriveState)
     → new ≡ with_image (after_look (fault_met old new) old) new.image → CallsStore (look_loads old) (look_saves old) old new → (new.image.loads ≡ old.image.loads + 1 → is_written old.state ≡ false)
     → Reports (new.work ≡ Over failed_ending) old new
 look_reports old new state k at_hand =
-    reports_by (new.work ≡ Over failed_ending) (look_loads old) (look_saves old) old new (λ f. (after_look f old).state) (ap (λ (d : DriveState). d.state) state) k (look_quiet old old.work)
-    (λ left saved met. (let x = loses_at_look old old.work left saved in (ap (λ (d : DriveState). d.work) state ∙ rw met x.0, x.1)))
-    (λ loaded more met. (let x = loads_at_look old old.work loaded (at_hand more) in (ap (λ (d : DriveState). d.work) state ∙ rw met x.0, x.1)))
+    let work : new.work ≡ (after_look (fault_met old new) old).work = ap (λ (d : DriveState). d.work) state in
+    let P : Work → Type 0 = λ w. Reports (w ≡ Over failed_ending) old new in
+    subst P (sym work) (reports_by (λ f. (after_look f old).work ≡ Over failed_ending) (look_loads old) (look_saves old) old new (λ f. (after_look f old).state) (ap (λ (d : DriveState). d.state) state) k (look_quiet old old.work)
+    (λ left saved. loses_at_look old old.work left saved) (λ loaded more. loads_at_look old old.work loaded (at_hand more)))
 
 -- End.
 
@@ -151,9 +153,8 @@ pub end_reports : (old new : DriveState) (e : DriveEnding)
     → new ≡ with_image (after_end (fault_met old new) old) new.image → e ≡ ending_of (closed_of (fault_met old new) old old.work) → CallsStore false (end_saves old) old new
     → Reports (e ≡ failed_ending) old new
 end_reports old new e state says k =
-    reports_by (e ≡ failed_ending) false (end_saves old) old new (λ f. (after_end f old).state) (ap (λ (d : DriveState). d.state) state) k (end_quiet old old.work)
-    (λ left saved met. (let x = loses_at_end old old.work left saved in (says ∙ rw met (ap (λ (y : Closed). ending_of y) x), rw x (lost_tells old.state left))))
-    (λ loaded more met. absurd cc)
+    rw says (reports_by (λ f. ending_of (closed_of f old old.work) ≡ failed_ending) false (end_saves old) old new (λ f. (after_end f old).state) (ap (λ (d : DriveState). d.state) state) k (end_quiet old old.work)
+    (λ left saved. (let x = loses_at_end old old.work left saved in (ap (λ (y : Closed). ending_of y) x, rw x (lost_tells old.state left)))) (λ loaded more. absurd cc))
 
 -- Settle.
 
@@ -161,9 +162,36 @@ pub settle_reports : (old new : DriveState)
     → new ≡ with_image (after_settle (fault_met old new) old) new.image → CallsStore false (is_written old.state) old new
     → Reports (unsaved new.state ≡ Some (old.state.registers.cylinder, old.state.registers.head)) old new
 settle_reports old new state k =
-    reports_by _ false (is_written old.state) old new (λ f. settled_state f old.state) (ap (λ (d : DriveState). d.state) state) k (λ e. e)
-    (λ left saved met.
+    let now : new.state ≡ settled_state (fault_met old new) old.state = ap (λ (d : DriveState). d.state) state in
+    let P : State → Type 0 = λ s. Reports (unsaved s ≡ Some (old.state.registers.cylinder, old.state.registers.head)) old new in
+    subst P (sym now) (reports_by (λ f. unsaved (settled_state f old.state) ≡ Some (old.state.registers.cylinder, old.state.registers.head)) false (is_written old.state) old new (λ f. settled_state f old.state) now k (λ e. e)
+    (λ left saved.
     (let written : old.state.mark ≡ Written = mark_written old.state.mark saved in
     let is : settled_state (Some (SaveFails left)) old.state ≡ lost old.state left = rw written refl in
-    (ap (λ (d : DriveState). unsaved d.state) state ∙ rw (met, is) refl, rw is (lost_tells old.state left))))
-    (λ loaded more met. absurd cc)
+    (rw is refl, rw is (lost_tells old.state left))))
+    (λ loaded more. absurd cc))
+
+-- Over any calls of the drive.
+
+-- what is reported where the count rose
+told : (loads saves : Bool) (so : Type 0) (old new : DriveState) → CallsStore loads saves old new → Reports so old new → TellsFailures old new
+told loads saves so old new k r = elim k.failures [
+  | inl same ↦ inl (same, r.good same)
+  | inr more ↦ elim r.failed [ inl same ↦ absurd (no_more old.image.failures (sym same ∙ more.0)) | inr x ↦ inr (more.0, x.1, x.2) ]
+]
+
+pub each_call_tells : EachCallTells
+each_call_tells old new (Begin code answer state answers calls reported) = told _ _ _ old new calls reported
+each_call_tells old new (Look state calls reported) = told _ _ _ old new calls reported
+each_call_tells old new (Pass work moved) = inl (ap (λ (d : DriveState). d.image.failures) moved, λ t. ap (λ (d : DriveState). tells_equipment_check d.state.registers.sense) (sym moved) ∙ t)
+each_call_tells old new (End ending state ends calls reported) = told _ _ _ old new calls reported
+each_call_tells old new (Settle state calls reported) = told _ _ _ old new calls reported
+
+-- one call more
+on : (first d e : DriveState) → GainsByFailures first d → TellsFailures d e → GainsByFailures first e
+on first d e x (inl y) = record { rose = x.rose; counted = y.0 ∙ x.counted; gained = λ none t. x.gained none (y.1 t) }
+on first d e x (inr y) = record { rose = x.rose + 1; counted = (let more = y.0 in let before = x.counted in omega (arith, more, before)); gained = λ none t. absurd (omega (arith, none)) }
+
+pub each_trail_tells : EachTrailTells
+each_trail_tells first _ Start = record { rose = 0; counted = omega arith; gained = λ none t. t }
+each_trail_tells first _ (Then d e trail call) = on first d e (each_trail_tells first d trail) (each_call_tells d e call)

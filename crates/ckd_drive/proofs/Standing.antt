@@ -1,26 +1,27 @@
 -- A drive that stands, and after its parts have changed.
-use Rattle.std.proofs.Common.{◌≡◌, ℕ, ◌+◌, ◌*◌, ◌<◌, ◌≤◌, length, refl, arith, add-one, ◌∙◌, subst, List, Bool, true, false, None, Result, Ok, Err, OnOk, OnErr, unwrap_or, length-set, Some}
+use Rattle.std.proofs.Common.{◌≡◌, ℕ, ◌+◌, ◌*◌, ◌<◌, ◌≤◌, length, refl, arith, add-one, ◌∙◌, List, Bool, true, false, None, unwrap_or, length-set, Some, ap}
 use Rattle.std.proofs.Math.Nat.{mul-le-mul_right, suc-mul}
 use Rattle.ckd_track.specs.Model.{heads_of}
 use Rattle.ckd_track.specs.declared.geometries.Geometry.{Geometry}
 use Rattle.ckd_track.specs.Geometry.{tracks_of}
 use Rattle.ckd_command.specs.declared.registers.Registers.{Registers}
 use Rattle.ckd_command.specs.Commands.{IsAtTrack}
-use Rattle.ckd_drive.specs.Invariant.{Stands, track_under, Parts, track_in_reach, StageIs, CreditIs, is_filled, work_of, kept, parts_of, Goes, seen_by, slot_at, is_filled_by, AtWork, number_in}
+use Rattle.ckd_drive.specs.Invariant.{Stands, track_under, HalfDone, Parts, own_track, StageIs, CreditIs, is_filled, work_of, parts_of, Goes, seen_by, slot_at, is_filled_by, AtWork, number_in, state_of}
 use Rattle.std.proofs.lemmas.List.Elements.{All-set}
-use Rattle.std.specs.Result.{is_err}
 use Rattle.ckd_track.specs.declared.model.DriveModel.{DriveModel}
 use Rattle.ckd_track.specs.declared.model.DriveModel.TheVariants.{D2311, D2314}
-use Rattle.ckd_image.specs.declared.store.StoreFault.{StoreFault}
 use Rattle.ckd_command.specs.declared.registers.Mark.TheVariants.{Saved, Lost}
-use Rattle.ckd_drive.specs.Stage.{Stage, Idle, Passing, Progress}
+use Rattle.ckd_drive.specs.declared.answers.Stage.{Stage}
+use Rattle.ckd_drive.specs.declared.answers.Stage.TheVariants.{Idle, Passing}
 use Rattle.ckd_command.specs.Answers.{moved_to}
 use Rattle.ckd_slot.specs.Cache.{CacheState, IsVolume, saved, after_save, after_failed_save, after_failed_hold, slot_held}
-use Rattle.ckd_drive.specs.Work.{is_idle}
+use Rattle.ckd_drive.specs.Work.{is_idle, DriveState, passes_now}
 use Rattle.ckd_track.specs.Track.{track_of}
 use Rattle.ckd_drive.specs.declared.transfer.Transfer.{Transfer}
 use Rattle.ckd_drive.specs.declared.transfer.Transfer.TheVariants.{Filled}
 use Rattle.ckd_position.specs.Contents.{Sighted}
+use Rattle.ckd_drive.specs.declared.drive.Drive.TheInside.{Inside}
+use Rattle.ckd_drive.specs.Jobs.{parts_held}
 
 pub number_below : (g : Geometry) (r : Registers) → IsAtTrack g r → track_under g r < tracks_of g
 number_below g r at = below g.cylinders (heads_of g.model) r.cylinder r.head at.cylinder at.head
@@ -28,21 +29,13 @@ number_below g r at = below g.cylinders (heads_of g.model) r.cylinder r.head at.
     below : (c h x y : ℕ) → x < c → y < h → x * h + y < c * h
     below c h x y a b = (let le : (x + 1) * h ≤ c * h = mul-le-mul_right h (omega (arith, a)) in let e : (x + 1) * h ≡ x * h + h = rw (add-one, suc-mul) refl in omega (arith, le, e, b))
 
-pub number_there : (parts : Parts) → Stands parts → track_in_reach parts < length parts.cache.slots
-number_there parts x =
-    rw x.volume.count (number_below parts.cache.image.geometry parts.registers x.arm)
+pub number_there : (d : Parts) → Stands d → own_track d.job < length d.job.cache.slots
+number_there d x =
+    rw x.volume.count (number_below d.job.cache.image.geometry d.job.registers x.arm)
 
-pub on_ok : (r : Result (Unit {0}) StoreFault) (P : Type 0) → is_err r ≡ false → OnOk r P → P
-on_ok (Ok u) P e p = p
-on_ok (Err f) P e p = absurd cc
-
-pub on_err : (r : Result (Unit {0}) StoreFault) (P : Type 0) → is_err r ≡ true → OnErr r P → P
-on_err (Ok u) P e p = absurd cc
-on_err (Err f) P e p = p
-
-pub idle_stage : (s : Stage) (passed : List ℕ) → is_idle (work_of s passed) ≡ true → s ≡ Idle
-idle_stage Idle passed e = refl
-idle_stage _ passed e = absurd cc
+pub idle_stage : (s : Stage) (h : HalfDone) → is_idle (work_of s h) ≡ true → s ≡ Idle
+idle_stage Idle h e = refl
+idle_stage _ h e = absurd cc
 
 pub no_credit : (c : CacheState) (r : Registers) (n : ℕ) → r.credit ≡ None → CreditIs r.credit c n
 no_credit c r n e = rw e tt
@@ -81,19 +74,18 @@ pub failures_saved : (c : CacheState) → (after_save c).image.failures ≡ c.im
 failures_saved c = elim c.changed as (λ b. (saved c.image c.slots b).failures ≡ c.image.failures) [ true ↦ refl | false ↦ refl ]
 
 -- Where a written track was saved.
-pub saved_stands : (parts : Parts) (q : Registers) (s' : Stage) (before' passed' : List ℕ) → Stands parts → is_filled s' ≡ false → IsAtTrack parts.cache.image.geometry q → StageIs (after_save parts.cache) q before' passed' s'
-    → Stands (parts_of (kept (after_save parts.cache) q Saved) s' before' passed')
-saved_stands parts q s' before' passed' x f' at w = record { volume = volume_saved parts.cache x.volume; arm = rw (geometry_saved parts.cache) at; anchored = λ e. absurd cc; marked = rw f' refl; work = w }
+pub saved_stands : (d : Parts) (h : HalfDone) (s : Stage) → Stands d → h.cache ≡ after_save d.job.cache → is_filled s h ≡ false → IsAtTrack d.job.cache.image.geometry h.registers → StageIs s h → Stands (parts_of h Saved s)
+saved_stands d h s x e f at w = record { volume = rw e (volume_saved d.job.cache x.volume); arm = rw (e, geometry_saved d.job.cache) at; anchored = λ t. absurd (let no = rw e at t in cc); marked = rw (f, e) refl; work = w }
 
 -- Where its saving failed.
-pub lost_stands : (parts : Parts) (left : List ℕ) (q : Registers) (s' : Stage) (before' passed' : List ℕ)
-    → Stands parts → length left ≡ parts.cache.image.geometry.track_size → is_filled s' ≡ false → q.cylinder ≡ parts.registers.cylinder → q.head ≡ parts.registers.head → StageIs (after_failed_save parts.cache left) q before' passed' s'
-    → Stands (parts_of (kept (after_failed_save parts.cache left) q Lost) s' before' passed')
-lost_stands parts left q s' before' passed' x size f' cy he w = record {
-  volume = volume_lost parts.cache left size x.volume;
-  arm = record { cylinder = rw cy x.arm.cylinder; head = rw he x.arm.head };
-  anchored = λ e. absurd cc;
-  marked = rw f' refl;
+pub lost_stands : (d : Parts) (left : List ℕ) (h : HalfDone) (s : Stage)
+    → Stands d → length left ≡ d.job.cache.image.geometry.track_size → h.cache ≡ after_failed_save d.job.cache left → is_filled s h ≡ false → h.registers.cylinder ≡ d.job.registers.cylinder → h.registers.head ≡ d.job.registers.head → StageIs s h
+    → Stands (parts_of h Lost s)
+lost_stands d left h s x size e f cy he w = record {
+  volume = rw e (volume_lost d.job.cache left size x.volume);
+  arm = record { cylinder = rw (e, cy) x.arm.cylinder; head = rw (e, he) x.arm.head };
+  anchored = λ t. absurd (let no = rw e at t in cc);
+  marked = rw (f, e) refl;
   work = w;
 }
 
@@ -105,8 +97,21 @@ no_filled_seen slots n before _ f = refl
 abbrev pub seen_track : AtWork → Transfer → Sighted
 seen_track job p = track_of (slot_at (seen_by job.cache.slots (number_in job) job.before p) (number_in job))
 
-pub goes_of : (parts : Parts) (p : Progress) → Stands parts → parts.stage ≡ Passing p → Goes parts.cache parts.registers parts.before parts.passed p
-goes_of parts p x is = (let P : Stage → Type 0 = λ t. StageIs parts.cache parts.registers parts.before parts.passed t in subst P is x.work)
+pub goes_of : (d : Parts) → Stands d → d.stage ≡ Passing → Goes d.job
+goes_of d x is = rw is at x.work
 
 pub slot_is : (c : CacheState) (n : ℕ) (slot : List ℕ) → c.held ≡ Some n → slot ≡ slot_held c → slot ≡ slot_at c.slots n
 slot_is c n slot held e = rw held at e
+
+-- What stands in a drive's own fields.
+
+abbrev pub parts_in : {S : Type 0} → Inside S → Parts
+parts_in i = parts_held i.job i.mark i.stage
+
+passing_stage : (s : Stage) (h : HalfDone) → passes_now (work_of s h) ≡ true → s ≡ Passing
+passing_stage Passing h e = refl
+passing_stage _ h e = absurd cc
+
+-- the stage of a drive whose bytes pass
+pub passing_in : (d : Parts) (now : DriveState) → state_of d ≡ now → passes_now now.work ≡ true → d.stage ≡ Passing
+passing_in d now is e = passing_stage d.stage d.job (ap (λ (y : DriveState). passes_now y.work) is ∙ e)

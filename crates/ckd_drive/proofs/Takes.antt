@@ -1,5 +1,5 @@
 -- Bytes that are taken.
-use Rattle.std.proofs.Common.{◌≡◌, ◌∙◌, ap, sym, refl, ℕ, ◌+◌, ◌-◌, ◌≤◌, List, [], ◌∷◌, ◌++◌, length, take, drop, slice_range, length-append, length-take, append_assoc, arith}
+use Rattle.std.proofs.Common.{◌≡◌, ◌∙◌, ap, sym, refl, ℕ, ◌+◌, ◌-◌, ◌≤◌, List, [], ◌∷◌, ◌++◌, length, take, drop, slice_range, length-append, length-take, append_assoc, arith, Bool, true, false, ◌==◌, nat_lt, if◌then◌else◌, None, bytes_eq}
 use Rattle.std.specs.Ordering.{nat_cmp, ordering_then}
 use Rattle.std.specs.declared.cmp.Ordering.{Ordering}
 use Rattle.std.specs.declared.cmp.Ordering.TheVariants as order
@@ -13,12 +13,18 @@ use Rattle.ckd_command.specs.Answers.{Found}
 use Rattle.ckd_slot.specs.declared.windows.Window.{Window}
 use Rattle.ckd_drive.specs.declared.transfer.Transfer.TheVariants.{Field, Search}
 use Rattle.ckd_command.specs.Tables.{action_of}
-use Rattle.ckd_command.specs.Commands.{Closing, sight, area_bytes, length_after}
-use Rattle.ckd_drive.specs.Invariant.{HalfDone, MayTake, Absorbs, own_slot, own_track, action_now, HasField, slot_at, track_under, order_of, field_size, at_work}
-use Rattle.ckd_drive.proofs.Fields.{ChangesNothing, field_unwritten, field_wants, field_small}
+use Rattle.ckd_command.specs.Commands.{Closing, sight, area_bytes, length_after, close_by, length_for, own_home_address, new_record_fits, write_home_address, format, whole_field, at_end}
+use Rattle.ckd_drive.specs.Invariant.{HalfDone, MayTake, Absorbs, own_slot, own_track, action_now, HasField, slot_at, track_under, order_of, field_size, at_work, IsField}
 use Rattle.ckd_command.proofs.Closings.{closing_by}
 use Rattle.ckd_command.proofs.Lengths.{length_by}
 use Rattle.ckd_drive.proofs.Moving.{slot_small, lies_first, window_moves, absorbs_plain}
+use Rattle.std.proofs.lemmas.Bool.{cond_both}
+use Rattle.std.proofs.lemmas.Bool.Decides.{nat_tests}
+use Rattle.ckd_track.specs.declared.geometries.Geometry.{Geometry}
+use Rattle.ckd_position.specs.Contents.{Sighted}
+use Rattle.ckd_command.specs.declared.registers.Registers.{Registers}
+use Rattle.ckd_command.specs.declared.tables.Action.{Action}
+use Rattle.ckd_command.specs.declared.begin.Opened.{Opened}
 
 -- Comparing.
 
@@ -47,7 +53,7 @@ pub search_absorbs : (half : HalfDone) (more slot : List ℕ) (w : Window) (so_f
 search_absorbs half more slot w so_far now may at slot_is now_is =
     let c = half.cache in
     let passed = half.passed in
-    let o = half.progress.opened in
+    let o = half.opened in
     let t = track_of (own_slot half) in
     let left : half.progress.left ≤ w.len = rw at at may.works.goes.left in
     let le : length more ≤ w.len = omega (arith, left, may.room) in
@@ -64,7 +70,55 @@ search_absorbs half more slot w so_far now may at slot_is now_is =
     )
     (omega (arith, h.begins, h.lies.within, le, slot_small c (own_track half) may.works.volume))
 
--- Fields.
+-- Fields: how many bytes they want, and that they write nothing until they are whole.
+
+-- what a field that came so far does to the track: nothing, unless it came whole
+abbrev pub ChangesNothing : Action → Geometry → Sighted → Opened → Registers → List ℕ → Type 0
+ChangesNothing action.WriteHomeAddress g t o r b = (length b ≡ 5) → bytes_eq b (own_home_address r) ≡ false
+ChangesNothing action.Format g t o r b = (length b ≡ 8) → new_record_fits g t o b ≡ false
+ChangesNothing a g t o r b = Unit {0}
+
+-- a field that must come whole writes nothing, unless it is whole and what it then closes to writes
+unwritten_field : (r : Registers) (b : List ℕ) (size : ℕ) (c : Closing) → length b ≤ size → (length b ≡ size → c.written ≡ None) → (whole_field r b size c).written ≡ None
+unwritten_field r b size c le h =
+    let P : Closing → Type 0 = λ k. k.written ≡ None in
+    cond_both (length b == 0) _ _ P (λ _. refl) (λ _. cond_both (nat_lt (length b) size) _ _ P (λ _. refl) (λ long. h (grind (arith, nat_tests))))
+
+seeks_unwritten : (a : Bool) (x y : Closing) → x.written ≡ None → y.written ≡ None → (if a then x else y).written ≡ None
+seeks_unwritten a x y p q = cond_both a x y (λ k. k.written ≡ None) (λ _. p) (λ _. q)
+
+format_wants : (g : Geometry) (t : Sighted) (o : Opened) (r : Registers) (b : List ℕ) (short : Bool) → nat_lt (length b) 8 ≡ short → length b ≤ 8 → ChangesNothing action.Format g t o r b → length_for action.Format g t o r b ≡ 8
+format_wants g t o r b true e le n = rw e refl
+format_wants g t o r b false e le n = (let own = n (grind (arith, nat_tests)) in rw (e, own) refl)
+
+pub field_unwritten : (a : Action) (g : Geometry) (t : Sighted) (o : Opened) (r : Registers) (b : List ℕ) → IsField a → length b ≤ field_size a → ChangesNothing a g t o r b → (close_by a g t o r b).written ≡ None
+field_unwritten action.SeekCylinderAndHead g t o r b f le n = unwritten_field r b 6 _ le (λ _. seeks_unwritten _ _ _ refl refl)
+field_unwritten action.SeekHead g t o r b f le n = unwritten_field r b 6 _ le (λ _. seeks_unwritten _ _ _ refl refl)
+field_unwritten action.SetFileMask g t o r [] f le n = refl
+field_unwritten action.SetFileMask g t o r (x ∷ b) f le n = refl
+field_unwritten action.WriteHomeAddress g t o r b f le n = unwritten_field (at_end o r) b 5 (write_home_address o r b) le (λ five. (let own = n five in rw own refl))
+field_unwritten action.Format g t o r b f le n = unwritten_field r b 8 (format g t o r b) le (λ eight. (let none = n eight in rw none refl))
+field_unwritten _ g t o r b f le n = absurd f
+
+pub field_wants : (a : Action) (g : Geometry) (t : Sighted) (o : Opened) (r : Registers) (b : List ℕ) → IsField a → length b ≤ field_size a → ChangesNothing a g t o r b → length_for a g t o r b ≡ field_size a
+field_wants action.SeekCylinderAndHead g t o r b f le n = refl
+field_wants action.SeekHead g t o r b f le n = refl
+field_wants action.SetFileMask g t o r b f le n = refl
+field_wants action.WriteHomeAddress g t o r b f le n = refl
+field_wants action.Format g t o r b f le n = format_wants g t o r b (nat_lt (length b) 8) refl le n
+field_wants _ g t o r b f le n = absurd f
+
+pub field_small : (a : Action) → field_size a ≤ 8
+field_small action.Format = omega arith
+field_small _ = omega arith
+
+-- no byte of it changes nothing
+pub no_byte : (a : Action) (g : Geometry) (t : Sighted) (o : Opened) (r : Registers) → ChangesNothing a g t o r []
+no_byte action.WriteHomeAddress g t o r = λ e. absurd (omega (arith, e))
+no_byte action.Format g t o r = λ e. absurd (omega (arith, e))
+no_byte _ g t o r = tt
+
+-- More bytes of one.
 
 collected_more : (f passed more : List ℕ) → take (length passed) f ≡ passed → take (length (passed ++ more)) (overwritten f (length passed) more) ≡ passed ++ more
 collected_more f passed more e =
@@ -75,7 +129,7 @@ collected_more f passed more e =
 -- what is known of a field, with more bytes
 pub record FieldGoes (half : HalfDone) (more f : List ℕ) : Type 0 where
   pub has : HasField (at_work half) f
-  pub again : sight half.cache.image.geometry (track_of (own_slot half)) half.progress.opened half.registers ≡ Found half.progress.opened
+  pub again : sight half.cache.image.geometry (track_of (own_slot half)) half.opened half.registers ≡ Found half.opened
   pub long : length (half.passed ++ more) ≡ length half.passed + length more
   pub room : length (half.passed ++ more) ≤ field_size (action_now half)
   pub collected : take (length (half.passed ++ more)) (overwritten f half.progress.moved more) ≡ half.passed ++ more
@@ -85,7 +139,7 @@ field_goes half more f may at =
     let passed = half.passed in
     let g = half.cache.image.geometry in
     let goes = may.works.goes in
-    let left : half.progress.left ≤ field_size (action_of half.progress.opened.command) - length passed = rw at at goes.left in
+    let left : half.progress.left ≤ field_size (action_of half.opened.command) - length passed = rw at at goes.left in
     let placed = rw at at goes.placed in
     let h = placed.0 in
     let far : length (passed ++ more) ≡ length passed + length more = length-append passed more in
@@ -99,20 +153,20 @@ field_goes half more f may at =
 
 pub field_absorbs : (half : HalfDone) (more f field : List ℕ)
     → MayTake half more → half.progress.place ≡ Field f → field ≡ overwritten f half.progress.moved more
-    → ChangesNothing (action_now half) half.cache.image.geometry (track_of (own_slot half)) half.progress.opened half.registers (half.passed ++ more)
+    → ChangesNothing (action_now half) half.cache.image.geometry (track_of (own_slot half)) half.opened half.registers (half.passed ++ more)
     → Absorbs half more half.cache half.before (Field field)
 field_absorbs half more f field may at is nothing =
     let r = half.registers in
     let p = half.progress in
     let g = half.cache.image.geometry in
     let n : ℕ = track_under g r in
-    let a = action_of p.opened.command in
+    let a = action_of half.opened.command in
     let t = track_of (slot_at half.cache.slots n) in
     let k = field_goes half more f may at in
-    let wants = length_by a g t p.opened r (half.passed ++ more) refl ∙ field_wants a g t p.opened r (half.passed ++ more) k.has.is_field k.room nothing in
+    let wants = length_by a g t half.opened r (half.passed ++ more) refl ∙ field_wants a g t half.opened r (half.passed ++ more) k.has.is_field k.room nothing in
     absorbs_plain half more (Field field) may.works (rw at refl) refl (rw at refl) (rw at (let far = k.long in omega (arith, far))) (
       record { is_field = k.has.is_field; room = k.room; collected = rw is k.collected; at_hand = k.has.at_hand },
       record { again = k.again; len = (let room = k.room in omega (arith, wants, room)) },
-      ap (λ (y : Closing). y.written) (closing_by a g t p.opened r (half.passed ++ more) refl) ∙ field_unwritten a g t p.opened r (half.passed ++ more) k.has.is_field k.room nothing,
+      ap (λ (y : Closing). y.written) (closing_by a g t half.opened r (half.passed ++ more) refl) ∙ field_unwritten a g t half.opened r (half.passed ++ more) k.has.is_field k.room nothing,
     )
     (omega (arith, k.room, k.long, field_small a))

@@ -28,8 +28,9 @@ use Rattle.ckd_drive.specs.declared.transfer.Written.{Written as WrittenBy}
 use Rattle.ckd_drive.specs.declared.transfer.Written.TheVariants as written
 use Rattle.ckd_drive.specs.declared.transfer.Whole.{Whole}
 use Rattle.ckd_drive.specs.declared.transfer.Whole.TheVariants as whole
-use Rattle.ckd_drive.specs.Stage.{Stage, Progress}
-use Rattle.ckd_drive.specs.Stage as stage
+use Rattle.ckd_drive.specs.declared.transfer.Progress.{Progress}
+use Rattle.ckd_drive.specs.declared.answers.Stage.{Stage}
+use Rattle.ckd_drive.specs.declared.answers.Stage.TheVariants as stage
 use Rattle.ckd_command.specs.Tables.{action_of, extent_of, aim, comparison, is_giving}
 use Rattle.ckd_position.specs.Comparisons.{accepts}
 use Rattle.ckd_sense.specs.SenseBytes.{sense_bytes}
@@ -39,7 +40,7 @@ use Rattle.ckd_command.specs.Commands.{Closing, IsAtTrack, sight as sight_on, ar
 use Rattle.ckd_slot.specs.Buffer.{Lies, HasBytes, IsPlaceOf, FitsSlot, lengths_on}
 use Rattle.ckd_slot.specs.Cache.{CacheState, IsVolume}
 use Rattle.ckd_command.specs.Drive.{is_written_by}
-use Rattle.ckd_drive.specs.Work.{Work, Idle, Over, Looking, Passing, DriveState}
+use Rattle.ckd_drive.specs.Work.{Work, Idle, Over, Looking, Passing, DriveState, immediate_ending, failed_ending}
 
 -- the order of an area's first bytes to those that were given
 abbrev pub order_of : List ℕ → List ℕ → Ordering
@@ -82,65 +83,25 @@ abbrev pub seen_by : List (List ℕ) → (n : ℕ) → (before : List ℕ) → T
 seen_by slots n before (Filled w what) = slice_set slots n before
 seen_by slots n before _ = slots
 
--- the same, by what the drive does
-abbrev pub seen : List (List ℕ) → (n : ℕ) → (before : List ℕ) → Stage → List (List ℕ)
-seen slots n before (stage.Passing p) = seen_by slots n before p.place
-seen slots n before _ = slots
-
--- how far the drive is, as those see it who call
-abbrev pub work_of : Stage → (passed : List ℕ) → Work
-work_of stage.Idle passed = Idle
-work_of (stage.Over e) passed = Over e
-work_of (stage.Looking o) passed = Looking o
-work_of (stage.Passing p) passed = Passing p.opened passed p.left
-
--- What a drive keeps from command to command: its cache, the registers, and the mark of the track under the arm.
-pub record Kept : Type 0 where
+-- A command half done, whatever the mark is: what was opened, how far it is, the slot under the arm as it was before the
+-- command wrote to it, and the bytes that passed.
+pub record HalfDone : Type 0 where
   pub cache : CacheState
   pub registers : Registers
-  pub mark : Mark
-
--- a cache, registers and a mark, as one
-abbrev pub kept : CacheState → Registers → Mark → Kept
-kept c r m = record { cache = c; registers = r; mark = m }
-
--- the number of the track under the arm
-abbrev pub number_under : Kept → ℕ
-number_under k = track_under k.cache.image.geometry k.registers
-
--- the slot under the arm
-abbrev pub slot_under : Kept → List ℕ
-slot_under k = slot_at k.cache.slots (number_under k)
-
--- What a drive is made of: beside these, the stage of the command, the slot under the arm as it was before the command wrote to
--- it, and the bytes that passed.
-pub record Parts : Type 0 where
-  pub cache : CacheState
-  pub registers : Registers
-  pub mark : Mark
-  pub stage : Stage
+  pub opened : Opened
+  pub progress : Progress
   pub before : List ℕ
   pub passed : List ℕ
 
--- a drive made of what it keeps, and of the command at hand
-abbrev pub parts_of : Kept → Stage → (before passed : List ℕ) → Parts
-parts_of k s before passed = record { cache = k.cache; registers = k.registers; mark = k.mark; stage = s; before = before; passed = passed }
+-- What a drive is made of: what it works with, the mark of the track under the arm, and what it does.
+pub record Parts : Type 0 where
+  pub job : HalfDone
+  pub mark : Mark
+  pub stage : Stage
 
--- the track under its arm
-abbrev pub track_in_reach : Parts → ℕ
-track_in_reach d = track_under d.cache.image.geometry d.registers
-
--- the drive as those see it who call, by what it is made of
-abbrev pub state_of : Parts → DriveState
-state_of d = record {
-  image = d.cache.image;
-  state = record {
-    volume = record { geometry = d.cache.image.geometry; slots = seen d.cache.slots (track_in_reach d) d.before d.stage };
-    registers = d.registers;
-    mark = d.mark;
-  };
-  work = work_of d.stage d.passed;
-}
+-- a drive made of these
+abbrev pub parts_of : HalfDone → Mark → Stage → Parts
+parts_of h m s = record { job = h; mark = m; stage = s }
 
 -- A command whose area is found: over what, the slot under the arm as it was before it wrote, and the bytes that passed.
 pub record AtWork : Type 0 where
@@ -174,9 +135,51 @@ area_in job = area_bytes (track_of (slot_in job)) job.opened job.registers
 abbrev pub closing_in : AtWork → Sighted → Closing
 closing_in job t = closing (geometry_in job) t job.opened job.registers job.passed
 
--- that of a drive which has opened this command
-abbrev pub work_in : Parts → Opened → AtWork
-work_in d o = record { cache = d.cache; registers = d.registers; opened = o; before = d.before; passed = d.passed }
+-- a command half done, without how far it is
+abbrev pub at_work : HalfDone → AtWork
+at_work h = record { cache = h.cache; registers = h.registers; opened = h.opened; before = h.before; passed = h.passed }
+
+-- the number of the track under its arm
+abbrev pub own_track : HalfDone → ℕ
+own_track h = number_in (at_work h)
+
+-- the slot under its arm
+abbrev pub own_slot : HalfDone → List ℕ
+own_slot h = slot_in (at_work h)
+
+-- what it does with its bytes
+abbrev pub action_now : HalfDone → Action
+action_now h = action_in (at_work h)
+
+-- the slots as the definitions see them, with this place of the rest, and this slot before the command wrote
+abbrev pub seen_with : HalfDone → (before : List ℕ) → Transfer → List (List ℕ)
+seen_with h before place = seen_by h.cache.slots (own_track h) before place
+
+-- the slots as the definitions see them, by what the drive does
+abbrev pub seen : Stage → HalfDone → List (List ℕ)
+seen stage.Passing h = seen_with h h.before h.progress.place
+seen _ h = h.cache.slots
+
+-- how far the drive is, as those see it who call
+abbrev pub work_of : Stage → HalfDone → Work
+work_of stage.Idle h = Idle
+work_of stage.Ended h = Over (immediate_ending false)
+work_of stage.InMotion h = Over (immediate_ending true)
+work_of stage.Failed h = Over failed_ending
+work_of stage.Looking h = Looking h.opened
+work_of stage.Passing h = Passing h.opened h.passed h.progress.left
+
+-- the drive as those see it who call, by what it is made of
+abbrev pub state_of : Parts → DriveState
+state_of d = record {
+  image = d.job.cache.image;
+  state = record {
+    volume = record { geometry = d.job.cache.image.geometry; slots = seen d.stage d.job };
+    registers = d.job.registers;
+    mark = d.mark;
+  };
+  work = work_of d.stage d.job;
+}
 
 -- The track under the arm is at hand, and reads whole.
 pub record AtHand (c : CacheState) (n : ℕ) : Type 0 where
@@ -186,7 +189,8 @@ pub record AtHand (c : CacheState) (n : ℕ) : Type 0 where
 -- a further look finds its area again, and this many bytes are wanted in all
 pub record IsFound (job : AtWork) (t : Sighted) (p : Transfer) : Type 0 where
   pub again : sight_on (geometry_in job) t job.opened job.registers ≡ Found job.opened
-  pub len : length_after (geometry_in job) t job.opened job.registers job.passed ≡ length job.passed + remaining (action_in job) p (length job.passed)
+  pub len : length_after (geometry_in job) t job.opened job.registers job.passed
+      ≡ length job.passed + remaining (action_in job) p (length job.passed)
 
 -- how it closes that passed its area
 abbrev pub area_end : AtWork → (no_data : Bool) → CommandEnd
@@ -198,7 +202,8 @@ pub record ClosesUnwritten (job : AtWork) (t : Sighted) (u : CommandEnd) : Type 
   pub unwritten : (closing_in job t).written ≡ None
 
 -- it closes so, and leaves this track, of which the slot is these bytes
-pub record ClosesWritten (size : ℕ) (lengths : List (ℕ × ℕ)) (c : Closing) (u : CommandEnd) (slot : List ℕ) : Type 0 where
+pub record ClosesWritten (size : ℕ) (lengths : List (ℕ × ℕ)) (c : Closing) (u : CommandEnd)
+    (slot : List ℕ) : Type 0 where
   pub track : Track
   pub so : command_end c ≡ u
   pub written : c.written ≡ Some track
@@ -218,8 +223,11 @@ pub record IsFilled (job : AtWork) (now : List ℕ) (w : Window) (u : CommandEnd
   pub start : length head + (length job.passed - lead) ≡ w.start
   pub rest : w.len + (length job.passed - lead) ≡ room
   pub closes : (more : List ℕ) → length more ≤ w.len
-      → ClosesWritten (geometry_in job).track_size (lengths_on (track_in now)) (closing (geometry_in job) (track_of job.before) job.opened job.registers (job.passed ++ more)) u (head ++ (padded (drop lead (job.passed ++ more)) room ++ tail))
-  pub wants : (more : List ℕ) → length more ≤ w.len → length_after (geometry_in job) (track_of job.before) job.opened job.registers (job.passed ++ more) ≡ lead + room
+      → ClosesWritten (geometry_in job).track_size (lengths_on (track_in now))
+      (closing (geometry_in job) (track_of job.before) job.opened job.registers (job.passed ++ more)) u
+      (head ++ (padded (drop lead (job.passed ++ more)) room ++ tail))
+  pub wants : (more : List ℕ) → length more ≤ w.len
+      → length_after (geometry_in job) (track_of job.before) job.opened job.registers (job.passed ++ more) ≡ lead + room
 
 -- the commands whose bytes are a field, collected before anything is done with them
 abbrev pub IsField : Action → Type 0
@@ -296,11 +304,15 @@ CreditAtHand _ c n = Unit {0}
 
 -- where the bytes of a command stand that are still to pass, and how it closes
 abbrev pub IsPlaced : AtWork → Transfer → Type 0
-IsPlaced job (Sense b) = HasSense job b × IsFound job (track_of (slot_in job)) (Sense b) × ClosesUnwritten job (track_of (slot_in job)) (area_end job false)
-IsPlaced job (Field f) = HasField job f × IsFound job (track_of (slot_in job)) (Field f) × ((closing_in job (track_of (slot_in job))).written ≡ None)
-IsPlaced job (Read w no_data) = HasRead job w × IsFound job (track_of (slot_in job)) (Read w no_data) × ClosesUnwritten job (track_of (slot_in job)) (area_end job no_data)
+IsPlaced job (Sense b) = HasSense job b × IsFound job (track_of (slot_in job)) (Sense b)
+    × ClosesUnwritten job (track_of (slot_in job)) (area_end job false)
+IsPlaced job (Field f) = HasField job f × IsFound job (track_of (slot_in job)) (Field f)
+    × ((closing_in job (track_of (slot_in job))).written ≡ None)
+IsPlaced job (Read w no_data) = HasRead job w × IsFound job (track_of (slot_in job)) (Read w no_data)
+    × ClosesUnwritten job (track_of (slot_in job)) (area_end job no_data)
 IsPlaced job (Search w so_far) = HasSearched job w so_far × IsFound job (track_of (slot_in job)) (Search w so_far)
-IsPlaced job (Fill w no_data) = WillFill job w × IsFound job (track_of (slot_in job)) (Fill w no_data) × ClosesUnwritten job (track_of (slot_in job)) (area_end job no_data)
+IsPlaced job (Fill w no_data) = WillFill job w × IsFound job (track_of (slot_in job)) (Fill w no_data)
+    × ClosesUnwritten job (track_of (slot_in job)) (area_end job no_data)
 IsPlaced job (Filled w what) = HasFilled job w what
 
 -- What a look has found.
@@ -324,11 +336,15 @@ abbrev pub IsFirstPlace : (slot : List ℕ) → Opened → Registers → Transfe
 IsFirstPlace slot o r (Sense b) = (action_of o.command ≡ action.GiveSense) × (b ≡ sense_bytes r.sense)
 IsFirstPlace slot o r (Field f) = IsField (action_of o.command)
 IsFirstPlace slot o r (Read w no_data) =
-    (action_of o.command ≡ action.Read) × Lies slot w (bytes_at (extent_of o.command) (track_of slot) o.area) × (command_end (area_ends o r no_data) ≡ command_end (end_of_area (track_of slot) o r))
+    (action_of o.command ≡ action.Read) × Lies slot w (bytes_at (extent_of o.command) (track_of slot) o.area)
+    × (command_end (area_ends o r no_data) ≡ command_end (end_of_area (track_of slot) o r))
 IsFirstPlace slot o r (Search w so_far) =
-    (action_of o.command ≡ action.Search) × Lies slot w (bytes_at (extent_of o.command) (track_of slot) o.area) × (so_far ≡ order.Equal)
+    (action_of o.command ≡ action.Search) × Lies slot w (bytes_at (extent_of o.command) (track_of slot) o.area)
+    × (so_far ≡ order.Equal)
 IsFirstPlace slot o r (Fill w no_data) =
-    (action_of o.command ≡ action.Update) × Lies slot w (bytes_at (extent_of o.command) (track_of slot) o.area) × PlaceIn (extent_of o.command) (track_in slot) o.area w × (command_end (area_ends o r no_data) ≡ command_end (end_of_area (track_of slot) o r))
+    (action_of o.command ≡ action.Update) × Lies slot w (bytes_at (extent_of o.command) (track_of slot) o.area)
+    × PlaceIn (extent_of o.command) (track_in slot) o.area w
+    × (command_end (area_ends o r no_data) ≡ command_end (end_of_area (track_of slot) o r))
 IsFirstPlace slot o r _ = ⊥
 
 -- the arm and the credit are as they were
@@ -350,11 +366,11 @@ ReadsWhole action.WriteHomeAddress t = Unit {0}
 ReadsWhole a t = is_readable t ≡ true
 
 -- how far a command is fits the bytes that passed, and the rest are where it says
-pub record Goes (c : CacheState) (r : Registers) (before passed : List ℕ) (p : Progress) : Type 0 where
-  pub moved : length passed ≡ p.moved
-  pub left : p.left ≤ remaining (action_of p.opened.command) p.place (length passed)
-  pub placed : IsPlaced (record { cache = c; registers = r; opened = p.opened; before = before; passed = passed }) p.place
-  pub no_credit : r.credit ≡ None
+pub record Goes (h : HalfDone) : Type 0 where
+  pub moved : length h.passed ≡ h.progress.moved
+  pub left : h.progress.left ≤ remaining (action_now h) h.progress.place (length h.passed)
+  pub placed : IsPlaced (at_work h) h.progress.place
+  pub no_credit : h.registers.credit ≡ None
 
 -- between commands a credit is for a track that is at hand
 abbrev pub CreditIs : Option Credit → CacheState → ℕ → Type 0
@@ -362,35 +378,35 @@ CreditIs None c n = Unit {0}
 CreditIs (Some credit) c n = AtHand c n
 
 -- a command that looks for its area
-pub record WillLook (c : CacheState) (r : Registers) (o : Opened) : Type 0 where
-  pub transfers : action_of o.command ≡ action.NoTransfer → ⊥
-  pub credit : CreditAtHand (aim o.command) c (track_under c.image.geometry r)
-  pub no_credit : r.credit ≡ None
+pub record WillLook (h : HalfDone) : Type 0 where
+  pub transfers : action_now h ≡ action.NoTransfer → ⊥
+  pub credit : CreditAtHand (aim h.opened.command) h.cache (own_track h)
+  pub no_credit : h.registers.credit ≡ None
 
 -- what stands of the command at hand, by what the drive does
-abbrev pub StageIs : CacheState → Registers → (before passed : List ℕ) → Stage → Type 0
-StageIs c r before passed (stage.Looking o) = WillLook c r o
-StageIs c r before passed (stage.Passing p) = Goes c r before passed p
-StageIs c r before passed _ = CreditIs r.credit c (track_under c.image.geometry r)
+abbrev pub StageIs : Stage → HalfDone → Type 0
+StageIs stage.Looking h = WillLook h
+StageIs stage.Passing h = Goes h
+StageIs _ h = CreditIs h.registers.credit h.cache (own_track h)
 
 -- whether the track is being written
 abbrev pub is_filled_by : Transfer → Bool
 is_filled_by (Filled w what) = true
 is_filled_by _ = false
 
--- the same, of what the drive does
-abbrev pub is_filled : Stage → Bool
-is_filled (stage.Passing p) = is_filled_by p.place
-is_filled _ = false
+-- the same, by what the drive does
+abbrev pub is_filled : Stage → HalfDone → Bool
+is_filled stage.Passing h = is_filled_by h.progress.place
+is_filled _ h = false
 
 -- what stands of a drive between two calls: the slot at hand is changed where the track under the arm is written or being
 -- written, and is then that track's
 pub record Stands (d : Parts) : Type 0 where
-  pub volume : IsVolume d.cache
-  pub arm : IsAtTrack d.cache.image.geometry d.registers
-  pub anchored : d.cache.changed ≡ true → d.cache.held ≡ Some (track_in_reach d)
-  pub marked : d.cache.changed ≡ (is_written_by d.mark || is_filled d.stage)
-  pub work : StageIs d.cache d.registers d.before d.passed d.stage
+  pub volume : IsVolume d.job.cache
+  pub arm : IsAtTrack d.job.cache.image.geometry d.job.registers
+  pub anchored : d.job.cache.changed ≡ true → d.job.cache.held ≡ Some (own_track d.job)
+  pub marked : d.job.cache.changed ≡ (is_written_by d.mark || is_filled d.stage d.job)
+  pub work : StageIs d.stage d.job
 
 -- What a command leaves as it begins.
 
@@ -404,15 +420,21 @@ pub record IsCleared (r q : Registers) : Type 0 where
 abbrev pub BeginsWell : CacheState → ℕ → Registers → Beginning → Type 0
 BeginsWell c n r (answer.Rejected q) = IsCleared r q
 BeginsWell c n r (answer.Immediate q) = IsCleared r q
-BeginsWell c n r (answer.Started q o) = IsCleared r q × (action_of o.command ≡ action.NoTransfer → ⊥) × CreditAtHand (aim o.command) c n
+BeginsWell c n r (answer.Started q o) = IsCleared r q × (action_of o.command ≡ action.NoTransfer → ⊥)
+    × CreditAtHand (aim o.command) c n
 BeginsWell c n r (answer.ToCylinderZero q None) = IsCleared r q
-BeginsWell c n r (answer.ToCylinderZero q (Some o)) = IsCleared r q × (action_of o.command ≡ action.NoTransfer → ⊥) × (aim o.command ≡ Next kind.FirstData)
+BeginsWell c n r (answer.ToCylinderZero q (Some o)) = IsCleared r q × (action_of o.command ≡ action.NoTransfer → ⊥)
+    × (aim o.command ≡ Next kind.FirstData)
 
 -- More bytes.
 
 -- a command once so many more bytes passed, and the rest have this place
 abbrev pub next_progress : Progress → (more : ℕ) → Transfer → Progress
-next_progress p n place = record { opened = p.opened; moved = p.moved + n; left = p.left - n; place = place }
+next_progress p n place = record { moved = p.moved + n; left = p.left - n; place = place }
+
+-- a command of this action that has just found the place of its bytes: none passed, and all that are known of may
+abbrev pub first_progress : Action → Transfer → Progress
+first_progress a place = record { moved = 0; left = remaining a place 0; place = place }
 
 -- so many bytes may be given that have this place
 abbrev pub MayGive : Transfer → ℕ → Type 0
@@ -423,6 +445,11 @@ MayGive _ n = Unit {0}
 abbrev pub given_on : Transfer → ℕ → Transfer
 given_on (Read w no_data) n = Read (record { start = w.start + n; len = w.len - n }) no_data
 given_on p n = p
+
+-- a place that is no search's
+abbrev pub IsNoSearch : Transfer → Type 0
+IsNoSearch (Search w so_far) = ⊥
+IsNoSearch _ = Unit {0}
 
 -- How a command closes, by its place.
 
@@ -438,7 +465,8 @@ field_ends _ g o r b = ends r ending_status
 -- how a command closes after so many bytes, by where the rest stand
 abbrev pub command_end_at : Geometry → Registers → Opened → (moved : ℕ) → Transfer → CommandEnd
 command_end_at g r o moved (Field f) = command_end (field_ends (action_of o.command) g o r (take moved f))
-command_end_at g r o moved (Search w so_far) = command_end (search_ends o r (nat_lt 0 moved && accepts (comparison o.command) so_far) (w.len == 0))
+command_end_at g r o moved (Search w so_far) = command_end (search_ends o r (nat_lt 0 moved
+    && accepts (comparison o.command) so_far) (w.len == 0))
 command_end_at g r o moved (Sense b) = command_end (area_ends o r false)
 command_end_at g r o moved (Read w no_data) = command_end (area_ends o r no_data)
 command_end_at g r o moved (Fill w no_data) = command_end (area_ends o r no_data)
@@ -456,47 +484,19 @@ mark_left _ m = m
 
 -- What a field is, once it came whole.
 abbrev pub whole_of : Action → (own : List ℕ) → (moved : ℕ) → (field : List ℕ) → Whole
-whole_of action.WriteHomeAddress own moved f = if moved == 5 && bytes_eq (take 5 f) own then whole.HomeAddress (take 5 f) else whole.No
+whole_of action.WriteHomeAddress own moved f = if moved == 5 && bytes_eq (take 5 f) own
+    then whole.HomeAddress (take 5 f) else whole.No
 whole_of action.Format own moved f = if moved == 8 then whole.Count f else whole.No
 whole_of _ own moved f = whole.No
 
 -- Bytes that are taken.
-
--- A command half done, whatever the mark is: the slot under the arm as it was before the command wrote to it, the bytes that
--- passed, and how far it is.
-pub record HalfDone : Type 0 where
-  pub cache : CacheState
-  pub registers : Registers
-  pub before : List ℕ
-  pub passed : List ℕ
-  pub progress : Progress
-
--- it, without how far it is
-abbrev pub at_work : HalfDone → AtWork
-at_work h = record { cache = h.cache; registers = h.registers; opened = h.progress.opened; before = h.before; passed = h.passed }
-
--- the number of the track under its arm
-abbrev pub own_track : HalfDone → ℕ
-own_track h = number_in (at_work h)
-
--- the slot under its arm
-abbrev pub own_slot : HalfDone → List ℕ
-own_slot h = slot_in (at_work h)
-
--- what it does with its bytes
-abbrev pub action_now : HalfDone → Action
-action_now h = action_in (at_work h)
-
--- the slots as the definitions see them, with this place of the rest, and this slot before the command wrote
-abbrev pub seen_with : HalfDone → (before : List ℕ) → Transfer → List (List ℕ)
-seen_with h before place = seen_by h.cache.slots (own_track h) before place
 
 -- it holds what a drive holds
 pub record Works (h : HalfDone) : Type 0 where
   pub volume : IsVolume h.cache
   pub arm : IsAtTrack h.cache.image.geometry h.registers
   pub anchored : h.cache.changed ≡ true → h.cache.held ≡ Some (own_track h)
-  pub goes : Goes h.cache h.registers h.before h.passed h.progress
+  pub goes : Goes h
 
 -- these bytes are taken by the drive, and may be
 pub record MayTake (h : HalfDone) (more : List ℕ) : Type 0 where
@@ -506,7 +506,12 @@ pub record MayTake (h : HalfDone) (more : List ℕ) : Type 0 where
 
 -- the command once these bytes were taken: the rest have this place
 abbrev pub with_taken : HalfDone → (more : List ℕ) → CacheState → (before : List ℕ) → Transfer → HalfDone
-with_taken h more c before place = record h { cache = c; before = before; passed = h.passed ++ more; progress = next_progress h.progress (length more) place }
+with_taken h more c before place = record h {
+  cache = c;
+  before = before;
+  passed = h.passed ++ more;
+  progress = next_progress h.progress (length more) place;
+}
 
 -- the command half done takes these bytes, and is then over this cache, with this slot before it wrote and this place of the rest
 pub record Absorbs (h : HalfDone) (more : List ℕ) (c : CacheState) (before : List ℕ) (place : Transfer) : Type 0 where

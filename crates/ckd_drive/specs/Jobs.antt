@@ -7,57 +7,61 @@ use Rattle.ckd_command.specs.declared.close.Closed.{Closed}
 use Rattle.ckd_command.specs.Answers.{seen_as, SeenStays, closed_as, ClosedStays}
 use Rattle.ckd_command.specs.Commands.{beginning, sight}
 use Rattle.ckd_drive.specs.declared.job.Job.{Job}
-use Rattle.ckd_drive.specs.declared.answers.Stage.{Stage as StageHeld}
-use Rattle.ckd_drive.specs.Stage.{Stage}
-use Rattle.ckd_drive.specs.Invariant.{HalfDone, own_track, own_slot, Absorbs, Kept, kept, Parts, parts_of, BeginsWell, AreaIsThere, command_end_at}
-use Rattle.ckd_drive.specs.Fields.{progress_seen, stage_seen, IsBegunHeld, IsLookedHeld}
+use Rattle.ckd_drive.specs.declared.answers.Stage.{Stage}
+use Rattle.ckd_drive.specs.declared.answers.Stage.TheVariants as stage
+use Rattle.ckd_drive.specs.Invariant.{HalfDone, own_track, own_slot, Absorbs, Parts, parts_of, BeginsWell, AreaIsThere, command_end_at}
 use Rattle.ckd_drive.specs.Calls.{Begins, Looks}
 
 -- the command half done that a job holds
 abbrev pub half_done : {S : Type 0} → Job S → HalfDone
-half_done j = record { cache = j.cache; registers = j.registers; before = j.before.bytes; passed = j.passed.bytes; progress = progress_seen j.opened j.progress }
-
--- what a drive of this job does, by its stage
-abbrev pub stage_of : {S : Type 0} → Job S → StageHeld → Stage
-stage_of j s = stage_seen j.opened j.progress s
-
--- what a drive of this job keeps from command to command
-abbrev pub kept_in : {S : Type 0} → Job S → Mark → Kept
-kept_in j m = kept j.cache j.registers m
+half_done j = record {
+  cache = j.cache;
+  registers = j.registers;
+  opened = j.opened;
+  progress = j.progress;
+  before = j.before.bytes;
+  passed = j.passed.bytes;
+}
 
 -- what a drive of this job is made of
-abbrev pub parts_held : {S : Type 0} → Job S → Mark → StageHeld → Parts
-parts_held j m s = parts_of (kept_in j m) (stage_of j s) j.before.bytes j.passed.bytes
+abbrev pub parts_held : {S : Type 0} → Job S → Mark → Stage → Parts
+parts_held j m s = parts_of (half_done j) m s
 
 -- A job takes these bytes, into its cache where the command writes; the rest have the place that is left, and nothing else
 -- changes.
 pub record Takes {S : Type 0} (old : Job S) (more : List ℕ) (new : Job S) : Type 0 where
   pub absorbs : Absorbs (half_done old) more new.cache new.before.bytes new.progress.place
-  pub stays : new ≡ record old { cache = new.cache; before = new.before; progress = record old.progress { place = new.progress.place } }
+  pub stays : new ≡ record old {
+    cache = new.cache;
+    before = new.before;
+    progress = record old.progress { place = new.progress.place };
+  }
 
 -- what a code leads to fits the track under the arm of a job
 abbrev pub BeginsBy : {S : Type 0} → (code : ℕ) → Job S → Type 0
 BeginsBy code j = BeginsWell j.cache (own_track (half_done j)) j.registers (beginning code j.registers)
 
--- a job with this mark begins the command of a code, and comes to this mark and this stage
-pub record Starts {S : Type 0} (code : ℕ) (old : Job S) (was : Mark) (new : Job S) (now : Mark) (s : StageHeld) : Type 0 where
-  pub state : Begins (kept_in old was) (kept_in new now) (beginning code old.registers) (stage_of new s)
-  pub begun : IsBegunHeld s
+-- an idle job with this mark begins the command of a code, and comes to this mark and this stage
+abbrev pub Starts : {S : Type 0} → (code : ℕ) → (old : Job S) → (was : Mark) → (new : Job S) → (now : Mark) → Stage
+    → Type 0
+Starts code old was new now s = Begins (parts_held old was stage.Idle) (parts_held new now s)
+    (beginning code old.registers)
 
 -- a job whose track is at hand looks at it, and sees this; nothing but the registers changes
 pub record Sees {S : Type 0} (old : Job S) (seen : Seen) (new : Job S) : Type 0 where
-  pub seen_is : seen_as seen old.opened new.registers ≡ sight old.cache.image.geometry (track_of (own_slot (half_done old))) old.opened old.registers
+  pub seen_is : seen_as seen old.opened new.registers
+      ≡ sight old.cache.image.geometry (track_of (own_slot (half_done old))) old.opened old.registers
   pub there : AreaIsThere (track_of (own_slot (half_done old))) old.opened (seen_as seen old.opened new.registers)
   pub registers : SeenStays seen old.registers new.registers
   pub stays : new ≡ record old { registers = new.registers }
 
 -- a job with this mark whose command looks for its area looks, and comes to this mark and this stage
-pub record LooksTo {S : Type 0} (old : Job S) (was : Mark) (new : Job S) (now : Mark) (s : StageHeld) : Type 0 where
-  pub stage : Looks (kept_in old was) (kept_in new now) old.opened (stage_of new s)
-  pub looked : IsLookedHeld s
+abbrev pub LooksTo : {S : Type 0} → (old : Job S) → (was : Mark) → (new : Job S) → (now : Mark) → Stage → Type 0
+LooksTo old was new now s = Looks (parts_held old was stage.Looking) (parts_held new now s)
 
 -- a job closes its command so by the bytes that passed; nothing but the registers changes
 pub record ClosesTo {S : Type 0} (old : Job S) (closed : Closed) (new : Job S) : Type 0 where
-  pub closes : closed_as closed new.registers ≡ command_end_at old.cache.image.geometry old.registers old.opened old.progress.moved old.progress.place
+  pub closes : closed_as closed new.registers
+      ≡ command_end_at old.cache.image.geometry old.registers old.opened old.progress.moved old.progress.place
   pub registers : ClosedStays closed old.registers new.registers
   pub stays : new ≡ record old { registers = new.registers }

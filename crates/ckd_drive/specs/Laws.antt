@@ -9,14 +9,22 @@ use Rattle.ckd_drive.specs.Work.{DriveState, Work, Over, CallsStore, Reports, fa
 
 -- One call of a drive while a program runs, by its clauses: begin, look, end, settle; or bytes pass.
 pub data Called (old new : DriveState) : Type 0 where
-  Begin : (code : ℕ) (answer : Begun) (state : new ≡ with_image (after_begin (fault_met old new) code old) new.image) (answers : answer ≡ answer_of_begin (begin (fault_met old new) code old.state))
-      (calls : CallsStore false (begin_saves code old) old new) (reported : Reports (answer ≡ begun.Rejected) old new) → Called old new
-  Look : (state : new ≡ with_image (after_look (fault_met old new) old) new.image) (calls : CallsStore (look_loads old) (look_saves old) old new) (reported : Reports (new.work ≡ Over failed_ending) old new) → Called old new
+  Begin : (code : ℕ) (answer : Begun) (state : new ≡ with_image (after_begin (fault_met old new) code old) new.image)
+      (answers : answer ≡ answer_of_begin (begin (fault_met old new) code old.state))
+      (calls : CallsStore false (begin_saves code old) old new) (reported : Reports (answer ≡ begun.Rejected) old new)
+      → Called old new
+  Look : (state : new ≡ with_image (after_look (fault_met old new) old) new.image)
+      (calls : CallsStore (look_loads old) (look_saves old) old new)
+      (reported : Reports (new.work ≡ Over failed_ending) old new) → Called old new
   Pass : (work : Work) (moved : new ≡ record old { work = work }) → Called old new
-  End : (ending : DriveEnding) (state : new ≡ with_image (after_end (fault_met old new) old) new.image) (ends : ending ≡ ending_of (closed_of (fault_met old new) old old.work))
-      (calls : CallsStore false (end_saves old) old new) (reported : Reports (ending ≡ failed_ending) old new) → Called old new
-  Settle : (state : new ≡ with_image (after_settle (fault_met old new) old) new.image) (calls : CallsStore false (is_written old.state) old new)
-      (reported : Reports (unsaved new.state ≡ Some (old.state.registers.cylinder, old.state.registers.head)) old new) → Called old new
+  End : (ending : DriveEnding) (state : new ≡ with_image (after_end (fault_met old new) old) new.image)
+      (ends : ending ≡ ending_of (closed_of (fault_met old new) old old.work))
+      (calls : CallsStore false (end_saves old) old new) (reported : Reports (ending ≡ failed_ending) old new)
+      → Called old new
+  Settle : (state : new ≡ with_image (after_settle (fault_met old new) old) new.image)
+      (calls : CallsStore false (is_written old.state) old new)
+      (reported : Reports (unsaved new.state ≡ Some (old.state.registers.cylinder, old.state.registers.head)) old new)
+      → Called old new
 
 -- the drive's sense has equipment check
 abbrev pub tells : DriveState → Type 0

@@ -1,7 +1,5 @@
 pub mod Work
-pub mod Stage
 pub mod Invariant
-pub mod Fields
 pub mod Calls
 pub mod Jobs
 pub mod Laws

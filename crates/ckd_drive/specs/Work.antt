@@ -106,15 +106,20 @@ Allows phase.Idle w = (is_idle w ≡ true) × (passed_of w ≡ [])
 Allows phase.Over w = (may_end w ≡ true) × (passed_of w ≡ [])
 Allows phase.Looking w = (is_working w ≡ true) × (passed_of w ≡ [])
 Allows (phase.Gives passed left) w =
-    (is_working w ≡ true) × (may_end w ≡ true) × (gives_now w ≡ true) × (length (passed_of w) ≡ passed) × (left_of w ≡ left) × (passed ≡ 0 → passed_of w ≡ [])
+    (is_working w ≡ true) × (may_end w ≡ true) × (gives_now w ≡ true) × (length (passed_of w) ≡ passed)
+    × (left_of w ≡ left) × (passed ≡ 0 → passed_of w ≡ [])
 Allows (phase.Takes passed left) w =
-    (is_working w ≡ true) × (may_end w ≡ true) × (takes_now w ≡ true) × (length (passed_of w) ≡ passed) × (left_of w ≡ left) × (passed ≡ 0 → passed_of w ≡ [])
+    (is_working w ≡ true) × (may_end w ≡ true) × (takes_now w ≡ true) × (length (passed_of w) ≡ passed)
+    × (left_of w ≡ left) × (passed ≡ 0 → passed_of w ≡ [])
 
 -- Begin.
 
 -- the end of a command that is over as it begins; while the arm moves the device end is still to come
 abbrev pub immediate_ending : (motion : Bool) → DriveEnding
-immediate_ending motion = record { unit = record { 0 = if motion then in_motion_status else ending_status }; motion = motion }
+immediate_ending motion = record {
+  unit = record { 0 = if motion then in_motion_status else ending_status };
+  motion = motion;
+}
 
 -- the drive once its command came to this as it began
 abbrev pub after_begun : AfterBegin → DriveState → DriveState
@@ -266,7 +271,8 @@ look_loads d = look_loads_of d.work
 -- What a call makes of the store: a saving exactly where a written track is left or settled; else a load at most, and only
 -- where one may be; and no call fails but one of these.
 pub record CallsStore (may_load must_save : Bool) (old new : DriveState) : Type 0 where
-  pub loads : (new.image.loads ≡ old.image.loads) ⊎ ((may_load ≡ true) × (must_save ≡ false) × (new.image.loads ≡ old.image.loads + 1))
+  pub loads : (new.image.loads ≡ old.image.loads)
+      ⊎ ((may_load ≡ true) × (must_save ≡ false) × (new.image.loads ≡ old.image.loads + 1))
   pub saves : new.image.saves ≡ old.image.saves + (if must_save then 1 else 0)
   pub failures : (new.image.failures ≡ old.image.failures)
       ⊎ ((new.image.failures ≡ old.image.failures + 1) × ((must_save ≡ true) ⊎ (new.image.loads ≡ old.image.loads + 1)))

@@ -1,15 +1,13 @@
 //! A drive begins a command, and its arm leaves a track for another.
 
-ghost use Rattle.std.specs.Prelude.{◌≡◌, None, OnOk, OnErr};
+ghost use Rattle.std.specs.Prelude.{◌≡◌, ℕ, None, OnOk, OnErr};
 ghost use Rattle.ckd_command.specs.Commands.{with_cause};
-ghost use Rattle.ckd_drive.specs.declared.transfer.Progress.{Progress};
+ghost use Rattle.ckd_drive.specs.declared.answers.Stage.TheVariants as stage;
 ghost use Rattle.ckd_drive.specs.Invariant.{Stands};
-ghost use Rattle.ckd_drive.specs.Fields.{stage_seen, IsBegunHeld};
-ghost use Rattle.ckd_drive.specs.Jobs.{kept_in, BeginsBy, Starts};
-ghost use Rattle.ckd_drive.specs.Calls.{Leaves, Loses, begun_at, idle_drive};
+ghost use Rattle.ckd_drive.specs.Jobs.{half_done, parts_held, BeginsBy, Starts};
+ghost use Rattle.ckd_drive.specs.Calls.{Leaves, Loses, begun_at};
 ghost use Rattle.ckd_sense.specs.declared.sense_bytes.TheConstants.Sense.{STORE_FAULT};
 ghost use Rattle.ckd_command.specs.Answers.{moved_to};
-ghost use Rattle.ckd_command.specs.declared.begin.Opened.{Opened};
 
 use crate::answers::{Begun, Stage};
 use crate::job::Job;
@@ -27,14 +25,12 @@ pub(crate) fn lose(registers: &mut Registers)
 
 /// What a begin answers that came to this stage.
 pub(crate) fn begun(stage: Stage) -> Begun
-    requires { IsBegunHeld stage }
-    ensures { (o : Opened) (p : Progress) → result ≡ begun_at (stage_seen o p stage) }
+    ensures { result ≡ begun_at stage }
 {
     match stage {
         Stage::Idle => Begun::Rejected,
         Stage::Ended | Stage::InMotion | Stage::Failed => Begun::Immediate,
-        Stage::Looking => Begun::Started,
-        Stage::Passing => unreachable!(),
+        Stage::Looking | Stage::Passing => Begun::Started,
     }
 }
 
@@ -49,9 +45,9 @@ impl<S: ImageStore> Job<S> {
         cylinder: u16,
         head: u16,
     ) -> Result<(), StoreFault>
-        ensures leaves { OnOk result (Leaves self.old.cache (kept_in self.new mark.new) (moved_to self.old.registers cylinder head)) }
-        ensures loses { OnErr result (Loses self.old.cache self.old.registers (kept_in self.new mark.new)) }
-        ensures stays { self.new ≡ record self.old { cache = self.new.cache; registers = self.new.registers } }
+        ensures leaves { OnOk result (Leaves (half_done self.old) (half_done self.new) mark.new
+            (moved_to self.old.registers cylinder head)) }
+        ensures loses { OnErr result (Loses (half_done self.old) (half_done self.new) mark.new) }
     {
         if let Err(fault) = self.cache.save() {
             lose(&mut self.registers);
@@ -63,12 +59,12 @@ impl<S: ImageStore> Job<S> {
         Ok(())
     }
 
-    // An idle drive starts the command that this code leads to.
+    // An idle drive starts the command that this code leads to, which is that of any code asked for that equals it.
     #[inline(always)]
     fn start_here(&mut self, mark: &mut Mark, code: u8) -> Stage
-        requires idle { Stands (idle_drive (kept_in self.old mark.old)) }
+        requires idle { Stands (parts_held self.old mark.old stage.Idle) }
         requires well { BeginsBy code self.old }
-        ensures { Starts code self.old mark.old self.new mark.new result }
+        ensures { (asked : ℕ) → asked ≡ code → Starts asked self.old mark.old self.new mark.new result }
     {
         match begin_command(code, &mut self.registers) {
             Start::Rejected => Stage::Idle,
@@ -77,25 +73,23 @@ impl<S: ImageStore> Job<S> {
                 self.opened = next;
                 Stage::Looking
             }
-            Start::ToCylinderZero(next) => {
-                if self.leave(mark, 0, 0).is_err() {
-                    return Stage::Idle;
-                }
-                match next {
+            Start::ToCylinderZero(next) => match self.leave(mark, 0, 0) {
+                Err(_) => Stage::Idle,
+                Ok(()) => match next {
                     None => Stage::InMotion,
                     Some(next) => {
                         self.opened = next;
                         Stage::Looking
                     }
-                }
-            }
+                },
+            },
         }
     }
 
     // The same, of a code that is not a common one.
     #[inline(never)]
     fn start_elsewhere(&mut self, mark: &mut Mark, code: u8) -> Stage
-        requires idle { Stands (idle_drive (kept_in self.old mark.old)) }
+        requires idle { Stands (parts_held self.old mark.old stage.Idle) }
         requires well { BeginsBy code self.old }
         ensures { Starts code self.old mark.old self.new mark.new result }
     {
@@ -106,7 +100,7 @@ impl<S: ImageStore> Job<S> {
     // The commonest codes by themselves: what they lead to is then known as the crate is compiled.
     #[inline(always)]
     pub(crate) fn start(&mut self, mark: &mut Mark, code: u8) -> Stage
-        requires idle { Stands (idle_drive (kept_in self.old mark.old)) }
+        requires idle { Stands (parts_held self.old mark.old stage.Idle) }
         requires well { BeginsBy code self.old }
         ensures { Starts code self.old mark.old self.new mark.new result }
     {

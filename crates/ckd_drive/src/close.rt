@@ -53,7 +53,9 @@ pub(crate) fn owed_mark(mark: Mark) -> Mark
 
 // How Write Home Address closes where the track is as it was.
 fn home_address_ends(opened: &Opened, registers: &mut Registers, bytes: &[u8]) -> Closed
-    ensures closes { closed_as result registers.new ≡ command_end (whole_field (at_end opened.now registers.old) bytes.now 5 (fails (at_end opened.now registers.old) WRONG_HOME_ADDRESS)) }
+    ensures closes { closed_as result registers.new
+        ≡ command_end (whole_field (at_end opened.now registers.old) bytes.now 5
+        (fails (at_end opened.now registers.old) WRONG_HOME_ADDRESS)) }
     ensures stays { ClosedStays result registers.old registers.new }
 {
     end_at_area(opened, registers);
@@ -74,7 +76,8 @@ fn field_ends(
     bytes: &[u8],
 ) -> Closed
     requires { length bytes.now ≤ field_size (action_of opened.now.command) }
-    ensures closes { closed_as result registers.new ≡ command_end (field_ends (action_of opened.now.command) geometry opened.now registers.old bytes.now) }
+    ensures closes { closed_as result registers.new
+        ≡ command_end (field_ends (action_of opened.now.command) geometry opened.now registers.old bytes.now) }
     ensures stays { ClosedStays result registers.old registers.new }
 {
     match tables::action_of(opened.command) {

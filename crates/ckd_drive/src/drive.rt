@@ -1,6 +1,6 @@
 //! One drive.
 
-ghost use Rattle.std.specs.Prelude.{◌≡◌, ◌≤◌, ◌<◌, ◌+◌, ◌-◌, ◌^◌, ◌++◌, Some, None, true, false, [], length, slice_range, IfOk, IfErr, OnOk, OnErr, Option};
+ghost use Rattle.std.specs.Prelude.{◌≡◌, ◌≤◌, ◌+◌, Some, None, true, false, [], length, slice_range, IfOk, IfErr};
 ghost use Rattle.ckd_sense.specs.SenseBytes.{sense_bytes};
 ghost use Rattle.ckd_image.specs.Store.{Counts};
 ghost use Rattle.ckd_command.specs.Drive.{unsaved, begin, is_written};
@@ -136,7 +136,8 @@ impl<S: ImageStore> Drive<S> {
     pub fn give(&mut self, into: &mut [u8])
         requires gives { gives_now self.old.work ≡ true }
         requires room { length into.old ≤ left_of self.old.work }
-        ensures given { into.new ≡ slice_range (given_now self.old self.old.work) (length (passed_of self.old.work)) (length (passed_of self.old.work) + length into.old) }
+        ensures given { into.new ≡ slice_range (given_now self.old self.old.work) (length (passed_of self.old.work))
+            (length (passed_of self.old.work) + length into.old) }
         ensures moved { self.new ≡ record self.old { work = moved_on into.new self.old.work } }
     {
         let n = into.len();
@@ -161,7 +162,8 @@ impl<S: ImageStore> Drive<S> {
     pub fn next_bytes(&self) -> &[u8]
         requires { gives_now self.now.work ≡ true }
         ensures size { length result.now ≡ left_of self.now.work }
-        ensures bytes { result.now ≡ slice_range (given_now self.now self.now.work) (length (passed_of self.now.work)) (length (passed_of self.now.work) + left_of self.now.work) }
+        ensures bytes { result.now ≡ slice_range (given_now self.now self.now.work) (length (passed_of self.now.work))
+            (length (passed_of self.now.work) + left_of self.now.work) }
     {
         let Stage::Passing = self.stage else {
             unreachable!();
@@ -180,7 +182,10 @@ impl<S: ImageStore> Drive<S> {
     pub fn pass(&mut self, n: usize)
         requires gives { gives_now self.old.work ≡ true }
         requires room { n ≤ left_of self.old.work }
-        ensures { self.new ≡ record self.old { work = moved_on (slice_range (given_now self.old self.old.work) (length (passed_of self.old.work)) (length (passed_of self.old.work) + n)) self.old.work } }
+        ensures { self.new ≡ record self.old {
+          work = moved_on (slice_range (given_now self.old self.old.work) (length (passed_of self.old.work))
+              (length (passed_of self.old.work) + n)) self.old.work;
+        } }
     {
         let passed = self.job.passed.and(&self.next_bytes()[..n]);
         self.job.passed = passed;
@@ -285,10 +290,10 @@ impl<S: ImageStore> Drive<S> {
                 }
             }
             Closed::Moves(cylinder, head, ending) => {
-                if self.job.leave(&mut self.mark, cylinder, head).is_err() {
-                    return DriveEnding::FAILED;
+                match self.job.leave(&mut self.mark, cylinder, head) {
+                    Ok(()) => ending,
+                    Err(_) => DriveEnding::FAILED,
                 }
-                ending
             }
         }
     }
@@ -305,7 +310,8 @@ impl<S: ImageStore> Drive<S> {
         ensures saved { self.new.image.slots ≡ self.new.state.volume.slots }
         ensures counted { Counts self.old.image.failures self.new.image.failures result }
         ensures calls { CallsStore false (is_written self.old.state) self.old self.new }
-        ensures reported { Reports (unsaved self.new.state ≡ Some (self.old.state.registers.cylinder, self.old.state.registers.head)) self.old self.new }
+        ensures reported { Reports (unsaved self.new.state
+            ≡ Some (self.old.state.registers.cylinder, self.old.state.registers.head)) self.old self.new }
     {
         self.stage = Stage::Idle;
         match self.job.cache.save() {
@@ -395,7 +401,8 @@ impl<S: ImageStore> Drive<S> {
     pub fn image(&self) -> &Image<S>
         ensures image { result.now ≡ self.now.image }
         ensures geometry { self.now.image.geometry ≡ self.now.state.volume.geometry }
-        ensures volume { is_idle self.now.work ≡ true → is_written self.now.state ≡ false → self.now.image.slots ≡ self.now.state.volume.slots }
+        ensures volume { is_idle self.now.work ≡ true → is_written self.now.state ≡ false
+            → self.now.image.slots ≡ self.now.state.volume.slots }
     {
         self.job.cache.image()
     }

@@ -3,12 +3,11 @@
 ghost use Rattle.std.specs.Prelude.{◌≡◌, Some, ◌<◌, List, ℕ};
 ghost use Rattle.ckd_command.specs.declared.tables.Aim.TheVariants.{Next, NoArea};
 ghost use Rattle.ckd_command.specs.Tables.{aim, action_of};
-ghost use Rattle.ckd_drive.specs.Invariant.{Stands, own_track, remaining, AreaOf, IsFirstPlace, ReadsWhole};
-ghost use Rattle.ckd_drive.specs.Fields.{stage_seen, IsLookedHeld, IsReady};
-ghost use Rattle.ckd_drive.specs.Jobs.{half_done, kept_in, Sees, LooksTo};
-ghost use Rattle.ckd_drive.specs.Calls.{looked_at, looking_drive};
+ghost use Rattle.ckd_drive.specs.declared.answers.Stage.TheVariants as stage;
+ghost use Rattle.ckd_drive.specs.Work.{answer_of_look};
+ghost use Rattle.ckd_drive.specs.Invariant.{HalfDone, Stands, work_of, own_track, remaining, first_progress, AreaOf, IsFirstPlace, ReadsWhole};
+ghost use Rattle.ckd_drive.specs.Jobs.{half_done, parts_held, Sees, LooksTo};
 ghost use Rattle.ckd_command.specs.declared.registers.Registers.{Registers};
-ghost use Rattle.ckd_command.specs.declared.begin.Opened.{Opened};
 ghost use Rattle.ckd_track.specs.Model.{heads_of};
 ghost use Rattle.ckd_track.specs.Track.{track_of};
 ghost use Rattle.ckd_command.specs.declared.tables.Action.TheVariants.{NoTransfer};
@@ -29,9 +28,8 @@ use std::cmp::Ordering;
 
 // A command of this action has just found the place of its bytes.
 fn ready(action: Action, progress: &mut Progress, place: Transfer) -> Stage
-    ensures place { progress.new.place ≡ place }
-    ensures passing { IsLookedHeld result }
-    ensures ready { (o : Opened) → action ≡ action_of o.command → IsReady o progress.new result }
+    ensures ready { progress.new ≡ first_progress action place }
+    ensures passing { result ≡ stage.Passing }
 {
     let left = transfer::remaining(action, &place, 0);
     progress.moved = 0;
@@ -49,12 +47,10 @@ pub(crate) fn make_ready(action: Action, progress: &mut Progress)
 
 /// What a look answers that came to this stage, with so many bytes that may pass.
 pub(crate) fn looked(stage: Stage, left: usize) -> Look
-    requires { IsLookedHeld stage }
-    ensures { (o : Opened) (p : Progress) → p.left ≡ left → result ≡ looked_at (stage_seen o p stage) }
+    ensures { (h : HalfDone) → h.progress.left ≡ left → result ≡ answer_of_look (work_of stage h) }
 {
     match stage {
-        Stage::Idle => unreachable!(),
-        Stage::Ended | Stage::InMotion | Stage::Failed => Look::Failed,
+        Stage::Idle | Stage::Ended | Stage::InMotion | Stage::Failed => Look::Failed,
         Stage::Looking => Look::Passed,
         Stage::Passing => Look::Ready(left),
     }
@@ -72,8 +68,8 @@ fn place_without_area(
     requires aim { aim opened.now.command ≡ NoArea }
     requires transfers { action_of opened.now.command ≡ NoTransfer → ⊥ }
     ensures first { (slot : List ℕ) → IsFirstPlace slot opened.now registers.now progress.new.place }
-    ensures ready { IsReady opened.now progress.new result }
-    ensures passing { IsLookedHeld result }
+    ensures ready { progress.new ≡ first_progress (action_of opened.now.command) progress.new.place }
+    ensures passing { result ≡ stage.Passing }
 {
     let action = tables::action_of(command);
     let place = match action {
@@ -96,8 +92,8 @@ fn place_on(
     requires readable { ReadsWhole (action_of opened.now.command) (track_of buffer.now) }
     requires there { AreaOf (track_of buffer.now) opened.now }
     ensures first { (r : Registers) → IsFirstPlace buffer.now opened.now r progress.new.place }
-    ensures ready { IsReady opened.now progress.new result }
-    ensures passing { IsLookedHeld result }
+    ensures ready { progress.new ≡ first_progress (action_of opened.now.command) progress.new.place }
+    ensures passing { result ≡ stage.Passing }
 {
     let action = tables::action_of(command);
     if matches!(action, Action::WriteHomeAddress | Action::Format) {
@@ -140,7 +136,7 @@ impl<S: ImageStore> Job<S> {
     // The look of this command at the track under the arm, which is at hand.
     #[inline(always)]
     fn look_at_hand(&mut self, mark: &mut Mark, command: Command, kind: Kind) -> Stage
-        requires stands { Stands (looking_drive (kept_in self.old mark.old) self.old.opened) }
+        requires stands { Stands (parts_held self.old mark.old stage.Looking) }
         requires command { command ≡ self.old.opened.command }
         requires aim { aim self.old.opened.command ≡ Next kind }
         requires held { self.old.cache.held ≡ Some (own_track (half_done self.old)) }
@@ -160,10 +156,10 @@ impl<S: ImageStore> Job<S> {
             Seen::IndexPassed => Stage::Looking,
             Seen::NextHead => {
                 let (cylinder, head) = (self.registers.cylinder, self.registers.head + 1);
-                if self.leave(mark, cylinder, head).is_err() {
-                    return Stage::Failed;
+                match self.leave(mark, cylinder, head) {
+                    Ok(()) => Stage::Looking,
+                    Err(_) => Stage::Failed,
                 }
-                Stage::Looking
             }
             Seen::Missed => Stage::Failed,
         }
@@ -172,7 +168,7 @@ impl<S: ImageStore> Job<S> {
     // The look for the next area of this kind, which loads the track under the arm where it is not at hand.
     #[inline(always)]
     fn look_for_next(&mut self, mark: &mut Mark, command: Command, kind: Kind) -> Stage
-        requires stands { Stands (looking_drive (kept_in self.old mark.old) self.old.opened) }
+        requires stands { Stands (parts_held self.old mark.old stage.Looking) }
         requires command { command ≡ self.old.opened.command }
         requires aim { aim self.old.opened.command ≡ Next kind }
         ensures { LooksTo self.old mark.old self.new mark.new result }
@@ -181,17 +177,19 @@ impl<S: ImageStore> Job<S> {
             .cache
             .geometry()
             .track_at(self.registers.cylinder, self.registers.head);
-        if self.cache.hold(track).is_err() {
-            add_cause(&mut self.registers, Sense::STORE_FAULT);
-            return Stage::Failed;
+        match self.cache.hold(track) {
+            Ok(()) => self.look_at_hand(mark, command, kind),
+            Err(_) => {
+                add_cause(&mut self.registers, Sense::STORE_FAULT);
+                Stage::Failed
+            }
         }
-        self.look_at_hand(mark, command, kind)
     }
 
     // A command that has not looked yet looks.
     #[inline(always)]
     fn look_here(&mut self, mark: &mut Mark, command: Command) -> Stage
-        requires stands { Stands (looking_drive (kept_in self.old mark.old) self.old.opened) }
+        requires stands { Stands (parts_held self.old mark.old stage.Looking) }
         requires command { command ≡ self.old.opened.command }
         ensures { LooksTo self.old mark.old self.new mark.new result }
     {
@@ -215,7 +213,7 @@ impl<S: ImageStore> Job<S> {
     // The same, of a command that is not a common one.
     #[inline(never)]
     fn look_elsewhere(&mut self, mark: &mut Mark) -> Stage
-        requires { Stands (looking_drive (kept_in self.old mark.old) self.old.opened) }
+        requires { Stands (parts_held self.old mark.old stage.Looking) }
         ensures { LooksTo self.old mark.old self.new mark.new result }
     {
         let command = self.opened.command;
@@ -226,7 +224,7 @@ impl<S: ImageStore> Job<S> {
     // The commonest commands by themselves: what they look for is then known as the crate is compiled.
     #[inline(always)]
     pub(crate) fn look(&mut self, mark: &mut Mark) -> Stage
-        requires { Stands (looking_drive (kept_in self.old mark.old) self.old.opened) }
+        requires { Stands (parts_held self.old mark.old stage.Looking) }
         ensures { LooksTo self.old mark.old self.new mark.new result }
     {
         match self.opened.command {

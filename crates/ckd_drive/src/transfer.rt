@@ -1,8 +1,7 @@
 //! The bytes of a command that pass: where they stand, and what becomes of those that it takes.
 
 ghost use Rattle.std.specs.Prelude.{◌≡◌, ◌≤◌, ◌<◌, ◌+◌, length, ◌-◌, ◌^◌, slice_range};
-ghost use Rattle.ckd_drive.specs.Invariant.{MayTake, MayGive, whole_of, remaining, field_size, given_on};
-ghost use Rattle.ckd_drive.specs.Fields.{IsNoSearch};
+ghost use Rattle.ckd_drive.specs.Invariant.{MayTake, MayGive, IsNoSearch, whole_of, remaining, field_size, given_on};
 ghost use Rattle.ckd_drive.specs.Jobs.{half_done, Takes};
 ghost use Rattle.ckd_command.specs.Commands.{own_home_address};
 ghost use Rattle.std.specs.Ordering.{nat_cmp, ordering_then};
@@ -122,7 +121,8 @@ pub(crate) fn give_on(place: &mut Transfer, n: usize)
 // The order of an area's bytes to those that were given so far, once these are given too.
 fn compared(so_far: Ordering, slot: &[u8], window: Window, bytes: &[u8]) -> Ordering
     requires { window.start + length bytes.now ≤ length slot.now }
-    ensures { result ≡ ordering_then so_far (slice_cmp nat_cmp (slice_range slot.now window.start (window.start + length bytes.now)) bytes.now) }
+    ensures { result ≡ ordering_then so_far (slice_cmp nat_cmp
+        (slice_range slot.now window.start (window.start + length bytes.now)) bytes.now) }
 {
     let end = window.start + bytes.len();
     ckd_position::compared(so_far, &slot[window.start..end], bytes)

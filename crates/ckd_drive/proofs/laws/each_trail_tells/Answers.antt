@@ -1,4 +1,4 @@
-use Rattle.ckd_drive.proofs.Told.{each_trail_tells}
+use Rattle.ckd_drive.proofs.Reported.{each_trail_tells}
 use Rattle.ckd_drive.proofs.laws.each_trail_tells.Goals as goal
 
 pub returns : goal.returns

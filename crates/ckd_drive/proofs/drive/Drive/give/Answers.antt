@@ -1,10 +1,10 @@
-use Rattle.std.proofs.Common.{refl, length}
+use Rattle.std.proofs.Common.{length}
 use Rattle.ckd_drive.proofs.Moving.{has_passed}
-use Rattle.ckd_drive.proofs.Inside.{parts_in, progress_in}
+use Rattle.ckd_drive.proofs.Standing.{parts_in}
 use Rattle.ckd_drive.proofs.drive.Drive.give.Goals as goal
 
 pub invariant_of-self : goal.invariant_of-self
 invariant_of-self g c =
-    let i = c.self.inside in
-    rw (c.in-Passing.is, c.and-passed.ensures, c.give_on.ensures)
-    (has_passed (parts_in i) (progress_in i) c.next_bytes.result.now c.args.self.now (length c.args.into.now) c.self.invariant (rw c.in-Passing.is refl) c.self.view_is c.requires.gives c.requires.room c.next_bytes.ensures.size c.next_bytes.ensures.bytes).stands
+    let b = c.next_bytes in
+    let x = has_passed (parts_in c.self.inside) b.result.now c.args.self.now (length c.args.into.now) c.self.invariant c.in-Passing.is c.self.view_is c.requires.gives c.requires.room b.ensures.size b.ensures.bytes in
+    rw (c.in-Passing.is, c.and-passed.ensures, c.give_on.ensures) (rw x.long at x.stands)

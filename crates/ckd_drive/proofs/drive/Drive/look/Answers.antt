@@ -1,21 +1,17 @@
-use Rattle.std.proofs.Common.{◌∙◌, refl}
-use Rattle.ckd_drive.specs.Jobs.{kept_in, stage_of}
+use Rattle.std.proofs.Common.{refl}
+use Rattle.ckd_drive.specs.Jobs.{half_done, parts_held}
+use Rattle.ckd_drive.specs.declared.answers.Stage.TheVariants.{Looking}
 use Rattle.ckd_drive.proofs.Reported.{look_reports}
-use Rattle.ckd_drive.proofs.Inside.{parts_in}
 use Rattle.ckd_drive.proofs.drive.Drive.look.Goals as goal
 use Rattle.ckd_drive.proofs.Looks.{has_looked}
 
 pub invariant_of-self-2 : goal.invariant_of-self-2
-invariant_of-self-2 g c =
-    let i = c.self.inside in
-    let l = c.look-self-inside in
-    let j = l.new.self in
-    (has_looked (parts_in i) (kept_in j l.new.mark) (stage_of j l.result) i.job.opened j.before.bytes c.new-self-inside.result.bytes c.args.self.now (rw c.in-Looking.is refl) c.self.view_is c.new-self-inside.ensures l.ensures.stage).comes.stands
+invariant_of-self-2 g c = rw c.new-self-inside.ensures c.look-self-inside.ensures.stands
 
 pub returns : goal.returns
 returns g c =
     let i = c.self.inside in
     let l = c.look-self-inside in
-    let j = l.new.self in
-    let x = has_looked (parts_in i) (kept_in j l.new.mark) (stage_of j l.result) i.job.opened j.before.bytes c.new-self-inside.result.bytes c.args.self.now (rw c.in-Looking.is refl) c.self.view_is c.new-self-inside.ensures l.ensures.stage in
-    record { state = x.comes.state; answer = c.looked.ensures j.opened j.progress refl ∙ x.answer; calls = x.comes.calls; reported = look_reports c.args.self.now _ x.comes.state x.comes.calls x.comes.at_hand }
+    let new = c.new-self-inside in
+    let x = has_looked (parts_held i.job i.mark Looking) (parts_held l.new.self l.new.mark l.result) new.result.bytes c.args.self.now (rw c.in-Looking.is at c.self.view_is) new.ensures l.ensures in
+    record { state = x.state; answer = c.looked.ensures (record (half_done l.new.self) { passed = new.result.bytes }) refl; calls = x.calls; reported = look_reports c.args.self.now _ x.state x.calls x.at_hand }

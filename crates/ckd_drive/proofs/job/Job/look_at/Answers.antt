@@ -3,7 +3,7 @@ use Rattle.ckd_track.specs.Track.{track_of}
 use Rattle.ckd_command.specs.Commands.{sight}
 use Rattle.ckd_drive.specs.Invariant.{own_track, own_slot}
 use Rattle.ckd_drive.specs.Jobs.{half_done}
-use Rattle.ckd_drive.proofs.Sights.{seen_there}
+use Rattle.ckd_drive.proofs.Looks.{seen_there}
 use Rattle.ckd_drive.proofs.job.Job.look_at.Goals as goal
 use Rattle.ckd_drive.proofs.Standing.{slot_is}
 

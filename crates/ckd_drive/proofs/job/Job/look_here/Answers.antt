@@ -1,9 +1,8 @@
 use Rattle.std.proofs.Common.{◌≡◌, ◌∙◌, sym, Some}
 use Rattle.ckd_command.specs.declared.tables.Aim.TheVariants.{NoArea, Credited}
 use Rattle.ckd_command.specs.Tables.{aim}
-use Rattle.ckd_drive.specs.Invariant.{number_under, slot_under}
-use Rattle.ckd_drive.specs.Fields.{stage_seen}
-use Rattle.ckd_drive.specs.Jobs.{kept_in}
+use Rattle.ckd_drive.specs.Invariant.{own_track, own_slot}
+use Rattle.ckd_drive.specs.Jobs.{half_done}
 use Rattle.ckd_command.proofs.Sights.{sight_without, sight_credited}
 use Rattle.ckd_drive.proofs.Looks.{credit_hand, found_looks}
 use Rattle.ckd_drive.proofs.job.Job.look_here.Goals as goal
@@ -11,30 +10,19 @@ use Rattle.ckd_drive.proofs.Standing.{slot_is}
 
 pub returns-in-NoArea : goal.returns-in-NoArea
 returns-in-NoArea g c =
-    let was = kept_in c.args.self.now c.args.mark.now in
-    let r = was.registers in
-    let o = c.args.self.now.opened in
+    let old = half_done c.args.self.now in
     let x = c.place_without_area in
-    let none : aim o.command ≡ NoArea = rw c.requires.command at (sym c.aim_of.ensures ∙ c.in-NoArea.is) in
-    record {
-      stage = found_looks was o o x.new.progress.place (stage_seen o x.new.progress x.result) c.requires.stands
-          (x.ensures.first (slot_under was)) (λ aimed. absurd (aimed none)) (sight_without _ _ o r none) (sight_without _ _ o r none) x.ensures.ready;
-      looked = x.ensures.passing;
-    }
+    let none : aim old.opened.command ≡ NoArea = rw c.requires.command at (sym c.aim_of.ensures ∙ c.in-NoArea.is) in
+    found_looks old c.args.mark.now old.opened x.new.progress x.result c.requires.stands (x.ensures.first (own_slot old)) (λ aimed. absurd (aimed none))
+    (sight_without _ _ old.opened old.registers none) (sight_without _ _ old.opened old.registers none) x.ensures.ready x.ensures.passing
 
 pub returns-in-Credited : goal.returns-in-Credited
 returns-in-Credited g c =
-    let was = kept_in c.args.self.now c.args.mark.now in
-    let d = was.cache in
-    let r = was.registers in
-    let o = c.args.self.now.opened in
+    let old = half_done c.args.self.now in
     let x = c.place_on in
-    let aimed : aim o.command ≡ Credited = rw c.requires.command at (sym c.aim_of.ensures ∙ c.in-Credited.is) in
+    let aimed : aim old.opened.command ≡ Credited = rw c.requires.command at (sym c.aim_of.ensures ∙ c.in-Credited.is) in
     let credit = c.requires.stands.work.credit in
-    let held : d.held ≡ Some (number_under was) = (rw aimed at credit).held in
-    let slot = slot_is d (number_under was) c.buffer.result.now held c.buffer.ensures.slot in
-    record {
-      stage = found_looks was o o x.new.progress.place (stage_seen o x.new.progress x.result) c.requires.stands
-          (rw slot at (x.ensures.first r)) (credit_hand d (number_under was) o aimed credit) (sight_credited _ _ o r aimed) (sight_credited _ _ o r aimed) x.ensures.ready;
-      looked = x.ensures.passing;
-    }
+    let held : old.cache.held ≡ Some (own_track old) = (rw aimed at credit).held in
+    let slot = slot_is old.cache (own_track old) c.buffer.result.now held c.buffer.ensures.slot in
+    found_looks old c.args.mark.now old.opened x.new.progress x.result c.requires.stands (rw slot at (x.ensures.first old.registers)) (credit_hand old.cache (own_track old) old.opened aimed credit)
+    (sight_credited _ _ old.opened old.registers aimed) (sight_credited _ _ old.opened old.registers aimed) x.ensures.ready x.ensures.passing
