@@ -9,14 +9,13 @@ use Rattle.s360_laws.specs.History.{units_ahead, script_ahead, fate_ahead, acts,
 use Rattle.s360_laws.specs.Machine.{units_with}
 use Rattle.s360_laws.specs.SerialLists.{changes_nothing, is_arrival, arrivals_last, steps_ahead, is_step, is_between, whole_step, steps_of, ArePlain, steps_joined, SameActs}
 use Rattle.s360_laws.specs.declared.condition.ConditionCode.TheVariants.{Two, Zero}
-use Rattle.s360_laws.proofs.Ahead.{step_script, same_script}
-use Rattle.s360_laws.proofs.StepLaws.{plain_two}
+use Rattle.s360_laws.proofs.StepUnits.{step_script, same_script, plain_two}
 
-record Alike (x y : List Exchange) : Type 0 where
-  ahead : units_ahead x ≡ units_ahead y
-  script : script_ahead x ≡ script_ahead y
-  ends : fate_ahead x ≡ fate_ahead y
-  does : acts x ≡ acts y
+pub record Alike (x y : List Exchange) : Type 0 where
+  pub ahead : units_ahead x ≡ units_ahead y
+  pub script : script_ahead x ≡ script_ahead y
+  pub ends : fate_ahead x ≡ fate_ahead y
+  pub does : acts x ≡ acts y
 
 same : (x : List Exchange) → Alike x x
 same x = record { ahead = refl; script = refl; ends = refl; does = refl }
@@ -76,7 +75,7 @@ gone x t u s f a = record {
   does = ap (λ l. l ++ acts x) a;
 }
 
-left_out : (t : Exchange) (x : List Exchange) → changes_nothing t ≡ true → Alike (t ∷ x) x
+pub left_out : (t : Exchange) (x : List Exchange) → changes_nothing t ≡ true → Alike (t ∷ x) x
 left_out (Sio a, m, WithCode Zero) x h = absurd (cc)
 left_out (Sio a, m, WithCode code) x h = gone x (Sio a, m, WithCode code) refl refl refl refl
 left_out (Tio a, m, WithCode n) x h = gone x (Tio a, m, WithCode n) refl refl refl refl

@@ -1,10 +1,14 @@
 -- Numbers, tests and devices that are found by their addresses.
-use Rattle.std.proofs.Common.{subst, ◌≡◌, ℕ, ◌+◌, ◌*◌, refl, sym, ap, ◌∙◌, arith, true, false, Bool, cond, ◌==◌, List, [], ◌∷◌, map, Option, Some, None}
+use Rattle.std.proofs.Common.{subst, ◌≡◌, ℕ, ◌+◌, ◌*◌, ◌/◌, ◌%◌, refl, sym, ap, ◌∙◌, arith, true, false, Bool, cond, ◌==◌, List, [], ◌∷◌, map, Option, Some, None}
 use Rattle.std.proofs.lemmas.Bool.{ne_eqb, eq-eqb, eqb-true, eqb-false, cond_both, cond-true, cond-false}
 use Rattle.std.specs.Prelude.{find, option_map}
+use Rattle.s360_words.specs.declared.words.Csw.{Csw}
 use Rattle.ckd_command.specs.Drive.{IdleDrive}
-use Rattle.s360_laws.specs.Machine.{Device, Machine, address_of, device_at}
-use Rattle.s360_laws.specs.Soundness.{AreDistinct, device_for}
+use Rattle.s360_runs.specs.Endings.{Outcome}
+use Rattle.s360_runs.specs.Runs.{run}
+use Rattle.s360_runs.specs.Scripts.{Script}
+use Rattle.s360_laws.specs.Machine.{Device, Machine, address_of, device_at, run_of, start_of, Idle, Pending, Working}
+use Rattle.s360_laws.specs.Soundness.{AreDistinct, device_for, IsRunning}
 use Rattle.s360_laws.specs.declared.arm.Arm.{Arm}
 
 -- Numbers and tests.
@@ -99,3 +103,28 @@ at_device m d u y e h = ap (device_for m) (sym e) ∙ found_same m.channel d m.d
 
 pub device_of : (m : Machine) (d : ℕ) → device_at m d ≡ device_for m (address_of m d)
 device_of m d = sym (found_same m.channel d m.devices)
+
+abbrev pub idle : Machine → Machine
+idle m = record m { subchannel = Idle }
+
+abbrev pub pending : Machine → ℕ → Csw → Machine
+pending m p csw = record m { subchannel = Pending p csw }
+
+abbrev pub working : Machine → ℕ → Script → Machine
+working m d s = record m { subchannel = Working d s }
+
+-- the device that works, and its run so far
+pub working_device : (m : Machine) (d : ℕ) (s : Script) (y : Option Device) → device_at m d ≡ y → IsRunning (option_map (λ v. run s (start_of m v.drive)) y) → (v : Device) × (device_at m d ≡ Some v) × IsRunning (Some (run s (start_of m v.drive)))
+working_device m d s None at r = absurd r
+working_device m d s (Some v) at r = (v, at, r)
+
+pub run_at : (m : Machine) (d : ℕ) (v : Device) (s : Script) → device_at m d ≡ Some v → run_of m d s ≡ Some (run s (start_of m v.drive))
+run_at m d v s at = ap (option_map (λ v. run s (start_of m v.drive))) at
+
+-- what holds of its run holds of the run of the device
+pub by_device : (m : Machine) (d : ℕ) (s : Script) (v : Device) (P : Option Outcome → Type 0) → device_at m d ≡ Some v → P (Some (run s (start_of m v.drive))) → P (run_of m d s)
+by_device m d s v P at p = subst (λ y. P (option_map (λ v. run s (start_of m v.drive)) y)) (sym at) p
+
+-- an address of this channel, by its low byte
+pub whole : (n a : ℕ) → (a / 256 == n) ≡ true → 256 * n + a % 256 ≡ a
+whole n a h = let e : a / 256 ≡ n = eqb-true _ _ h in omega arith

@@ -11,9 +11,7 @@ use Rattle.s360_laws.specs.Machine.{Machine, react, test_io, Pending, with_csw, 
 use Rattle.s360_laws.specs.Soundness.{IsSoundIn}
 use Rattle.s360_laws.specs.declared.arm.Arm.TheVariants.{Arrived}
 use Rattle.s360_laws.specs.declared.condition.ConditionCode.TheVariants.{Two, Three}
-use Rattle.s360_laws.proofs.FindDevices.{different}
-use Rattle.s360_laws.proofs.LedgerIdle.{whole}
-use Rattle.s360_laws.proofs.Shapes.{pending, idle}
+use Rattle.s360_laws.proofs.FindDevices.{different, whole, pending, idle}
 
 -- each answer is that of an ending that pends
 held_answer : (m : Machine) (p : ℕ) (csw : Csw) (e : Event) (x : Option FaultAfter) → HeldAnswer m.channel p csw (e, x, (react e x (pending m p csw)).0)

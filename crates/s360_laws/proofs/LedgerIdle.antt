@@ -1,5 +1,5 @@
 -- An event where no program runs keeps the ledger in balance.
-use Rattle.std.proofs.Common.{◌≡◌, ℕ, ◌+◌, ◌*◌, ◌/◌, ◌%◌, refl, sym, ap, subst, ◌∙◌, arith, true, false, Bool, cond, ◌&&◌, ◌==◌, List, [], ◌∷◌, map, Option, Some, None, zero-add, ◌⊎◌, inl, inr, add-zero}
+use Rattle.std.proofs.Common.{◌≡◌, ℕ, ◌+◌, ◌*◌, ◌/◌, ◌%◌, refl, sym, ap, subst, ◌∙◌, true, false, Bool, cond, ◌&&◌, ◌==◌, List, [], ◌∷◌, map, Option, Some, None, zero-add, ◌⊎◌, inl, inr, add-zero}
 use Rattle.std.proofs.lemmas.Bool.{ne_eqb, eq-eqb, eqb-true}
 use Rattle.std.specs.Prelude.{find, option_map, is_some, filter, nat_lt}
 use Rattle.s360_words.specs.Storage.{Storage, changed, status_stored, Bytes, is_within, KeyOf}
@@ -21,9 +21,8 @@ use Rattle.s360_laws.specs.Soundness.{device_for, device_owes, AreDistinct, arm_
 use Rattle.s360_laws.specs.declared.arm.Arm.{Arm}
 use Rattle.s360_laws.specs.declared.arm.Arm.TheVariants.{AtRest, InMotion, Arrived}
 use Rattle.s360_laws.specs.declared.condition.ConditionCode.TheVariants.{Two}
-use Rattle.s360_laws.proofs.FindDevices.{found_map, distinct_map, at_device, set_both, device_after, keeps_one, set_drive}
+use Rattle.s360_laws.proofs.FindDevices.{whole, found_map, distinct_map, at_device, set_both, device_after, keeps_one, set_drive, idle, pending}
 use Rattle.s360_laws.proofs.Owing.{end_owes, Fine, Balance, silent, same_owed, nothing, distinct_arm, device_end_told, either_fine, arrive_fine, Rest}
-use Rattle.s360_laws.proofs.Shapes.{idle, pending}
 
 -- Reset.
 
@@ -171,9 +170,6 @@ interrupt_fine m x (Some d) h ds =
     (distinct_arm m AtRest d ds, tt, λ u. (silent (address_of m d == u) 0, device_end_told m d (address_of m d) u r.0 r.1 r.2 refl, λ b. absurd (cc)))
 
 -- Idle.
-
-pub whole : (n a : ℕ) → (a / 256 == n) ≡ true → 256 * n + a % 256 ≡ a
-whole n a h = let e : a / 256 ≡ n = eqb-true _ _ h in omega arith
 
 pub idle_fine : (m : Machine) (e : Event) (x : Option FaultAfter) → AreDistinct m.devices → Fine (idle m) e x (react e x (idle m))
 idle_fine m (Sio a) x ds = either_fine (idle m) (Sio a) x (a / 256 == m.channel) _ _ (λ h. start_fine m a (a % 256) x (device_at m (a % 256)) (whole m.channel a h) refl ds) (ds, tt, λ u. nothing _ _)

@@ -20,7 +20,7 @@ use Rattle.s360_laws.specs.declared.condition.ConditionCode.TheVariants.{Two}
 use Rattle.s360_laws.proofs.FindDevices.{set_both, device_of, distinct_map, keeps_one}
 use Rattle.s360_laws.proofs.LedgerIdle.{end_set, sound_device, reset_fine}
 use Rattle.s360_laws.proofs.Owing.{end_owes, Rest, Fine, nothing, silent, either_fine, arrive_fine}
-use Rattle.s360_laws.proofs.Shapes.{by_device, working_device, working}
+use Rattle.s360_laws.proofs.FindDevices.{by_device, working_device, working}
 
 -- Working.
 

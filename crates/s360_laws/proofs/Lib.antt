@@ -1,5 +1,4 @@
-pub mod Shapes
-pub mod Ahead
+pub mod Reactions
 pub mod StepUnits
 pub mod SeenDevices
 pub mod SerialIdle

@@ -17,7 +17,7 @@ use Rattle.s360_laws.specs.Soundness.{IsRunning}
 use Rattle.s360_laws.specs.declared.arm.Arm.{Arm}
 use Rattle.s360_laws.specs.declared.arm.Arm.TheVariants.{AtRest, InMotion, Arrived}
 use Rattle.s360_laws.proofs.SeenDevices.{Good, with_world, arms, seen, found, same_after, drives, ends, own, rests, either_good}
-use Rattle.s360_laws.proofs.Shapes.{idle, pending}
+use Rattle.s360_laws.proofs.FindDevices.{idle, pending}
 
 -- Idle.
 

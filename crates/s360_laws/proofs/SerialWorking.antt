@@ -17,11 +17,10 @@ use Rattle.s360_laws.specs.Soundness.{IsRunning}
 use Rattle.s360_laws.specs.declared.arm.Arm.{Arm}
 use Rattle.s360_laws.specs.declared.arm.Arm.TheVariants.{Arrived}
 use Rattle.s360_laws.specs.declared.condition.ConditionCode.TheVariants.{Two}
-use Rattle.s360_laws.proofs.Ahead.{same_script, step_script, quiet_script}
+use Rattle.s360_laws.proofs.FindDevices.{by_device, working_device, working}
 use Rattle.s360_laws.proofs.SeenDevices.{ends, Good, same_after, seen, found, arms, with_world, either_good}
 use Rattle.s360_laws.proofs.SerialIdle.{look_up, clear}
-use Rattle.s360_laws.proofs.Shapes.{by_device, working_device, working}
-use Rattle.s360_laws.proofs.StepUnits.{stood, unmet, ended_there}
+use Rattle.s360_laws.proofs.StepUnits.{same_script, step_script, quiet_script, stood, unmet, ended_there}
 
 -- Working.
 

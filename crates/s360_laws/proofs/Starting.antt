@@ -8,7 +8,7 @@ use Rattle.s360_laws.specs.Soundness.{channel_owes}
 use Rattle.s360_laws.specs.Machine.{Machine, Working, Subchannel, is_working, react, Idle, Pending, start_io, after_all}
 use Rattle.s360_laws.specs.declared.condition.ConditionCode.TheVariants.{Two, Three}
 use Rattle.s360_laws.proofs.LedgerLists.{ends_pend, exactly}
-use Rattle.s360_laws.proofs.Shapes.{working}
+use Rattle.s360_laws.proofs.FindDevices.{working}
 
 no_start : (b : Bool) (m : Machine) → ◌≡◌ {A = Answer × Machine} (cond b (WithCode Two, m) (WithCode Three, m)) (WithCode (cond b Two Three), m)
 no_start true m = refl

@@ -13,15 +13,12 @@ use Rattle.s360_laws.specs.History.{Runs}
 use Rattle.s360_laws.specs.Machine.{units_failing, units_with, Machine, react, run_of, Device, device_at, start_of, stepped, Subchannel, Working, is_working}
 use Rattle.s360_laws.specs.Soundness.{IsRunning}
 use Rattle.s360_laws.specs.Steps.{after_units, units_of, StepsJoin, StepsSplit, StepsAtMost}
+use Rattle.s360_laws.proofs.FindDevices.{working}
 use Rattle.s360_laws.proofs.SeenDevices.{seen}
 use Rattle.s360_laws.proofs.Serial.{good}
-use Rattle.s360_laws.proofs.Shapes.{working}
 use Rattle.s360_laws.proofs.StepUnits.{ended_in, stood, units_count}
-pub use Rattle.s360_laws.proofs.Shapes.{run_at, working_device}
-
-pub plain_two : (j k : ℕ) → units j ++ units k ≡ units (j + k)
-plain_two zero k = ap units (sym (zero-add k))
-plain_two (suc j) k = ap (λ l. OneUnit None ∷ l) (plain_two j k) ∙ ap units (sym (suc-add j k))
+pub use Rattle.s360_laws.proofs.FindDevices.{run_at, working_device}
+pub use Rattle.s360_laws.proofs.StepUnits.{plain_two}
 
 failing_two : (j k b : ℕ) (f : Fault) → units j ++ units_failing k b f ≡ units_failing (j + k) (j + b) f
 failing_two zero k b f = ap (λ n. units_failing n b f) (sym (zero-add k)) ∙ ap (λ n. units_failing (0 + k) n f) (sym (zero-add b))

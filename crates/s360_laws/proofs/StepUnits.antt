@@ -1,5 +1,5 @@
 -- The units of a step, and the programs that end in one.
-use Rattle.std.proofs.Common.{◌≡◌, ℕ, zero, suc, ◌+◌, ◌-◌, refl, sym, ap, ◌∙◌, arith, [], ◌∷◌, ◌++◌, length, Option, Some, None}
+use Rattle.std.proofs.Common.{◌≡◌, ℕ, zero, suc, ◌+◌, ◌-◌, refl, sym, ap, ◌∙◌, arith, zero-add, suc-add, [], ◌∷◌, ◌++◌, length, Option, Some, None, List}
 use Rattle.s360_words.specs.Storage.{Storage}
 use Rattle.ckd_command.specs.Drive.{Fault}
 use Rattle.s360_runs.specs.Endings.{Outcome, Ended, NotEnded, Ending, Standing}
@@ -10,7 +10,8 @@ use Rattle.s360_runs.specs.Units.{ProgramPhase, StandsAt, walk, Walk, StandsIn, 
 use Rattle.s360_runs.proofs.FaultsMet.{unmet_walk, same_outcome}
 use Rattle.s360_runs.proofs.Standing.{stands_somewhere, ends_by, goes_by}
 use Rattle.s360_runs.proofs.Walks.{exact, units_in_two}
-use Rattle.s360_laws.specs.Events.{FaultAfter}
+use Rattle.s360_laws.specs.Events.{FaultAfter, Exchange}
+use Rattle.s360_laws.specs.History.{units_ahead, script_ahead, where_over, turns_of}
 use Rattle.s360_laws.specs.Machine.{units_failing, units_with}
 use Rattle.s360_laws.specs.Soundness.{IsRunning}
 use Rattle.s360_laws.proofs.SeenDevices.{seen}
@@ -44,6 +45,10 @@ failing_count (suc k) (suc b) f = let h = failing_count k b f in omega arith
 pub units_count : (k : ℕ) (x : Option FaultAfter) → units_in (units_with k x) ≡ k
 units_count k None = plain_count k
 units_count k (Some x) = failing_count k x.units x.fault
+
+pub plain_two : (j k : ℕ) → units j ++ units k ≡ units (j + k)
+plain_two zero k = ap units (sym (zero-add k))
+plain_two (suc j) k = ap (λ l. OneUnit None ∷ l) (plain_two j k) ∙ ap units (sym (suc-add j k))
 
 -- A program that runs stands somewhere.
 
@@ -116,3 +121,27 @@ unmet s script key g k x seen st r more = go (walk (units_with k x) key g) refl
         goes_by s script (units k) key g h st (ap (λ l. walk l key g) (sym (plain_step k x)) ∙ unmet_walk (units_with k x) key g h w) more
         ∙ same_outcome ((script ++ units k) ++ more) ((script ++ units_with k x) ++ more) key (walk more key h) counts
         ∙ sym (goes_by s script (units_with k x) key g h st w more)
+
+-- Scripts read off.
+
+pub quiet_script : (ahead : List Exchange) → units_ahead ahead ≡ 0 → script_ahead ahead ≡ []
+quiet_script [] h = refl
+quiet_script (t ∷ ahead) h = ap (λ n. where_over n [] (turns_of t ++ script_ahead ahead)) h
+
+pub same_script : (ahead : List Exchange) → script_ahead ahead ≡ where_over (units_ahead ahead) [] (script_ahead ahead)
+same_script ahead = go (units_ahead ahead) refl
+  where
+    go : (n : ℕ) → units_ahead ahead ≡ n → script_ahead ahead ≡ where_over n [] (script_ahead ahead)
+    go zero h = quiet_script ahead h
+    go (suc n) h = refl
+
+no_units : (k : ℕ) (x : Option FaultAfter) → k ≡ 0 → units_with k x ≡ []
+no_units k None h = ap (λ k. units_with k None) h
+no_units k (Some x) h = ap (λ k. units_with k (Some x)) h
+
+pub step_script : (k : ℕ) (x : Option FaultAfter) (ahead : List Exchange) → units_with k x ++ script_ahead ahead ≡ where_over (k + units_ahead ahead) [] (units_with k x ++ script_ahead ahead)
+step_script k x ahead = go (k + units_ahead ahead) refl
+  where
+    go : (n : ℕ) → k + units_ahead ahead ≡ n → units_with k x ++ script_ahead ahead ≡ where_over n [] (units_with k x ++ script_ahead ahead)
+    go zero h = ap (λ l. l ++ script_ahead ahead) (no_units k x (omega (arith, h))) ∙ quiet_script ahead (omega (arith, h))
+    go (suc n) h = refl
