@@ -102,7 +102,7 @@ filtered (t ∷ list) =
 
 -- Arrivals.
 
-arrival_gone : (t : Exchange) (x : List Exchange) → is_arrival t ≡ true → Alike (t ∷ x) x
+pub arrival_gone : (t : Exchange) (x : List Exchange) → is_arrival t ≡ true → Alike (t ∷ x) x
 arrival_gone (Arrive a, m, r) x h = gone x (Arrive a, m, r) refl refl refl refl
 arrival_gone t x h = absurd (cc)
 

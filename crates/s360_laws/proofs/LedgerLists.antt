@@ -41,7 +41,7 @@ pub stays : (m : Machine) (e : Event) (x : Option FaultAfter) → IsSound m → 
 stays m e x h =
     let p = sound_parts m m.subchannel h.1 in
     let f = fine m e x h in
-    (f.0, sound_whole (react e x m).1 (react e x m).1.subchannel (good m m.subchannel e x p.0).runs f.1)
+    (f.0, sound_whole (react e x m).1 (react e x m).1.subchannel (good m e x p.0).runs f.1)
 
 -- Lists.
 

@@ -1,8 +1,5 @@
 pub mod Reactions
 pub mod StepUnits
-pub mod SeenDevices
-pub mod SerialIdle
-pub mod SerialWorking
 pub mod Serial
 pub mod FindDevices
 pub mod Owing

@@ -18,7 +18,6 @@ use Rattle.s360_laws.specs.Soundness.{IsRunning}
 use Rattle.s360_laws.specs.Steps.{EndedByFault, FaultEndsStep, FaultEndsHalt, ToldByReset, FaultToldByReset, OthersMeetNone}
 use Rattle.s360_laws.specs.declared.condition.ConditionCode.TheVariants.{Two, Three}
 use Rattle.s360_laws.proofs.FindDevices.{changed_device, found_map, set_both}
-use Rattle.s360_laws.proofs.SeenDevices.{seen}
 use Rattle.s360_laws.proofs.FindDevices.{run_at, working_device, working}
 use Rattle.s360_laws.proofs.StepUnits.{units_count, stood}
 

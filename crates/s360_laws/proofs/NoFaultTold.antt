@@ -1,5 +1,5 @@
 -- Without a fault no event reports one; and a reset reports a track only where the program had written it.
-use Rattle.std.proofs.Common.{◌≡◌, ℕ, zero, suc, refl, sym, ap, subst, ◌∙◌, true, false, cond, ◌==◌, [], ◌∷◌, ◌++◌, map, Option, Some, None, append-nil}
+use Rattle.std.proofs.Common.{◌%◌, ◌≡◌, ℕ, zero, suc, refl, sym, ap, subst, ◌∙◌, true, false, cond, ◌==◌, [], ◌∷◌, ◌++◌, map, Option, Some, None, append-nil}
 use Rattle.std.proofs.lemmas.Bool.{cond_both, eqb-true}
 use Rattle.std.specs.Prelude.{find, option_map, is_some}
 use Rattle.s360_words.specs.Storage.{Storage}
@@ -90,7 +90,7 @@ stands_calm s script r = subst (λ l. OutcomeTellsNoFault s.drive (run l s)) (ap
 begun_calm : (m : Machine) (d : ℕ) (v : Device) (f : First) → device_at m d ≡ Some v → FirstTellsNoFault v.drive f → Calm m (started d (idle m) f)
 begun_calm m d v (RejectedStart drive) at h = (tt, one_changed m d (set_drive drive) (λ w. refl) (λ w there. subst (λ w. GainsNoCheck w.drive drive) (the_device v w (sym at ∙ there)) h))
 begun_calm m d v (ImmediateStart e) at h = (tt, ending_calm m d m.storage e v at h)
-begun_calm m d v f at h = (tt, none_changed m)
+begun_calm m (a % 256) v f at h = (tt, none_changed m)
 
 -- at rest no sense reports anything
 rests_calm : (m n : Machine) → NoneGainsCheck m (all_at_rest n)
@@ -111,7 +111,7 @@ calm m (Clears c k) = (refl, rests_calm m m)
 calm m (EndAtStart a d v at k) = (tt, armed m AtRest d)
 calm m (EndAtTest a d v at k) = (tt, armed m AtRest d)
 calm m (EndInterrupts d k) = (tt, armed m AtRest d)
-calm m (Starts a d v at k f h) = begun_calm m d v f at.is_there (subst (FirstTellsNoFault v.drive) h (no_fault_nothing_told (start_of m v.drive) []).1)
+calm m (Starts a v at k f h) = begun_calm m (a % 256) v f at.is_there (subst (FirstTellsNoFault v.drive) h (no_fault_nothing_told (start_of m v.drive) []).1)
 calm m (Halts d s a w) = (tt, ending_calm m d w.seen.storage (w.seen.cut None) w.drive w.is_there (cut_calm m d s w))
 calm m (Cuts d s w) = (ap (option_map (λ t. (address_of m d, t.0, t.1))) (cut_calm m d s w).saved, rests_calm m (ended d w.seen.storage (w.seen.cut None) m))
 calm m (StepEnds d s k w used st e h) = (tt, ending_calm m d st e w.drive w.is_there (subst (OutcomeTellsNoFault w.drive.drive) h (runs_calm (start_of m w.drive.drive) s k (subst (λ o. IsRunning (Some o)) (sym w.stands) tt))))

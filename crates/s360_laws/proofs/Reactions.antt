@@ -60,7 +60,7 @@ pub data Reacts (m : Machine) (x : Option FaultAfter) : Subchannel → Event →
   EndAtStart : (a d : ℕ) (v : Device) → IsAt m a d v → v.arm ≡ Arrived → Reacts m x Idle (Sio a) (refused busy_device_end (with_arm AtRest d (idle m)))
   EndAtTest : (a d : ℕ) (v : Device) → IsAt m a d v → v.arm ≡ Arrived → Reacts m x Idle (Tio a) (tested (csw_of_unit DEVICE_END) (with_arm AtRest d (idle m)))
   EndInterrupts : (d : ℕ) → lowest (filter has_arrived m.devices) ≡ Some d → Reacts m x Idle Interrupt (interrupted d (csw_of_unit DEVICE_END) (with_arm AtRest d (idle m)))
-  Starts : (a d : ℕ) (v : Device) → IsAt m a d v → v.arm ≡ AtRest → (f : First) → first (start_of m v.drive) ≡ f → Reacts m x Idle (Sio a) (started d (idle m) f)
+  Starts : (a : ℕ) (v : Device) → IsAt m a (a % 256) v → v.arm ≡ AtRest → (f : First) → first (start_of m v.drive) ≡ f → Reacts m x Idle (Sio a) (started (a % 256) (idle m) f)
   -- a CSW pends, and is taken
   TestTakes : (p : ℕ) (csw : Csw) (a : ℕ) → address_of m p ≡ a → Reacts m x (Pending p csw) (Tio a) (tested csw (idle m))
   InterruptTakes : (p : ℕ) (csw : Csw) → Reacts m x (Pending p csw) Interrupt (interrupted p csw (idle m))
@@ -78,14 +78,14 @@ module _ (m : Machine) (x : Option FaultAfter) where
       → Reacts m x c e (on_channel a (with_subchannel c m) y)
   on c e a y n h = cond_both (a / 256 == m.channel) y _ (Reacts m x c e) (λ k. h (whole m.channel a k)) (λ k. Same c e (WithCode Three) n tt)
 
-  at_start : (a d : ℕ) (y : Option Device) → address_of m d ≡ a → device_at m d ≡ y → Reacts m x Idle (Sio a) (start_device d (idle m) y)
-  at_start a d None e at = Same Idle (Sio a) (WithCode Three) refl tt
-  at_start a d (Some v) e at = go v.arm refl
+  at_start : (a : ℕ) (y : Option Device) → address_of m (a % 256) ≡ a → device_at m (a % 256) ≡ y → Reacts m x Idle (Sio a) (start_device (a % 256) (idle m) y)
+  at_start a None e at = Same Idle (Sio a) (WithCode Three) refl tt
+  at_start a (Some v) e at = go v.arm refl
     where
-      go : (arm : Arm) → v.arm ≡ arm → Reacts m x Idle (Sio a) (start_device d (idle m) (Some (record v { arm = arm })))
+      go : (arm : Arm) → v.arm ≡ arm → Reacts m x Idle (Sio a) (start_device (a % 256) (idle m) (Some (record v { arm = arm })))
       go InMotion k = BusyStart a
-      go Arrived k = EndAtStart a d v (record { address = e; is_there = at }) k
-      go AtRest k = Starts a d v (record { address = e; is_there = at }) k (first (start_of m v.drive)) refl
+      go Arrived k = EndAtStart a (a % 256) v (record { address = e; is_there = at }) k
+      go AtRest k = Starts a v (record { address = e; is_there = at }) k (first (start_of m v.drive)) refl
 
   at_test : (a d : ℕ) (y : Option Device) → address_of m d ≡ a → device_at m d ≡ y → Reacts m x Idle (Tio a) (test_device d (idle m) y)
   at_test a d None e at = Same Idle (Tio a) (WithCode Three) refl tt
@@ -130,7 +130,7 @@ module _ (m : Machine) (x : Option FaultAfter) where
   reacts c (Store at bytes) r = at_change c (Bytes at bytes) r refl
   reacts c (SetKey at key) r = at_change c (KeyOf at key) r refl
   reacts c (Arrive a) r = cond_both (a / 256 == m.channel) _ _ (Reacts m x c (Arrive a)) (λ k. at_arrival c a (a % 256) (device_at m (a % 256)) (whole m.channel a k) refl) (λ k. Same c (Arrive a) (HasArrived false) refl tt)
-  reacts Idle (Sio a) r = on Idle (Sio a) a _ refl (λ k. at_start a (a % 256) (device_at m (a % 256)) k refl)
+  reacts Idle (Sio a) r = on Idle (Sio a) a _ refl (λ k. at_start a (device_at m (a % 256)) k refl)
   reacts Idle (Tio a) r = on Idle (Tio a) a _ refl (λ k. at_test a (a % 256) (device_at m (a % 256)) k refl)
   reacts Idle (Hio a) r = on Idle (Hio a) a _ refl (λ k. cond_both (is_some (device_at m (a % 256))) _ _ (Reacts m x Idle (Hio a)) (λ k. FreeHalt a) (λ k. Same Idle (Hio a) (WithCode Three) refl tt))
   reacts Idle (StepBy k) r = Same Idle (StepBy k) (Stepped 0) refl tt

@@ -14,7 +14,6 @@ use Rattle.s360_laws.specs.Machine.{units_failing, units_with, Machine, react, r
 use Rattle.s360_laws.specs.Soundness.{IsRunning}
 use Rattle.s360_laws.specs.Steps.{after_units, units_of, StepsJoin, StepsSplit, StepsAtMost}
 use Rattle.s360_laws.proofs.FindDevices.{working}
-use Rattle.s360_laws.proofs.SeenDevices.{seen}
 use Rattle.s360_laws.proofs.Serial.{good}
 use Rattle.s360_laws.proofs.StepUnits.{ended_in, stood, units_count}
 pub use Rattle.s360_laws.proofs.FindDevices.{run_at, working_device}
@@ -90,7 +89,7 @@ no_step m c r = (refl, refl)
 pub splits : StepsSplit
 splits m [] r = no_step m m.subchannel r
 splits m (j ∷ ks) r =
-    let n = (good m m.subchannel (StepBy j) None r).runs in
+    let n = (good m (StepBy j) None r).runs in
     let h = splits (react (StepBy j) None m).1 ks n in
     let t = joins m j (sum ks) None r in
     let c : j + sum ks ≡ sum (j ∷ ks) = sym (sum_by-cons (λ x. x) j ks) in

@@ -14,7 +14,6 @@ use Rattle.s360_laws.specs.Events.{FaultAfter, Exchange}
 use Rattle.s360_laws.specs.History.{units_ahead, script_ahead, where_over, turns_of}
 use Rattle.s360_laws.specs.Machine.{units_failing, units_with}
 use Rattle.s360_laws.specs.Soundness.{IsRunning}
-use Rattle.s360_laws.proofs.SeenDevices.{seen}
 
 -- The units of a step.
 
