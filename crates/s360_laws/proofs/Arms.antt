@@ -20,10 +20,10 @@ use Rattle.s360_laws.specs.declared.arm.Arm.{Arm}
 use Rattle.s360_laws.specs.declared.arm.Arm.TheVariants.{AtRest, InMotion, Arrived}
 use Rattle.s360_laws.specs.declared.condition.ConditionCode.TheVariants.{Two, Three, Zero}
 use Rattle.s360_laws.proofs.FindDevices.{found_map, whole, device_after, Keeps, at_device, device_of, set_arm, set_both, set_drive, by_device, working_device, idle, pending, working}
-use Rattle.s360_laws.proofs.LedgerIdle.{Lowest, lowest_found}
+use Rattle.s360_laws.proofs.LedgerLists.{Lowest, lowest_found}
 use Rattle.s360_laws.proofs.LedgerLists.{stays}
-use Rattle.s360_laws.proofs.LedgerWorking.{asks_good}
-use Rattle.s360_laws.proofs.Owing.{Rest}
+use Rattle.s360_laws.proofs.LedgerLists.{asks_good}
+use Rattle.s360_laws.proofs.LedgerLists.{Rest}
 
 -- An event's answer and the machine behind it keep the arm at an address as the exchange says.
 abbrev Keeps_arm : ℕ → Arm → Event → Option FaultAfter → Answer × Machine → Type 0

@@ -12,7 +12,7 @@ use Rattle.s360_laws.proofs.LedgerLists.{at_most_once, channel_end_first, ends_p
 use Rattle.s360_laws.proofs.MachineFaults.{fault_ends_halt, fault_ends_step, fault_told_by_reset}
 use Rattle.s360_laws.proofs.NoFaultTold.{no_fault_none_told}
 use Rattle.s360_laws.proofs.Serial.{serial}
-use Rattle.s360_laws.proofs.Starting.{no_start_while_working}
+use Rattle.s360_laws.proofs.LedgerLists.{no_start_while_working}
 
 -- a sound machine's program runs
 runs : (m : Machine) → IsSound m → Runs m m.subchannel

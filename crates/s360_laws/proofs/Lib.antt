@@ -2,14 +2,10 @@ pub mod Reactions
 pub mod StepUnits
 pub mod Serial
 pub mod FindDevices
-pub mod Owing
-pub mod LedgerIdle
-pub mod LedgerWorking
 pub mod LedgerLists
 pub mod StepLaws
 pub mod AlikeLists
 pub mod Held
-pub mod Starting
 pub mod MachineFaults
 pub mod NoFaultTold
 pub mod Headlines

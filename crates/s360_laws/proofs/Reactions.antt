@@ -1,7 +1,7 @@
 -- What an event may do to a machine, case by case: each law of one event is a function of these cases.
-use Rattle.std.proofs.Common.{◌≡◌, ℕ, ◌-◌, ◌/◌, ◌%◌, refl, sym, ap, subst, ◌∙◌, true, false, ◌==◌, [], ◌∷◌, ◌++◌, Option, Some, None}
+use Rattle.std.proofs.Common.{Bool, cond, ◌*◌, ◌+◌, ◌≡◌, ℕ, ◌-◌, ◌/◌, ◌%◌, refl, sym, ap, subst, ◌∙◌, true, false, ◌==◌, [], ◌∷◌, ◌++◌, Option, Some, None}
 use Rattle.std.proofs.lemmas.Bool.{cond_both, eqb-true}
-use Rattle.std.specs.Prelude.{is_some, filter}
+use Rattle.std.specs.Prelude.{option_map, is_some, filter}
 use Rattle.s360_words.specs.Storage.{Storage, Change, Bytes, KeyOf, is_within}
 use Rattle.s360_words.specs.declared.flags.TheConstants.UnitStatus.{BUSY, DEVICE_END}
 use Rattle.s360_words.specs.declared.words.Csw.{Csw}
@@ -12,14 +12,14 @@ use Rattle.s360_runs.specs.Starts.{First, first}
 use Rattle.s360_runs.specs.Status.{no_channel_status, no_unit_status, busy_device_end}
 use Rattle.s360_laws.specs.Events.{Answer, Event, FaultAfter, Sio, Tio, Hio, Tch, StepBy, Arrive, Interrupt, Reset, Store, SetKey, Show, WithCode, StatusStored, Stepped, HasArrived, Interrupted, WasReset, WasKept, Shown}
 use Rattle.s360_laws.specs.History.{Runs}
-use Rattle.s360_laws.specs.Machine.{Device, Machine, Subchannel, Idle, Working, Pending, address_of, all_at_rest, arrive, asked_by, change, csw_of_unit, cut, device_at, ended, fault_in, goes_on, has_arrived, interrupt_device, interrupt_program, interrupted, is_in_motion, is_working, keep, lowest, on_channel, part_of, react, refused, run_of, start_device, start_of, started, stepped, storage_of, test_channel, test_device, tested, units_with, unsaved_at, with_arm, with_change, with_status, with_subchannel}
+use Rattle.s360_laws.specs.Machine.{with_device, Device, Machine, Subchannel, Idle, Working, Pending, address_of, all_at_rest, arrive, asked_by, change, csw_of_unit, cut, device_at, ended, fault_in, goes_on, has_arrived, interrupt_device, interrupt_program, interrupted, is_in_motion, is_working, keep, lowest, on_channel, part_of, react, refused, run_of, start_device, start_of, started, stepped, storage_of, test_channel, test_device, tested, units_with, unsaved_at, with_arm, with_change, with_status, with_subchannel}
 use Rattle.s360_laws.specs.NothingTold.{TellsNoTrack}
 use Rattle.s360_laws.specs.SerialLists.{changes_nothing}
-use Rattle.s360_laws.specs.Soundness.{IsRunning}
+use Rattle.s360_laws.specs.Soundness.{device_for, IsRunning}
 use Rattle.s360_laws.specs.declared.arm.Arm.{Arm}
 use Rattle.s360_laws.specs.declared.arm.Arm.TheVariants.{AtRest, InMotion, Arrived}
 use Rattle.s360_laws.specs.declared.condition.ConditionCode.TheVariants.{Zero, Two, Three}
-use Rattle.s360_laws.proofs.FindDevices.{idle, run_at, whole, working, working_device}
+use Rattle.s360_laws.proofs.FindDevices.{Keeps, at_device, device_after, idle, run_at, whole, working, working_device}
 
 -- a program that runs: its device, and where its run stands
 pub record Stands (m : Machine) (d : ℕ) (s : Script) : Type 0 where
@@ -40,6 +40,16 @@ pub record IsAt (m : Machine) (a d : ℕ) (v : Device) : Type 0 where
   pub address : address_of m d ≡ a
   pub is_there : device_at m d ≡ Some v
 
+-- what holds of the device at an address before and after a change of one device, by whether it is that one
+pub changed_for : (m : Machine) (f : Device → Device) → Keeps f → (a d : ℕ) (v : Device) → IsAt m a d v → (u : ℕ) (P : Bool → Option Device → Option Device → Type 0)
+    → P true (Some (f v)) (Some v) → ((y : Option Device) → P false y y) → P (a == u) (device_for (with_device d f m) u) (device_for m u)
+changed_for m f k a d v at u P here there = subst (λ a. P (a == u) (device_for (with_device d f m) u) (device_for m u)) at.address
+    (subst (λ y. P (address_of m d == u) y (device_for m u)) (sym (device_after m.channel d u f k m.devices)) (go (address_of m d == u) refl))
+  where
+    go : (b : Bool) → (address_of m d == u) ≡ b → P b (cond b (option_map f (device_for m u)) (device_for m u)) (device_for m u)
+    go true q = subst (λ y. P true (option_map f y) y) (sym (at_device m d u (Some v) (eqb-true _ _ q) at.is_there)) here
+    go false q = there (device_for m u)
+
 -- the event by which the processor makes a change
 abbrev pub event_of : Change → Event
 event_of (Bytes at bytes) = Store at bytes
@@ -51,7 +61,7 @@ pub data Reacts (m : Machine) (x : Option FaultAfter) : Subchannel → Event →
   Same : (c : Subchannel) (e : Event) (a : Answer) → changes_nothing (e, x, a) ≡ true → TellsNoTrack a → Reacts m x c e (a, with_subchannel c m)
   Arrives : (c : Subchannel) (a d : ℕ) (v : Device) → IsAt m a d v → is_in_motion v.arm ≡ true → Reacts m x c (Arrive a) (HasArrived true, with_arm Arrived d (with_subchannel c m))
   -- where no program runs: a change of storage, a reset
-  Keeps : (c : Subchannel) (made : Change) → is_working c ≡ false → Reacts m x c (event_of made) (WasKept true, with_change made (with_subchannel c m))
+  Changed : (c : Subchannel) (made : Change) → is_working c ≡ false → Reacts m x c (event_of made) (WasKept true, with_change made (with_subchannel c m))
   Clears : (c : Subchannel) → is_working c ≡ false → Reacts m x c Reset (WasReset None, all_at_rest m)
   -- idle: a busy arm, an arm that has arrived, a first unit
   BusyStart : (a : ℕ) → Reacts m x Idle (Sio a) (refused BUSY (idle m))
@@ -108,9 +118,9 @@ module _ (m : Machine) (x : Option FaultAfter) where
   at_change c made r n = cond_both (is_within made m.storage) _ _ (Reacts m x c (event_of made)) (λ k. go c r) (λ k. Same c (event_of made) (WasKept false) n tt)
     where
       go : (c : Subchannel) → Runs m c → Reacts m x c (event_of made) (WasKept true, change made (with_subchannel c m) c)
-      go Idle r = Keeps Idle made refl
+      go Idle r = Changed Idle made refl
       go (Working d s) r = Within d s (stands_in m d s r) made
-      go (Pending p csw) r = Keeps (Pending p csw) made refl
+      go (Pending p csw) r = Changed (Pending p csw) made refl
 
   at_step : (d : ℕ) (s : Script) (k : ℕ) (w : Stands m d s) (o : Outcome) → run (s ++ units_with k x) (start_of m w.drive.drive) ≡ o → Reacts m x (Working d s) (StepBy k) (stepped d s k (working m d s) (Some o))
   at_step d s k w (Ended used st e) h = StepEnds d s k w used st e h

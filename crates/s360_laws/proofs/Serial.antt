@@ -23,7 +23,7 @@ use Rattle.s360_laws.specs.declared.arm.Arm.{Arm}
 use Rattle.s360_laws.specs.declared.arm.Arm.TheVariants.{AtRest, Arrived}
 use Rattle.s360_laws.proofs.AlikeLists.{left_out, Alike, arrival_gone}
 use Rattle.s360_laws.proofs.FindDevices.{find_map, idle, working, set_arm, set_both, set_drive, run_at}
-use Rattle.s360_laws.proofs.Reactions.{Reacts, Same, Arrives, Keeps, Starts, Clears, Halts, Cuts, StepEnds, StepGoes, Asks, Within, reacts, EndAtStart, EndAtTest, EndInterrupts, InterruptTakes, Stands}
+use Rattle.s360_laws.proofs.Reactions.{Reacts, Same, Arrives, Changed, Starts, Clears, Halts, Cuts, StepEnds, StepGoes, Asks, Within, reacts, EndAtStart, EndAtTest, EndInterrupts, InterruptTakes, Stands}
 use Rattle.s360_laws.proofs.StepUnits.{step_script, quiet_script, unmet, ended_there}
 
 -- Devices as the history sees them.
@@ -226,11 +226,11 @@ good_by m x (Arrives c a d v at k) r = record {
   runs = still_runs (with_subchannel c m) c Arrived d r;
   follows = λ ahead q. ap (λ ds. history (with_world (world_of m) ds) (begun_act c ahead ++ acts ahead)) (arms Arrived d m.devices) ∙ alike c (world_of m) (arrival_gone (Arrive a, x, HasArrived true) ahead refl);
 }
-good_by m x (Keeps Idle (Bytes at bytes) k) r = record { runs = tt; follows = λ ahead q. own ahead (Bytes at bytes) (world_of m) (q refl) }
-good_by m x (Keeps Idle (KeyOf at key) k) r = record { runs = tt; follows = λ ahead q. own ahead (KeyOf at key) (world_of m) (q refl) }
-good_by m x (Keeps (Pending p csw) (Bytes at bytes) k) r = record { runs = tt; follows = λ ahead q. own ahead (Bytes at bytes) (world_of m) (q refl) }
-good_by m x (Keeps (Pending p csw) (KeyOf at key) k) r = record { runs = tt; follows = λ ahead q. own ahead (KeyOf at key) (world_of m) (q refl) }
-good_by m x (Keeps (Working d s) made k) r = absurd (cc)
+good_by m x (Changed Idle (Bytes at bytes) k) r = record { runs = tt; follows = λ ahead q. own ahead (Bytes at bytes) (world_of m) (q refl) }
+good_by m x (Changed Idle (KeyOf at key) k) r = record { runs = tt; follows = λ ahead q. own ahead (KeyOf at key) (world_of m) (q refl) }
+good_by m x (Changed (Pending p csw) (Bytes at bytes) k) r = record { runs = tt; follows = λ ahead q. own ahead (Bytes at bytes) (world_of m) (q refl) }
+good_by m x (Changed (Pending p csw) (KeyOf at key) k) r = record { runs = tt; follows = λ ahead q. own ahead (KeyOf at key) (world_of m) (q refl) }
+good_by m x (Changed (Working d s) made k) r = absurd (cc)
 good_by m x (Clears Idle k) r = record { runs = tt; follows = λ ahead q. clear m ahead }
 good_by m x (Clears (Pending p csw) k) r = record { runs = tt; follows = λ ahead q. clear m ahead }
 good_by m x (Clears (Working d s) k) r = absurd (cc)
@@ -263,8 +263,8 @@ calm : {m : Machine} {x : Option FaultAfter} {c : Subchannel} {e : Event} {r : A
     → (rest : List Exchange) → (is_working r.1.subchannel ≡ false → units_ahead rest ≡ 0) → units_ahead ((e, x, r.0) ∷ rest) ≡ 0
 calm (Same c e a h k) w rest q = (left_out (e, _, a) rest h).ahead ∙ q w
 calm (Arrives c a d v at k) w rest q = q w
-calm (Keeps c (Bytes at bytes) k) w rest q = q w
-calm (Keeps c (KeyOf at key) k) w rest q = q w
+calm (Changed c (Bytes at bytes) k) w rest q = q w
+calm (Changed c (KeyOf at key) k) w rest q = q w
 calm (Starts a v at k AcceptedStart h) w rest q = refl
 calm (Clears c k) w rest q = refl
 calm (Halts d s a y) w rest q = absurd (cc)

@@ -57,13 +57,13 @@ pub fn none_after_reset()
 {}
 
 /// No start is accepted, for any device, before the channel end of the program before it is stored or reset.
-#[tactic(auto, using(crate::proofs::Starting::starts_after_channel_end))]
+#[tactic(auto, using(crate::proofs::LedgerLists::starts_after_channel_end))]
 pub fn starts_after_channel_end()
     ensures { StartsAfterChannelEnd }
 {}
 
 /// While a program runs, Start I/O answers 2 to each device of the channel, and changes nothing.
-#[tactic(auto, using(crate::proofs::Starting::no_start_while_working))]
+#[tactic(auto, using(crate::proofs::LedgerLists::no_start_while_working))]
 pub fn no_start_while_working()
     ensures { NoStartWhileWorking }
 {}
