@@ -90,7 +90,7 @@ stands_calm s script r = subst (λ l. OutcomeTellsNoFault s.drive (run l s)) (ap
 begun_calm : (m : Machine) (d : ℕ) (v : Device) (f : First) → device_at m d ≡ Some v → FirstTellsNoFault v.drive f → Calm m (started d (idle m) f)
 begun_calm m d v (RejectedStart drive) at h = (tt, one_changed m d (set_drive drive) (λ w. refl) (λ w there. subst (λ w. GainsNoCheck w.drive drive) (the_device v w (sym at ∙ there)) h))
 begun_calm m d v (ImmediateStart e) at h = (tt, ending_calm m d m.storage e v at h)
-begun_calm m (a % 256) v f at h = (tt, none_changed m)
+begun_calm m d v f at h = (tt, none_changed m)
 
 -- at rest no sense reports anything
 rests_calm : (m n : Machine) → NoneGainsCheck m (all_at_rest n)

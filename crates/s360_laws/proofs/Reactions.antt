@@ -1,5 +1,5 @@
 -- What an event may do to a machine, case by case: each law of one event is a function of these cases.
-use Rattle.std.proofs.Common.{Bool, cond, ◌*◌, ◌+◌, ◌≡◌, ℕ, ◌-◌, ◌/◌, ◌%◌, refl, sym, ap, subst, ◌∙◌, true, false, ◌==◌, [], ◌∷◌, ◌++◌, Option, Some, None}
+use Rattle.std.proofs.Common.{Bool, cond, ◌≡◌, ℕ, ◌-◌, ◌/◌, ◌%◌, refl, sym, ap, subst, ◌∙◌, true, false, ◌==◌, [], ◌∷◌, ◌++◌, Option, Some, None}
 use Rattle.std.proofs.lemmas.Bool.{cond_both, eqb-true}
 use Rattle.std.specs.Prelude.{option_map, is_some, filter}
 use Rattle.s360_words.specs.Storage.{Storage, Change, Bytes, KeyOf, is_within}
