@@ -35,6 +35,9 @@ stands_in m d s r = let v = working_device m d s (device_at m d) refl r in go v.
     go v at (Ended used st e) h r = absurd r
     go v at (NotEnded seen) h r = record { drive = v; is_there = at; seen = seen; stands = h }
 
+pub run_is : (m : Machine) (d : ℕ) (s : Script) (w : Stands m d s) → run_of m d s ≡ Some (NotEnded w.seen)
+run_is m d s w = run_at m d w.drive s w.is_there ∙ ap Some w.stands
+
 -- a device whose address a command names
 pub record IsAt (m : Machine) (a d : ℕ) (v : Device) : Type 0 where
   pub address : address_of m d ≡ a
@@ -132,7 +135,7 @@ module _ (m : Machine) (x : Option FaultAfter) where
 
   -- what an event does with the outcome of a run, where the run is known
   by_run : (d : ℕ) (s : Script) (e : Event) (w : Stands m d s) (f : Option Outcome → Answer × Machine) → Reacts m x (Working d s) e (f (Some (NotEnded w.seen))) → Reacts m x (Working d s) e (f (run_of m d s))
-  by_run d s e w f h = subst (λ o. Reacts m x (Working d s) e (f o)) (sym (run_at m d w.drive s w.is_there ∙ ap Some w.stands)) h
+  by_run d s e w f h = subst (λ o. Reacts m x (Working d s) e (f o)) (sym (run_is m d s w)) h
 
   pub reacts : (c : Subchannel) (e : Event) → Runs m c → Reacts m x c e (react e x (with_subchannel c m))
   reacts c Tch r = Same c Tch (WithCode (test_channel c)) refl tt
