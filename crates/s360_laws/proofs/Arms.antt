@@ -16,8 +16,9 @@ use Rattle.s360_laws.specs.Soundness.{AreDistinct, arm_owes, device_for, device_
 use Rattle.s360_laws.specs.declared.arm.Arm.{Arm}
 use Rattle.s360_laws.specs.declared.arm.Arm.TheVariants.{AtRest, Arrived}
 use Rattle.s360_laws.specs.declared.condition.ConditionCode.TheVariants.{Three, Zero}
+use Rattle.s360_laws.proofs.AlikeLists.{unmoved}
 use Rattle.s360_laws.proofs.FindDevices.{found_map, at_device, set_arm, set_both, set_drive, idle}
-use Rattle.s360_laws.proofs.LedgerLists.{Lowest, lowest_found, stays, Rest, nothing_told, good_stands, sound_parts}
+use Rattle.s360_laws.proofs.LedgerLists.{Lowest, lowest_found, stays, Rest, good_stands, sound_parts}
 use Rattle.s360_laws.proofs.Reactions.{Reacts, Same, Arrives, Changed, Clears, BusyStart, BusyTest, EndAtStart, EndAtTest, EndInterrupts, Starts, TestTakes, InterruptTakes, Halts, Cuts, StepEnds, Asks, Within, IsAt, changed_for, reacts}
 
 -- An event's answer and the machine behind it keep the arm at an address as the exchange says.
@@ -85,7 +86,7 @@ module _ (m : Machine) (u : ℕ) (arm : Arm) (h : arm_for m u ≡ Some arm) (o :
       no_end false n q k = refl
 
   arm_by : (x : Option FaultAfter) {c : Subchannel} {e : Event} {r : Answer × Machine} → Reacts m x c e r → AreDistinct m.devices → Rest m c → Keeps_arm u arm e x r
-  arm_by x (Same c e a q k) ds z = let n = nothing_told (e, x, a) u q in h ∙ untold _ _ _ arm n.0 (n.2 DEVICE_END) n.3
+  arm_by x (Same c e a q k) ds z = let n = (unmoved (e, x, a) q).0 u in h ∙ untold _ _ _ arm n.0 (n.2 DEVICE_END) n.3
   arm_by x (Arrives c a d v at k) ds z = changed_for m (set_arm Arrived) (λ v. refl) a d v at u (λ b y z. Has_arm arm z → option_map (λ v. v.arm) y ≡ Some (cond b Arrived arm)) (λ k. refl) (λ y k. k) h
   arm_by x (Changed c (Bytes at bytes) k) ds z = h
   arm_by x (Changed c (KeyOf at key) k) ds z = h

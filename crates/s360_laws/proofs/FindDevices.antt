@@ -1,6 +1,6 @@
 -- Numbers, tests and devices that are found by their addresses.
 use Rattle.std.proofs.Common.{subst, ◌≡◌, ℕ, ◌+◌, ◌*◌, ◌/◌, ◌%◌, refl, sym, ap, ◌∙◌, arith, true, false, Bool, cond, ◌==◌, List, [], ◌∷◌, map, Option, Some, None}
-use Rattle.std.proofs.lemmas.Bool.{ne_eqb, eq-eqb, eqb-true, eqb-false, cond_both, cond-true, cond-false}
+use Rattle.std.proofs.lemmas.Bool.{ne_eqb, eq-eqb, eqb-true, eqb-false, cond_both}
 use Rattle.std.specs.Prelude.{find, option_map}
 use Rattle.s360_words.specs.declared.words.Csw.{Csw}
 use Rattle.ckd_command.specs.Drive.{IdleDrive}
@@ -16,12 +16,12 @@ use Rattle.s360_laws.specs.declared.arm.Arm.{Arm}
 pub different : (a b : ℕ) → (a ≡ b → ⊥) → (a == b) ≡ false
 different a b f = ne_eqb a b f
 
-pub add_same : (n x y : ℕ) → (256 * n + x == 256 * n + y) ≡ (x == y)
-add_same n x y = go (x == y) refl
+same_test : (a b c d : ℕ) → (a ≡ b → c ≡ d) → (c ≡ d → a ≡ b) → (a == b) ≡ (c == d)
+same_test a b c d f g = go (c == d) refl
   where
-    go : (b : Bool) → (x == y) ≡ b → (256 * n + x == 256 * n + y) ≡ b
-    go true h = eq-eqb _ _ (ap (λ k. 256 * n + k) (eqb-true x y h))
-    go false h = ne_eqb _ _ (λ e. let back : x ≡ y = omega arith in eqb-false x y h back)
+    go : (r : Bool) → (c == d) ≡ r → (a == b) ≡ r
+    go true h = eq-eqb _ _ (g (eqb-true c d h))
+    go false h = ne_eqb _ _ (λ e. eqb-false c d h (f e))
 
 -- Finding devices.
 
@@ -35,7 +35,7 @@ has_found p (v ∷ vs) = cond_both (p v) (Some v) (find p vs) (Has p) (λ e. e) 
 
 pub found_same : (n d : ℕ) (vs : List Device) → find (λ v. 256 * n + v.device == 256 * n + d) vs ≡ find (λ v. v.device == d) vs
 found_same n d [] = refl
-found_same n d (v ∷ vs) = ap (λ b. cond b (Some v) (find (λ v. 256 * n + v.device == 256 * n + d) vs)) (add_same n v.device d) ∙ ap (λ r. cond (v.device == d) (Some v) r) (found_same n d vs)
+found_same n d (v ∷ vs) = ap (λ b. cond b (Some v) (find (λ v. 256 * n + v.device == 256 * n + d) vs)) (same_test (256 * n + v.device) (256 * n + d) v.device d (λ e. omega arith) (ap (λ k. 256 * n + k))) ∙ ap (λ r. cond (v.device == d) (Some v) r) (found_same n d vs)
 
 -- a change of devices that keeps their addresses
 abbrev pub Keeps : (Device → Device) → Type 0
@@ -85,17 +85,11 @@ device_after n d u f k vs = found_map (λ d. 256 * n + d == u) _ (keeps_one d f 
   where
     go : (x : Option Device) → Has (λ v. 256 * n + v.device == u) x → option_map (λ v. cond (v.device == d) (f v) v) x ≡ cond (256 * n + d == u) (option_map f x) x
     go None h = cond_both (256 * n + d == u) None None (λ y. None ≡ y) (λ e. refl) (λ e. refl)
-    go (Some v) h = cond_both (256 * n + d == u) (Some (f v)) (Some v) (λ y. Some (cond (v.device == d) (f v) v) ≡ y) here there
+    go (Some v) h = let is : 256 * n + v.device ≡ u = eqb-true _ _ h in side (v.device == d) ∙ ap (λ b. cond b (Some (f v)) (Some v)) (same_test v.device d (256 * n + d) u (λ e. omega arith) (λ e. omega arith))
       where
-        here : (256 * n + d == u) ≡ true → Some (cond (v.device == d) (f v) v) ≡ Some (f v)
-        here e =
-            let one = eqb-true (256 * n + d) u e in
-            let two = eqb-true (256 * n + v.device) u h in
-            let same : v.device ≡ d = omega arith in
-            ap Some (cond-true (v.device == d) (f v) v (eq-eqb _ _ same))
-
-        there : (256 * n + d == u) ≡ false → Some (cond (v.device == d) (f v) v) ≡ Some v
-        there e = ap Some (cond-false (v.device == d) (f v) v (ne_eqb _ _ (λ k. eqb-false (256 * n + d) u e (ap (λ k. 256 * n + k) (sym k) ∙ eqb-true _ _ h))))
+        side : (b : Bool) → Some (cond b (f v) v) ≡ cond b (Some (f v)) (Some v)
+        side true = refl
+        side false = refl
 
 -- the device at an address, by the low byte of it
 pub at_device : (m : Machine) (d u : ℕ) (y : Option Device) → address_of m d ≡ u → device_at m d ≡ y → device_for m u ≡ y

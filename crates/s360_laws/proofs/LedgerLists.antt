@@ -17,16 +17,15 @@ use Rattle.s360_runs.specs.Starts.{first, First, ImmediateStart, BadStart, Rejec
 use Rattle.s360_runs.specs.Status.{tells, normal_end, no_unit_status}
 use Rattle.s360_runs.proofs.EndStatus.{IsGood, RunGood, good_run, AsksGood, StandingGood}
 use Rattle.s360_runs.proofs.FirstUnits.{first_is_unit}
-use Rattle.s360_laws.specs.Arms.{arrives}
-use Rattle.s360_laws.specs.Events.{Exchange, Event, FaultAfter, Answer, Arrive, HasArrived, Reset, WasReset, Sio, StatusStored, Store, Tio, Interrupt, Hio, SetKey, WithCode, StepBy, Input, Tch, Show, Interrupted}
+use Rattle.s360_laws.specs.Events.{Exchange, Event, FaultAfter, Answer, Reset, WasReset, Sio, StatusStored, WithCode, Input}
 use Rattle.s360_laws.specs.History.{Runs}
 use Rattle.s360_laws.specs.Ledger.{is_reset, is_accepted, stores_end, Since, SinceBeginning, SinceAcceptance, SinceReset, later, counted, due, EndsPend, AtMostOnce, ExactlyOnce, ChannelEndFirst, NoneAfterReset, NoStartWhileWorking, StartsAfterChannelEnd, since, times_stored}
 use Rattle.s360_laws.specs.Machine.{Machine, Subchannel, Idle, Working, address_of, Pending, device_at, Device, with_arm, is_in_motion, at_rest, all_at_rest, with_device, arm_after, start_of, started, lowest, has_arrived, lower, react, ended, fault_in, units_with, exchanges, after_all, is_working, start_io, with_subchannel, unsaved_at}
-use Rattle.s360_laws.specs.SerialLists.{changes_nothing}
 use Rattle.s360_laws.specs.Soundness.{channel_owes, device_owes, device_for, owes_channel_end, owes_device_end, AreDistinct, arm_owes, IsSound, IsSoundIn, StaysSound, IdleIsSound}
 use Rattle.s360_laws.specs.declared.arm.Arm.{Arm}
 use Rattle.s360_laws.specs.declared.arm.Arm.TheVariants.{AtRest, Arrived, InMotion}
-use Rattle.s360_laws.specs.declared.condition.ConditionCode.TheVariants.{Two, Three, Zero}
+use Rattle.s360_laws.specs.declared.condition.ConditionCode.TheVariants.{Two, Three}
+use Rattle.s360_laws.proofs.AlikeLists.{unmoved}
 use Rattle.s360_laws.proofs.FindDevices.{set_arm, distinct_map, keeps_one, at_device, device_of, found_map, set_both, set_drive, idle, working, Keeps, changed_device}
 use Rattle.s360_laws.proofs.Reactions.{Reacts, Same, Arrives, Changed, Clears, BusyStart, BusyTest, FreeHalt, EndAtStart, EndAtTest, EndInterrupts, Starts, TestTakes, InterruptTakes, Halts, Cuts, StepEnds, StepGoes, Asks, Within, Stands, IsAt, changed_for, reacts}
 use Rattle.s360_laws.proofs.Serial.{good}
@@ -59,25 +58,10 @@ silent : (b : Bool) (c : ℕ) → cond (b && false) 1 0 + c ≡ c
 silent true c = zero-add c
 silent false c = zero-add c
 
--- what changes nothing tells nothing
-pub nothing_told : (t : Exchange) (u : ℕ) → changes_nothing t ≡ true → (is_reset t ≡ false) × (is_accepted u t ≡ false) × ((end : UnitStatus) → stores_end end u t ≡ false) × (arrives u t ≡ false)
-nothing_told (Sio a, m, WithCode Zero) u h = absurd (cc)
-nothing_told (Sio a, m, WithCode code) u h = (refl, refl, λ end. refl, refl)
-nothing_told (Tio a, m, WithCode code) u h = (refl, refl, λ end. refl, refl)
-nothing_told (Hio a, m, r) u h = (refl, refl, λ end. refl, refl)
-nothing_told (Tch, m, r) u h = (refl, refl, λ end. refl, refl)
-nothing_told (StepBy k, m, r) u h = (refl, refl, λ end. refl, refl)
-nothing_told (Arrive a, m, HasArrived false) u h = (refl, refl, λ end. refl, refl)
-nothing_told (Interrupt, m, Interrupted None) u h = (refl, refl, λ end. refl, refl)
-nothing_told (Store at bytes, m, r) u h = (refl, refl, λ end. refl, refl)
-nothing_told (SetKey at key, m, r) u h = (refl, refl, λ end. refl, refl)
-nothing_told (Show at len, m, r) u h = (refl, refl, λ end. refl, refl)
-nothing_told t u h = absurd (cc)
-
-unmoved : {P : Type 0} (r a c d : Bool) (n k : ℕ) → r ≡ false → a ≡ false → c ≡ false → d ≡ false
+all_false : {P : Type 0} (r a c d : Bool) (n k : ℕ) → r ≡ false → a ≡ false → c ≡ false → d ≡ false
     → (cond c 1 0 + n ≡ cond r 0 (cond a 1 n)) × (cond d 1 0 + k ≡ cond r 0 (cond a 1 k)) × (a ≡ true → P)
-unmoved false false false false n k hr ha hc hd = nothing n k
-unmoved r a c d n k hr ha hc hd = absurd (cc)
+all_false false false false false n k hr ha hc hd = nothing n k
+all_false r a c d n k hr ha hc hd = absurd (cc)
 
 -- a program that ended: its device end, or the motion of its arm
 end_owes : (c motion : Bool) → c ≡ not motion → cond c 1 0 + arm_owes (cond motion InMotion AtRest) ≡ 1
@@ -250,7 +234,7 @@ lowest_found (v ∷ vs) ds d h = go v.arm refl h (lowest_found vs ds.1)
 -- Any event.
 
 fine_by : (m : Machine) (x : Option FaultAfter) {c : Subchannel} {e : Event} {r : Answer × Machine} → Reacts m x c e r → AreDistinct m.devices → Rest m c → Fine (with_subchannel c m) e x r
-fine_by m x (Same c e a h k) ds z = (ds, z, λ u. let n = nothing_told (e, x, a) u h in unmoved _ _ _ _ _ _ n.0 n.1 (n.2 CHANNEL_END) (n.2 DEVICE_END))
+fine_by m x (Same c e a h k) ds z = (ds, z, λ u. let n = (unmoved (e, x, a) h).0 u in all_false _ _ _ _ _ _ n.0 n.1 (n.2 CHANNEL_END) (n.2 DEVICE_END))
 fine_by m x (Arrives c a d v at k) ds z = (
   distinct m d (set_arm Arrived) (λ v. refl) ds,
   arrival_rest m c a d v at k z,

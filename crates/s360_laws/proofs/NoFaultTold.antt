@@ -1,14 +1,14 @@
 -- Without a fault no event reports one; and a reset reports a track only where the program had written it.
-use Rattle.std.proofs.Common.{◌%◌, ◌≡◌, ℕ, zero, suc, refl, sym, ap, subst, ◌∙◌, true, false, cond, ◌==◌, [], ◌∷◌, ◌++◌, map, Option, Some, None, append-nil}
+use Rattle.std.proofs.Common.{◌%◌, ◌≡◌, ℕ, refl, sym, ap, subst, ◌∙◌, true, false, cond, ◌==◌, [], ◌∷◌, ◌++◌, map, Option, Some, None, append-nil}
 use Rattle.std.proofs.lemmas.Bool.{cond_both, eqb-true}
 use Rattle.std.specs.Prelude.{find, option_map, is_some}
 use Rattle.s360_words.specs.Storage.{Storage}
 use Rattle.s360_words.specs.Words.{caw_of}
 use Rattle.s360_words.specs.declared.words.Caw.{Caw}
 use Rattle.ckd_command.specs.Drive.{tells_equipment_check}
-use Rattle.s360_runs.specs.Endings.{Outcome, Ended, Ending, NotEnded}
+use Rattle.s360_runs.specs.Endings.{Ending}
 use Rattle.s360_runs.specs.Faults.{without_faults}
-use Rattle.s360_runs.specs.Runs.{Start, run, run_from, start_point}
+use Rattle.s360_runs.specs.Runs.{run, run_from, start_point}
 use Rattle.s360_runs.specs.Scripts.{Script, OneUnit, Outside, TakesInterruption, units}
 use Rattle.s360_runs.specs.Starts.{First, RejectedStart, ImmediateStart}
 use Rattle.s360_runs.specs.Units.{Between, walk, Walk, StandsIn, EndsWith, outcome_of, standing_in}
@@ -19,11 +19,11 @@ use Rattle.s360_runs.proofs.Walks.{run_walk}
 use Rattle.s360_laws.specs.Events.{Answer, Event, WasReset, Reset}
 use Rattle.s360_laws.specs.Machine.{ended, Device, Machine, device_at, arm_after, started, with_arm, with_ending, start_of, react, Subchannel, Working, unsaved_at, address_of, all_at_rest, at_rest, fault_in}
 use Rattle.s360_laws.specs.NothingTold.{TellsNoTrack, NoneGainsCheck, NoFaultNoneTold, HadWritten, ResetTellsWritten}
-use Rattle.s360_laws.specs.Soundness.{IsRunning}
 use Rattle.s360_laws.specs.declared.arm.Arm.{Arm}
 use Rattle.s360_laws.specs.declared.arm.Arm.TheVariants.{AtRest, Arrived}
 use Rattle.s360_laws.proofs.FindDevices.{Keeps, found_map, keeps_one, Has, has_found, set_arm, set_both, set_drive, idle}
 use Rattle.s360_laws.proofs.Reactions.{Reacts, Same, Arrives, Clears, EndAtStart, EndAtTest, EndInterrupts, Starts, Halts, Cuts, StepEnds, Stands, reacts}
+use Rattle.s360_laws.proofs.StepUnits.{plain_step}
 
 -- Changes of devices.
 
@@ -63,27 +63,16 @@ ending_calm m d st e v at h = one_changed m d (set_both (arm_after e) e.drive) (
 -- Runs that have not ended.
 
 without_append : (script : Script) (k : ℕ) → without_faults script ++ units k ≡ without_faults (script ++ units k)
-without_append [] k = plain_units k
-  where
-    plain_units : (k : ℕ) → units k ≡ without_faults (units k)
-    plain_units zero = refl
-    plain_units (suc k) = ap (λ l. OneUnit None ∷ l) (plain_units k)
+without_append [] k = sym (plain_step k None)
 without_append (OneUnit f ∷ rest) k = ap (λ l. OneUnit None ∷ l) (without_append rest k)
 without_append (Outside c ∷ rest) k = ap (λ l. Outside c ∷ l) (without_append rest k)
 without_append (TakesInterruption ∷ rest) k = ap (λ l. TakesInterruption ∷ l) (without_append rest k)
 
 -- over further units without a fault
-runs_calm : (s : Start) (script : Script) (k : ℕ) → IsRunning (Some (run script s)) → OutcomeTellsNoFault s.drive (run (script ++ units k) s)
-runs_calm s script k = go (run script s) refl
-  where
-    go : (o : Outcome) → run script s ≡ o → IsRunning (Some o) → OutcomeTellsNoFault s.drive (run (script ++ units k) s)
-    go (Ended used st e) h r = absurd r
-    go (NotEnded seen) h r =
-        subst (OutcomeTellsNoFault s.drive) (ap (λ l. run l s) (sym (without_append script k)) ∙ goes_on_without_faults s script seen h (units k))
-        (no_fault_nothing_told s (script ++ units k)).0
-
-stands_calm : (s : Start) (script : Script) → IsRunning (Some (run script s)) → OutcomeTellsNoFault s.drive (run script s)
-stands_calm s script r = subst (λ l. OutcomeTellsNoFault s.drive (run l s)) (append-nil script) (runs_calm s script 0 r)
+runs_calm : (m : Machine) (d : ℕ) (s : Script) (w : Stands m d s) (k : ℕ) → OutcomeTellsNoFault w.drive.drive (run (s ++ units k) (start_of m w.drive.drive))
+runs_calm m d s w k = subst (OutcomeTellsNoFault w.drive.drive)
+    (ap (λ l. run l (start_of m w.drive.drive)) (sym (without_append s k)) ∙ goes_on_without_faults (start_of m w.drive.drive) s w.seen w.stands (units k))
+    (no_fault_nothing_told (start_of m w.drive.drive) (s ++ units k)).0
 
 -- Events.
 
@@ -102,7 +91,7 @@ rests_calm m n d v e at after = λ q. go (device_at n d) (sym (found_map (λ b. 
 
 -- a program that runs is cut with no fault
 cut_calm : (m : Machine) (d : ℕ) (s : Script) (w : Stands m d s) → TellsNoFault w.drive.drive (w.seen.cut None)
-cut_calm m d s w = subst (OutcomeTellsNoFault w.drive.drive) w.stands (stands_calm (start_of m w.drive.drive) s (subst (λ o. IsRunning (Some o)) (sym w.stands) tt))
+cut_calm m d s w = subst (OutcomeTellsNoFault w.drive.drive) (ap (λ l. run l (start_of m w.drive.drive)) (append-nil s) ∙ w.stands) (runs_calm m d s w 0)
 
 calm : (m : Machine) {c : Subchannel} {e : Event} {r : Answer × Machine} → Reacts m None c e r → Calm m r
 calm m (Same c e a h k) = (k, none_changed m)
@@ -114,7 +103,7 @@ calm m (EndInterrupts d k) = (tt, armed m AtRest d)
 calm m (Starts a v at k f h) = begun_calm m (a % 256) v f at.is_there (subst (FirstTellsNoFault v.drive) h (no_fault_nothing_told (start_of m v.drive) []).1)
 calm m (Halts d s a w) = (tt, ending_calm m d w.seen.storage (w.seen.cut None) w.drive w.is_there (cut_calm m d s w))
 calm m (Cuts d s w) = (ap (option_map (λ t. (address_of m d, t.0, t.1))) (cut_calm m d s w).saved, rests_calm m (ended d w.seen.storage (w.seen.cut None) m))
-calm m (StepEnds d s k w used st e h) = (tt, ending_calm m d st e w.drive w.is_there (subst (OutcomeTellsNoFault w.drive.drive) h (runs_calm (start_of m w.drive.drive) s k (subst (λ o. IsRunning (Some o)) (sym w.stands) tt))))
+calm m (StepEnds d s k w used st e h) = (tt, ending_calm m d st e w.drive w.is_there (subst (OutcomeTellsNoFault w.drive.drive) h (runs_calm m d s w k)))
 calm m r = (tt, none_changed m)
 
 pub no_fault_none_told : NoFaultNoneTold

@@ -21,7 +21,7 @@ use Rattle.s360_laws.specs.Machine.{Device, at_rest, Machine, is_working, with_c
 use Rattle.s360_laws.specs.Soundness.{IsRunning}
 use Rattle.s360_laws.specs.declared.arm.Arm.{Arm}
 use Rattle.s360_laws.specs.declared.arm.Arm.TheVariants.{AtRest, Arrived}
-use Rattle.s360_laws.proofs.AlikeLists.{left_out, Alike, arrival_gone}
+use Rattle.s360_laws.proofs.AlikeLists.{unmoved, Alike, arrival_gone}
 use Rattle.s360_laws.proofs.FindDevices.{find_map, idle, working, set_arm, set_both, set_drive, run_at}
 use Rattle.s360_laws.proofs.Reactions.{Reacts, Same, Arrives, Changed, Starts, Clears, Halts, Cuts, StepEnds, StepGoes, Asks, Within, reacts, EndAtStart, EndAtTest, EndInterrupts, InterruptTakes, Stands}
 use Rattle.s360_laws.proofs.StepUnits.{step_script, quiet_script, unmet, ended_there}
@@ -221,7 +221,7 @@ between_good m d s more c w later = (runs_at m d (s ++ more) w.drive (standing_i
 -- Every event.
 
 good_by : (m : Machine) (x : Option FaultAfter) {c : Subchannel} {e : Event} {r : Answer × Machine} → Reacts m x c e r → Runs (with_subchannel c m) c → Good (with_subchannel c m) e x r
-good_by m x (Same c e a h k) r = record { runs = r; follows = λ ahead q. alike c (world_of m) (left_out (e, x, a) ahead h) }
+good_by m x (Same c e a h k) r = record { runs = r; follows = λ ahead q. alike c (world_of m) ((unmoved (e, x, a) h).1 ahead) }
 good_by m x (Arrives c a d v at k) r = record {
   runs = still_runs (with_subchannel c m) c Arrived d r;
   follows = λ ahead q. ap (λ ds. history (with_world (world_of m) ds) (begun_act c ahead ++ acts ahead)) (arms Arrived d m.devices) ∙ alike c (world_of m) (arrival_gone (Arrive a, x, HasArrived true) ahead refl);
@@ -261,7 +261,7 @@ good m e x r = good_by m x (reacts m x m.subchannel e r) r
 
 calm : {m : Machine} {x : Option FaultAfter} {c : Subchannel} {e : Event} {r : Answer × Machine} → Reacts m x c e r → is_working c ≡ false
     → (rest : List Exchange) → (is_working r.1.subchannel ≡ false → units_ahead rest ≡ 0) → units_ahead ((e, x, r.0) ∷ rest) ≡ 0
-calm (Same c e a h k) w rest q = (left_out (e, _, a) rest h).ahead ∙ q w
+calm (Same c e a h k) w rest q = ((unmoved (e, _, a) h).1 rest).ahead ∙ q w
 calm (Arrives c a d v at k) w rest q = q w
 calm (Changed c (Bytes at bytes) k) w rest q = q w
 calm (Changed c (KeyOf at key) k) w rest q = q w

@@ -12,38 +12,42 @@ use Rattle.s360_runs.proofs.Standing.{stands_somewhere, ends_by, goes_by}
 use Rattle.s360_runs.proofs.Walks.{exact, units_in_two}
 use Rattle.s360_laws.specs.Events.{FaultAfter, Exchange}
 use Rattle.s360_laws.specs.History.{units_ahead, script_ahead, where_over, turns_of}
-use Rattle.s360_laws.specs.Machine.{units_failing, units_with}
+use Rattle.s360_laws.specs.Machine.{units_with}
 use Rattle.s360_laws.specs.Soundness.{IsRunning}
 
 -- The units of a step.
 
-plain_front : (k : ℕ) (front rest : Script) → units k ≡ front ++ rest → units (length front) ≡ front
-plain_front k [] rest h = refl
-plain_front zero (t ∷ front) rest h = absurd (cc)
-plain_front (suc k) (t ∷ front) rest h = let e : units k ≡ front ++ rest = cc in let next = plain_front k front rest e in cc
+pub no_units : (k : ℕ) (x : Option FaultAfter) → k ≡ 0 → units_with k x ≡ []
+no_units k None h = ap (λ k. units_with k None) h
+no_units k (Some x) h = ap (λ k. units_with k (Some x)) h
 
-failing_front : (k b : ℕ) (f : Fault) (front rest : Script) → units_failing k b f ≡ front ++ rest → units_failing (length front) b f ≡ front
-failing_front k b f [] rest h = refl
-failing_front zero b f (t ∷ front) rest h = absurd (cc)
-failing_front (suc k) zero f (t ∷ front) rest h = let e : units k ≡ front ++ rest = cc in let next = plain_front k front rest e in cc
-failing_front (suc k) (suc b) f (t ∷ front) rest h = let e : units_failing k b f ≡ front ++ rest = cc in let next = failing_front k b f front rest e in cc
+-- a step's units are one, with the fault that stands there, and those of the shorter step behind it
+one_more : (x : Option FaultAfter) → (f : Option Fault) × (y : Option FaultAfter) × ((k : ℕ) → units_with (suc k) x ≡ OneUnit f ∷ units_with k y)
+one_more None = (None, None, λ k. refl)
+one_more (Some x) = go x.units x.fault
+  where
+    go : (n : ℕ) (f : Fault) → (g : Option Fault) × (y : Option FaultAfter) × ((k : ℕ) → units_with (suc k) (Some (record { units = n; fault = f })) ≡ OneUnit g ∷ units_with k y)
+    go zero f = (Some f, None, λ k. refl)
+    go (suc n) f = (None, Some (record { units = n; fault = f }), λ k. refl)
 
 pub units_front : (k : ℕ) (x : Option FaultAfter) (front rest : Script) → units_with k x ≡ front ++ rest → units_with (length front) x ≡ front
-units_front k None front rest h = plain_front k front rest h
-units_front k (Some x) front rest h = failing_front k x.units x.fault front rest h
-
-plain_count : (k : ℕ) → units_in (units k) ≡ k
-plain_count zero = refl
-plain_count (suc k) = let h = plain_count k in omega arith
-
-failing_count : (k b : ℕ) (f : Fault) → units_in (units_failing k b f) ≡ k
-failing_count zero b f = refl
-failing_count (suc k) zero f = let h = plain_count k in omega arith
-failing_count (suc k) (suc b) f = let h = failing_count k b f in omega arith
+units_front k x [] rest h = no_units 0 x refl
+units_front zero x (t ∷ front) rest h = let none = no_units 0 x refl in absurd (cc)
+units_front (suc k) x (t ∷ front) rest h =
+    let o = one_more x in
+    let all = o.2 k in
+    let some = o.2 (length front) in
+    let behind : units_with k o.1 ≡ front ++ rest = cc in
+    let next = units_front k o.1 front rest behind in
+    cc
 
 pub units_count : (k : ℕ) (x : Option FaultAfter) → units_in (units_with k x) ≡ k
-units_count k None = plain_count k
-units_count k (Some x) = failing_count k x.units x.fault
+units_count zero x = ap units_in (no_units 0 x refl)
+units_count (suc k) x = let o = one_more x in let all = ap units_in (o.2 k) in let h = units_count k o.1 in omega arith
+
+pub plain_step : (k : ℕ) (x : Option FaultAfter) → without_faults (units_with k x) ≡ units k
+plain_step zero x = ap without_faults (no_units 0 x refl)
+plain_step (suc k) x = let o = one_more x in ap without_faults (o.2 k) ∙ ap (λ l. OneUnit None ∷ l) (plain_step k o.1)
 
 pub plain_two : (j k : ℕ) → units j ++ units k ≡ units (j + k)
 plain_two zero k = ap units (sym (zero-add k))
@@ -93,26 +97,13 @@ ended_there s script key g k used x st e h r =
 
 -- A step that the program outlives has met no fault.
 
-plain_units : (k : ℕ) → without_faults (units k) ≡ units k
-plain_units zero = refl
-plain_units (suc k) = ap (λ l. OneUnit None ∷ l) (plain_units k)
-
-plain_failing : (k after : ℕ) (f : Fault) → without_faults (units_failing k after f) ≡ units k
-plain_failing zero after f = refl
-plain_failing (suc k) zero f = ap (λ l. OneUnit None ∷ l) (plain_units k)
-plain_failing (suc k) (suc after) f = ap (λ l. OneUnit None ∷ l) (plain_failing k after f)
-
-plain_step : (k : ℕ) (x : Option FaultAfter) → without_faults (units_with k x) ≡ units k
-plain_step k None = plain_units k
-plain_step k (Some x) = plain_failing k x.units x.fault
-
 -- so its run goes on as without the fault
 pub unmet : (s : Start) (script : Script) (key : ℕ) (g : ProgramPhase) (k : ℕ) (x : Option FaultAfter) (seen : Standing) → StandsAt s script key g → run (script ++ units_with k x) s ≡ NotEnded seen
     → (more : Script) → run ((script ++ units k) ++ more) s ≡ run ((script ++ units_with k x) ++ more) s
 unmet s script key g k x seen st r more = go (walk (units_with k x) key g) refl
   where
     counts : units_in ((script ++ units k) ++ more) ≡ units_in ((script ++ units_with k x) ++ more)
-    counts = omega (arith, units_in_two, units_count k x, plain_count k)
+    counts = omega (arith, units_in_two, units_count k x, units_count k None)
 
     go : (w : Walk) → walk (units_with k x) key g ≡ w → run ((script ++ units k) ++ more) s ≡ run ((script ++ units_with k x) ++ more) s
     go (EndsWith rest st_two e) w = let q = sym (ap (outcome_of (script ++ units_with k x) key) w) ∙ sym (st (units_with k x)) ∙ r in absurd (cc)
@@ -133,10 +124,6 @@ same_script ahead = go (units_ahead ahead) refl
     go : (n : ℕ) → units_ahead ahead ≡ n → script_ahead ahead ≡ where_over n [] (script_ahead ahead)
     go zero h = quiet_script ahead h
     go (suc n) h = refl
-
-no_units : (k : ℕ) (x : Option FaultAfter) → k ≡ 0 → units_with k x ≡ []
-no_units k None h = ap (λ k. units_with k None) h
-no_units k (Some x) h = ap (λ k. units_with k (Some x)) h
 
 pub step_script : (k : ℕ) (x : Option FaultAfter) (ahead : List Exchange) → units_with k x ++ script_ahead ahead ≡ where_over (k + units_ahead ahead) [] (units_with k x ++ script_ahead ahead)
 step_script k x ahead = go (k + units_ahead ahead) refl
