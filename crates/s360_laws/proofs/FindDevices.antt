@@ -33,6 +33,10 @@ pub has_found : (p : Device → Bool) (vs : List Device) → Has p (find p vs)
 has_found p [] = tt
 has_found p (v ∷ vs) = cond_both (p v) (Some v) (find p vs) (Has p) (λ e. e) (λ e. has_found p vs)
 
+pub found_is : {X : Type 0} (p : X → Bool) (xs : List X) (x : X) → find p xs ≡ Some x → p x ≡ true
+found_is p [] x h = absurd (cc)
+found_is p (y ∷ ys) x h = cond_both (p y) (Some y) (find p ys) (λ o. o ≡ Some x → p x ≡ true) (λ e q. let same : y ≡ x = cc in sym (ap p same) ∙ e) (λ e q. found_is p ys x q) h
+
 pub found_same : (n d : ℕ) (vs : List Device) → find (λ v. 256 * n + v.device == 256 * n + d) vs ≡ find (λ v. v.device == d) vs
 found_same n d [] = refl
 found_same n d (v ∷ vs) = ap (λ b. cond b (Some v) (find (λ v. 256 * n + v.device == 256 * n + d) vs)) (same_test (256 * n + v.device) (256 * n + d) v.device d (λ e. omega arith) (ap (λ k. 256 * n + k))) ∙ ap (λ r. cond (v.device == d) (Some v) r) (found_same n d vs)
@@ -75,7 +79,7 @@ pub changed_device : (d : ℕ) (f : Device → Device) → Keeps f → (vs : Lis
     → find (λ w. w.device == d) (map (λ w. cond (w.device == d) (f w) w) vs) ≡ Some (f v)
 changed_device d f k vs v at =
     found_map (λ n. n == d) _ (keeps_one d f k) vs ∙ ap (option_map (λ w. cond (w.device == d) (f w) w)) at
-    ∙ ap (λ b. Some (cond b (f v) v)) (subst (Has (λ w. w.device == d)) at (has_found (λ w. w.device == d) vs))
+    ∙ ap (λ b. Some (cond b (f v) v)) (found_is (λ w. w.device == d) vs v at)
 
 -- the device of an address, after a change of one device
 pub device_after : (n d u : ℕ) (f : Device → Device) → Keeps f → (vs : List Device)

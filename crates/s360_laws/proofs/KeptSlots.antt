@@ -1,6 +1,6 @@
 -- A slot that no program of a list may write keeps its bytes.
 use Rattle.std.proofs.Common.{◌≡◌, ℕ, refl, ap, subst, sym, ◌∙◌, true, false, Bool, cond, ◌&&◌, ◌==◌, List, [], ◌∷◌, map, Option, Some, None}
-use Rattle.std.proofs.lemmas.Bool.{cond_both, false≢true, eqb-true, or_parts}
+use Rattle.std.proofs.lemmas.Bool.{cond_both, eqb-true, or_parts, eq-eqb}
 use Rattle.std.specs.Prelude.{find, option_map}
 use Rattle.s360_words.specs.Words.{caw_of, chains_command}
 use Rattle.s360_words.specs.declared.words.Caw.{Caw}
@@ -20,7 +20,7 @@ use Rattle.s360_runs.proofs.Writes.{run_keeps}
 use Rattle.s360_laws.specs.History.{Act, Program, RejectedCommand, Changes, ClearsSense, Fate, ByItself, IsCut, World, after_first, after_program, after_rejection, after_run, does, drive_in, history, start_in, with_drive, world_of, all_acts}
 use Rattle.s360_laws.specs.Machine.{exchanges}
 use Rattle.s360_laws.specs.Writes.{KeepsUnwritten, act_writes, acts_write, program_writes, slot_at}
-use Rattle.s360_laws.proofs.FindDevices.{find_map}
+use Rattle.s360_laws.proofs.FindDevices.{find_map, found_is}
 use Rattle.s360_laws.proofs.Serial.{serial}
 
 abbrev Drives : Type 0
@@ -32,31 +32,26 @@ at device ds = find (λ d. d.0 == device) ds
 abbrev slot : ℕ → Option (ℕ × IdleDrive) → Option (Option (List ℕ))
 slot track d = option_map (λ d. slot_in d.1.volume track) d
 
--- One drive is another.
+-- One drive is another, with the same slot if it is that of the device.
 
-abbrev Agrees : ℕ → (device p : ℕ) → IdleDrive → Drives → Type 0
-Agrees track device p drive ds = (d : ℕ × IdleDrive) → at p ds ≡ Some d → (p == device) ≡ true → slot_in drive.volume track ≡ slot_in d.1.volume track
-
-with_slot : (track device p : ℕ) (drive : IdleDrive) (ds : Drives) → Agrees track device p drive ds → slot track (at device (with_drive p drive ds)) ≡ slot track (at device ds)
-with_slot track device p drive [] h = refl
-with_slot track device p drive (x ∷ xs) h = go (x.0 == p) refl (x.0 == device) refl h (with_slot track device p drive xs)
+with_slot : (track device p : ℕ) (drive : IdleDrive) (ds : Drives) (d : ℕ × IdleDrive) → at p ds ≡ Some d → ((p == device) ≡ true → slot_in drive.volume track ≡ slot_in d.1.volume track)
+    → slot track (at device (with_drive p drive ds)) ≡ slot track (at device ds)
+with_slot track device p drive ds d is k = ap (slot track) (find_map (λ d. d.0 == device) (λ d. d.0 == device) (λ d. cond (d.0 == p) (d.0, drive) d) (λ d. number d (d.0 == p)) ds) ∙ go (at device ds) refl
   where
-    apart : (x.0 == p) ≡ true → (x.0 == device) ≡ false → (p == device) ≡ true → ⊥
-    apart e k l = false≢true (sym k ∙ ap (λ n. n == device) (eqb-true _ _ e) ∙ l)
+    number : (d : ℕ × IdleDrive) (b : Bool) → ((cond b (d.0, drive) d).0 == device) ≡ (d.0 == device)
+    number d true = refl
+    number d false = refl
 
-    -- the first drive, and whether it is the one that is changed, and the one that is looked at
-    go : (b : Bool) → (x.0 == p) ≡ b → (c : Bool) → (x.0 == device) ≡ c
-        → ((d : ℕ × IdleDrive) → cond b (Some x) (at p xs) ≡ Some d → (p == device) ≡ true → slot_in drive.volume track ≡ slot_in d.1.volume track)
-        → (Agrees track device p drive xs → slot track (at device (with_drive p drive xs)) ≡ slot track (at device xs))
-        → slot track (cond ((cond b (x.0, drive) x).0 == device) (Some (cond b (x.0, drive) x)) (at device (with_drive p drive xs))) ≡ slot track (cond c (Some x) (at device xs))
-    go true e true k h rest =
-        ap (λ b. slot track (cond b (Some (x.0, drive)) (at device (with_drive p drive xs)))) k
-        ∙ ap Some (h x refl (ap (λ n. n == device) (sym (eqb-true _ _ e)) ∙ k))
-    go true e false k h rest =
-        ap (λ b. slot track (cond b (Some (x.0, drive)) (at device (with_drive p drive xs)))) k
-        ∙ rest (λ d f l. absurd (apart e k l))
-    go false e true k h rest = ap (λ b. slot track (cond b (Some x) (at device (with_drive p drive xs)))) k
-    go false e false k h rest = ap (λ b. slot track (cond b (Some x) (at device (with_drive p drive xs)))) k ∙ rest h
+    go : (y : Option (ℕ × IdleDrive)) → at device ds ≡ y → slot track (option_map (λ d. cond (d.0 == p) (d.0, drive) d) y) ≡ slot track y
+    go None e = refl
+    go (Some c) e = cond_both (c.0 == p) (c.0, drive) c (λ b. Some (slot_in b.1.volume track) ≡ Some (slot_in c.1.volume track)) here (λ q. refl)
+      where
+        here : (c.0 == p) ≡ true → Some (slot_in drive.volume track) ≡ Some (slot_in c.1.volume track)
+        here q =
+            let one = eqb-true _ _ q in
+            let two = eqb-true _ _ (found_is (λ d. d.0 == device) ds c e) in
+            let it : p ≡ device = cc in
+            ap Some (k (eq-eqb _ _ it)) ∙ ap (slot track) (sym is ∙ ap (λ n. at n ds) it ∙ e)
 
 -- a change of sense bytes
 cleared : (track device : ℕ) (ds : Drives) → slot track (at device (map (λ d. (d.0, record d.1 { sense = no_sense })) ds)) ≡ slot track (at device ds)
@@ -93,9 +88,6 @@ first_keeps s = from (caw_of s.caw)
 
 -- Acts.
 
-agrees : (track device p : ℕ) (drive : IdleDrive) (ds : Drives) (d : ℕ × IdleDrive) → at p ds ≡ Some d → ((p == device) ≡ true → slot_in drive.volume track ≡ slot_in d.1.volume track) → Agrees track device p drive ds
-agrees track device p drive ds d e k c f l = let q = sym e ∙ f in let same : d ≡ c = cc in k l ∙ ap (λ d. slot_in d.1.volume track) same
-
 program_keeps : (w : World) (p device track : ℕ) (script : Script) (fate : Fate) (y : Option (ℕ × IdleDrive)) → drive_in w p ≡ y → ((p == device) && program_writes w track script y) ≡ false
     → slot track (at device (after_program w p script fate y).drives) ≡ slot track (at device w.drives)
 program_keeps w p device track script fate None e h = refl
@@ -103,9 +95,9 @@ program_keeps w p device track script fate (Some d) e h =
     go fate (run script (start_in w d.1)) (λ k. run_keeps (start_in w d.1) script track (subst (λ b. (b && program_writes w track script (Some d)) ≡ false) k h))
   where
     go : (fate : Fate) (o : Outcome) → ((p == device) ≡ true → OutcomeKeeps track d.1.volume o) → slot track (at device (after_run w p fate o).drives) ≡ slot track (at device w.drives)
-    go ByItself (Ended used s z) k = with_slot track device p z.drive w.drives (agrees track device p z.drive w.drives d e k)
-    go (IsCut fault) (Ended used s z) k = with_slot track device p z.drive w.drives (agrees track device p z.drive w.drives d e k)
-    go (IsCut fault) (NotEnded seen) k = with_slot track device p (seen.cut fault).drive w.drives (agrees track device p (seen.cut fault).drive w.drives d e (λ l. k l fault))
+    go ByItself (Ended used s z) k = with_slot track device p z.drive w.drives d e k
+    go (IsCut fault) (Ended used s z) k = with_slot track device p z.drive w.drives d e k
+    go (IsCut fault) (NotEnded seen) k = with_slot track device p (seen.cut fault).drive w.drives d e (λ l. k l fault)
     go ByItself (NotEnded seen) k = refl
 
 rejection_keeps : (w : World) (p device track : ℕ) (y : Option (ℕ × IdleDrive)) → drive_in w p ≡ y → slot track (at device (after_rejection w p y).drives) ≡ slot track (at device w.drives)
@@ -113,7 +105,7 @@ rejection_keeps w p device track None e = refl
 rejection_keeps w p device track (Some d) e = go (first (start_in w d.1)) refl
   where
     go : (f : First) → first (start_in w d.1) ≡ f → slot track (at device (after_first w p f).drives) ≡ slot track (at device w.drives)
-    go (RejectedStart drive) k = with_slot track device p drive w.drives (agrees track device p drive w.drives d e (λ l. ap (λ v. slot_in v track) (subst (FirstKeeps d.1.volume) k (first_keeps (start_in w d.1)))))
+    go (RejectedStart drive) k = with_slot track device p drive w.drives d e (λ l. ap (λ v. slot_in v track) (subst (FirstKeeps d.1.volume) k (first_keeps (start_in w d.1))))
     go f k = refl
 
 act_keeps : (w : World) (device track : ℕ) (act : Act) → act_writes w device track act ≡ false → slot_at (does w act) device track ≡ slot_at w device track

@@ -21,7 +21,7 @@ use Rattle.s360_laws.specs.Machine.{ended, Device, Machine, device_at, arm_after
 use Rattle.s360_laws.specs.NothingTold.{TellsNoTrack, NoneGainsCheck, NoFaultNoneTold, HadWritten, ResetTellsWritten}
 use Rattle.s360_laws.specs.declared.arm.Arm.{Arm}
 use Rattle.s360_laws.specs.declared.arm.Arm.TheVariants.{AtRest, Arrived}
-use Rattle.s360_laws.proofs.FindDevices.{Keeps, found_map, keeps_one, Has, has_found, set_arm, set_both, set_drive, idle}
+use Rattle.s360_laws.proofs.FindDevices.{Keeps, found_map, keeps_one, set_arm, set_both, set_drive, idle, found_is}
 use Rattle.s360_laws.proofs.Reactions.{Reacts, Same, Arrives, Clears, EndAtStart, EndAtTest, EndInterrupts, Starts, Halts, Cuts, StepEnds, Stands, reacts}
 use Rattle.s360_laws.proofs.StepUnits.{plain_step}
 
@@ -46,7 +46,7 @@ one_changed m d f k h n v e at after = subst (λ e. GainsNoCheck v.drive e.drive
     changed = the_device _ _ (sym (ap (option_map (λ w. cond (w.device == d) (f w) w)) at) ∙ sym (found_map (λ b. b == n) _ (keeps_one d f k) m.devices) ∙ after)
 
     is_n : (v.device == n) ≡ true
-    is_n = subst (Has (λ w. w.device == n)) at (has_found (λ w. w.device == n) m.devices)
+    is_n = found_is (λ w. w.device == n) m.devices v at
 
 abbrev Calm : Machine → Answer × Machine → Type 0
 Calm m r = TellsNoTrack r.0 × NoneGainsCheck m r.1
