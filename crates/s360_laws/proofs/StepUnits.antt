@@ -2,18 +2,17 @@
 use Rattle.std.proofs.Common.{◌≡◌, ℕ, zero, suc, ◌+◌, ◌-◌, refl, sym, ap, ◌∙◌, arith, zero-add, suc-add, [], ◌∷◌, ◌++◌, length, Option, Some, None, List}
 use Rattle.s360_words.specs.Storage.{Storage}
 use Rattle.ckd_command.specs.Drive.{Fault}
-use Rattle.s360_runs.specs.Endings.{Outcome, Ended, NotEnded, Ending, Standing}
+use Rattle.s360_runs.specs.Endings.{Ended, NotEnded, Ending, Standing}
 use Rattle.s360_runs.specs.Faults.{without_faults}
 use Rattle.s360_runs.specs.Runs.{Start, run}
 use Rattle.s360_runs.specs.Scripts.{Script, units, units_in, OneUnit}
 use Rattle.s360_runs.specs.Units.{ProgramPhase, StandsAt, walk, Walk, StandsIn, outcome_of, EndsWith}
 use Rattle.s360_runs.proofs.FaultsMet.{unmet_walk, same_outcome}
-use Rattle.s360_runs.proofs.Standing.{stands_somewhere, ends_by, goes_by}
+use Rattle.s360_runs.proofs.Standing.{ends_by, goes_by}
 use Rattle.s360_runs.proofs.Walks.{exact, units_in_two}
 use Rattle.s360_laws.specs.Events.{FaultAfter, Exchange}
 use Rattle.s360_laws.specs.History.{units_ahead, script_ahead, where_over, turns_of}
 use Rattle.s360_laws.specs.Machine.{units_with}
-use Rattle.s360_laws.specs.Soundness.{IsRunning}
 
 -- The units of a step.
 
@@ -52,15 +51,6 @@ plain_step (suc k) x = let o = one_more x in ap without_faults (o.2 k) ∙ ap (�
 pub plain_two : (j k : ℕ) → units j ++ units k ≡ units (j + k)
 plain_two zero k = ap units (sym (zero-add k))
 plain_two (suc j) k = ap (λ l. OneUnit None ∷ l) (plain_two j k) ∙ ap units (sym (suc-add j k))
-
--- A program that runs stands somewhere.
-
-pub stood : (s : Start) (script : Script) → IsRunning (Some (run script s)) → (key : ℕ) × (g : ProgramPhase) × StandsAt s script key g
-stood s script r = go (run script s) refl r
-  where
-    go : (o : Outcome) → run script s ≡ o → IsRunning (Some o) → (key : ℕ) × (g : ProgramPhase) × StandsAt s script key g
-    go (Ended used st e) h r = absurd r
-    go (NotEnded seen) h r = let y = stands_somewhere s script seen h in (y.0, y.1, y.2)
 
 -- a program that stood behind a script, and ended behind more of it
 pub record EndedIn (script more : Script) (key : ℕ) (g : ProgramPhase) (used : ℕ) (st : Storage) (e : Ending) : Type 0 where
