@@ -20,7 +20,7 @@ use Rattle.s360_runs.proofs.FirstUnits.{first_is_unit}
 use Rattle.s360_laws.specs.Events.{Exchange, Event, FaultAfter, Answer, Reset, WasReset, Sio, StatusStored, WithCode, Input}
 use Rattle.s360_laws.specs.History.{Runs}
 use Rattle.s360_laws.specs.Ledger.{is_reset, is_accepted, stores_end, Since, SinceBeginning, SinceAcceptance, SinceReset, later, counted, due, EndsPend, AtMostOnce, ExactlyOnce, ChannelEndFirst, NoneAfterReset, NoStartWhileWorking, StartsAfterChannelEnd, since, times_stored}
-use Rattle.s360_laws.specs.Machine.{Machine, Subchannel, Idle, Working, address_of, Pending, device_at, Device, with_arm, is_in_motion, at_rest, all_at_rest, with_device, arm_after, start_of, started, lowest, has_arrived, lower, react, ended, fault_in, units_with, exchanges, after_all, is_working, start_io, with_subchannel, unsaved_at}
+use Rattle.s360_laws.specs.Machine.{Machine, Subchannel, Idle, Working, address_of, Pending, device_at, Device, with_arm, is_in_motion, at_rest, all_at_rest, with_device, arm_after, start_of, started, lowest, has_arrived, lower, react, ended, fault_in, units_with, exchanges, after_all, is_working, with_subchannel, unsaved_at}
 use Rattle.s360_laws.specs.Soundness.{channel_owes, device_owes, device_for, owes_channel_end, owes_device_end, AreDistinct, arm_owes, IsSound, IsSoundIn, StaysSound, IdleIsSound}
 use Rattle.s360_laws.specs.declared.arm.Arm.{Arm}
 use Rattle.s360_laws.specs.declared.arm.Arm.TheVariants.{AtRest, Arrived, InMotion}
@@ -206,7 +206,7 @@ Lowest d vs = (v : Device) × (find (λ w. w.device == d) vs ≡ Some v) × (v.a
 
 pub lowest_found : (vs : List Device) → AreDistinct vs → (d : ℕ) → lowest (filter has_arrived vs) ≡ Some d → Lowest d vs
 lowest_found [] ds d h = absurd (cc)
-lowest_found (v ∷ vs) ds d h = go v.arm refl h (lowest_found vs ds.1)
+lowest_found (v ∷ vs) ds d h = go v.arm refl h (lowest_found vs ds.1 d)
   where
     here : v.arm ≡ Arrived → Some v.device ≡ Some d → Lowest d (v ∷ vs)
     here arm h = let e : v.device ≡ d = cc in (v, ap (λ b. cond b (Some v) (find (λ w. w.device == d) vs)) (eq-eqb _ _ e), arm)
@@ -218,18 +218,14 @@ lowest_found (v ∷ vs) ds d h = go v.arm refl h (lowest_found vs ds.1)
         apart : v.device ≡ d → ⊥
         apart e = let q = sym ds.0 ∙ ap (λ k. find (λ w. w.device == k) vs) e ∙ r.1 in cc
 
-    lower_of : v.arm ≡ Arrived → (l : Option ℕ) → lowest (filter has_arrived vs) ≡ l → lower v.device l ≡ Some d → ((d : ℕ) → lowest (filter has_arrived vs) ≡ Some d → Lowest d vs) → Lowest d (v ∷ vs)
-    lower_of arm None e h k = here arm h
-    lower_of arm (Some c) e h k = least (nat_lt v.device c) h
-      where
-        least : (b : Bool) → cond b (Some v.device) (Some c) ≡ Some d → Lowest d (v ∷ vs)
-        least true h = here arm h
-        least false h = there (k d (e ∙ h))
+    lower_of : v.arm ≡ Arrived → (l : Option ℕ) → (l ≡ Some d → Lowest d vs) → lower v.device l ≡ Some d → Lowest d (v ∷ vs)
+    lower_of arm None k h = here arm h
+    lower_of arm (Some c) k h = cond_both (nat_lt v.device c) (Some v.device) (Some c) (λ y. y ≡ Some d → Lowest d (v ∷ vs)) (λ e. here arm) (λ e h. there (k h)) h
 
     go : (arm : Arm) → v.arm ≡ arm → lowest (cond (has_arrived (record v { arm = arm })) (v ∷ filter has_arrived vs) (filter has_arrived vs)) ≡ Some d
-        → ((d : ℕ) → lowest (filter has_arrived vs) ≡ Some d → Lowest d vs) → Lowest d (v ∷ vs)
-    go Arrived a h k = lower_of a (lowest (filter has_arrived vs)) refl h k
-    go arm a h k = there (k d h)
+        → (lowest (filter has_arrived vs) ≡ Some d → Lowest d vs) → Lowest d (v ∷ vs)
+    go Arrived a h k = lower_of a (lowest (filter has_arrived vs)) k h
+    go arm a h k = there (k h)
 
 -- Any event.
 
@@ -336,21 +332,26 @@ arm_most (Some v) = go v.arm
     go AtRest = omega arith
     go arm = omega arith
 
--- the owed channel end and device end of a device
+-- the owed channel end and device end of a device, where either the device end or the arm is owed
+owed_ends : (b c d : Bool) (n : ℕ) → n ≤ 1 → (b ≡ true → cond d 1 0 + n ≡ 1) → (cond (b && c) 1 0 ≤ cond (b && d) 1 0 + n) × (cond (b && d) 1 0 + n ≤ 1)
+owed_ends true c d n l k = let e = k refl in let f = one_at_most c in (omega arith, omega arith)
+owed_ends false c d n l k = (omega arith, omega arith)
+
 owed : (m : Machine) (c : Subchannel) (u : ℕ) → Rest m c
     → (channel_owes CHANNEL_END u m c ≤ channel_owes DEVICE_END u m c + device_owes (device_for m u)) × (channel_owes DEVICE_END u m c + device_owes (device_for m u) ≤ 1)
-owed m Idle u h = let k = arm_most (device_for m u) in (omega arith, omega arith)
-owed m (Working d s) u h = go (address_of m d == u) (arm_most (device_for m u)) (λ b. ap device_owes (at_device m d u (device_at m d) (eqb-true _ _ b) refl) ∙ h)
+owed m c u h = go c h
   where
-    go : (b : Bool) → device_owes (device_for m u) ≤ 1 → (b ≡ true → device_owes (device_for m u) ≡ 0) → (cond b 1 0 ≤ cond b 1 0 + device_owes (device_for m u)) × (cond b 1 0 + device_owes (device_for m u) ≤ 1)
-    go true l k = let e = k refl in (omega arith, omega arith)
-    go false l k = (omega arith, omega arith)
-owed m (Pending p csw) u h = go (address_of m p == u) (tells csw.unit DEVICE_END) (arm_most (device_for m u)) (λ b. ap (λ n. cond (tells csw.unit DEVICE_END) 1 0 + n) (ap device_owes (at_device m p u (device_at m p) (eqb-true _ _ b) refl)) ∙ h.1)
-  where
-    go : (b c : Bool) → device_owes (device_for m u) ≤ 1 → (b ≡ true → cond c 1 0 + device_owes (device_for m u) ≡ 1)
-        → (cond (b && tells csw.unit CHANNEL_END) 1 0 ≤ cond (b && c) 1 0 + device_owes (device_for m u)) × (cond (b && c) 1 0 + device_owes (device_for m u) ≤ 1)
-    go true c l k = let e = k refl in let f = one_at_most (tells csw.unit CHANNEL_END) in (omega arith, omega arith)
-    go false c l k = (omega arith, omega arith)
+    n : ℕ
+    n = device_owes (device_for m u)
+
+    same : (d : ℕ) → (address_of m d == u) ≡ true → n ≡ device_owes (device_at m d)
+    same d b = ap device_owes (at_device m d u (device_at m d) (eqb-true _ _ b) refl)
+
+    go : (c : Subchannel) → Rest m c → (channel_owes CHANNEL_END u m c ≤ channel_owes DEVICE_END u m c + n) × (channel_owes DEVICE_END u m c + n ≤ 1)
+    go Idle h = owed_ends false false false n (arm_most (device_for m u)) (λ b. absurd (cc))
+    go (Working d s) h = subst (λ b. (cond b 1 0 ≤ cond b 1 0 + n) × (cond b 1 0 + n ≤ 1)) (and-true (address_of m d == u))
+        (owed_ends (address_of m d == u) true true n (arm_most (device_for m u)) (λ b. ap (λ n. 1 + n) (same d b ∙ h)))
+    go (Pending d csw) h = owed_ends (address_of m d == u) (tells csw.unit CHANNEL_END) (tells csw.unit DEVICE_END) n (arm_most (device_for m u)) (λ b. ap (λ n. cond (tells csw.unit DEVICE_END) 1 0 + n) (same d b) ∙ h.1)
 
 owed_most : (m : Machine) (u : ℕ) → IsSound m → (owes_channel_end u m ≤ owes_device_end u m) × (owes_device_end u m ≤ 1)
 owed_most m u h = owed m m.subchannel u (sound_parts m m.subchannel h.1).1
@@ -408,19 +409,13 @@ no_start_while_working m h a x = go m.subchannel h
 not_accepted : (a v : ℕ) (x : Option FaultAfter) (b : Bool) (m : Machine) → is_accepted v (Sio a, x, (cond {A = Answer × Machine} b (WithCode Two, m) (WithCode Three, m)).0) ≡ false
 not_accepted a v x b m = cond_both {A = Answer × Machine} b (WithCode Two, m) (WithCode Three, m) (λ r. is_accepted v (Sio a, x, r.0) ≡ false) (λ e. refl) (λ e. refl)
 
--- and no other event accepts one
-refused : (e : Event) (x : Option FaultAfter) (v : ℕ) (m : Machine) (c : Subchannel) → ((a : ℕ) → ◌≡◌ {A = Answer × Machine} (start_io (a % 256) (record m { subchannel = c }) c) (WithCode Two, record m { subchannel = c }))
-    → is_accepted v (e, x, (react e x (record m { subchannel = c })).0) ≡ false
-refused (Sio a) x v m c h = ap (λ r. is_accepted v (Sio a, x, (cond {A = Answer × Machine} (a / 256 == m.channel) r (WithCode Three, record m { subchannel = c })).0)) (h a) ∙ not_accepted a v x (a / 256 == m.channel) (record m { subchannel = c })
-refused e x v m c h = refl
-
 accepted_idle : (m : Machine) (e : Event) (x : Option FaultAfter) (v : ℕ) → is_accepted v (e, x, (react e x m).0) ≡ true → m.subchannel ≡ Idle
-accepted_idle m e x v h = go m.subchannel h
+accepted_idle m (Sio a) x v h = go m.subchannel h
   where
-    go : (c : Subchannel) → is_accepted v (e, x, (react e x (record m { subchannel = c })).0) ≡ true → c ≡ Idle
+    go : (c : Subchannel) → is_accepted v (Sio a, x, (react (Sio a) x (with_subchannel c m)).0) ≡ true → c ≡ Idle
     go Idle h = refl
-    go (Working d s) h = absurd (false≢true (sym (refused e x v m (Working d s) (λ a. refl)) ∙ h))
-    go (Pending p csw) h = absurd (false≢true (sym (refused e x v m (Pending p csw) (λ a. refl)) ∙ h))
+    go c h = absurd (false≢true (sym (not_accepted a v x (a / 256 == m.channel) (with_subchannel c m)) ∙ h))
+accepted_idle m e x v h = absurd (cc)
 
 pub starts_after_channel_end : StartsAfterChannelEnd
 starts_after_channel_end m es e u v sound s h =
