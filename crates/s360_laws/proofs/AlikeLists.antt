@@ -1,12 +1,12 @@
 -- The acts of the serial list are the acts of the list.
-use Rattle.std.proofs.Common.{◌≡◌, ℕ, zero, suc, ◌+◌, ◌*◌, ◌/◌, ◌%◌, refl, sym, ap, subst, ◌∙◌, arith, true, false, Bool, not, ◌&&◌, ◌||◌, ◌==◌, List, [], ◌∷◌, ◌++◌, Option, Some, None, zero-add, append_assoc, append-nil}
+use Rattle.std.proofs.Common.{◌≡◌, ℕ, zero, suc, ◌+◌, ◌*◌, ◌/◌, ◌%◌, refl, sym, ap, subst, ◌∙◌, arith, true, false, Bool, not, ◌&&◌, ◌||◌, ◌==◌, List, [], ◌∷◌, ◌++◌, Option, Some, None, zero-add, append_assoc, append-nil, cond}
 use Rattle.std.proofs.lemmas.Bool.{and_parts, cond_both, eqb-true, not-false}
 use Rattle.std.specs.Prelude.{replicate, filter}
 use Rattle.s360_words.specs.Storage.{Change, csw_stored, Bytes, KeyOf}
 use Rattle.s360_words.specs.declared.flags.UnitStatus.{UnitStatus}
 use Rattle.s360_runs.specs.Scripts.{units, OneUnit}
 use Rattle.s360_laws.specs.Arms.{arrives}
-use Rattle.s360_laws.specs.Events.{Exchange, Hio, WithCode, Reset, Sio, StepBy, Stepped, Interrupt, Interrupted, Store, WasKept, SetKey, Tio, CswStored, StatusStored, Tch, HasArrived, Arrive, Show, FaultAfter}
+use Rattle.s360_laws.specs.Events.{Exchange, Hio, WithCode, Reset, Sio, StepBy, Stepped, Interrupt, Interrupted, Store, WasKept, SetKey, Tio, Tch, HasArrived, Arrive, Show, FaultAfter, CswStored, StatusStored}
 use Rattle.s360_laws.specs.History.{units_ahead, script_ahead, fate_ahead, acts, own_change, where_over, Changes, acts_of, Program, turns_of}
 use Rattle.s360_laws.specs.Ledger.{is_reset, is_accepted, stores_end}
 use Rattle.s360_laws.specs.SerialLists.{changes_nothing, is_arrival, arrivals_last, steps_ahead, is_step, is_between, whole_step, steps_of, ArePlain, steps_joined, SameActs}
@@ -161,23 +161,19 @@ many (suc q) n x =
     subst (λ k. Alike (replicate (suc q) (whole_step n) ++ x) (whole_step k ∷ x)) next (then (behind (whole_step n) _ _ (many q n x)) (two_steps n (q * n) x))
 
 steps_alike : (n : ℕ) (x : List Exchange) → Alike (steps_of n ++ x) (whole_step n ∷ x)
-steps_alike n x = cond_both (n % 65535 == 0) [] (whole_step (n % 65535) ∷ []) (λ l. Alike ((whole_steps ++ l) ++ x) (whole_step n ∷ x)) even uneven
+steps_alike n x =
+    let all : n / 65535 * 65535 + n % 65535 ≡ n = omega arith in
+    subst (λ l. Alike l (whole_step n ∷ x)) (sym (append_assoc (replicate (n / 65535) (whole_step 65535)) last x))
+    (subst (λ k. Alike (replicate (n / 65535) (whole_step 65535) ++ (last ++ x)) (whole_step k ∷ x)) all
+    (then (all_behind (replicate (n / 65535) (whole_step 65535)) (last ++ x) (whole_step (n % 65535) ∷ x) last_alike)
+    (then (many (n / 65535) 65535 (whole_step (n % 65535) ∷ x)) (two_steps (n / 65535 * 65535) (n % 65535) x))))
   where
-    whole_steps : List Exchange
-    whole_steps = replicate (n / 65535) (whole_step 65535)
+    last : List Exchange
+    last = cond (n % 65535 == 0) [] (whole_step (n % 65535) ∷ [])
 
-    even : (n % 65535 == 0) ≡ true → Alike ((whole_steps ++ []) ++ x) (whole_step n ∷ x)
-    even h =
-        let none : n % 65535 ≡ 0 = eqb-true _ _ h in
-        let all : n / 65535 * 65535 ≡ n = omega arith in
-        subst (λ l. Alike (l ++ x) (whole_step n ∷ x)) (sym (append-nil whole_steps)) (subst (λ k. Alike (whole_steps ++ x) (whole_step k ∷ x)) all (many (n / 65535) 65535 x))
-
-    uneven : (n % 65535 == 0) ≡ false → Alike ((whole_steps ++ whole_step (n % 65535) ∷ []) ++ x) (whole_step n ∷ x)
-    uneven h =
-        let all : n / 65535 * 65535 + n % 65535 ≡ n = omega arith in
-        let rest = whole_step (n % 65535) ∷ x in
-        subst (λ l. Alike l (whole_step n ∷ x)) (sym (append_assoc whole_steps (whole_step (n % 65535) ∷ []) x))
-        (subst (λ k. Alike (whole_steps ++ rest) (whole_step k ∷ x)) all (then (many (n / 65535) 65535 rest) (two_steps (n / 65535 * 65535) (n % 65535) x)))
+    last_alike : Alike (last ++ x) (whole_step (n % 65535) ∷ x)
+    last_alike = cond_both (n % 65535 == 0) [] (whole_step (n % 65535) ∷ []) (λ l. Alike (l ++ x) (whole_step (n % 65535) ∷ x))
+        (λ h. subst (λ k. Alike x (whole_step k ∷ x)) (sym (eqb-true _ _ h)) (back (no_step x))) (λ h. same (whole_step (n % 65535) ∷ x))
 
 plain_step : (k d : ℕ) (m : Option FaultAfter) (x : List Exchange) → m ≡ None → Alike (whole_step d ∷ x) ((StepBy k, m, Stepped d) ∷ x)
 plain_step k d m x h = subst (λ m. Alike (whole_step d ∷ x) ((StepBy k, m, Stepped d) ∷ x)) (sym h) (record { ahead = refl; script = refl; ends = refl; does = refl })

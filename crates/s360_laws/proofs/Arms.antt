@@ -138,36 +138,32 @@ arm_stays m (e ∷ es) u arm arm_now sound h o k = go (ends_owing u t) refl k
 
 -- The lowest of the devices whose arms have arrived.
 
-abbrev Least : List Device → ℕ → Type 0
-Least vs d = (c : ℕ) × (lowest (filter has_arrived vs) ≡ Some c) × (c ≤ d)
+abbrev Least : Option ℕ → ℕ → Type 0
+Least l d = (c : ℕ) × (l ≡ Some c) × (c ≤ d)
 
-least : (vs : List Device) (d : ℕ) → option_map (λ v. v.arm) (find (λ v. v.device == d) vs) ≡ Some Arrived → Least vs d
+lower_one : (b : ℕ) (l : Option ℕ) → Least (lower b l) b
+lower_one b None = (b, refl, omega arith)
+lower_one b (Some e) = cond_both (nat_lt b e) (Some b) (Some e) (λ y. Least y b) (λ k. (b, refl, omega arith)) (λ k. (e, refl, ltb-false b e k))
+
+lower_other : (b d : ℕ) (l : Option ℕ) → Least l d → Least (lower b l) d
+lower_other b d l (c, k, n) = subst (λ l. Least (lower b l) d) (sym k)
+    (cond_both (nat_lt b c) (Some b) (Some c) (λ y. Least y d) (λ k. (b, refl, let less = ltb-true b c k in omega arith)) (λ k. (c, refl, n)))
+
+least : (vs : List Device) (d : ℕ) → option_map (λ v. v.arm) (find (λ v. v.device == d) vs) ≡ Some Arrived → Least (lowest (filter has_arrived vs)) d
 least [] d h = absurd (cc)
-least (v ∷ vs) d h = go v.arm refl (v.device == d) refl h (least vs d)
+least (v ∷ vs) d h = cond_both (v.device == d) (Some v) (find (λ v. v.device == d) vs) (λ y. option_map (λ v. v.arm) y ≡ Some Arrived → Chosen v.arm)
+    (λ e q. let arm : v.arm ≡ Arrived = cc in subst Chosen (sym arm) (subst (Least (lower v.device rest)) (eqb-true _ _ e) (lower_one v.device rest)))
+    (λ e q. other v.arm (least vs d q)) h
   where
-    -- the lower of the first and the lowest of the rest
-    with_one : (b : ℕ) (l : Option ℕ) → (c : ℕ) × (lower b l ≡ Some c) × (c ≤ b)
-    with_one b None = (b, refl, omega arith)
-    with_one b (Some e) = cond_both (nat_lt b e) (Some b) (Some e) (λ y. (c : ℕ) × (y ≡ Some c) × (c ≤ b)) (λ k. (b, refl, omega arith)) (λ k. (e, refl, ltb-false b e k))
-
-    with_other : (b d : ℕ) (l : Option ℕ) → (c : ℕ) × (l ≡ Some c) × (c ≤ d) → (c : ℕ) × (lower b l ≡ Some c) × (c ≤ d)
-    with_other b d l (c, k, n) = subst (λ l. (c : ℕ) × (lower b l ≡ Some c) × (c ≤ d)) (sym k)
-        (cond_both (nat_lt b c) (Some b) (Some c) (λ y. (c : ℕ) × (y ≡ Some c) × (c ≤ d)) (λ k. (b, refl, let less = ltb-true b c k in omega arith)) (λ k. (c, refl, n)))
-
-    Found : Bool → Type 0
-    Found b = option_map (λ v. v.arm) (cond b (Some v) (find (λ v. v.device == d) vs)) ≡ Some Arrived
+    rest : Option ℕ
+    rest = lowest (filter has_arrived vs)
 
     Chosen : Arm → Type 0
-    Chosen arm = (c : ℕ) × (lowest (cond (has_arrived (record v { arm = arm })) (v ∷ filter has_arrived vs) (filter has_arrived vs)) ≡ Some c) × (c ≤ d)
+    Chosen arm = Least (lowest (cond (has_arrived (record v { arm = arm })) (v ∷ filter has_arrived vs) (filter has_arrived vs))) d
 
-    as_far : (c : ℕ) × (lower v.device (lowest (filter has_arrived vs)) ≡ Some c) × (c ≤ v.device) → v.device ≡ d → Chosen Arrived
-    as_far (c, k, n) e = (c, k, subst (λ d. c ≤ d) e n)
-
-    go : (arm : Arm) → v.arm ≡ arm → (b : Bool) → (v.device == d) ≡ b → Found b → (Found false → Least vs d) → Chosen arm
-    go Arrived a true k h rest = as_far (with_one v.device (lowest (filter has_arrived vs))) (eqb-true _ _ k)
-    go Arrived a false k h rest = with_other v.device d (lowest (filter has_arrived vs)) (rest h)
-    go arm a true k h rest = absurd (cc)
-    go arm a false k h rest = rest h
+    other : (arm : Arm) → Least rest d → Chosen arm
+    other Arrived r = lower_other v.device d rest r
+    other arm r = r
 
 pub arrived_interrupts : ArrivedInterrupts
 arrived_interrupts m x device sound is_idle low = go m.subchannel is_idle (least m.devices device low.arrived)
@@ -175,7 +171,7 @@ arrived_interrupts m x device sound is_idle low = go m.subchannel is_idle (least
     the_arm : (c : ℕ) → Lowest c m.devices → option_map (λ v. v.arm) (device_at m c) ≡ Some Arrived
     the_arm c (v, at, arm) = ap (option_map (λ v. v.arm)) at ∙ ap Some arm
 
-    go : (s : Subchannel) → s ≡ Idle → Least m.devices device → (react Interrupt x (record m { subchannel = s })).0 ≡ Interrupted (Some (address_of m device, csw_of_unit DEVICE_END))
+    go : (s : Subchannel) → s ≡ Idle → Least (lowest (filter has_arrived m.devices)) device → (react Interrupt x (record m { subchannel = s })).0 ≡ Interrupted (Some (address_of m device, csw_of_unit DEVICE_END))
     go Idle e (c, k, n) =
         let low_enough = low.lowest c (the_arm c (lowest_found m.devices sound.0 c k)) in
         let same : c ≡ device = omega arith in
