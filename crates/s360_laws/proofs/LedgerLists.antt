@@ -261,12 +261,15 @@ fine_by m x (StepEnds d s k w used st e h) ds z =
     (o.apart, o.rest, λ u. (o.channel_end u, o.device_end u, λ b. absurd (cc)))
 fine_by m x (StepGoes d s k w seen h) ds z = (ds, z, λ u. nothing _ _)
 fine_by m x (Asks d s w csw h) ds z =
-    let g : csw.unit ≡ no_unit_status = subst AsksGood h (good_stands m d s w).1 in
-    (ds, z, λ u. (
-      ap (λ k. cond ((address_of m d == u) && tells k CHANNEL_END) 1 0 + owes_channel_end u (working m d s)) g ∙ silent (address_of m d == u) _,
-      ap (λ k. cond ((address_of m d == u) && tells k DEVICE_END) 1 0 + owes_device_end u (working m d s)) g ∙ silent (address_of m d == u) _,
-      λ b. absurd (cc),
-    ))
+    let g : csw.unit ≡ no_unit_status = subst AsksGood h (good_stands m d s w).1 in (
+      ds,
+      z,
+      λ u. (
+        ap (λ k. cond ((address_of m d == u) && tells k CHANNEL_END) 1 0 + owes_channel_end u (working m d s)) g ∙ silent (address_of m d == u) _,
+        ap (λ k. cond ((address_of m d == u) && tells k DEVICE_END) 1 0 + owes_device_end u (working m d s)) g ∙ silent (address_of m d == u) _,
+        λ b. absurd (cc),
+      ),
+    )
 fine_by m x (Within d s w (Bytes at bytes)) ds z = (ds, z, λ u. nothing _ _)
 fine_by m x (Within d s w (KeyOf at key)) ds z = (ds, z, λ u. nothing _ _)
 
