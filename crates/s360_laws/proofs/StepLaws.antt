@@ -11,10 +11,9 @@ use Rattle.s360_runs.proofs.Walks.{ended_stays, units_in_two}
 use Rattle.s360_laws.specs.Events.{FaultAfter, Answer, StepBy, Stepped}
 use Rattle.s360_laws.specs.History.{Runs}
 use Rattle.s360_laws.specs.Machine.{units_failing, units_with, Machine, react, run_of, start_of, stepped, Subchannel, Working, is_working, with_subchannel}
-use Rattle.s360_laws.specs.Soundness.{IsRunning}
 use Rattle.s360_laws.specs.Steps.{after_units, units_of, StepsJoin, StepsSplit, StepsAtMost}
 use Rattle.s360_laws.proofs.FindDevices.{working, by_device}
-use Rattle.s360_laws.proofs.Reactions.{Stands, stands_in}
+use Rattle.s360_laws.proofs.Reactions.{Stands, stands_in, run_is}
 use Rattle.s360_laws.proofs.Serial.{good}
 use Rattle.s360_laws.proofs.StepUnits.{ended_in, units_count}
 pub use Rattle.s360_laws.proofs.FindDevices.{run_at, working_device}
@@ -73,12 +72,9 @@ joins m j k x r = go m.subchannel r
 
 -- Lists of steps.
 
-none_first : (m : Machine) (d : ℕ) (s : Script) → (o : Option Outcome) → IsRunning o → (working m d s ≡ (stepped d s 0 (working m d s) o).1) × ((stepped d s 0 (working m d s) o).0 ≡ Stepped 0)
-none_first m d s (Some (NotEnded st)) r = (ap (working m d) (sym (append-nil s)), refl)
-none_first m d s o r = absurd r
-
-no_step : (m : Machine) (c : Subchannel) → Runs m c → (record m { subchannel = c } ≡ (react (StepBy 0) None (record m { subchannel = c })).1) × ((react (StepBy 0) None (record m { subchannel = c })).0 ≡ Stepped 0)
-no_step m (Working d s) r = none_first m d s (run_of m d (s ++ [])) (subst (λ l. IsRunning (run_of m d l)) (sym (append-nil s)) r)
+no_step : (m : Machine) (c : Subchannel) → Runs m c → (with_subchannel c m ≡ (react (StepBy 0) None (with_subchannel c m)).1) × ((react (StepBy 0) None (with_subchannel c m)).0 ≡ Stepped 0)
+no_step m (Working d s) r = subst (λ o. (working m d s ≡ (stepped d s 0 (working m d s) o).1) × ((stepped d s 0 (working m d s) o).0 ≡ Stepped 0))
+    (sym (ap (run_of m d) (append-nil s) ∙ run_is m d s (stands_in m d s r))) (ap (working m d) (sym (append-nil s)), refl)
 no_step m c r = (refl, refl)
 
 pub splits : StepsSplit
