@@ -7,8 +7,7 @@ use Rattle.s360_laws.specs.Machine.{Machine, after_all}
 use Rattle.s360_laws.specs.Soundness.{IsSound}
 use Rattle.s360_laws.specs.Steps.{FaultDoes}
 use Rattle.s360_laws.proofs.Arms.{arm_stays}
-use Rattle.s360_laws.proofs.Held.{held_until_stored}
-use Rattle.s360_laws.proofs.LedgerLists.{at_most_once, channel_end_first, ends_pend, exactly_once, sound_parts, stays_sound}
+use Rattle.s360_laws.proofs.LedgerLists.{held_until_stored, at_most_once, channel_end_first, ends_pend, exactly_once, sound_parts, stays_sound}
 use Rattle.s360_laws.proofs.MachineFaults.{fault_ends_halt, fault_ends_step, fault_told_by_reset}
 use Rattle.s360_laws.proofs.NoFaultTold.{no_fault_none_told}
 use Rattle.s360_laws.proofs.Serial.{serial}

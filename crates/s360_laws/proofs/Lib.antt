@@ -5,7 +5,6 @@ pub mod FindDevices
 pub mod LedgerLists
 pub mod StepLaws
 pub mod AlikeLists
-pub mod Held
 pub mod MachineFaults
 pub mod NoFaultTold
 pub mod Headlines

@@ -70,7 +70,7 @@ pub fn no_start_while_working()
 
 /// While the channel end of a program that ended is owed: Start I/O to each device, and Test I/O to each other device,
 /// answer 2, Test Channel 1, and the next interruption gives it; over every list of events until it is stored or reset.
-#[tactic(auto, using(crate::proofs::Held::held_until_stored))]
+#[tactic(auto, using(crate::proofs::LedgerLists::held_until_stored))]
 pub fn held_until_stored()
     ensures { HeldUntilStored }
 {}
