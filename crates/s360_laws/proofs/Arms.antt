@@ -124,17 +124,11 @@ still_owes false false arm k o = o
 
 pub arm_stays : ArmStays
 arm_stays m [] u arm arm_now sound h o k = h ∙ k
-arm_stays m (e ∷ es) u arm arm_now sound h o k = go (ends_owing u t) refl k
-    (λ b. arm_stays (react e.0 e.1 m).1 es u (arm_next u t arm) arm_now (stays m e.0 e.1 sound) (arm_follows m e u arm sound h o) (still_owes (ends_owing u t) (arrives u t) arm b o))
-  where
-    t : Exchange
-    t = (e.0, e.1, (react e.0 e.1 m).0)
-
-    go : (b : Bool) → ends_owing u t ≡ b → cond b None (arm_along u (exchanges es (react e.0 e.1 m).1) (arm_next u t arm)) ≡ Some arm_now
-        → (ends_owing u t ≡ false → arm_along u (exchanges es (react e.0 e.1 m).1) (arm_next u t arm) ≡ Some arm_now → arm_for (after_all es (react e.0 e.1 m).1) u ≡ Some arm_now)
-        → arm_for (after_all es (react e.0 e.1 m).1) u ≡ Some arm_now
-    go true b k rest = absurd (cc)
-    go false b k rest = rest b k
+arm_stays m (e ∷ es) u arm arm_now sound h o k =
+    let next = (react e.0 e.1 m).1 in
+    let t : Exchange = (e.0, e.1, (react e.0 e.1 m).0) in
+    cond_both (ends_owing u t) None (arm_along u (exchanges es next) (arm_next u t arm)) (λ y. y ≡ Some arm_now → arm_for (after_all es next) u ≡ Some arm_now) (λ b q. absurd (cc))
+    (λ b. arm_stays next es u (arm_next u t arm) arm_now (stays m e.0 e.1 sound) (arm_follows m e u arm sound h o) (still_owes (ends_owing u t) (arrives u t) arm b o)) k
 
 -- The lowest of the devices whose arms have arrived.
 

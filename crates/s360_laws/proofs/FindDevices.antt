@@ -1,4 +1,4 @@
--- Numbers, tests and devices that are found by their addresses.
+-- Numbers, tests and devices that are found by their addresses; and a machine in each state of its subchannel.
 use Rattle.std.proofs.Common.{subst, ◌≡◌, ℕ, ◌+◌, ◌*◌, ◌/◌, ◌%◌, refl, sym, ap, ◌∙◌, arith, true, false, Bool, cond, ◌==◌, List, [], ◌∷◌, map, Option, Some, None}
 use Rattle.std.proofs.lemmas.Bool.{ne_eqb, eq-eqb, eqb-true, eqb-false, cond_both}
 use Rattle.std.specs.Prelude.{find, option_map}
@@ -35,7 +35,8 @@ has_found p (v ∷ vs) = cond_both (p v) (Some v) (find p vs) (Has p) (λ e. e) 
 
 pub found_is : {X : Type 0} (p : X → Bool) (xs : List X) (x : X) → find p xs ≡ Some x → p x ≡ true
 found_is p [] x h = absurd (cc)
-found_is p (y ∷ ys) x h = cond_both (p y) (Some y) (find p ys) (λ o. o ≡ Some x → p x ≡ true) (λ e q. let same : y ≡ x = cc in sym (ap p same) ∙ e) (λ e q. found_is p ys x q) h
+found_is p (y ∷ ys) x h = cond_both (p y) (Some y) (find p ys) (λ o. o ≡ Some x → p x ≡ true)
+    (λ e q. let same : y ≡ x = cc in sym (ap p same) ∙ e) (λ e q. found_is p ys x q) h
 
 pub found_same : (n d : ℕ) (vs : List Device) → find (λ v. 256 * n + v.device == 256 * n + d) vs ≡ find (λ v. v.device == d) vs
 found_same n d [] = refl

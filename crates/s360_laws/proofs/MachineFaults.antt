@@ -119,7 +119,8 @@ module _ (m : Machine) (d : ℕ) (s : Script) (w : Stands m d s) where
   halt_faults : (x : FaultAfter) (b : Bool) → FaultOr (λ r. EndedByFault r (WithCode Two)) (cond b (WithCode Two, cut (Some x.fault) d (working m d s) (run_of m d s)) (WithCode Three, working m d s))
       (cond b (WithCode Two, cut None d (working m d s) (run_of m d s)) (WithCode Three, working m d s))
   halt_faults x true = subst (λ o. FaultOr (λ r. EndedByFault r (WithCode Two)) (WithCode Two, cut (Some x.fault) d (working m d s) o) (WithCode Two, cut None d (working m d s) o)) (sym (run_is m d s w))
-      (cut_faults x.fault (λ e. (WithCode Two, ended d w.seen.storage e m)) (λ r. EndedByFault r (WithCode Two)) (λ left is h. over_by_fault w.seen.storage (w.seen.cut (Some x.fault)) (WithCode Two) x.fault (w.seen.cut None).drive h))
+      (cut_faults x.fault (λ e. (WithCode Two, ended d w.seen.storage e m)) (λ r. EndedByFault r (WithCode Two))
+      (λ left is h. over_by_fault w.seen.storage (w.seen.cut (Some x.fault)) (WithCode Two) x.fault (w.seen.cut None).drive h))
   halt_faults x false = inl refl
 
   told_by_reset : (f : Fault) (left : List ℕ) → f ≡ SaveFails left → EndsByFault f (w.seen.cut None).drive (w.seen.cut (Some f))
@@ -138,8 +139,11 @@ module _ (m : Machine) (d : ℕ) (s : Script) (w : Stands m d s) where
       }
 
   reset_faults : (x : FaultAfter) → FaultOr (ToldByReset (working m d s)) (react Reset (Some x) (working m d s)) (react Reset None (working m d s))
-  reset_faults x = subst (λ o. FaultOr (ToldByReset (working m d s)) (WasReset (unsaved_at (address_of m d) (Some x.fault) o), all_at_rest (cut (Some x.fault) d (working m d s) o)) (WasReset (unsaved_at (address_of m d) None o), all_at_rest (cut None d (working m d s) o))) (sym (run_is m d s w))
-      (cut_faults x.fault (λ e. (WasReset (option_map (λ t. (address_of m d, t.0, t.1)) e.unsaved), all_at_rest (ended d w.seen.storage e m))) (ToldByReset (working m d s)) (λ left is h. told_by_reset x.fault left is h))
+  reset_faults x = subst (λ o. FaultOr (ToldByReset (working m d s))
+      (WasReset (unsaved_at (address_of m d) (Some x.fault) o), all_at_rest (cut (Some x.fault) d (working m d s) o)) (WasReset (unsaved_at (address_of m d) None o), all_at_rest (cut None d (working m d s) o)))
+      (sym (run_is m d s w))
+      (cut_faults x.fault (λ e. (WasReset (option_map (λ t. (address_of m d, t.0, t.1)) e.unsaved), all_at_rest (ended d w.seen.storage e m))) (ToldByReset (working m d s))
+      (λ left is h. told_by_reset x.fault left is h))
 
 -- Each event.
 

@@ -1,4 +1,5 @@
--- What an event may do to a machine, case by case: each law of one event is a function of these cases.
+-- What an event may do to a machine, case by case: each law of one event is a function of these cases. A program that runs is
+-- `Stands`: its device, that it is there, and where its run stands; a device that a command names is `IsAt` its address.
 use Rattle.std.proofs.Common.{Bool, cond, ◌≡◌, ℕ, ◌-◌, ◌/◌, ◌%◌, refl, sym, ap, subst, ◌∙◌, true, false, ◌==◌, [], ◌∷◌, ◌++◌, Option, Some, None}
 use Rattle.std.proofs.lemmas.Bool.{cond_both, eqb-true}
 use Rattle.std.specs.Prelude.{option_map, is_some, filter}

@@ -1,6 +1,7 @@
 -- Event by event, the machine does what its acts do.
 use Rattle.std.proofs.Common.{◌≡◌, ℕ, refl, sym, ap, ◌∙◌, true, false, Bool, cond, ◌==◌, List, [], ◌∷◌, ◌++◌, map, Option, ◌%◌, subst, Some, None, ◌⊎◌, inl, inr, zero, suc, ◌-◌, append_assoc, append-nil}
 use Rattle.std.proofs.lemmas.Bool.{cond_both}
+use Rattle.std.proofs.lemmas.List.{map-id}
 use Rattle.std.specs.Prelude.{find, option_map}
 use Rattle.s360_words.specs.Storage.{Change, status_stored, Bytes, KeyOf, csw_stored, Storage, changed}
 use Rattle.s360_words.specs.declared.flags.TheConstants.UnitStatus.{DEVICE_END, UNIT_CHECK, CHANNEL_END}
@@ -40,10 +41,7 @@ seen_cond true x y = refl
 seen_cond false x y = refl
 
 arms : (arm : Arm) (device : ℕ) (us : List Device) → map seen (map (λ u. cond (u.device == device) (set_arm arm u) u) us) ≡ map seen us
-arms arm device [] = refl
-arms arm device (u ∷ us) =
-    ap (λ x. x ∷ map seen (map (λ u. cond (u.device == device) (set_arm arm u) u) us)) (cond_both (u.device == device) (set_arm arm u) u (λ v. seen v ≡ seen u) (λ e. refl) (λ e. refl))
-    ∙ ap (λ r. seen u ∷ r) (arms arm device us)
+arms arm device us = seen_map _ (λ p. p) (λ u. cond_both (u.device == device) (set_arm arm u) u (λ v. seen v ≡ seen u) (λ e. refl) (λ e. refl)) us ∙ map-id (map seen us)
 
 ends : (arm : Arm) (d : IdleDrive) (device : ℕ) (us : List Device) → map seen (map (λ u. cond (u.device == device) (set_both arm d u) u) us) ≡ with_drive device d (map seen us)
 ends arm d device us = seen_map _ _ (λ u. seen_cond (u.device == device) (set_both arm d u) u) us

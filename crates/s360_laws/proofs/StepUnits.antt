@@ -1,4 +1,4 @@
--- The units of a step, and the programs that end in one.
+-- The units of a step, the programs that end in one, and scripts as they are read off a list of events and answers.
 use Rattle.std.proofs.Common.{◌≡◌, ℕ, zero, suc, ◌+◌, ◌-◌, refl, sym, ap, ◌∙◌, arith, zero-add, suc-add, [], ◌∷◌, ◌++◌, length, Option, Some, None, List}
 use Rattle.s360_words.specs.Storage.{Storage}
 use Rattle.ckd_command.specs.Drive.{Fault}
