@@ -11,10 +11,10 @@ use Rattle.s360_runs.specs.Units.{ProgramPhase}
 use Rattle.s360_runs.proofs.FaultsMet.{fault_ends_cut, run_by_fault}
 use Rattle.s360_runs.proofs.Standing.{stands_somewhere}
 use Rattle.s360_runs.proofs.Walks.{units_in_two, ended_stays}
-use Rattle.s360_laws.specs.Events.{Answer, FaultAfter, Stepped, StepBy, WithCode, Hio, WasReset, Reset}
+use Rattle.s360_laws.specs.Events.{Answer, FaultAfter, Stepped, StepBy, WithCode, Hio, WasReset, Reset, Event}
 use Rattle.s360_laws.specs.History.{Runs}
 use Rattle.s360_laws.specs.Machine.{cut, ended, units_failing, Machine, arm_after, stepped, start_of, react, Subchannel, Working, run_of, unsaved_at, address_of, all_at_rest, at_rest, with_subchannel}
-use Rattle.s360_laws.specs.Steps.{EndedByFault, FaultEndsStep, FaultEndsHalt, ToldByReset, FaultToldByReset, OthersMeetNone}
+use Rattle.s360_laws.specs.Steps.{EndedByFault, FaultEndsStep, FaultEndsHalt, ToldByReset, FaultToldByReset, OthersMeetNone, FaultDoes}
 use Rattle.s360_laws.specs.declared.condition.ConditionCode.TheVariants.{Two, Three}
 use Rattle.s360_laws.proofs.FindDevices.{changed_device, found_map, set_both, run_at, working, by_device}
 use Rattle.s360_laws.proofs.Reactions.{Stands, stands_in, run_is}
@@ -147,26 +147,26 @@ module _ (m : Machine) (d : ℕ) (s : Script) (w : Stands m d s) where
 
 -- Each event.
 
-pub fault_ends_step : FaultEndsStep
-fault_ends_step m k x r = go m.subchannel r
+pub fault_does : (m : Machine) (e : Event) (x : FaultAfter) → Runs m m.subchannel → FaultDoes m e x
+fault_does m e x r = go m.subchannel e r
   where
-    go : (c : Subchannel) → Runs m c → FaultOr (λ r. EndedByFault r (Stepped (suc x.units))) (react (StepBy k) (Some x) (with_subchannel c m)) (react (StepBy k) None (with_subchannel c m))
-    go (Working d s) r = step_faults m d s (stands_in m d s r) k x
-    go c r = inl refl
+    go : (c : Subchannel) (e : Event) → Runs m c → FaultDoes (with_subchannel c m) e x
+    go (Working d s) (StepBy k) r = step_faults m d s (stands_in m d s r) k x
+    go (Working d s) (Hio a) r = halt_faults m d s (stands_in m d s r) x (a / 256 == m.channel)
+    go (Working d s) Reset r = reset_faults m d s (stands_in m d s r) x
+    go c (StepBy k) r = inl refl
+    go c (Hio a) r = inl refl
+    go c Reset r = inl refl
+    go c e r = refl
+
+pub fault_ends_step : FaultEndsStep
+fault_ends_step m k x = fault_does m (StepBy k) x
 
 pub fault_ends_halt : FaultEndsHalt
-fault_ends_halt m a x r = go m.subchannel r
-  where
-    go : (c : Subchannel) → Runs m c → FaultOr (λ r. EndedByFault r (WithCode Two)) (react (Hio a) (Some x) (with_subchannel c m)) (react (Hio a) None (with_subchannel c m))
-    go (Working d s) r = halt_faults m d s (stands_in m d s r) x (a / 256 == m.channel)
-    go c r = inl refl
+fault_ends_halt m a x = fault_does m (Hio a) x
 
 pub fault_told_by_reset : FaultToldByReset
-fault_told_by_reset m x r = go m.subchannel r
-  where
-    go : (c : Subchannel) → Runs m c → FaultOr (ToldByReset (with_subchannel c m)) (react Reset (Some x) (with_subchannel c m)) (react Reset None (with_subchannel c m))
-    go (Working d s) r = reset_faults m d s (stands_in m d s r) x
-    go c r = inl refl
+fault_told_by_reset m x = fault_does m Reset x
 
 pub others_meet_none : OthersMeetNone
 others_meet_none m (Hio a) x h = absurd (cc)
