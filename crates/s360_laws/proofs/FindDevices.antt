@@ -16,6 +16,7 @@ use Rattle.s360_laws.specs.declared.arm.Arm.{Arm}
 pub different : (a b : ℕ) → (a ≡ b → ⊥) → (a == b) ≡ false
 different a b f = ne_eqb a b f
 
+-- two tests of numbers that hold together
 same_test : (a b c d : ℕ) → (a ≡ b → c ≡ d) → (c ≡ d → a ≡ b) → (a == b) ≡ (c == d)
 same_test a b c d f g = go (c == d) refl
   where
@@ -33,6 +34,7 @@ pub has_found : (p : Device → Bool) (vs : List Device) → Has p (find p vs)
 has_found p [] = tt
 has_found p (v ∷ vs) = cond_both (p v) (Some v) (find p vs) (Has p) (λ e. e) (λ e. has_found p vs)
 
+-- what is found passes the test
 pub found_is : {X : Type 0} (p : X → Bool) (xs : List X) (x : X) → find p xs ≡ Some x → p x ≡ true
 found_is p [] x h = absurd (cc)
 found_is p (y ∷ ys) x h = cond_both (p y) (Some y) (find p ys) (λ o. o ≡ Some x → p x ≡ true)

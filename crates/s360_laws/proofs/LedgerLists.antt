@@ -58,6 +58,7 @@ silent : (b : Bool) (c : ℕ) → cond (b && false) 1 0 + c ≡ c
 silent true c = zero-add c
 silent false c = zero-add c
 
+-- what tells nothing leaves all owed
 all_false : {P : Type 0} (r a c d : Bool) (n k : ℕ) → r ≡ false → a ≡ false → c ≡ false → d ≡ false
     → (cond c 1 0 + n ≡ cond r 0 (cond a 1 n)) × (cond d 1 0 + k ≡ cond r 0 (cond a 1 k)) × (a ≡ true → P)
 all_false false false false false n k hr ha hc hd = nothing n k
@@ -68,6 +69,7 @@ end_owes : (c motion : Bool) → c ≡ not motion → cond c 1 0 + arm_owes (con
 end_owes c true h = ap (λ c. cond c 1 0 + 1) h
 end_owes c false h = ap (λ c. cond c 1 0 + 0) h
 
+-- a change of one device keeps addresses apart
 distinct : (m : Machine) (d : ℕ) (f : Device → Device) → Keeps f → AreDistinct m.devices → AreDistinct (with_device d f m).devices
 distinct m d f k h = distinct_map _ (keeps_one d f k) m.devices h
 

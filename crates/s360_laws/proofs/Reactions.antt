@@ -88,6 +88,7 @@ pub data Reacts (m : Machine) (x : Option FaultAfter) : Subchannel → Event →
   Within : (d : ℕ) (s : Script) (w : Stands m d s) (made : Change) → Reacts m x (Working d s) (event_of made) (WasKept true, goes_on d s (Outside made ∷ []) m)
 
 module _ (m : Machine) (x : Option FaultAfter) where
+  -- an address of another channel is that of no device
   on : (c : Subchannel) (e : Event) (a : ℕ) (y : Answer × Machine) → changes_nothing (e, x, WithCode Three) ≡ true → (address_of m (a % 256) ≡ a → Reacts m x c e y)
       → Reacts m x c e (on_channel a (with_subchannel c m) y)
   on c e a y n h = cond_both (a / 256 == m.channel) y _ (Reacts m x c e) (λ k. h (whole m.channel a k)) (λ k. Same c e (WithCode Three) n tt)
