@@ -84,20 +84,6 @@ changed_device d f k vs v at =
     found_map (λ n. n == d) _ (keeps_one d f k) vs ∙ ap (option_map (λ w. cond (w.device == d) (f w) w)) at
     ∙ ap (λ b. Some (cond b (f v) v)) (found_is (λ w. w.device == d) vs v at)
 
--- the device of an address, after a change of one device
-pub device_after : (n d u : ℕ) (f : Device → Device) → Keeps f → (vs : List Device)
-    → find (λ v. 256 * n + v.device == u) (map (λ v. cond (v.device == d) (f v) v) vs)
-    ≡ cond (256 * n + d == u) (option_map f (find (λ v. 256 * n + v.device == u) vs)) (find (λ v. 256 * n + v.device == u) vs)
-device_after n d u f k vs = found_map (λ d. 256 * n + d == u) _ (keeps_one d f k) vs ∙ go (find (λ v. 256 * n + v.device == u) vs) (has_found (λ v. 256 * n + v.device == u) vs)
-  where
-    go : (x : Option Device) → Has (λ v. 256 * n + v.device == u) x → option_map (λ v. cond (v.device == d) (f v) v) x ≡ cond (256 * n + d == u) (option_map f x) x
-    go None h = cond_both (256 * n + d == u) None None (λ y. None ≡ y) (λ e. refl) (λ e. refl)
-    go (Some v) h = let is : 256 * n + v.device ≡ u = eqb-true _ _ h in side (v.device == d) ∙ ap (λ b. cond b (Some (f v)) (Some v)) (same_test v.device d (256 * n + d) u (λ e. omega arith) (λ e. omega arith))
-      where
-        side : (b : Bool) → Some (cond b (f v) v) ≡ cond b (Some (f v)) (Some v)
-        side true = refl
-        side false = refl
-
 -- the device at an address, by the low byte of it
 pub at_device : (m : Machine) (d u : ℕ) (y : Option Device) → address_of m d ≡ u → device_at m d ≡ y → device_for m u ≡ y
 at_device m d u y e h = ap (device_for m) (sym e) ∙ found_same m.channel d m.devices ∙ h

@@ -1,7 +1,7 @@
 -- What an event may do to a machine, case by case: each law of one event is a function of these cases. A program that runs is
 -- `Stands`: its device, that it is there, and where its run stands; a device that a command names is `IsAt` its address.
 use Rattle.std.proofs.Common.{Bool, cond, ◌≡◌, ℕ, ◌-◌, ◌/◌, ◌%◌, refl, sym, ap, subst, ◌∙◌, true, false, ◌==◌, [], ◌∷◌, ◌++◌, Option, Some, None}
-use Rattle.std.proofs.lemmas.Bool.{cond_both, eqb-true}
+use Rattle.std.proofs.lemmas.Bool.{cond_both, eqb-true, cond-true, cond-false, ne_eqb, eqb-false}
 use Rattle.std.specs.Prelude.{option_map, is_some, filter}
 use Rattle.s360_words.specs.Storage.{Storage, Change, Bytes, KeyOf, is_within}
 use Rattle.s360_words.specs.declared.flags.TheConstants.UnitStatus.{BUSY, DEVICE_END}
@@ -20,7 +20,7 @@ use Rattle.s360_laws.specs.Soundness.{device_for, IsRunning}
 use Rattle.s360_laws.specs.declared.arm.Arm.{Arm}
 use Rattle.s360_laws.specs.declared.arm.Arm.TheVariants.{AtRest, InMotion, Arrived}
 use Rattle.s360_laws.specs.declared.condition.ConditionCode.TheVariants.{Zero, Two, Three}
-use Rattle.s360_laws.proofs.FindDevices.{Keeps, at_device, device_after, idle, run_at, whole, working, working_device}
+use Rattle.s360_laws.proofs.FindDevices.{Keeps, at_device, idle, run_at, whole, working, working_device, found_map, keeps_one, found_is}
 
 -- a program that runs: its device, and where its run stands
 pub record Stands (m : Machine) (d : ℕ) (s : Script) : Type 0 where
@@ -48,11 +48,19 @@ pub record IsAt (m : Machine) (a d : ℕ) (v : Device) : Type 0 where
 pub changed_for : (m : Machine) (f : Device → Device) → Keeps f → (a d : ℕ) (v : Device) → IsAt m a d v → (u : ℕ) (P : Bool → Option Device → Option Device → Type 0)
     → P true (Some (f v)) (Some v) → ((y : Option Device) → P false y y) → P (a == u) (device_for (with_device d f m) u) (device_for m u)
 changed_for m f k a d v at u P here there = subst (λ a. P (a == u) (device_for (with_device d f m) u) (device_for m u)) at.address
-    (subst (λ y. P (address_of m d == u) y (device_for m u)) (sym (device_after m.channel d u f k m.devices)) (go (address_of m d == u) refl))
+    (subst (λ y. P (address_of m d == u) y (device_for m u)) (sym (found_map (λ d. address_of m d == u) one (keeps_one d f k) m.devices)) (go (address_of m d == u) refl (device_for m u) refl))
   where
-    go : (b : Bool) → (address_of m d == u) ≡ b → P b (cond b (option_map f (device_for m u)) (device_for m u)) (device_for m u)
-    go true q = subst (λ y. P true (option_map f y) y) (sym (at_device m d u (Some v) (eqb-true _ _ q) at.is_there)) here
-    go false q = there (device_for m u)
+    one : Device → Device
+    one w = cond (w.device == d) (f w) w
+
+    go : (b : Bool) → (address_of m d == u) ≡ b → (y : Option Device) → device_for m u ≡ y → P b (option_map one y) y
+    go true q y e = subst (λ y. P true (option_map one y) y) (sym (at_device m d u (Some v) (eqb-true _ _ q) at.is_there) ∙ e)
+        (subst (λ w. P true (Some w) (Some v)) (sym (cond-true (v.device == d) (f v) v (found_is (λ w. w.device == d) m.devices v at.is_there))) here)
+    go false q None e = there None
+    go false q (Some w) e = subst (λ x. P false (Some x) (Some w)) (sym (cond-false (w.device == d) (f w) w (ne_eqb _ _ apart))) (there (Some w))
+      where
+        apart : w.device ≡ d → ⊥
+        apart k = eqb-false _ _ q (ap (address_of m) (sym k) ∙ eqb-true _ _ (found_is (λ w. address_of m w.device == u) m.devices w e))
 
 -- the event by which the processor makes a change
 abbrev pub event_of : Change → Event
