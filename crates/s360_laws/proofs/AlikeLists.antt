@@ -1,22 +1,23 @@
 -- The acts of the serial list are the acts of the list.
-use Rattle.std.proofs.Common.{◌≡◌, ℕ, zero, suc, ◌+◌, ◌*◌, ◌/◌, ◌%◌, refl, sym, ap, subst, ◌∙◌, arith, true, false, Bool, not, ◌&&◌, ◌||◌, ◌==◌, List, [], ◌∷◌, ◌++◌, Option, Some, None, zero-add, append_assoc, append-nil}
+use Rattle.std.proofs.Common.{◌≡◌, ℕ, zero, suc, ◌+◌, ◌*◌, ◌/◌, ◌%◌, refl, sym, ap, subst, ◌∙◌, arith, true, false, Bool, not, ◌&&◌, ◌||◌, ◌==◌, List, [], ◌∷◌, ◌++◌, Option, Some, None, zero-add, append_assoc, append-nil, cond}
 use Rattle.std.proofs.lemmas.Bool.{and_parts, cond_both, eqb-true, not-false}
 use Rattle.std.specs.Prelude.{replicate, filter}
 use Rattle.s360_words.specs.Storage.{Change, csw_stored, Bytes, KeyOf}
+use Rattle.s360_words.specs.declared.flags.UnitStatus.{UnitStatus}
 use Rattle.s360_runs.specs.Scripts.{units, OneUnit}
-use Rattle.s360_laws.specs.Events.{Exchange, Hio, WithCode, Reset, Sio, StepBy, Stepped, Interrupt, Interrupted, Store, WasKept, SetKey, Tio, CswStored, StatusStored, Tch, HasArrived, Arrive, Show, FaultAfter}
+use Rattle.s360_laws.specs.Arms.{arrives}
+use Rattle.s360_laws.specs.Events.{Exchange, Hio, WithCode, Reset, Sio, StepBy, Stepped, Interrupt, Interrupted, Store, WasKept, SetKey, Tio, Tch, HasArrived, Arrive, Show, FaultAfter, CswStored, StatusStored}
 use Rattle.s360_laws.specs.History.{units_ahead, script_ahead, fate_ahead, acts, own_change, where_over, Changes, acts_of, Program, turns_of}
-use Rattle.s360_laws.specs.Machine.{units_with}
+use Rattle.s360_laws.specs.Ledger.{is_reset, is_accepted, stores_end}
 use Rattle.s360_laws.specs.SerialLists.{changes_nothing, is_arrival, arrivals_last, steps_ahead, is_step, is_between, whole_step, steps_of, ArePlain, steps_joined, SameActs}
 use Rattle.s360_laws.specs.declared.condition.ConditionCode.TheVariants.{Two, Zero}
-use Rattle.s360_laws.proofs.Ahead.{step_script, same_script}
-use Rattle.s360_laws.proofs.StepLaws.{plain_two}
+use Rattle.s360_laws.proofs.StepUnits.{no_units, step_script, same_script, plain_two}
 
-record Alike (x y : List Exchange) : Type 0 where
-  ahead : units_ahead x ≡ units_ahead y
-  script : script_ahead x ≡ script_ahead y
-  ends : fate_ahead x ≡ fate_ahead y
-  does : acts x ≡ acts y
+pub record Alike (x y : List Exchange) : Type 0 where
+  pub ahead : units_ahead x ≡ units_ahead y
+  pub script : script_ahead x ≡ script_ahead y
+  pub ends : fate_ahead x ≡ fate_ahead y
+  pub does : acts x ≡ acts y
 
 same : (x : List Exchange) → Alike x x
 same x = record { ahead = refl; script = refl; ends = refl; does = refl }
@@ -76,60 +77,64 @@ gone x t u s f a = record {
   does = ap (λ l. l ++ acts x) a;
 }
 
-left_out : (t : Exchange) (x : List Exchange) → changes_nothing t ≡ true → Alike (t ∷ x) x
-left_out (Sio a, m, WithCode Zero) x h = absurd (cc)
-left_out (Sio a, m, WithCode code) x h = gone x (Sio a, m, WithCode code) refl refl refl refl
-left_out (Tio a, m, WithCode n) x h = gone x (Tio a, m, WithCode n) refl refl refl refl
-left_out (Hio a, m, WithCode Two) x h = absurd (cc)
-left_out (Hio a, m, WithCode code) x h = gone x (Hio a, m, WithCode code) refl refl refl refl
-left_out (Tch, m, r) x h = gone x (Tch, m, r) refl refl refl refl
-left_out (StepBy k, m, Stepped zero) x h = gone x (StepBy k, m, Stepped zero) (zero-add (units_ahead x)) (none k m) refl refl
-  where
-    none : (k : ℕ) (m : Option FaultAfter) → units_with 0 m ≡ []
-    none k None = refl
-    none k (Some y) = refl
-left_out (Arrive a, m, HasArrived false) x h = gone x (Arrive a, m, HasArrived false) refl refl refl refl
-left_out (Interrupt, m, Interrupted None) x h = gone x (Interrupt, m, Interrupted None) refl refl refl refl
-left_out (Store at bytes, m, WasKept false) x h = gone x (Store at bytes, m, WasKept false) refl refl refl refl
-left_out (SetKey at key, m, WasKept false) x h = gone x (SetKey at key, m, WasKept false) refl refl refl refl
-left_out (Show at len, m, r) x h = gone x (Show at len, m, r) refl refl refl refl
-left_out t x h = absurd (cc)
+-- what changes nothing tells nothing to the ledger or of an arm, and may be left out
+abbrev pub Unmoved : Exchange → Type 0
+Unmoved t = ((u : ℕ) → (is_reset t ≡ false) × (is_accepted u t ≡ false) × ((end : UnitStatus) → stores_end end u t ≡ false) × (arrives u t ≡ false))
+    × ((x : List Exchange) → Alike (t ∷ x) x)
 
-filtered : (list : List Exchange) → Alike (filter (λ t. not (changes_nothing t)) list) list
-filtered [] = same []
-filtered (t ∷ list) =
+pub unmoved : (t : Exchange) → changes_nothing t ≡ true → Unmoved t
+unmoved (Sio a, m, WithCode Zero) h = absurd (cc)
+unmoved (Sio a, m, WithCode code) h = (λ u. (refl, refl, λ end. refl, refl), λ x. gone x (Sio a, m, WithCode code) refl refl refl refl)
+unmoved (Tio a, m, WithCode n) h = (λ u. (refl, refl, λ end. refl, refl), λ x. gone x (Tio a, m, WithCode n) refl refl refl refl)
+unmoved (Hio a, m, WithCode Two) h = absurd (cc)
+unmoved (Hio a, m, WithCode code) h = (λ u. (refl, refl, λ end. refl, refl), λ x. gone x (Hio a, m, WithCode code) refl refl refl refl)
+unmoved (Tch, m, r) h = (λ u. (refl, refl, λ end. refl, refl), λ x. gone x (Tch, m, r) refl refl refl refl)
+unmoved (StepBy k, m, Stepped zero) h = (λ u. (refl, refl, λ end. refl, refl), λ x. gone x (StepBy k, m, Stepped zero) (zero-add (units_ahead x)) (no_units 0 m refl) refl refl)
+unmoved (Arrive a, m, HasArrived false) h = (λ u. (refl, refl, λ end. refl, refl), λ x. gone x (Arrive a, m, HasArrived false) refl refl refl refl)
+unmoved (Interrupt, m, Interrupted None) h = (λ u. (refl, refl, λ end. refl, refl), λ x. gone x (Interrupt, m, Interrupted None) refl refl refl refl)
+unmoved (Store at bytes, m, WasKept false) h = (λ u. (refl, refl, λ end. refl, refl), λ x. gone x (Store at bytes, m, WasKept false) refl refl refl refl)
+unmoved (SetKey at key, m, WasKept false) h = (λ u. (refl, refl, λ end. refl, refl), λ x. gone x (SetKey at key, m, WasKept false) refl refl refl refl)
+unmoved (Show at len, m, r) h = (λ u. (refl, refl, λ end. refl, refl), λ x. gone x (Show at len, m, r) refl refl refl refl)
+unmoved t h = absurd (cc)
+
+-- alike, and of plain exchanges
+abbrev Plainly : List Exchange → List Exchange → Type 0
+Plainly x y = Alike x y × ArePlain x
+
+filtered : (list : List Exchange) → ArePlain list → Plainly (filter (λ t. not (changes_nothing t)) list) list
+filtered [] h = (same [], tt)
+filtered (t ∷ list) h =
     let rest = filter (λ t. not (changes_nothing t)) list in
-    cond_both (not (changes_nothing t)) (t ∷ rest) rest (λ l. Alike l (t ∷ list)) (λ h. behind t rest list (filtered list)) (λ h. then (filtered list) (back (left_out t list (not-false _ h))))
+    let r = filtered list h.1 in
+    cond_both (not (changes_nothing t)) (t ∷ rest) rest (λ l. Plainly l (t ∷ list)) (λ e. (behind t rest list r.0, (h.0, r.1))) (λ e. (then r.0 (back ((unmoved t (not-false _ e)).1 list)), r.1))
 
 -- Arrivals.
 
-arrival_gone : (t : Exchange) (x : List Exchange) → is_arrival t ≡ true → Alike (t ∷ x) x
+pub arrival_gone : (t : Exchange) (x : List Exchange) → is_arrival t ≡ true → Alike (t ∷ x) x
 arrival_gone (Arrive a, m, r) x h = gone x (Arrive a, m, r) refl refl refl refl
 arrival_gone t x h = absurd (cc)
 
+-- arrivals that are held back
 abbrev AreArrivals : List Exchange → Type 0
 AreArrivals [] = Unit {0}
-AreArrivals (t ∷ rest) = (is_arrival t ≡ true) × AreArrivals rest
+AreArrivals (t ∷ rest) = (is_arrival t ≡ true) × (t.1 ≡ None) × AreArrivals rest
 
-one_more : (held : List Exchange) (t : Exchange) → AreArrivals held → is_arrival t ≡ true → AreArrivals (held ++ t ∷ [])
-one_more [] t h k = (k, tt)
-one_more (a ∷ held) t h k = (h.0, one_more held t h.1 k)
+one_more : (held : List Exchange) (t : Exchange) → AreArrivals held → is_arrival t ≡ true → t.1 ≡ None → AreArrivals (held ++ t ∷ [])
+one_more [] t h k p = (k, p, tt)
+one_more (a ∷ held) t h k p = (h.0, h.1, one_more held t h.2 k p)
 
-held_gone : (held x : List Exchange) → AreArrivals held → Alike (held ++ x) x
-held_gone [] x h = same x
-held_gone (t ∷ held) x h = then (arrival_gone t (held ++ x) h.0) (held_gone held x h.1)
+held_gone : (held x y : List Exchange) → AreArrivals held → Plainly x y → Plainly (held ++ x) y
+held_gone [] x y h r = r
+held_gone (t ∷ held) x y h r = let k = held_gone held x y h.2 r in (then (arrival_gone t (held ++ x) h.0) k.0, (h.1, k.1))
 
-held_alone : (held : List Exchange) → AreArrivals held → Alike held []
-held_alone held h = subst (λ l. Alike l []) (append-nil held) (held_gone held [] h)
-
-shifted : (list : List Exchange) (inside : Bool) (held : List Exchange) → AreArrivals held → Alike (arrivals_last inside held list) list
-shifted [] inside held h = held_alone held h
-shifted (t ∷ rest) inside held h =
-    cond_both (is_arrival t && (inside && steps_ahead rest)) _ _ (λ l. Alike l (t ∷ rest))
-    (λ e. let a = (and_parts (is_arrival t) _ e).0 in then (shifted rest inside (held ++ t ∷ []) (one_more held t h a)) (back (arrival_gone t rest a)))
-    (λ e. cond_both (is_step t && not (steps_ahead rest)) _ _ (λ l. Alike l (t ∷ rest))
-    (λ e. behind t _ rest (then (held_gone held _ h) (shifted rest false [] tt)))
-    (λ e. behind t _ rest (shifted rest (is_step t || (inside && not (is_between t))) held h)))
+shifted : (list : List Exchange) (inside : Bool) (held : List Exchange) → AreArrivals held → ArePlain list → Plainly (arrivals_last inside held list) list
+shifted [] inside held h p = subst (λ l. Plainly l []) (append-nil held) (held_gone held [] [] h (same [], tt))
+shifted (t ∷ rest) inside held h p =
+    cond_both (is_arrival t && (inside && steps_ahead rest)) _ _ (λ l. Plainly l (t ∷ rest))
+    (λ e. let a = (and_parts (is_arrival t) _ e).0 in let r = shifted rest inside (held ++ t ∷ []) (one_more held t h a p.0) p.1 in (then r.0 (back (arrival_gone t rest a)), r.1))
+    (λ e. cond_both (is_step t && not (steps_ahead rest)) _ _ (λ l. Plainly l (t ∷ rest))
+    (λ e. let r = held_gone held _ rest h (shifted rest false [] tt p.1) in (behind t _ rest r.0, (p.0, r.1)))
+    (λ e. let r = shifted rest (is_step t || (inside && not (is_between t))) held h p.1 in (behind t _ rest r.0, (p.0, r.1))))
 
 -- Steps.
 
@@ -147,7 +152,7 @@ two_steps a b x =
     }
 
 no_step : (x : List Exchange) → Alike (whole_step 0 ∷ x) x
-no_step x = left_out (whole_step 0) x refl
+no_step x = (unmoved (whole_step 0) refl).1 x
 
 many : (q n : ℕ) (x : List Exchange) → Alike (replicate q (whole_step n) ++ x) (whole_step (q * n) ∷ x)
 many zero n x = let none : 0 ≡ 0 * n = omega arith in subst (λ k. Alike x (whole_step k ∷ x)) none (back (no_step x))
@@ -156,23 +161,19 @@ many (suc q) n x =
     subst (λ k. Alike (replicate (suc q) (whole_step n) ++ x) (whole_step k ∷ x)) next (then (behind (whole_step n) _ _ (many q n x)) (two_steps n (q * n) x))
 
 steps_alike : (n : ℕ) (x : List Exchange) → Alike (steps_of n ++ x) (whole_step n ∷ x)
-steps_alike n x = cond_both (n % 65535 == 0) [] (whole_step (n % 65535) ∷ []) (λ l. Alike ((whole_steps ++ l) ++ x) (whole_step n ∷ x)) even uneven
+steps_alike n x =
+    let all : n / 65535 * 65535 + n % 65535 ≡ n = omega arith in
+    subst (λ l. Alike l (whole_step n ∷ x)) (sym (append_assoc (replicate (n / 65535) (whole_step 65535)) last x))
+    (subst (λ k. Alike (replicate (n / 65535) (whole_step 65535) ++ (last ++ x)) (whole_step k ∷ x)) all
+    (then (all_behind (replicate (n / 65535) (whole_step 65535)) (last ++ x) (whole_step (n % 65535) ∷ x) last_alike)
+    (then (many (n / 65535) 65535 (whole_step (n % 65535) ∷ x)) (two_steps (n / 65535 * 65535) (n % 65535) x))))
   where
-    whole_steps : List Exchange
-    whole_steps = replicate (n / 65535) (whole_step 65535)
+    last : List Exchange
+    last = cond (n % 65535 == 0) [] (whole_step (n % 65535) ∷ [])
 
-    even : (n % 65535 == 0) ≡ true → Alike ((whole_steps ++ []) ++ x) (whole_step n ∷ x)
-    even h =
-        let none : n % 65535 ≡ 0 = eqb-true _ _ h in
-        let all : n / 65535 * 65535 ≡ n = omega arith in
-        subst (λ l. Alike (l ++ x) (whole_step n ∷ x)) (sym (append-nil whole_steps)) (subst (λ k. Alike (whole_steps ++ x) (whole_step k ∷ x)) all (many (n / 65535) 65535 x))
-
-    uneven : (n % 65535 == 0) ≡ false → Alike ((whole_steps ++ whole_step (n % 65535) ∷ []) ++ x) (whole_step n ∷ x)
-    uneven h =
-        let all : n / 65535 * 65535 + n % 65535 ≡ n = omega arith in
-        let rest = whole_step (n % 65535) ∷ x in
-        subst (λ l. Alike l (whole_step n ∷ x)) (sym (append_assoc whole_steps (whole_step (n % 65535) ∷ []) x))
-        (subst (λ k. Alike (whole_steps ++ rest) (whole_step k ∷ x)) all (then (many (n / 65535) 65535 rest) (two_steps (n / 65535 * 65535) (n % 65535) x)))
+    last_alike : Alike (last ++ x) (whole_step (n % 65535) ∷ x)
+    last_alike = cond_both (n % 65535 == 0) [] (whole_step (n % 65535) ∷ []) (λ l. Alike (l ++ x) (whole_step (n % 65535) ∷ x))
+        (λ h. subst (λ k. Alike x (whole_step k ∷ x)) (sym (eqb-true _ _ h)) (back (no_step x))) (λ h. same (whole_step (n % 65535) ∷ x))
 
 plain_step : (k d : ℕ) (m : Option FaultAfter) (x : List Exchange) → m ≡ None → Alike (whole_step d ∷ x) ((StepBy k, m, Stepped d) ∷ x)
 plain_step k d m x h = subst (λ m. Alike (whole_step d ∷ x) ((StepBy k, m, Stepped d) ∷ x)) (sym h) (record { ahead = refl; script = refl; ends = refl; does = refl })
@@ -184,25 +185,8 @@ joined ((StepBy k, m, Stepped d) ∷ rest) n h =
 joined (t ∷ rest) n h =
     then (steps_alike n (t ∷ steps_joined 0 rest)) (behind (whole_step n) _ _ (behind t _ _ (then (joined rest 0 h.1) (no_step rest))))
 
-plain_filter : (p : Exchange → Bool) (list : List Exchange) → ArePlain list → ArePlain (filter p list)
-plain_filter p [] h = tt
-plain_filter p (t ∷ list) h = cond_both (p t) (t ∷ filter p list) (filter p list) ArePlain (λ e. (h.0, plain_filter p list h.1)) (λ e. plain_filter p list h.1)
-
-plain_append : (x y : List Exchange) → ArePlain x → ArePlain y → ArePlain (x ++ y)
-plain_append [] y h k = k
-plain_append (t ∷ x) y h k = (h.0, plain_append x y h.1 k)
-
-plain_last : (list : List Exchange) (inside : Bool) (held : List Exchange) → ArePlain held → ArePlain list → ArePlain (arrivals_last inside held list)
-plain_last [] inside held h k = h
-plain_last (t ∷ rest) inside held h k =
-    cond_both (is_arrival t && (inside && steps_ahead rest)) _ _ ArePlain (λ e. plain_last rest inside (held ++ t ∷ []) (plain_append held (t ∷ []) h (k.0, tt)) k.1)
-    (λ e. cond_both (is_step t && not (steps_ahead rest)) _ _ ArePlain
-    (λ e. (k.0, plain_append held _ h (plain_last rest false [] tt k.1)))
-    (λ e. (k.0, plain_last rest (is_step t || (inside && not (is_between t))) held h k.1)))
-
 pub same_acts : SameActs
 same_acts list h =
-    let left = filter (λ t. not (changes_nothing t)) list in
-    let plain = plain_last left false [] tt (plain_filter (λ t. not (changes_nothing t)) list h) in
-    let all = then (joined (arrivals_last false [] left) 0 plain) (then (no_step (arrivals_last false [] left)) (then (shifted left false [] tt) (filtered list))) in
-    all.does
+    let left = filtered list h in
+    let last = shifted (filter (λ t. not (changes_nothing t)) list) false [] tt left.1 in
+    (then (joined _ 0 last.1) (then (no_step _) (then last.0 left.0))).does

@@ -1,10 +1,14 @@
--- Numbers, tests and devices that are found by their addresses.
-use Rattle.std.proofs.Common.{subst, ◌≡◌, ℕ, ◌+◌, ◌*◌, refl, sym, ap, ◌∙◌, arith, true, false, Bool, cond, ◌==◌, List, [], ◌∷◌, map, Option, Some, None}
-use Rattle.std.proofs.lemmas.Bool.{ne_eqb, eq-eqb, eqb-true, eqb-false, cond_both, cond-true, cond-false}
+-- Numbers, tests and devices that are found by their addresses; and a machine in each state of its subchannel.
+use Rattle.std.proofs.Common.{subst, ◌≡◌, ℕ, ◌+◌, ◌*◌, ◌/◌, ◌%◌, refl, sym, ap, ◌∙◌, arith, true, false, Bool, cond, ◌==◌, List, [], ◌∷◌, map, Option, Some, None}
+use Rattle.std.proofs.lemmas.Bool.{ne_eqb, eq-eqb, eqb-true, eqb-false, cond_both}
 use Rattle.std.specs.Prelude.{find, option_map}
+use Rattle.s360_words.specs.declared.words.Csw.{Csw}
 use Rattle.ckd_command.specs.Drive.{IdleDrive}
-use Rattle.s360_laws.specs.Machine.{Device, Machine, address_of, device_at}
-use Rattle.s360_laws.specs.Soundness.{AreDistinct, device_for}
+use Rattle.s360_runs.specs.Endings.{Outcome}
+use Rattle.s360_runs.specs.Runs.{run}
+use Rattle.s360_runs.specs.Scripts.{Script}
+use Rattle.s360_laws.specs.Machine.{Device, Machine, address_of, device_at, run_of, start_of, Idle, Pending, Working}
+use Rattle.s360_laws.specs.Soundness.{AreDistinct, device_for, IsRunning}
 use Rattle.s360_laws.specs.declared.arm.Arm.{Arm}
 
 -- Numbers and tests.
@@ -12,12 +16,13 @@ use Rattle.s360_laws.specs.declared.arm.Arm.{Arm}
 pub different : (a b : ℕ) → (a ≡ b → ⊥) → (a == b) ≡ false
 different a b f = ne_eqb a b f
 
-pub add_same : (n x y : ℕ) → (256 * n + x == 256 * n + y) ≡ (x == y)
-add_same n x y = go (x == y) refl
+-- two tests of numbers that hold together
+same_test : (a b c d : ℕ) → (a ≡ b → c ≡ d) → (c ≡ d → a ≡ b) → (a == b) ≡ (c == d)
+same_test a b c d f g = go (c == d) refl
   where
-    go : (b : Bool) → (x == y) ≡ b → (256 * n + x == 256 * n + y) ≡ b
-    go true h = eq-eqb _ _ (ap (λ k. 256 * n + k) (eqb-true x y h))
-    go false h = ne_eqb _ _ (λ e. let back : x ≡ y = omega arith in eqb-false x y h back)
+    go : (r : Bool) → (c == d) ≡ r → (a == b) ≡ r
+    go true h = eq-eqb _ _ (g (eqb-true c d h))
+    go false h = ne_eqb _ _ (λ e. eqb-false c d h (f e))
 
 -- Finding devices.
 
@@ -29,9 +34,15 @@ pub has_found : (p : Device → Bool) (vs : List Device) → Has p (find p vs)
 has_found p [] = tt
 has_found p (v ∷ vs) = cond_both (p v) (Some v) (find p vs) (Has p) (λ e. e) (λ e. has_found p vs)
 
+-- what is found passes the test
+pub found_is : {X : Type 0} (p : X → Bool) (xs : List X) (x : X) → find p xs ≡ Some x → p x ≡ true
+found_is p [] x h = absurd (cc)
+found_is p (y ∷ ys) x h = cond_both (p y) (Some y) (find p ys) (λ o. o ≡ Some x → p x ≡ true)
+    (λ e q. let same : y ≡ x = cc in sym (ap p same) ∙ e) (λ e q. found_is p ys x q) h
+
 pub found_same : (n d : ℕ) (vs : List Device) → find (λ v. 256 * n + v.device == 256 * n + d) vs ≡ find (λ v. v.device == d) vs
 found_same n d [] = refl
-found_same n d (v ∷ vs) = ap (λ b. cond b (Some v) (find (λ v. 256 * n + v.device == 256 * n + d) vs)) (add_same n v.device d) ∙ ap (λ r. cond (v.device == d) (Some v) r) (found_same n d vs)
+found_same n d (v ∷ vs) = ap (λ b. cond b (Some v) (find (λ v. 256 * n + v.device == 256 * n + d) vs)) (same_test (256 * n + v.device) (256 * n + d) v.device d (λ e. omega arith) (ap (λ k. 256 * n + k))) ∙ ap (λ r. cond (v.device == d) (Some v) r) (found_same n d vs)
 
 -- a change of devices that keeps their addresses
 abbrev pub Keeps : (Device → Device) → Type 0
@@ -71,27 +82,7 @@ pub changed_device : (d : ℕ) (f : Device → Device) → Keeps f → (vs : Lis
     → find (λ w. w.device == d) (map (λ w. cond (w.device == d) (f w) w) vs) ≡ Some (f v)
 changed_device d f k vs v at =
     found_map (λ n. n == d) _ (keeps_one d f k) vs ∙ ap (option_map (λ w. cond (w.device == d) (f w) w)) at
-    ∙ ap (λ b. Some (cond b (f v) v)) (subst (Has (λ w. w.device == d)) at (has_found (λ w. w.device == d) vs))
-
--- the device of an address, after a change of one device
-pub device_after : (n d u : ℕ) (f : Device → Device) → Keeps f → (vs : List Device)
-    → find (λ v. 256 * n + v.device == u) (map (λ v. cond (v.device == d) (f v) v) vs)
-    ≡ cond (256 * n + d == u) (option_map f (find (λ v. 256 * n + v.device == u) vs)) (find (λ v. 256 * n + v.device == u) vs)
-device_after n d u f k vs = found_map (λ d. 256 * n + d == u) _ (keeps_one d f k) vs ∙ go (find (λ v. 256 * n + v.device == u) vs) (has_found (λ v. 256 * n + v.device == u) vs)
-  where
-    go : (x : Option Device) → Has (λ v. 256 * n + v.device == u) x → option_map (λ v. cond (v.device == d) (f v) v) x ≡ cond (256 * n + d == u) (option_map f x) x
-    go None h = cond_both (256 * n + d == u) None None (λ y. None ≡ y) (λ e. refl) (λ e. refl)
-    go (Some v) h = cond_both (256 * n + d == u) (Some (f v)) (Some v) (λ y. Some (cond (v.device == d) (f v) v) ≡ y) here there
-      where
-        here : (256 * n + d == u) ≡ true → Some (cond (v.device == d) (f v) v) ≡ Some (f v)
-        here e =
-            let one = eqb-true (256 * n + d) u e in
-            let two = eqb-true (256 * n + v.device) u h in
-            let same : v.device ≡ d = omega arith in
-            ap Some (cond-true (v.device == d) (f v) v (eq-eqb _ _ same))
-
-        there : (256 * n + d == u) ≡ false → Some (cond (v.device == d) (f v) v) ≡ Some v
-        there e = ap Some (cond-false (v.device == d) (f v) v (ne_eqb _ _ (λ k. eqb-false (256 * n + d) u e (ap (λ k. 256 * n + k) (sym k) ∙ eqb-true _ _ h))))
+    ∙ ap (λ b. Some (cond b (f v) v)) (found_is (λ w. w.device == d) vs v at)
 
 -- the device at an address, by the low byte of it
 pub at_device : (m : Machine) (d u : ℕ) (y : Option Device) → address_of m d ≡ u → device_at m d ≡ y → device_for m u ≡ y
@@ -99,3 +90,28 @@ at_device m d u y e h = ap (device_for m) (sym e) ∙ found_same m.channel d m.d
 
 pub device_of : (m : Machine) (d : ℕ) → device_at m d ≡ device_for m (address_of m d)
 device_of m d = sym (found_same m.channel d m.devices)
+
+abbrev pub idle : Machine → Machine
+idle m = record m { subchannel = Idle }
+
+abbrev pub pending : Machine → ℕ → Csw → Machine
+pending m p csw = record m { subchannel = Pending p csw }
+
+abbrev pub working : Machine → ℕ → Script → Machine
+working m d s = record m { subchannel = Working d s }
+
+-- the device that works, and its run so far
+pub working_device : (m : Machine) (d : ℕ) (s : Script) (y : Option Device) → device_at m d ≡ y → IsRunning (option_map (λ v. run s (start_of m v.drive)) y) → (v : Device) × (device_at m d ≡ Some v) × IsRunning (Some (run s (start_of m v.drive)))
+working_device m d s None at r = absurd r
+working_device m d s (Some v) at r = (v, at, r)
+
+pub run_at : (m : Machine) (d : ℕ) (v : Device) (s : Script) → device_at m d ≡ Some v → run_of m d s ≡ Some (run s (start_of m v.drive))
+run_at m d v s at = ap (option_map (λ v. run s (start_of m v.drive))) at
+
+-- what holds of its run holds of the run of the device
+pub by_device : (m : Machine) (d : ℕ) (s : Script) (v : Device) (P : Option Outcome → Type 0) → device_at m d ≡ Some v → P (Some (run s (start_of m v.drive))) → P (run_of m d s)
+by_device m d s v P at p = subst (λ y. P (option_map (λ v. run s (start_of m v.drive)) y)) (sym at) p
+
+-- an address of this channel, by its low byte
+pub whole : (n a : ℕ) → (a / 256 == n) ≡ true → 256 * n + a % 256 ≡ a
+whole n a h = let e : a / 256 ≡ n = eqb-true _ _ h in omega arith

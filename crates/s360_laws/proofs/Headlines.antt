@@ -1,28 +1,19 @@
 -- The headline, from the laws that it joins.
-use Rattle.std.proofs.Common.{refl, List}
-use Rattle.s360_laws.specs.Events.{Event, FaultAfter, Input, Hio, StepBy, Reset}
+use Rattle.std.proofs.Common.{List}
+use Rattle.s360_laws.specs.Events.{Input}
 use Rattle.s360_laws.specs.Headline.{HeadlineHolds}
 use Rattle.s360_laws.specs.History.{Runs}
 use Rattle.s360_laws.specs.Machine.{Machine, after_all}
 use Rattle.s360_laws.specs.Soundness.{IsSound}
-use Rattle.s360_laws.specs.Steps.{FaultDoes}
 use Rattle.s360_laws.proofs.Arms.{arm_stays}
-use Rattle.s360_laws.proofs.Held.{held_until_stored}
-use Rattle.s360_laws.proofs.LedgerLists.{at_most_once, channel_end_first, ends_pend, exactly_once, sound_parts, stays_sound}
-use Rattle.s360_laws.proofs.MachineFaults.{fault_ends_halt, fault_ends_step, fault_told_by_reset}
+use Rattle.s360_laws.proofs.LedgerLists.{held_until_stored, at_most_once, channel_end_first, ends_pend, exactly_once, sound_parts, stays_sound, no_start_while_working}
+use Rattle.s360_laws.proofs.MachineFaults.{fault_does}
 use Rattle.s360_laws.proofs.NoFaultTold.{no_fault_none_told}
 use Rattle.s360_laws.proofs.Serial.{serial}
-use Rattle.s360_laws.proofs.Starting.{no_start_while_working}
 
 -- a sound machine's program runs
 runs : (m : Machine) → IsSound m → Runs m m.subchannel
 runs m h = (sound_parts m m.subchannel h.1).0
-
-fault_does : (m : Machine) (e : Event) (x : FaultAfter) → Runs m m.subchannel → FaultDoes m e x
-fault_does m (StepBy k) x r = fault_ends_step m k x r
-fault_does m (Hio a) x r = fault_ends_halt m a x r
-fault_does m Reset x r = fault_told_by_reset m x r
-fault_does m e x r = refl
 
 pub headline : HeadlineHolds
 headline m es sound = record {

@@ -1,26 +1,24 @@
 -- A slot that no program of a list may write keeps its bytes.
 use Rattle.std.proofs.Common.{◌≡◌, ℕ, refl, ap, subst, sym, ◌∙◌, true, false, Bool, cond, ◌&&◌, ◌==◌, List, [], ◌∷◌, map, Option, Some, None}
-use Rattle.std.proofs.lemmas.Bool.{cond_both, false≢true, eqb-true, or_parts}
+use Rattle.std.proofs.lemmas.Bool.{cond_both, eqb-true, or_parts, eq-eqb}
 use Rattle.std.specs.Prelude.{find, option_map}
-use Rattle.s360_words.specs.Words.{caw_of, chains_command}
+use Rattle.s360_words.specs.Words.{caw_of}
 use Rattle.s360_words.specs.declared.words.Caw.{Caw}
-use Rattle.ckd_command.specs.Drive.{Volume, AfterBegin, Rejected, Immediate, Started, IdleDrive, begin, no_sense}
-use Rattle.s360_runs.specs.Commands.{Point, requested}
-use Rattle.s360_runs.specs.Endings.{Outcome, Ended, NotEnded, ending, immediate}
-use Rattle.s360_runs.specs.Places.{fetch, Fetched, GoodCcw}
-use Rattle.s360_runs.specs.Runs.{Start, run, start_point}
-use Rattle.s360_runs.specs.Scripts.{Script}
-use Rattle.s360_runs.specs.Starts.{First, RejectedStart, ImmediateStart, AcceptedStart, first, first_from, first_fetched, first_begun}
-use Rattle.s360_runs.specs.Status.{no_channel_status}
-use Rattle.s360_runs.specs.Transfers.{Request}
-use Rattle.s360_runs.specs.Writes.{OutcomeKeeps, slot_in}
-use Rattle.s360_runs.proofs.DriveFacts.{VolumeClosed, VolumeIn, begin_keeps}
-use Rattle.s360_runs.proofs.Units.{BegunIs}
-use Rattle.s360_runs.proofs.Writes.{run_keeps}
+use Rattle.ckd_command.specs.Drive.{IdleDrive, no_sense}
+use Rattle.s360_runs.specs.Endings.{Outcome, Ended, NotEnded, Ending}
+use Rattle.s360_runs.specs.Laws.{IsFirstUnit}
+use Rattle.s360_runs.specs.Runs.{Start, run, start_point, run_from}
+use Rattle.s360_runs.specs.Scripts.{Script, units}
+use Rattle.s360_runs.specs.Starts.{First, RejectedStart, first}
+use Rattle.s360_runs.specs.Units.{Next, GoesOn, EndsIn, Between, unit, walk, outcome_of, on_next}
+use Rattle.s360_runs.specs.Writes.{OutcomeKeeps, slot_in, NextKeeps}
+use Rattle.s360_runs.proofs.FirstUnits.{first_is_unit}
+use Rattle.s360_runs.proofs.Walks.{run_walk}
+use Rattle.s360_runs.proofs.Writes.{run_keeps, writes_under_arm}
 use Rattle.s360_laws.specs.History.{Act, Program, RejectedCommand, Changes, ClearsSense, Fate, ByItself, IsCut, World, after_first, after_program, after_rejection, after_run, does, drive_in, history, start_in, with_drive, world_of, all_acts}
 use Rattle.s360_laws.specs.Machine.{exchanges}
 use Rattle.s360_laws.specs.Writes.{KeepsUnwritten, act_writes, acts_write, program_writes, slot_at}
-use Rattle.s360_laws.proofs.FindDevices.{find_map}
+use Rattle.s360_laws.proofs.FindDevices.{find_map, found_is}
 use Rattle.s360_laws.proofs.Serial.{serial}
 
 abbrev Drives : Type 0
@@ -32,31 +30,26 @@ at device ds = find (λ d. d.0 == device) ds
 abbrev slot : ℕ → Option (ℕ × IdleDrive) → Option (Option (List ℕ))
 slot track d = option_map (λ d. slot_in d.1.volume track) d
 
--- One drive is another.
+-- One drive is another, with the same slot if it is that of the device.
 
-abbrev Agrees : ℕ → (device p : ℕ) → IdleDrive → Drives → Type 0
-Agrees track device p drive ds = (d : ℕ × IdleDrive) → at p ds ≡ Some d → (p == device) ≡ true → slot_in drive.volume track ≡ slot_in d.1.volume track
-
-with_slot : (track device p : ℕ) (drive : IdleDrive) (ds : Drives) → Agrees track device p drive ds → slot track (at device (with_drive p drive ds)) ≡ slot track (at device ds)
-with_slot track device p drive [] h = refl
-with_slot track device p drive (x ∷ xs) h = go (x.0 == p) refl (x.0 == device) refl h (with_slot track device p drive xs)
+with_slot : (track device p : ℕ) (drive : IdleDrive) (ds : Drives) (d : ℕ × IdleDrive) → at p ds ≡ Some d → ((p == device) ≡ true → slot_in drive.volume track ≡ slot_in d.1.volume track)
+    → slot track (at device (with_drive p drive ds)) ≡ slot track (at device ds)
+with_slot track device p drive ds d is k = ap (slot track) (find_map (λ d. d.0 == device) (λ d. d.0 == device) (λ d. cond (d.0 == p) (d.0, drive) d) (λ d. number d (d.0 == p)) ds) ∙ go (at device ds) refl
   where
-    apart : (x.0 == p) ≡ true → (x.0 == device) ≡ false → (p == device) ≡ true → ⊥
-    apart e k l = false≢true (sym k ∙ ap (λ n. n == device) (eqb-true _ _ e) ∙ l)
+    number : (d : ℕ × IdleDrive) (b : Bool) → ((cond b (d.0, drive) d).0 == device) ≡ (d.0 == device)
+    number d true = refl
+    number d false = refl
 
-    -- the first drive, and whether it is the one that is changed, and the one that is looked at
-    go : (b : Bool) → (x.0 == p) ≡ b → (c : Bool) → (x.0 == device) ≡ c
-        → ((d : ℕ × IdleDrive) → cond b (Some x) (at p xs) ≡ Some d → (p == device) ≡ true → slot_in drive.volume track ≡ slot_in d.1.volume track)
-        → (Agrees track device p drive xs → slot track (at device (with_drive p drive xs)) ≡ slot track (at device xs))
-        → slot track (cond ((cond b (x.0, drive) x).0 == device) (Some (cond b (x.0, drive) x)) (at device (with_drive p drive xs))) ≡ slot track (cond c (Some x) (at device xs))
-    go true e true k h rest =
-        ap (λ b. slot track (cond b (Some (x.0, drive)) (at device (with_drive p drive xs)))) k
-        ∙ ap Some (h x refl (ap (λ n. n == device) (sym (eqb-true _ _ e)) ∙ k))
-    go true e false k h rest =
-        ap (λ b. slot track (cond b (Some (x.0, drive)) (at device (with_drive p drive xs)))) k
-        ∙ rest (λ d f l. absurd (apart e k l))
-    go false e true k h rest = ap (λ b. slot track (cond b (Some x) (at device (with_drive p drive xs)))) k
-    go false e false k h rest = ap (λ b. slot track (cond b (Some x) (at device (with_drive p drive xs)))) k ∙ rest h
+    go : (y : Option (ℕ × IdleDrive)) → at device ds ≡ y → slot track (option_map (λ d. cond (d.0 == p) (d.0, drive) d) y) ≡ slot track y
+    go None e = refl
+    go (Some c) e = cond_both (c.0 == p) (c.0, drive) c (λ b. Some (slot_in b.1.volume track) ≡ Some (slot_in c.1.volume track)) here (λ q. refl)
+      where
+        here : (c.0 == p) ≡ true → Some (slot_in drive.volume track) ≡ Some (slot_in c.1.volume track)
+        here q =
+            let one = eqb-true _ _ q in
+            let two = eqb-true _ _ (found_is (λ d. d.0 == device) ds c e) in
+            let it : p ≡ device = cc in
+            ap Some (k (eq-eqb _ _ it)) ∙ ap (slot track) (sym is ∙ ap (λ n. at n ds) it ∙ e)
 
 -- a change of sense bytes
 cleared : (track device : ℕ) (ds : Drives) → slot track (at device (map (λ d. (d.0, record d.1 { sense = no_sense })) ds)) ≡ slot track (at device ds)
@@ -66,35 +59,26 @@ cleared track device ds = ap (slot track) (find_map (λ d. d.0 == device) (λ d.
     go None = refl
     go (Some d) = refl
 
--- A command that is rejected changes no slot.
+-- A command that is rejected is over in the first unit, before which nothing is written.
 
-abbrev FirstKeeps : Volume → First → Type 0
-FirstKeeps v (RejectedStart drive) = drive.volume ≡ v
-FirstKeeps v f = Unit {0}
-
-first_keeps : (s : Start) → FirstKeeps s.drive.volume (first s)
-first_keeps s = from (caw_of s.caw)
+first_keeps : (s : Start) (drive : IdleDrive) (track : ℕ) → first s ≡ RejectedStart drive → slot_in drive.volume track ≡ slot_in s.drive.volume track
+first_keeps s drive track h = from (caw_of s.caw) (subst (λ f. IsFirstUnit s f (run (units 1) s)) h (first_is_unit s).unit_is)
   where
-    Same : Volume → Type 0
-    Same v = v ≡ s.drive.volume
+    by_unit : (caw : Caw) (n : Next) (e : Ending) → NextKeeps track s.drive.volume n → outcome_of (units 1) caw.key (on_next [] n (walk [] caw.key)) ≡ Ended 1 s.storage e
+        → slot_in e.drive.volume track ≡ slot_in s.drive.volume track
+    by_unit caw (GoesOn p) e k q = absurd (cc)
+    by_unit caw (EndsIn st f) e k q = let same : f ≡ e = cc in subst (λ e. slot_in e.drive.volume track ≡ slot_in s.drive.volume track) same k
 
-    begun : (key : ℕ) (r : Request) (b : AfterBegin) → BegunIs (VolumeClosed Same) (VolumeIn Same) b → FirstKeeps s.drive.volume (first_begun key r b)
-    begun key r (Rejected t) k = k
-    begun key r (Started o) k = tt
-    begun key r (Immediate t motion) k = cond_both (chains_command r.ccw) AcceptedStart (ImmediateStart (ending None key r.place (immediate t motion) no_channel_status)) (FirstKeeps s.drive.volume) (λ e. tt) (λ e. tt)
+    none : (b : Bool) → (b && false) ≡ false
+    none true = refl
+    none false = refl
 
-    fetched : (key : ℕ) (p : Point) (w : Fetched) → Same p.state.volume → FirstKeeps s.drive.volume (first_fetched key p w)
-    fetched key p (GoodCcw ccw) h = begun key (requested p ccw) (begin None ccw.code p.state) (begin_keeps Same ccw.code p.state h)
-    fetched key p w h = tt
-
-    from : (c : Option Caw) → FirstKeeps s.drive.volume (first_from s c)
-    from None = tt
-    from (Some caw) = fetched caw.key (start_point caw s) (fetch s.storage (start_point caw s).place true) refl
-
--- Acts.
-
-agrees : (track device p : ℕ) (drive : IdleDrive) (ds : Drives) (d : ℕ × IdleDrive) → at p ds ≡ Some d → ((p == device) ≡ true → slot_in drive.volume track ≡ slot_in d.1.volume track) → Agrees track device p drive ds
-agrees track device p drive ds d e k c f l = let q = sym e ∙ f in let same : d ≡ c = cc in k l ∙ ap (λ d. slot_in d.1.volume track) same
+    from : (c : Option Caw) → IsFirstUnit s (RejectedStart drive) (run_from (units 1) s c) → slot_in drive.volume track ≡ slot_in s.drive.volume track
+    from None r = let q = r.1 in absurd (cc)
+    from (Some caw) r =
+        let begun = Between (start_point caw s) in
+        ap (λ d. slot_in d.volume track) (sym r.3)
+        ∙ by_unit caw (unit None caw.key begun) r.0 (writes_under_arm s caw [] begun None track refl (none _)).by_unit (sym (run_walk s caw (units 1)) ∙ r.1)
 
 program_keeps : (w : World) (p device track : ℕ) (script : Script) (fate : Fate) (y : Option (ℕ × IdleDrive)) → drive_in w p ≡ y → ((p == device) && program_writes w track script y) ≡ false
     → slot track (at device (after_program w p script fate y).drives) ≡ slot track (at device w.drives)
@@ -103,9 +87,9 @@ program_keeps w p device track script fate (Some d) e h =
     go fate (run script (start_in w d.1)) (λ k. run_keeps (start_in w d.1) script track (subst (λ b. (b && program_writes w track script (Some d)) ≡ false) k h))
   where
     go : (fate : Fate) (o : Outcome) → ((p == device) ≡ true → OutcomeKeeps track d.1.volume o) → slot track (at device (after_run w p fate o).drives) ≡ slot track (at device w.drives)
-    go ByItself (Ended used s z) k = with_slot track device p z.drive w.drives (agrees track device p z.drive w.drives d e k)
-    go (IsCut fault) (Ended used s z) k = with_slot track device p z.drive w.drives (agrees track device p z.drive w.drives d e k)
-    go (IsCut fault) (NotEnded seen) k = with_slot track device p (seen.cut fault).drive w.drives (agrees track device p (seen.cut fault).drive w.drives d e (λ l. k l fault))
+    go ByItself (Ended used s z) k = with_slot track device p z.drive w.drives d e k
+    go (IsCut fault) (Ended used s z) k = with_slot track device p z.drive w.drives d e k
+    go (IsCut fault) (NotEnded seen) k = with_slot track device p (seen.cut fault).drive w.drives d e (λ l. k l fault)
     go ByItself (NotEnded seen) k = refl
 
 rejection_keeps : (w : World) (p device track : ℕ) (y : Option (ℕ × IdleDrive)) → drive_in w p ≡ y → slot track (at device (after_rejection w p y).drives) ≡ slot track (at device w.drives)
@@ -113,7 +97,7 @@ rejection_keeps w p device track None e = refl
 rejection_keeps w p device track (Some d) e = go (first (start_in w d.1)) refl
   where
     go : (f : First) → first (start_in w d.1) ≡ f → slot track (at device (after_first w p f).drives) ≡ slot track (at device w.drives)
-    go (RejectedStart drive) k = with_slot track device p drive w.drives (agrees track device p drive w.drives d e (λ l. ap (λ v. slot_in v track) (subst (FirstKeeps d.1.volume) k (first_keeps (start_in w d.1)))))
+    go (RejectedStart drive) k = with_slot track device p drive w.drives d e (λ l. first_keeps (start_in w d.1) drive track k)
     go f k = refl
 
 act_keeps : (w : World) (device track : ℕ) (act : Act) → act_writes w device track act ≡ false → slot_at (does w act) device track ≡ slot_at w device track

@@ -1,58 +1,56 @@
--- The units of a step, and the programs that end in one.
-use Rattle.std.proofs.Common.{◌≡◌, ℕ, zero, suc, ◌+◌, ◌-◌, refl, sym, ap, ◌∙◌, arith, [], ◌∷◌, ◌++◌, length, Option, Some, None}
+-- The units of a step, the programs that end in one, and scripts as they are read off a list of events and answers.
+use Rattle.std.proofs.Common.{◌≡◌, ℕ, zero, suc, ◌+◌, ◌-◌, refl, sym, ap, ◌∙◌, arith, zero-add, suc-add, [], ◌∷◌, ◌++◌, length, Option, Some, None, List}
 use Rattle.s360_words.specs.Storage.{Storage}
 use Rattle.ckd_command.specs.Drive.{Fault}
-use Rattle.s360_runs.specs.Endings.{Outcome, Ended, NotEnded, Ending, Standing}
+use Rattle.s360_runs.specs.Endings.{Ended, NotEnded, Ending, Standing}
 use Rattle.s360_runs.specs.Faults.{without_faults}
 use Rattle.s360_runs.specs.Runs.{Start, run}
 use Rattle.s360_runs.specs.Scripts.{Script, units, units_in, OneUnit}
 use Rattle.s360_runs.specs.Units.{ProgramPhase, StandsAt, walk, Walk, StandsIn, outcome_of, EndsWith}
 use Rattle.s360_runs.proofs.FaultsMet.{unmet_walk, same_outcome}
-use Rattle.s360_runs.proofs.Standing.{stands_somewhere, ends_by, goes_by}
+use Rattle.s360_runs.proofs.Standing.{ends_by, goes_by}
 use Rattle.s360_runs.proofs.Walks.{exact, units_in_two}
-use Rattle.s360_laws.specs.Events.{FaultAfter}
-use Rattle.s360_laws.specs.Machine.{units_failing, units_with}
-use Rattle.s360_laws.specs.Soundness.{IsRunning}
-use Rattle.s360_laws.proofs.SeenDevices.{seen}
+use Rattle.s360_laws.specs.Events.{FaultAfter, Exchange}
+use Rattle.s360_laws.specs.History.{units_ahead, script_ahead, where_over, turns_of}
+use Rattle.s360_laws.specs.Machine.{units_with}
 
 -- The units of a step.
 
-plain_front : (k : ℕ) (front rest : Script) → units k ≡ front ++ rest → units (length front) ≡ front
-plain_front k [] rest h = refl
-plain_front zero (t ∷ front) rest h = absurd (cc)
-plain_front (suc k) (t ∷ front) rest h = let e : units k ≡ front ++ rest = cc in let next = plain_front k front rest e in cc
+pub no_units : (k : ℕ) (x : Option FaultAfter) → k ≡ 0 → units_with k x ≡ []
+no_units k None h = ap (λ k. units_with k None) h
+no_units k (Some x) h = ap (λ k. units_with k (Some x)) h
 
-failing_front : (k b : ℕ) (f : Fault) (front rest : Script) → units_failing k b f ≡ front ++ rest → units_failing (length front) b f ≡ front
-failing_front k b f [] rest h = refl
-failing_front zero b f (t ∷ front) rest h = absurd (cc)
-failing_front (suc k) zero f (t ∷ front) rest h = let e : units k ≡ front ++ rest = cc in let next = plain_front k front rest e in cc
-failing_front (suc k) (suc b) f (t ∷ front) rest h = let e : units_failing k b f ≡ front ++ rest = cc in let next = failing_front k b f front rest e in cc
+-- a step's units are one, with the fault that stands there, and those of the shorter step behind it
+one_more : (x : Option FaultAfter) → (f : Option Fault) × (y : Option FaultAfter) × ((k : ℕ) → units_with (suc k) x ≡ OneUnit f ∷ units_with k y)
+one_more None = (None, None, λ k. refl)
+one_more (Some x) = go x.units x.fault
+  where
+    go : (n : ℕ) (f : Fault) → (g : Option Fault) × (y : Option FaultAfter) × ((k : ℕ) → units_with (suc k) (Some (record { units = n; fault = f })) ≡ OneUnit g ∷ units_with k y)
+    go zero f = (Some f, None, λ k. refl)
+    go (suc n) f = (None, Some (record { units = n; fault = f }), λ k. refl)
 
 pub units_front : (k : ℕ) (x : Option FaultAfter) (front rest : Script) → units_with k x ≡ front ++ rest → units_with (length front) x ≡ front
-units_front k None front rest h = plain_front k front rest h
-units_front k (Some x) front rest h = failing_front k x.units x.fault front rest h
-
-plain_count : (k : ℕ) → units_in (units k) ≡ k
-plain_count zero = refl
-plain_count (suc k) = let h = plain_count k in omega arith
-
-failing_count : (k b : ℕ) (f : Fault) → units_in (units_failing k b f) ≡ k
-failing_count zero b f = refl
-failing_count (suc k) zero f = let h = plain_count k in omega arith
-failing_count (suc k) (suc b) f = let h = failing_count k b f in omega arith
+units_front k x [] rest h = no_units 0 x refl
+units_front zero x (t ∷ front) rest h = let none = no_units 0 x refl in absurd (cc)
+units_front (suc k) x (t ∷ front) rest h =
+    let o = one_more x in
+    let all = o.2 k in
+    let some = o.2 (length front) in
+    let behind : units_with k o.1 ≡ front ++ rest = cc in
+    let next = units_front k o.1 front rest behind in
+    cc
 
 pub units_count : (k : ℕ) (x : Option FaultAfter) → units_in (units_with k x) ≡ k
-units_count k None = plain_count k
-units_count k (Some x) = failing_count k x.units x.fault
+units_count zero x = ap units_in (no_units 0 x refl)
+units_count (suc k) x = let o = one_more x in let all = ap units_in (o.2 k) in let h = units_count k o.1 in omega arith
 
--- A program that runs stands somewhere.
+pub plain_step : (k : ℕ) (x : Option FaultAfter) → without_faults (units_with k x) ≡ units k
+plain_step zero x = ap without_faults (no_units 0 x refl)
+plain_step (suc k) x = let o = one_more x in ap without_faults (o.2 k) ∙ ap (λ l. OneUnit None ∷ l) (plain_step k o.1)
 
-pub stood : (s : Start) (script : Script) → IsRunning (Some (run script s)) → (key : ℕ) × (g : ProgramPhase) × StandsAt s script key g
-stood s script r = go (run script s) refl r
-  where
-    go : (o : Outcome) → run script s ≡ o → IsRunning (Some o) → (key : ℕ) × (g : ProgramPhase) × StandsAt s script key g
-    go (Ended used st e) h r = absurd r
-    go (NotEnded seen) h r = let y = stands_somewhere s script seen h in (y.0, y.1, y.2)
+pub plain_two : (j k : ℕ) → units j ++ units k ≡ units (j + k)
+plain_two zero k = ap units (sym (zero-add k))
+plain_two (suc j) k = ap (λ l. OneUnit None ∷ l) (plain_two j k) ∙ ap units (sym (suc-add j k))
 
 -- a program that stood behind a script, and ended behind more of it
 pub record EndedIn (script more : Script) (key : ℕ) (g : ProgramPhase) (used : ℕ) (st : Storage) (e : Ending) : Type 0 where
@@ -89,26 +87,13 @@ ended_there s script key g k used x st e h r =
 
 -- A step that the program outlives has met no fault.
 
-plain_units : (k : ℕ) → without_faults (units k) ≡ units k
-plain_units zero = refl
-plain_units (suc k) = ap (λ l. OneUnit None ∷ l) (plain_units k)
-
-plain_failing : (k after : ℕ) (f : Fault) → without_faults (units_failing k after f) ≡ units k
-plain_failing zero after f = refl
-plain_failing (suc k) zero f = ap (λ l. OneUnit None ∷ l) (plain_units k)
-plain_failing (suc k) (suc after) f = ap (λ l. OneUnit None ∷ l) (plain_failing k after f)
-
-plain_step : (k : ℕ) (x : Option FaultAfter) → without_faults (units_with k x) ≡ units k
-plain_step k None = plain_units k
-plain_step k (Some x) = plain_failing k x.units x.fault
-
 -- so its run goes on as without the fault
 pub unmet : (s : Start) (script : Script) (key : ℕ) (g : ProgramPhase) (k : ℕ) (x : Option FaultAfter) (seen : Standing) → StandsAt s script key g → run (script ++ units_with k x) s ≡ NotEnded seen
     → (more : Script) → run ((script ++ units k) ++ more) s ≡ run ((script ++ units_with k x) ++ more) s
 unmet s script key g k x seen st r more = go (walk (units_with k x) key g) refl
   where
     counts : units_in ((script ++ units k) ++ more) ≡ units_in ((script ++ units_with k x) ++ more)
-    counts = omega (arith, units_in_two, units_count k x, plain_count k)
+    counts = omega (arith, units_in_two, units_count k x, units_count k None)
 
     go : (w : Walk) → walk (units_with k x) key g ≡ w → run ((script ++ units k) ++ more) s ≡ run ((script ++ units_with k x) ++ more) s
     go (EndsWith rest st_two e) w = let q = sym (ap (outcome_of (script ++ units_with k x) key) w) ∙ sym (st (units_with k x)) ∙ r in absurd (cc)
@@ -116,3 +101,23 @@ unmet s script key g k x seen st r more = go (walk (units_with k x) key g) refl
         goes_by s script (units k) key g h st (ap (λ l. walk l key g) (sym (plain_step k x)) ∙ unmet_walk (units_with k x) key g h w) more
         ∙ same_outcome ((script ++ units k) ++ more) ((script ++ units_with k x) ++ more) key (walk more key h) counts
         ∙ sym (goes_by s script (units_with k x) key g h st w more)
+
+-- Scripts read off.
+
+pub quiet_script : (ahead : List Exchange) → units_ahead ahead ≡ 0 → script_ahead ahead ≡ []
+quiet_script [] h = refl
+quiet_script (t ∷ ahead) h = ap (λ n. where_over n [] (turns_of t ++ script_ahead ahead)) h
+
+pub same_script : (ahead : List Exchange) → script_ahead ahead ≡ where_over (units_ahead ahead) [] (script_ahead ahead)
+same_script ahead = go (units_ahead ahead) refl
+  where
+    go : (n : ℕ) → units_ahead ahead ≡ n → script_ahead ahead ≡ where_over n [] (script_ahead ahead)
+    go zero h = quiet_script ahead h
+    go (suc n) h = refl
+
+pub step_script : (k : ℕ) (x : Option FaultAfter) (ahead : List Exchange) → units_with k x ++ script_ahead ahead ≡ where_over (k + units_ahead ahead) [] (units_with k x ++ script_ahead ahead)
+step_script k x ahead = go (k + units_ahead ahead) refl
+  where
+    go : (n : ℕ) → k + units_ahead ahead ≡ n → units_with k x ++ script_ahead ahead ≡ where_over n [] (units_with k x ++ script_ahead ahead)
+    go zero h = ap (λ l. l ++ script_ahead ahead) (no_units k x (omega (arith, h))) ∙ quiet_script ahead (omega (arith, h))
+    go (suc n) h = refl

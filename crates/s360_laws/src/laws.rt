@@ -57,20 +57,20 @@ pub fn none_after_reset()
 {}
 
 /// No start is accepted, for any device, before the channel end of the program before it is stored or reset.
-#[tactic(auto, using(crate::proofs::Starting::starts_after_channel_end))]
+#[tactic(auto, using(crate::proofs::LedgerLists::starts_after_channel_end))]
 pub fn starts_after_channel_end()
     ensures { StartsAfterChannelEnd }
 {}
 
 /// While a program runs, Start I/O answers 2 to each device of the channel, and changes nothing.
-#[tactic(auto, using(crate::proofs::Starting::no_start_while_working))]
+#[tactic(auto, using(crate::proofs::LedgerLists::no_start_while_working))]
 pub fn no_start_while_working()
     ensures { NoStartWhileWorking }
 {}
 
 /// While the channel end of a program that ended is owed: Start I/O to each device, and Test I/O to each other device,
 /// answer 2, Test Channel 1, and the next interruption gives it; over every list of events until it is stored or reset.
-#[tactic(auto, using(crate::proofs::Held::held_until_stored))]
+#[tactic(auto, using(crate::proofs::LedgerLists::held_until_stored))]
 pub fn held_until_stored()
     ensures { HeldUntilStored }
 {}
