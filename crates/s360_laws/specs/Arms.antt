@@ -40,7 +40,8 @@ arm_along u (t ∷ rest) arm = if ends_owing u t then None else arm_along u rest
 
 -- an arm that owes a device end stays as the answers say, until it is stored or reset
 abbrev pub ArmStays : Type 0
-ArmStays = (m : Machine) (es : List Input) (u : ℕ) (arm arm_now : Arm) → IsSound m → arm_for m u ≡ Some arm → arm_owes arm ≡ 1
+ArmStays = (m : Machine) (es : List Input) (u : ℕ) (arm arm_now : Arm) → IsSound m → arm_for m u ≡ Some arm
+    → arm_owes arm ≡ 1
     → arm_along u (exchanges es m) arm ≡ Some arm_now → arm_for (after_all es m) u ≡ Some arm_now
 
 -- Where nothing pends in the channel and no program runs the next interruption is that of the lowest device whose arm has
@@ -51,10 +52,12 @@ pub record IsLowestArrived (m : Machine) (device : ℕ) : Type 0 where
 
 -- where nothing pends and no program runs, the next interruption is that of the lowest device whose arm has arrived
 abbrev pub ArrivedInterrupts : Type 0
-ArrivedInterrupts = (m : Machine) (x : Option FaultAfter) (device : ℕ) → IsSound m → m.subchannel ≡ Idle → IsLowestArrived m device
+ArrivedInterrupts = (m : Machine) (x : Option FaultAfter) (device : ℕ) → IsSound m → m.subchannel ≡ Idle
+    → IsLowestArrived m device
     → (react Interrupt x m).0 ≡ Interrupted (Some (address_of m device, csw_of_unit DEVICE_END))
 
 -- Halt I/O on a channel status word that pends changes nothing at all.
 abbrev pub HaltOfPendingStays : Type 0
-HaltOfPendingStays = (m : Machine) (a device : ℕ) (csw : Csw) (x : Option FaultAfter) → a / 256 ≡ m.channel → m.subchannel ≡ Pending device csw
+HaltOfPendingStays = (m : Machine) (a device : ℕ) (csw : Csw) (x : Option FaultAfter) → a / 256 ≡ m.channel
+    → m.subchannel ≡ Pending device csw
     → react (Hio a) x m ≡ (WithCode Zero, m)

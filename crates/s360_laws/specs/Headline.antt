@@ -15,12 +15,14 @@ use Rattle.s360_laws.specs.declared.arm.Arm.{Arm}
 
 -- at every moment of a list: of the events so far and their answers, the machine behind them, and the events still to come
 abbrev pub AtEveryMoment : Machine → List Input → (List Exchange → Machine → List Input → Type 0) → Type 0
-AtEveryMoment m es P = (so_far rest : List Input) → es ≡ so_far ++ rest → P (exchanges so_far m) (after_all so_far m) rest
+AtEveryMoment m es P = (so_far rest : List Input) → es ≡ so_far ++ rest
+    → P (exchanges so_far m) (after_all so_far m) rest
 
 -- For every list of starts, tests, halts, steps, arrivals, interruptions, resets, and stores and looks of the processor:
 pub record Headline (m : Machine) (es : List Input) : Type 0 where
   -- no start is accepted while a program runs;
-  pub no_start_while_running : AtEveryMoment m es (λ so_far now rest. is_working now.subchannel ≡ true → RefusesStarts now)
+  pub no_start_while_running : AtEveryMoment m es (λ so_far now rest. is_working now.subchannel ≡ true
+      → RefusesStarts now)
   -- each accepted program's channel end and device end are each stored at most once,
   pub ends_at_most_once : AtEveryMoment m es (λ so_far now rest.
       (u : ℕ) → (times_stored CHANNEL_END u so_far ≤ 1) × (times_stored DEVICE_END u so_far ≤ 1))
@@ -35,9 +37,11 @@ pub record Headline (m : Machine) (es : List Input) : Type 0 where
   pub ends_pend : AtEveryMoment m es (λ so_far now rest. (u : ℕ) → Pends m so_far now u)
   -- the CSW of a program that ended is held until then: no program starts, and the next interruption gives it;
   pub endings_are_held : AtEveryMoment m es (λ so_far now rest.
-      (device : ℕ) (csw : Csw) → now.subchannel ≡ Pending device csw → HeldAnswers now.channel device csw (exchanges rest now))
+      (device : ℕ) (csw : Csw) → now.subchannel ≡ Pending device csw
+      → HeldAnswers now.channel device csw (exchanges rest now))
   -- an arm that moves does so until it arrives, and owes its device end until that is stored or reset;
-  pub arms_owe : AtEveryMoment m es (λ so_far now rest. (u : ℕ) (arm later : Arm) → arm_for now u ≡ Some arm → arm_owes arm ≡ 1
+  pub arms_owe : AtEveryMoment m es (λ so_far now rest. (u : ℕ) (arm later : Arm) → arm_for now u ≡ Some arm
+      → arm_owes arm ≡ 1
       → arm_along u (exchanges rest now) arm ≡ Some later → arm_for (after_all rest now) u ≡ Some later)
   -- whenever no program runs, storage and drives are those of the accepted programs run one after another, each cut at its
   -- counted unit;

@@ -116,7 +116,8 @@ StartsAfterChannelEnd = (m : Machine) (es : List Input) (e : Input) (u v : ℕ) 
 
 -- While a program runs, Start I/O at the channel answers 2, at any other channel 3, and changes nothing.
 abbrev pub RefusesStarts : Machine → Type 0
-RefusesStarts m = (a : ℕ) (x : Option FaultAfter) → react (Sio a) x m ≡ (WithCode (if a / 256 == m.channel then Two else Three), m)
+RefusesStarts m = (a : ℕ) (x : Option FaultAfter)
+    → react (Sio a) x m ≡ (WithCode (if a / 256 == m.channel then Two else Three), m)
 
 -- starts are refused so whenever a program runs
 abbrev pub NoStartWhileWorking : Type 0

@@ -17,7 +17,8 @@ TellsNoTrack answer = Unit {0}
 -- no device's sense gains equipment check
 abbrev pub NoneGainsCheck : (before after : Machine) → Type 0
 NoneGainsCheck before after =
-    (device : ℕ) (d e : Device) → device_at before device ≡ Some d → device_at after device ≡ Some e → GainsNoCheck d.drive e.drive
+    (device : ℕ) (d e : Device) → device_at before device ≡ Some d → device_at after device ≡ Some e
+    → GainsNoCheck d.drive e.drive
 
 -- An event that comes with no fault reports no track as not saved, and no device's sense gains equipment check.
 abbrev pub NoFaultNoneTold : Type 0

@@ -28,6 +28,7 @@ acts_write w device track (act ∷ rest) = act_writes w device track act || acts
 
 -- A slot that no program of a list may write keeps its bytes, whenever no program runs; with or without faults.
 abbrev pub KeepsUnwritten : Type 0
-KeepsUnwritten = (m : Machine) (es : List Input) (device track : ℕ) → Runs m m.subchannel → is_working (after_all es m).subchannel ≡ false
+KeepsUnwritten = (m : Machine) (es : List Input) (device track : ℕ) → Runs m m.subchannel
+    → is_working (after_all es m).subchannel ≡ false
     → acts_write (world_of m) device track (all_acts m (exchanges es m)) ≡ false
     → slot_at (world_of (after_all es m)) device track ≡ slot_at (world_of m) device track
