@@ -100,8 +100,7 @@ on_from rest more key (EndsIn s e) h = refl
 pub walks_on : WalkGoesOn
 walks_on [] more key f = refl
 walks_on (OneUnit a ∷ rest) more key f = on_from rest more key (unit a key f) (walks_on rest more key)
-walks_on (Outside c ∷ rest) more key f = walks_on rest more key (phase_past (Outside c) f)
-walks_on (TakesInterruption ∷ rest) more key f = walks_on rest more key (phase_past TakesInterruption f)
+walks_on (turn ∷ rest) more key f = walks_on rest more key (phase_past turn f)
 
 -- A walk that is over was over at its last unit, and not before.
 
@@ -122,8 +121,7 @@ ends_exactly a more key rest s e f (EndsIn s_two e_two) at ih h =
 pub exact : WalkEndsAtUnit
 exact [] key rest s e f h = absurd (cc)
 exact (OneUnit a ∷ more) key rest s e f h = ends_exactly a more key rest s e f (unit a key f) refl (λ g h. exact more key rest s e g h) h
-exact (Outside c ∷ more) key rest s e f h = let r = exact more key rest s e (phase_past (Outside c) f) h in (Outside c ∷ r.0, ap (λ l. Outside c ∷ l) r.1, r.2)
-exact (TakesInterruption ∷ more) key rest s e f h = let r = exact more key rest s e (phase_past TakesInterruption f) h in (TakesInterruption ∷ r.0, ap (λ l. TakesInterruption ∷ l) r.1, r.2)
+exact (turn ∷ more) key rest s e f h = let r = exact more key rest s e (phase_past turn f) h in (turn ∷ r.0, ap (λ l. turn ∷ l) r.1, r.2)
 
 -- Runs by walks.
 
@@ -143,8 +141,7 @@ run_is_walk s caw script h = ap (run_from script s) h ∙ run_walk s caw script
 pub units_in_two : (a b : Script) → units_in (a ++ b) ≡ units_in a + units_in b
 units_in_two [] b = omega arith
 units_in_two (OneUnit f ∷ a) b = let h = units_in_two a b in omega arith
-units_in_two (Outside c ∷ a) b = units_in_two a b
-units_in_two (TakesInterruption ∷ a) b = units_in_two a b
+units_in_two (turn ∷ a) b = units_in_two a b
 
 -- a run that ended stays as it is
 
