@@ -13,9 +13,9 @@ use Rattle.s360_runs.specs.Places.{Place}
 use Rattle.s360_runs.specs.Runs.{Start, run, run_from, first_place, start_point}
 use Rattle.s360_runs.specs.Scripts.{Script}
 use Rattle.s360_runs.specs.Status.{no_unit_status}
-use Rattle.s360_runs.specs.Units.{ProgramPhase, Between, Looking, Moving, standing_in, state_in}
+use Rattle.s360_runs.specs.Units.{ProgramPhase, Between, Looking, Moving, standing_in, state_in, unit}
 use Rattle.s360_runs.proofs.DriveFacts.{settle_end, close_end}
-use Rattle.s360_runs.proofs.Units.{OpenIs, BegunIs, LookIs, FoundIs, unit_holds, cut_holds, walk_holds, run_holds}
+use Rattle.s360_runs.proofs.Units.{NextHas, OpenIs, BegunIs, LookIs, phase_holds, walk_holds, run_holds}
 
 abbrev IsClosed : Closed → Type 0
 IsClosed c = IsEnd c.unit c.motion
@@ -47,7 +47,7 @@ open_closes f (Between p) = λ code. go (begin f code p.state)
     go (Started o) = tt
 open_closes f (Looking o r) = go (look f o)
   where
-    go : (l : AfterLook) → LookIs IsClosed (λ s. Unit {0}) (FoundIs IsClosed (λ s. Unit {0}) f) l
+    go : (l : AfterLook) → LookIs IsClosed (λ s. Unit {0}) f l
     go (Failed s) = check_end s
     go (Passed o) = tt
     go (Ready o) = (tt, close_end f o [])
@@ -74,13 +74,14 @@ asks_good key (Between p) = asked_at key p.place
 asks_good key (Looking o r) = asked_at key r.place
 asks_good key (Moving o t) = asked_at key t.place
 
-stands_good : (key : ℕ) (g : ProgramPhase) → StandingGood (standing_in key g)
-stands_good key g = (λ f. cut_holds IsClosed (λ s. Unit {0}) IsGood f key (λ c h. tt) (good_ending f key) g (plain_end (state_in g)) (open_closes f g), asks_good key g)
+-- of a unit, and of a cut in its place
+good_phase : (f : Option Fault) (key : ℕ) (g : ProgramPhase) → NextHas (λ s. Unit {0}) IsGood (unit f key g) × IsGood ((standing_in key g).cut f)
+good_phase f key g = phase_holds IsClosed (λ s. Unit {0}) IsGood f key (λ c h. tt) (good_ending f key) g (plain_end (state_in g)) tt (open_closes f g)
 
 run_good : (s : Start) (script : Script) (c : Option Caw) → RunGood (run_from script s c)
 run_good s script None = good_ending None 0 (first_place 0) (untouched (begin_program s.drive)) PROGRAM_CHECK (plain_end (begin_program s.drive))
-run_good s script (Some caw) = run_holds RunGood s caw script (λ g h. stands_good caw.key g) (λ used st e h. h)
-    (walk_holds (λ g. Unit {0}) (λ st. IsGood) caw.key (λ turn g h. tt) (λ f g h. unit_holds IsClosed (λ s. Unit {0}) IsGood f caw.key (λ c h. tt) (good_ending f caw.key) g (plain_end (state_in g)) tt (open_closes f g)) script (Between (start_point caw s)) tt)
+run_good s script (Some caw) = run_holds RunGood s caw script (λ g h. (λ f. (good_phase f caw.key g).1, asks_good caw.key g)) (λ used st e h. h)
+    (walk_holds (λ g. Unit {0}) (λ st. IsGood) caw.key (λ turn g h. tt) (λ f g h. (good_phase f caw.key g).0) script (Between (start_point caw s)) tt)
 
 pub good_run : (s : Start) (script : Script) → RunGood (run script s)
 good_run s script = run_good s script (caw_of s.caw)
