@@ -6,7 +6,6 @@ use Rattle.s360_words.specs.declared.flags.TheConstants.UnitStatus.{UNIT_CHECK}
 use Rattle.s360_words.specs.declared.flags.UnitStatus.{UnitStatus}
 use Rattle.s360_words.specs.Storage.{overwritten}
 use Rattle.s360_words.proofs.Overwriting.{length-overwritten}
-use Rattle.ckd_track.specs.Track.{Track}
 use Rattle.ckd_command.specs.declared.registers.Mark.{Mark}
 use Rattle.ckd_command.specs.declared.registers.Mark.TheVariants.{Written}
 use Rattle.ckd_command.specs.declared.registers.Registers.{Registers}
@@ -16,9 +15,10 @@ use Rattle.ckd_command.specs.Answers.{Beginning, Sight}
 use Rattle.ckd_command.specs.Answers as answer
 use Rattle.ckd_command.specs.Tables.{aim}
 use Rattle.ckd_command.specs.Commands.{Closing, beginning, sight}
-use Rattle.ckd_command.specs.Drive.{IdleDrive, State, Volume, unsaved, tells_equipment_check, is_written, is_written_by, drive_of, number_under, slot_under, track_under, Fault, LoadFails, SaveFails, left_by, lost, saving, moving_off, with_registers, with_store_fault, Open, AfterBegin, Rejected, Immediate, Started, begin, begun, AfterLook, Ready, Passed, Failed, look, looked, look_for, Closed, failed, close, closed, closed_moving, settled, with_unit_check, unsaved_by}
-use Rattle.ckd_command.proofs.Arms.{AtSameTrack, BeginsAt, beginning_at, closing_at, closing_empty, SightAt, sight_at}
+use Rattle.ckd_command.specs.Drive.{IdleDrive, State, Volume, unsaved, tells_equipment_check, is_written, is_written_by, drive_of, number_under, slot_under, track_under, Fault, LoadFails, SaveFails, left_by, lost, saving, moving_off, with_registers, with_store_fault, Open, Rejected, begin, begun, Failed, look, looked, look_for, Closed, failed, close, closed, closed_moving, settled, with_unit_check, unsaved_by}
+use Rattle.ckd_command.proofs.Arms.{AtSameTrack, BeginsAt, beginning_at, closing_at, closing_empty}
 use Rattle.ckd_command.proofs.CommandFacts.{IsClosing, closing_facts, store_fault_is_told}
+use Rattle.s360_runs.specs.Endings.{immediate}
 use Rattle.s360_runs.specs.Status.{tells}
 use Rattle.s360_runs.specs.StoreCalls.{closing_of, goes_to_next_head, is_next, leaves_as_it_begins, leaves_looking, looks_for_area}
 use Rattle.s360_runs.specs.Faults.{LosesAtMost}
@@ -51,11 +51,11 @@ joins_end unit motion h = record {
 
 -- and saving its track keeps them
 pub settle_end : (f : Option Fault) (c : Closed) → IsEnd c.unit c.motion → IsEnd (settled f c).unit (settled f c).motion
-settle_end f c h = go (left_by f c.state.mark)
-  where
-    go : (x : Option (List ℕ)) → let d = saving x c.state (λ s. record c { state = s; unit = with_unit_check c.unit }) c in IsEnd d.unit d.motion
-    go None = h
-    go (Some left) = joins_end c.unit c.motion h
+settle_end f c h = elim (left_by f c.state.mark) as (λ x. let d = saving x c.state (λ s. record c { state = s; unit = with_unit_check c.unit }) c in IsEnd d.unit d.motion) [ None ↦ h | Some left ↦ joins_end c.unit c.motion h ]
+
+pub immediate_end : (s : State) (motion : Bool) → IsEnd (immediate s motion).unit motion
+immediate_end s true = record { channel_end = refl; device_end = refl }
+immediate_end s false = record { channel_end = refl; device_end = refl }
 
 -- Slots.
 
@@ -162,11 +162,7 @@ empty_stays o = closing_empty _ _ _ _
 
 -- nor does it change one
 empty_writes : (o : Open) → (closing_of o []).written ≡ None
-empty_writes o = go (closing_facts _ _ _ _ []).written
-  where
-    go : {w : Bool} {t : Option Track} → (t ≡ None) ⊎ ((◌≡◌ {A = List ℕ} [] [] → ⊥) × (w ≡ true)) → t ≡ None
-    go (inl h) = h
-    go (inr h) = absurd (h.0 refl)
+empty_writes o = elim (closing_facts o.state.volume.geometry (track_under o.state) o.opened o.state.registers []).written [ inl h ↦ h | inr h ↦ absurd (h.0 refl) ]
 
 pub close_none : (o : Open) → ((close None o []).state.volume ≡ o.state.volume) × (is_written (close None o []).state ≡ is_written o.state)
 close_none o = rw (empty_stays o, empty_writes o) (refl, refl)
@@ -211,20 +207,6 @@ look_fails (SaveFails left) o = go (sighted o)
     go (answer.NextHead r) = leaves_or left o.state o.state.registers _ _ Failed _ refl (same_arm o.state.registers)
     go s = (λ h. absurd (cc), λ h. refl)
 
--- where a look fails the arm stays; and where it finds the area, the open command is as it was but for the area
-abbrev pub LookStays : Open → AfterLook → Type 0
-LookStays o (Failed s) = AtSameTrack o.state.registers s.registers
-LookStays o (Passed p) = Unit {0}
-LookStays o (Ready p) = (leaves_looking o ≡ false) × (p.state ≡ o.state)
-
-pub look_stays : (o : Open) → LookStays o (look None o)
-look_stays o = go (sighted o) refl (sight_at o.state.volume.geometry (track_under o.state) o.opened o.state.registers)
-  where
-    go : (s : Sight) → sighted o ≡ s → SightAt o.state.registers o.opened s → LookStays o (looked None o s)
-    go (answer.Found opened) e k = (ap goes_to_next_head e, refl)
-    go (answer.Missed r) e k = k
-    go s e k = tt
-
 -- Beginnings.
 
 -- a save fails before the arm goes to cylinder 0
@@ -236,21 +218,6 @@ begin_fails f code s = go f (beginning code s.registers) (beginning_at code s.re
     go (SaveFails left) (answer.ToCylinderZero r (Some o)) k = leaves_or left s r _ _ Rejected _ refl k.0
     go LoadFails (answer.ToCylinderZero r o) k = (λ h. absurd (cc), λ h. refl)
     go f b k = (λ h. absurd (cc), λ h. refl)
-
--- where a command begins the arm stays, but where it moves
-abbrev pub BegunStays : Registers → AfterBegin → Type 0
-BegunStays at (Rejected s) = AtSameTrack at s.registers
-BegunStays at (Immediate s motion) = is_written s ≡ true → (motion ≡ false) × AtSameTrack at s.registers
-BegunStays at (Started o) = Unit {0}
-
-pub begin_stays : (code : ℕ) (s : State) → BegunStays s.registers (begin None code s)
-begin_stays code s = go (beginning code s.registers) (beginning_at code s.registers)
-  where
-    go : (b : Beginning) → BeginsAt s.registers b → BegunStays s.registers (begun None s b)
-    go (answer.Rejected r) k = k
-    go (answer.Immediate r) k = λ w. (refl, k)
-    go (answer.ToCylinderZero r None) k = λ w. absurd (cc)
-    go b k = tt
 
 -- Beginning and looking change no slot: what holds of the volume holds of it behind them.
 

@@ -1,5 +1,5 @@
 -- Each ending has channel end, and device end unless the arm still moves.
-use Rattle.std.proofs.Common.{◌≡◌, ℕ, refl, subst, true, false, Bool, cond, [], Option, Some, None}
+use Rattle.std.proofs.Common.{◌≡◌, ℕ, refl, subst, cond, [], Option, Some, None}
 use Rattle.std.proofs.lemmas.Bool.{cond_both}
 use Rattle.s360_words.specs.Words.{caw_of}
 use Rattle.s360_words.specs.declared.flags.ChannelStatus.{ChannelStatus}
@@ -7,14 +7,14 @@ use Rattle.s360_words.specs.declared.flags.TheConstants.ChannelStatus.{PROGRAM_C
 use Rattle.s360_words.specs.declared.words.Caw.{Caw}
 use Rattle.s360_words.specs.declared.words.Csw.{Csw}
 use Rattle.ckd_command.specs.Drive.{Closed, State, Fault, AfterBegin, Rejected, Immediate, Started, begin, look, AfterLook, Failed, Passed, Ready, begin_program}
-use Rattle.s360_runs.specs.Endings.{untouched, failed, Ending, ending, immediate, Standing, Outcome, Ended, NotEnded, csw_at}
+use Rattle.s360_runs.specs.Endings.{untouched, failed, Ending, ending, Standing, Outcome, Ended, NotEnded, csw_at}
 use Rattle.s360_runs.specs.Laws.{IsEnd, EndingIsEnd, CutIsEnd}
 use Rattle.s360_runs.specs.Places.{Place}
 use Rattle.s360_runs.specs.Runs.{Start, run, run_from, first_place, start_point}
 use Rattle.s360_runs.specs.Scripts.{Script}
 use Rattle.s360_runs.specs.Status.{no_unit_status}
 use Rattle.s360_runs.specs.Units.{ProgramPhase, Between, Looking, Moving, standing_in, state_in, unit}
-use Rattle.s360_runs.proofs.DriveFacts.{settle_end, close_end}
+use Rattle.s360_runs.proofs.DriveFacts.{close_end, immediate_end, settle_end}
 use Rattle.s360_runs.proofs.Units.{NextHas, OpenIs, BegunIs, LookIs, phase_holds, walk_holds, run_holds}
 
 abbrev IsClosed : Closed → Type 0
@@ -32,10 +32,6 @@ IsGood e = IsEnd e.csw.unit e.motion
 good_ending : (f : Option Fault) (key : ℕ) (p : Place) (c : Closed) (channel : ChannelStatus) → IsClosed c → IsGood (ending f key p c channel)
 good_ending f key p c channel h = let g = settle_end f c h in record { channel_end = g.channel_end; device_end = g.device_end }
 
-at_once : (s : State) (motion : Bool) → IsClosed (immediate s motion)
-at_once s true = record { channel_end = refl; device_end = refl }
-at_once s false = record { channel_end = refl; device_end = refl }
-
 -- what a unit and a cut close
 open_closes : (f : Option Fault) (g : ProgramPhase) → OpenIs IsClosed (λ s. Unit {0}) f g
 open_closes f (Moving o t) = close_end f o t.bytes
@@ -43,7 +39,7 @@ open_closes f (Between p) = λ code. go (begin f code p.state)
   where
     go : (b : AfterBegin) → BegunIs IsClosed (λ s. Unit {0}) b
     go (Rejected s) = check_end s
-    go (Immediate s motion) = at_once s motion
+    go (Immediate s motion) = immediate_end s motion
     go (Started o) = tt
 open_closes f (Looking o r) = go (look f o)
   where

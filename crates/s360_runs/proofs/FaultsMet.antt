@@ -10,11 +10,14 @@ use Rattle.s360_words.specs.declared.flags.ChannelStatus.{ChannelStatus}
 use Rattle.s360_words.specs.declared.flags.TheConstants.ChannelStatus.{INCORRECT_LENGTH, PROGRAM_CHECK}
 use Rattle.s360_words.specs.declared.flags.TheConstants.UnitStatus.{UNIT_CHECK}
 use Rattle.s360_words.specs.declared.flags.UnitStatus.{UnitStatus}
-use Rattle.ckd_command.specs.Drive.{Fault, Volume, Closed, close, Open, look, AfterLook, State, Failed, Passed, Ready, AfterBegin, Rejected, Immediate, Started, begin, is_written, length_of, settled, LoadFails, SaveFails, with_unit_check}
-use Rattle.ckd_command.proofs.Arms.{AtSameTrack}
+use Rattle.ckd_command.specs.Answers.{Beginning, Sight}
+use Rattle.ckd_command.specs.Answers as answer
+use Rattle.ckd_command.specs.Commands.{beginning}
+use Rattle.ckd_command.specs.Drive.{Fault, Closed, begun, looked, track_under, with_registers, close, Open, look, AfterLook, State, Failed, Passed, Ready, AfterBegin, Rejected, Immediate, Started, begin, is_written, length_of, settled, LoadFails, SaveFails, with_unit_check}
+use Rattle.ckd_command.proofs.Arms.{AtSameTrack, BeginsAt, SightAt, beginning_at, sight_at}
 use Rattle.s360_runs.specs.Commands.{Ends, choice, past_modifier, Point, Chains, completed, goes_on_chaining, length_status, requested}
 use Rattle.s360_runs.specs.Endings.{Ending, ending, settled_ending, failed, immediate, untouched, closed_by_cut, Ended}
-use Rattle.s360_runs.specs.Faults.{EndsByFault, NextByFault, FaultEndsUnit, FaultEndsPhase, FaultEndsCut, FaultEndsProgram, OutcomeByFault, cut_drive, without_faults, GoesOnWithoutFaults}
+use Rattle.s360_runs.specs.Faults.{NextByFault, FaultEndsUnit, FaultEndsPhase, FaultEndsCut, FaultEndsProgram, OutcomeByFault, cut_drive, without_faults, GoesOnWithoutFaults}
 use Rattle.s360_runs.specs.Laws.{IsEnd}
 use Rattle.s360_runs.specs.Places.{Place, fetch, Fetched, NoCcw, TransferTo, GoodCcw, past_no_ccw}
 use Rattle.s360_runs.specs.Runs.{Start, run, start_point}
@@ -23,8 +26,8 @@ use Rattle.s360_runs.specs.Status.{tells, beside, with_interruption, is_clear, n
 use Rattle.s360_runs.specs.StoreCalls.{closing_of, cut_meets, ends_written_begun, ends_written_by, ends_written_fetched, ends_written_looked, ends_written_moved, leaves_fetched, leaves_moved, looks_for_area, meets, saves, saves_by_cut}
 use Rattle.s360_runs.specs.Transfers.{Request, Transfer, request_of, Stops, TransferUnit, Moves, Completes, transfer_unit, first_transfer, is_incorrect_length}
 use Rattle.s360_runs.specs.Units.{unit, Next, EndsIn, next_chosen, next_moved, next_looked, next_begun, next_fetched, Between, Looking, Moving, ProgramPhase, standing_in, state_in, StandsAt, outcome_of, on_next, walk, GoesOn, EndsWith, StandsIn, phase_past, Walk}
-use Rattle.s360_runs.proofs.DriveFacts.{BegunStays, Fails, FailsOr, LookStays, StaysWritten, VolumeClosed, VolumeIn, begin_fails, begin_keeps, begin_stays, close_end, close_fails, close_none, close_stays, empty_stays, if_save, joins_check, joins_end, look_fails, look_keeps, look_meets, look_stays, lost_fails, same_arm, saving_or, settle_again}
-use Rattle.s360_runs.proofs.Units.{BegunIs, FitsCheck, LookIs, NextIs, UnitIs, unit_is}
+use Rattle.s360_runs.proofs.DriveFacts.{Fails, FailsOr, StaysWritten, begin_fails, close_end, close_fails, close_none, close_stays, empty_stays, if_save, immediate_end, joins_check, joins_end, look_fails, look_meets, lost_fails, same_arm, saving_or, settle_again, sighted}
+use Rattle.s360_runs.proofs.Units.{BegunIs, FitsCheck, NextIs, UnitIs, unit_is}
 use Rattle.s360_runs.proofs.Standing.{stands_by_walk, stands_somewhere, goes_by, begins}
 use Rattle.s360_runs.proofs.Walks.{units_in_two}
 
@@ -143,53 +146,67 @@ module _ (f : Fault) (key : ℕ) (g : ProgramPhase) where
       closed_met o t.bytes (λ x c. next_chosen (completed x key t o c)) (λ c. ends_written_by (request_of t) c (length_status o t c)) e r
       (λ s. failed_next f key g (request_of t) (length_status o t (failed s)) s (length_fits o t (failed s))) (λ c. chosen_met f key g (request_of t) (length_status o t c) c (length_fits o t c))
 
+-- what a look that fails may lose; where it finds the area, the drive is as it was
+abbrev LookMay : (key : ℕ) → Open → Request → AfterLook → Type 0
+LookMay key o r (Failed s) = MayLose key (Looking o r) (failed s)
+LookMay key o r (Passed p) = Unit {0}
+LookMay key o r (Ready p) = p.state ≡ o.state
+
+look_may : (key : ℕ) (o : Open) (r : Request) → LookMay key o r (look None o)
+look_may key o r = go (sighted o) (sight_at o.state.volume.geometry (track_under o.state) o.opened o.state.registers)
+  where
+    go : (s : Sight) → SightAt o.state.registers o.opened s → LookMay key o r (looked None o s)
+    go (answer.Found opened) k = refl
+    go (answer.Missed q) k = failed_may key (Looking o r) (with_registers o.state q) refl k
+    go s k = tt
+
 looked_met : (f : Fault) (key : ℕ) (o : Open) (r : Request) → MetOr (look_meets f o || if_save f (ends_written_looked key r (look None o))) f key (Looking o r) (λ x. next_looked x key r (look x o))
 looked_met f key o r =
-    call_met f key g (look_meets f o) _ Failed (λ x. look x o) (λ x. next_looked x key r) (look_fails f o)
-    (λ t. failed_ending f key g r.storage r.place no_channel_status t refl) (staying (look None o) (look_keeps (λ v. v ≡ o.state.volume) o refl) (look_stays o))
+    call_met f key (Looking o r) (look_meets f o) _ Failed (λ x. look x o) (λ x. next_looked x key r) (look_fails f o)
+    (λ t. failed_ending f key (Looking o r) r.storage r.place no_channel_status t refl) (staying (look None o) (look_may key o r))
   where
-    g : ProgramPhase
-    g = Looking o r
-
-    SameVolume : Volume → Type 0
-    SameVolume v = v ≡ o.state.volume
-
     -- where the head stays
-    staying : (l : AfterLook) → LookIs (VolumeClosed SameVolume) (VolumeIn SameVolume) None l → LookStays o l → MetOr (if_save f (ends_written_looked key r l)) f key (Looking o r) (λ x. next_looked x key r l)
-    staying (Failed s) k h = ended_met f key (Looking o r) r.storage r.place no_channel_status (failed s) refl (failed_may key (Looking o r) s k h)
-    staying (Passed p) k h = unmet f key (Looking o r) _
-    staying (Ready p) k h =
+    staying : (l : AfterLook) → LookMay key o r l → MetOr (if_save f (ends_written_looked key r l)) f key (Looking o r) (λ x. next_looked x key r l)
+    staying (Failed s) k = ended_met f key (Looking o r) r.storage r.place no_channel_status (failed s) refl k
+    staying (Passed p) k = unmet f key (Looking o r) _
+    staying (Ready p) k =
         let t = first_transfer r in
         let u = transfer_unit key p t in
         subst (λ b. MetOr (if_save f (b || ends_written_moved p t u)) f key (Looking o r) (λ x. next_moved x key p t u)) (stays_here u)
-        (moved_met f key (Looking o r) p t u (unit_is key p t) k.1 (ap (λ s. s.registers) h.1))
+        (moved_met f key (Looking o r) p t u (unit_is key p t) ((close_none p).0 ∙ ap (λ s. s.volume) k) (ap (λ s. s.registers) k))
       where
         -- with no byte no command leaves its track
         stays_here : (u : TransferUnit) → (leaves_moved p (first_transfer r) u && is_written p.state) ≡ false
         stays_here (Moves next) = refl
         stays_here u = ap (λ b. b && is_written p.state) (empty_stays p)
 
+-- what a command that is over as it begins may lose
+begin_may : (key : ℕ) (p : Point) (code : ℕ) → BegunIs (MayLose key (Between p)) (λ s. Unit {0}) (begin None code p.state)
+begin_may key p code = go (beginning code p.state.registers) (beginning_at code p.state.registers)
+  where
+    go : (b : Beginning) → BeginsAt p.state.registers b → BegunIs (MayLose key (Between p)) (λ s. Unit {0}) (begun None p.state b)
+    go (answer.Rejected r) k = failed_may key (Between p) (with_registers p.state r) refl k
+    go (answer.Immediate r) k = record { slots = refl; ends = immediate_end p.state false; stays = λ w. record { motion = refl; arm = k } }
+    go (answer.ToCylinderZero r None) k = record { slots = refl; ends = immediate_end p.state true; stays = λ w. absurd (cc) }
+    go (answer.ToCylinderZero r (Some o)) k = tt
+    go (answer.Started r o) k = tt
+
 fetched_met : (f : Fault) (key : ℕ) (p : Point) (w : Fetched)
     → MetOr (if_save f ((leaves_fetched p w && is_written p.state) || ends_written_fetched p w)) f key (Between p) (λ x. next_fetched x key p w)
 fetched_met f key p NoCcw = ended_met f key (Between p) p.storage (past_no_ccw p.place) PROGRAM_CHECK (untouched p.state) refl (untouched_may key (Between p) refl)
 fetched_met f key p (TransferTo address) = unmet f key (Between p) _
 fetched_met f key p (GoodCcw ccw) =
-    subst (λ m. MetOr m f key (Between p) (λ x. next_begun x key (requested p ccw) (begin x ccw.code p.state))) (if_save_or f _ (ends_written_begun (requested p ccw) (begin None ccw.code p.state)))
-    (call_met f key (Between p) _ _ Rejected (λ x. begin x ccw.code p.state) (λ x. next_begun x key (requested p ccw)) (begin_fails f ccw.code p.state)
-    (λ t. failed_ending f key (Between p) p.storage (requested p ccw).place no_channel_status t refl) (staying (begin None ccw.code p.state) (begin_keeps (λ v. v ≡ p.state.volume) ccw.code p.state refl) (begin_stays ccw.code p.state)))
+    subst (λ m. MetOr m f key (Between p) (λ x. next_begun x key r (begin x ccw.code p.state))) (if_save_or f _ (ends_written_begun r (begin None ccw.code p.state)))
+    (call_met f key (Between p) _ _ Rejected (λ x. begin x ccw.code p.state) (λ x. next_begun x key r) (begin_fails f ccw.code p.state)
+    (λ t. failed_ending f key (Between p) p.storage r.place no_channel_status t refl) (staying (begin None ccw.code p.state) (begin_may key p ccw.code)))
   where
-    SameVolume : Volume → Type 0
-    SameVolume v = v ≡ p.state.volume
+    r : Request
+    r = requested p ccw
 
-    staying : (b : AfterBegin) → BegunIs (VolumeClosed SameVolume) (VolumeIn SameVolume) b → BegunStays p.state.registers b
-        → MetOr (if_save f (ends_written_begun (requested p ccw) b)) f key (Between p) (λ x. next_begun x key (requested p ccw) b)
-    staying (Rejected s) k h = ended_met f key (Between p) p.storage (requested p ccw).place no_channel_status (failed s) refl (failed_may key (Between p) s k h)
-    staying (Immediate s motion) k h = chosen_met f key (Between p) (requested p ccw) no_channel_status (immediate s motion) refl (record { slots = k; ends = over motion; stays = λ w. record { motion = (h w).0; arm = (h w).1 } })
-      where
-        over : (motion : Bool) → IsEnd (immediate s motion).unit motion
-        over true = record { channel_end = refl; device_end = refl }
-        over false = record { channel_end = refl; device_end = refl }
-    staying (Started o) k h = unmet f key (Between p) _
+    staying : (b : AfterBegin) → BegunIs (MayLose key (Between p)) (λ s. Unit {0}) b → MetOr (if_save f (ends_written_begun r b)) f key (Between p) (λ x. next_begun x key r b)
+    staying (Rejected s) k = ended_met f key (Between p) p.storage r.place no_channel_status (failed s) refl k
+    staying (Immediate s motion) k = chosen_met f key (Between p) r no_channel_status (immediate s motion) refl k
+    staying (Started o) k = unmet f key (Between p) _
 
 unit_met : (f : Fault) (key : ℕ) (g : ProgramPhase) → MetOr (meets f key g) f key g (λ x. unit x key g)
 unit_met f key (Between p) = rw (meets_save f) (fetched_met f key p (fetch p.storage p.place true))
@@ -265,12 +282,8 @@ fault_ends_phase f key g = let h = cut_met f key g in record { met = λ w. h.0 (
 
 pub fault_ends_cut : FaultEndsCut
 fault_ends_cut s script seen h =
-    let y = stands_somewhere s script seen h in rw y.3 ((fault_ends_phase LoadFails y.0 y.1).not_met refl, λ left. go left y.0 y.1 (cut_or_not (SaveFails left) y.0 y.1))
-  where
-    go : (left : List ℕ) (key : ℕ) (g : ProgramPhase) → SameOr (SaveFails left) key g (cut_next key g)
-        → ((standing_in key g).cut (Some (SaveFails left)) ≡ (standing_in key g).cut None) ⊎ EndsByFault (SaveFails left) (cut_drive key g) ((standing_in key g).cut (Some (SaveFails left)))
-    go left key g (inl h) = inl (the_ending _ _ h)
-    go left key g (inr h) = inr h.0
+    let y = stands_somewhere s script seen h in
+    rw y.3 ((fault_ends_phase LoadFails y.0 y.1).not_met refl, λ left. elim (cut_or_not (SaveFails left) y.0 y.1) [ inl h ↦ inl (the_ending _ _ h) | inr h ↦ inr h.0 ])
 
 pub same_outcome : (a b : Script) (key : ℕ) (w : Walk) → units_in a ≡ units_in b → outcome_of a key w ≡ outcome_of b key w
 same_outcome a b key (StandsIn g) h = refl

@@ -7,8 +7,8 @@ use Rattle.s360_words.specs.declared.flags.ChannelStatus.{ChannelStatus}
 use Rattle.s360_words.specs.declared.words.Caw.{Caw}
 use Rattle.s360_words.proofs.Overwriting.{length-overwritten}
 use Rattle.ckd_command.specs.Drive.{Fault, Open, AfterBegin, Immediate, begin, AfterLook, Ready, look, Closed, close}
-use Rattle.s360_runs.specs.Commands.{goes_on_chaining, Chains, Ends, choice, past_modifier, length_status, requested}
-use Rattle.s360_runs.specs.Endings.{NotEnded, ending, immediate}
+use Rattle.s360_runs.specs.Commands.{goes_on_chaining, choice, length_status, requested}
+use Rattle.s360_runs.specs.Endings.{NotEnded, immediate}
 use Rattle.s360_runs.specs.Places.{fetch, Fetched, GoodCcw}
 use Rattle.s360_runs.specs.Runs.{run_from, start_point}
 use Rattle.s360_runs.specs.Scripts.{Outside, Turn, storage_past}
@@ -32,7 +32,7 @@ NextSized before n = NextIs (λ g. Sized before (storage_in g)) (λ s e. Sized b
 module _ (before : Storage) (f : Option Fault) (key : ℕ) where
   chosen_sized : (r : Request) (c : Closed) (channel : ChannelStatus) → Sized before r.storage → NextSized before (next_chosen (choice f key r c channel))
   chosen_sized r c channel h =
-      cond_both (goes_on_chaining r c channel) (Chains (record { storage = r.storage; place = past_modifier r.place c; state = c.state })) (Ends r.storage (ending f key r.place c channel)) (λ x. NextSized before (next_chosen x)) (λ e. h) (λ e. h)
+      cond_both (goes_on_chaining r c channel) _ _ (λ x. NextSized before (next_chosen x)) (λ e. h) (λ e. h)
 
   moved_sized : (o : Open) (t : Transfer) → Sized before t.storage → NextSized before (next_moved f key o t (transfer_unit key o t))
   moved_sized o t h = go (transfer_unit key o t) (unit_is key o t)

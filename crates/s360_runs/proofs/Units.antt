@@ -1,5 +1,5 @@
 -- What holds of a program from unit to unit: one analysis of a unit for all such properties, and one induction over scripts.
-use Rattle.std.proofs.Common.{◌≡◌, ℕ, refl, sym, subst, true, false, Bool, cond, not, ◌&&◌, List, [], ◌∷◌, length, Option, Some, None}
+use Rattle.std.proofs.Common.{◌≡◌, ℕ, refl, true, false, Bool, cond, not, ◌&&◌, [], ◌∷◌, length, Option, Some, None}
 use Rattle.std.specs.Prelude.{is_some, slice_get}
 use Rattle.std.proofs.lemmas.Bool.{cond_both}
 use Rattle.s360_words.specs.Storage.{Storage, admits, key_at, stored}
@@ -9,7 +9,7 @@ use Rattle.s360_words.specs.declared.flags.TheConstants.ChannelStatus.{PROGRAM_C
 use Rattle.s360_words.specs.declared.words.Caw.{Caw}
 use Rattle.s360_words.proofs.Overwriting.{length-overwritten}
 use Rattle.ckd_command.specs.Drive.{AfterBegin, AfterLook, Closed, Failed, Fault, Immediate, Open, Passed, Ready, Rejected, Started, State, begin, close, gives, look, state_of}
-use Rattle.s360_runs.specs.Commands.{Chains, Ends, Point, choice, goes_on_chaining, length_status, past_modifier, requested}
+use Rattle.s360_runs.specs.Commands.{choice, goes_on_chaining, length_status, requested}
 use Rattle.s360_runs.specs.Endings.{Ended, Ending, NotEnded, Outcome, closed_by_cut, ending, failed, immediate, untouched}
 use Rattle.s360_runs.specs.Faults.{without_faults}
 use Rattle.s360_runs.specs.Places.{Fetched, GoodCcw, NoCcw, Place, TransferTo, fetch, past_no_ccw}
@@ -52,11 +52,8 @@ module _ (P : ProgramPhase → Type 0) (E : Storage → Ending → Type 0) (key 
 pub run_holds : {P : ProgramPhase → Type 0} {E : Storage → Ending → Type 0} (O : Outcome → Type 0) (s : Start) (caw : Caw) (script : Script)
     → ((g : ProgramPhase) → P g → O (NotEnded (standing_in caw.key g))) → ((used : ℕ) (st : Storage) (e : Ending) → E st e → O (Ended used st e))
     → WalkIs P E (walk script caw.key (Between (start_point caw s))) → O (run_from script s (Some caw))
-run_holds {P} {E} O s caw script stands ends h = subst O (sym (run_walk s caw script)) (go (walk script caw.key (Between (start_point caw s))) h)
-  where
-    go : (w : Walk) → WalkIs P E w → O (outcome_of script caw.key w)
-    go (StandsIn g) h = stands g h
-    go (EndsWith rest st e) h = ends _ st e h
+run_holds {P} {E} O s caw script stands ends h =
+    rw (run_walk s caw script) ((elim (walk script caw.key (Between (start_point caw s))) as (λ w. WalkIs P E w → O (outcome_of script caw.key w)) [ StandsIn g ↦ stands g | EndsWith rest st e ↦ ends _ st e ]) h)
 
 -- a turn that is no unit leaves the drive
 pub past_state : (turn : Turn) (g : ProgramPhase) → state_in (phase_past turn g) ≡ state_in g
@@ -120,11 +117,8 @@ NextHas Q E n = NextIs (λ g. Q (state_in g)) (λ s e. E e) n
 module _ (C : Closed → Type 0) (Q : State → Type 0) (E : Ending → Type 0) (f : Option Fault) (key : ℕ) (goes : (c : Closed) → C c → Q c.state)
     (ends : (p : Place) (c : Closed) (channel : ChannelStatus) → C c → E (ending f key p c channel)) where
   pub choice_holds : (r : Request) (c : Closed) (channel : ChannelStatus) → C c → NextHas Q E (next_chosen (choice f key r c channel))
-  choice_holds r c channel h = go (goes_on_chaining r c channel) (record { storage = r.storage; place = past_modifier r.place c; state = c.state }) (goes c h)
-    where
-      go : (b : Bool) (q : Point) → Q q.state → NextHas Q E (next_chosen (cond b (Chains q) (Ends r.storage (ending f key r.place c channel))))
-      go true q k = k
-      go false q k = ends r.place c channel h
+  choice_holds r c channel h =
+      cond_both (goes_on_chaining r c channel) _ _ (λ x. NextHas Q E (next_chosen x)) (λ e. goes c h) (λ e. ends r.place c channel h)
 
   pub begun_holds : (r : Request) (b : AfterBegin) → BegunIs C Q b → NextHas Q E (next_begun f key r b)
   begun_holds r (Rejected s) h = ends r.place (failed s) no_channel_status h
@@ -154,11 +148,8 @@ module _ (C : Closed → Type 0) (Q : State → Type 0) (E : Ending → Type 0) 
   cut_holds : (g : ProgramPhase) → C (untouched (state_in g)) → OpenIs C Q f g → E ((standing_in key g).cut f)
   cut_holds (Between p) c h = ends p.place (untouched p.state) no_channel_status c
   cut_holds (Looking o r) c h = ends r.place (untouched (state_of o)) no_channel_status c
-  cut_holds (Moving o t) c h = ends t.place (closed_by_cut f o t.bytes) no_channel_status (go t.bytes h)
-    where
-      go : (b : List ℕ) → C (close f o b) → C (closed_by_cut f o b)
-      go [] h = c
-      go (x ∷ b) h = h
+  cut_holds (Moving o t) c h =
+      ends t.place (closed_by_cut f o t.bytes) no_channel_status ((elim t.bytes as (λ b. C (close f o b) → C (closed_by_cut f o b)) [ [] ↦ λ h. c | x ∷ b ↦ λ h. h ]) h)
 
   -- what a phase keeps, in its unit and where it is cut
   pub phase_holds : (g : ProgramPhase) → C (untouched (state_in g)) → Q (state_in g) → OpenIs C Q f g → NextHas Q E (unit f key g) × E ((standing_in key g).cut f)

@@ -1,6 +1,6 @@
 -- Which tracks a program may report as not saved, that it reports none without a fault of the store, and all that a failed load
 -- leaves.
-use Rattle.std.proofs.Common.{◌≡◌, ℕ, refl, subst, sym, ap, ◌∙◌, true, false, Bool, cond, ◌||◌, List, [], Option, Some, None, ◌⊎◌, inl, inr}
+use Rattle.std.proofs.Common.{◌≡◌, ℕ, refl, subst, sym, ap, ◌∙◌, true, false, Bool, cond, ◌||◌, List, [], Option, Some, None, inl, inr}
 use Rattle.std.proofs.lemmas.Bool.{or_left, or_right, cond_both}
 use Rattle.std.specs.Prelude.{is_some}
 use Rattle.s360_words.specs.Words.{chains_command, caw_of}
@@ -115,11 +115,7 @@ pub record ToldOf (written : Bool) (s : State) : Type 0 where
   pub still : is_written s ≡ true → written ≡ true
 
 told_ending : (w : Bool) (f : Option Fault) (key : ℕ) (p : Place) (c : Closed) (channel : ChannelStatus) → ToldOf w c.state → is_some (ending f key p c channel).unsaved ≡ true → w ≡ true
-told_ending w f key p c channel h e = go (settle_traces f c e)
-  where
-    go : (is_some (unsaved c.state) ≡ true) ⊎ (is_written c.state ≡ true) → w ≡ true
-    go (inl l) = h.lost l
-    go (inr l) = h.still l
+told_ending w f key p c channel h e = elim (settle_traces f c e) [ inl l ↦ h.lost l | inr l ↦ h.still l ]
 
 -- without a byte
 told_empty : (w : Bool) (f : Option Fault) (o : Open) → unsaved (state_of o) ≡ None → (is_written (state_of o) ≡ true → w ≡ true) → ToldOf w (close f o []).state
