@@ -31,12 +31,9 @@ use Rattle.s360_runs.proofs.Units.{BegunIs, LookIs}
 pub close_end : (f : Option Fault) (o : Open) (b : List ℕ) → IsEnd (close f o b).unit (close f o b).motion
 close_end f o b = by (closing_of o b) (closing_of o b).moves_off (closing_facts _ _ _ _ b)
   where
-    saves : {w : Bool} (c : Closing) → IsClosing o.state.registers b w c → (x : Option (List ℕ)) → let d = saving x o.state failed (closed_moving o.state c) in IsEnd d.unit d.motion
-    saves c h (Some left) = record { channel_end = refl; device_end = refl }
-    saves c h None = record { channel_end = h.channel_end; device_end = h.device_end }
-
     by : {w : Bool} (c : Closing) (moves_off : Bool) → IsClosing o.state.registers b w c → let d = closed f o.state c moves_off in IsEnd d.unit d.motion
-    by c true h = saves c h (left_by f o.state.mark)
+    by c true h = elim (left_by f o.state.mark) as (λ x. let d = saving x o.state failed (closed_moving o.state c) in IsEnd d.unit d.motion)
+        [ Some left ↦ record { channel_end = refl; device_end = refl } | None ↦ record { channel_end = h.channel_end; device_end = h.device_end } ]
     by c false h = record { channel_end = h.channel_end; device_end = h.device_end }
 
 pub joins_check : (unit : UnitStatus) → tells (with_unit_check unit) UNIT_CHECK ≡ true
@@ -102,10 +99,7 @@ pub load_fails : (o : Open) → Fails LoadFails (drive_of o.state) o.state.regis
 load_fails o = record { equipment_check = store_fault_is_told o.state.registers; slots = refl; arm = record { cylinder = refl; head = refl } }
 
 -- what a save that fails comes to, where the track is written; and where it is not, nothing is saved
-abbrev pub LostOr : {A : Type 0} → List ℕ → State → (State → A) → (goes : A) → (it_is : A) → Type 0
-LostOr left s fails goes it_is = (is_written s ≡ true → it_is ≡ fails (lost s left)) × (is_written s ≡ false → it_is ≡ goes)
-
-pub saving_or : {A : Type 0} (left : List ℕ) (s : State) (fails : State → A) (goes : A) → LostOr left s fails goes (moving_off (Some (SaveFails left)) s fails goes)
+pub saving_or : {A : Type 0} (left : List ℕ) (s : State) (fails : State → A) (goes : A) → let x = moving_off (Some (SaveFails left)) s fails goes in (is_written s ≡ true → x ≡ fails (lost s left)) × (is_written s ≡ false → x ≡ goes)
 saving_or left s fails goes = go s.mark
   where
     go : (m : Mark) → let x = saving (left_by (Some (SaveFails left)) m) s fails goes in (is_written_by m ≡ true → x ≡ fails (lost s left)) × (is_written_by m ≡ false → x ≡ goes)
