@@ -23,7 +23,7 @@ use Rattle.s360_runs.specs.Places.{Place, fetch, Fetched, NoCcw, TransferTo, Goo
 use Rattle.s360_runs.specs.Runs.{Start, run, start_point}
 use Rattle.s360_runs.specs.Scripts.{Script, OneUnit, units_in}
 use Rattle.s360_runs.specs.Status.{tells, beside, with_interruption, is_clear, no_channel_status}
-use Rattle.s360_runs.specs.StoreCalls.{closing_of, cut_meets, ends_written_begun, ends_written_by, ends_written_fetched, ends_written_looked, ends_written_moved, leaves_fetched, leaves_moved, looks_for_area, meets, saves, saves_by_cut}
+use Rattle.s360_runs.specs.StoreCalls.{closing_of, ends_written_begun, ends_written_by, ends_written_fetched, ends_written_looked, ends_written_moved, leaves_fetched, leaves_moved, meets, saves_by_cut}
 use Rattle.s360_runs.specs.Transfers.{Request, Transfer, request_of, Stops, TransferUnit, Moves, Completes, transfer_unit, first_transfer, is_incorrect_length}
 use Rattle.s360_runs.specs.Units.{unit, Next, EndsIn, next_chosen, next_moved, next_looked, next_begun, next_fetched, Between, Looking, Moving, ProgramPhase, standing_in, state_in, StandsAt, outcome_of, on_next, walk, GoesOn, EndsWith, StandsIn, phase_past, Walk}
 use Rattle.s360_runs.proofs.DriveFacts.{Fails, FailsOr, StaysWritten, begin_fails, close_end, close_fails, close_none, close_stays, empty_stays, if_save, immediate_end, joins_check, joins_end, look_fails, look_meets, lost_fails, same_arm, saving_or, settle_again, sighted}
@@ -208,27 +208,18 @@ fetched_met f key p (GoodCcw ccw) =
     staying (Immediate s motion) k = chosen_met f key (Between p) r no_channel_status (immediate s motion) refl k
     staying (Started o) k = unmet f key (Between p) _
 
-unit_met : (f : Fault) (key : ℕ) (g : ProgramPhase) → MetOr (meets f key g) f key g (λ x. unit x key g)
-unit_met f key (Between p) = rw (meets_save f) (fetched_met f key p (fetch p.storage p.place true))
-  where
-    meets_save : (f : Fault) → meets f key (Between p) ≡ if_save f (saves key (Between p))
-    meets_save LoadFails = refl
-    meets_save (SaveFails left) = refl
-unit_met f key (Looking o r) = rw (meets_look f) (looked_met f key o r)
-  where
-    meets_look : (f : Fault) → meets f key (Looking o r) ≡ (look_meets f o || if_save f (ends_written_looked key r (look None o)))
-    meets_look LoadFails = sym (or-false (looks_for_area o))
-    meets_look (SaveFails left) = refl
-unit_met f key (Moving o t) = rw (meets_save f) (moved_met f key (Moving o t) o t (transfer_unit key o t) (unit_is key o t) (cut_slots t.bytes) refl)
-  where
-    meets_save : (f : Fault) → meets f key (Moving o t) ≡ if_save f (saves key (Moving o t))
-    meets_save LoadFails = refl
-    meets_save (SaveFails left) = refl
+-- a cut leaves the slots of the command closed by the bytes that passed
+cut_slots : (o : Open) (b : List ℕ) → (close None o b).state.volume ≡ (closed_by_cut None o b).state.volume
+cut_slots o [] = (close_none o).0
+cut_slots o (x ∷ b) = refl
 
-    -- a cut leaves the slots of the command closed by the bytes that passed
-    cut_slots : (b : List ℕ) → (close None o b).state.volume ≡ (closed_by_cut None o b).state.volume
-    cut_slots [] = (close_none o).0
-    cut_slots (x ∷ b) = refl
+unit_met : (f : Fault) (key : ℕ) (g : ProgramPhase) → MetOr (meets f key g) f key g (λ x. unit x key g)
+unit_met LoadFails key (Between p) = fetched_met LoadFails key p (fetch p.storage p.place true)
+unit_met LoadFails key (Looking o r) = rw or-false at (looked_met LoadFails key o r)
+unit_met LoadFails key (Moving o t) = moved_met LoadFails key (Moving o t) o t (transfer_unit key o t) (unit_is key o t) (cut_slots o t.bytes) refl
+unit_met (SaveFails left) key (Between p) = fetched_met (SaveFails left) key p (fetch p.storage p.place true)
+unit_met (SaveFails left) key (Looking o r) = looked_met (SaveFails left) key o r
+unit_met (SaveFails left) key (Moving o t) = moved_met (SaveFails left) key (Moving o t) o t (transfer_unit key o t) (unit_is key o t) (cut_slots o t.bytes) refl
 
 pub fault_ends_unit : FaultEndsUnit
 fault_ends_unit f key g = let h = unit_met f key g in record { met = h.0; not_met = h.1 }
@@ -272,11 +263,8 @@ pub cut_or_not : (f : Fault) (key : ℕ) (g : ProgramPhase) → SameOr f key g (
 cut_or_not f key g = same_or _ f key g (cut_next key g) (cut_met f key g)
 
 pub fault_ends_phase : FaultEndsPhase
-fault_ends_phase f key g = let h = cut_met f key g in record { met = λ w. h.0 (cut_saves f ∙ w); not_met = λ w. the_ending _ _ (h.1 (cut_saves f ∙ w)) }
-  where
-    cut_saves : (f : Fault) → if_save f (saves_by_cut g) ≡ cut_meets f g
-    cut_saves LoadFails = refl
-    cut_saves (SaveFails left) = refl
+fault_ends_phase LoadFails key g = let h = cut_met LoadFails key g in record { met = h.0; not_met = λ w. the_ending _ _ (h.1 w) }
+fault_ends_phase (SaveFails left) key g = let h = cut_met (SaveFails left) key g in record { met = h.0; not_met = λ w. the_ending _ _ (h.1 w) }
 
 -- Runs.
 
@@ -313,16 +301,12 @@ fault_ends_program s script f seen h = let y = stands_somewhere s script seen h 
 
 -- a unit in which the program goes on is the unit without its fault
 goes_unmet : (f : Option Fault) (key : ℕ) (g : ProgramPhase) → NextIs (λ p. unit None key g ≡ GoesOn p) (λ s e. Unit {0}) (unit f key g)
-goes_unmet f key g = by f
+goes_unmet f key g = elim f as (λ f. NextIs (λ p. unit None key g ≡ GoesOn p) (λ s e. Unit {0}) (unit f key g)) [ None ↦ go LoadFails _ (inl refl) | Some f ↦ go f _ (fault_or_not f key g) ]
   where
     go : (f : Fault) (n : Next) → (n ≡ unit None key g) ⊎ NextByFault f key g n → NextIs (λ p. unit None key g ≡ GoesOn p) (λ s e. Unit {0}) n
     go f (GoesOn p) (inl e) = sym e
     go f (GoesOn p) (inr h) = absurd h
     go f (EndsIn s e) h = tt
-
-    by : (f : Option Fault) → NextIs (λ p. unit None key g ≡ GoesOn p) (λ s e. Unit {0}) (unit f key g)
-    by None = go LoadFails (unit None key g) (inl refl)
-    by (Some f) = go f (unit (Some f) key g) (fault_or_not f key g)
 
 -- so what holds where a program goes on without its fault holds where it goes on
 pub unmet_holds : (P : ProgramPhase → Type 0) (f : Option Fault) (key : ℕ) (g : ProgramPhase) → NextIs P (λ s e. Unit {0}) (unit None key g) → NextIs P (λ s e. Unit {0}) (unit f key g)

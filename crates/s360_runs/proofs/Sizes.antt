@@ -6,10 +6,10 @@ use Rattle.s360_words.specs.Words.{caw_of}
 use Rattle.s360_words.specs.declared.flags.ChannelStatus.{ChannelStatus}
 use Rattle.s360_words.specs.declared.words.Caw.{Caw}
 use Rattle.s360_words.proofs.Overwriting.{length-overwritten}
-use Rattle.ckd_command.specs.Drive.{Fault, Open, AfterBegin, Immediate, begin, AfterLook, Ready, look, Closed, close}
+use Rattle.ckd_command.specs.Drive.{Fault, Open, AfterBegin, Immediate, begin, Failed, Passed, Ready, look, Closed, close}
 use Rattle.s360_runs.specs.Commands.{goes_on_chaining, choice, length_status, requested}
 use Rattle.s360_runs.specs.Endings.{NotEnded, immediate}
-use Rattle.s360_runs.specs.Places.{fetch, Fetched, GoodCcw}
+use Rattle.s360_runs.specs.Places.{fetch, GoodCcw, NoCcw, TransferTo}
 use Rattle.s360_runs.specs.Runs.{run_from, start_point}
 use Rattle.s360_runs.specs.Scripts.{Outside, Turn, storage_past}
 use Rattle.s360_runs.specs.Status.{no_channel_status}
@@ -48,16 +48,9 @@ module _ (before : Storage) (f : Option Fault) (key : ℕ) where
 
   next_sized : (g : ProgramPhase) → Sized before (storage_in g) → NextSized before (unit f key g)
   next_sized (Moving o t) h = moved_sized o t h
-  next_sized (Between p) h = go (fetch p.storage p.place true)
-    where
-      go : (w : Fetched) → NextSized before (next_fetched f key p w)
-      go (GoodCcw ccw) = begun_sized (requested p ccw) (begin f ccw.code p.state) h
-      go w = h
-  next_sized (Looking o r) h = go (look f o)
-    where
-      go : (l : AfterLook) → NextSized before (next_looked f key r l)
-      go (Ready o) = moved_sized o (first_transfer r) h
-      go l = h
+  next_sized (Between p) h = elim (fetch p.storage p.place true) as (λ w. NextSized before (next_fetched f key p w))
+      [ NoCcw ↦ h | TransferTo address ↦ h | GoodCcw ccw ↦ begun_sized (requested p ccw) (begin f ccw.code p.state) h ]
+  next_sized (Looking o r) h = elim (look f o) as (λ l. NextSized before (next_looked f key r l)) [ Failed s ↦ h | Passed o ↦ h | Ready o ↦ moved_sized o (first_transfer r) h ]
 
 turn_sized : (turn : Turn) (s : Storage) → Sized s (storage_past turn s)
 turn_sized (Outside (Bytes at bytes)) s = length-overwritten s.bytes at bytes

@@ -138,12 +138,8 @@ module _ (C : Closed → Type 0) (Q : State → Type 0) (E : Ending → Type 0) 
   unit_holds : (g : ProgramPhase) → C (untouched (state_in g)) → Q (state_in g) → OpenIs C Q f g → NextHas Q E (unit f key g)
   unit_holds (Looking o r) c q h = looked_holds r (look f o) h
   unit_holds (Moving o t) c q h = moved_holds o t (transfer_unit key o t) (unit_is key o t) q h
-  unit_holds (Between p) c q h = go (fetch p.storage p.place true)
-    where
-      go : (w : Fetched) → NextHas Q E (next_fetched f key p w)
-      go NoCcw = ends (past_no_ccw p.place) (untouched p.state) PROGRAM_CHECK c
-      go (TransferTo address) = q
-      go (GoodCcw ccw) = begun_holds (requested p ccw) (begin f ccw.code p.state) (h ccw.code)
+  unit_holds (Between p) c q h = elim (fetch p.storage p.place true) as (λ w. NextHas Q E (next_fetched f key p w))
+      [ NoCcw ↦ ends (past_no_ccw p.place) (untouched p.state) PROGRAM_CHECK c | TransferTo address ↦ q | GoodCcw ccw ↦ begun_holds (requested p ccw) (begin f ccw.code p.state) (h ccw.code) ]
 
   cut_holds : (g : ProgramPhase) → C (untouched (state_in g)) → OpenIs C Q f g → E ((standing_in key g).cut f)
   cut_holds (Between p) c h = ends p.place (untouched p.state) no_channel_status c

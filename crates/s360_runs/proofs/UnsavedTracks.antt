@@ -3,34 +3,37 @@
 use Rattle.std.proofs.Common.{◌≡◌, ℕ, refl, subst, sym, ap, ◌∙◌, true, false, Bool, cond, ◌||◌, List, [], Option, Some, None, inl, inr}
 use Rattle.std.proofs.lemmas.Bool.{or_left, or_right, cond_both}
 use Rattle.std.specs.Prelude.{is_some}
-use Rattle.s360_words.specs.Words.{chains_command, caw_of}
+use Rattle.s360_words.specs.Words.{caw_of, has}
 use Rattle.s360_words.specs.declared.flags.ChannelStatus.{ChannelStatus}
 use Rattle.s360_words.specs.declared.flags.TheConstants.ChannelStatus.{PROGRAM_CHECK}
+use Rattle.s360_words.specs.declared.flags.TheConstants.UnitStatus.{UNIT_CHECK}
 use Rattle.s360_words.specs.declared.words.Caw.{Caw}
 use Rattle.ckd_sense.specs.declared.sense_bytes.TheConstants.Sense.{ZERO, STORE_FAULT}
 use Rattle.ckd_sense.specs.SenseBytes.{joined}
+use Rattle.ckd_sense.specs.declared.sense_bytes.Sense.{Sense}
 use Rattle.ckd_command.specs.Answers.{Beginning, Sight}
 use Rattle.ckd_command.specs.Answers as answer
 use Rattle.ckd_command.specs.Commands.{beginning}
-use Rattle.ckd_command.specs.Drive.{Fault, LoadFails, IdleDrive, Closed, unsaved, close, Open, look, looked, AfterLook, State, Failed, Passed, Ready, AfterBegin, Rejected, Immediate, Started, begin, begun, begin_program, state_of, is_written, tells_equipment_check, track_under, with_store_fault}
+use Rattle.ckd_command.specs.Drive.{Fault, LoadFails, IdleDrive, Closed, unsaved, close, Open, look, looked, AfterLook, State, Failed, Passed, Ready, AfterBegin, Rejected, Started, begin, begun, begin_program, state_of, is_written, tells_equipment_check, track_under, with_store_fault}
 use Rattle.ckd_command.specs.Tables.{aim}
 use Rattle.ckd_command.specs.declared.tables.Aim.{Aim}
 use Rattle.ckd_command.specs.declared.tables.Aim.TheVariants.{Next as NextArea}
 use Rattle.ckd_command.proofs.Arms.{BeginsAt, NoSenseFor, SightAt, beginning_at, sight_at}
 use Rattle.ckd_command.proofs.Marks.{anywhere, never_both, LookFinds, look_finds, BegunTraces, begin_traces, LookTraces, look_traces, close_traces, close_writes, settle_traces, Calm, BegunCalm, begin_calm, LookCalm, look_calm, close_calm}
 use Rattle.s360_runs.specs.Commands.{Chains, Choice, Ends, choice, completed, requested}
-use Rattle.s360_runs.specs.Endings.{ending, failed, immediate, untouched}
+use Rattle.s360_runs.specs.Endings.{Ended, NotEnded, Outcome, ending, failed, immediate, untouched}
+use Rattle.s360_runs.specs.Laws.{first_of}
 use Rattle.s360_runs.specs.Faults.{FailedLoad, ended_by_load, without_faults}
 use Rattle.s360_runs.specs.Places.{Place, fetch, Fetched, GoodCcw}
-use Rattle.s360_runs.specs.Runs.{Start, start_point, run_from, first_place}
-use Rattle.s360_runs.specs.Scripts.{Script, TakesInterruption, Turn}
-use Rattle.s360_runs.specs.Starts.{first_from, first_fetched, first_begun, AcceptedStart, ImmediateStart}
-use Rattle.s360_runs.specs.Status.{no_channel_status, with_interruption}
-use Rattle.s360_runs.specs.StoreCalls.{is_next, looks_for_area}
+use Rattle.s360_runs.specs.Runs.{Start, start_point, run, run_from, first_place}
+use Rattle.s360_runs.specs.Scripts.{Script, TakesInterruption, Turn, units}
+use Rattle.s360_runs.specs.Status.{no_channel_status, tells, with_interruption}
+use Rattle.s360_runs.specs.StoreCalls.{is_next}
 use Rattle.s360_runs.specs.Transfers.{Completes, Request, Transfer, TransferUnit, first_transfer, transfer_unit}
 use Rattle.s360_runs.specs.Units.{unit, Next, EndsIn, Between, Looking, Moving, ProgramPhase, standing_in, walk, GoesOn, StandsIn, Walk, state_in, next_begun, next_chosen, next_fetched, next_looked, next_moved, phase_past}
 use Rattle.s360_runs.specs.Unsaved.{has_written, WritesByCommands, TellsWritten, NextTellsWritten, UnsavedWasWritten, TellsNoFault, OutcomeTellsNoFault, FirstTellsNoFault, NoFaultNothingTold}
 use Rattle.s360_runs.proofs.DriveFacts.{close_none, look_loads, sighted}
+use Rattle.s360_runs.proofs.FirstUnits.{first_is_unit}
 use Rattle.s360_runs.proofs.FaultsMet.{unmet_holds, unmet_walk}
 use Rattle.s360_runs.proofs.Units.{BegunIs, LookIs, NextHas, NextIs, OpenIs, WalkIs, past_state, phase_holds, plain_walk_holds, run_holds, walk_holds}
 
@@ -76,29 +79,22 @@ calm_walk before script key g h = plain_walk_holds (λ g. Calm (Quiet before) (s
 calm_start : (caw : Caw) (s : Start) → Calm (Quiet s.drive) (start_point caw s).state
 calm_start caw s = record { saved = refl; quiet = λ q. q }
 
-calm_first : (s : Start) (c : Option Caw) → FirstTellsNoFault s.drive (first_from s c)
-calm_first s None = tt
-calm_first s (Some caw) = fetched (fetch s.storage (first_place caw.address) true)
-  where
-    begun : (r : Request) (b : AfterBegin) → BegunCalm (Quiet s.drive) b → FirstTellsNoFault s.drive (first_begun caw.key r b)
-    begun r (Rejected t) h = h.quiet
-    begun r (Immediate t motion) h =
-        let e = ending None caw.key r.place (immediate t motion) no_channel_status in
-        cond_both (chains_command r.ccw) AcceptedStart (ImmediateStart e) (FirstTellsNoFault s.drive) (λ k. tt) (λ k. calm_ending s.drive caw.key r.place (immediate t motion) no_channel_status h)
-    begun r (Started o) h = tt
-
-    fetched : (w : Fetched) → FirstTellsNoFault s.drive (first_fetched caw.key (start_point caw s) w)
-    fetched (GoodCcw ccw) = begun (requested (start_point caw s) ccw) (begin None ccw.code (begin_program s.drive)) (begin_calm (Quiet s.drive) ccw.code (begin_program s.drive) (calm_start caw s))
-    fetched w = tt
+-- what a start tells is what the first unit of its run tells
+calm_first : (before : IdleDrive) (o : Outcome) → OutcomeTellsNoFault before o → FirstTellsNoFault before (first_of o)
+calm_first before (NotEnded seen) h = tt
+calm_first before (Ended used s e) h = cond_both (has e.csw.channel.0 0x20) _ _ (FirstTellsNoFault before) (λ k. tt) (λ k. cond_both (tells e.csw.unit UNIT_CHECK) _ _ (FirstTellsNoFault before) (λ k. h.no_check) (λ k. h))
 
 pub no_fault_nothing_told : NoFaultNothingTold
-no_fault_nothing_told s script = (go (caw_of s.caw), calm_first s (caw_of s.caw))
+no_fault_nothing_told s script = (told script, rw (first_is_unit s).first_is (calm_first s.drive (run (units 1) s) (told (units 1))))
   where
-    go : (c : Option Caw) → OutcomeTellsNoFault s.drive (run_from (without_faults script) s c)
-    go None = calm_ending s.drive 0 (first_place 0) (untouched (begin_program s.drive)) PROGRAM_CHECK (record { saved = refl; quiet = λ q. q })
-    go (Some caw) =
+    go : (script : Script) (c : Option Caw) → OutcomeTellsNoFault s.drive (run_from (without_faults script) s c)
+    go script None = calm_ending s.drive 0 (first_place 0) (untouched (begin_program s.drive)) PROGRAM_CHECK (record { saved = refl; quiet = λ q. q })
+    go script (Some caw) =
         run_holds (OutcomeTellsNoFault s.drive) s caw (without_faults script) (λ g h. (calm_phase s.drive caw.key g h).1) (λ used st e h. h)
         (calm_walk s.drive script caw.key (Between (start_point caw s)) (calm_start caw s))
+
+    told : (script : Script) → OutcomeTellsNoFault s.drive (run (without_faults script) s)
+    told script = go script (caw_of s.caw)
 
 -- Where a program stands, nothing is lost.
 
@@ -223,27 +219,20 @@ stands_fresh : (s : Start) (caw : Caw) (script : Script) (g : ProgramPhase) → 
 stands_fresh s caw script g h =
     rw h at (walk_holds Fresh (λ s e. Unit {0}) caw.key past_fresh (λ f g k. unmet_holds Fresh f caw.key g (unit_fresh caw.key g k)) script (Between (start_point caw s)) tt)
 
-no_sense_before : (o : Open) → looks_for_area o ≡ true → NoSenseFor (aim o.opened.command) o.state.registers.sense → o.state.registers.sense ≡ ZERO
-no_sense_before o h n = go (aim o.opened.command) h n
-  where
-    go : (a : Aim) → is_next a ≡ true → NoSenseFor a o.state.registers.sense → o.state.registers.sense ≡ ZERO
-    go (NextArea kind) h n = n
-    go a h n = absurd (cc)
-
-asked_or_not : (asked : Bool) → with_interruption asked no_channel_status ≡ record { 0 = cond asked 0x80 0x00 }
-asked_or_not true = refl
-asked_or_not false = refl
+no_sense_before : (a : Aim) (sense : Sense) → is_next a ≡ true → NoSenseFor a sense → sense ≡ ZERO
+no_sense_before (NextArea kind) sense h n = n
+no_sense_before a sense h n = absurd (cc)
 
 whole : (key : ℕ) (o : Open) (r : Request) → o.state.registers.sense ≡ ZERO → r.place.residual ≡ r.ccw.count → unsaved o.state ≡ None
     → ending (Some LoadFails) key r.place (failed (with_store_fault o.state)) no_channel_status ≡ ended_by_load key o r
 whole key o r sense count saved =
     let told : joined o.state.registers.sense STORE_FAULT ≡ record { 0 = 0x1000 } = ap (λ n. joined n STORE_FAULT) sense in
     let lost : unsaved (with_store_fault o.state) ≡ None = anywhere o.state.mark o.state.registers _ saved in
-    let asked = asked_or_not r.place.interruption in
+    let asked : with_interruption r.place.interruption no_channel_status ≡ record { 0 = cond r.place.interruption 0x80 0x00 } = elim r.place.interruption as (λ asked. with_interruption asked no_channel_status ≡ record { 0 = cond asked 0x80 0x00 }) [ true ↦ refl | false ↦ refl ] in
     cc
 
 pub failed_load : FailedLoad
 failed_load s caw script o r h area =
     let fresh = stands_fresh s caw script (Looking o r) h in
     ap (next_looked (Some LoadFails) caw.key r) ((look_loads o).0 area)
-    ∙ ap (EndsIn r.storage) (whole caw.key o r (no_sense_before o area fresh.0) fresh.1 (stands_saved s caw script (Looking o r) h))
+    ∙ ap (EndsIn r.storage) (whole caw.key o r (no_sense_before (aim o.opened.command) o.state.registers.sense area fresh.0) fresh.1 (stands_saved s caw script (Looking o r) h))

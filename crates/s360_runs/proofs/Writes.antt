@@ -5,8 +5,8 @@ use Rattle.std.specs.Prelude.{is_some}
 use Rattle.s360_words.specs.Words.{caw_of}
 use Rattle.s360_words.specs.declared.words.Caw.{Caw}
 use Rattle.ckd_track.specs.Track.{Track, slot_of}
-use Rattle.ckd_command.specs.Commands.{Closing, beginning}
-use Rattle.ckd_command.specs.Drive.{Volume, State, Fault, LoadFails, SaveFails, number_under, track_number, is_written, Open, state_of, close, closed, with_written, begin, begun, look, looked}
+use Rattle.ckd_command.specs.Commands.{beginning}
+use Rattle.ckd_command.specs.Drive.{Volume, State, Fault, LoadFails, SaveFails, number_under, track_number, is_written, Open, state_of, close, closed, begin, begun, look, looked}
 use Rattle.ckd_command.specs.Answers.{Beginning, Sight}
 use Rattle.s360_runs.specs.Faults.{LosesAtMost, NextByFault, cut_drive}
 use Rattle.s360_runs.specs.Laws.{walked_on}
@@ -30,20 +30,14 @@ use Rattle.ckd_command.specs.Answers as answer
 abbrev Kept : ℕ → Volume → Volume → Type 0
 Kept n v w = (slot_in w n ≡ slot_in v n) × (w.geometry ≡ v.geometry)
 
--- A command that is closed.
-
--- it writes the track under the arm alone
-closed_keeps : (n : ℕ) (s : State) (c : Closing) (moves_off : Bool) → (n ≡ number_under s → is_written (closed None s c moves_off).state ≡ true → ⊥)
-    → Kept n s.volume (closed None s c moves_off).state.volume
-closed_keeps n s c true h = (refl, refl)
-closed_keeps n s c false h = go c.written h
-  where
-    go : (t : Option Track) → (n ≡ number_under s → is_written (with_written s t) ≡ true → ⊥) → Kept n s.volume (with_written s t).volume
-    go None h = (refl, refl)
-    go (Some t) h = (get_set_other s.volume.slots (number_under s) n (slot_of s.volume.geometry.track_size t) (λ e. h e refl), refl)
-
+-- A command that is closed writes the track under the arm alone.
 close_keeps : (n : ℕ) (o : Open) (b : List ℕ) → (n ≡ number_under (state_of o) → is_written (close None o b).state ≡ true → ⊥) → Kept n (state_of o).volume (close None o b).state.volume
-close_keeps n o b h = closed_keeps n o.state (closing_of o b) (closing_of o b).moves_off h
+close_keeps n o b h = go (closing_of o b).moves_off (closing_of o b).written h
+  where
+    go : (m : Bool) (t : Option Track) → let s = (closed None o.state (record (closing_of o b) { written = t }) m).state in (n ≡ number_under o.state → is_written s ≡ true → ⊥) → Kept n o.state.volume s.volume
+    go true t h = (refl, refl)
+    go false None h = (refl, refl)
+    go false (Some t) h = (get_set_other o.state.volume.slots (number_under o.state) n (slot_of o.state.volume.geometry.track_size t) (λ e. h e refl), refl)
 
 -- Units without faults.
 
@@ -154,13 +148,13 @@ close_marked o b = go (closing_of o b).moves_off (closing_of o b).written
     go false None = refl
     go false (Some t) = refl
 
-choice_marked : (w : Bool) (key : ℕ) (o : Open) (t : Transfer) → Is w (close None o t.bytes).state → Marked w (next_moved None key o t Completes)
-choice_marked w key o t h = let c = close None o t.bytes in choice_holds (λ c. Is w c.state) (Is w) (λ e. Unit {0}) None key (λ c h. h) (λ p c channel h. tt) (request_of t) c (length_status o t c) h
-
 moved_marked : (key : ℕ) (o : Open) (t : Transfer) (u : TransferUnit) → Marked (cond (leaves_moved o t u) false (cond (writes_moved o t u) true (is_written o.state))) (next_moved None key o t u)
 moved_marked key o t (Moves next) = refl
 moved_marked key o t (Stops next check) = tt
-moved_marked key o t Completes = choice_marked _ key o t (close_marked o t.bytes)
+moved_marked key o t Completes =
+    let c = close None o t.bytes in
+    let w = cond (closing_of o t.bytes).moves_off false (cond (is_some (closing_of o t.bytes).written) true (is_written o.state)) in
+    choice_holds (λ c. Is w c.state) (Is w) (λ e. Unit {0}) None key (λ c h. h) (λ p c channel h. tt) (request_of t) c (length_status o t c) (close_marked o t.bytes)
 
 look_marked : (o : Open) → let w = cond (leaves_looking o) false (is_written o.state) in LookIs (λ c. Is w c.state) (Is w) None (look None o)
 look_marked o = go (sighted o)
