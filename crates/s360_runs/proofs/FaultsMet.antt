@@ -310,21 +310,14 @@ goes_unmet f key g = elim f as (λ f. NextIs (λ p. unit None key g ≡ GoesOn p
 
 -- so what holds where a program goes on without its fault holds where it goes on
 pub unmet_holds : (P : ProgramPhase → Type 0) (f : Option Fault) (key : ℕ) (g : ProgramPhase) → NextIs P (λ s e. Unit {0}) (unit None key g) → NextIs P (λ s e. Unit {0}) (unit f key g)
-unmet_holds P f key g h = go (unit f key g) (goes_unmet f key g)
-  where
-    go : (n : Next) → NextIs (λ p. unit None key g ≡ GoesOn p) (λ s e. Unit {0}) n → NextIs P (λ s e. Unit {0}) n
-    go (GoesOn p) e = subst (NextIs P (λ s e. Unit {0})) e h
-    go (EndsIn s e) k = tt
+unmet_holds P f key g h = (elim (unit f key g) as (λ n. NextIs (λ p. unit None key g ≡ GoesOn p) (λ s e. Unit {0}) n → NextIs P (λ s e. Unit {0}) n)
+    [ GoesOn p ↦ λ same. subst (NextIs P (λ s e. Unit {0})) same h | EndsIn s e ↦ λ same. tt ]) (goes_unmet f key g)
 
 pub unmet_walk : (script : Script) (key : ℕ) (g h : ProgramPhase) → walk script key g ≡ StandsIn h → walk (without_faults script) key g ≡ StandsIn h
 unmet_walk [] key g h w = w
-unmet_walk (OneUnit f ∷ rest) key g h w = go (unit f key g) (goes_unmet f key g) w (λ p w. unmet_walk rest key p h w)
-  where
-    go : (n : Next) → NextIs (λ p. unit None key g ≡ GoesOn p) (λ s e. Unit {0}) n → on_next rest n (walk rest key) ≡ StandsIn h
-        → ((p : ProgramPhase) → walk rest key p ≡ StandsIn h → walk (without_faults rest) key p ≡ StandsIn h)
-        → on_next (without_faults rest) (unit None key g) (walk (without_faults rest) key) ≡ StandsIn h
-    go (GoesOn p) same w next = rw same (next p w)
-    go (EndsIn st e) same w next = absurd (cc)
+unmet_walk (OneUnit f ∷ rest) key g h w =
+    (elim (unit f key g) as (λ n. NextIs (λ p. unit None key g ≡ GoesOn p) (λ s e. Unit {0}) n → on_next rest n (walk rest key) ≡ StandsIn h → walk (without_faults (OneUnit f ∷ rest)) key g ≡ StandsIn h)
+    [ GoesOn p ↦ λ same w. rw same (unmet_walk rest key p h w) | EndsIn st e ↦ λ same w. absurd (cc) ]) (goes_unmet f key g) w
 unmet_walk (turn ∷ rest) key g h w = unmet_walk rest key (phase_past turn g) h w
 
 units_without : (script : Script) → units_in (without_faults script) ≡ units_in script

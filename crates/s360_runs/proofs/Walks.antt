@@ -36,11 +36,8 @@ step_stays (suc most) key (EndsWith rest s e) = refl
 
 module _ (rest : Script) (key most : ℕ) (same : Same rest key) (h : length rest < most) where
   goes_on : (p : Point) → commands most key (Goes rest p) ≡ step_of key (walk rest key (Between p))
-  goes_on p = go most h
-    where
-      go : (most : ℕ) → length rest < most → commands most key (Goes rest p) ≡ step_of key (walk rest key (Between p))
-      go zero h = absurd (omega arith)
-      go (suc most) h = same most (Between p) (omega arith)
+  goes_on p = (elim most as (λ most. length rest < most → commands most key (Goes rest p) ≡ step_of key (walk rest key (Between p)))
+      [ zero ↦ λ h. absurd (omega arith) | suc most ↦ λ h. same most (Between p) (omega arith) ]) h
 
   by_choice : (c : Choice) → commands most key (chained rest c) ≡ step_of key (on_next rest (next_chosen c) (walk rest key))
   by_choice (Chains p) = goes_on p
@@ -80,14 +77,10 @@ same_way (turn ∷ rest) key most f h = same_way rest key most (phase_past turn 
 
 -- A walk goes on where it stands.
 
-on_from : (rest more : Script) (key : ℕ) (x : Next) → ((f : ProgramPhase) → walk (rest ++ more) key f ≡ walked_on (walk rest key f) key more)
-    → on_next (rest ++ more) x (walk (rest ++ more) key) ≡ walked_on (on_next rest x (walk rest key)) key more
-on_from rest more key (GoesOn f) h = h f
-on_from rest more key (EndsIn s e) h = refl
-
 pub walks_on : WalkGoesOn
 walks_on [] more key f = refl
-walks_on (OneUnit a ∷ rest) more key f = on_from rest more key (unit a key f) (walks_on rest more key)
+walks_on (OneUnit a ∷ rest) more key f = elim (unit a key f) as (λ x. on_next (rest ++ more) x (walk (rest ++ more) key) ≡ walked_on (on_next rest x (walk rest key)) key more)
+    [ GoesOn g ↦ walks_on rest more key g | EndsIn s e ↦ refl ]
 walks_on (turn ∷ rest) more key f = walks_on rest more key (phase_past turn f)
 
 -- A walk that is over was over at its last unit, and not before.
@@ -106,15 +99,12 @@ exact (turn ∷ more) key rest s e f h = let r = exact more key rest s e (phase_
 
 -- Runs by walks.
 
-outcome_step : (script : Script) (key : ℕ) (w : Walk) → outcome script key (step_of key w) ≡ outcome_of script key w
-outcome_step script key (StandsIn f) = refl
-outcome_step script key (EndsWith rest s e) = refl
-
 pub run_walk : (s : Start) (caw : Caw) (script : Script) → run_from script s (Some caw) ≡ outcome_of script caw.key (walk script caw.key (Between (start_point caw s)))
 run_walk s caw script =
     let f = Between (start_point caw s) in
     let all : length script ≤ length script = omega arith in
-    ap (outcome script caw.key) (same_way script caw.key (length script) f all) ∙ outcome_step script caw.key (walk script caw.key f)
+    ap (outcome script caw.key) (same_way script caw.key (length script) f all)
+    ∙ elim (walk script caw.key f) as (λ w. outcome script caw.key (step_of caw.key w) ≡ outcome_of script caw.key w) [ StandsIn g ↦ refl | EndsWith rest s e ↦ refl ]
 
 pub run_is_walk : RunIsWalk
 run_is_walk s caw script h = ap (run_from script s) h ∙ run_walk s caw script

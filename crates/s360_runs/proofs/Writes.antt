@@ -111,14 +111,10 @@ keeps_on : (n : ℕ) (s : Start) (caw : Caw) (done script : Script) (g : Program
 keeps_on n s caw done [] g v at h k = λ fault. (writes_under_arm s caw done g fault n at h).by_cut ∙ k
 keeps_on n s caw done (OneUnit fault ∷ rest) g v at h k =
     let w = or_parts (may_write n g) (on_going (unit fault caw.key g) (walk_writes n rest caw.key)) h in
-    go (unit fault caw.key g) refl w.1 ((writes_under_arm s caw done g fault n at w.0).by_unit)
-    (λ g' at' h' k'. keeps_on n s caw (done ++ OneUnit fault ∷ []) rest g' v at' h' k')
-  where
-    go : (x : Next) → unit fault caw.key g ≡ x → on_going x (walk_writes n rest caw.key) ≡ false → NextKeeps n (state_in g).volume x
-        → ((g' : ProgramPhase) → walk (done ++ OneUnit fault ∷ []) caw.key (Between (start_point caw s)) ≡ StandsIn g' → walk_writes n rest caw.key g' ≡ false → slot_in (state_in g').volume n ≡ slot_in v n → WalkKeeps n caw.key v (walk rest caw.key g'))
-        → WalkKeeps n caw.key v (on_next rest x (walk rest caw.key))
-    go (GoesOn g') e h' k' more = more g' (walk_behind done (OneUnit fault ∷ []) caw.key (Between (start_point caw s)) g at ∙ ap (λ x. on_next [] x (walk [] caw.key)) e) h' (k' ∙ k)
-    go (EndsIn t x) e h' k' more = k' ∙ k
+    let behind = walk_behind done (OneUnit fault ∷ []) caw.key (Between (start_point caw s)) g at in
+    (elim (unit fault caw.key g) as (λ x. unit fault caw.key g ≡ x → on_going x (walk_writes n rest caw.key) ≡ false → NextKeeps n (state_in g).volume x → WalkKeeps n caw.key v (on_next rest x (walk rest caw.key)))
+    [ GoesOn p ↦ λ e h' k'. keeps_on n s caw (done ++ OneUnit fault ∷ []) rest p v (behind ∙ ap (λ x. on_next [] x (walk [] caw.key)) e) h' (k' ∙ k) | EndsIn t x ↦ λ e h' k'. k' ∙ k ])
+    refl w.1 ((writes_under_arm s caw done g fault n at w.0).by_unit)
 keeps_on n s caw done (turn ∷ rest) g v at h k =
     keeps_on n s caw (done ++ turn ∷ []) rest (phase_past turn g) v (walk_behind done (turn ∷ []) caw.key (Between (start_point caw s)) g at) h (ap (λ x. slot_in x.volume n) (past_state turn g) ∙ k)
 
@@ -189,13 +185,10 @@ unit_marked key (Looking o r) =
 marked_walk : (script : Script) (key : ℕ) (g : ProgramPhase) (w : Bool) → Is w (state_in g) → WalkIs (λ last. is_written (state_in last) ≡ written_since script key g w) (λ s e. Unit {0}) (walk script key g)
 marked_walk [] key g w h = h
 marked_walk (OneUnit f ∷ rest) key g w h =
-    go (unit f key g) (unmet_holds (λ p. Is (written_past key g (is_written (state_in g))) (state_in p)) f key g (unit_marked key g)) (λ p k. marked_walk rest key p (written_past key g w) (k ∙ ap (written_past key g) h))
-  where
-    go : (x : Next) → Marked (written_past key g (is_written (state_in g))) x
-        → ((p : ProgramPhase) → Is (written_past key g (is_written (state_in g))) (state_in p) → WalkIs (λ last. is_written (state_in last) ≡ written_since rest key p (written_past key g w)) (λ s e. Unit {0}) (walk rest key p))
-        → WalkIs (λ last. is_written (state_in last) ≡ on_going x (λ p. written_since rest key p (written_past key g w))) (λ s e. Unit {0}) (on_next rest x (walk rest key))
-    go (GoesOn p) k more = more p k
-    go (EndsIn s e) k more = tt
+    let v = written_past key g (is_written (state_in g)) in
+    (elim (unit f key g) as (λ x. Marked v x → WalkIs (λ last. is_written (state_in last) ≡ on_going x (λ p. written_since rest key p (written_past key g w))) (λ s e. Unit {0}) (on_next rest x (walk rest key)))
+    [ GoesOn p ↦ λ k. marked_walk rest key p (written_past key g w) (k ∙ ap (written_past key g) h) | EndsIn s e ↦ λ k. tt ])
+    (unmet_holds (λ p. Is v (state_in p)) f key g (unit_marked key g))
 marked_walk (turn ∷ rest) key g w h = marked_walk rest key (phase_past turn g) w (ap is_written (past_state turn g) ∙ h)
 
 pub mark_is_of_script : MarkIsOfScript
