@@ -69,10 +69,12 @@ moved_in_two m o p h =
 moved_none : (o : Open) (p : Transfer) → after_bytes 0 o p ≡ p
 moved_none o p =
     let none : next_bytes 0 o p ≡ [] = cond_both (gives o) [] [] (λ l. l ≡ []) (λ e. refl) (λ e. refl) in
-    let same : after (gives o && not (skips p.ccw)) p.storage p.address [] ≡ p.storage = cond_both (gives o && not (skips p.ccw)) _ _ (λ s. s ≡ p.storage) (λ e. ap (λ b. record p.storage { bytes = b }) (overwritten-none p.storage.bytes p.address [] refl)) (λ e. refl) in
+    let w = gives o && not (skips p.ccw) in
+    let same : after w p.storage p.address [] ≡ p.storage =
+    cond_both w _ _ (λ s. s ≡ p.storage) (λ e. ap (λ b. record p.storage { bytes = b }) (overwritten-none p.storage.bytes p.address [] refl)) (λ e. refl) in
     let less : p.place.residual - 0 ≡ p.place.residual = omega arith in
     let more : p.address + 0 ≡ p.address = omega arith in
-    same_move p _ _ _ _ _ _ _ _ (ap (after (gives o && not (skips p.ccw)) p.storage p.address) none ∙ same) less more (ap (λ r. p.bytes ++ r) none ∙ append-nil p.bytes)
+    same_move p _ _ _ _ _ _ _ _ (ap (after w p.storage p.address) none ∙ same) less more (ap (λ r. p.bytes ++ r) none ∙ append-nil p.bytes)
 
 -- m bytes that may move one after another move at once
 pub at_once : MoveAtOnce

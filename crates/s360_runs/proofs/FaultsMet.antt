@@ -22,7 +22,7 @@ use Rattle.s360_runs.specs.Laws.{IsEnd}
 use Rattle.s360_runs.specs.Places.{Place, fetch, Fetched, NoCcw, TransferTo, GoodCcw, past_no_ccw}
 use Rattle.s360_runs.specs.Runs.{Start, run, start_point}
 use Rattle.s360_runs.specs.Scripts.{Script, OneUnit, units_in}
-use Rattle.s360_runs.specs.Status.{tells, beside, with_interruption, is_clear, no_channel_status}
+use Rattle.s360_runs.specs.Status.{tells, beside, with_interruption, no_channel_status}
 use Rattle.s360_runs.specs.StoreCalls.{closing_of, ends_written_begun, ends_written_by, ends_written_fetched, ends_written_looked, ends_written_moved, leaves_fetched, leaves_moved, meets, saves_by_cut}
 use Rattle.s360_runs.specs.Transfers.{Request, Transfer, request_of, Stops, TransferUnit, Moves, Completes, transfer_unit, first_transfer, is_incorrect_length}
 use Rattle.s360_runs.specs.Units.{unit, Next, EndsIn, next_chosen, next_moved, next_looked, next_begun, next_fetched, Between, Looking, Moving, ProgramPhase, standing_in, state_in, StandsAt, outcome_of, on_next, walk, GoesOn, EndsWith, StandsIn, phase_past, Walk}
@@ -84,9 +84,7 @@ module _ (f : Fault) (key : ℕ) (g : ProgramPhase) where
 
   -- it never chains
   failed_next : (r : Request) (channel : ChannelStatus) (t : State) → FitsCheck channel → FailsIn f key g t → NextByFault f key g (next_chosen (choice (Some f) key r (failed t) channel))
-  failed_next r channel t l h =
-      subst (λ b. NextByFault f key g (next_chosen (cond (b && is_clear channel) (Chains (record { storage = r.storage; place = past_modifier r.place (failed t); state = t })) (Ends r.storage (ending (Some f) key r.place (failed t) channel)))))
-      (sym (and-false (chains_command r.ccw))) (failed_ending r.storage r.place channel t l h)
+  failed_next r channel t l h = rw (and-false (chains_command r.ccw)) (failed_ending r.storage r.place channel t l h)
 
   -- a call of the drive that may fail, and what follows it
   call_met : {A : Type 0} (met ends : Bool) (fails : State → A) (call : Option Fault → A) (finish : Option Fault → A → Next) → FailsOr met f (cut_drive key g) (state_in g).registers fails call
@@ -132,15 +130,14 @@ module _ (f : Fault) (key : ℕ) (g : ProgramPhase) where
       let c = close None o b in
       let here : AtSameTrack (state_in g).registers o.state.registers = record { cylinder = ap (λ r. r.cylinder) r; head = ap (λ r. r.head) r } in
       let may : MayLose key g c = record { slots = e; ends = close_end None o b; stays = λ w. subst (λ r. StaysWritten r c) r (close_stays o b w) } in
-      subst (λ m. MetOr m f key g (λ x. finish x (close x o b))) (if_save_or f ((closing_of o b).moves_off && is_written o.state) (ends c))
+      rw (if_save_or f ((closing_of o b).moves_off && is_written o.state) (ends c)) at
       (call_met f key g _ (if_save f (ends c)) failed (λ x. close x o b) finish (close_fails f o b (cut_drive key g) (state_in g).registers e here) failing (staying c may))
 
   moved_met : (o : Open) (t : Transfer) (u : TransferUnit) → UnitIs t u → (close None o t.bytes).state.volume ≡ (cut_drive key g).volume → o.state.registers ≡ (state_in g).registers
       → MetOr (if_save f ((leaves_moved o t u && is_written o.state) || ends_written_moved o t u)) f key g (λ x. next_moved x key o t u)
   moved_met o t (Moves next) k e r = unmet f key g _
   moved_met o t (Stops next check) k e r =
-      subst (λ b. MetOr (if_save f (((closing_of o t.bytes).moves_off && is_written o.state) || is_written (close None o t.bytes).state)) f key g (λ x. EndsIn next.storage (ending x key next.place (close x o b) check))) (sym k.bytes)
-      (closed_met o t.bytes (λ x c. EndsIn next.storage (ending x key next.place c check)) (λ c. is_written c.state) e r
+      rw k.bytes (closed_met o t.bytes (λ x c. EndsIn next.storage (ending x key next.place c check)) (λ c. is_written c.state) e r
       (λ s. failed_ending f key g next.storage next.place check s k.fits) (λ c. ended_met f key g next.storage next.place check c k.fits))
   moved_met o t Completes k e r =
       closed_met o t.bytes (λ x c. next_chosen (completed x key t o c)) (λ c. ends_written_by (request_of t) c (length_status o t c)) e r
@@ -172,8 +169,7 @@ looked_met f key o r =
     staying (Ready p) k =
         let t = first_transfer r in
         let u = transfer_unit key p t in
-        subst (λ b. MetOr (if_save f (b || ends_written_moved p t u)) f key (Looking o r) (λ x. next_moved x key p t u)) (stays_here u)
-        (moved_met f key (Looking o r) p t u (unit_is key p t) ((close_none p).0 ∙ ap (λ s. s.volume) k) (ap (λ s. s.registers) k))
+        rw (stays_here u) at (moved_met f key (Looking o r) p t u (unit_is key p t) ((close_none p).0 ∙ ap (λ s. s.volume) k) (ap (λ s. s.registers) k))
       where
         -- with no byte no command leaves its track
         stays_here : (u : TransferUnit) → (leaves_moved p (first_transfer r) u && is_written p.state) ≡ false
@@ -196,7 +192,7 @@ fetched_met : (f : Fault) (key : ℕ) (p : Point) (w : Fetched)
 fetched_met f key p NoCcw = ended_met f key (Between p) p.storage (past_no_ccw p.place) PROGRAM_CHECK (untouched p.state) refl (untouched_may key (Between p) refl)
 fetched_met f key p (TransferTo address) = unmet f key (Between p) _
 fetched_met f key p (GoodCcw ccw) =
-    subst (λ m. MetOr m f key (Between p) (λ x. next_begun x key r (begin x ccw.code p.state))) (if_save_or f _ (ends_written_begun r (begin None ccw.code p.state)))
+    rw (if_save_or f _ (ends_written_begun r (begin None ccw.code p.state))) at
     (call_met f key (Between p) _ _ Rejected (λ x. begin x ccw.code p.state) (λ x. next_begun x key r) (begin_fails f ccw.code p.state)
     (λ t. failed_ending f key (Between p) p.storage r.place no_channel_status t refl) (staying (begin None ccw.code p.state) (begin_may key p ccw.code)))
   where
@@ -253,7 +249,8 @@ cut_met f key (Between p) = untouched_met f key (Between p) p.storage p.place re
 cut_met f key (Looking o r) = untouched_met f key (Looking o r) r.storage r.place refl
 cut_met f key (Moving o t) = go t.bytes refl
   where
-    go : (b : List ℕ) → t.bytes ≡ b → MetOr (if_save f (((closing_of o b).moves_off && is_written o.state) || is_written (closed_by_cut None o b).state)) f key (Moving o t) (λ x. EndsIn t.storage (ending x key t.place (closed_by_cut x o b) no_channel_status))
+    go : (b : List ℕ) → t.bytes ≡ b → MetOr (if_save f (((closing_of o b).moves_off && is_written o.state) || is_written (closed_by_cut None o b).state)) f key (Moving o t)
+        (λ x. EndsIn t.storage (ending x key t.place (closed_by_cut x o b) no_channel_status))
     go [] e = rw (empty_stays o) (untouched_met f key (Moving o t) t.storage t.place (ap (λ b. (closed_by_cut None o b).state.volume) (sym e)))
     go (x ∷ b) e =
         closed_met f key (Moving o t) o (x ∷ b) (λ x c. EndsIn t.storage (ending x key t.place c no_channel_status)) (λ c. is_written c.state) (ap (λ b. (closed_by_cut None o b).state.volume) (sym e)) refl
@@ -289,7 +286,8 @@ run_by_fault s script rest f key g st = rw (st (OneUnit (Some f) ∷ rest), st (
     without = script ++ OneUnit None ∷ rest
 
     go : (x : Next) → (x ≡ unit None key g) ⊎ NextByFault f key g x
-        → (outcome_of with_fault key (on_next rest x (walk rest key)) ≡ outcome_of without key (walk (OneUnit None ∷ rest) key g)) ⊎ OutcomeByFault f (suc (units_in script)) (cut_drive key g) (outcome_of with_fault key (on_next rest x (walk rest key)))
+        → (outcome_of with_fault key (on_next rest x (walk rest key)) ≡ outcome_of without key (walk (OneUnit None ∷ rest) key g))
+        ⊎ OutcomeByFault f (suc (units_in script)) (cut_drive key g) (outcome_of with_fault key (on_next rest x (walk rest key)))
     go x (inl e) = inl (ap (λ n. outcome_of with_fault key (on_next rest n (walk rest key))) e ∙ same_outcome with_fault without key (walk (OneUnit None ∷ rest) key g) (simp units_in_two))
     go (EndsIn st e) (inr h) = inr (omega (arith, units_in_two), h.0)
     go (GoesOn p) (inr h) = absurd h

@@ -2,7 +2,7 @@
 use Rattle.std.proofs.Common.{◌≡◌, ℕ, refl, true, false, Bool, cond, not, ◌&&◌, [], ◌∷◌, length, Option, Some, None}
 use Rattle.std.specs.Prelude.{is_some, slice_get}
 use Rattle.std.proofs.lemmas.Bool.{cond_both}
-use Rattle.s360_words.specs.Storage.{Storage, admits, key_at, stored}
+use Rattle.s360_words.specs.Storage.{Storage, admits, key_at}
 use Rattle.s360_words.specs.Words.{has, skips}
 use Rattle.s360_words.specs.declared.flags.ChannelStatus.{ChannelStatus}
 use Rattle.s360_words.specs.declared.flags.TheConstants.ChannelStatus.{PROGRAM_CHECK}
@@ -88,7 +88,7 @@ unit_is key o t = go (needs_ccw t) (needs_byte o t) (is_clear (check_of key o t)
     go : (a b c : Bool) (w : Fetched) → UnitIs t (cond a (chained_data t w) (cond b (cond c (Moves (after_bytes 1 o t)) (Stops t (check_of key o t))) Completes))
     go true b c NoCcw = record { bytes = refl; storage = refl; fits = refl }
     go true b c w = refl
-    go false true true w = cond_both (gives o && not (skips t.ccw)) (stored t.storage t.address (next_bytes 1 o t)) t.storage (λ s. length s.bytes ≡ length t.storage.bytes) (λ e. length-overwritten t.storage.bytes t.address (next_bytes 1 o t)) (λ e. refl)
+    go false true true w = cond_both {A = Storage} (gives o && not (skips t.ccw)) _ _ (λ s. length s.bytes ≡ length t.storage.bytes) (λ e. length-overwritten t.storage.bytes t.address (next_bytes 1 o t)) (λ e. refl)
     go false true false w = record { bytes = refl; storage = refl; fits = fits }
     go false false c w = tt
 

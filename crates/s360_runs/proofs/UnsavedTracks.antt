@@ -228,7 +228,8 @@ whole : (key : ℕ) (o : Open) (r : Request) → o.state.registers.sense ≡ ZER
 whole key o r sense count saved =
     let told : joined o.state.registers.sense STORE_FAULT ≡ record { 0 = 0x1000 } = ap (λ n. joined n STORE_FAULT) sense in
     let lost : unsaved (with_store_fault o.state) ≡ None = anywhere o.state.mark o.state.registers _ saved in
-    let asked : with_interruption r.place.interruption no_channel_status ≡ record { 0 = cond r.place.interruption 0x80 0x00 } = elim r.place.interruption as (λ asked. with_interruption asked no_channel_status ≡ record { 0 = cond asked 0x80 0x00 }) [ true ↦ refl | false ↦ refl ] in
+    let asked : with_interruption r.place.interruption no_channel_status ≡ record { 0 = cond r.place.interruption 0x80 0x00 } =
+    elim r.place.interruption as (λ b. with_interruption b no_channel_status ≡ record { 0 = cond b 0x80 0x00 }) [ true ↦ refl | false ↦ refl ] in
     cc
 
 pub failed_load : FailedLoad
