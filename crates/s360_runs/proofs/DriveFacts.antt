@@ -116,7 +116,8 @@ abbrev pub FailsOr : {A : Type 0} → (met : Bool) → Fault → (before : IdleD
 FailsOr met f before at fails call =
     (met ≡ true → (t : State) × (call (Some f) ≡ fails t) × Fails f before at t) × (met ≡ false → call (Some f) ≡ call None)
 
--- one whose save fails where the arm or the head leaves a written track from these registers
+-- One whose save fails where the arm or the head leaves a written track. The drive moves off from the registers `r`, and the volume
+-- and the arm are tied to those before it: a command that is closed has other registers than the phase that it ends.
 leaves_or : {A : Type 0} (left : List ℕ) (s : State) (r : Registers) (before : IdleDrive) (at : Registers) (fails : State → A) (y : A) → s.volume ≡ before.volume → AtSameTrack at r
     → FailsOr (is_written s) (SaveFails left) before at fails (λ f. moving_off f (with_registers s r) fails y)
 leaves_or left s r before at fails y e k =

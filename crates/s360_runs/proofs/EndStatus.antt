@@ -1,16 +1,14 @@
 -- Each ending has channel end, and device end unless the arm still moves.
 use Rattle.std.proofs.Common.{◌≡◌, ℕ, refl, subst, cond, [], Option, Some, None}
 use Rattle.std.proofs.lemmas.Bool.{cond_both}
-use Rattle.s360_words.specs.Words.{caw_of}
 use Rattle.s360_words.specs.declared.flags.ChannelStatus.{ChannelStatus}
 use Rattle.s360_words.specs.declared.flags.TheConstants.ChannelStatus.{PROGRAM_CHECK, PROGRAM_CONTROLLED_INTERRUPTION}
-use Rattle.s360_words.specs.declared.words.Caw.{Caw}
 use Rattle.s360_words.specs.declared.words.Csw.{Csw}
 use Rattle.ckd_command.specs.Drive.{Closed, Fault, Rejected, Immediate, Started, begin, look, Failed, Passed, Ready, begin_program}
 use Rattle.s360_runs.specs.Endings.{untouched, Ending, ending, Standing, Outcome, Ended, NotEnded, csw_at}
 use Rattle.s360_runs.specs.Laws.{IsEnd, EndingIsEnd, CutIsEnd}
 use Rattle.s360_runs.specs.Places.{Place}
-use Rattle.s360_runs.specs.Runs.{Start, run, run_from, first_place, start_point}
+use Rattle.s360_runs.specs.Runs.{Start, run, first_place, start_point}
 use Rattle.s360_runs.specs.Scripts.{Script}
 use Rattle.s360_runs.specs.Status.{no_unit_status}
 use Rattle.s360_runs.specs.Units.{ProgramPhase, Between, Looking, Moving, standing_in, unit}
@@ -60,13 +58,11 @@ asks_good key (Moving o t) = asked_at key t.place
 good_phase : (f : Option Fault) (key : ℕ) (g : ProgramPhase) → NextHas (λ s. Unit {0}) IsGood (unit f key g) × IsGood ((standing_in key g).cut f)
 good_phase f key g = phase_holds IsClosed (λ s. Unit {0}) IsGood f key (λ c h. tt) (good_ending f key) g (record { channel_end = refl; device_end = refl }) tt (open_closes f g)
 
-run_good : (s : Start) (script : Script) (c : Option Caw) → RunGood (run_from script s c)
-run_good s script None = good_ending None 0 (first_place 0) (untouched (begin_program s.drive)) PROGRAM_CHECK (record { channel_end = refl; device_end = refl })
-run_good s script (Some caw) = run_holds RunGood s caw script (λ g h. (λ f. (good_phase f caw.key g).1, asks_good caw.key g)) (λ used st e h. h)
-    (walk_holds (λ g. Unit {0}) (λ st. IsGood) caw.key (λ turn g h. tt) (λ f g h. (good_phase f caw.key g).0) script (Between (start_point caw s)) tt)
-
 pub good_run : (s : Start) (script : Script) → RunGood (run script s)
-good_run s script = run_good s script (caw_of s.caw)
+good_run s script = run_holds {P = λ key g. Unit {0}} {E = λ st. IsGood} RunGood s script
+    (good_ending None 0 (first_place 0) (untouched (begin_program s.drive)) PROGRAM_CHECK (record { channel_end = refl; device_end = refl }))
+    (λ key g h. (λ f. (good_phase f key g).1, asks_good key g)) (λ used st e h. h)
+    (λ caw at. walk_holds (λ g. Unit {0}) (λ st. IsGood) caw.key (λ turn g h. tt) (λ f g h. (good_phase f caw.key g).0) script (Between (start_point caw s)) tt)
 
 pub ending_is_end : EndingIsEnd
 ending_is_end s script used storage e h = subst RunGood h (good_run s script)

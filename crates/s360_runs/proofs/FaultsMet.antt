@@ -69,7 +69,7 @@ failed_may : (key : ℕ) (g : ProgramPhase) (s : State) → s.volume ≡ (cut_dr
 failed_may key g s e k = record { slots = e; ends = record { channel_end = refl; device_end = refl }; stays = λ w. record { motion = refl; arm = k } }
 
 module _ (f : Fault) (key : ℕ) (g : ProgramPhase) where
-  -- a command that is closed so, once its track is lost
+  -- a command that is closed as `d`, once its track is lost: its binders are the parts of the ending, and what it says of each
   ended_by : (s : Storage) (p : Place) (c d : Closed) (channel : ChannelStatus) → settled (Some f) c ≡ d → FitsCheck channel → IsEnd d.unit false → tells d.unit UNIT_CHECK ≡ true → d.motion ≡ false → FailsIn f key g d.state
       → NextByFault f key g (EndsIn s (ending (Some f) key p c channel))
   ended_by s p c d channel e l ends u m h = subst (λ d. NextByFault f key g (EndsIn s (settled_ending key p d channel))) (sym e) (

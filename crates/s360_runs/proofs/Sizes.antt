@@ -1,16 +1,14 @@
 -- A channel program keeps the size of storage.
 use Rattle.std.proofs.lemmas.Bool.{cond_both}
-use Rattle.std.proofs.Common.{◌≡◌, ℕ, refl, ap, ◌∙◌, true, length, Option, Some, None}
+use Rattle.std.proofs.Common.{◌≡◌, ℕ, refl, ap, ◌∙◌, true, length, Option}
 use Rattle.s360_words.specs.Storage.{Storage, Bytes}
-use Rattle.s360_words.specs.Words.{caw_of}
 use Rattle.s360_words.specs.declared.flags.ChannelStatus.{ChannelStatus}
-use Rattle.s360_words.specs.declared.words.Caw.{Caw}
 use Rattle.s360_words.proofs.Overwriting.{length-overwritten}
 use Rattle.ckd_command.specs.Drive.{Fault, Open, AfterBegin, Immediate, begin, Failed, Passed, Ready, look, Closed, close}
 use Rattle.s360_runs.specs.Commands.{goes_on_chaining, choice, length_status, requested}
 use Rattle.s360_runs.specs.Endings.{NotEnded, immediate}
 use Rattle.s360_runs.specs.Places.{fetch, GoodCcw, NoCcw, TransferTo}
-use Rattle.s360_runs.specs.Runs.{run_from, start_point}
+use Rattle.s360_runs.specs.Runs.{start_point}
 use Rattle.s360_runs.specs.Scripts.{Outside, Turn, storage_past}
 use Rattle.s360_runs.specs.Status.{no_channel_status}
 use Rattle.s360_runs.specs.Transfers.{Request, Transfer, request_of, Stops, TransferUnit, Moves, Completes, transfer_unit, first_transfer}
@@ -62,14 +60,9 @@ past_sized turn (Looking o r) = turn_sized turn r.storage
 past_sized turn (Moving o t) = turn_sized turn t.storage
 
 pub keeps_size : KeepsSize
-keeps_size s script = go (caw_of s.caw)
+keeps_size s script = run_holds {P = λ key g. Sized s.storage (storage_in g)} {E = λ st e. Sized s.storage st} (OutcomeKeepsSize s.storage) s script refl seen (λ used st e h. h)
+    (λ caw at. walk_holds (λ g. Sized s.storage (storage_in g)) (λ st e. Sized s.storage st) caw.key (λ turn g h. past_sized turn g ∙ h) (λ f. next_sized s.storage f caw.key) script (Between (start_point caw s)) refl)
   where
     seen : (key : ℕ) (g : ProgramPhase) → Sized s.storage (storage_in g) → OutcomeKeepsSize s.storage (NotEnded (standing_in key g))
     seen key (Between p) h = h
     seen key g h = h
-
-    go : (c : Option Caw) → OutcomeKeepsSize s.storage (run_from script s c)
-    go None = refl
-    go (Some caw) =
-        run_holds (OutcomeKeepsSize s.storage) s caw script (seen caw.key) (λ used st e h. h)
-        (walk_holds (λ g. Sized s.storage (storage_in g)) (λ st e. Sized s.storage st) caw.key (λ turn g h. past_sized turn g ∙ h) (λ f. next_sized s.storage f caw.key) script (Between (start_point caw s)) refl)

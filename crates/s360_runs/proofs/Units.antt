@@ -3,7 +3,7 @@ use Rattle.std.proofs.Common.{◌≡◌, ℕ, refl, true, false, Bool, cond, not
 use Rattle.std.specs.Prelude.{is_some, slice_get}
 use Rattle.std.proofs.lemmas.Bool.{cond_both}
 use Rattle.s360_words.specs.Storage.{Storage, admits, key_at}
-use Rattle.s360_words.specs.Words.{has, skips}
+use Rattle.s360_words.specs.Words.{caw_of, has, skips}
 use Rattle.s360_words.specs.declared.flags.ChannelStatus.{ChannelStatus}
 use Rattle.s360_words.specs.declared.flags.TheConstants.ChannelStatus.{PROGRAM_CHECK}
 use Rattle.s360_words.specs.declared.words.Caw.{Caw}
@@ -13,7 +13,7 @@ use Rattle.s360_runs.specs.Commands.{choice, goes_on_chaining, length_status, re
 use Rattle.s360_runs.specs.Endings.{Ended, Ending, NotEnded, Outcome, closed_by_cut, ending, failed, immediate, untouched}
 use Rattle.s360_runs.specs.Faults.{without_faults}
 use Rattle.s360_runs.specs.Places.{Fetched, GoodCcw, NoCcw, Place, TransferTo, fetch, past_no_ccw}
-use Rattle.s360_runs.specs.Runs.{Start, run_from, start_point}
+use Rattle.s360_runs.specs.Runs.{Start, run, run_from, start_point}
 use Rattle.s360_runs.specs.Scripts.{OneUnit, Script, Turn}
 use Rattle.s360_runs.specs.Status.{beside, end_with_check, is_clear, no_channel_status}
 use Rattle.s360_runs.specs.Transfers.{Completes, Moves, Request, Stops, Transfer, TransferUnit, after_bytes, chained_data, check_of, first_transfer, needs_byte, needs_ccw, next_bytes, request_of, transfer_unit}
@@ -48,12 +48,16 @@ module _ (P : ProgramPhase → Type 0) (E : Storage → Ending → Type 0) (key 
   plain_walk_holds step (OneUnit f ∷ rest) g h = next_holds (without_faults rest) (unit None key g) (step g h) (plain_walk_holds step rest)
   plain_walk_holds step (turn ∷ rest) g h = plain_walk_holds step rest (phase_past turn g) (past turn g h)
 
--- what holds of a walk from its start holds of the run
-pub run_holds : {P : ProgramPhase → Type 0} {E : Storage → Ending → Type 0} (O : Outcome → Type 0) (s : Start) (caw : Caw) (script : Script)
-    → ((g : ProgramPhase) → P g → O (NotEnded (standing_in caw.key g))) → ((used : ℕ) (st : Storage) (e : Ending) → E st e → O (Ended used st e))
-    → WalkIs P E (walk script caw.key (Between (start_point caw s))) → O (run_from script s (Some caw))
-run_holds {P} {E} O s caw script stands ends h =
-    rw (run_walk s caw script) ((elim (walk script caw.key (Between (start_point caw s))) as (λ w. WalkIs P E w → O (outcome_of script caw.key w)) [ StandsIn g ↦ stands g | EndsWith rest st e ↦ ends _ st e ]) h)
+-- what holds of a run that starts nothing, and of a walk from its start, holds of the run
+pub run_holds : {P : (key : ℕ) → ProgramPhase → Type 0} {E : Storage → Ending → Type 0} (O : Outcome → Type 0) (s : Start) (script : Script) → O (run_from script s None)
+    → ((key : ℕ) (g : ProgramPhase) → P key g → O (NotEnded (standing_in key g))) → ((used : ℕ) (st : Storage) (e : Ending) → E st e → O (Ended used st e))
+    → ((caw : Caw) → caw_of s.caw ≡ Some caw → WalkIs (P caw.key) E (walk script caw.key (Between (start_point caw s)))) → O (run script s)
+run_holds {P} {E} O s script nothing stands ends h = go (caw_of s.caw) refl
+  where
+    go : (c : Option Caw) → caw_of s.caw ≡ c → O (run_from script s c)
+    go None at = nothing
+    go (Some caw) at = rw (run_walk s caw script)
+        ((elim (walk script caw.key (Between (start_point caw s))) as (λ w. WalkIs (P caw.key) E w → O (outcome_of script caw.key w)) [ StandsIn g ↦ stands caw.key g | EndsWith rest st e ↦ ends _ st e ]) (h caw at))
 
 -- a turn that is no unit leaves the drive
 pub past_state : (turn : Turn) (g : ProgramPhase) → state_in (phase_past turn g) ≡ state_in g

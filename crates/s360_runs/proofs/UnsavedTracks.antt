@@ -3,7 +3,7 @@
 use Rattle.std.proofs.Common.{◌≡◌, ℕ, refl, subst, sym, ap, ◌∙◌, true, false, Bool, cond, ◌||◌, List, [], Option, Some, None, inl, inr}
 use Rattle.std.proofs.lemmas.Bool.{or_left, or_right, cond_both}
 use Rattle.std.specs.Prelude.{is_some}
-use Rattle.s360_words.specs.Words.{caw_of, has}
+use Rattle.s360_words.specs.Words.{has}
 use Rattle.s360_words.specs.declared.flags.ChannelStatus.{ChannelStatus}
 use Rattle.s360_words.specs.declared.flags.TheConstants.ChannelStatus.{PROGRAM_CHECK}
 use Rattle.s360_words.specs.declared.flags.TheConstants.UnitStatus.{UNIT_CHECK}
@@ -25,7 +25,7 @@ use Rattle.s360_runs.specs.Endings.{Ended, NotEnded, Outcome, ending, failed, im
 use Rattle.s360_runs.specs.Laws.{first_of}
 use Rattle.s360_runs.specs.Faults.{FailedLoad, ended_by_load, without_faults}
 use Rattle.s360_runs.specs.Places.{Place, fetch, Fetched, GoodCcw}
-use Rattle.s360_runs.specs.Runs.{Start, start_point, run, run_from, first_place}
+use Rattle.s360_runs.specs.Runs.{Start, start_point, run, first_place}
 use Rattle.s360_runs.specs.Scripts.{Script, TakesInterruption, Turn, units}
 use Rattle.s360_runs.specs.Status.{no_channel_status, tells, with_interruption}
 use Rattle.s360_runs.specs.StoreCalls.{is_next}
@@ -87,14 +87,10 @@ calm_first before (Ended used s e) h = cond_both (has e.csw.channel.0 0x20) _ _ 
 pub no_fault_nothing_told : NoFaultNothingTold
 no_fault_nothing_told s script = (told script, rw (first_is_unit s).first_is (calm_first s.drive (run (units 1) s) (told (units 1))))
   where
-    go : (script : Script) (c : Option Caw) → OutcomeTellsNoFault s.drive (run_from (without_faults script) s c)
-    go script None = calm_ending s.drive 0 (first_place 0) (untouched (begin_program s.drive)) PROGRAM_CHECK (record { saved = refl; quiet = λ q. q })
-    go script (Some caw) =
-        run_holds (OutcomeTellsNoFault s.drive) s caw (without_faults script) (λ g h. (calm_phase s.drive caw.key g h).1) (λ used st e h. h)
-        (calm_walk s.drive script caw.key (Between (start_point caw s)) (calm_start caw s))
-
     told : (script : Script) → OutcomeTellsNoFault s.drive (run (without_faults script) s)
-    told script = go script (caw_of s.caw)
+    told script = run_holds {P = λ key g. Calm (Quiet s.drive) (state_in g)} {E = λ st. TellsNoFault s.drive} (OutcomeTellsNoFault s.drive) s (without_faults script)
+        (calm_ending s.drive 0 (first_place 0) (untouched (begin_program s.drive)) PROGRAM_CHECK (record { saved = refl; quiet = λ q. q }))
+        (λ key g h. (calm_phase s.drive key g h).1) (λ used st e h. h) (λ caw at. calm_walk s.drive script caw.key (Between (start_point caw s)) (calm_start caw s))
 
 -- Where a program stands, nothing is lost.
 

@@ -2,7 +2,6 @@
 use Rattle.std.proofs.Common.{◌≡◌, ℕ, refl, ap, sym, ◌∙◌, true, false, Bool, ◌==◌, List, [], ◌∷◌, ◌++◌, Option, Some, None, ◌⊎◌, inl, inr, cond}
 use Rattle.std.proofs.lemmas.Bool.{and_from, both_ways, eq-eqb, or_parts, or_right}
 use Rattle.std.specs.Prelude.{is_some}
-use Rattle.s360_words.specs.Words.{caw_of}
 use Rattle.s360_words.specs.declared.words.Caw.{Caw}
 use Rattle.ckd_track.specs.Track.{Track, slot_of}
 use Rattle.ckd_command.specs.Commands.{beginning}
@@ -10,7 +9,7 @@ use Rattle.ckd_command.specs.Drive.{Volume, State, Fault, LoadFails, SaveFails, 
 use Rattle.ckd_command.specs.Answers.{Beginning, Sight}
 use Rattle.s360_runs.specs.Faults.{LosesAtMost, NextByFault, cut_drive}
 use Rattle.s360_runs.specs.Laws.{walked_on}
-use Rattle.s360_runs.specs.Runs.{Start, run_from, start_point}
+use Rattle.s360_runs.specs.Runs.{Start, start_point}
 use Rattle.s360_runs.specs.Scripts.{Script, OneUnit}
 use Rattle.s360_runs.specs.StoreCalls.{closing_of, leaves_fetched, leaves_as_it_begins, leaves_looking, goes_to_next_head, leaves_moved}
 use Rattle.s360_runs.specs.Units.{unit, Next, EndsIn, GoesOn, Between, Looking, Moving, ProgramPhase, standing_in, on_next, walk, Walk, StandsIn, phase_past, state_in, next_moved, next_fetched}
@@ -61,7 +60,8 @@ next_keeps n v (EndsIn s e) h = h.0
 
 -- Faults.
 
--- a fault that is met loses the track under the arm at most, and that only where it was written
+-- A fault that is met loses the track under the arm at most, and that only where it was written: `x` is a unit or a cut with the
+-- fault, and `y` the one without it.
 faulty_keeps : (n : ℕ) (f : Fault) (key : ℕ) (g : ProgramPhase) (x y : Next) → Away n g → NextTellsWritten g x → NextKeeps n (state_in g).volume y → (x ≡ y) ⊎ NextByFault f key g x → NextKeeps n (state_in g).volume x
 faulty_keeps n f key g x y a told k (inl e) = rw e k
 faulty_keeps n f key g (GoesOn next) y a told k (inr h) = absurd h
@@ -100,8 +100,12 @@ writes_under_arm s caw script g f n stands h = go f
 
 -- Over a script. So far the program stands in a phase, behind the script that it has come over.
 
+-- where the program is cut, and where it ends
+abbrev CutKeeps : ℕ → Volume → (key : ℕ) → ProgramPhase → Type 0
+CutKeeps n v key g = (fault : Option Fault) → slot_in ((standing_in key g).cut fault).drive.volume n ≡ slot_in v n
+
 abbrev WalkKeeps : ℕ → (key : ℕ) → Volume → Walk → Type 0
-WalkKeeps n key v w = WalkIs (λ g. (fault : Option Fault) → slot_in ((standing_in key g).cut fault).drive.volume n ≡ slot_in v n) (λ s e. slot_in e.drive.volume n ≡ slot_in v n) w
+WalkKeeps n key v w = WalkIs (CutKeeps n v key) (λ s e. slot_in e.drive.volume n ≡ slot_in v n) w
 
 walk_behind : (done more : Script) (key : ℕ) (first g : ProgramPhase) → walk done key first ≡ StandsIn g → walk (done ++ more) key first ≡ walk more key g
 walk_behind done more key first g at = walks_on done more key first ∙ ap (λ w. walked_on w key more) at
@@ -119,12 +123,8 @@ keeps_on n s caw done (turn ∷ rest) g v at h k =
     keeps_on n s caw (done ++ turn ∷ []) rest (phase_past turn g) v (walk_behind done (turn ∷ []) caw.key (Between (start_point caw s)) g at) h (ap (λ x. slot_in x.volume n) (past_state turn g) ∙ k)
 
 pub run_keeps : RunKeeps
-run_keeps s script n h = go (caw_of s.caw) h
-  where
-    go : (c : Option Caw) → run_writes_from n script s c ≡ false → OutcomeKeeps n s.drive.volume (run_from script s c)
-    go None h = refl
-    go (Some caw) h =
-        run_holds (OutcomeKeeps n s.drive.volume) s caw script (λ g k. k) (λ used st e k. k) (keeps_on n s caw [] script (Between (start_point caw s)) s.drive.volume refl h refl)
+run_keeps s script n h = run_holds {P = CutKeeps n s.drive.volume} {E = λ st e. slot_in e.drive.volume n ≡ slot_in s.drive.volume n} (OutcomeKeeps n s.drive.volume) s script refl (λ key g k. k) (λ used st e k. k)
+    (λ caw at. keeps_on n s caw [] script (Between (start_point caw s)) s.drive.volume refl (ap (run_writes_from n script s) (sym at) ∙ h) refl)
 
 -- The mark of the track under the arm is read off the units of a script.
 
