@@ -13,7 +13,7 @@ use Rattle.ckd_command.specs.Drive.{drive_of}
 use Rattle.ckd_drive.specs.Work.{DriveState}
 use Rattle.s360_runs.specs.Runs.{Start}
 use Rattle.s360_runs.specs.Scripts.{units}
-use Rattle.s360_runs.specs.Starts.{First, BadStart, RejectedStart, ImmediateStart, AcceptedStart, first}
+use Rattle.s360_runs.specs.Starts.{First, first}
 use Rattle.s360_runs.specs.Status.{no_channel_status, no_unit_status, with_interruption, busy_device_end}
 use Rattle.s360_program.specs.declared.program.Start.TheVariants as start
 use Rattle.s360_program.specs.Laws.{AcceptedStands}
@@ -31,7 +31,7 @@ use Rattle.s360_events.specs.declared.conditions.Condition.{Condition}
 use Rattle.s360_events.specs.declared.conditions.Condition.TheVariants.{Stored}
 use Rattle.s360_events.specs.declared.conditions.Status.{Status}
 use Rattle.s360_events.specs.Seen.{condition_seen, status_seen, csw_seen}
-use Rattle.s360_channel.specs.Channel.{AttachedState, ChannelState, AllRest, OthersRest, machine_of, device_of, Shows, is_at}
+use Rattle.s360_channel.specs.Channel.{AttachedState, AllRest, OthersRest, machine_of, device_of, Shows, is_at}
 use Rattle.s360_channel.specs.declared.subchannel.Subchannel.{Subchannel}
 use Rattle.s360_channel.specs.declared.subchannel.Subchannel.TheVariants.{Idle, Working}
 use Rattle.s360_channel.specs.DriveCalls.{DriveChanges, ArmChanges, Starts}
@@ -51,10 +51,6 @@ module _ (number : ℕ) (s : Storage) (us : List AttachedState) (place : ℕ) (u
   abbrev here_started : Start
   here_started = start_of (idle_machine number s us) (drive_of u.drive.state)
 
-  -- where the first unit comes to this, it is this that the channel has to show
-  by_first : (f : First) {answer : Answer} {new : ChannelState} → first_of number s us u ≡ f → ShowsNext (started u.device (idle_machine number s us) f) answer new → ShowsNext (next_of number s us u) answer new
-  by_first f {answer} {new} e h = subst (λ f. ShowsNext (started u.device (idle_machine number s us) f) answer new) (sym e) h
-
   -- what a start did to the drive
   record Here (How : DriveState → DriveState → Type 0) (us' : List AttachedState) : Type 0 where
     drive : DriveState
@@ -69,12 +65,6 @@ module _ (number : ℕ) (s : Storage) (us : List AttachedState) (place : ℕ) (u
         how = subst (λ (v : AttachedState). How v.drive e.drive) same e.how;
       }
 
-  told_so : (answer : Condition Status) (x : Status) (sub : Subchannel) (s' : Storage) (us' : List AttachedState) → sub ≡ Idle → answer ≡ Stored x
-      → ShowsNext (next_of number s us u) (status_seen x) (of_parts number s' Idle us') → ShowsNext (next_of number s us u) (condition_seen status_seen answer) (of_parts number s' sub us')
-  told_so answer x sub s' us' idle is h =
-      subst (λ sub. ShowsNext (next_of number s us u) (condition_seen status_seen answer) (of_parts number s' sub us')) (sym idle)
-      (subst (λ answer. ShowsNext (next_of number s us u) (condition_seen status_seen answer) (of_parts number s' Idle us')) (sym is) h)
-
   -- a start that is bad
   pub starts_bad : (caw : ℕ) (sub : Subchannel) (answer : Condition Status) (us' : List AttachedState) (s' : Storage) → sub ≡ Idle → caw ≡ caw_word s → DriveChanges place (Starts caw s start.Bad) us us'
       → answer ≡ Stored (record { unit = no_unit_status; channel = PROGRAM_CHECK }) → s' ≡ changed (status_stored no_unit_status.0 PROGRAM_CHECK.0) s
@@ -83,10 +73,7 @@ module _ (number : ℕ) (s : Storage) (us : List AttachedState) (place : ℕ) (u
       let h = here (Starts caw s start.Bad) us' e in
       let bad = subst (λ caw. IsBad (record { caw = caw; storage = s; drive = drive_of u.drive.state }) u.drive h.drive) word h.how.0 in
       let same : us' ≡ us = h.becomes ∙ ap (λ d. slice_set us place (record u { drive = d })) bad.drive ∙ set_same us place u there in
-      told_so answer (record { unit = no_unit_status; channel = PROGRAM_CHECK }) sub s' us' idle is (by_first BadStart bad.first (record {
-        answers = refl;
-        shows = (ap (λ s. idle_machine number s us) (sym stored) ∙ ap (λ us. idle_machine number s' us) (sym same), subst AllRest (sym same) rest);
-      }))
+      rw (idle, is, stored, same, bad.first) (record { answers = refl; shows = (refl, rest) })
 
   -- a command that is rejected
   pub starts_rejected : (caw : ℕ) (sub : Subchannel) (answer : Condition Status) (us' : List AttachedState) (s' : Storage) → sub ≡ Idle → caw ≡ caw_word s → DriveChanges place (Starts caw s start.Rejected) us us'
@@ -95,14 +82,13 @@ module _ (number : ℕ) (s : Storage) (us : List AttachedState) (place : ℕ) (u
   starts_rejected caw sub answer us' s' idle word e is stored =
       let h = here (Starts caw s start.Rejected) us' e in
       let rejected = subst (λ caw. IsRejected (record { caw = caw; storage = s; drive = drive_of u.drive.state }) h.drive) word h.how.0 in
-      told_so answer (record { unit = UNIT_CHECK; channel = no_channel_status }) sub s' us' idle is (by_first (RejectedStart (drive_of h.drive.state)) rejected.first (record {
+      rw (idle, is, stored, h.becomes, rejected.first) (record {
         answers = refl;
         shows = (
-          ap (λ s. record (idle_machine number s us) { devices = map (changes u.device (set_drive (drive_of h.drive.state))) (devices us) }) (sym stored)
-              ∙ ap (λ ds. record (idle_machine number s' us) { devices = ds }) (sym (ap devices h.becomes ∙ devices_set us place u (record u { drive = h.drive }) (set_drive (drive_of h.drive.state)) distinct there refl)),
-          subst AllRest (sym h.becomes) (all_set us place (record u { drive = h.drive }) rest rejected.rests),
+          ap (λ ds. record (idle_machine number s' us) { storage = changed (status_stored UNIT_CHECK.0 no_channel_status.0) s; devices = ds }) (sym (devices_set us place u (record u { drive = h.drive }) (set_drive (drive_of h.drive.state)) distinct there refl)),
+          all_set us place (record u { drive = h.drive }) rest rejected.rests,
         );
-      }))
+      })
 
   -- an immediate command, which is over at once
   pub starts_immediate : (caw : ℕ) (sub : Subchannel) (answer : Condition Status) (us' us'' : List AttachedState) (s' : Storage) (told : DriveEnding) (asked : Bool) (arm : Arm) (channel : ChannelStatus)
@@ -122,20 +108,20 @@ module _ (number : ℕ) (s : Storage) (us : List AttachedState) (place : ℕ) (u
       let same_device : device_of new ≡ set_both (arm_after i.ending) i.ending.drive (device_of u) =
       ap (λ arm. record (device_of u) { arm = arm; drive = drive_of h.drive.state }) (arm_is ∙ ap (λ b. if b then InMotion else AtRest) (sym i.motion))
       ∙ ap (λ x. record (device_of u) { arm = arm_after i.ending; drive = x }) i.drive.drive in
-      told_so answer (record { unit = told.unit; channel = channel }) sub s' us'' idle is (by_first (ImmediateStart i.ending) i.first (record {
+      rw (idle, is, stored, in_place, i.first) (record {
         answers = ap (λ unit. StatusStored unit channel) (sym i.unit) ∙ ap (StatusStored i.ending.csw.unit) same_channel;
         shows = (
           ap (λ s. record (idle_machine number s us) { devices = map (changes u.device (set_both (arm_after i.ending) i.ending.drive)) (devices us) })
-              (ap (λ unit. changed (status_stored unit.0 i.ending.csw.channel.0) s) i.unit ∙ ap (λ channel. changed (status_stored told.unit.0 channel.0) s) (sym same_channel) ∙ sym stored)
-              ∙ ap (λ ds. record (idle_machine number s' us) { devices = ds }) (sym (ap devices in_place ∙ devices_set us place u new (set_both (arm_after i.ending) i.ending.drive) distinct there same_device)),
-          subst AllRest (sym in_place) (all_set us place new rest i.drive.rests),
+              (ap (λ unit. changed (status_stored unit.0 i.ending.csw.channel.0) s) i.unit ∙ ap (λ channel. changed (status_stored told.unit.0 channel.0) s) (sym same_channel))
+              ∙ ap (λ ds. record (idle_machine number (changed (status_stored told.unit.0 channel.0) s) us) { devices = ds }) (sym (devices_set us place u new (set_both (arm_after i.ending) i.ending.drive) distinct there same_device)),
+          all_set us place new rest i.drive.rests,
         );
-      }))
+      })
 
   -- a program that runs
   pub starts_accepted : AcceptedStands → (caw : ℕ) (us' : List AttachedState) (r : RunningState) → caw ≡ caw_word s → DriveChanges place (Starts caw s (start.Accepted r)) us us'
       → ShowsNext (next_of number s us u) (WithCode code.Zero) (of_parts number s (Working place r) us')
-  starts_accepted stands caw us' r word e = by_first AcceptedStart accepted.first (record {
+  starts_accepted stands caw us' r word e = rw accepted.first (record {
     answers = refl;
     shows = record {
       attached = new;
@@ -184,32 +170,25 @@ within device us place h = let f : FoundAt device us place = found_by device us 
 
 module _ (number : ℕ) (s : Storage) (us : List AttachedState) (place : ℕ) (u : AttachedState) (there : slice_get us place ≡ Some u) (rest : AllRest us) (distinct : AreDistinct (devices us)) where
   -- the arm changes, and storage too
-  pub armed_shows : (arm : Arm) (us' : List AttachedState) (s' t : Storage) → ArmChanges place arm us us' → s' ≡ t → Shows (of_parts number s' Idle us') (record (with_arm arm u.device (idle_machine number s us)) { storage = t }) Idle
-  armed_shows arm us' s' t a stored = (
-    ap (λ s. record (with_arm arm u.device (idle_machine number s us)) { storage = s }) (sym stored)
-        ∙ ap (λ ds. record (idle_machine number s' us) { devices = ds }) (sym (ap devices in_place ∙ devices_set us place u (record u { arm = arm }) (set_arm arm) distinct there refl)),
-    subst AllRest (sym in_place) (all_set us place (record u { arm = arm }) rest (rests_at us place u rest there)),
-  )
+  pub armed_shows : (arm : Arm) (us' : List AttachedState) (t : Storage) → ArmChanges place arm us us' → Shows (of_parts number t Idle us') (record (with_arm arm u.device (idle_machine number s us)) { storage = t }) Idle
+  armed_shows arm us' t a = rw in_place
+      (ap (λ ds. record (idle_machine number t us) { devices = ds }) (sym (devices_set us place u new (set_arm arm) distinct there refl)), all_set us place new rest (rests_at us place u rest there))
     where
-      in_place : us' ≡ slice_set us place (record u { arm = arm })
-      in_place = a.becomes ∙ ap (λ (v : AttachedState). slice_set us place (record v { arm = arm })) (inside a.attached u (sym a.was ∙ there))
+      new : AttachedState
+      new = record u { arm = arm }
 
-  -- the device, with what its arm does
-  abbrev with_this : Arm → Option Device
-  with_this arm = Some (record (device_of u) { arm = arm })
+      in_place : us' ≡ slice_set us place new
+      in_place = a.becomes ∙ ap (λ (v : AttachedState). slice_set us place (record v { arm = arm })) (inside a.attached u (sym a.was ∙ there))
 
   pub start_arrived : (answer : Condition Status) (sub : Subchannel) (us' : List AttachedState) (s' : Storage) → sub ≡ Idle → u.arm ≡ Arrived → ArmChanges place AtRest us us'
       → answer ≡ Stored (record { unit = busy_device_end; channel = no_channel_status }) → s' ≡ changed (status_stored busy_device_end.0 no_channel_status.0) s
       → ShowsNext (start_device u.device (idle_machine number s us) (Some (device_of u))) (condition_seen status_seen answer) (of_parts number s' sub us')
-  start_arrived answer sub us' s' idle is_arm a is stored =
-      subst (λ sub. ShowsNext (start_device u.device (idle_machine number s us) (with_this u.arm)) (condition_seen status_seen answer) (of_parts number s' sub us')) (sym idle)
-      (subst (λ arm. ShowsNext (start_device u.device (idle_machine number s us) (with_this arm)) (condition_seen status_seen answer) (of_parts number s' Idle us')) (sym is_arm)
-      (record { answers = ap (condition_seen status_seen) is; shows = armed_shows AtRest us' s' (changed (status_stored busy_device_end.0 no_channel_status.0) s) a stored }))
+  start_arrived answer sub us' s' idle is_arm a is stored = rw (idle, is_arm, is, stored) (record { answers = refl; shows = armed_shows AtRest us' (changed (status_stored busy_device_end.0 no_channel_status.0) s) a })
 
   pub start_at_rest : (answer : Answer) (sub' : Subchannel) (us' : List AttachedState) (s' : Storage) → u.arm ≡ AtRest
       → ShowsNext (started u.device (idle_machine number s us) (first (start_of (idle_machine number s us) (drive_of u.drive.state)))) answer (of_parts number s' sub' us')
       → ShowsNext (start_device u.device (idle_machine number s us) (Some (device_of u))) answer (of_parts number s' sub' us')
-  start_at_rest answer sub' us' s' is_arm h = subst (λ arm. ShowsNext (start_device u.device (idle_machine number s us) (with_this arm)) answer (of_parts number s' sub' us')) (sym is_arm) h
+  start_at_rest answer sub' us' s' is_arm h = rw is_arm h
 
 -- Test I/O, by the address that is asked.
 module _ (device number : ℕ) (s : Storage) (us : List AttachedState) (rest : AllRest us) (distinct : AreDistinct (devices us)) where
@@ -217,7 +196,7 @@ module _ (device number : ℕ) (s : Storage) (us : List AttachedState) (rest : A
   asked = test_device device (idle_machine number s us) (device_at (idle_machine number s us) device)
 
   pub test_none : position (is_at device) us ≡ None → ShowsNext asked (WithCode code.Three) (of_parts number s Idle us)
-  test_none h = subst (λ x. ShowsNext (test_device device (idle_machine number s us) x) (WithCode code.Three) (of_parts number s Idle us)) (sym (none_found device us h)) (record { answers = refl; shows = (refl, rest) })
+  test_none h = rw (none_found device us h) (record { answers = refl; shows = (refl, rest) })
 
   module _ (place : ℕ) (h : position (is_at device) us ≡ Some place) where
     f : FoundAt device us place
@@ -231,15 +210,14 @@ module _ (device number : ℕ) (s : Storage) (us : List AttachedState) (rest : A
 
     pub test_in_motion : (answer : Condition Csw) (s' : Storage) → Some InMotion ≡ option_map (λ (u : AttachedState). u.arm) (slice_get us place) → answer ≡ Stored (csw_of_unit BUSY) → s' ≡ changed (csw_stored (csw_of_unit BUSY)) s
         → ShowsNext asked (condition_seen csw_seen answer) (of_parts number s' Idle us)
-    test_in_motion answer s' a is stored = by_arm InMotion a (record { answers = ap (condition_seen csw_seen) is; shows = (ap (λ s. idle_machine number s us) (sym stored), rest) })
+    test_in_motion answer s' a is stored = rw (is, stored) (by_arm InMotion a (record { answers = refl; shows = (refl, rest) }))
 
     pub test_arrived : (answer : Condition Csw) (us' : List AttachedState) (s' : Storage) → Some Arrived ≡ option_map (λ (u : AttachedState). u.arm) (slice_get us place) → ArmChanges place AtRest us us'
         → answer ≡ Stored (csw_of_unit DEVICE_END) → s' ≡ changed (csw_stored (csw_of_unit DEVICE_END)) s → ShowsNext asked (condition_seen csw_seen answer) (of_parts number s' Idle us')
-    test_arrived answer us' s' a c is stored = by_arm Arrived a (record {
-      answers = ap (condition_seen csw_seen) is;
-      shows = subst (λ device. Shows (of_parts number s' Idle us') (record (with_arm AtRest device (idle_machine number s us)) { storage = changed (csw_stored (csw_of_unit DEVICE_END)) s }) Idle) f.same_device
-          (armed_shows number s us place f.attached f.is_there rest distinct AtRest us' s' (changed (csw_stored (csw_of_unit DEVICE_END)) s) c stored);
-    })
+    test_arrived answer us' s' a c is stored = rw (is, stored) (by_arm Arrived a (record {
+      answers = refl;
+      shows = rw f.same_device at (armed_shows number s us place f.attached f.is_there rest distinct AtRest us' (changed (csw_stored (csw_of_unit DEVICE_END)) s) c);
+    }))
 
     pub test_at_rest : Some AtRest ≡ option_map (λ (u : AttachedState). u.arm) (slice_get us place) → ShowsNext asked (WithCode code.Zero) (of_parts number s Idle us)
     test_at_rest a = by_arm AtRest a (record { answers = refl; shows = (refl, rest) })
@@ -276,9 +254,7 @@ module _ (number : ℕ) (s : Storage) (us : List AttachedState) (rest : AllRest 
       → told ≡ (256 * number + device, csw_of_unit DEVICE_END) → s' ≡ changed (csw_stored (csw_of_unit DEVICE_END)) s → ShowsNext interrupted_now (Interrupted (Some told)) (of_parts number s' Idle us')
   interrupt_arrived device place told us' s' h at a is stored =
       let f : FoundAt device us place = found_by device us place at in
-      subst (λ x. ShowsNext (interrupt_device (idle_machine number s us) x) (Interrupted (Some told)) (of_parts number s' Idle us')) (sym h)
-      (record {
-        answers = ap (λ t. Interrupted (Some t)) is;
-        shows = subst (λ device. Shows (of_parts number s' Idle us') (record (with_arm AtRest device (idle_machine number s us)) { storage = changed (csw_stored (csw_of_unit DEVICE_END)) s }) Idle) f.same_device
-            (armed_shows number s us place f.attached f.is_there rest distinct AtRest us' s' (changed (csw_stored (csw_of_unit DEVICE_END)) s) a stored);
+      rw (h, is, stored) (record {
+        answers = refl;
+        shows = rw f.same_device at (armed_shows number s us place f.attached f.is_there rest distinct AtRest us' (changed (csw_stored (csw_of_unit DEVICE_END)) s) a);
       })

@@ -1,6 +1,7 @@
 -- Bytes that may move one after another move at once.
 use Rattle.std.proofs.Common.{◌≡◌, ℕ, zero, suc, ◌+◌, ◌-◌, refl, sym, ap, ◌∙◌, arith, true, false, Bool, cond, not, ◌&&◌, List, [], ◌∷◌, ◌++◌, length, take, drop}
 use Rattle.std.proofs.Math.Seq.{take-add}
+use Rattle.std.proofs.lemmas.Bool.{cond_both}
 use Rattle.std.proofs.lemmas.List.{drop-drop, append_assoc, append-nil, length-append}
 use Rattle.std.specs.Prelude.{None}
 use Rattle.s360_words.specs.Storage.{overwritten, Storage, stored}
@@ -42,17 +43,13 @@ nexts_in_two true k m given bytes a s new e h =
     ∙ ap (λ n. new ++ take m (drop n given)) (one_longer bytes new h)
 nexts_in_two false k m given bytes a s new e h = taken_in_two m a s.bytes ∙ ap (λ r. r ++ take m (drop (a + 1) s.bytes)) (sym e)
 
-one_byte : (new : List ℕ) → 1 ≡ length new → (P : List ℕ → Type 0) → ((x : ℕ) → P (x ∷ [])) → P new
-one_byte [] h P f = absurd (omega arith)
-one_byte (x ∷ []) h P f = f x
-one_byte (x ∷ y ∷ new) h P f = absurd (omega arith)
-
 stored_in_two : (w : Bool) (s : Storage) (a : ℕ) (new more : List ℕ) → 1 ≡ length new → after w (after w s a new) (a + 1) more ≡ after w s a (new ++ more)
 stored_in_two false s a new more h = refl
-stored_in_two true s a new more h =
+stored_in_two true s a (x ∷ []) more h =
     let e : a + 1 ≡ suc a = omega arith in
-    one_byte new h (λ new. stored (stored s a new) (a + 1) more ≡ stored s a (new ++ more))
-    (λ x. ap (λ b. record s { bytes = b }) (ap (λ n. overwritten (overwritten s.bytes a (x ∷ [])) n more) e ∙ written_in_two s.bytes a x more))
+    ap (λ b. record s { bytes = b }) (ap (λ n. overwritten (overwritten s.bytes a (x ∷ [])) n more) e ∙ written_in_two s.bytes a x more)
+stored_in_two true s a [] more h = absurd (omega arith)
+stored_in_two true s a (x ∷ y ∷ new) more h = absurd (omega arith)
 
 abbrev made : Transfer → Storage → ℕ → ℕ → List ℕ → Transfer
 made p s left a bytes = record { storage = s; ccw = p.ccw; place = record p.place { residual = left }; address = a; bytes = bytes }
@@ -69,20 +66,15 @@ moved_in_two m o p h =
     let more : p.address + 1 + m ≡ p.address + suc m = omega arith in
     same_move p _ _ _ _ _ _ _ _ (stored_in_two w p.storage p.address new _ h ∙ ap (after w p.storage p.address) (sym two)) less more (append_assoc p.bytes new _ ∙ ap (λ r. p.bytes ++ r) (sym two))
 
-none_next : (g : Bool) → ◌≡◌ {A = List ℕ} (cond g [] []) []
-none_next true = refl
-none_next false = refl
-
-none_stored : (w : Bool) (s : Storage) (a : ℕ) → after w s a [] ≡ s
-none_stored true s a = ap (λ b. record s { bytes = b }) (overwritten-none s.bytes a [] refl)
-none_stored false s a = refl
-
 moved_none : (o : Open) (p : Transfer) → after_bytes 0 o p ≡ p
 moved_none o p =
+    let none : next_bytes 0 o p ≡ [] = cond_both (gives o) [] [] (λ l. l ≡ []) (λ e. refl) (λ e. refl) in
     let w = gives o && not (skips p.ccw) in
+    let same : after w p.storage p.address [] ≡ p.storage =
+    cond_both w _ _ (λ s. s ≡ p.storage) (λ e. ap (λ b. record p.storage { bytes = b }) (overwritten-none p.storage.bytes p.address [] refl)) (λ e. refl) in
     let less : p.place.residual - 0 ≡ p.place.residual = omega arith in
     let more : p.address + 0 ≡ p.address = omega arith in
-    same_move p _ _ _ _ _ _ _ _ (ap (after w p.storage p.address) (none_next (gives o)) ∙ none_stored w p.storage p.address) less more (ap (λ r. p.bytes ++ r) (none_next (gives o)) ∙ append-nil p.bytes)
+    same_move p _ _ _ _ _ _ _ _ (ap (after w p.storage p.address) none ∙ same) less more (ap (λ r. p.bytes ++ r) none ∙ append-nil p.bytes)
 
 -- m bytes that may move one after another move at once
 pub at_once : MoveAtOnce

@@ -1,5 +1,5 @@
 -- What the laws of programs need to know of a drive: how a command ends, and what a fault of the store does to it.
-use Rattle.std.proofs.Common.{◌≡◌, ℕ, zero, suc, refl, ap, subst, sym, ◌∙◌, true, false, Bool, not, List, [], ◌∷◌, Option, Some, None, ◌⊎◌, inl, inr}
+use Rattle.std.proofs.Common.{◌≡◌, ℕ, zero, suc, refl, ap, ◌∙◌, true, false, Bool, not, List, [], ◌∷◌, Option, Some, None, ◌⊎◌, inl, inr}
 use Rattle.std.specs.Prelude.{◌&&◌, length, slice_get, slice_set, slice_index_or, option_map, ◌==◌}
 use Rattle.std.proofs.lemmas.Nat.{and_or_self, and_or_apart}
 use Rattle.s360_words.specs.declared.flags.TheConstants.UnitStatus.{UNIT_CHECK}
@@ -15,14 +15,15 @@ use Rattle.ckd_command.specs.Answers.{Beginning, Sight}
 use Rattle.ckd_command.specs.Answers as answer
 use Rattle.ckd_command.specs.Tables.{aim}
 use Rattle.ckd_command.specs.Commands.{Closing, beginning, sight}
-use Rattle.ckd_command.specs.Drive.{IdleDrive, State, Volume, track_number, unsaved, tells_equipment_check, is_written, is_written_by, drive_of, number_under, slot_under, track_under, Fault, LoadFails, SaveFails, left_by, lost, saving, moving_off, with_registers, with_store_fault, Open, AfterBegin, Rejected, Immediate, Started, begin, begun, AfterLook, Ready, Passed, Failed, look, looked, look_for, with_written, Closed, failed, close, closed, closed_moving, settled, with_unit_check, unsaved_by}
-use Rattle.ckd_command.proofs.Arms.{AtSameTrack, BeginsAt, beginning_at, closing_at, closing_empty, SightAt, sight_at}
+use Rattle.ckd_command.specs.Drive.{IdleDrive, State, Volume, unsaved, tells_equipment_check, is_written, is_written_by, drive_of, number_under, slot_under, track_under, Fault, LoadFails, SaveFails, left_by, lost, saving, moving_off, with_registers, with_store_fault, Open, Rejected, begin, begun, Failed, look, looked, look_for, Closed, failed, close, closed, closed_moving, settled, with_unit_check, unsaved_by}
+use Rattle.ckd_command.proofs.Arms.{AtSameTrack, BeginsAt, beginning_at, closing_at, closing_empty}
 use Rattle.ckd_command.proofs.CommandFacts.{IsClosing, closing_facts, store_fault_is_told}
+use Rattle.s360_runs.specs.Endings.{immediate}
 use Rattle.s360_runs.specs.Status.{tells}
 use Rattle.s360_runs.specs.StoreCalls.{closing_of, goes_to_next_head, is_next, leaves_as_it_begins, leaves_looking, looks_for_area}
 use Rattle.s360_runs.specs.Faults.{LosesAtMost}
 use Rattle.s360_runs.specs.Laws.{IsEnd}
-use Rattle.s360_runs.proofs.Units.{BegunIs, FoundIs, LookIs}
+use Rattle.s360_runs.proofs.Units.{BegunIs, LookIs}
 
 -- How a command ends.
 
@@ -30,27 +31,28 @@ use Rattle.s360_runs.proofs.Units.{BegunIs, FoundIs, LookIs}
 pub close_end : (f : Option Fault) (o : Open) (b : List ℕ) → IsEnd (close f o b).unit (close f o b).motion
 close_end f o b = by (closing_of o b) (closing_of o b).moves_off (closing_facts _ _ _ _ b)
   where
-    saves : {w : Bool} (c : Closing) → IsClosing o.state.registers b w c → (x : Option (List ℕ)) → let d = saving x o.state failed (closed_moving o.state c) in IsEnd d.unit d.motion
-    saves c h (Some left) = record { channel_end = refl; device_end = refl }
-    saves c h None = record { channel_end = h.channel_end; device_end = h.device_end }
-
     by : {w : Bool} (c : Closing) (moves_off : Bool) → IsClosing o.state.registers b w c → let d = closed f o.state c moves_off in IsEnd d.unit d.motion
-    by c true h = saves c h (left_by f o.state.mark)
+    by c true h = elim (left_by f o.state.mark) as (λ x. let d = saving x o.state failed (closed_moving o.state c) in IsEnd d.unit d.motion)
+        [ Some left ↦ record { channel_end = refl; device_end = refl } | None ↦ record { channel_end = h.channel_end; device_end = h.device_end } ]
     by c false h = record { channel_end = h.channel_end; device_end = h.device_end }
-
--- and saving its track keeps these
-pub settle_end : (f : Option Fault) (c : Closed) → IsEnd c.unit c.motion → IsEnd (settled f c).unit (settled f c).motion
-settle_end f c h = go (left_by f c.state.mark)
-  where
-    go : (x : Option (List ℕ)) → let d = saving x c.state (λ s. record c { state = s; unit = with_unit_check c.unit }) c in IsEnd d.unit d.motion
-    go None = h
-    go (Some left) = record {
-      channel_end = ap (λ n. not (n == 0)) (and_or_apart 0x08 c.unit.0 0x02 refl) ∙ h.channel_end;
-      device_end = ap (λ n. not (n == 0)) (and_or_apart 0x04 c.unit.0 0x02 refl) ∙ h.device_end;
-    }
 
 pub joins_check : (unit : UnitStatus) → tells (with_unit_check unit) UNIT_CHECK ≡ true
 joins_check unit = ap (λ n. not (n == 0)) (and_or_self 0x02 unit.0)
+
+-- unit check is told beside these
+pub joins_end : (unit : UnitStatus) (motion : Bool) → IsEnd unit motion → IsEnd (with_unit_check unit) motion
+joins_end unit motion h = record {
+  channel_end = ap (λ n. not (n == 0)) (and_or_apart 0x08 unit.0 0x02 refl) ∙ h.channel_end;
+  device_end = ap (λ n. not (n == 0)) (and_or_apart 0x04 unit.0 0x02 refl) ∙ h.device_end;
+}
+
+-- and saving its track keeps them
+pub settle_end : (f : Option Fault) (c : Closed) → IsEnd c.unit c.motion → IsEnd (settled f c).unit (settled f c).motion
+settle_end f c h = elim (left_by f c.state.mark) as (λ x. let d = saving x c.state (λ s. record c { state = s; unit = with_unit_check c.unit }) c in IsEnd d.unit d.motion) [ None ↦ h | Some left ↦ joins_end c.unit c.motion h ]
+
+pub immediate_end : (s : State) (motion : Bool) → IsEnd (immediate s motion).unit motion
+immediate_end s true = record { channel_end = refl; device_end = refl }
+immediate_end s false = record { channel_end = refl; device_end = refl }
 
 -- Slots.
 
@@ -75,79 +77,65 @@ pub record Fails (fault : Fault) (before : IdleDrive) (at : Registers) (s : Stat
   pub slots : LosesAtMost fault before (drive_of s) (unsaved s)
   pub arm : AtSameTrack at s.registers
 
--- where the slots before and the arm were the same
-pub fails_from : (f : Fault) (a b : IdleDrive) (at from : Registers) (s : State) → a.volume ≡ b.volume → AtSameTrack from at → Fails f a at s → Fails f b from s
-fails_from f a b at from s e k h = record { equipment_check = h.equipment_check; slots = go f h.slots; arm = record { cylinder = h.arm.cylinder ∙ k.cylinder; head = h.arm.head ∙ k.head } }
-  where
-    go : (f : Fault) → LosesAtMost f a (drive_of s) (unsaved s) → LosesAtMost f b (drive_of s) (unsaved s)
-    go LoadFails h = h ∙ e
-    go (SaveFails left) h = (h.0, record { geometry = h.1.geometry ∙ ap (λ v. v.geometry) e; others = λ n k. h.1.others n k ∙ ap (λ v. slice_get v.slots n) e; size = h.1.size ∙ ap (λ v. option_map length (slice_get v.slots (track_number (drive_of s)))) e })
-
 pub same_arm : (r : Registers) → AtSameTrack r r
 same_arm r = record { cylinder = refl; head = refl }
 
-pub lost_fails : (left : List ℕ) (s : State) → Fails (SaveFails left) (drive_of s) s.registers (lost s left)
-lost_fails left s = record {
+-- a save that fails, where the slots before and the arm were the same
+pub lost_fails : (left : List ℕ) (s : State) (before : IdleDrive) (at : Registers) → s.volume ≡ before.volume → AtSameTrack at s.registers → Fails (SaveFails left) before at (lost s left)
+lost_fails left s before at e k = record {
   equipment_check = store_fault_is_told s.registers;
   slots = (
     refl,
     record {
-      geometry = refl;
-      others = λ n h. get_set_other s.volume.slots (number_under s) n (overwritten (slot_under s) 0 left) h;
-      size = get_set_size s.volume.slots (number_under s) left;
+      geometry = ap (λ v. v.geometry) e;
+      others = λ n h. get_set_other s.volume.slots (number_under s) n (overwritten (slot_under s) 0 left) h ∙ ap (λ v. slice_get v.slots n) e;
+      size = get_set_size s.volume.slots (number_under s) left ∙ ap (λ v. option_map length (slice_get v.slots (number_under s))) e;
     },
   );
-  arm = record { cylinder = refl; head = refl };
+  arm = record { cylinder = k.cylinder; head = k.head };
 }
 
 pub load_fails : (o : Open) → Fails LoadFails (drive_of o.state) o.state.registers (with_store_fault o.state)
 load_fails o = record { equipment_check = store_fault_is_told o.state.registers; slots = refl; arm = record { cylinder = refl; head = refl } }
 
 -- what a save that fails comes to, where the track is written; and where it is not, nothing is saved
-abbrev pub LostOr : {A : Type 0} → List ℕ → State → (State → A) → (goes : A) → (it_is : A) → Type 0
-LostOr left s fails goes it_is = (is_written s ≡ true → it_is ≡ fails (lost s left)) × (is_written s ≡ false → it_is ≡ goes)
-
-pub saving_or : {A : Type 0} (left : List ℕ) (s : State) (fails : State → A) (goes : A) → LostOr left s fails goes (moving_off (Some (SaveFails left)) s fails goes)
+pub saving_or : {A : Type 0} (left : List ℕ) (s : State) (fails : State → A) (goes : A) → let x = moving_off (Some (SaveFails left)) s fails goes in (is_written s ≡ true → x ≡ fails (lost s left)) × (is_written s ≡ false → x ≡ goes)
 saving_or left s fails goes = go s.mark
   where
     go : (m : Mark) → let x = saving (left_by (Some (SaveFails left)) m) s fails goes in (is_written_by m ≡ true → x ≡ fails (lost s left)) × (is_written_by m ≡ false → x ≡ goes)
     go Written = (λ h. refl, λ h. absurd (cc))
     go m = (λ h. absurd (cc), λ h. refl)
 
--- A call of the drive whose save fails where the arm or the head leaves a written track, and that is else the same.
-abbrev pub FailsOr : {A : Type 0} → (leaves : Bool) → List ℕ → State → (State → A) → (with_fault without : A) → Type 0
-FailsOr leaves left s fails x y =
-    ((leaves && is_written s) ≡ true → (t : State) × (x ≡ fails t) × Fails (SaveFails left) (drive_of s) s.registers t)
-    × ((leaves && is_written s) ≡ false → x ≡ y)
+-- what is so of a save alone
+abbrev pub if_save : Fault → Bool → Bool
+if_save LoadFails b = false
+if_save (SaveFails left) b = b
 
--- one that leaves no track
-stays_or : {A : Type 0} (left : List ℕ) (s : State) (fails : State → A) (x : A) → FailsOr false left s fails x x
-stays_or left s fails x = (λ h. absurd (cc), λ h. refl)
+-- A call of the drive in which the fault is met, and that is else the same.
+abbrev pub FailsOr : {A : Type 0} → (met : Bool) → Fault → (before : IdleDrive) → Registers → (State → A) → (Option Fault → A) → Type 0
+FailsOr met f before at fails call =
+    (met ≡ true → (t : State) × (call (Some f) ≡ fails t) × Fails f before at t) × (met ≡ false → call (Some f) ≡ call None)
 
--- one that leaves it from these registers
-leaves_or : {A : Type 0} (left : List ℕ) (s : State) (r : Registers) (fails : State → A) (y : A) → AtSameTrack s.registers r
-    → FailsOr true left s fails (moving_off (Some (SaveFails left)) (with_registers s r) fails y) y
-leaves_or left s r fails y k =
+-- One whose save fails where the arm or the head leaves a written track. The drive moves off from the registers `r`, and the volume
+-- and the arm are tied to those before it: a command that is closed has other registers than the phase that it ends.
+leaves_or : {A : Type 0} (left : List ℕ) (s : State) (r : Registers) (before : IdleDrive) (at : Registers) (fails : State → A) (y : A) → s.volume ≡ before.volume → AtSameTrack at r
+    → FailsOr (is_written s) (SaveFails left) before at fails (λ f. moving_off f (with_registers s r) fails y)
+leaves_or left s r before at fails y e k =
     let t = with_registers s r in
     let h = saving_or left t fails y in
-    (λ w. (lost t left, h.0 w, fails_from (SaveFails left) (drive_of t) (drive_of s) r s.registers (lost t left) refl k (lost_fails left t)), h.1)
+    (λ w. (lost t left, h.0 w, lost_fails left t before at e k), h.1)
 
 -- Closing.
 
-pub close_saves : (left : List ℕ) (o : Open) (b : List ℕ) → FailsOr (closing_of o b).moves_off left o.state failed (close (Some (SaveFails left)) o b) (close None o b)
-close_saves left o b = go (closing_of o b) (closing_of o b).moves_off
+pub close_fails : (f : Fault) (o : Open) (b : List ℕ) (before : IdleDrive) (at : Registers) → (close None o b).state.volume ≡ before.volume → AtSameTrack at o.state.registers
+    → FailsOr (if_save f ((closing_of o b).moves_off && is_written o.state)) f before at failed (λ f. close f o b)
+close_fails f o b before at e k = go f (closing_of o b) (closing_of o b).moves_off e
   where
-    go : (c : Closing) (moves_off : Bool) → FailsOr moves_off left o.state failed (closed (Some (SaveFails left)) o.state c moves_off) (closed None o.state c moves_off)
-    go c true = leaves_or left o.state o.state.registers failed (closed_moving o.state c) (same_arm o.state.registers)
-    go c false = stays_or left o.state failed _
-
--- a close loads nothing
-pub close_loads : (o : Open) (b : List ℕ) → close (Some LoadFails) o b ≡ close None o b
-close_loads o b = go (closing_of o b) (closing_of o b).moves_off
-  where
-    go : (c : Closing) (moves_off : Bool) → closed (Some LoadFails) o.state c moves_off ≡ closed None o.state c moves_off
-    go c true = refl
-    go c false = refl
+    go : (f : Fault) (c : Closing) (moves_off : Bool) → (closed None o.state c moves_off).state.volume ≡ before.volume
+        → FailsOr (if_save f (moves_off && is_written o.state)) f before at failed (λ f. closed f o.state c moves_off)
+    go (SaveFails left) c true e = leaves_or left o.state o.state.registers before at failed (closed_moving o.state c) e k
+    go LoadFails c true e = (λ h. absurd (cc), λ h. refl)
+    go f c moves_off e = (λ h. absurd (cc), λ h. refl)
 
 -- a command that leaves its track written leaves the arm there, and at rest
 pub record StaysWritten (at : Registers) (c : Closed) : Type 0 where
@@ -167,22 +155,12 @@ close_stays o b = go (closing_of o b) (closing_of o b).moves_off (closing_at _ _
 pub empty_stays : (o : Open) → (closing_of o []).moves_off ≡ false
 empty_stays o = closing_empty _ _ _ _
 
--- a command that leaves its track changes no slot
-pub close_moves : (o : Open) (b : List ℕ) → (closing_of o b).moves_off ≡ true → (close None o b).state.volume ≡ o.state.volume
-close_moves o b = go (closing_of o b).moves_off
-  where
-    go : (moves_off : Bool) → moves_off ≡ true → (closed None o.state (closing_of o b) moves_off).state.volume ≡ o.state.volume
-    go true e = refl
-    go false e = absurd (cc)
+-- nor does it change one
+empty_writes : (o : Open) → (closing_of o []).written ≡ None
+empty_writes o = elim (closing_facts o.state.volume.geometry (track_under o.state) o.opened o.state.registers []).written [ inl h ↦ h | inr h ↦ absurd (h.0 refl) ]
 
--- where no byte came, a command changes no track
-pub close_none : (o : Open) → (close None o []).state.volume ≡ o.state.volume
-close_none o = go (closing_of o []) (closing_of o []).moves_off (closing_facts _ _ _ _ []).written
-  where
-    go : {w : Bool} (c : Closing) (moves_off : Bool) → (c.written ≡ None) ⊎ ((◌≡◌ {A = List ℕ} [] [] → ⊥) × (w ≡ true)) → (closed None o.state c moves_off).state.volume ≡ o.state.volume
-    go c true h = refl
-    go c false (inl h) = ap (λ t. (with_written o.state t).volume) h
-    go c false (inr h) = absurd (h.0 refl)
+pub close_none : (o : Open) → ((close None o []).state.volume ≡ o.state.volume) × (is_written (close None o []).state ≡ is_written o.state)
+close_none o = rw (empty_stays o, empty_writes o) (refl, refl)
 
 -- Settle.
 
@@ -198,84 +176,43 @@ settle_again (SaveFails left) c before at h = go c.state.mark h.slots.0
 
 -- Looks.
 
--- a load that fails ends a look for an area
-pub look_loads : (o : Open) → looks_for_area o ≡ true → look (Some LoadFails) o ≡ Failed (with_store_fault o.state)
+-- a load that fails ends a look for an area; one that does not look for any makes none
+pub look_loads : (o : Open) → (looks_for_area o ≡ true → look (Some LoadFails) o ≡ Failed (with_store_fault o.state)) × (looks_for_area o ≡ false → look (Some LoadFails) o ≡ look None o)
 look_loads o = go (aim o.opened.command) _
   where
-    go : (a : Aim) (s : Sight) → is_next a ≡ true → look_for (Some LoadFails) o a s ≡ Failed (with_store_fault o.state)
-    go (Next kind) s h = refl
-    go a s h = absurd (cc)
-
--- one that does not look for any makes none
-pub look_loads_not : (o : Open) → looks_for_area o ≡ false → look (Some LoadFails) o ≡ look None o
-look_loads_not o = go (aim o.opened.command) _
-  where
-    at : (s : Sight) → looked (Some LoadFails) o s ≡ looked None o s
-    at (answer.Found opened) = refl
-    at s = refl
-
-    go : (a : Aim) (s : Sight) → is_next a ≡ false → look_for (Some LoadFails) o a s ≡ look_for None o a s
-    go (Next kind) s h = absurd (cc)
-    go a s h = at s
+    go : (a : Aim) (s : Sight) → (is_next a ≡ true → look_for (Some LoadFails) o a s ≡ Failed (with_store_fault o.state)) × (is_next a ≡ false → look_for (Some LoadFails) o a s ≡ look_for None o a s)
+    go (Next kind) s = (λ h. refl, λ h. absurd (cc))
+    go a (answer.Found opened) = (λ h. absurd (cc), λ h. refl)
+    go a s = (λ h. absurd (cc), λ h. refl)
 
 -- what an open command sights of the track under the arm
 abbrev pub sighted : Open → Sight
 sighted o = sight o.state.volume.geometry (track_under o.state) o.opened o.state.registers
 
--- a save fails before the head goes on to the next track
-pub look_saves : (left : List ℕ) (o : Open) → FailsOr (leaves_looking o) left o.state Failed (look (Some (SaveFails left)) o) (look None o)
-look_saves left o = go (sighted o)
-  where
-    go : (s : Sight) → FailsOr (goes_to_next_head s) left o.state Failed (looked (Some (SaveFails left)) o s) (looked None o s)
-    go (answer.NextHead r) = leaves_or left o.state o.state.registers Failed _ (same_arm o.state.registers)
-    go s = stays_or left o.state Failed _
+-- whether a look meets a fault: it loads, or it saves before the head goes on to the next track
+abbrev pub look_meets : Fault → Open → Bool
+look_meets LoadFails o = looks_for_area o
+look_meets (SaveFails left) o = leaves_looking o && is_written o.state
 
--- where a look fails the arm stays; and where it finds the area, the open command is as it was but for the area
-abbrev pub LookStays : Open → AfterLook → Type 0
-LookStays o (Failed s) = AtSameTrack o.state.registers s.registers
-LookStays o (Passed p) = Unit {0}
-LookStays o (Ready p) = (leaves_looking o ≡ false) × (p.state ≡ o.state)
-
-pub look_stays : (o : Open) → LookStays o (look None o)
-look_stays o = go (sighted o) refl (sight_at o.state.volume.geometry (track_under o.state) o.opened o.state.registers)
+pub look_fails : (f : Fault) (o : Open) → FailsOr (look_meets f o) f (drive_of o.state) o.state.registers Failed (λ f. look f o)
+look_fails LoadFails o = let h = look_loads o in (λ w. (with_store_fault o.state, h.0 w, load_fails o), h.1)
+look_fails (SaveFails left) o = go (sighted o)
   where
-    go : (s : Sight) → sighted o ≡ s → SightAt o.state.registers o.opened s → LookStays o (looked None o s)
-    go (answer.Found opened) e k = (ap goes_to_next_head e, refl)
-    go (answer.Missed r) e k = k
-    go s e k = tt
+    go : (s : Sight) → FailsOr (goes_to_next_head s && is_written o.state) (SaveFails left) (drive_of o.state) o.state.registers Failed (λ f. looked f o s)
+    go (answer.NextHead r) = leaves_or left o.state o.state.registers _ _ Failed _ refl (same_arm o.state.registers)
+    go s = (λ h. absurd (cc), λ h. refl)
 
 -- Beginnings.
 
-pub begin_loads : (code : ℕ) (s : State) → begin (Some LoadFails) code s ≡ begin None code s
-begin_loads code s = go (beginning code s.registers)
-  where
-    go : (b : Beginning) → begun (Some LoadFails) s b ≡ begun None s b
-    go (answer.Rejected r) = refl
-    go b = refl
-
 -- a save fails before the arm goes to cylinder 0
-pub begin_saves : (left : List ℕ) (code : ℕ) (s : State) → FailsOr (leaves_as_it_begins (beginning code s.registers)) left s Rejected (begin (Some (SaveFails left)) code s) (begin None code s)
-begin_saves left code s = go (beginning code s.registers) (beginning_at code s.registers)
+pub begin_fails : (f : Fault) (code : ℕ) (s : State) → FailsOr (if_save f (leaves_as_it_begins (beginning code s.registers) && is_written s)) f (drive_of s) s.registers Rejected (λ f. begin f code s)
+begin_fails f code s = go f (beginning code s.registers) (beginning_at code s.registers)
   where
-    go : (b : Beginning) → BeginsAt s.registers b → FailsOr (leaves_as_it_begins b) left s Rejected (begun (Some (SaveFails left)) s b) (begun None s b)
-    go (answer.ToCylinderZero r None) k = leaves_or left s r Rejected _ k
-    go (answer.ToCylinderZero r (Some o)) k = leaves_or left s r Rejected _ k.0
-    go b k = stays_or left s Rejected _
-
--- where a command begins the arm stays, but where it moves
-abbrev pub BegunStays : Registers → AfterBegin → Type 0
-BegunStays at (Rejected s) = AtSameTrack at s.registers
-BegunStays at (Immediate s motion) = is_written s ≡ true → (motion ≡ false) × AtSameTrack at s.registers
-BegunStays at (Started o) = Unit {0}
-
-pub begin_stays : (code : ℕ) (s : State) → BegunStays s.registers (begin None code s)
-begin_stays code s = go (beginning code s.registers) (beginning_at code s.registers)
-  where
-    go : (b : Beginning) → BeginsAt s.registers b → BegunStays s.registers (begun None s b)
-    go (answer.Rejected r) k = k
-    go (answer.Immediate r) k = λ w. (refl, k)
-    go (answer.ToCylinderZero r None) k = λ w. absurd (cc)
-    go b k = tt
+    go : (f : Fault) (b : Beginning) → BeginsAt s.registers b → FailsOr (if_save f (leaves_as_it_begins b && is_written s)) f (drive_of s) s.registers Rejected (λ f. begun f s b)
+    go (SaveFails left) (answer.ToCylinderZero r None) k = leaves_or left s r _ _ Rejected _ refl k
+    go (SaveFails left) (answer.ToCylinderZero r (Some o)) k = leaves_or left s r _ _ Rejected _ refl k.0
+    go LoadFails (answer.ToCylinderZero r o) k = (λ h. absurd (cc), λ h. refl)
+    go f b k = (λ h. absurd (cc), λ h. refl)
 
 -- Beginning and looking change no slot: what holds of the volume holds of it behind them.
 
@@ -293,9 +230,9 @@ begin_keeps V code s h = go (beginning code s.registers)
     go (answer.ToCylinderZero r (Some o)) = h
     go b = h
 
-pub look_keeps : (V : Volume → Type 0) (o : Open) → V o.state.volume → LookIs (VolumeClosed V) (VolumeIn V) (FoundIs (VolumeClosed V) (VolumeIn V) None) (look None o)
+pub look_keeps : (V : Volume → Type 0) (o : Open) → V o.state.volume → LookIs (VolumeClosed V) (VolumeIn V) None (look None o)
 look_keeps V o h = go (sighted o)
   where
-    go : (s : Sight) → LookIs (VolumeClosed V) (VolumeIn V) (FoundIs (VolumeClosed V) (VolumeIn V) None) (looked None o s)
-    go (answer.Found opened) = (h, subst V (sym (close_none (record o { opened = opened }))) h)
+    go : (s : Sight) → LookIs (VolumeClosed V) (VolumeIn V) None (looked None o s)
+    go (answer.Found opened) = (h, rw (close_none (record o { opened = opened })).0 h)
     go s = h

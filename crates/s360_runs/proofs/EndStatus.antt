@@ -1,30 +1,22 @@
 -- Each ending has channel end, and device end unless the arm still moves.
-use Rattle.std.proofs.Common.{◌≡◌, ℕ, refl, subst, true, false, Bool, cond, [], Option, Some, None}
+use Rattle.std.proofs.Common.{◌≡◌, ℕ, refl, subst, cond, [], Option, Some, None}
 use Rattle.std.proofs.lemmas.Bool.{cond_both}
-use Rattle.s360_words.specs.Words.{caw_of}
 use Rattle.s360_words.specs.declared.flags.ChannelStatus.{ChannelStatus}
 use Rattle.s360_words.specs.declared.flags.TheConstants.ChannelStatus.{PROGRAM_CHECK, PROGRAM_CONTROLLED_INTERRUPTION}
-use Rattle.s360_words.specs.declared.words.Caw.{Caw}
 use Rattle.s360_words.specs.declared.words.Csw.{Csw}
-use Rattle.ckd_command.specs.Drive.{Closed, State, Fault, AfterBegin, Rejected, Immediate, Started, begin, look, AfterLook, Failed, Passed, Ready, begin_program}
-use Rattle.s360_runs.specs.Endings.{untouched, failed, Ending, ending, immediate, Standing, Outcome, Ended, NotEnded, csw_at}
+use Rattle.ckd_command.specs.Drive.{Closed, Fault, Rejected, Immediate, Started, begin, look, Failed, Passed, Ready, begin_program}
+use Rattle.s360_runs.specs.Endings.{untouched, Ending, ending, Standing, Outcome, Ended, NotEnded, csw_at}
 use Rattle.s360_runs.specs.Laws.{IsEnd, EndingIsEnd, CutIsEnd}
 use Rattle.s360_runs.specs.Places.{Place}
-use Rattle.s360_runs.specs.Runs.{Start, run, run_from, first_place, start_point}
+use Rattle.s360_runs.specs.Runs.{Start, run, first_place, start_point}
 use Rattle.s360_runs.specs.Scripts.{Script}
 use Rattle.s360_runs.specs.Status.{no_unit_status}
-use Rattle.s360_runs.specs.Units.{ProgramPhase, Between, Looking, Moving, standing_in, state_in}
-use Rattle.s360_runs.proofs.DriveFacts.{settle_end, close_end}
-use Rattle.s360_runs.proofs.Units.{OpenIs, BegunIs, LookIs, FoundIs, unit_holds, cut_holds, walk_holds, run_holds}
+use Rattle.s360_runs.specs.Units.{ProgramPhase, Between, Looking, Moving, standing_in, unit}
+use Rattle.s360_runs.proofs.DriveFacts.{close_end, immediate_end, settle_end}
+use Rattle.s360_runs.proofs.Units.{NextHas, OpenIs, BegunIs, LookIs, phase_holds, walk_holds, run_holds}
 
 abbrev IsClosed : Closed → Type 0
 IsClosed c = IsEnd c.unit c.motion
-
-plain_end : (s : State) → IsClosed (untouched s)
-plain_end s = record { channel_end = refl; device_end = refl }
-
-check_end : (s : State) → IsClosed (failed s)
-check_end s = record { channel_end = refl; device_end = refl }
 
 abbrev pub IsGood : Ending → Type 0
 IsGood e = IsEnd e.csw.unit e.motion
@@ -32,25 +24,13 @@ IsGood e = IsEnd e.csw.unit e.motion
 good_ending : (f : Option Fault) (key : ℕ) (p : Place) (c : Closed) (channel : ChannelStatus) → IsClosed c → IsGood (ending f key p c channel)
 good_ending f key p c channel h = let g = settle_end f c h in record { channel_end = g.channel_end; device_end = g.device_end }
 
-at_once : (s : State) (motion : Bool) → IsClosed (immediate s motion)
-at_once s true = record { channel_end = refl; device_end = refl }
-at_once s false = record { channel_end = refl; device_end = refl }
-
 -- what a unit and a cut close
 open_closes : (f : Option Fault) (g : ProgramPhase) → OpenIs IsClosed (λ s. Unit {0}) f g
 open_closes f (Moving o t) = close_end f o t.bytes
-open_closes f (Between p) = λ code. go (begin f code p.state)
-  where
-    go : (b : AfterBegin) → BegunIs IsClosed (λ s. Unit {0}) b
-    go (Rejected s) = check_end s
-    go (Immediate s motion) = at_once s motion
-    go (Started o) = tt
-open_closes f (Looking o r) = go (look f o)
-  where
-    go : (l : AfterLook) → LookIs IsClosed (λ s. Unit {0}) (FoundIs IsClosed (λ s. Unit {0}) f) l
-    go (Failed s) = check_end s
-    go (Passed o) = tt
-    go (Ready o) = (tt, close_end f o [])
+open_closes f (Between p) = λ code. elim (begin f code p.state) as (BegunIs IsClosed (λ s. Unit {0}))
+    [ Rejected s ↦ record { channel_end = refl; device_end = refl } | Immediate s motion ↦ immediate_end s motion | Started o ↦ tt ]
+open_closes f (Looking o r) = elim (look f o) as (LookIs IsClosed (λ s. Unit {0}) f)
+    [ Failed s ↦ record { channel_end = refl; device_end = refl } | Passed o ↦ tt | Ready o ↦ (tt, close_end f o []) ]
 
 -- Runs.
 
@@ -74,16 +54,15 @@ asks_good key (Between p) = asked_at key p.place
 asks_good key (Looking o r) = asked_at key r.place
 asks_good key (Moving o t) = asked_at key t.place
 
-stands_good : (key : ℕ) (g : ProgramPhase) → StandingGood (standing_in key g)
-stands_good key g = (λ f. cut_holds IsClosed (λ s. Unit {0}) IsGood f key (λ c h. tt) (good_ending f key) g (plain_end (state_in g)) (open_closes f g), asks_good key g)
-
-run_good : (s : Start) (script : Script) (c : Option Caw) → RunGood (run_from script s c)
-run_good s script None = good_ending None 0 (first_place 0) (untouched (begin_program s.drive)) PROGRAM_CHECK (plain_end (begin_program s.drive))
-run_good s script (Some caw) = run_holds RunGood s caw script (λ g h. stands_good caw.key g) (λ used st e h. h)
-    (walk_holds (λ g. Unit {0}) (λ st. IsGood) caw.key (λ turn g h. tt) (λ f g h. unit_holds IsClosed (λ s. Unit {0}) IsGood f caw.key (λ c h. tt) (good_ending f caw.key) g (plain_end (state_in g)) tt (open_closes f g)) script (Between (start_point caw s)) tt)
+-- of a unit, and of a cut in its place
+good_phase : (f : Option Fault) (key : ℕ) (g : ProgramPhase) → NextHas (λ s. Unit {0}) IsGood (unit f key g) × IsGood ((standing_in key g).cut f)
+good_phase f key g = phase_holds IsClosed (λ s. Unit {0}) IsGood f key (λ c h. tt) (good_ending f key) g (record { channel_end = refl; device_end = refl }) tt (open_closes f g)
 
 pub good_run : (s : Start) (script : Script) → RunGood (run script s)
-good_run s script = run_good s script (caw_of s.caw)
+good_run s script = run_holds {P = λ key g. Unit {0}} {E = λ st. IsGood} RunGood s script
+    (good_ending None 0 (first_place 0) (untouched (begin_program s.drive)) PROGRAM_CHECK (record { channel_end = refl; device_end = refl }))
+    (λ key g h. (λ f. (good_phase f key g).1, asks_good key g)) (λ used st e h. h)
+    (λ caw at. walk_holds (λ g. Unit {0}) (λ st. IsGood) caw.key (λ turn g h. tt) (λ f g h. (good_phase f caw.key g).0) script (Between (start_point caw s)) tt)
 
 pub ending_is_end : EndingIsEnd
 ending_is_end s script used storage e h = subst RunGood h (good_run s script)

@@ -1,137 +1,64 @@
 -- A fault that is met ends the program, and is reported; at most one slot is lost; and it is met exactly where the call is made.
 use Rattle.std.proofs.Common.{◌≡◌, ◌+◌, ◌-◌, ℕ, suc, refl, sym, ap, subst, ◌∙◌, arith, true, false, Bool, cond, not, ◌&&◌, ◌||◌, List, [], ◌∷◌, ◌++◌, Option, Some, None, ◌⊎◌, inl, inr}
-use Rattle.std.specs.Prelude.{◌==◌, bit_and, is_some, slice_get}
-use Rattle.std.proofs.Math.Bool.{and-false}
-use Rattle.std.proofs.lemmas.Bool.{and_parts, cond_both, eqb-true, not-false}
+use Rattle.std.specs.Prelude.{◌==◌, bit_and}
+use Rattle.std.proofs.Math.Bool.{and-false, or-false}
+use Rattle.std.proofs.lemmas.Bool.{cond_both, eqb-true, not-false}
 use Rattle.std.proofs.lemmas.Nat.{and_or_apart}
-use Rattle.s360_words.specs.Storage.{Storage, admits, key_at}
-use Rattle.s360_words.specs.Words.{has, chains_command, caw_of, skips}
+use Rattle.s360_words.specs.Storage.{Storage}
+use Rattle.s360_words.specs.Words.{has, chains_command}
 use Rattle.s360_words.specs.declared.flags.ChannelStatus.{ChannelStatus}
-use Rattle.s360_words.specs.declared.flags.TheConstants.ChannelStatus.{INCORRECT_LENGTH, PROGRAM_CHECK, PROTECTION_CHECK}
-use Rattle.s360_words.specs.declared.flags.TheConstants.UnitStatus.{CHANNEL_END, DEVICE_END, UNIT_CHECK}
+use Rattle.s360_words.specs.declared.flags.TheConstants.ChannelStatus.{INCORRECT_LENGTH, PROGRAM_CHECK}
+use Rattle.s360_words.specs.declared.flags.TheConstants.UnitStatus.{UNIT_CHECK}
 use Rattle.s360_words.specs.declared.flags.UnitStatus.{UnitStatus}
-use Rattle.s360_words.specs.declared.words.Caw.{Caw}
+use Rattle.ckd_command.specs.Answers.{Beginning, Sight}
+use Rattle.ckd_command.specs.Answers as answer
 use Rattle.ckd_command.specs.Commands.{beginning}
-use Rattle.ckd_command.specs.Drive.{Fault, Volume, Closed, drive_of, close, Open, look, AfterLook, State, Failed, Passed, Ready, AfterBegin, Rejected, Immediate, Started, begin, gives, is_written, lost, LoadFails, SaveFails, with_store_fault, with_unit_check}
-use Rattle.ckd_command.proofs.Arms.{AtSameTrack}
+use Rattle.ckd_command.specs.Drive.{Fault, Closed, begun, looked, track_under, with_registers, close, Open, look, AfterLook, State, Failed, Passed, Ready, AfterBegin, Rejected, Immediate, Started, begin, is_written, length_of, settled, LoadFails, SaveFails, with_unit_check}
+use Rattle.ckd_command.proofs.Arms.{AtSameTrack, BeginsAt, SightAt, beginning_at, sight_at}
 use Rattle.s360_runs.specs.Commands.{Ends, choice, past_modifier, Point, Chains, completed, goes_on_chaining, length_status, requested}
 use Rattle.s360_runs.specs.Endings.{Ending, ending, settled_ending, failed, immediate, untouched, closed_by_cut, Ended}
-use Rattle.s360_runs.specs.Faults.{EndsByFault, NextByFault, UnitByFault, FaultEndsUnit, FaultEndsPhase, FaultEndsCut, FaultEndsProgram, OutcomeByFault, cut_drive, drive_in, StaysAt, without_faults, GoesOnWithoutFaults}
+use Rattle.s360_runs.specs.Faults.{NextByFault, FaultEndsUnit, FaultEndsPhase, FaultEndsCut, FaultEndsProgram, OutcomeByFault, cut_drive, without_faults, GoesOnWithoutFaults}
 use Rattle.s360_runs.specs.Laws.{IsEnd}
 use Rattle.s360_runs.specs.Places.{Place, fetch, Fetched, NoCcw, TransferTo, GoodCcw, past_no_ccw}
-use Rattle.s360_runs.specs.Runs.{Start, run, start_point, run_from}
-use Rattle.s360_runs.specs.Scripts.{Script, OneUnit, units_in, Outside, TakesInterruption}
-use Rattle.s360_runs.specs.Status.{tells, beside, with_interruption, is_clear, no_channel_status}
-use Rattle.s360_runs.specs.StoreCalls.{closing_of, cut_meets, ends_written_begun, ends_written_by, ends_written_fetched, ends_written_looked, ends_written_moved, leaves_as_it_begins, leaves_fetched, leaves_looking, leaves_moved, meets, saves_by_cut}
-use Rattle.s360_runs.specs.Transfers.{Request, Transfer, request_of, Stops, TransferUnit, Moves, Completes, transfer_unit, needs_ccw, needs_byte, check_of, chained_data, after_bytes, first_transfer, is_incorrect_length}
+use Rattle.s360_runs.specs.Runs.{Start, run, start_point}
+use Rattle.s360_runs.specs.Scripts.{Script, OneUnit, units_in}
+use Rattle.s360_runs.specs.Status.{tells, beside, with_interruption, no_channel_status}
+use Rattle.s360_runs.specs.StoreCalls.{closing_of, ends_written_begun, ends_written_by, ends_written_fetched, ends_written_looked, ends_written_moved, leaves_fetched, leaves_moved, meets, saves_by_cut}
+use Rattle.s360_runs.specs.Transfers.{Request, Transfer, request_of, Stops, TransferUnit, Moves, Completes, transfer_unit, first_transfer, is_incorrect_length}
 use Rattle.s360_runs.specs.Units.{unit, Next, EndsIn, next_chosen, next_moved, next_looked, next_begun, next_fetched, Between, Looking, Moving, ProgramPhase, standing_in, state_in, StandsAt, outcome_of, on_next, walk, GoesOn, EndsWith, StandsIn, phase_past, Walk}
-use Rattle.s360_runs.proofs.DriveFacts.{BegunStays, Fails, FailsOr, LookStays, StaysWritten, VolumeClosed, VolumeIn, begin_keeps, begin_loads, begin_saves, begin_stays, close_end, close_loads, close_moves, close_none, close_saves, close_stays, empty_stays, fails_from, joins_check, load_fails, look_keeps, look_loads, look_loads_not, look_saves, look_stays, lost_fails, same_arm, settle_again, saving_or, settle_end}
-use Rattle.s360_runs.proofs.Units.{BegunIs, FoundIs, LookIs, StopsWith, stops_with}
-use Rattle.s360_runs.proofs.Standing.{stands_somewhere, goes_by, begins}
-use Rattle.s360_runs.proofs.Walks.{units_in_two, run_is_walk}
+use Rattle.s360_runs.proofs.DriveFacts.{Fails, FailsOr, StaysWritten, begin_fails, close_end, close_fails, close_none, close_stays, empty_stays, if_save, immediate_end, joins_check, joins_end, look_fails, look_meets, lost_fails, same_arm, saving_or, settle_again, sighted}
+use Rattle.s360_runs.proofs.Units.{BegunIs, FitsCheck, NextIs, UnitIs, unit_is}
+use Rattle.s360_runs.proofs.Standing.{stands_by_walk, stands_somewhere, goes_by, begins}
+use Rattle.s360_runs.proofs.Walks.{units_in_two}
 
 -- Incorrect length is never reported beside unit check.
 
-abbrev NoLength : ChannelStatus → Type 0
-NoLength channel = has channel.0 0x40 ≡ false
-
--- a check, or incorrect length alone
-abbrev CheckOrLength : ChannelStatus → Type 0
-CheckOrLength channel = NoLength channel ⊎ (channel ≡ INCORRECT_LENGTH)
-
-beside_check : (unit : UnitStatus) (channel : ChannelStatus) → tells unit UNIT_CHECK ≡ true → CheckOrLength channel → NoLength (beside unit channel)
-beside_check unit channel u (inr e) = ap (λ c. has (beside unit c).0 0x40) e ∙ ap (λ b. has (cond (b && true) no_channel_status INCORRECT_LENGTH).0 0x40) u
-beside_check unit channel u (inl h) = cond_both (tells unit UNIT_CHECK && (channel.0 == INCORRECT_LENGTH.0)) no_channel_status channel NoLength (λ e. refl) (λ e. h)
-
-no_length : (unit : UnitStatus) (asked : Bool) (channel : ChannelStatus) → tells unit UNIT_CHECK ≡ true → CheckOrLength channel → NoLength (with_interruption asked (beside unit channel))
-no_length unit asked channel u h = go asked (beside unit channel) (beside_check unit channel u h)
+no_length : (unit : UnitStatus) (asked : Bool) (channel : ChannelStatus) → tells unit UNIT_CHECK ≡ true → FitsCheck channel → has (with_interruption asked (beside unit channel)).0 0x40 ≡ false
+no_length unit asked channel u h = go asked (beside unit channel) (ap (λ b. has (cond (b && (channel.0 == INCORRECT_LENGTH.0)) no_channel_status channel).0 0x40) u ∙ h)
   where
-    go : (asked : Bool) (channel : ChannelStatus) → NoLength channel → NoLength (with_interruption asked channel)
+    go : (asked : Bool) (channel : ChannelStatus) → has channel.0 0x40 ≡ false → has (with_interruption asked channel).0 0x40 ≡ false
     go false channel h = h
     go true channel h = ap (λ n. not (n == 0)) (and_or_apart 0x40 0x80 channel.0 (eqb-true (bit_and channel.0 0x40) 0 (not-false _ h)))
 
--- the check that stops a command
-check_or_length : (key : ℕ) (o : Open) (t : Transfer) → CheckOrLength (check_of key o t)
-check_or_length key o t = go (gives o && skips t.ccw) (not (is_some (slice_get t.storage.bytes t.address))) (gives o && not (admits (key_at t.storage t.address) key))
-  where
-    go : (a b c : Bool) → CheckOrLength (cond a no_channel_status (cond b PROGRAM_CHECK (cond c PROTECTION_CHECK no_channel_status)))
-    go true b c = inl refl
-    go false true c = inl refl
-    go false false true = inl refl
-    go false false false = inl refl
-
-abbrev StopsByCheck : TransferUnit → Type 0
-StopsByCheck (Stops next check) = CheckOrLength check
-StopsByCheck u = Unit {0}
-
-stops_by_check : (key : ℕ) (o : Open) (t : Transfer) → StopsByCheck (transfer_unit key o t)
-stops_by_check key o t = go (needs_ccw t) (needs_byte o t) (is_clear (check_of key o t)) (fetch t.storage t.place false)
-  where
-    go : (a b c : Bool) (w : Fetched) → StopsByCheck (cond a (chained_data t w) (cond b (cond c (Moves (after_bytes 1 o t)) (Stops t (check_of key o t))) Completes))
-    go true b c NoCcw = inl refl
-    go true b c (TransferTo address) = tt
-    go true b c (GoodCcw ccw) = tt
-    go false true true w = tt
-    go false true false w = check_or_length key o t
-    go false false c w = tt
-
 -- the status of a command that is complete
-length_or_none : (o : Open) (t : Transfer) (c : Closed) → CheckOrLength (length_status o t c)
-length_or_none o t c = cond_both (not (tells c.unit UNIT_CHECK) && is_incorrect_length _ t) INCORRECT_LENGTH no_channel_status CheckOrLength (λ e. inr refl) (λ e. inl refl)
+length_fits : (o : Open) (t : Transfer) (c : Closed) → FitsCheck (length_status o t c)
+length_fits o t c = cond_both (not (tells c.unit UNIT_CHECK) && is_incorrect_length (length_of o t.bytes) t) INCORRECT_LENGTH no_channel_status FitsCheck (λ e. refl) (λ e. refl)
 
 -- Endings by a fault.
 
--- a command that failed by the fault
-failed_ending : (f : Fault) (key : ℕ) (g : ProgramPhase) (s : Storage) (p : Place) (t : State) (channel : ChannelStatus) → CheckOrLength channel → Fails f (cut_drive key g) (state_in g).registers t
-    → NextByFault f key g (EndsIn s (ending (Some f) key p (failed t) channel))
-failed_ending f key g s p t channel l h =
-    subst (λ c. NextByFault f key g (EndsIn s (settled_ending key p c channel))) (sym (settle_again f (failed t) (cut_drive key g) (state_in g).registers h)) (
-      record {
-        ends = record { channel_end = refl; device_end = refl };
-        unit_check = refl;
-        no_motion = refl;
-        no_incorrect_length = no_length (failed t).unit p.interruption channel refl l;
-        equipment_check = h.equipment_check;
-        slots = h.slots;
-      },
-      record { cylinder = h.arm.cylinder; head = h.arm.head },
-    )
+-- what a call that failed leaves of the drive as a unit finds it
+abbrev FailsIn : Fault → (key : ℕ) → ProgramPhase → State → Type 0
+FailsIn f key g t = Fails f (cut_drive key g) (state_in g).registers t
+
+-- where a fault is met in a unit, or a cut, the program ends by it; and where none is, the fault makes no difference
+abbrev MetOr : (met : Bool) → Fault → (key : ℕ) → ProgramPhase → (Option Fault → Next) → Type 0
+MetOr met f key g n = (met ≡ true → NextByFault f key g (n (Some f))) × (met ≡ false → n (Some f) ≡ n None)
 
 -- what a program that ends needs to end by a failed save
 record MayLose (key : ℕ) (g : ProgramPhase) (c : Closed) : Type 0 where
   slots : c.state.volume ≡ (cut_drive key g).volume
   ends : IsEnd c.unit c.motion
   stays : is_written c.state ≡ true → StaysWritten (state_in g).registers c
-
--- one whose track is saved now
-lost_ending : (left : List ℕ) (key : ℕ) (g : ProgramPhase) (s : Storage) (p : Place) (c : Closed) (channel : ChannelStatus) → CheckOrLength channel → MayLose key g c → is_written c.state ≡ true
-    → NextByFault (SaveFails left) key g (EndsIn s (ending (Some (SaveFails left)) key p c channel))
-lost_ending left key g s p c channel l m w =
-    let k = m.stays w in
-    let h = fails_from (SaveFails left) (drive_of c.state) (cut_drive key g) c.state.registers (state_in g).registers (lost c.state left) m.slots k.arm (lost_fails left c.state) in
-    let n = (saving_or left c.state (λ s. record c { state = s; unit = with_unit_check c.unit }) c).0 w in
-    let r = settle_end (Some (SaveFails left)) c m.ends in
-    subst (λ d. NextByFault (SaveFails left) key g (EndsIn s (settled_ending key p d channel))) (sym n) (
-      record {
-        ends = record { channel_end = subst (λ d. tells d.unit CHANNEL_END ≡ true) n r.channel_end; device_end = subst (λ d. tells d.unit DEVICE_END ≡ not d.motion) n r.device_end ∙ ap not k.motion };
-        unit_check = joins_check c.unit;
-        no_motion = k.motion;
-        no_incorrect_length = no_length (with_unit_check c.unit) p.interruption channel (joins_check c.unit) l;
-        equipment_check = h.equipment_check;
-        slots = h.slots;
-      },
-      record { cylinder = h.arm.cylinder; head = h.arm.head },
-    )
-
--- Units in which a save fails.
-
--- a save is made, and fails; or it is not
-abbrev MetOr : Bool → List ℕ → (key : ℕ) → ProgramPhase → (with_fault without : Next) → Type 0
-MetOr saves left key g x y = (saves ≡ true → NextByFault (SaveFails left) key g x) × (saves ≡ false → x ≡ y)
-
--- none is made
-unmet : (left : List ℕ) (key : ℕ) (g : ProgramPhase) (x : Next) → MetOr false left key g x x
-unmet left key g x = (λ w. absurd (cc), λ w. refl)
 
 -- a drive that is as the unit found it
 untouched_may : (key : ℕ) (g : ProgramPhase) → (state_in g).volume ≡ (cut_drive key g).volume → MayLose key g (untouched (state_in g))
@@ -141,231 +68,207 @@ untouched_may key g e = record { slots = e; ends = record { channel_end = refl; 
 failed_may : (key : ℕ) (g : ProgramPhase) (s : State) → s.volume ≡ (cut_drive key g).volume → AtSameTrack (state_in g).registers s.registers → MayLose key g (failed s)
 failed_may key g s e k = record { slots = e; ends = record { channel_end = refl; device_end = refl }; stays = λ w. record { motion = refl; arm = k } }
 
-module _ (left : List ℕ) (key : ℕ) (g : ProgramPhase) where
-  ended_met : (s : Storage) (p : Place) (c : Closed) (channel : ChannelStatus) → CheckOrLength channel → MayLose key g c
-      → MetOr (is_written c.state) left key g (EndsIn s (ending (Some (SaveFails left)) key p c channel)) (EndsIn s (ending None key p c channel))
-  ended_met s p c channel l h = (lost_ending left key g s p c channel l h, λ w. ap (λ c. EndsIn s (settled_ending key p c channel)) ((saving_or left c.state (λ s. record c { state = s; unit = with_unit_check c.unit }) c).1 w))
+module _ (f : Fault) (key : ℕ) (g : ProgramPhase) where
+  -- a command that is closed as `d`, once its track is lost: its binders are the parts of the ending, and what it says of each
+  ended_by : (s : Storage) (p : Place) (c d : Closed) (channel : ChannelStatus) → settled (Some f) c ≡ d → FitsCheck channel → IsEnd d.unit false → tells d.unit UNIT_CHECK ≡ true → d.motion ≡ false → FailsIn f key g d.state
+      → NextByFault f key g (EndsIn s (ending (Some f) key p c channel))
+  ended_by s p c d channel e l ends u m h = subst (λ d. NextByFault f key g (EndsIn s (settled_ending key p d channel))) (sym e) (
+    record { ends = ends; unit_check = u; no_motion = m; no_incorrect_length = no_length d.unit p.interruption channel u l; equipment_check = h.equipment_check; slots = h.slots },
+    record { cylinder = h.arm.cylinder; head = h.arm.head },
+  )
 
-  chosen_met : (r : Request) (c : Closed) (channel : ChannelStatus) → CheckOrLength channel → MayLose key g c
-      → MetOr (ends_written_by r c channel) left key g (next_chosen (choice (Some (SaveFails left)) key r c channel)) (next_chosen (choice None key r c channel))
-  chosen_met r c channel l h = go (goes_on_chaining r c channel) (record { storage = r.storage; place = past_modifier r.place c; state = c.state })
-    where
-      go : (b : Bool) (q : Point) → MetOr (not b && is_written c.state) left key g (next_chosen (cond b (Chains q) (Ends r.storage (ending (Some (SaveFails left)) key r.place c channel)))) (next_chosen (cond b (Chains q) (Ends r.storage (ending None key r.place c channel))))
-      go true q = unmet left key g _
-      go false q = ended_met r.storage r.place c channel l h
+  -- a command that failed by the fault
+  failed_ending : (s : Storage) (p : Place) (channel : ChannelStatus) (t : State) → FitsCheck channel → FailsIn f key g t → NextByFault f key g (EndsIn s (ending (Some f) key p (failed t) channel))
+  failed_ending s p channel t l h =
+      ended_by s p (failed t) (failed t) channel (settle_again f (failed t) (cut_drive key g) (state_in g).registers h) l (record { channel_end = refl; device_end = refl }) refl refl h
 
-  -- a command that failed never chains
-  failed_next : (r : Request) (t : State) (channel : ChannelStatus) → CheckOrLength channel → Fails (SaveFails left) (cut_drive key g) (state_in g).registers t
-      → NextByFault (SaveFails left) key g (next_chosen (choice (Some (SaveFails left)) key r (failed t) channel))
-  failed_next r t channel l h =
-      subst (λ b. NextByFault (SaveFails left) key g (next_chosen (cond (b && is_clear channel) (Chains (record { storage = r.storage; place = past_modifier r.place (failed t); state = t })) (Ends r.storage (ending (Some (SaveFails left)) key r.place (failed t) channel)))))
-      (sym (and-false (chains_command r.ccw))) (failed_ending (SaveFails left) key g r.storage r.place t channel l h)
+  -- it never chains
+  failed_next : (r : Request) (channel : ChannelStatus) (t : State) → FitsCheck channel → FailsIn f key g t → NextByFault f key g (next_chosen (choice (Some f) key r (failed t) channel))
+  failed_next r channel t l h = rw (and-false (chains_command r.ccw)) (failed_ending r.storage r.place channel t l h)
 
-  -- a call of the drive that may leave a written track, and what follows it
-  call_met : {A : Type 0} (leaves : Bool) (s : State) (fails : State → A) (x y : A) (finish : Option Fault → A → Next) (ends : Bool) → FailsOr leaves left s fails x y
-      → (leaves ≡ true → s.volume ≡ (cut_drive key g).volume) → s.registers ≡ (state_in g).registers
-      → ((t : State) → Fails (SaveFails left) (cut_drive key g) (state_in g).registers t → NextByFault (SaveFails left) key g (finish (Some (SaveFails left)) (fails t)))
-      → MetOr ends left key g (finish (Some (SaveFails left)) y) (finish None y)
-      → MetOr ((leaves && is_written s) || ends) left key g (finish (Some (SaveFails left)) x) (finish None y)
-  call_met leaves s fails x y finish ends h e r failing staying = go (leaves && is_written s) (λ w. e (and_parts leaves (is_written s) w).0) h
-    where
-      go : (b : Bool) → (b ≡ true → s.volume ≡ (cut_drive key g).volume) → (b ≡ true → (t : State) × (x ≡ fails t) × Fails (SaveFails left) (drive_of s) s.registers t) × (b ≡ false → x ≡ y)
-          → MetOr (b || ends) left key g (finish (Some (SaveFails left)) x) (finish None y)
-      go false e h = subst (λ x. MetOr ends left key g (finish (Some (SaveFails left)) x) (finish None y)) (sym (h.1 refl)) staying
-      go true e h =
-          let t = h.0 refl in (
-            λ w. subst (λ x. NextByFault (SaveFails left) key g (finish (Some (SaveFails left)) x)) (sym t.1)
-                (failing t.0 (subst (λ r. Fails (SaveFails left) (cut_drive key g) r t.0) r (fails_from (SaveFails left) (drive_of s) (cut_drive key g) s.registers s.registers t.0 (e refl) (same_arm s.registers) t.2))),
-            λ w. absurd (cc),
-          )
+  -- a call of the drive that may fail, and what follows it
+  call_met : {A : Type 0} (met ends : Bool) (fails : State → A) (call : Option Fault → A) (finish : Option Fault → A → Next) → FailsOr met f (cut_drive key g) (state_in g).registers fails call
+      → ((t : State) → FailsIn f key g t → NextByFault f key g (finish (Some f) (fails t)))
+      → MetOr ends f key g (λ x. finish x (call None)) → MetOr (met || ends) f key g (λ x. finish x (call x))
+  call_met true ends fails call finish h failing staying = (λ w. let t = h.0 refl in rw t.1 (failing t.0 t.2), λ w. absurd (cc))
+  call_met false ends fails call finish h failing staying = rw (h.1 refl) staying
 
-  -- what a command that is closed needs
-  closes_may : (o : Open) (b : List ℕ) → (close None o b).state.volume ≡ (cut_drive key g).volume → o.state.registers ≡ (state_in g).registers → MayLose key g (close None o b)
-  closes_may o b e r = record { slots = e; ends = close_end None o b; stays = λ w. subst (λ r. StaysWritten r (close None o b)) r (close_stays o b w) }
+unmet : (f : Fault) (key : ℕ) (g : ProgramPhase) (x : Next) → MetOr (if_save f false) f key g (λ f. x)
+unmet LoadFails key g x = (λ w. absurd (cc), λ w. refl)
+unmet (SaveFails left) key g x = (λ w. absurd (cc), λ w. refl)
 
-  closed_met : (o : Open) (b : List ℕ) (finish : Option Fault → Closed → Next) (ends : Closed → Bool) → (close None o b).state.volume ≡ (cut_drive key g).volume → o.state.registers ≡ (state_in g).registers
-      → ((t : State) → Fails (SaveFails left) (cut_drive key g) (state_in g).registers t → NextByFault (SaveFails left) key g (finish (Some (SaveFails left)) (failed t)))
-      → ((c : Closed) → MayLose key g c → MetOr (ends c) left key g (finish (Some (SaveFails left)) c) (finish None c))
-      → MetOr (((closing_of o b).moves_off && is_written o.state) || ends (close None o b)) left key g (finish (Some (SaveFails left)) (close (Some (SaveFails left)) o b)) (finish None (close None o b))
-  closed_met o b finish ends e r failing staying =
-      call_met (closing_of o b).moves_off o.state failed _ (close None o b) finish (ends (close None o b)) (close_saves left o b) (λ m. sym (close_moves o b m) ∙ e) r failing (staying (close None o b) (closes_may o b e r))
+-- a program that ends, and whose track is saved now
+ended_met : (f : Fault) (key : ℕ) (g : ProgramPhase) (s : Storage) (p : Place) (channel : ChannelStatus) (c : Closed) → FitsCheck channel → MayLose key g c
+    → MetOr (if_save f (is_written c.state)) f key g (λ x. EndsIn s (ending x key p c channel))
+ended_met LoadFails key g s p channel c l m = (λ w. absurd (cc), λ w. refl)
+ended_met (SaveFails left) key g s p channel c l m =
+    let saved = saving_or left c.state (λ s. record c { state = s; unit = with_unit_check c.unit }) c in (
+      λ w. let k = m.stays w in ended_by (SaveFails left) key g s p c _ channel (saved.0 w) l (rw k.motion at (joins_end c.unit c.motion m.ends)) (joins_check c.unit) k.motion (lost_fails left c.state _ _ m.slots k.arm),
+      λ w. ap (λ c. EndsIn s (settled_ending key p c channel)) (saved.1 w),
+    )
 
-  moved_met : (o : Open) (t : Transfer) (u : TransferUnit) → StopsWith t.bytes u → StopsByCheck u → (close None o t.bytes).state.volume ≡ (cut_drive key g).volume → o.state.registers ≡ (state_in g).registers
-      → MetOr ((leaves_moved o t u && is_written o.state) || ends_written_moved o t u) left key g (next_moved (Some (SaveFails left)) key o t u) (next_moved None key o t u)
-  moved_met o t (Moves next) h k e r = unmet left key g _
-  moved_met o t (Stops next check) h k e r =
-      subst (λ b. MetOr (((closing_of o t.bytes).moves_off && is_written o.state) || is_written (close None o t.bytes).state) left key g
-      (EndsIn next.storage (ending (Some (SaveFails left)) key next.place (close (Some (SaveFails left)) o b) check)) (EndsIn next.storage (ending None key next.place (close None o b) check))) (sym h)
-      (closed_met o t.bytes (λ f c. EndsIn next.storage (ending f key next.place c check)) (λ c. is_written c.state) e r
-      (λ s. failed_ending (SaveFails left) key g next.storage next.place s check k) (λ c. ended_met next.storage next.place c check k))
-  moved_met o t Completes h k e r =
-      closed_met o t.bytes (λ f c. next_chosen (completed f key t o c)) (λ c. ends_written_by (request_of t) c (length_status o t c)) e r
-      (λ s. failed_next (request_of t) s (length_status o t (failed s)) (length_or_none o t (failed s))) (λ c. chosen_met (request_of t) c (length_status o t c) (length_or_none o t c))
-
-looked_met : (left : List ℕ) (key : ℕ) (o : Open) (r : Request)
-    → MetOr ((leaves_looking o && is_written o.state) || ends_written_looked key r (look None o)) left key (Looking o r) (next_looked (Some (SaveFails left)) key r (look (Some (SaveFails left)) o)) (next_looked None key r (look None o))
-looked_met left key o r =
-    call_met left key g (leaves_looking o) o.state Failed _ (look None o) (λ f. next_looked f key r) (ends_written_looked key r (look None o)) (look_saves left o) (λ e. refl) refl
-    (λ t. failed_ending (SaveFails left) key g r.storage r.place t no_channel_status (inl refl)) (staying (look None o) (look_keeps (λ v. v ≡ o.state.volume) o refl) (look_stays o))
+chosen_met : (f : Fault) (key : ℕ) (g : ProgramPhase) (r : Request) (channel : ChannelStatus) (c : Closed) → FitsCheck channel → MayLose key g c
+    → MetOr (if_save f (ends_written_by r c channel)) f key g (λ x. next_chosen (choice x key r c channel))
+chosen_met f key g r channel c l m = go (goes_on_chaining r c channel) (record { storage = r.storage; place = past_modifier r.place c; state = c.state })
   where
-    g : ProgramPhase
-    g = Looking o r
+    go : (b : Bool) (q : Point) → MetOr (if_save f (not b && is_written c.state)) f key g (λ x. next_chosen (cond b (Chains q) (Ends r.storage (ending x key r.place c channel))))
+    go true q = unmet f key g _
+    go false q = ended_met f key g r.storage r.place channel c l m
 
-    SameVolume : Volume → Type 0
-    SameVolume v = v ≡ o.state.volume
+if_save_or : (f : Fault) (a b : Bool) → (if_save f a || if_save f b) ≡ if_save f (a || b)
+if_save_or LoadFails a b = refl
+if_save_or (SaveFails left) a b = refl
 
+-- Units.
+
+module _ (f : Fault) (key : ℕ) (g : ProgramPhase) where
+  -- a command that is closed, and what follows it
+  closed_met : (o : Open) (b : List ℕ) (finish : Option Fault → Closed → Next) (ends : Closed → Bool) → (close None o b).state.volume ≡ (cut_drive key g).volume → o.state.registers ≡ (state_in g).registers
+      → ((t : State) → FailsIn f key g t → NextByFault f key g (finish (Some f) (failed t))) → ((c : Closed) → MayLose key g c → MetOr (if_save f (ends c)) f key g (λ x. finish x c))
+      → MetOr (if_save f (((closing_of o b).moves_off && is_written o.state) || ends (close None o b))) f key g (λ x. finish x (close x o b))
+  closed_met o b finish ends e r failing staying =
+      let c = close None o b in
+      let here : AtSameTrack (state_in g).registers o.state.registers = record { cylinder = ap (λ r. r.cylinder) r; head = ap (λ r. r.head) r } in
+      let may : MayLose key g c = record { slots = e; ends = close_end None o b; stays = λ w. subst (λ r. StaysWritten r c) r (close_stays o b w) } in
+      rw (if_save_or f ((closing_of o b).moves_off && is_written o.state) (ends c)) at
+      (call_met f key g _ (if_save f (ends c)) failed (λ x. close x o b) finish (close_fails f o b (cut_drive key g) (state_in g).registers e here) failing (staying c may))
+
+  moved_met : (o : Open) (t : Transfer) (u : TransferUnit) → UnitIs t u → (close None o t.bytes).state.volume ≡ (cut_drive key g).volume → o.state.registers ≡ (state_in g).registers
+      → MetOr (if_save f ((leaves_moved o t u && is_written o.state) || ends_written_moved o t u)) f key g (λ x. next_moved x key o t u)
+  moved_met o t (Moves next) k e r = unmet f key g _
+  moved_met o t (Stops next check) k e r =
+      rw k.bytes (closed_met o t.bytes (λ x c. EndsIn next.storage (ending x key next.place c check)) (λ c. is_written c.state) e r
+      (λ s. failed_ending f key g next.storage next.place check s k.fits) (λ c. ended_met f key g next.storage next.place check c k.fits))
+  moved_met o t Completes k e r =
+      closed_met o t.bytes (λ x c. next_chosen (completed x key t o c)) (λ c. ends_written_by (request_of t) c (length_status o t c)) e r
+      (λ s. failed_next f key g (request_of t) (length_status o t (failed s)) s (length_fits o t (failed s))) (λ c. chosen_met f key g (request_of t) (length_status o t c) c (length_fits o t c))
+
+-- what a look that fails may lose; where it finds the area, the drive is as it was
+abbrev LookMay : (key : ℕ) → Open → Request → AfterLook → Type 0
+LookMay key o r (Failed s) = MayLose key (Looking o r) (failed s)
+LookMay key o r (Passed p) = Unit {0}
+LookMay key o r (Ready p) = p.state ≡ o.state
+
+look_may : (key : ℕ) (o : Open) (r : Request) → LookMay key o r (look None o)
+look_may key o r = go (sighted o) (sight_at o.state.volume.geometry (track_under o.state) o.opened o.state.registers)
+  where
+    go : (s : Sight) → SightAt o.state.registers o.opened s → LookMay key o r (looked None o s)
+    go (answer.Found opened) k = refl
+    go (answer.Missed q) k = failed_may key (Looking o r) (with_registers o.state q) refl k
+    go s k = tt
+
+looked_met : (f : Fault) (key : ℕ) (o : Open) (r : Request) → MetOr (look_meets f o || if_save f (ends_written_looked key r (look None o))) f key (Looking o r) (λ x. next_looked x key r (look x o))
+looked_met f key o r =
+    call_met f key (Looking o r) (look_meets f o) _ Failed (λ x. look x o) (λ x. next_looked x key r) (look_fails f o)
+    (λ t. failed_ending f key (Looking o r) r.storage r.place no_channel_status t refl) (staying (look None o) (look_may key o r))
+  where
     -- where the head stays
-    staying : (l : AfterLook) → LookIs (VolumeClosed SameVolume) (VolumeIn SameVolume) (FoundIs (VolumeClosed SameVolume) (VolumeIn SameVolume) None) l → LookStays o l
-        → MetOr (ends_written_looked key r l) left key (Looking o r) (next_looked (Some (SaveFails left)) key r l) (next_looked None key r l)
-    staying (Failed s) k h = ended_met left key (Looking o r) r.storage r.place (failed s) no_channel_status (inl refl) (failed_may key (Looking o r) s k h)
-    staying (Passed p) k h = unmet left key (Looking o r) _
-    staying (Ready p) k h =
+    staying : (l : AfterLook) → LookMay key o r l → MetOr (if_save f (ends_written_looked key r l)) f key (Looking o r) (λ x. next_looked x key r l)
+    staying (Failed s) k = ended_met f key (Looking o r) r.storage r.place no_channel_status (failed s) refl k
+    staying (Passed p) k = unmet f key (Looking o r) _
+    staying (Ready p) k =
         let t = first_transfer r in
         let u = transfer_unit key p t in
-        subst (λ b. MetOr (b || ends_written_moved p t u) left key (Looking o r) (next_moved (Some (SaveFails left)) key p t u) (next_moved None key p t u)) (stays_here u)
-        (moved_met left key (Looking o r) p t u (stops_with key p t) (stops_by_check key p t) k.1 (ap (λ s. s.registers) h.1))
+        rw (stays_here u) at (moved_met f key (Looking o r) p t u (unit_is key p t) ((close_none p).0 ∙ ap (λ s. s.volume) k) (ap (λ s. s.registers) k))
       where
         -- with no byte no command leaves its track
         stays_here : (u : TransferUnit) → (leaves_moved p (first_transfer r) u && is_written p.state) ≡ false
         stays_here (Moves next) = refl
         stays_here u = ap (λ b. b && is_written p.state) (empty_stays p)
 
-fetched_met : (left : List ℕ) (key : ℕ) (p : Point) (w : Fetched)
-    → MetOr ((leaves_fetched p w && is_written p.state) || ends_written_fetched p w) left key (Between p) (next_fetched (Some (SaveFails left)) key p w) (next_fetched None key p w)
-fetched_met left key p NoCcw = ended_met left key (Between p) p.storage (past_no_ccw p.place) (untouched p.state) PROGRAM_CHECK (inl refl) (untouched_may key (Between p) refl)
-fetched_met left key p (TransferTo address) = unmet left key (Between p) _
-fetched_met left key p (GoodCcw ccw) =
-    call_met left key (Between p) (leaves_as_it_begins (beginning ccw.code p.state.registers)) p.state Rejected _ (begin None ccw.code p.state) (λ f. next_begun f key r) (ends_written_begun r (begin None ccw.code p.state)) (begin_saves left ccw.code p.state) (λ e. refl) refl
-    (λ t. failed_ending (SaveFails left) key (Between p) p.storage r.place t no_channel_status (inl refl)) (staying (begin None ccw.code p.state) (begin_keeps (λ v. v ≡ p.state.volume) ccw.code p.state refl) (begin_stays ccw.code p.state))
+-- what a command that is over as it begins may lose
+begin_may : (key : ℕ) (p : Point) (code : ℕ) → BegunIs (MayLose key (Between p)) (λ s. Unit {0}) (begin None code p.state)
+begin_may key p code = go (beginning code p.state.registers) (beginning_at code p.state.registers)
+  where
+    go : (b : Beginning) → BeginsAt p.state.registers b → BegunIs (MayLose key (Between p)) (λ s. Unit {0}) (begun None p.state b)
+    go (answer.Rejected r) k = failed_may key (Between p) (with_registers p.state r) refl k
+    go (answer.Immediate r) k = record { slots = refl; ends = immediate_end p.state false; stays = λ w. record { motion = refl; arm = k } }
+    go (answer.ToCylinderZero r None) k = record { slots = refl; ends = immediate_end p.state true; stays = λ w. absurd (cc) }
+    go (answer.ToCylinderZero r (Some o)) k = tt
+    go (answer.Started r o) k = tt
+
+fetched_met : (f : Fault) (key : ℕ) (p : Point) (w : Fetched)
+    → MetOr (if_save f ((leaves_fetched p w && is_written p.state) || ends_written_fetched p w)) f key (Between p) (λ x. next_fetched x key p w)
+fetched_met f key p NoCcw = ended_met f key (Between p) p.storage (past_no_ccw p.place) PROGRAM_CHECK (untouched p.state) refl (untouched_may key (Between p) refl)
+fetched_met f key p (TransferTo address) = unmet f key (Between p) _
+fetched_met f key p (GoodCcw ccw) =
+    rw (if_save_or f _ (ends_written_begun r (begin None ccw.code p.state))) at
+    (call_met f key (Between p) _ _ Rejected (λ x. begin x ccw.code p.state) (λ x. next_begun x key r) (begin_fails f ccw.code p.state)
+    (λ t. failed_ending f key (Between p) p.storage r.place no_channel_status t refl) (staying (begin None ccw.code p.state) (begin_may key p ccw.code)))
   where
     r : Request
     r = requested p ccw
 
-    SameVolume : Volume → Type 0
-    SameVolume v = v ≡ p.state.volume
+    staying : (b : AfterBegin) → BegunIs (MayLose key (Between p)) (λ s. Unit {0}) b → MetOr (if_save f (ends_written_begun r b)) f key (Between p) (λ x. next_begun x key r b)
+    staying (Rejected s) k = ended_met f key (Between p) p.storage r.place no_channel_status (failed s) refl k
+    staying (Immediate s motion) k = chosen_met f key (Between p) r no_channel_status (immediate s motion) refl k
+    staying (Started o) k = unmet f key (Between p) _
 
-    staying : (b : AfterBegin) → BegunIs (VolumeClosed SameVolume) (VolumeIn SameVolume) b → BegunStays p.state.registers b
-        → MetOr (ends_written_begun (requested p ccw) b) left key (Between p) (next_begun (Some (SaveFails left)) key (requested p ccw) b) (next_begun None key (requested p ccw) b)
-    staying (Rejected s) k h = ended_met left key (Between p) p.storage (requested p ccw).place (failed s) no_channel_status (inl refl) (failed_may key (Between p) s k h)
-    staying (Immediate s motion) k h = chosen_met left key (Between p) (requested p ccw) (immediate s motion) no_channel_status (inl refl) (record { slots = k; ends = over motion; stays = λ w. record { motion = (h w).0; arm = (h w).1 } })
-      where
-        over : (motion : Bool) → IsEnd (immediate s motion).unit motion
-        over true = record { channel_end = refl; device_end = refl }
-        over false = record { channel_end = refl; device_end = refl }
-    staying (Started o) k h = unmet left key (Between p) _
+-- a cut leaves the slots of the command closed by the bytes that passed
+cut_slots : (o : Open) (b : List ℕ) → (close None o b).state.volume ≡ (closed_by_cut None o b).state.volume
+cut_slots o [] = (close_none o).0
+cut_slots o (x ∷ b) = refl
 
-by_save : (left : List ℕ) (key : ℕ) (g : ProgramPhase) → MetOr (meets (SaveFails left) key g) left key g (unit (Some (SaveFails left)) key g) (unit None key g)
-by_save left key (Between p) = fetched_met left key p (fetch p.storage p.place true)
-by_save left key (Looking o r) = looked_met left key o r
-by_save left key (Moving o t) = moved_met left key (Moving o t) o t (transfer_unit key o t) (stops_with key o t) (stops_by_check key o t) (cut_slots t.bytes) refl
-  where
-    -- a cut leaves the slots of the command closed by the bytes that passed
-    cut_slots : (b : List ℕ) → (close None o b).state.volume ≡ (closed_by_cut None o b).state.volume
-    cut_slots [] = close_none o
-    cut_slots (x ∷ b) = refl
-
--- Units in which a load fails.
-
-moved_loads : (key : ℕ) (o : Open) (t : Transfer) (u : TransferUnit) → next_moved (Some LoadFails) key o t u ≡ next_moved None key o t u
-moved_loads key o t (Moves next) = refl
-moved_loads key o t (Stops next check) = ap (λ c. EndsIn next.storage (ending None key next.place c check)) (close_loads o next.bytes)
-moved_loads key o t Completes = ap (λ c. next_chosen (completed None key t o c)) (close_loads o t.bytes)
-
-looked_loads : (key : ℕ) (r : Request) (l : AfterLook) → next_looked (Some LoadFails) key r l ≡ next_looked None key r l
-looked_loads key r (Ready o) = moved_loads key o (first_transfer r) (transfer_unit key o (first_transfer r))
-looked_loads key r l = refl
-
-begun_loads : (key : ℕ) (r : Request) (b : AfterBegin) → next_begun (Some LoadFails) key r b ≡ next_begun None key r b
-begun_loads key r (Rejected s) = refl
-begun_loads key r b = refl
-
-fetched_loads : (key : ℕ) (p : Point) (w : Fetched) → next_fetched (Some LoadFails) key p w ≡ next_fetched None key p w
-fetched_loads key p (GoodCcw ccw) = ap (next_begun (Some LoadFails) key (requested p ccw)) (begin_loads ccw.code p.state) ∙ begun_loads key (requested p ccw) (begin None ccw.code p.state)
-fetched_loads key p w = refl
-
-by_load : (key : ℕ) (g : ProgramPhase) → UnitByFault LoadFails key g
-by_load key (Between p) = record { met = λ w. absurd (cc); not_met = λ w. fetched_loads key p (fetch p.storage p.place true) }
-by_load key (Moving o t) = record { met = λ w. absurd (cc); not_met = λ w. moved_loads key o t (transfer_unit key o t) }
-by_load key (Looking o r) = record {
-  met = λ w. subst (λ l. NextByFault LoadFails key (Looking o r) (next_looked (Some LoadFails) key r l)) (sym (look_loads o w))
-      (failed_ending LoadFails key (Looking o r) r.storage r.place (with_store_fault o.state) no_channel_status (inl refl) (load_fails o));
-  not_met = λ w. ap (next_looked (Some LoadFails) key r) (look_loads_not o w) ∙ looked_loads key r (look None o);
-}
-
--- All units.
+unit_met : (f : Fault) (key : ℕ) (g : ProgramPhase) → MetOr (meets f key g) f key g (λ x. unit x key g)
+unit_met LoadFails key (Between p) = fetched_met LoadFails key p (fetch p.storage p.place true)
+unit_met LoadFails key (Looking o r) = rw or-false at (looked_met LoadFails key o r)
+unit_met LoadFails key (Moving o t) = moved_met LoadFails key (Moving o t) o t (transfer_unit key o t) (unit_is key o t) (cut_slots o t.bytes) refl
+unit_met (SaveFails left) key (Between p) = fetched_met (SaveFails left) key p (fetch p.storage p.place true)
+unit_met (SaveFails left) key (Looking o r) = looked_met (SaveFails left) key o r
+unit_met (SaveFails left) key (Moving o t) = moved_met (SaveFails left) key (Moving o t) o t (transfer_unit key o t) (unit_is key o t) (cut_slots o t.bytes) refl
 
 pub fault_ends_unit : FaultEndsUnit
-fault_ends_unit LoadFails key g = by_load key g
-fault_ends_unit (SaveFails left) key g = let h = by_save left key g in record { met = h.0; not_met = h.1 }
+fault_ends_unit f key g = let h = unit_met f key g in record { met = h.0; not_met = h.1 }
 
--- met or not
-met_or_not : {P Q : Type 0} (b : Bool) → (b ≡ true → P) → (b ≡ false → Q) → Q ⊎ P
-met_or_not true met not_met = inr (met refl)
-met_or_not false met not_met = inl (not_met refl)
+-- the fault makes no difference to a unit, or to a cut; or the program ends by it
+abbrev pub SameOr : Fault → (key : ℕ) → ProgramPhase → (Option Fault → Next) → Type 0
+SameOr f key g n = (n (Some f) ≡ n None) ⊎ NextByFault f key g (n (Some f))
 
-pub fault_or_not : (f : Fault) (key : ℕ) (g : ProgramPhase) → (unit (Some f) key g ≡ unit None key g) ⊎ NextByFault f key g (unit (Some f) key g)
-fault_or_not f key g = let u = fault_ends_unit f key g in met_or_not (meets f key g) u.met u.not_met
+same_or : (met : Bool) (f : Fault) (key : ℕ) (g : ProgramPhase) (n : Option Fault → Next) → MetOr met f key g n → SameOr f key g n
+same_or true f key g n h = inr (h.0 refl)
+same_or false f key g n h = inl (h.1 refl)
+
+pub fault_or_not : (f : Fault) (key : ℕ) (g : ProgramPhase) → SameOr f key g (λ x. unit x key g)
+fault_or_not f key g = same_or (meets f key g) f key g (λ x. unit x key g) (unit_met f key g)
 
 -- Cuts.
 
-cut_by_load : (key : ℕ) (g : ProgramPhase) → (standing_in key g).cut (Some LoadFails) ≡ (standing_in key g).cut None
-cut_by_load key (Moving o t) = go t.bytes
+-- a cut, as a unit that ends so
+abbrev pub cut_next : (key : ℕ) → ProgramPhase → Option Fault → Next
+cut_next key g x = EndsIn (standing_in key g).storage ((standing_in key g).cut x)
+
+the_ending : {s : Storage} (a b : Ending) → EndsIn s a ≡ EndsIn s b → a ≡ b
+the_ending a b h = cc
+
+untouched_met : (f : Fault) (key : ℕ) (g : ProgramPhase) (s : Storage) (p : Place) → (state_in g).volume ≡ (cut_drive key g).volume
+    → MetOr (if_save f (is_written (state_in g))) f key g (λ x. EndsIn s (ending x key p (untouched (state_in g)) no_channel_status))
+untouched_met f key g s p e = ended_met f key g s p no_channel_status (untouched (state_in g)) refl (untouched_may key g e)
+
+cut_met : (f : Fault) (key : ℕ) (g : ProgramPhase) → MetOr (if_save f (saves_by_cut g)) f key g (cut_next key g)
+cut_met f key (Between p) = untouched_met f key (Between p) p.storage p.place refl
+cut_met f key (Looking o r) = untouched_met f key (Looking o r) r.storage r.place refl
+cut_met f key (Moving o t) = go t.bytes refl
   where
-    go : (b : List ℕ) → ending (Some LoadFails) key t.place (closed_by_cut (Some LoadFails) o b) no_channel_status ≡ ending None key t.place (closed_by_cut None o b) no_channel_status
-    go [] = refl
-    go (x ∷ b) = ap (λ c. ending None key t.place c no_channel_status) (close_loads o (x ∷ b))
-cut_by_load key g = refl
-
--- as a unit that ends so
-abbrev no_storage : Storage
-no_storage = record { bytes = []; keys = [] }
-
-abbrev cut_next : Ending → Next
-cut_next e = EndsIn no_storage e
-
-untouched_met : (left : List ℕ) (key : ℕ) (g : ProgramPhase) (p : Place) → (state_in g).volume ≡ (cut_drive key g).volume
-    → MetOr (is_written (state_in g)) left key g (cut_next (ending (Some (SaveFails left)) key p (untouched (state_in g)) no_channel_status)) (cut_next (ending None key p (untouched (state_in g)) no_channel_status))
-untouched_met left key g p e = ended_met left key g no_storage p (untouched (state_in g)) no_channel_status (inl refl) (untouched_may key g e)
-
-cut_by_save : (left : List ℕ) (key : ℕ) (g : ProgramPhase) → MetOr (saves_by_cut g) left key g (cut_next ((standing_in key g).cut (Some (SaveFails left)))) (cut_next ((standing_in key g).cut None))
-cut_by_save left key (Between p) = untouched_met left key (Between p) p.place refl
-cut_by_save left key (Looking o r) = untouched_met left key (Looking o r) r.place refl
-cut_by_save left key (Moving o t) = go t.bytes refl
-  where
-    go : (b : List ℕ) → t.bytes ≡ b → MetOr (((closing_of o b).moves_off && is_written o.state) || is_written (closed_by_cut None o b).state) left key (Moving o t)
-        (cut_next (ending (Some (SaveFails left)) key t.place (closed_by_cut (Some (SaveFails left)) o b) no_channel_status)) (cut_next (ending None key t.place (closed_by_cut None o b) no_channel_status))
-    go [] e = subst (λ m. MetOr ((m && is_written o.state) || is_written o.state) left key (Moving o t) (cut_next (ending (Some (SaveFails left)) key t.place (untouched o.state) no_channel_status)) (cut_next (ending None key t.place (untouched o.state) no_channel_status)))
-        (sym (empty_stays o)) (untouched_met left key (Moving o t) t.place (ap (λ b. (closed_by_cut None o b).state.volume) (sym e)))
+    go : (b : List ℕ) → t.bytes ≡ b → MetOr (if_save f (((closing_of o b).moves_off && is_written o.state) || is_written (closed_by_cut None o b).state)) f key (Moving o t)
+        (λ x. EndsIn t.storage (ending x key t.place (closed_by_cut x o b) no_channel_status))
+    go [] e = rw (empty_stays o) (untouched_met f key (Moving o t) t.storage t.place (ap (λ b. (closed_by_cut None o b).state.volume) (sym e)))
     go (x ∷ b) e =
-        closed_met left key (Moving o t) o (x ∷ b) (λ f c. cut_next (ending f key t.place c no_channel_status)) (λ c. is_written c.state) (ap (λ b. (closed_by_cut None o b).state.volume) (sym e)) refl
-        (λ s. failed_ending (SaveFails left) key (Moving o t) no_storage t.place s no_channel_status (inl refl)) (λ c. ended_met left key (Moving o t) no_storage t.place c no_channel_status (inl refl))
+        closed_met f key (Moving o t) o (x ∷ b) (λ x c. EndsIn t.storage (ending x key t.place c no_channel_status)) (λ c. is_written c.state) (ap (λ b. (closed_by_cut None o b).state.volume) (sym e)) refl
+        (λ s. failed_ending f key (Moving o t) t.storage t.place no_channel_status s refl) (λ c. ended_met f key (Moving o t) t.storage t.place no_channel_status c refl)
+
+pub cut_or_not : (f : Fault) (key : ℕ) (g : ProgramPhase) → SameOr f key g (cut_next key g)
+cut_or_not f key g = same_or _ f key g (cut_next key g) (cut_met f key g)
 
 pub fault_ends_phase : FaultEndsPhase
-fault_ends_phase LoadFails key g = record { met = λ w. absurd (cc); not_met = λ w. cut_by_load key g }
-fault_ends_phase (SaveFails left) key g = let h = cut_by_save left key g in record { met = h.0; not_met = λ w. the_ending _ _ (h.1 w) }
-  where
-    the_ending : (a b : Ending) → cut_next a ≡ cut_next b → a ≡ b
-    the_ending a b h = cc
-
-abbrev pub CutByMet : Fault → (key : ℕ) → ProgramPhase → Type 0
-CutByMet f key g = let e = (standing_in key g).cut (Some f) in EndsByFault f (cut_drive key g) e × StaysAt (drive_in g) e.drive
-
-pub cut_or_not : (f : Fault) (key : ℕ) (g : ProgramPhase) → ((standing_in key g).cut (Some f) ≡ (standing_in key g).cut None) ⊎ CutByMet f key g
-cut_or_not f key g = let u = fault_ends_phase f key g in met_or_not (cut_meets f g) u.met u.not_met
+fault_ends_phase LoadFails key g = let h = cut_met LoadFails key g in record { met = h.0; not_met = λ w. the_ending _ _ (h.1 w) }
+fault_ends_phase (SaveFails left) key g = let h = cut_met (SaveFails left) key g in record { met = h.0; not_met = λ w. the_ending _ _ (h.1 w) }
 
 -- Runs.
 
 pub fault_ends_cut : FaultEndsCut
 fault_ends_cut s script seen h =
-    let y = stands_somewhere s script seen h in (
-      subst (λ seen. seen.cut (Some LoadFails) ≡ seen.cut None) (sym y.3) (cut_by_load y.0 y.1),
-      λ left. subst (λ seen. (seen.cut (Some (SaveFails left)) ≡ seen.cut None) ⊎ EndsByFault (SaveFails left) (seen.cut None).drive (seen.cut (Some (SaveFails left)))) (sym y.3) (go left y.0 y.1 (cut_or_not (SaveFails left) y.0 y.1)),
-    )
-  where
-    go : (left : List ℕ) (key : ℕ) (g : ProgramPhase) → ((standing_in key g).cut (Some (SaveFails left)) ≡ (standing_in key g).cut None) ⊎ CutByMet (SaveFails left) key g
-        → ((standing_in key g).cut (Some (SaveFails left)) ≡ (standing_in key g).cut None) ⊎ EndsByFault (SaveFails left) (cut_drive key g) ((standing_in key g).cut (Some (SaveFails left)))
-    go left key g (inl h) = inl h
-    go left key g (inr h) = inr h.0
+    let y = stands_somewhere s script seen h in
+    rw y.3 ((fault_ends_phase LoadFails y.0 y.1).not_met refl, λ left. elim (cut_or_not (SaveFails left) y.0 y.1) [ inl h ↦ inl (the_ending _ _ h) | inr h ↦ inr h.0 ])
 
 pub same_outcome : (a b : Script) (key : ℕ) (w : Walk) → units_in a ≡ units_in b → outcome_of a key w ≡ outcome_of b key w
 same_outcome a b key (StandsIn g) h = refl
@@ -374,72 +277,57 @@ same_outcome a b key (EndsWith rest st e) h = ap (λ n. Ended (n - units_in rest
 -- over a unit with a fault, from where a program stands
 pub run_by_fault : (s : Start) (script rest : Script) (f : Fault) (key : ℕ) (g : ProgramPhase) → StandsAt s script key g
     → (run (script ++ OneUnit (Some f) ∷ rest) s ≡ run (script ++ OneUnit None ∷ rest) s) ⊎ OutcomeByFault f (suc (units_in script)) (cut_drive key g) (run (script ++ OneUnit (Some f) ∷ rest) s)
-run_by_fault s script rest f key g st = go (fault_or_not f key g)
+run_by_fault s script rest f key g st = rw (st (OneUnit (Some f) ∷ rest), st (OneUnit None ∷ rest)) (go (unit (Some f) key g) (fault_or_not f key g))
   where
-    counts : units_in (script ++ OneUnit (Some f) ∷ rest) ≡ units_in (script ++ OneUnit None ∷ rest)
-    counts = units_in_two script (OneUnit (Some f) ∷ rest) ∙ sym (units_in_two script (OneUnit None ∷ rest))
+    with_fault : Script
+    with_fault = script ++ OneUnit (Some f) ∷ rest
 
-    used : units_in (script ++ OneUnit (Some f) ∷ rest) - units_in rest ≡ suc (units_in script)
-    used = omega (arith, units_in_two)
+    without : Script
+    without = script ++ OneUnit None ∷ rest
 
-    met : (x : Next) → NextByFault f key g x → OutcomeByFault f (suc (units_in script)) (cut_drive key g) (outcome_of (script ++ OneUnit (Some f) ∷ rest) key (on_next rest x (walk rest key)))
-    met (GoesOn p) n = absurd n
-    met (EndsIn st e) n = (used, n.0)
-
-    go : (unit (Some f) key g ≡ unit None key g) ⊎ NextByFault f key g (unit (Some f) key g)
-        → (run (script ++ OneUnit (Some f) ∷ rest) s ≡ run (script ++ OneUnit None ∷ rest) s) ⊎ OutcomeByFault f (suc (units_in script)) (cut_drive key g) (run (script ++ OneUnit (Some f) ∷ rest) s)
-    go (inr n) = inr (subst (OutcomeByFault f (suc (units_in script)) (cut_drive key g)) (sym (st (OneUnit (Some f) ∷ rest))) (met (unit (Some f) key g) n))
-    go (inl same) = inl (st (OneUnit (Some f) ∷ rest) ∙ ap (λ n. outcome_of (script ++ OneUnit (Some f) ∷ rest) key (on_next rest n (walk rest key))) same
-        ∙ same_outcome (script ++ OneUnit (Some f) ∷ rest) (script ++ OneUnit None ∷ rest) key (on_next rest (unit None key g) (walk rest key)) counts ∙ sym (st (OneUnit None ∷ rest)))
+    go : (x : Next) → (x ≡ unit None key g) ⊎ NextByFault f key g x
+        → (outcome_of with_fault key (on_next rest x (walk rest key)) ≡ outcome_of without key (walk (OneUnit None ∷ rest) key g))
+        ⊎ OutcomeByFault f (suc (units_in script)) (cut_drive key g) (outcome_of with_fault key (on_next rest x (walk rest key)))
+    go x (inl e) = inl (ap (λ n. outcome_of with_fault key (on_next rest n (walk rest key))) e ∙ same_outcome with_fault without key (walk (OneUnit None ∷ rest) key g) (simp units_in_two))
+    go (EndsIn st e) (inr h) = inr (omega (arith, units_in_two), h.0)
+    go (GoesOn p) (inr h) = absurd h
 
 pub fault_ends_program : FaultEndsProgram
-fault_ends_program s script f seen h =
-    let y = stands_somewhere s script seen h in
-    subst (λ seen. (run (script ++ OneUnit (Some f) ∷ []) s ≡ run (script ++ OneUnit None ∷ []) s) ⊎ OutcomeByFault f (suc (units_in script)) (seen.cut None).drive (run (script ++ OneUnit (Some f) ∷ []) s)) (sym y.3) (run_by_fault s script [] f y.0 y.1 y.2)
+fault_ends_program s script f seen h = let y = stands_somewhere s script seen h in rw y.3 (run_by_fault s script [] f y.0 y.1 y.2)
 
 -- A program that goes on has met no fault.
 
 -- a unit in which the program goes on is the unit without its fault
-goes_unmet : (f : Option Fault) (key : ℕ) (g p : ProgramPhase) → unit f key g ≡ GoesOn p → unit None key g ≡ GoesOn p
-goes_unmet None key g p at = at
-goes_unmet (Some f) key g p at = go (fault_or_not f key g)
+goes_unmet : (f : Option Fault) (key : ℕ) (g : ProgramPhase) → NextIs (λ p. unit None key g ≡ GoesOn p) (λ s e. Unit {0}) (unit f key g)
+goes_unmet f key g = elim f as (λ f. NextIs (λ p. unit None key g ≡ GoesOn p) (λ s e. Unit {0}) (unit f key g)) [ None ↦ go LoadFails _ (inl refl) | Some f ↦ go f _ (fault_or_not f key g) ]
   where
-    go : (unit (Some f) key g ≡ unit None key g) ⊎ NextByFault f key g (unit (Some f) key g) → unit None key g ≡ GoesOn p
-    go (inl same) = sym same ∙ at
-    go (inr met) = absurd (subst (NextByFault f key g) at met)
+    go : (f : Fault) (n : Next) → (n ≡ unit None key g) ⊎ NextByFault f key g n → NextIs (λ p. unit None key g ≡ GoesOn p) (λ s e. Unit {0}) n
+    go f (GoesOn p) (inl e) = sym e
+    go f (GoesOn p) (inr h) = absurd h
+    go f (EndsIn s e) h = tt
+
+-- so what holds where a program goes on without its fault holds where it goes on
+pub unmet_holds : (P : ProgramPhase → Type 0) (f : Option Fault) (key : ℕ) (g : ProgramPhase) → NextIs P (λ s e. Unit {0}) (unit None key g) → NextIs P (λ s e. Unit {0}) (unit f key g)
+unmet_holds P f key g h = (elim (unit f key g) as (λ n. NextIs (λ p. unit None key g ≡ GoesOn p) (λ s e. Unit {0}) n → NextIs P (λ s e. Unit {0}) n)
+    [ GoesOn p ↦ λ same. subst (NextIs P (λ s e. Unit {0})) same h | EndsIn s e ↦ λ same. tt ]) (goes_unmet f key g)
 
 pub unmet_walk : (script : Script) (key : ℕ) (g h : ProgramPhase) → walk script key g ≡ StandsIn h → walk (without_faults script) key g ≡ StandsIn h
 unmet_walk [] key g h w = w
-unmet_walk (Outside c ∷ rest) key g h w = unmet_walk rest key (phase_past (Outside c) g) h w
-unmet_walk (TakesInterruption ∷ rest) key g h w = unmet_walk rest key (phase_past TakesInterruption g) h w
-unmet_walk (OneUnit f ∷ rest) key g h w = go (unit f key g) (goes_unmet f key g) w (λ p w. unmet_walk rest key p h w)
-  where
-    go : (n : Next) → ((p : ProgramPhase) → n ≡ GoesOn p → unit None key g ≡ GoesOn p) → on_next rest n (walk rest key) ≡ StandsIn h
-        → ((p : ProgramPhase) → walk rest key p ≡ StandsIn h → walk (without_faults rest) key p ≡ StandsIn h)
-        → on_next (without_faults rest) (unit None key g) (walk (without_faults rest) key) ≡ StandsIn h
-    go (GoesOn p) same w next = ap (λ n. on_next (without_faults rest) n (walk (without_faults rest) key)) (same p refl) ∙ next p w
-    go (EndsIn st e) same w next = absurd (cc)
+unmet_walk (OneUnit f ∷ rest) key g h w =
+    (elim (unit f key g) as (λ n. NextIs (λ p. unit None key g ≡ GoesOn p) (λ s e. Unit {0}) n → on_next rest n (walk rest key) ≡ StandsIn h → walk (without_faults (OneUnit f ∷ rest)) key g ≡ StandsIn h)
+    [ GoesOn p ↦ λ same w. rw same (unmet_walk rest key p h w) | EndsIn st e ↦ λ same w. absurd (cc) ]) (goes_unmet f key g) w
+unmet_walk (turn ∷ rest) key g h w = unmet_walk rest key (phase_past turn g) h w
 
 units_without : (script : Script) → units_in (without_faults script) ≡ units_in script
 units_without [] = refl
 units_without (OneUnit f ∷ rest) = ap (λ n. 1 + n) (units_without rest)
-units_without (Outside c ∷ rest) = units_without rest
-units_without (TakesInterruption ∷ rest) = units_without rest
+units_without (turn ∷ rest) = units_without rest
 
 pub goes_on_without_faults : GoesOnWithoutFaults
-goes_on_without_faults s script seen r more = from (caw_of s.caw) refl
-  where
-    counts : units_in (without_faults script ++ more) ≡ units_in (script ++ more)
-    counts = omega (arith, units_in_two, units_without script)
-
-    by_walk : (caw : Caw) → caw_of s.caw ≡ Some caw → (w : Walk) → walk script caw.key (Between (start_point caw s)) ≡ w → run (without_faults script ++ more) s ≡ run (script ++ more) s
-    by_walk caw at (EndsWith rest st e) w = let h = sym (run_is_walk s caw script at ∙ ap (outcome_of script caw.key) w) ∙ r in absurd (cc)
-    by_walk caw at (StandsIn h) w =
-        let first = Between (start_point caw s) in
-        goes_by s [] (without_faults script) caw.key first h (begins s caw at) (unmet_walk script caw.key first h w) more
-        ∙ same_outcome (without_faults script ++ more) (script ++ more) caw.key (walk more caw.key h) counts
-        ∙ sym (goes_by s [] script caw.key first h (begins s caw at) w more)
-
-    from : (c : Option Caw) → caw_of s.caw ≡ c → run (without_faults script ++ more) s ≡ run (script ++ more) s
-    from (Some caw) at = by_walk caw at (walk script caw.key (Between (start_point caw s))) refl
-    from None at = let h = sym (ap (run_from script s) at) ∙ r in absurd (cc)
+goes_on_without_faults s script seen r more =
+    let y = stands_by_walk s script seen r in
+    let first = Between (start_point y.caw s) in
+    let counts : units_in (without_faults script ++ more) ≡ units_in (script ++ more) = omega (arith, units_in_two, units_without script) in
+    goes_by s [] (without_faults script) y.caw.key first y.phase (begins s y.caw y.is_caw) (unmet_walk script y.caw.key first y.phase y.walks) more
+    ∙ same_outcome (without_faults script ++ more) (script ++ more) y.caw.key (walk more y.caw.key y.phase) counts
+    ∙ sym (goes_by s [] script y.caw.key first y.phase (begins s y.caw y.is_caw) y.walks more)

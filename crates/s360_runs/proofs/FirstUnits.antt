@@ -20,33 +20,27 @@ use Rattle.s360_runs.specs.Transfers.{Request}
 abbrev Is : Start → First → Outcome → Type 0
 Is s f o = (f ≡ first_of o) × IsFirstUnit s f o
 
+-- Whether an interruption is asked for makes no difference.
+
 bad : (s : Start) (used key : ℕ) (p : Place) → used ≤ 1 → Is s BadStart (Ended used s.storage (ending None key p (untouched (begin_program s.drive)) PROGRAM_CHECK))
-bad s used key p few = (told p.interruption, (used, ending None key p (untouched (begin_program s.drive)) PROGRAM_CHECK, refl, few, refl))
-  where
-    told : (asked : Bool) → BadStart ≡ first_of (Ended used s.storage (ending None key (record p { interruption = asked }) (untouched (begin_program s.drive)) PROGRAM_CHECK))
-    told true = refl
-    told false = refl
+bad s used key p few = (
+  elim p.interruption as (λ asked. BadStart ≡ first_of (Ended used s.storage (ending None key (record p { interruption = asked }) (untouched (begin_program s.drive)) PROGRAM_CHECK))) [ true ↦ refl | false ↦ refl ],
+  (used, ending None key p (untouched (begin_program s.drive)) PROGRAM_CHECK, refl, few, refl),
+)
 
 rejected : (s : Start) (key : ℕ) (p : Place) (t : State) → Is s (RejectedStart (drive_of t)) (Ended 1 s.storage (ending None key p (failed t) no_channel_status))
-rejected s key p t = (told p.interruption, (ending None key p (failed t) no_channel_status, refl, refl, refl))
-  where
-    told : (asked : Bool) → RejectedStart (drive_of t) ≡ first_of (Ended 1 s.storage (ending None key (record p { interruption = asked }) (failed t) no_channel_status))
-    told true = refl
-    told false = refl
+rejected s key p t = (
+  elim p.interruption as (λ asked. RejectedStart (drive_of t) ≡ first_of (Ended 1 s.storage (ending None key (record p { interruption = asked }) (failed t) no_channel_status))) [ true ↦ refl | false ↦ refl ],
+  (ending None key p (failed t) no_channel_status, refl, refl, refl),
+)
 
 -- a start that is over at once
 over : (s : Start) (key : ℕ) (p : Place) (t : State) (motion : Bool) → let e = ending None key p (immediate t motion) no_channel_status in Is s (ImmediateStart e) (Ended 1 s.storage e)
-over s key p t motion = (told motion p.interruption, (refl, unit_of motion))
+over s key p t motion = (told motion p.interruption, (refl, elim motion as (λ motion. ((immediate t motion).unit ≡ CHANNEL_END) ⊎ ((immediate t motion).unit ≡ normal_end)) [ true ↦ inl refl | false ↦ inr refl ]))
   where
     told : (motion asked : Bool) → let e = ending None key (record p { interruption = asked }) (immediate t motion) no_channel_status in ImmediateStart e ≡ first_of (Ended 1 s.storage e)
-    told true true = refl
-    told true false = refl
-    told false true = refl
-    told false false = refl
-
-    unit_of : (motion : Bool) → let e = ending None key p (immediate t motion) no_channel_status in (e.csw.unit ≡ CHANNEL_END) ⊎ (e.csw.unit ≡ normal_end)
-    unit_of true = inl refl
-    unit_of false = inr refl
+    told true = elim [ true ↦ refl | false ↦ refl ]
+    told false = elim [ true ↦ refl | false ↦ refl ]
 
 -- The first unit.
 

@@ -7,6 +7,5 @@ pub mod EndStatus
 pub mod FaultsMet
 pub mod FirstUnits
 pub mod UnsavedTracks
-pub mod FailedLoads
 pub mod Writes
 pub mod Sizes

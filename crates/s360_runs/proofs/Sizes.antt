@@ -1,22 +1,20 @@
 -- A channel program keeps the size of storage.
 use Rattle.std.proofs.lemmas.Bool.{cond_both}
-use Rattle.std.proofs.Common.{◌≡◌, ℕ, refl, ◌∙◌, true, false, Bool, cond, not, ◌&&◌, length, Option, Some, None}
-use Rattle.s360_words.specs.Storage.{Storage, Bytes, stored}
-use Rattle.s360_words.specs.Words.{caw_of, skips}
+use Rattle.std.proofs.Common.{◌≡◌, ℕ, refl, ap, ◌∙◌, true, length, Option}
+use Rattle.s360_words.specs.Storage.{Storage, Bytes}
 use Rattle.s360_words.specs.declared.flags.ChannelStatus.{ChannelStatus}
-use Rattle.s360_words.specs.declared.words.Caw.{Caw}
 use Rattle.s360_words.proofs.Overwriting.{length-overwritten}
-use Rattle.ckd_command.specs.Drive.{Fault, Open, AfterBegin, Immediate, begin, AfterLook, Ready, look, Closed, close, gives}
-use Rattle.s360_runs.specs.Commands.{goes_on_chaining, Chains, Ends, choice, past_modifier, length_status, requested}
-use Rattle.s360_runs.specs.Endings.{NotEnded, ending, immediate}
-use Rattle.s360_runs.specs.Places.{fetch, Fetched, NoCcw, TransferTo, GoodCcw}
-use Rattle.s360_runs.specs.Runs.{run_from, start_point}
+use Rattle.ckd_command.specs.Drive.{Fault, Open, AfterBegin, Immediate, begin, Failed, Passed, Ready, look, Closed, close}
+use Rattle.s360_runs.specs.Commands.{goes_on_chaining, choice, length_status, requested}
+use Rattle.s360_runs.specs.Endings.{NotEnded, immediate}
+use Rattle.s360_runs.specs.Places.{fetch, GoodCcw, NoCcw, TransferTo}
+use Rattle.s360_runs.specs.Runs.{start_point}
 use Rattle.s360_runs.specs.Scripts.{Outside, Turn, storage_past}
-use Rattle.s360_runs.specs.Status.{is_clear, no_channel_status}
-use Rattle.s360_runs.specs.Transfers.{Request, Transfer, request_of, Stops, TransferUnit, Moves, Completes, transfer_unit, first_transfer, after_bytes, next_bytes, chained_data, check_of, needs_ccw, needs_byte}
+use Rattle.s360_runs.specs.Status.{no_channel_status}
+use Rattle.s360_runs.specs.Transfers.{Request, Transfer, request_of, Stops, TransferUnit, Moves, Completes, transfer_unit, first_transfer}
 use Rattle.s360_runs.specs.Units.{standing_in, unit, Next, next_chosen, next_moved, next_looked, next_begun, next_fetched, Between, Looking, Moving, ProgramPhase, phase_past}
 use Rattle.s360_runs.specs.Writes.{KeepsSize, OutcomeKeepsSize}
-use Rattle.s360_runs.proofs.Units.{NextIs, run_holds, walk_holds}
+use Rattle.s360_runs.proofs.Units.{NextIs, UnitIs, run_holds, unit_is, walk_holds}
 
 abbrev storage_in : ProgramPhase → Storage
 storage_in (Between p) = p.storage
@@ -29,33 +27,18 @@ Sized before s = length s.bytes ≡ length before.bytes
 abbrev NextSized : Storage → Next → Type 0
 NextSized before n = NextIs (λ g. Sized before (storage_in g)) (λ s e. Sized before s) n
 
-abbrev UnitSized : Storage → TransferUnit → Type 0
-UnitSized before (Moves next) = Sized before next.storage
-UnitSized before (Stops next check) = Sized before next.storage
-UnitSized before Completes = Unit {0}
-
 module _ (before : Storage) (f : Option Fault) (key : ℕ) where
-  unit_sized : (o : Open) (t : Transfer) → Sized before t.storage → UnitSized before (transfer_unit key o t)
-  unit_sized o t h = go (needs_ccw t) (needs_byte o t) (is_clear (check_of key o t)) (fetch t.storage t.place false)
-    where
-      go : (a b c : Bool) (w : Fetched) → UnitSized before (cond a (chained_data t w) (cond b (cond c (Moves (after_bytes 1 o t)) (Stops t (check_of key o t))) Completes))
-      go true b c NoCcw = h
-      go true b c (TransferTo address) = h
-      go true b c (GoodCcw ccw) = h
-      go false true true w = cond_both (gives o && not (skips t.ccw)) (stored t.storage t.address (next_bytes 1 o t)) t.storage (Sized before) (λ e. length-overwritten t.storage.bytes t.address (next_bytes 1 o t) ∙ h) (λ e. h)
-      go false true false w = h
-      go false false c w = tt
-
   chosen_sized : (r : Request) (c : Closed) (channel : ChannelStatus) → Sized before r.storage → NextSized before (next_chosen (choice f key r c channel))
   chosen_sized r c channel h =
-      cond_both (goes_on_chaining r c channel) (Chains (record { storage = r.storage; place = past_modifier r.place c; state = c.state })) (Ends r.storage (ending f key r.place c channel)) (λ x. NextSized before (next_chosen x)) (λ e. h) (λ e. h)
+      cond_both (goes_on_chaining r c channel) _ _ (λ x. NextSized before (next_chosen x)) (λ e. h) (λ e. h)
 
   moved_sized : (o : Open) (t : Transfer) → Sized before t.storage → NextSized before (next_moved f key o t (transfer_unit key o t))
-  moved_sized o t h = go (transfer_unit key o t) (unit_sized o t h)
+  moved_sized o t h = go (transfer_unit key o t) (unit_is key o t)
     where
-      go : (u : TransferUnit) → UnitSized before u → NextSized before (next_moved f key o t u)
+      go : (u : TransferUnit) → UnitIs t u → NextSized before (next_moved f key o t u)
+      go (Moves next) k = k ∙ h
+      go (Stops next check) k = ap (λ s. length s.bytes) k.storage ∙ h
       go Completes k = chosen_sized (request_of t) (close f o t.bytes) (length_status o t (close f o t.bytes)) h
-      go u k = k
 
   begun_sized : (r : Request) (b : AfterBegin) → Sized before r.storage → NextSized before (next_begun f key r b)
   begun_sized r (Immediate s motion) h = chosen_sized r (immediate s motion) no_channel_status h
@@ -63,16 +46,9 @@ module _ (before : Storage) (f : Option Fault) (key : ℕ) where
 
   next_sized : (g : ProgramPhase) → Sized before (storage_in g) → NextSized before (unit f key g)
   next_sized (Moving o t) h = moved_sized o t h
-  next_sized (Between p) h = go (fetch p.storage p.place true)
-    where
-      go : (w : Fetched) → NextSized before (next_fetched f key p w)
-      go (GoodCcw ccw) = begun_sized (requested p ccw) (begin f ccw.code p.state) h
-      go w = h
-  next_sized (Looking o r) h = go (look f o)
-    where
-      go : (l : AfterLook) → NextSized before (next_looked f key r l)
-      go (Ready o) = moved_sized o (first_transfer r) h
-      go l = h
+  next_sized (Between p) h = elim (fetch p.storage p.place true) as (λ w. NextSized before (next_fetched f key p w))
+      [ NoCcw ↦ h | TransferTo address ↦ h | GoodCcw ccw ↦ begun_sized (requested p ccw) (begin f ccw.code p.state) h ]
+  next_sized (Looking o r) h = elim (look f o) as (λ l. NextSized before (next_looked f key r l)) [ Failed s ↦ h | Passed o ↦ h | Ready o ↦ moved_sized o (first_transfer r) h ]
 
 turn_sized : (turn : Turn) (s : Storage) → Sized s (storage_past turn s)
 turn_sized (Outside (Bytes at bytes)) s = length-overwritten s.bytes at bytes
@@ -84,14 +60,9 @@ past_sized turn (Looking o r) = turn_sized turn r.storage
 past_sized turn (Moving o t) = turn_sized turn t.storage
 
 pub keeps_size : KeepsSize
-keeps_size s script = go (caw_of s.caw)
+keeps_size s script = run_holds {P = λ key g. Sized s.storage (storage_in g)} {E = λ st e. Sized s.storage st} (OutcomeKeepsSize s.storage) s script refl seen (λ used st e h. h)
+    (λ caw at. walk_holds (λ g. Sized s.storage (storage_in g)) (λ st e. Sized s.storage st) caw.key (λ turn g h. past_sized turn g ∙ h) (λ f. next_sized s.storage f caw.key) script (Between (start_point caw s)) refl)
   where
     seen : (key : ℕ) (g : ProgramPhase) → Sized s.storage (storage_in g) → OutcomeKeepsSize s.storage (NotEnded (standing_in key g))
     seen key (Between p) h = h
     seen key g h = h
-
-    go : (c : Option Caw) → OutcomeKeepsSize s.storage (run_from script s c)
-    go None = refl
-    go (Some caw) =
-        run_holds (OutcomeKeepsSize s.storage) s caw script (seen caw.key) (λ used st e h. h)
-        (walk_holds (λ g. Sized s.storage (storage_in g)) (λ st e. Sized s.storage st) caw.key (λ turn g h. past_sized turn g ∙ h) (λ f. next_sized s.storage f caw.key) script (Between (start_point caw s)) refl)

@@ -31,18 +31,26 @@ seen_there s script key g h = ap (λ l. run l s) (sym (append-nil script)) ∙ h
 
 -- A program that did not end stands somewhere.
 
-stands_from : (s : Start) (script : Script) (c : Option Caw) → caw_of s.caw ≡ c → (seen : Standing) → run_from script s c ≡ NotEnded seen
-    → (key : ℕ) × (g : ProgramPhase) × StandsAt s script key g × (seen ≡ standing_in key g)
-stands_from s script None at seen r = absurd (cc)
-stands_from s script (Some caw) at seen r = go (walk script caw.key (Between (start_point caw s))) refl (sym (run_walk s caw script) ∙ r)
-  where
-    same : (a b : Standing) → NotEnded a ≡ NotEnded b → b ≡ a
-    same a b h = cc
+-- where a walk from its start leads
+pub record StandsBy (s : Start) (script : Script) (seen : Standing) : Type 0 where
+  pub caw : Caw
+  pub phase : ProgramPhase
+  pub is_caw : caw_of s.caw ≡ Some caw
+  pub walks : walk script caw.key (Between (start_point caw s)) ≡ StandsIn phase
+  pub seen_is : seen ≡ standing_in caw.key phase
 
-    go : (w : Walk) → walk script caw.key (Between (start_point caw s)) ≡ w → outcome_of script caw.key w ≡ NotEnded seen
-        → (key : ℕ) × (g : ProgramPhase) × StandsAt s script key g × (seen ≡ standing_in key g)
-    go (StandsIn g) h k = (caw.key, g, goes_by s [] script caw.key (Between (start_point caw s)) g (begins s caw at) h, same _ _ k)
-    go (EndsWith rest st e) h k = absurd (cc)
+pub stands_by_walk : (s : Start) (script : Script) (seen : Standing) → run script s ≡ NotEnded seen → StandsBy s script seen
+stands_by_walk s script seen r = from (caw_of s.caw) refl r
+  where
+    go : (caw : Caw) → caw_of s.caw ≡ Some caw → (w : Walk) → walk script caw.key (Between (start_point caw s)) ≡ w → outcome_of script caw.key w ≡ NotEnded seen → StandsBy s script seen
+    go caw at (StandsIn g) h k = record { caw = caw; phase = g; is_caw = at; walks = h; seen_is = cc }
+    go caw at (EndsWith rest st e) h k = absurd (cc)
+
+    from : (c : Option Caw) → caw_of s.caw ≡ c → run_from script s c ≡ NotEnded seen → StandsBy s script seen
+    from None at r = absurd (cc)
+    from (Some caw) at r = go caw at (walk script caw.key (Between (start_point caw s))) refl (sym (run_walk s caw script) ∙ r)
 
 pub stands_somewhere : StandsSomewhere
-stands_somewhere s script seen r = stands_from s script (caw_of s.caw) refl seen r
+stands_somewhere s script seen r =
+    let y = stands_by_walk s script seen r in
+    (y.caw.key, y.phase, goes_by s [] script y.caw.key (Between (start_point y.caw s)) y.phase (begins s y.caw y.is_caw) y.walks, y.seen_is)

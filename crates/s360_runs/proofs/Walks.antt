@@ -1,15 +1,15 @@
 -- Command by command and unit by unit a program goes the same way.
-use Rattle.std.proofs.Common.{◌≡◌, ℕ, zero, suc, ◌+◌, ◌-◌, ◌<◌, ◌≤◌, refl, sym, ap, subst, ◌∙◌, arith, true, [], ◌∷◌, ◌++◌, length, Option, Some, None}
+use Rattle.std.proofs.Common.{◌≡◌, ℕ, zero, suc, ◌+◌, ◌-◌, ◌<◌, ◌≤◌, refl, sym, ap, ◌∙◌, arith, true, [], ◌∷◌, ◌++◌, length, Option, Some, None}
 use Rattle.s360_words.specs.Storage.{Storage}
 use Rattle.s360_words.specs.Words.{caw_of}
 use Rattle.s360_words.specs.declared.words.Caw.{Caw}
 use Rattle.ckd_command.specs.Drive.{AfterLook, look, Fault, Open, close, Ready, Failed, Passed, AfterBegin, Rejected, Immediate, Started, begin}
 use Rattle.s360_runs.specs.Commands.{Step, Spent, Ends, Over, command, after_look, after_move, Point, Goes, choice, Choice, chained, Chains, completed, begun, fetched, requested}
-use Rattle.s360_runs.specs.Endings.{Ending, immediate, Outcome, Ended, NotEnded}
+use Rattle.s360_runs.specs.Endings.{Ending, immediate, Ended}
 use Rattle.s360_runs.specs.Laws.{walked_on, WalkGoesOn, WalkEndsAtUnit, RunIsWalk, EndedStays}
 use Rattle.s360_runs.specs.Places.{fetch, Fetched, NoCcw, TransferTo, past_transfer, GoodCcw}
-use Rattle.s360_runs.specs.Runs.{commands, Start, outcome, run, run_from, start_point}
-use Rattle.s360_runs.specs.Scripts.{Script, OneUnit, Outside, TakesInterruption, units_in}
+use Rattle.s360_runs.specs.Runs.{commands, Start, outcome, run_from, start_point}
+use Rattle.s360_runs.specs.Scripts.{Script, OneUnit, units_in}
 use Rattle.s360_runs.specs.Status.{no_channel_status}
 use Rattle.s360_runs.specs.Transfers.{looked, moved, Transfer, TransferUnit, on_unit, Moves, Stops, Completes, Request, on_look, first_transfer, transfer_unit}
 use Rattle.s360_runs.specs.Units.{Walk, StandsIn, standing_in, EndsWith, ProgramPhase, Between, Looking, Moving, walk, on_next, next_chosen, unit, next_moved, next_looked, next_begun, next_fetched, phase_past, Next, GoesOn, EndsIn, outcome_of}
@@ -36,11 +36,8 @@ step_stays (suc most) key (EndsWith rest s e) = refl
 
 module _ (rest : Script) (key most : ℕ) (same : Same rest key) (h : length rest < most) where
   goes_on : (p : Point) → commands most key (Goes rest p) ≡ step_of key (walk rest key (Between p))
-  goes_on p = go most h
-    where
-      go : (most : ℕ) → length rest < most → commands most key (Goes rest p) ≡ step_of key (walk rest key (Between p))
-      go zero h = absurd (omega arith)
-      go (suc most) h = same most (Between p) (omega arith)
+  goes_on p = (elim most as (λ most. length rest < most → commands most key (Goes rest p) ≡ step_of key (walk rest key (Between p)))
+      [ zero ↦ λ h. absurd (omega arith) | suc most ↦ λ h. same most (Between p) (omega arith) ]) h
 
   by_choice : (c : Choice) → commands most key (chained rest c) ≡ step_of key (on_next rest (next_chosen c) (walk rest key))
   by_choice (Chains p) = goes_on p
@@ -71,71 +68,43 @@ module _ (rest : Script) (key most : ℕ) (same : Same rest key) (h : length res
   by_phase f (Looking o p) = by_look f p (look f o)
   by_phase f (Moving o p) = by_unit f o p (transfer_unit key o p)
 
-resume_outside : (c : _) (rest : Script) (key : ℕ) (f : ProgramPhase) → resume (Outside c ∷ rest) key f ≡ resume rest key (phase_past (Outside c) f)
-resume_outside c rest key (Between p) = refl
-resume_outside c rest key f = refl
-
-resume_taking : (rest : Script) (key : ℕ) (f : ProgramPhase) → resume (TakesInterruption ∷ rest) key f ≡ resume rest key (phase_past TakesInterruption f)
-resume_taking rest key (Between p) = refl
-resume_taking rest key f = refl
-
-at_end : (key most : ℕ) (f : ProgramPhase) → commands most key (resume [] key f) ≡ step_of key (walk [] key f)
-at_end key most (Between p) = step_stays most key (StandsIn (Between p))
-at_end key most (Looking o p) = step_stays most key (StandsIn (Looking o p))
-at_end key most (Moving o p) = step_stays most key (StandsIn (Moving o p))
-
 pub same_way : (script : Script) (key : ℕ) → Same script key
-same_way [] key most f h = at_end key most f
+same_way [] key most (Between p) h = step_stays most key (StandsIn (Between p))
+same_way [] key most f h = step_stays most key (StandsIn f)
 same_way (OneUnit a ∷ rest) key most f h = by_phase rest key most (same_way rest key) (omega arith) a f
-same_way (Outside c ∷ rest) key most f h = ap (commands most key) (resume_outside c rest key f) ∙ same_way rest key most (phase_past (Outside c) f) (omega arith)
-same_way (TakesInterruption ∷ rest) key most f h = ap (commands most key) (resume_taking rest key f) ∙ same_way rest key most (phase_past TakesInterruption f) (omega arith)
+same_way (turn ∷ rest) key most (Between p) h = same_way rest key most (phase_past turn (Between p)) (omega arith)
+same_way (turn ∷ rest) key most f h = same_way rest key most (phase_past turn f) (omega arith)
 
 -- A walk goes on where it stands.
 
-on_from : (rest more : Script) (key : ℕ) (x : Next) → ((f : ProgramPhase) → walk (rest ++ more) key f ≡ walked_on (walk rest key f) key more)
-    → on_next (rest ++ more) x (walk (rest ++ more) key) ≡ walked_on (on_next rest x (walk rest key)) key more
-on_from rest more key (GoesOn f) h = h f
-on_from rest more key (EndsIn s e) h = refl
-
 pub walks_on : WalkGoesOn
 walks_on [] more key f = refl
-walks_on (OneUnit a ∷ rest) more key f = on_from rest more key (unit a key f) (walks_on rest more key)
-walks_on (Outside c ∷ rest) more key f = walks_on rest more key (phase_past (Outside c) f)
-walks_on (TakesInterruption ∷ rest) more key f = walks_on rest more key (phase_past TakesInterruption f)
+walks_on (OneUnit a ∷ rest) more key f = elim (unit a key f) as (λ x. on_next (rest ++ more) x (walk (rest ++ more) key) ≡ walked_on (on_next rest x (walk rest key)) key more)
+    [ GoesOn g ↦ walks_on rest more key g | EndsIn s e ↦ refl ]
+walks_on (turn ∷ rest) more key f = walks_on rest more key (phase_past turn f)
 
 -- A walk that is over was over at its last unit, and not before.
 
 abbrev pub Exact : Script → ℕ → ProgramPhase → Script → Storage → Ending → Type 0
 Exact script key f rest s e = (front : Script) × (script ≡ front ++ rest) × (walk front key f ≡ EndsWith [] s e)
 
-ends_exactly : (a : Option Fault) (more : Script) (key : ℕ) (rest : Script) (s : Storage) (e : Ending) (f : ProgramPhase) (x : Next) → unit a key f ≡ x
-    → ((g : ProgramPhase) → walk more key g ≡ EndsWith rest s e → Exact more key g rest s e)
-    → on_next more x (walk more key) ≡ EndsWith rest s e → Exact (OneUnit a ∷ more) key f rest s e
-ends_exactly a more key rest s e f (GoesOn g) at ih h =
-    let r = ih g h in
-    (OneUnit a ∷ r.0, ap (λ l. OneUnit a ∷ l) r.1, ap (λ x. on_next r.0 x (walk r.0 key)) at ∙ r.2)
-ends_exactly a more key rest s e f (EndsIn s_two e_two) at ih h =
-    let same : more ≡ rest = cc in
-    let end : EndsWith [] s_two e_two ≡ EndsWith [] s e = cc in
-    (OneUnit a ∷ [], ap (λ l. OneUnit a ∷ l) same, ap (λ x. on_next [] x (walk [] key)) at ∙ end)
-
 pub exact : WalkEndsAtUnit
 exact [] key rest s e f h = absurd (cc)
-exact (OneUnit a ∷ more) key rest s e f h = ends_exactly a more key rest s e f (unit a key f) refl (λ g h. exact more key rest s e g h) h
-exact (Outside c ∷ more) key rest s e f h = let r = exact more key rest s e (phase_past (Outside c) f) h in (Outside c ∷ r.0, ap (λ l. Outside c ∷ l) r.1, r.2)
-exact (TakesInterruption ∷ more) key rest s e f h = let r = exact more key rest s e (phase_past TakesInterruption f) h in (TakesInterruption ∷ r.0, ap (λ l. TakesInterruption ∷ l) r.1, r.2)
+exact (OneUnit a ∷ more) key rest s e f h = go (unit a key f) refl (exact more key rest s e) h
+  where
+    go : (x : Next) → unit a key f ≡ x → ((g : ProgramPhase) → walk more key g ≡ EndsWith rest s e → Exact more key g rest s e) → on_next more x (walk more key) ≡ EndsWith rest s e → Exact (OneUnit a ∷ more) key f rest s e
+    go (GoesOn g) at by h = let r = by g h in (OneUnit a ∷ r.0, ap (λ l. OneUnit a ∷ l) r.1, rw at r.2)
+    go (EndsIn t x) at by h = (OneUnit a ∷ [], cc, rw at (cc))
+exact (turn ∷ more) key rest s e f h = let r = exact more key rest s e (phase_past turn f) h in (turn ∷ r.0, ap (λ l. turn ∷ l) r.1, r.2)
 
 -- Runs by walks.
-
-outcome_step : (script : Script) (key : ℕ) (w : Walk) → outcome script key (step_of key w) ≡ outcome_of script key w
-outcome_step script key (StandsIn f) = refl
-outcome_step script key (EndsWith rest s e) = refl
 
 pub run_walk : (s : Start) (caw : Caw) (script : Script) → run_from script s (Some caw) ≡ outcome_of script caw.key (walk script caw.key (Between (start_point caw s)))
 run_walk s caw script =
     let f = Between (start_point caw s) in
     let all : length script ≤ length script = omega arith in
-    ap (outcome script caw.key) (same_way script caw.key (length script) f all) ∙ outcome_step script caw.key (walk script caw.key f)
+    ap (outcome script caw.key) (same_way script caw.key (length script) f all)
+    ∙ elim (walk script caw.key f) as (λ w. outcome script caw.key (step_of caw.key w) ≡ outcome_of script caw.key w) [ StandsIn g ↦ refl | EndsWith rest s e ↦ refl ]
 
 pub run_is_walk : RunIsWalk
 run_is_walk s caw script h = ap (run_from script s) h ∙ run_walk s caw script
@@ -143,28 +112,18 @@ run_is_walk s caw script h = ap (run_from script s) h ∙ run_walk s caw script
 pub units_in_two : (a b : Script) → units_in (a ++ b) ≡ units_in a + units_in b
 units_in_two [] b = omega arith
 units_in_two (OneUnit f ∷ a) b = let h = units_in_two a b in omega arith
-units_in_two (Outside c ∷ a) b = units_in_two a b
-units_in_two (TakesInterruption ∷ a) b = units_in_two a b
+units_in_two (turn ∷ a) b = units_in_two a b
 
 -- a run that ended stays as it is
-
-abbrev Stays : Outcome → Outcome → Type 0
-Stays (Ended used s e) after = after ≡ Ended used s e
-Stays (NotEnded s) after = Unit {0}
-
-stays_walk : (script more : Script) (key : ℕ) (w : Walk) → Stays (outcome_of script key w) (outcome_of (script ++ more) key (walked_on w key more))
-stays_walk script more key (StandsIn f) = tt
-stays_walk script more key (EndsWith rest s e) =
-    let used : units_in (script ++ more) - units_in (rest ++ more) ≡ units_in script - units_in rest = omega (arith, units_in_two) in
-    ap (λ u. Ended u s e) used
-
-stays_from : (s : Start) (script more : Script) (c : Option Caw) → Stays (run_from script s c) (run_from (script ++ more) s c)
-stays_from s script more None = refl
-stays_from s script more (Some caw) =
-    let p = Between (start_point caw s) in
-    subst (λ o. Stays o (run_from (script ++ more) s (Some caw))) (sym (run_walk s caw script))
-    (subst (Stays (outcome_of script caw.key (walk script caw.key p))) (sym (run_walk s caw (script ++ more) ∙ ap (outcome_of (script ++ more) caw.key) (walks_on script more caw.key p)))
-    (stays_walk script more caw.key (walk script caw.key p)))
-
 pub ended_stays : EndedStays
-ended_stays s script more used storage e h = subst (λ o. Stays o (run (script ++ more) s)) h (stays_from s script more (caw_of s.caw))
+ended_stays s script more used storage e h = from (caw_of s.caw) h
+  where
+    go : (key : ℕ) (w : Walk) → outcome_of script key w ≡ Ended used storage e → outcome_of (script ++ more) key (walked_on w key more) ≡ Ended used storage e
+    go key (StandsIn f) h = absurd (cc)
+    go key (EndsWith rest t x) h = let same : units_in (script ++ more) - units_in (rest ++ more) ≡ units_in script - units_in rest = omega (arith, units_in_two) in ap (λ u. Ended u t x) same ∙ h
+
+    from : (c : Option Caw) → run_from script s c ≡ Ended used storage e → run_from (script ++ more) s c ≡ Ended used storage e
+    from None h = h
+    from (Some caw) h =
+        let p = Between (start_point caw s) in
+        run_walk s caw (script ++ more) ∙ ap (outcome_of (script ++ more) caw.key) (walks_on script more caw.key p) ∙ go caw.key (walk script caw.key p) (sym (run_walk s caw script) ∙ h)

@@ -118,7 +118,7 @@ pub fn first_is_unit()
 
 /// A load that fails ends the command with unit check and the sense bytes 10 00: no byte has passed, no check is met, no index has
 /// passed, and nothing else changes.
-#[tactic(auto, using(crate::proofs::FailedLoads::failed_load))]
+#[tactic(auto, using(crate::proofs::UnsavedTracks::failed_load))]
 pub fn failed_load()
     ensures { FailedLoad }
 {}
