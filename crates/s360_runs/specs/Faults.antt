@@ -97,8 +97,10 @@ FailedLoad = (s : Start) (caw : Caw) (script : Script) (o : Open) (r : Request)
 -- the same of a cut
 pub record CutByFault (fault : Fault) (key : ℕ) (phase : ProgramPhase) : Type 0 where
   pub met : cut_meets fault phase ≡ true
-      → let e = (standing_in key phase).cut (Some fault) in EndsByFault fault (cut_drive key phase) e × StaysAt (drive_in phase) e.drive
-  pub not_met : cut_meets fault phase ≡ false → (standing_in key phase).cut (Some fault) ≡ (standing_in key phase).cut None
+      → let e = (standing_in key phase).cut (Some fault) in EndsByFault fault (cut_drive key phase) e
+      × StaysAt (drive_in phase) e.drive
+  pub not_met : cut_meets fault phase ≡ false → (standing_in key phase).cut (Some fault)
+      ≡ (standing_in key phase).cut None
 
 -- and every cut in every phase
 abbrev pub FaultEndsPhase : Type 0

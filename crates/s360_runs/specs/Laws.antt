@@ -116,7 +116,8 @@ CutIsEnd = (s : Start) (script : Script) (seen : Standing) (fault : Option Fault
 abbrev pub MayMove : ℕ → (key : ℕ) → Open → Transfer → Type 0
 MayMove zero key o t = Unit {0}
 MayMove (suc m) key o t =
-    (transfer_unit key o t ≡ Moves (after_bytes 1 o t)) × (length (next_bytes 1 o t) ≡ 1) × MayMove m key o (after_bytes 1 o t)
+    (transfer_unit key o t ≡ Moves (after_bytes 1 o t)) × (length (next_bytes 1 o t) ≡ 1)
+    × MayMove m key o (after_bytes 1 o t)
 
 -- m bytes that may move one after another move at once, where nothing comes between their units
 abbrev pub MoveAtOnce : Type 0

@@ -47,7 +47,8 @@ on_going (EndsIn s e) later = false
 -- whether a unit of a walk, or a cut behind it, may write a track
 abbrev pub walk_writes : (track : ℕ) → Script → (key : ℕ) → ProgramPhase → Bool
 walk_writes track [] key phase = may_write track phase
-walk_writes track (OneUnit fault ∷ rest) key phase = may_write track phase || on_going (unit fault key phase) (walk_writes track rest key)
+walk_writes track (OneUnit fault ∷ rest) key phase = may_write track phase || on_going (unit fault key phase)
+    (walk_writes track rest key)
 walk_writes track (turn ∷ rest) key phase = walk_writes track rest key (phase_past turn phase)
 
 -- whether a unit of a run, or a cut behind it, may write a track; a bad channel address word starts nothing
@@ -62,11 +63,13 @@ run_writes track script s = run_writes_from track script s (caw_of s.caw)
 -- A program keeps each track that none of its units may write, where it ends by itself and where it is cut.
 abbrev pub OutcomeKeeps : (track : ℕ) → Volume → Outcome → Type 0
 OutcomeKeeps track v (Ended used s e) = slot_in e.drive.volume track ≡ slot_in v track
-OutcomeKeeps track v (NotEnded seen) = (fault : Option Fault) → slot_in (seen.cut fault).drive.volume track ≡ slot_in v track
+OutcomeKeeps track v (NotEnded seen) = (fault : Option Fault) → slot_in (seen.cut fault).drive.volume track
+    ≡ slot_in v track
 
 -- a program keeps the slot of every track that none of its units may write
 abbrev pub RunKeeps : Type 0
-RunKeeps = (s : Start) (script : Script) (track : ℕ) → run_writes track script s ≡ false → OutcomeKeeps track s.drive.volume (run script s)
+RunKeeps = (s : Start) (script : Script) (track : ℕ) → run_writes track script s ≡ false
+    → OutcomeKeeps track s.drive.volume (run script s)
 
 -- 'Written and not saved since', read off the units of a script alone.
 
