@@ -224,6 +224,8 @@ impl Storage {
     }
 
     // How many of so many bytes may be stored with this key, one after another.
+    // In line, which each read of a channel program gains by.
+    #[inline(always)]
     fn reach(&self, start: usize, len: usize, key: u8) -> usize
         ensures bound { result ≤ len }
         ensures each { (i : ℕ) → i < result → IsTrue (may_store self.now key (start + i)) }
