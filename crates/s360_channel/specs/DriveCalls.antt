@@ -17,7 +17,8 @@ use Rattle.s360_laws.specs.declared.arm.Arm.TheVariants.{AtRest}
 use Rattle.s360_channel.specs.Channel.{AttachedState}
 
 -- the drive at a place changed so, but neither its address nor its arm, nor another drive
-pub record DriveChanges (place : ℕ) (How : DriveState → DriveState → Type 0) (old new : List AttachedState) : Type 0 where
+pub record DriveChanges (place : ℕ) (How : DriveState → DriveState → Type 0)
+    (old new : List AttachedState) : Type 0 where
   pub attached : AttachedState
   pub was : slice_get old place ≡ Some attached
   pub drive : DriveState
@@ -40,7 +41,8 @@ abbrev pub Starts : (caw : ℕ) → Storage → Start → DriveState → DriveSt
 Starts caw s answer old new =
     IsFirst (record { caw = caw; storage = s; drive = drive_of old.state }) answer old new × StartsQuietly old new
 
-pub record AdvancesAt (r : RunningState) (s : Storage) (asked : ℕ) (a : Ran) (r' : RunningState) (s' : Storage) (old new : DriveState) : Type 0 where
+pub record AdvancesAt (r : RunningState) (s : Storage) (asked : ℕ) (a : Ran) (r' : RunningState) (s' : Storage)
+    (old new : DriveState) : Type 0 where
   pub advances : RunsOn r.key (phase_in r s old) asked a r' s' old new
   pub storage : KeepsStorage s s'
   pub calls : CallsAtMost (2 * a.done) old new
@@ -60,7 +62,8 @@ pub record ArmChanges (place : ℕ) (arm : Arm) (old new : List AttachedState) :
 -- The first drive is taken out, if there is one: its address and its image, which holds its volume.
 abbrev pub TakesFirst : (old new : List AttachedState) → Option (ℕ × ImageState) → Type 0
 TakesFirst [] new taken = (new ≡ []) × (taken ≡ None)
-TakesFirst (u ∷ us) new taken = (new ≡ us) × (taken ≡ Some (u.device, u.drive.image)) × (u.drive.image.slots ≡ u.drive.state.volume.slots)
+TakesFirst (u ∷ us) new taken = (new ≡ us) × (taken ≡ Some (u.device, u.drive.image))
+    × (u.drive.image.slots ≡ u.drive.state.volume.slots)
 
 -- The drive at a place is taken out; its image holds its volume.
 pub record Removes (place : ℕ) (image : ImageState) (old new : List AttachedState) : Type 0 where

@@ -18,7 +18,8 @@ abbrev pub arm_told : (motion : Bool) → Arm
 arm_told motion = if motion then InMotion else AtRest
 
 -- its channel status word pends for the drive at a place, whose arm moves or rests as the drive reported
-pub record IsOver (place : ℕ) (csw : Csw) (motion : Bool) (old new : List AttachedState) (subchannel : Subchannel) : Type 0 where
+pub record IsOver (place : ℕ) (csw : Csw) (motion : Bool) (old new : List AttachedState)
+    (subchannel : Subchannel) : Type 0 where
   pub attached : AttachedState
   pub was : slice_get old place ≡ Some attached
   pub becomes : new ≡ slice_set old place (record attached { arm = arm_told motion })
@@ -43,21 +44,24 @@ CutsProgram (Working place r) old new subchannel = IsCut place r old new subchan
 CutsProgram s old new subchannel = (new ≡ old) × (subchannel ≡ s)
 
 -- A cut whose channel status word is lost; a track that was not saved is reported with the address.
-pub record IsLost (place : ℕ) (r : RunningState) (number : ℕ) (old new : List AttachedState) (unsaved : Option (ℕ × ℕ × ℕ)) : Type 0 where
+pub record IsLost (place : ℕ) (r : RunningState) (number : ℕ) (old new : List AttachedState)
+    (unsaved : Option (ℕ × ℕ × ℕ)) : Type 0 where
   pub told : Csw × Bool × Option (ℕ × ℕ)
   pub attached : AttachedState
   pub was : slice_get old place ≡ Some attached
   pub cut : DriveChanges place (CutsAt r told) old new
   pub tells : unsaved ≡ option_map (λ t. (256 * number + attached.device, t.0, t.1)) told.2
 
-abbrev pub LosesProgram : Subchannel → (number : ℕ) → (old new : List AttachedState) → (unsaved : Option (ℕ × ℕ × ℕ)) → Type 0
+abbrev pub LosesProgram : Subchannel → (number : ℕ) → (old new : List AttachedState) → (unsaved : Option (ℕ × ℕ × ℕ))
+    → Type 0
 LosesProgram (Working place r) number old new unsaved = IsLost place r number old new unsaved
 LosesProgram s number old new unsaved = (new ≡ old) × (unsaved ≡ None)
 
 -- Halt I/O while the channel is available.
 
 abbrev pub halted_idle : (is_there : Bool) → Condition Status
-halted_idle is_there = if is_there then Stored (record { unit = no_unit_status; channel = no_channel_status }) else Three
+halted_idle is_there = if is_there then Stored (record { unit = no_unit_status; channel = no_channel_status })
+    else Three
 
 abbrev pub storage_halted : (is_there : Bool) → Storage → Storage
 storage_halted is_there s = if is_there then changed (status_stored no_unit_status.0 no_channel_status.0) s else s

@@ -11,7 +11,8 @@ abbrev pub images_of : List AttachedState → List (Option (ℕ × ImageState))
 images_of drives = map (λ u. Some (u.device, u.drive.image)) drives ++ replicate (8 - length drives) None
 
 -- The channel is reset first; then all is given back, each image with the slots of its drive's volume.
-pub record Finishes (m : Machine) (old : ChannelState) (storage : Storage) (images : List (Option (ℕ × ImageState))) (unsaved : Option (ℕ × ℕ × ℕ)) : Type 0 where
+pub record Finishes (m : Machine) (old : ChannelState) (storage : Storage) (images : List (Option (ℕ × ImageState)))
+    (unsaved : Option (ℕ × ℕ × ℕ)) : Type 0 where
   pub last : ChannelState
   pub reset : Does Reset m (WasReset unsaved) old last
   pub calls : CallsAtMost 1 old last

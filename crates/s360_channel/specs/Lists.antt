@@ -26,7 +26,8 @@ AllMet [] [] old new = new ≡ old
 AllMet [] (a ∷ rest) old new = ⊥
 AllMet (e ∷ es) [] old new = ⊥
 AllMet (e ∷ es) (a ∷ rest) old new =
-    (between : ChannelState) × IsMet e.1 a old between × CallsAtMost (most_calls e.0 a) old between × AllMet es rest between new
+    (between : ChannelState) × IsMet e.1 a old between × CallsAtMost (most_calls e.0 a) old between
+    × AllMet es rest between new
 
 -- What is so where no store fails: the answers are those of the events without faults; and whenever no program runs, storage
 -- and drives are those of the accepted programs run one after another, each cut at its counted unit.

@@ -27,16 +27,19 @@ abbrev pub idle_machine : (number : ℕ) → Storage → List AttachedState → 
 idle_machine number s us = machine_of (of_parts number s Idle us) machine.Idle
 
 -- At an available channel of this number this is done.
-abbrev pub DoesOn : (number : ℕ) → (Machine → Answer × Machine) → Answer → Storage → List AttachedState → (s' : Storage) (sub' : Subchannel) (us' : List AttachedState) → Type 0
+abbrev pub DoesOn : (number : ℕ) → (Machine → Answer × Machine) → Answer → Storage → List AttachedState
+    → (s' : Storage) (sub' : Subchannel) (us' : List AttachedState) → Type 0
 DoesOn number next answer s us s' sub' us' = AllRest us → AreDistinct (map device_of us)
     → ShowsNext (next (idle_machine number s us)) answer (of_parts number s' sub' us')
 
 -- This is done, whatever the number.
-abbrev pub DoesIdle : (Machine → Answer × Machine) → Answer → Storage → List AttachedState → (s' : Storage) (sub' : Subchannel) (us' : List AttachedState) → Type 0
+abbrev pub DoesIdle : (Machine → Answer × Machine) → Answer → Storage → List AttachedState
+    → (s' : Storage) (sub' : Subchannel) (us' : List AttachedState) → Type 0
 DoesIdle next answer s us s' sub' us' = (number : ℕ) → DoesOn number next answer s us s' sub' us'
 
 -- This is done for the drive at a place.
-abbrev pub DoesAt : (place : ℕ) → (AttachedState → Machine → Answer × Machine) → Answer → Storage → List AttachedState → (s' : Storage) (sub' : Subchannel) (us' : List AttachedState) → Type 0
+abbrev pub DoesAt : (place : ℕ) → (AttachedState → Machine → Answer × Machine) → Answer → Storage → List AttachedState
+    → (s' : Storage) (sub' : Subchannel) (us' : List AttachedState) → Type 0
 DoesAt place next answer s us s' sub' us' =
     (attached : AttachedState) → slice_get us place ≡ Some attached → DoesIdle (next attached) answer s us s' sub' us'
 
@@ -47,8 +50,10 @@ storage_told (Some t) s = changed (csw_stored t.1) s
 
 -- The interruption that a running program asked for is taken, if it asked for one: the address that interrupts and the
 -- channel status word are reported, and the word is stored.
-pub record TakesProgram (number device : ℕ) (answer : Option (ℕ × Csw)) (r r' : RunningState) (s s' : Storage) : Type 0 where
-  pub told : (t : Storage) (d : DriveState) → answer ≡ option_map (λ csw. (256 * number + device, csw)) (standing_in r.key (phase_in r t d)).interruption
+pub record TakesProgram (number device : ℕ) (answer : Option (ℕ × Csw)) (r r' : RunningState)
+    (s s' : Storage) : Type 0 where
+  pub told : (t : Storage) (d : DriveState)
+      → answer ≡ option_map (λ csw. (256 * number + device, csw)) (standing_in r.key (phase_in r t d)).interruption
   pub storage : s' ≡ storage_told answer s
   pub taken : (t : Storage) (d : DriveState) → phase_in r' t d ≡ phase_past TakesInterruption (phase_in r t d)
   pub stands : (d : DriveState) → Stands r d → Stands r' d

@@ -30,4 +30,5 @@ pub record IsAsLarge (s t : Storage) : Type 0 where
 -- A channel that finds another storage of the same size stands for the machine whose processor stored all of it: between two
 -- units of a program that runs, that is a change from outside.
 abbrev pub FindsAnother : Type 0
-FindsAnother = (c : ChannelState) (m : Machine) (s : Storage) → IsAsLarge s c.storage → StandsFor c m → StandsFor (with_storage c s) (finding s m)
+FindsAnother = (c : ChannelState) (m : Machine) (s : Storage) → IsAsLarge s c.storage → StandsFor c m
+    → StandsFor (with_storage c s) (finding s m)

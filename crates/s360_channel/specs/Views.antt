@@ -44,7 +44,8 @@ ShowsDrive device m seen = runs_at device m.subchannel ≡ false → seen ≡ op
 
 abbrev pub ShowsVolume : (device : ℕ) → Machine → Option ImageState → Type 0
 ShowsVolume device m image =
-    runs_at device m.subchannel ≡ false → option_map volume_in image ≡ option_map (λ d. d.drive.volume) (device_at m device)
+    runs_at device m.subchannel ≡ false
+    → option_map volume_in image ≡ option_map (λ d. d.drive.volume) (device_at m device)
 
 -- the key of the block that has an address
 abbrev pub key_in : Storage → (at : ℕ) → Option ℕ

@@ -31,7 +31,8 @@ impl<S: ImageStore> Channel<S> {
     /// The image of the drive with this low byte of an address, lent. While its program does not run it holds the drive's volume;
     /// a track that a running program wrote is in it once that is saved.
     pub fn image(&self, device: u8) -> Option<&Image<S>>
-        ensures image { option_map (λ i. i.now) result ≡ option_map (λ u. u.drive.image) (attached_with device self.now.drives) }
+        ensures image { option_map (λ i. i.now) result
+            ≡ option_map (λ u. u.drive.image) (attached_with device self.now.drives) }
         ensures shows { (m : Machine) → StandsFor self.now m → ShowsVolume device m (option_map (λ i. i.now) result) }
     {
         let Some(place) = self.drives.place_of(device) else {
@@ -85,7 +86,8 @@ impl<S: ImageStore> Channel<S> {
     pub fn exchange_storage(&mut self, storage: &mut Storage) -> Result<(), OtherSize>
         ensures found { OnOk result (self.new ≡ with_storage self.old storage.old) }
         ensures gives_back { OnOk result (storage.new ≡ self.old.storage) }
-        ensures stands { (m : Machine) → StandsFor self.old m → OnOk result (StandsFor self.new (finding storage.old m)) }
+        ensures stands { (m : Machine) → StandsFor self.old m
+            → OnOk result (StandsFor self.new (finding storage.old m)) }
         ensures other { OnErr result (length storage.old.bytes ≡ length self.old.storage.bytes → ⊥) }
         ensures stays { OnErr result (self.new ≡ self.old) }
         ensures handed_back { OnErr result (storage.new ≡ storage.old) }

@@ -25,8 +25,11 @@ impl<S: ImageStore> Channel<S> {
         device: u8,
         image: Image<S>,
     ) -> Result<(), (AttachFault, Image<S>)>
-        ensures attached { OnOk result (self.new ≡ record self.old { drives = self.old.drives ++ new_attached device image ∷ [] }) }
-        ensures stands { OnOk result ((m : Machine) → StandsFor self.old m → StandsFor self.new (attached device image m)) }
+        ensures attached { OnOk result (self.new ≡ record self.old {
+          drives = self.old.drives ++ new_attached device image ∷ [];
+        }) }
+        ensures stands { OnOk result ((m : Machine) → StandsFor self.old m
+            → StandsFor self.new (attached device image m)) }
         ensures refused { IfErr result (λ e. RefusedAs device self.old e.0) }
         ensures not_taken { OnOk result (NotRefused device self.old) }
         ensures stays { OnErr result (self.new ≡ self.old) }

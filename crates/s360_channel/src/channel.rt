@@ -62,7 +62,12 @@ impl<S: ImageStore> Channel<S> {
     /// `BadNumber`, and the storage is handed back.
     pub fn new(number: u8, storage: Storage) -> Result<Channel<S>, (NewFault, Storage)>
         ensures variant { IsOk result ↔ (number < 7) }
-        ensures ok { IfOk result (λ c. c ≡ record { number = number; storage = storage; subchannel = Idle; drives = [] }) }
+        ensures ok { IfOk result (λ c. c ≡ record {
+          number = number;
+          storage = storage;
+          subchannel = Idle;
+          drives = [];
+        }) }
         ensures err { IfErr result (λ e. e.1 ≡ storage) }
     {
         if number > 6 {

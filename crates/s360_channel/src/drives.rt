@@ -95,8 +95,10 @@ impl<S: ImageStore> Drives<S> {
     /// Whether a pack of this geometry fits the drive at a place.
     pub(crate) fn fits(&self, place: usize, geometry: Geometry) -> bool
         requires { place < length self.now }
-        ensures volume { Some result ≡ option_map (λ u. fits_drive u.drive.state.volume.geometry geometry) (slice_get self.now place) }
-        ensures image { Some result ≡ option_map (λ u. fits_drive u.drive.image.geometry geometry) (slice_get self.now place) }
+        ensures volume { Some result ≡ option_map (λ u. fits_drive u.drive.state.volume.geometry geometry)
+            (slice_get self.now place) }
+        ensures image { Some result ≡ option_map (λ u. fits_drive u.drive.image.geometry geometry)
+            (slice_get self.now place) }
     {
         let held = self.list[place].drive.geometry();
         is_same_model(held.model, geometry.model) && held.track_size == geometry.track_size
@@ -192,7 +194,8 @@ impl<S: ImageStore> Drives<S> {
         storage: &mut Storage,
     ) -> Ran
         requires { DriveIs place (Stands running.old) self.old }
-        ensures { DriveChanges place (AdvancesAt running.old storage.old units result running.new storage.new) self.old self.new }
+        ensures { DriveChanges place (AdvancesAt running.old storage.old units result running.new storage.new) self.old
+            self.new }
     {
         advance(&mut self.list[place], running, units, storage)
     }
@@ -329,7 +332,8 @@ fn advance<S: ImageStore>(
     storage: &mut Storage,
 ) -> Ran
     requires { Stands running.old attached.old.drive }
-    ensures { OnlyDrive (AdvancesAt running.old storage.old units result running.new storage.new) attached.old attached.new }
+    ensures { OnlyDrive (AdvancesAt running.old storage.old units result running.new storage.new) attached.old
+        attached.new }
 {
     running.run_on(units, storage, &mut *attached.drive)
 }

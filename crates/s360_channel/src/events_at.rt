@@ -17,7 +17,8 @@ impl<S: ImageStore> Channel<S> {
     /// Does what an event asks, and answers it. It takes no memory, and calls a store at most twice for each unit of a step or run, and
     /// once at Halt I/O and at a reset.
     pub fn react(&mut self, event: &Event) -> Answer
-        ensures does { (m : Machine) → StandsFor self.old m → Does (event_seen event.now) m (answer_seen result) self.old self.new }
+        ensures does { (m : Machine) → StandsFor self.old m
+            → Does (event_seen event.now) m (answer_seen result) self.old self.new }
         ensures calls { CallsAtMost (most_calls (event_seen event.now) (answer_seen result)) self.old self.new }
         ensures answered { IsAnswered event.now result }
     {
@@ -40,7 +41,8 @@ impl<S: ImageStore> Channel<S> {
     // These bytes of storage, if they are within it.
     #[tactic(auto, using(crate::proofs::PartLengths::part_length))]
     fn shown(&self, at: u32, count: ShowCount) -> Option<ArrayVec<u8, 32>>
-        ensures { (m : Machine) → StandsFor self.now m → DoesQuietly (machine.Show at count) m (machine.Shown (option_map (λ b. b.items) result)) self.now }
+        ensures { (m : Machine) → StandsFor self.now m
+            → DoesQuietly (machine.Show at count) m (machine.Shown (option_map (λ b. b.items) result)) self.now }
     {
         match self.peek(at, u32::from(count.get())) {
             Some(bytes) => Some(copied(bytes)),

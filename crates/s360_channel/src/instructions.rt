@@ -22,7 +22,8 @@ impl<S: ImageStore> Channel<S> {
     /// unit status and channel status were stored; 2, the channel is busy; 3, there is no such device. It makes no call of a
     /// store ('Start I/O').
     pub fn sio(&mut self, address: u16) -> Condition<Status>
-        ensures does { (m : Machine) → StandsFor self.old m → DoesQuietly (machine.Sio address) m (answer_seen (answer.Sio address result)) self.new }
+        ensures does { (m : Machine) → StandsFor self.old m
+            → DoesQuietly (machine.Sio address) m (answer_seen (answer.Sio address result)) self.new }
         ensures calls { CallsNoStore self.old self.new }
     {
         start_io(
@@ -37,7 +38,8 @@ impl<S: ImageStore> Channel<S> {
     /// Test I/O at an input/output address: 0, the device is available; 1, this channel status word was stored; 2, the channel is
     /// busy; 3, there is no such device. It makes no call of a store ('Test I/O').
     pub fn tio(&mut self, address: u16) -> Condition<Csw>
-        ensures does { (m : Machine) → StandsFor self.old m → DoesQuietly (machine.Tio address) m (answer_seen (answer.Tio address result)) self.new }
+        ensures does { (m : Machine) → StandsFor self.old m
+            → DoesQuietly (machine.Tio address) m (answer_seen (answer.Tio address result)) self.new }
         ensures calls { CallsNoStore self.old self.new }
     {
         test_io(
@@ -53,7 +55,8 @@ impl<S: ImageStore> Channel<S> {
     /// was stored; 2, the program that ran is cut, and its channel status word pends; 3, there is no such device. It makes at
     /// most one call of a store, which saves a track that was written ('Halt I/O').
     pub fn hio(&mut self, address: u16) -> Condition<Status>
-        ensures does { (m : Machine) → StandsFor self.old m → Does (machine.Hio address) m (answer_seen (answer.Hio address result)) self.old self.new }
+        ensures does { (m : Machine) → StandsFor self.old m
+            → Does (machine.Hio address) m (answer_seen (answer.Hio address result)) self.old self.new }
         ensures calls { CallsAtMost 1 self.old self.new }
     {
         if address / 256 != self.number as u16 {
@@ -71,7 +74,8 @@ impl<S: ImageStore> Channel<S> {
 
     /// Test Channel: 0, it is available; 1, a channel status word pends; 2, a program runs ('Test Channel').
     pub fn tch(&self) -> Condition<()>
-        ensures { (m : Machine) → StandsFor self.now m → DoesQuietly machine.Tch m (answer_seen (answer.Tch result)) self.now }
+        ensures { (m : Machine) → StandsFor self.now m
+            → DoesQuietly machine.Tch m (answer_seen (answer.Tch result)) self.now }
     {
         match self.subchannel {
             Subchannel::Idle => Condition::Zero,

@@ -21,7 +21,9 @@ use s360_words::{Csw, Storage, UnitStatus};
 
 /// The arm of the drive at an input/output address arrives, if it moves.
 pub(crate) fn arrive<S: ImageStore>(address: u16, number: u8, drives: &mut Drives<S>) -> bool
-    ensures does { (s : StorageState) (sub : SubchannelState) (m : Machine) → StandsFor (of_parts number s sub drives.old) m → DoesQuietly (machine.Arrive address) m (machine.HasArrived result) (of_parts number s sub drives.new) }
+    ensures does { (s : StorageState) (sub : SubchannelState) (m : Machine)
+        → StandsFor (of_parts number s sub drives.old) m
+        → DoesQuietly (machine.Arrive address) m (machine.HasArrived result) (of_parts number s sub drives.new) }
     ensures images { map (λ u. u.drive.image) drives.new ≡ map (λ u. u.drive.image) drives.old }
 {
     if address / 256 != number as u16 {
@@ -48,7 +50,9 @@ pub(crate) fn interrupt<S: ImageStore>(
     drives: &mut Drives<S>,
 ) -> Option<(u16, Csw)>
     requires { IsChannel (of_parts number storage.old subchannel.old drives.old) }
-    ensures does { (m : Machine) → StandsFor (of_parts number storage.old subchannel.old drives.old) m → DoesQuietly machine.Interrupt m (machine.Interrupted result) (of_parts number storage.new subchannel.new drives.new) }
+    ensures does { (m : Machine) → StandsFor (of_parts number storage.old subchannel.old drives.old) m
+        → DoesQuietly machine.Interrupt m (machine.Interrupted result)
+        (of_parts number storage.new subchannel.new drives.new) }
     ensures images { map (λ u. u.drive.image) drives.new ≡ map (λ u. u.drive.image) drives.old }
 {
     stands_after_interruption();
@@ -73,7 +77,8 @@ fn interrupt_device<S: ImageStore>(
     storage: &mut Storage,
     drives: &mut Drives<S>,
 ) -> Option<(u16, Csw)>
-    ensures does { DoesOn number (λ m. interrupt_device m (lowest (filter has_arrived m.devices))) (machine.Interrupted result) storage.old drives.old storage.new Idle drives.new }
+    ensures does { DoesOn number (λ m. interrupt_device m (lowest (filter has_arrived m.devices)))
+        (machine.Interrupted result) storage.old drives.old storage.new Idle drives.new }
     ensures images { map (λ u. u.drive.image) drives.new ≡ map (λ u. u.drive.image) drives.old }
 {
     let device = drives.lowest_arrived()?;

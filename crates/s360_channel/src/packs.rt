@@ -20,7 +20,8 @@ impl<S: ImageStore> Channel<S> {
     ///
     /// `NoDrive`, `ProgramRuns`, `EndingPends` and `DeviceEndOwed`, in this order; nothing has changed.
     pub fn detach(&mut self, device: u8) -> Result<Image<S>, DetachFault>
-        ensures detached { (m : Machine) → StandsFor self.old m → IfOk result (λ image. Detaches device m image self.old self.new) }
+        ensures detached { (m : Machine) → StandsFor self.old m
+            → IfOk result (λ image. Detaches device m image self.old self.new) }
         ensures refused { (m : Machine) → StandsFor self.old m → IfErr result (λ e. why_stays device m ≡ Some e) }
         ensures stays { OnErr result (self.new ≡ self.old) }
     {
@@ -42,7 +43,8 @@ impl<S: ImageStore> Channel<S> {
         device: u8,
         image: Image<S>,
     ) -> Result<Image<S>, (ExchangeFault, Image<S>)>
-        ensures exchanged { (m : Machine) → StandsFor self.old m → IfOk result (λ before. Exchanges device m image before self.old self.new) }
+        ensures exchanged { (m : Machine) → StandsFor self.old m
+            → IfOk result (λ before. Exchanges device m image before self.old self.new) }
         ensures refused { (m : Machine) → StandsFor self.old m → IfErr result (λ e. WhyHeld device image m e.0) }
         ensures stays { OnErr result (self.new ≡ self.old) }
         ensures handed_back { IfErr result (λ e. e.1 ≡ image) }

@@ -20,7 +20,8 @@ impl<S: ImageStore> Channel<S> {
     ///
     /// A byte would be outside storage; nothing has changed.
     pub fn poke(&mut self, at: u32, bytes: &[u8]) -> Result<(), OutsideStorage>
-        ensures does { (m : Machine) → StandsFor self.old m → DoesQuietly (machine.Store at bytes.now) m (machine.WasKept (is_ok result)) self.new }
+        ensures does { (m : Machine) → StandsFor self.old m
+            → DoesQuietly (machine.Store at bytes.now) m (machine.WasKept (is_ok result)) self.new }
         ensures calls { CallsNoStore self.old self.new }
     {
         if self.storage.put(at, bytes) {
@@ -37,7 +38,8 @@ impl<S: ImageStore> Channel<S> {
     /// The address is outside storage; nothing has changed.
     pub fn set_key(&mut self, at: u32, key: u8) -> Result<(), OutsideStorage>
         requires { key < 16 }
-        ensures does { (m : Machine) → StandsFor self.old m → DoesQuietly (machine.SetKey at key) m (machine.WasKept (is_ok result)) self.new }
+        ensures does { (m : Machine) → StandsFor self.old m
+            → DoesQuietly (machine.SetKey at key) m (machine.WasKept (is_ok result)) self.new }
         ensures calls { CallsNoStore self.old self.new }
     {
         if self.storage.set_key(at, key) {
@@ -50,7 +52,8 @@ impl<S: ImageStore> Channel<S> {
     /// These bytes of storage as they are now, also while a program runs; none where one of them is outside.
     pub fn peek(&self, at: u32, len: u32) -> Option<&[u8]>
         ensures bytes { option_map (λ bytes. bytes.now) result ≡ part_of self.now.storage at len }
-        ensures does { (m : Machine) → StandsFor self.now m → DoesQuietly (machine.Show at len) m (machine.Shown (option_map (λ bytes. bytes.now) result)) self.now }
+        ensures does { (m : Machine) → StandsFor self.now m
+            → DoesQuietly (machine.Show at len) m (machine.Shown (option_map (λ bytes. bytes.now) result)) self.now }
     {
         self.storage.slice(at, len)
     }

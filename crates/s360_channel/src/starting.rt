@@ -36,7 +36,9 @@ pub(crate) fn start_io<S: ImageStore>(
     drives: &mut Drives<S>,
 ) -> Condition<Status>
     requires { IsChannel (of_parts number storage.old subchannel.old drives.old) }
-    ensures does { (m : Machine) → StandsFor (of_parts number storage.old subchannel.old drives.old) m → DoesQuietly (machine.Sio address) m (answer_seen (answer.Sio address result)) (of_parts number storage.new subchannel.new drives.new) }
+    ensures does { (m : Machine) → StandsFor (of_parts number storage.old subchannel.old drives.old) m
+        → DoesQuietly (machine.Sio address) m (answer_seen (answer.Sio address result))
+        (of_parts number storage.new subchannel.new drives.new) }
     ensures images { map (λ u. u.drive.image) drives.new ≡ map (λ u. u.drive.image) drives.old }
 {
     if address / 256 != number as u16 {
@@ -61,7 +63,8 @@ fn start_device<S: ImageStore>(
 ) -> Condition<Status>
     requires idle { subchannel.old ≡ Idle }
     requires rests { DriveIs place Rests drives.old }
-    ensures does { DoesAt place (λ u m. start_device u.device m (Some (device_of u))) (condition_seen status_seen result) storage.old drives.old storage.new subchannel.new drives.new }
+    ensures does { DoesAt place (λ u m. start_device u.device m (Some (device_of u)))
+        (condition_seen status_seen result) storage.old drives.old storage.new subchannel.new drives.new }
     ensures images { map (λ u. u.drive.image) drives.new ≡ map (λ u. u.drive.image) drives.old }
 {
     match drives.arm(place) {
@@ -84,7 +87,8 @@ fn start_program<S: ImageStore>(
 ) -> Condition<Status>
     requires idle { subchannel.old ≡ Idle }
     requires rests { DriveIs place Rests drives.old }
-    ensures does { DoesAt place (λ u m. started u.device m (first (start_of m (drive_of u.drive.state)))) (condition_seen status_seen result) storage.old drives.old storage.new subchannel.new drives.new }
+    ensures does { DoesAt place (λ u m. started u.device m (first (start_of m (drive_of u.drive.state))))
+        (condition_seen status_seen result) storage.old drives.old storage.new subchannel.new drives.new }
     ensures images { map (λ u. u.drive.image) drives.new ≡ map (λ u. u.drive.image) drives.old }
 {
     accepted_stands();

@@ -28,7 +28,9 @@ pub(crate) fn test_io<S: ImageStore>(
     drives: &mut Drives<S>,
 ) -> Condition<Csw>
     requires { IsChannel (of_parts number storage.old subchannel.old drives.old) }
-    ensures does { (m : Machine) → StandsFor (of_parts number storage.old subchannel.old drives.old) m → DoesQuietly (machine.Tio address) m (answer_seen (answer.Tio address result)) (of_parts number storage.new subchannel.new drives.new) }
+    ensures does { (m : Machine) → StandsFor (of_parts number storage.old subchannel.old drives.old) m
+        → DoesQuietly (machine.Tio address) m (answer_seen (answer.Tio address result))
+        (of_parts number storage.new subchannel.new drives.new) }
     ensures images { map (λ u. u.drive.image) drives.new ≡ map (λ u. u.drive.image) drives.old }
 {
     if address / 256 != number as u16 {
@@ -55,7 +57,8 @@ fn test_device<S: ImageStore>(
     storage: &mut Storage,
     drives: &mut Drives<S>,
 ) -> Condition<Csw>
-    ensures does { DoesIdle (λ m. test_device device m (device_at m device)) (condition_seen csw_seen result) storage.old drives.old storage.new Idle drives.new }
+    ensures does { DoesIdle (λ m. test_device device m (device_at m device)) (condition_seen csw_seen result)
+        storage.old drives.old storage.new Idle drives.new }
     ensures images { map (λ u. u.drive.image) drives.new ≡ map (λ u. u.drive.image) drives.old }
 {
     let Some(place) = drives.place_of(device) else {

@@ -20,7 +20,8 @@ impl<S: ImageStore> Channel<S> {
     /// runs. A unit makes at most two calls of a store. Where one fails the program is over in that unit, its channel status
     /// word has unit check, and the drive's sense equipment check.
     pub fn step(&mut self, units: u16) -> u16
-        ensures does { (m : Machine) → StandsFor self.old m → Does (machine.StepBy units) m (machine.Stepped result) self.old self.new }
+        ensures does { (m : Machine) → StandsFor self.old m
+            → Does (machine.StepBy units) m (machine.Stepped result) self.old self.new }
         ensures most { result ≤ units }
         ensures calls { CallsAtMost (2 * result) self.old self.new }
     {
@@ -30,7 +31,8 @@ impl<S: ImageStore> Channel<S> {
     /// Lets the program that runs do units until it ends, so many at most, as one step of this number does; and says what the
     /// subchannel does behind them.
     pub fn run_on(&mut self, units: u32) -> RunOn
-        ensures does { (m : Machine) → StandsFor self.old m → Does (machine.StepBy units) m (machine.Stepped result.units) self.old self.new }
+        ensures does { (m : Machine) → StandsFor self.old m
+            → Does (machine.StepBy units) m (machine.Stepped result.units) self.old self.new }
         ensures behind { (m : Machine) → StandsFor self.new m → result.subchannel ≡ subchannel_seen m m.subchannel }
         ensures most { result.units ≤ units }
         ensures calls { CallsAtMost (2 * result.units) self.old self.new }
@@ -44,7 +46,8 @@ impl<S: ImageStore> Channel<S> {
 
     // A step of so many units.
     fn advance(&mut self, units: u32) -> u32
-        ensures does { (m : Machine) → StandsFor self.old m → Does (machine.StepBy units) m (machine.Stepped result) self.old self.new }
+        ensures does { (m : Machine) → StandsFor self.old m
+            → Does (machine.StepBy units) m (machine.Stepped result) self.old self.new }
         ensures most { result ≤ units }
         ensures calls { CallsAtMost (2 * result) self.old self.new }
     {
@@ -64,7 +67,8 @@ impl<S: ImageStore> Channel<S> {
     /// The arm of the drive at an input/output address arrives, if it moves: then its device end is to be stored. It makes no
     /// call of a store.
     pub fn arrive(&mut self, address: u16) -> bool
-        ensures does { (m : Machine) → StandsFor self.old m → DoesQuietly (machine.Arrive address) m (machine.HasArrived result) self.new }
+        ensures does { (m : Machine) → StandsFor self.old m
+            → DoesQuietly (machine.Arrive address) m (machine.HasArrived result) self.new }
         ensures calls { CallsNoStore self.old self.new }
     {
         arrive(address, self.number, &mut self.drives)
@@ -75,7 +79,8 @@ impl<S: ImageStore> Channel<S> {
     /// device end of the lowest address whose arm has arrived. It makes no call of a store ('Input/Output Interruptions',
     /// 'Program-Controlled Interruption').
     pub fn interrupt(&mut self) -> Option<(u16, Csw)>
-        ensures does { (m : Machine) → StandsFor self.old m → DoesQuietly machine.Interrupt m (machine.Interrupted result) self.new }
+        ensures does { (m : Machine) → StandsFor self.old m
+            → DoesQuietly machine.Interrupt m (machine.Interrupted result) self.new }
         ensures calls { CallsNoStore self.old self.new }
     {
         interrupt(
@@ -89,7 +94,8 @@ impl<S: ImageStore> Channel<S> {
     /// Resets the channel and its drives: a program that runs is cut, what pends is lost, arms are at rest, sense bytes are
     /// zero. It makes at most one call of a store, which saves a track that was written.
     pub fn reset(&mut self) -> Reset
-        ensures does { (m : Machine) → StandsFor self.old m → Does machine.Reset m (machine.WasReset result.unsaved) self.old self.new }
+        ensures does { (m : Machine) → StandsFor self.old m
+            → Does machine.Reset m (machine.WasReset result.unsaved) self.old self.new }
         ensures calls { CallsAtMost 1 self.old self.new }
     {
         let unsaved = lose_program(self.number, &mut self.subchannel, &mut self.drives);

@@ -18,7 +18,8 @@ impl<S: ImageStore> Channel<S> {
     /// program runs. It is the same whatever storage the channel finds.
     pub fn program(&self) -> Option<Watched>
         ensures shows { (m : Machine) → StandsFor self.now m → ShowsProgram m result }
-        ensures over_any_storage { (s : StorageState) (m : Machine) → StandsFor (with_storage self.now s) m → ShowsProgram m result }
+        ensures over_any_storage { (s : StorageState) (m : Machine) → StandsFor (with_storage self.now s) m
+            → ShowsProgram m result }
     {
         match &self.subchannel {
             Subchannel::Working(place, running) => Some(Watched {
@@ -33,7 +34,8 @@ impl<S: ImageStore> Channel<S> {
     /// program runs. It is the same whatever storage the channel finds.
     pub fn drive_at_work(&self) -> Option<&Drive<S>>
         ensures shows { (m : Machine) → StandsFor self.now m → ShowsDriveAtWork m (option_map (λ d. d.now) result) }
-        ensures over_any_storage { (s : StorageState) (m : Machine) → StandsFor (with_storage self.now s) m → ShowsDriveAtWork m (option_map (λ d. d.now) result) }
+        ensures over_any_storage { (s : StorageState) (m : Machine) → StandsFor (with_storage self.now s) m
+            → ShowsDriveAtWork m (option_map (λ d. d.now) result) }
     {
         match &self.subchannel {
             Subchannel::Working(place, _) => Some(self.drives.drive(*place)),

@@ -27,10 +27,12 @@ RefusedAs number cs NumberTaken = (nat_le 7 number ≡ false) × (is_taken numbe
 RefusedAs number cs OutOfMemory = IsFree number cs
 
 -- A drive that holds this image is attached to the channel with a number, as `s360_channel` does it; every other channel stays.
-abbrev pub AttachesTo : Option ChannelState → (number device : ℕ) → ImageState → (old new : List (Option ChannelState)) → Type 0
+abbrev pub AttachesTo : Option ChannelState → (number device : ℕ) → ImageState → (old new : List (Option ChannelState))
+    → Type 0
 AttachesTo None number device image old new = ⊥
 AttachesTo (Some c) number device image old new =
-    channel.NotRefused device c × (new ≡ slice_set old number (Some (record c { drives = c.drives ++ new_attached device image ∷ [] })))
+    channel.NotRefused device c × (new
+    ≡ slice_set old number (Some (record c { drives = c.drives ++ new_attached device image ∷ [] })))
 
 abbrev pub AttachesAt : (number device : ℕ) → ImageState → (old new : List (Option ChannelState)) → Type 0
 AttachesAt number device image old new = AttachesTo (slice_index_or old number None) number device image old new

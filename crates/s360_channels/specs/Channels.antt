@@ -32,7 +32,8 @@ AllFit size (None ∷ cs) = AllFit size cs
 AllFit size (Some c ∷ cs) = Fits size c × AllFit size cs
 
 -- What a call does to a channel that finds a storage: this was done over that storage, which is what the call gives back.
-pub record Finds (How : ChannelState → ChannelState → Type 0) (before : ChannelState) (s : Storage) (after : ChannelState) (t : Storage) : Type 0 where
+pub record Finds (How : ChannelState → ChannelState → Type 0) (before : ChannelState) (s : Storage)
+    (after : ChannelState) (t : Storage) : Type 0 where
   pub last : ChannelState
   pub how : How (with_storage before s) last
   pub storage : t ≡ last.storage
@@ -40,16 +41,19 @@ pub record Finds (How : ChannelState → ChannelState → Type 0) (before : Chan
 
 -- And to all of them: the channel with this number did it over the shared storage, which has all that the channel stored;
 -- every other channel stays. Where there is no such channel, this is answered and nothing changes.
-pub record Calls (number : ℕ) (How : ChannelState → ChannelState → Type 0) (before : ChannelState) (old new : ChannelsState) : Type 0 where
+pub record Calls (number : ℕ) (How : ChannelState → ChannelState → Type 0) (before : ChannelState)
+    (old new : ChannelsState) : Type 0 where
   pub after : ChannelState
   pub finds : Finds How before old.storage after new.storage
   pub others_stay : new.channels ≡ slice_set old.channels number (Some after)
 
-abbrev pub OnFound : Option ChannelState → (number : ℕ) → (How : ChannelState → ChannelState → Type 0) → (Missing : Type 0) → (old new : ChannelsState) → Type 0
+abbrev pub OnFound : Option ChannelState → (number : ℕ) → (How : ChannelState → ChannelState → Type 0)
+    → (Missing : Type 0) → (old new : ChannelsState) → Type 0
 OnFound None number How Missing old new = Missing × (new ≡ old)
 OnFound (Some before) number How Missing old new = Calls number How before old new
 
-abbrev pub OnChannel : (number : ℕ) → (How : ChannelState → ChannelState → Type 0) → (Missing : Type 0) → (old new : ChannelsState) → Type 0
+abbrev pub OnChannel : (number : ℕ) → (How : ChannelState → ChannelState → Type 0) → (Missing : Type 0)
+    → (old new : ChannelsState) → Type 0
 OnChannel number How Missing old new = OnFound (channel_at number old) number How Missing old new
 
 -- The machine's event, by every machine that the channel stands for: without a call of a store, and with so many at most.

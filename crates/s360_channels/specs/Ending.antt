@@ -18,7 +18,8 @@ pub record Parts : Type 0 where
 -- A channel that finds the shared storage is finished: it is reset, and each image that comes back has the slots of its drive's
 -- volume. The storage that comes back with them is the one that it had between calls.
 pub record Ends (c : ChannelState) (s : Storage) (parts : Parts) (after : Storage) : Type 0 where
-  pub finishes : (m : Machine) → StandsFor (with_storage c s) m → Finishes m (with_storage c s) after parts.images parts.unsaved
+  pub finishes : (m : Machine) → StandsFor (with_storage c s) m
+      → Finishes m (with_storage c s) after parts.images parts.unsaved
   pub own_storage : parts.storage ≡ c.storage
 
 -- The channel with a number is finished, and is no more; the shared storage has all that it stored, and every other channel stays.

@@ -14,7 +14,8 @@ pub record Exchanged (c : ChannelState) (s : Storage) (c' : ChannelState) (s' : 
   pub stands : IsChannel c → IsChannel c'
 
 -- a call at a channel that found the storage, which then was given back
-pub record Serves (How : ChannelState → ChannelState → Type 0) (c : ChannelState) (s : Storage) (c' : ChannelState) (s' : Storage) : Type 0 where
+pub record Serves (How : ChannelState → ChannelState → Type 0) (c : ChannelState) (s : Storage) (c' : ChannelState)
+    (s' : Storage) : Type 0 where
   pub finds : Finds How c s c' s'
   pub fits : Fits (length s.bytes) c'
   pub size : length s'.bytes ≡ length s.bytes

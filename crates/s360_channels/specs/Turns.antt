@@ -15,7 +15,9 @@ StepsTo units (Some done) old new = Steps units done old new
 
 -- The channels from a number on do this one after another, in order of number, and each of these is answered for its number: each
 -- channel does it over the storage that those before it left.
-abbrev pub EachFrom : {A : Type 0} → (number : ℕ) → (How : Option A → ChannelState → ChannelState → Type 0) → List (Option A) → (old new : ChannelsState) → Type 0
+abbrev pub EachFrom : {A : Type 0} → (number : ℕ) → (How : Option A → ChannelState → ChannelState → Type 0)
+    → List (Option A) → (old new : ChannelsState) → Type 0
 EachFrom number How [] old new = new ≡ old
 EachFrom number How (answer ∷ answers) old new =
-    (between : ChannelsState) × OnChannel number (How answer) (answer ≡ None) old between × EachFrom (number + 1) How answers between new
+    (between : ChannelsState) × OnChannel number (How answer) (answer ≡ None) old between
+    × EachFrom (number + 1) How answers between new

@@ -69,7 +69,8 @@ pub(crate) fn attach<S: ImageStore>(
     image: Image<S>,
 ) -> Result<(), (AttachFault, Image<S>)>
     ensures attached { OnOk result (AttachesAt (address / 256) (address % 256) image channels.old channels.new) }
-    ensures refused { IfErr result (λ e. WhyNot (slice_index_or channels.old (address / 256) None) (address % 256) e.0) }
+    ensures refused { IfErr result (λ e. WhyNot (slice_index_or channels.old (address / 256) None) (address % 256)
+        e.0) }
     ensures handed_back { IfErr result (λ e. e.1 ≡ image) }
     ensures stays { OnErr result (channels.new ≡ channels.old) }
     ensures fit { (size : ℕ) → AllFit size channels.old → AllFit size channels.new }
@@ -91,7 +92,9 @@ fn attach_at<S: ImageStore>(
     device: u8,
     image: Image<S>,
 ) -> Result<(), (AttachFault, Image<S>)>
-    ensures attached { OnOk result (channel.new ≡ record channel.old { drives = channel.old.drives ++ new_attached device image ∷ [] }) }
+    ensures attached { OnOk result (channel.new ≡ record channel.old {
+      drives = channel.old.drives ++ new_attached device image ∷ [];
+    }) }
     ensures not_refused { OnOk result (NotRefused device channel.old) }
     ensures refused { IfErr result (λ e. WhyNot (Some channel.old) device e.0) }
     ensures handed_back { IfErr result (λ e. e.1 ≡ image) }

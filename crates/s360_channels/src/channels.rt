@@ -59,7 +59,8 @@ impl<S: ImageStore> Channels<S> {
     /// Start I/O at an input/output address, at the channel of its high byte; 3 where there is none. It makes no call of a store
     /// ('Start I/O').
     pub fn sio(&mut self, address: u16) -> Condition<Status>
-        ensures { OnChannel (address / 256) (Quietly (machine.Sio address) (answer_seen (answer.Sio address result))) (result ≡ Three) self.old self.new }
+        ensures { OnChannel (address / 256) (Quietly (machine.Sio address) (answer_seen (answer.Sio address result)))
+            (result ≡ Three) self.old self.new }
     {
         numbers::sio(&mut self.list, &mut self.lending, address)
     }
@@ -67,7 +68,8 @@ impl<S: ImageStore> Channels<S> {
     /// Test I/O at an input/output address, at the channel of its high byte; 3 where there is none. It makes no call of a store
     /// ('Test I/O').
     pub fn tio(&mut self, address: u16) -> Condition<Csw>
-        ensures { OnChannel (address / 256) (Quietly (machine.Tio address) (answer_seen (answer.Tio address result))) (result ≡ Three) self.old self.new }
+        ensures { OnChannel (address / 256) (Quietly (machine.Tio address) (answer_seen (answer.Tio address result)))
+            (result ≡ Three) self.old self.new }
     {
         numbers::tio(&mut self.list, &mut self.lending, address)
     }
@@ -75,7 +77,8 @@ impl<S: ImageStore> Channels<S> {
     /// Halt I/O at an input/output address, at the channel of its high byte; 3 where there is none. It makes at most one call of
     /// a store ('Halt I/O').
     pub fn hio(&mut self, address: u16) -> Condition<Status>
-        ensures { OnChannel (address / 256) (AtMost 1 (machine.Hio address) (answer_seen (answer.Hio address result))) (result ≡ Three) self.old self.new }
+        ensures { OnChannel (address / 256) (AtMost 1 (machine.Hio address) (answer_seen (answer.Hio address result)))
+            (result ≡ Three) self.old self.new }
     {
         numbers::hio(&mut self.list, &mut self.lending, address)
     }
@@ -91,7 +94,8 @@ impl<S: ImageStore> Channels<S> {
 
     /// The arm of the drive at an input/output address arrives, if it moves. It makes no call of a store.
     pub fn arrive(&mut self, address: u16) -> bool
-        ensures { OnChannel (address / 256) (Quietly (machine.Arrive address) (machine.HasArrived result)) (result ≡ false) self.old self.new }
+        ensures { OnChannel (address / 256) (Quietly (machine.Arrive address) (machine.HasArrived result))
+            (result ≡ false) self.old self.new }
     {
         numbers::arrive(&mut self.list, &mut self.lending, address)
     }
@@ -99,7 +103,8 @@ impl<S: ImageStore> Channels<S> {
     /// The processor takes an interruption of the channel with this number, if it has one: its channel status word is stored. It
     /// makes no call of a store ('Input/Output Interruptions').
     pub fn interrupt_at(&mut self, number: u8) -> Option<(u16, Csw)>
-        ensures { OnChannel number (Quietly machine.Interrupt (machine.Interrupted result)) (result ≡ None) self.old self.new }
+        ensures { OnChannel number (Quietly machine.Interrupt (machine.Interrupted result)) (result ≡ None) self.old
+            self.new }
     {
         numbers::interrupt(&mut self.list, &mut self.lending, number)
     }
@@ -118,7 +123,9 @@ impl<S: ImageStore> Channels<S> {
     ///
     /// `BadNumber`, `NumberTaken` and `OutOfMemory`, in this order; nothing has changed.
     pub fn add(&mut self, alloc: Global, number: u8) -> Result<(), AddFault>
-        ensures added { OnOk result (self.new ≡ record self.old { channels = slice_set self.old.channels number (Some (new_channel number (length self.old.storage.bytes))) }) }
+        ensures added { OnOk result (self.new ≡ record self.old {
+          channels = slice_set self.old.channels number (Some (new_channel number (length self.old.storage.bytes)));
+        }) }
         ensures free { OnOk result (IsFree number self.old.channels) }
         ensures refused { IfErr result (λ e. RefusedAs number self.old.channels e) }
         ensures stays { OnErr result (self.new ≡ self.old) }
@@ -139,7 +146,8 @@ impl<S: ImageStore> Channels<S> {
         address: u16,
         image: Image<S>,
     ) -> Result<(), (AttachFault, Image<S>)>
-        ensures attached { OnOk result (AttachesAt (address / 256) (address % 256) image self.old.channels self.new.channels) }
+        ensures attached { OnOk result (AttachesAt (address / 256) (address % 256) image self.old.channels
+            self.new.channels) }
         ensures storage { self.new.storage ≡ self.old.storage }
         ensures refused { IfErr result (λ e. WhyNot (channel_at (address / 256) self.old) (address % 256) e.0) }
         ensures handed_back { IfErr result (λ e. e.1 ≡ image) }

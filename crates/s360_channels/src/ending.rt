@@ -17,7 +17,8 @@ impl<S: ImageStore> Channels<S> {
     /// channel. The storage that comes with it is the one that it had between calls; the machine's stays. It makes at most one
     /// call of a store, which saves a track that was written.
     pub fn remove(&mut self, number: u8) -> Option<Finished<S>>
-        ensures { RemovesAt number (option_map (λ c. record { storage = c.storage; images = c.images; unsaved = c.reset.unsaved }) result) self.old self.new }
+        ensures { RemovesAt number (option_map (λ c.
+            record { storage = c.storage; images = c.images; unsaved = c.reset.unsaved }) result) self.old self.new }
     {
         give_back(&mut self.list, &mut self.lending);
         remove(&mut self.list, &mut self.lending.kept, number)
@@ -28,7 +29,8 @@ impl<S: ImageStore> Channels<S> {
     /// was written.
     // A pair, since of a struct around the array each call within would have to show that it fits memory, whatever the stores.
     pub fn finish(mut self) -> (Storage, [Option<Finished<S>>; 7])
-        ensures { FinishesAll self result.0 (map (option_map (λ c. record { storage = c.storage; images = c.images; unsaved = c.reset.unsaved })) result.1) }
+        ensures { FinishesAll self result.0 (map
+            (option_map (λ c. record { storage = c.storage; images = c.images; unsaved = c.reset.unsaved })) result.1) }
     {
         let channels = [
             self.remove(0),
@@ -52,7 +54,9 @@ fn remove<S: ImageStore>(
     number: u8,
 ) -> Option<Finished<S>>
     requires { AllFit (length storage.old.bytes) channels.old }
-    ensures { ServesEnd number (option_map (λ c. record { storage = c.storage; images = c.images; unsaved = c.reset.unsaved }) result) (of_parts storage.old channels.old) (of_parts storage.new channels.new) }
+    ensures { ServesEnd number (option_map (λ c.
+        record { storage = c.storage; images = c.images; unsaved = c.reset.unsaved }) result)
+        (of_parts storage.old channels.old) (of_parts storage.new channels.new) }
 {
     let number = number as usize;
     if number >= channels.len() {
@@ -79,7 +83,11 @@ fn take_channel<S: ImageStore>(
 // A channel that finds this storage is reset, gives it back, and is taken apart with its own.
 fn end<S: ImageStore>(mut channel: Channel<S>, storage: &mut Storage) -> Finished<S>
     requires { Fits (length storage.old.bytes) channel }
-    ensures ends { Ends channel storage.old (record { storage = result.storage; images = result.images; unsaved = result.reset.unsaved }) storage.new }
+    ensures ends { Ends channel storage.old (record {
+      storage = result.storage;
+      images = result.images;
+      unsaved = result.reset.unsaved;
+    }) storage.new }
     ensures size { length storage.new.bytes ≡ length storage.old.bytes }
 {
     exchange(&mut channel, storage);

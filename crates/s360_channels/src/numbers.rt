@@ -26,7 +26,8 @@ pub(crate) fn sio<S: ImageStore>(
     address: u16,
 ) -> Condition<Status>
     requires { AllFit (length lending.old.kept.bytes) channels.old }
-    ensures calls { OnChannel (address / 256) (Quietly (machine.Sio address) (answer_seen (answer.Sio address result))) (result ≡ Three) (lent lending.old channels.old) (lent lending.new channels.new) }
+    ensures calls { OnChannel (address / 256) (Quietly (machine.Sio address) (answer_seen (answer.Sio address result)))
+        (result ≡ Three) (lent lending.old channels.old) (lent lending.new channels.new) }
     ensures fit { AllFit (length lending.new.kept.bytes) channels.new }
 {
     let number = (address / 256) as usize;
@@ -47,7 +48,8 @@ pub(crate) fn tio<S: ImageStore>(
     address: u16,
 ) -> Condition<Csw>
     requires { AllFit (length lending.old.kept.bytes) channels.old }
-    ensures calls { OnChannel (address / 256) (Quietly (machine.Tio address) (answer_seen (answer.Tio address result))) (result ≡ Three) (lent lending.old channels.old) (lent lending.new channels.new) }
+    ensures calls { OnChannel (address / 256) (Quietly (machine.Tio address) (answer_seen (answer.Tio address result)))
+        (result ≡ Three) (lent lending.old channels.old) (lent lending.new channels.new) }
     ensures fit { AllFit (length lending.new.kept.bytes) channels.new }
 {
     let number = (address / 256) as usize;
@@ -68,7 +70,8 @@ pub(crate) fn hio<S: ImageStore>(
     address: u16,
 ) -> Condition<Status>
     requires { AllFit (length lending.old.kept.bytes) channels.old }
-    ensures calls { OnChannel (address / 256) (AtMost 1 (machine.Hio address) (answer_seen (answer.Hio address result))) (result ≡ Three) (lent lending.old channels.old) (lent lending.new channels.new) }
+    ensures calls { OnChannel (address / 256) (AtMost 1 (machine.Hio address) (answer_seen (answer.Hio address result)))
+        (result ≡ Three) (lent lending.old channels.old) (lent lending.new channels.new) }
     ensures fit { AllFit (length lending.new.kept.bytes) channels.new }
 {
     let number = (address / 256) as usize;
@@ -89,7 +92,8 @@ pub(crate) fn arrive<S: ImageStore>(
     address: u16,
 ) -> bool
     requires { AllFit (length lending.old.kept.bytes) channels.old }
-    ensures calls { OnChannel (address / 256) (Quietly (machine.Arrive address) (machine.HasArrived result)) (result ≡ false) (lent lending.old channels.old) (lent lending.new channels.new) }
+    ensures calls { OnChannel (address / 256) (Quietly (machine.Arrive address) (machine.HasArrived result))
+        (result ≡ false) (lent lending.old channels.old) (lent lending.new channels.new) }
     ensures fit { AllFit (length lending.new.kept.bytes) channels.new }
 {
     let number = (address / 256) as usize;
@@ -111,7 +115,8 @@ pub(crate) fn step<S: ImageStore>(
     units: u16,
 ) -> Option<u16>
     requires { AllFit (length lending.old.kept.bytes) channels.old }
-    ensures calls { OnChannel number (StepsTo units result) (result ≡ None) (lent lending.old channels.old) (lent lending.new channels.new) }
+    ensures calls { OnChannel number (StepsTo units result) (result ≡ None) (lent lending.old channels.old)
+        (lent lending.new channels.new) }
     ensures fit { AllFit (length lending.new.kept.bytes) channels.new }
 {
     let number = number as usize;
@@ -134,7 +139,8 @@ pub(crate) fn run_on<S: ImageStore>(
     units: u32,
 ) -> Option<RunOn>
     requires { AllFit (length lending.old.kept.bytes) channels.old }
-    ensures calls { OnChannel number (RunsTo units result) (result ≡ None) (lent lending.old channels.old) (lent lending.new channels.new) }
+    ensures calls { OnChannel number (RunsTo units result) (result ≡ None) (lent lending.old channels.old)
+        (lent lending.new channels.new) }
     ensures fit { AllFit (length lending.new.kept.bytes) channels.new }
 {
     let number = number as usize;
@@ -155,7 +161,8 @@ pub(crate) fn interrupt<S: ImageStore>(
     number: u8,
 ) -> Option<(u16, Csw)>
     requires { AllFit (length lending.old.kept.bytes) channels.old }
-    ensures calls { OnChannel number (Quietly machine.Interrupt (machine.Interrupted result)) (result ≡ None) (lent lending.old channels.old) (lent lending.new channels.new) }
+    ensures calls { OnChannel number (Quietly machine.Interrupt (machine.Interrupted result)) (result ≡ None)
+        (lent lending.old channels.old) (lent lending.new channels.new) }
     ensures fit { AllFit (length lending.new.kept.bytes) channels.new }
 {
     let number = number as usize;
@@ -176,7 +183,8 @@ pub(crate) fn reset<S: ImageStore>(
     number: u8,
 ) -> Option<Reset>
     requires { AllFit (length lending.old.kept.bytes) channels.old }
-    ensures calls { OnChannel number (ResetsTo result) (result ≡ None) (lent lending.old channels.old) (lent lending.new channels.new) }
+    ensures calls { OnChannel number (ResetsTo result) (result ≡ None) (lent lending.old channels.old)
+        (lent lending.new channels.new) }
     ensures fit { AllFit (length lending.new.kept.bytes) channels.new }
 {
     let number = number as usize;
@@ -203,7 +211,8 @@ fn channel<S: ImageStore>(channels: &[Option<Channel<S>>], number: u8) -> Option
 
 /// Test Channel at the channel of the high byte.
 pub(crate) fn tch<S: ImageStore>(channels: &[Option<Channel<S>>], address: u16) -> Condition<()>
-    ensures { (size : ℕ) (s : StorageState) → AllFit size channels.now → TestsAt (answer_seen (answer.Tch result)) s (slice_index_or channels.now (address / 256) None) }
+    ensures { (size : ℕ) (s : StorageState) → AllFit size channels.now
+        → TestsAt (answer_seen (answer.Tch result)) s (slice_index_or channels.now (address / 256) None) }
 {
     let number = (address / 256) as usize;
     if number >= channels.len() {
@@ -217,7 +226,8 @@ pub(crate) fn tch<S: ImageStore>(channels: &[Option<Channel<S>>], address: u16) 
 
 /// Whether an interruption of a channel would be taken.
 pub(crate) fn is_pending<S: ImageStore>(channels: &[Option<Channel<S>>], number: u8) -> bool
-    ensures { (size : ℕ) (s : StorageState) → AllFit size channels.now → InterruptsAt result s (slice_index_or channels.now number None) }
+    ensures { (size : ℕ) (s : StorageState) → AllFit size channels.now
+        → InterruptsAt result s (slice_index_or channels.now number None) }
 {
     let number = number as usize;
     if number >= channels.len() {
@@ -238,7 +248,8 @@ pub(crate) fn has<S: ImageStore>(channels: &[Option<Channel<S>>], number: u8) ->
 
 /// What a channel is shown as.
 pub(crate) fn state<S: ImageStore>(channels: &[Option<Channel<S>>], number: u8) -> Option<View>
-    ensures { (size : ℕ) (s : StorageState) → AllFit size channels.now → ShowsAt result s (slice_index_or channels.now number None) }
+    ensures { (size : ℕ) (s : StorageState) → AllFit size channels.now
+        → ShowsAt result s (slice_index_or channels.now number None) }
 {
     let number = number as usize;
     if number >= channels.len() {
@@ -265,7 +276,8 @@ pub(crate) fn drive_at_work<S: ImageStore>(
     channels: &[Option<Channel<S>>],
     number: u8,
 ) -> Option<&Drive<S>>
-    ensures { (s : StorageState) → ShowsDriveAtWorkAt (option_map (λ d. d.now) result) s (slice_index_or channels.now number None) }
+    ensures { (s : StorageState) → ShowsDriveAtWorkAt (option_map (λ d. d.now) result) s
+        (slice_index_or channels.now number None) }
 {
     match channel(channels, number) {
         Some(channel) => channel.drive_at_work(),
@@ -291,7 +303,8 @@ pub(crate) fn image<S: ImageStore>(
     channels: &[Option<Channel<S>>],
     address: u16,
 ) -> Option<&Image<S>>
-    ensures { option_map (λ i. i.now) result ≡ image_at (address % 256) (slice_index_or channels.now (address / 256) None) }
+    ensures { option_map (λ i. i.now) result
+        ≡ image_at (address % 256) (slice_index_or channels.now (address / 256) None) }
 {
     match channel(channels, (address / 256) as u8) {
         Some(channel) => channel.image((address % 256) as u8),

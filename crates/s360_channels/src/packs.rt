@@ -21,8 +21,10 @@ impl<S: ImageStore> Channels<S> {
     ///
     /// `NoChannel`, and what the channel refuses; nothing has changed.
     pub fn detach(&mut self, address: u16) -> Result<Image<S>, DetachFault>
-        ensures detached { IfOk result (λ image. OnChannel (address / 256) (TakesOff (address % 256) image) ⊥ self.old self.new) }
-        ensures refused { IfErr result (λ e. RefusedDetach (channel_at (address / 256) self.old) self.old.storage (address % 256) e) }
+        ensures detached { IfOk result (λ image. OnChannel (address / 256) (TakesOff (address % 256) image) ⊥ self.old
+            self.new) }
+        ensures refused { IfErr result (λ e. RefusedDetach (channel_at (address / 256) self.old) self.old.storage
+            (address % 256) e) }
         ensures stays { OnErr result (self.new ≡ self.old) }
     {
         give_back(&mut self.list, &mut self.lending);
@@ -40,8 +42,10 @@ impl<S: ImageStore> Channels<S> {
         address: u16,
         image: Image<S>,
     ) -> Result<Image<S>, (ExchangeFault, Image<S>)>
-        ensures exchanged { IfOk result (λ before. OnChannel (address / 256) (ChangesPack (address % 256) image before) ⊥ self.old self.new) }
-        ensures refused { IfErr result (λ e. RefusedExchange (channel_at (address / 256) self.old) self.old.storage (address % 256) image e.0) }
+        ensures exchanged { IfOk result (λ before. OnChannel (address / 256) (ChangesPack (address % 256) image before)
+            ⊥ self.old self.new) }
+        ensures refused { IfErr result (λ e. RefusedExchange (channel_at (address / 256) self.old) self.old.storage
+            (address % 256) image e.0) }
         ensures handed_back { IfErr result (λ e. e.1 ≡ image) }
         ensures stays { OnErr result (self.new ≡ self.old) }
     {
@@ -57,8 +61,10 @@ fn detach_at<S: ImageStore>(
     address: u16,
 ) -> Result<Image<S>, DetachFault>
     requires { AllFit (length storage.old.bytes) channels.old }
-    ensures detached { IfOk result (λ image. OnChannel (address / 256) (TakesOff (address % 256) image) ⊥ (of_parts storage.old channels.old) (of_parts storage.new channels.new)) }
-    ensures refused { IfErr result (λ e. RefusedDetach (slice_index_or channels.old (address / 256) None) storage.old (address % 256) e) }
+    ensures detached { IfOk result (λ image. OnChannel (address / 256) (TakesOff (address % 256) image) ⊥
+        (of_parts storage.old channels.old) (of_parts storage.new channels.new)) }
+    ensures refused { IfErr result (λ e. RefusedDetach (slice_index_or channels.old (address / 256) None) storage.old
+        (address % 256) e) }
     ensures channels_stay { OnErr result (channels.new ≡ channels.old) }
     ensures storage_stays { OnErr result (storage.new ≡ storage.old) }
     ensures fit { AllFit (length storage.old.bytes) channels.new }
@@ -81,7 +87,8 @@ fn detach<S: ImageStore>(
     device: u8,
 ) -> Result<Image<S>, DetachFault>
     requires { Fits (length storage.old.bytes) channel.old }
-    ensures detached { IfOk result (λ image. Serves (TakesOff device image) channel.old storage.old channel.new storage.new) }
+    ensures detached { IfOk result (λ image. Serves (TakesOff device image) channel.old storage.old channel.new
+        storage.new) }
     ensures refused { IfErr result (λ e. RefusedDetach (Some channel.old) storage.old device e) }
     ensures channel_stays { OnErr result (channel.new ≡ channel.old) }
     ensures storage_stays { OnErr result (storage.new ≡ storage.old) }
@@ -105,8 +112,10 @@ fn exchange_at<S: ImageStore>(
     image: Image<S>,
 ) -> Result<Image<S>, (ExchangeFault, Image<S>)>
     requires { AllFit (length storage.old.bytes) channels.old }
-    ensures exchanged { IfOk result (λ before. OnChannel (address / 256) (ChangesPack (address % 256) image before) ⊥ (of_parts storage.old channels.old) (of_parts storage.new channels.new)) }
-    ensures refused { IfErr result (λ e. RefusedExchange (slice_index_or channels.old (address / 256) None) storage.old (address % 256) image e.0) }
+    ensures exchanged { IfOk result (λ before. OnChannel (address / 256) (ChangesPack (address % 256) image before) ⊥
+        (of_parts storage.old channels.old) (of_parts storage.new channels.new)) }
+    ensures refused { IfErr result (λ e. RefusedExchange (slice_index_or channels.old (address / 256) None) storage.old
+        (address % 256) image e.0) }
     ensures handed_back { IfErr result (λ e. e.1 ≡ image) }
     ensures channels_stay { OnErr result (channels.new ≡ channels.old) }
     ensures storage_stays { OnErr result (storage.new ≡ storage.old) }
@@ -131,7 +140,8 @@ fn exchange<S: ImageStore>(
     image: Image<S>,
 ) -> Result<Image<S>, (ExchangeFault, Image<S>)>
     requires { Fits (length storage.old.bytes) channel.old }
-    ensures exchanged { IfOk result (λ before. Serves (ChangesPack device image before) channel.old storage.old channel.new storage.new) }
+    ensures exchanged { IfOk result (λ before. Serves (ChangesPack device image before) channel.old storage.old
+        channel.new storage.new) }
     ensures refused { IfErr result (λ e. RefusedExchange (Some channel.old) storage.old device image e.0) }
     ensures handed_back { IfErr result (λ e. e.1 ≡ image) }
     ensures channel_stays { OnErr result (channel.new ≡ channel.old) }

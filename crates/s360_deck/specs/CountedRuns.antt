@@ -61,7 +61,8 @@ pub record HasWritten (before after : Stream) (old new : ChannelState) (written_
   pub sound : NoneFailed written_before written
 
 -- All events have happened, and a write or the last flush failed: perhaps not all bytes of the lines are written, but the first ones.
-pub record HasBegunToWrite (before after : Stream) (old new : ChannelState) (written_before written : Stream) : Type 0 where
+pub record HasBegunToWrite (before after : Stream) (old new : ChannelState)
+    (written_before written : Stream) : Type 0 where
   pub answers : List Answer
   pub has_run : HasRun before after old new answers
   pub lines : TakesFront written_before written (lines_text answers)
@@ -75,9 +76,12 @@ pub record IsNoDeck (fault : DeckFault) (before after : Stream) : Type 0 where
 
 -- What a deck that was run leaves, by what is answered. A read fault comes exactly where a read failed or the text is longer than a
 -- deck may be, and a write fault exactly where a write or the last flush failed.
-abbrev pub CountedRuns : Result (Unit {0}) RunFault → (before after : Stream) → (old new : ChannelState) → (written_before written : Stream) → Type 0
-CountedRuns (Ok done) before after old new written_before written = HasWritten before after old new written_before written
-CountedRuns (Err Write) before after old new written_before written = HasBegunToWrite before after old new written_before written
+abbrev pub CountedRuns : Result (Unit {0}) RunFault → (before after : Stream) → (old new : ChannelState)
+    → (written_before written : Stream) → Type 0
+CountedRuns (Ok done) before after old new written_before written = HasWritten before after old new written_before
+    written
+CountedRuns (Err Write) before after old new written_before written = HasBegunToWrite before after old new
+    written_before written
 CountedRuns (Err Read) before after old new written_before written = OneFailed before after ⊎ PassesDeck before after
 CountedRuns (Err (Deck OutOfMemory)) before after old new written_before written = NoneFailed before after
 CountedRuns (Err (Deck fault)) before after old new written_before written = IsNoDeck fault before after

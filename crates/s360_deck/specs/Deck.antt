@@ -85,13 +85,15 @@ joined words = flat_map (λ word. word) words
 abbrev pub store_of : List (List ℕ) → Option Event
 store_of [] = None
 store_of (address ∷ words) =
-    option_and_then (λ at. option_map (λ bytes. event.Store at (record { items = bytes })) (stored_bytes_of (joined words))) (storage_address_of address)
+    option_and_then (λ at. option_map (λ bytes. event.Store at (record { items = bytes }))
+    (stored_bytes_of (joined words))) (storage_address_of address)
 
 abbrev pub set_key_of : List ℕ → List ℕ → Option Event
 set_key_of address key = option_and_then (λ at. option_map (event.Key at) (key_of key)) (storage_address_of address)
 
 abbrev pub show_of : List ℕ → List ℕ → Option Event
-show_of address count = option_and_then (λ at. option_map (event.Show at) (count_within 1 32 count)) (storage_address_of address)
+show_of address count = option_and_then (λ at. option_map (event.Show at) (count_within 1 32 count))
+    (storage_address_of address)
 
 -- the event of this name and these operands
 abbrev pub event_of : EventName → List (List ℕ) → Option Event
@@ -143,7 +145,8 @@ abbrev pub appended : List Event → Option Event → List Event
 appended events None = events
 appended events (Some e) = events ++ e ∷ []
 
-abbrev pub on_line : (number : ℕ) → Result (Option Event) LineFault → (Option Event → Result (List Event) DeckFault) → Result (List Event) DeckFault
+abbrev pub on_line : (number : ℕ) → Result (Option Event) LineFault → (Option Event → Result (List Event) DeckFault)
+    → Result (List Event) DeckFault
 on_line number (Ok e) behind = behind e
 on_line number (Err f) behind = Err (fault_at number f)
 

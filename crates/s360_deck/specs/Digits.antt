@@ -5,7 +5,8 @@ use Rattle.std.specs.Prelude.{ℕ, ◌+◌, ◌-◌, ◌*◌, List, [], ◌∷�
 abbrev pub digit_of : (base : ℕ) → ℕ → Option ℕ
 digit_of base byte =
     let value = if nat_le 65 byte then byte - 55 else byte - 48 in
-    if (nat_le 48 byte && nat_le byte 57 || nat_le 65 byte && nat_le byte 70) && nat_lt value base then Some value else None
+    if (nat_le 48 byte && nat_le byte 57 || nat_le 65 byte && nat_le byte 70) && nat_lt value base then Some value
+    else None
 
 -- the number that these digits spell behind those of n
 abbrev pub number_behind : (n base : ℕ) → List ℕ → Option ℕ

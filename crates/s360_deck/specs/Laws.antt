@@ -15,18 +15,23 @@ use Rattle.s360_deck.specs.CountedRuns.{HasRun}
 
 -- the answers are the machine's, each event with the fault that it met, and the headline holds of the list
 abbrev pub RunsKeepHeadline : Type 0
-RunsKeepHeadline = (before after : Stream) (old new : ChannelState) (answers : List Answer) (m : Machine) → HasRun before after old new answers → StandsFor old m
+RunsKeepHeadline = (before after : Stream) (old new : ChannelState) (answers : List Answer) (m : Machine)
+    → HasRun before after old new answers → StandsFor old m
     → (inputs : List Input) × (map answer_seen answers ≡ machine.answers inputs m) × Headline m inputs
 
 -- where no store failed and no program runs, storage and drives are those of the accepted programs run one after another, each cut
 -- at its counted unit
 abbrev pub RunsAreSerial : Type 0
-RunsAreSerial = (before after : Stream) (old new : ChannelState) (answers : List Answer) (m : Machine) → HasRun before after old new answers → StandsFor old m
-    → failures_of new ≡ failures_of old → (events : List Event) × (map answer_seen answers ≡ machine.answers (plain (map event_seen events)) m)
+RunsAreSerial = (before after : Stream) (old new : ChannelState) (answers : List Answer) (m : Machine)
+    → HasRun before after old new answers → StandsFor old m
+    → failures_of new ≡ failures_of old
+    → (events : List Event) × (map answer_seen answers ≡ machine.answers (plain (map event_seen events)) m)
     × (is_working (after_all (plain (map event_seen events)) m).subchannel ≡ false
-    → world_of (after_all (plain (map event_seen events)) m) ≡ history (world_of m) (all_acts m (exchanges (plain (map event_seen events)) m)))
+    → world_of (after_all (plain (map event_seen events)) m)
+    ≡ history (world_of m) (all_acts m (exchanges (plain (map event_seen events)) m)))
 
 -- there are as many faults as calls of the stores failed, and each is reported by the event that met it and by no other
 abbrev pub RunsReportFaults : Type 0
-RunsReportFaults = (before after : Stream) (old new : ChannelState) (answers : List Answer) (m : Machine) → HasRun before after old new answers → StandsFor old m
+RunsReportFaults = (before after : Stream) (old new : ChannelState) (answers : List Answer) (m : Machine)
+    → HasRun before after old new answers → StandsFor old m
     → (inputs : List Input) × (failures_of new ≡ failures_of old + faults_in inputs) × AllReported inputs m

@@ -29,9 +29,11 @@ abbrev pub after_space : List ℕ → List ℕ
 after_space text = codes " " ++ text
 
 abbrev pub answer_text : Answer → List ℕ
-answer_text (Sio address c) = codes "SIO " ++ hexadecimal 3 address ++ condition_text (λ s. after_space (status_text s)) c
+answer_text (Sio address c) = codes "SIO " ++ hexadecimal 3 address
+    ++ condition_text (λ s. after_space (status_text s)) c
 answer_text (Tio address c) = codes "TIO " ++ hexadecimal 3 address ++ condition_text (λ s. after_space (csw_text s)) c
-answer_text (Hio address c) = codes "HIO " ++ hexadecimal 3 address ++ condition_text (λ s. after_space (status_text s)) c
+answer_text (Hio address c) = codes "HIO " ++ hexadecimal 3 address
+    ++ condition_text (λ s. after_space (status_text s)) c
 answer_text (Tch c) = codes "TCH" ++ condition_text (λ nothing. []) c
 answer_text (Step done) = codes "STEP " ++ decimal done
 answer_text (Run done) = codes "RUN " ++ decimal done

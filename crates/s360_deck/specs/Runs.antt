@@ -54,13 +54,15 @@ pub record HasRun (before after : Option (List ℕ)) (old new : ChannelState) (a
   pub follows : (m : Machine) → StandsFor old m → Follows m (map event_seen events) (map answer_seen answers) old new
 
 -- All events have happened, and the lines of their answers are written.
-pub record HasWritten (before after : Option (List ℕ)) (old new : ChannelState) (written_before written : Option (List ℕ)) : Type 0 where
+pub record HasWritten (before after : Option (List ℕ)) (old new : ChannelState)
+    (written_before written : Option (List ℕ)) : Type 0 where
   pub answers : List Answer
   pub has_run : HasRun before after old new answers
   pub lines : Appends written_before written (lines_text answers)
 
 -- All events have happened, and perhaps not all bytes of the lines are written, but the first ones.
-pub record HasBegunToWrite (before after : Option (List ℕ)) (old new : ChannelState) (written_before written : Option (List ℕ)) : Type 0 where
+pub record HasBegunToWrite (before after : Option (List ℕ)) (old new : ChannelState)
+    (written_before written : Option (List ℕ)) : Type 0 where
   pub answers : List Answer
   pub has_run : HasRun before after old new answers
   pub lines : AppendsFront written_before written (lines_text answers)
@@ -72,9 +74,11 @@ pub record IsNoDeck (fault : DeckFault) (before after : Option (List ℕ)) : Typ
   pub faulty : events_of text ≡ Err fault
 
 -- What a deck that was run leaves, by what is answered.
-abbrev pub Runs : Result (Unit {0}) RunFault → (before after : Option (List ℕ)) → (old new : ChannelState) → (written_before written : Option (List ℕ)) → Type 0
+abbrev pub Runs : Result (Unit {0}) RunFault → (before after : Option (List ℕ)) → (old new : ChannelState)
+    → (written_before written : Option (List ℕ)) → Type 0
 Runs (Ok done) before after old new written_before written = HasWritten before after old new written_before written
-Runs (Err Write) before after old new written_before written = HasBegunToWrite before after old new written_before written
+Runs (Err Write) before after old new written_before written = HasBegunToWrite before after old new written_before
+    written
 Runs (Err Read) before after old new written_before written = Unit {0}
 Runs (Err (Deck OutOfMemory)) before after old new written_before written = Unit {0}
 Runs (Err (Deck fault)) before after old new written_before written = IsNoDeck fault before after

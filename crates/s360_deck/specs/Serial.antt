@@ -65,7 +65,8 @@ units_done t = if is_step t then units_of t.2 else None
 
 -- one exchange more, of those that are ordered and those that are held, with steps of the program ahead or not: whatever
 -- comes behind, the list is the same
-abbrev pub Places : (ordered ordered_now held held_now : List Exchange) → (inside : Bool) → Exchange → (ahead now : Bool) → Type 0
+abbrev pub Places : (ordered ordered_now held held_now : List Exchange) → (inside : Bool) → Exchange
+    → (ahead now : Bool) → Type 0
 Places ordered ordered_now held held_now inside t ahead now =
     (rest : List machine.Exchange) → steps_ahead rest ≡ ahead
     → exchanges_seen ordered ++ arrivals_last inside (exchanges_seen held) (exchange_seen t ∷ rest)
@@ -74,5 +75,6 @@ Places ordered ordered_now held held_now inside t ahead now =
 -- one exchange more behind so many units of steps
 abbrev pub Joins : (events events_now : List machine.Event) → (units : ℕ) → machine.Exchange → (now : ℕ) → Type 0
 Joins events events_now units t now =
-    ((rest : List machine.Exchange) → events ++ events_in (steps_joined units (t ∷ rest)) ≡ events_now ++ events_in (steps_joined now rest))
+    ((rest : List machine.Exchange) → events ++ events_in (steps_joined units (t ∷ rest))
+    ≡ events_now ++ events_in (steps_joined now rest))
     × (now ≤ units + 4294967295)

@@ -24,8 +24,10 @@ pub(crate) fn read_counted<R: Read>(
     alloc: Global,
     reader: &mut Counted<R>,
 ) -> Result<Vec<u8>, RunFault>
-    ensures ok { IfOk result (λ text. ReadsWhole (seen_by R.remaining reader.old) (seen_by R.remaining reader.new) text.items) }
-    ensures err { IfErr result (λ fault. ReadsFaultily fault (seen_by R.remaining reader.old) (seen_by R.remaining reader.new)) }
+    ensures ok { IfOk result (λ text. ReadsWhole (seen_by R.remaining reader.old) (seen_by R.remaining reader.new)
+        text.items) }
+    ensures err { IfErr result (λ fault. ReadsFaultily fault (seen_by R.remaining reader.old)
+        (seen_by R.remaining reader.new)) }
 {
     let mut text = Vec::new(alloc);
     let mut piece = [0; PIECE_LENGTH];

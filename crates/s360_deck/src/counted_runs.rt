@@ -26,7 +26,8 @@ pub fn run_counted<R: Read, W: Write, S: ImageStore>(
     writer: &mut Counted<W>,
     channel: &mut Channel<S>,
 ) -> Result<(), RunFault>
-    ensures runs { CountedRuns result (seen_by R.remaining reader.old) (seen_by R.remaining reader.new) channel.old channel.new
+    ensures runs { CountedRuns result (seen_by R.remaining reader.old) (seen_by R.remaining reader.new) channel.old
+        channel.new
         (seen_by W.contents writer.old) (seen_by W.contents writer.new) }
     ensures no_event { StaysUnlessRun result channel.old channel.new }
     ensures nothing_written { StaysUnlessRun result writer.old writer.new }

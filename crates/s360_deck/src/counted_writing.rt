@@ -15,7 +15,8 @@ pub(crate) fn write_counted<W: Write>(
     writer: &mut Counted<W>,
     answers: &[Answer],
 ) -> Result<(), WriteFault>
-    ensures { WritesWhole result (seen_by W.contents writer.old) (seen_by W.contents writer.new) (lines_text answers.now) }
+    ensures { WritesWhole result (seen_by W.contents writer.old) (seen_by W.contents writer.new)
+        (lines_text answers.now) }
 {
     for answer in answers {
         write_line(writer, answer)?;
@@ -28,7 +29,8 @@ pub(crate) fn write_counted<W: Write>(
 
 // Writes one line.
 fn write_line<W: Write>(writer: &mut Counted<W>, answer: &Answer) -> Result<(), WriteFault>
-    ensures { WritesWhole result (seen_by W.contents writer.old) (seen_by W.contents writer.new) (answer_text answer.now ++ 10 ∷ []) }
+    ensures { WritesWhole result (seen_by W.contents writer.old) (seen_by W.contents writer.new)
+        (answer_text answer.now ++ 10 ∷ []) }
 {
     let mut line = ArrayString::new();
     put_answer(&mut line, answer);

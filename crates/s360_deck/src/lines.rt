@@ -99,7 +99,8 @@ fn put_named(line: &mut Line, name: &str, address: u16)
 // A cylinder and a head, each behind a space.
 fn put_track(line: &mut Line, cylinder: u16, head: u16)
     requires { length line.old.bytes ≤ 22 }
-    ensures text { line.new.bytes ≡ line.old.bytes ++ (codes " " ++ (hexadecimal 4 cylinder ++ (codes " " ++ hexadecimal 4 head))) }
+    ensures text { line.new.bytes ≡ line.old.bytes
+        ++ (codes " " ++ (hexadecimal 4 cylinder ++ (codes " " ++ hexadecimal 4 head))) }
     ensures size { length line.new.bytes ≤ 40 }
 {
     line.push_str(" ");

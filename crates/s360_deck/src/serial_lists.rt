@@ -60,7 +60,8 @@ fn what_changed<'a>(
 
 fn keep_change<'a>(list: &mut Vec<Exchange<'a>>, exchange: Exchange<'a>) -> Result<(), AllocError>
     requires { Fits exchange.event.now exchange.answer.now }
-    ensures { OnOk result (exchanges_seen list.new.items ≡ exchanges_seen list.old.items ++ that_change (exchange_seen exchange.entry ∷ [])) }
+    ensures { OnOk result (exchanges_seen list.new.items
+        ≡ exchanges_seen list.old.items ++ that_change (exchange_seen exchange.entry ∷ [])) }
 {
     if changes_nothing(exchange) {
         return Ok(());
@@ -199,7 +200,8 @@ fn place<'a>(
     exchange: Exchange<'a>,
     more_steps: bool,
 ) -> Result<bool, AllocError>
-    ensures { IfOk result (λ now. Places ordered.old.items ordered.new.items held.old.items held.new.items inside exchange.entry more_steps now) }
+    ensures { IfOk result (λ now. Places ordered.old.items ordered.new.items held.old.items held.new.items inside
+        exchange.entry more_steps now) }
 {
     if exchange.is_arrival() && inside && more_steps {
         held.push(exchange)?;
@@ -226,7 +228,8 @@ fn append<'a>(
 
 // Steps that stand together become steps of 65,535 units and one of the rest.
 fn steps_together(alloc: Global, list: &[Exchange]) -> Result<Vec<Event>, AllocError>
-    ensures { IfOk result (λ events. map event_seen events.items ≡ events_in (steps_joined 0 (exchanges_seen list.now))) }
+    ensures { IfOk result (λ events. map event_seen events.items
+        ≡ events_in (steps_joined 0 (exchanges_seen list.now))) }
 {
     let mut events = Vec::new(alloc);
     let mut units: u128 = 0;
@@ -242,7 +245,8 @@ fn steps_together(alloc: Global, list: &[Exchange]) -> Result<Vec<Event>, AllocE
 // One exchange more behind so many units of steps that stand together; answers how many stand together then.
 fn join(events: &mut Vec<Event>, units: u128, exchange: Exchange) -> Result<u128, AllocError>
     requires { units < 2 ^ 100 }
-    ensures { IfOk result (λ more. Joins (map event_seen events.old.items) (map event_seen events.new.items) units (exchange_seen exchange.entry) more) }
+    ensures { IfOk result (λ more. Joins (map event_seen events.old.items) (map event_seen events.new.items) units
+        (exchange_seen exchange.entry) more) }
 {
     if let Some(done) = exchange.units_done() {
         return Ok(units + u128::from(done));
@@ -254,7 +258,8 @@ fn join(events: &mut Vec<Event>, units: u128, exchange: Exchange) -> Result<u128
 
 // So many units of steps.
 fn push_steps(events: &mut Vec<Event>, units: u128) -> Result<(), AllocError>
-    ensures { OnOk result (map event_seen events.new.items ≡ map event_seen events.old.items ++ events_in (steps_of units)) }
+    ensures { OnOk result (map event_seen events.new.items
+        ≡ map event_seen events.old.items ++ events_in (steps_of units)) }
 {
     for _ in 0..units / 65_535 {
         events.push(Event::Step(65_535))?;

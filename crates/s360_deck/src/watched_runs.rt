@@ -28,7 +28,8 @@ pub fn run_watched<R: Read, W: Write, S: ImageStore, V: Watcher>(
     channel: &mut Channel<S>,
     watcher: &mut V,
 ) -> Result<(), RunFault>
-    ensures runs { CountedRuns result (seen_by R.remaining reader.old) (seen_by R.remaining reader.new) channel.old channel.new
+    ensures runs { CountedRuns result (seen_by R.remaining reader.old) (seen_by R.remaining reader.new) channel.old
+        channel.new
         (seen_by W.contents writer.old) (seen_by W.contents writer.new) }
     ensures no_event { StaysUnlessRun result channel.old channel.new }
     ensures nothing_written { StaysUnlessRun result writer.old writer.new }

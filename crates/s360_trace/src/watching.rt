@@ -67,7 +67,8 @@ fn react<S: ImageStore, W: Watcher>(
     event: &Event,
     watcher: &mut W,
 ) -> Answer
-    ensures happens { (m : Machine) → StandsFor channel.old m → Happens (event_seen event.now) m (answer_seen result) channel.old channel.new }
+    ensures happens { (m : Machine) → StandsFor channel.old m
+        → Happens (event_seen event.now) m (answer_seen result) channel.old channel.new }
     ensures answered { IsAnswered event.now result }
 {
     match event {
@@ -79,7 +80,8 @@ fn react<S: ImageStore, W: Watcher>(
 
 // A step, unit by unit, until the program ends.
 fn step<S: ImageStore, W: Watcher>(channel: &mut Channel<S>, units: u32, watcher: &mut W) -> u32
-    ensures happens { (m : Machine) → StandsFor channel.old m → Happens (machine.StepBy units) m (machine.Stepped result) channel.old channel.new }
+    ensures happens { (m : Machine) → StandsFor channel.old m
+        → Happens (machine.StepBy units) m (machine.Stepped result) channel.old channel.new }
     ensures most { result ≤ units }
 {
     let mut done = 0;
@@ -95,7 +97,8 @@ fn step<S: ImageStore, W: Watcher>(channel: &mut Channel<S>, units: u32, watcher
 
 // One unit of the program that runs.
 fn unit<S: ImageStore>(channel: &mut Channel<S>) -> u32
-    ensures happens { (m : Machine) → StandsFor channel.old m → Happens (machine.StepBy 1) m (machine.Stepped result) channel.old channel.new }
+    ensures happens { (m : Machine) → StandsFor channel.old m
+        → Happens (machine.StepBy 1) m (machine.Stepped result) channel.old channel.new }
     ensures most { result ≤ 1 }
 {
     u32::from(channel.step(1))
