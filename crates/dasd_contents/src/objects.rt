@@ -314,9 +314,6 @@ fn write_problem<W: Write>(writer: &mut W, finding: &Finding) -> io::Result<()>
     writeln!(
         writer,
         ",\"cylinder\":{},\"head\":{},\"record\":{},\"kind\":\"{kind}\",\"text\":\"{}\"}}",
-        place.track.cylinder,
-        place.track.head,
-        place.number,
-        finding.problem
+        place.track.cylinder, place.track.head, place.number, finding.problem
     )
 }
