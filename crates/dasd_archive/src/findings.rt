@@ -79,6 +79,24 @@ impl Problem {
                 Severity::Note,
         }
     }
+
+    // Its kind, without the numbers of one.
+    pub(crate) fn kind(&self) -> &'static str
+        ensures { result.now ≡ kind_text self.now }
+    {
+        match self {
+            Problem::ReservedBytes(_) => "reserved bytes",
+            Problem::Unreadable(_) => "unreadable",
+            Problem::OtherHomeAddress(_) => "other home address",
+            Problem::Flagged(_) => "flagged home address",
+            Problem::NoRecord0 => "no record 0",
+            Problem::OverCapacity(_) => "over capacity",
+            Problem::SameIdentifier(_, _) => "same identifier",
+            Problem::OtherIdentifier(_, _) => "other identifier",
+            Problem::EndOfFile(_) => "end of file",
+            Problem::BytesBehindEnd(_) => "bytes behind end",
+        }
+    }
 }
 
 impl fmt::Display for Severity {
@@ -89,29 +107,6 @@ impl fmt::Display for Severity {
             Severity::Error => f.write_str("error"),
             Severity::Warning => f.write_str("warning"),
             Severity::Note => f.write_str("note"),
-        }
-    }
-}
-
-/// The kind of a problem, without the numbers of one.
-#[derive(Clone, Copy)]
-pub(crate) struct Kind(pub(crate) Problem);
-
-impl fmt::Display for Kind {
-    ghost output = { λ k. Some (kind_text k.0) };
-
-    fn fmt<W: fmt::Write>(&self, f: &mut fmt::Formatter<W>) -> fmt::Result {
-        match self.0 {
-            Problem::ReservedBytes(_) => f.write_str("reserved bytes"),
-            Problem::Unreadable(_) => f.write_str("unreadable"),
-            Problem::OtherHomeAddress(_) => f.write_str("other home address"),
-            Problem::Flagged(_) => f.write_str("flagged home address"),
-            Problem::NoRecord0 => f.write_str("no record 0"),
-            Problem::OverCapacity(_) => f.write_str("over capacity"),
-            Problem::SameIdentifier(_, _) => f.write_str("same identifier"),
-            Problem::OtherIdentifier(_, _) => f.write_str("other identifier"),
-            Problem::EndOfFile(_) => f.write_str("end of file"),
-            Problem::BytesBehindEnd(_) => f.write_str("bytes behind end"),
         }
     }
 }

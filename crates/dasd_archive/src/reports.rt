@@ -5,7 +5,7 @@ ghost use Rattle.std.specs.Io.KnownBytes.{Appends};
 ghost use Rattle.dasd_archive.specs.Findings.{finding_line, severity_of};
 ghost use Rattle.dasd_archive.specs.Reports.{one_more, tally_line, tally_of, Reports};
 
-use crate::findings::{Finding, Kind, Members, Severity};
+use crate::findings::{Finding, Members, Severity};
 use std::io;
 use std::io::Write;
 
@@ -85,13 +85,13 @@ fn write_finding<W: Write>(writer: &mut W, form: Form, finding: Finding) -> io::
     let severity = finding.problem.severity();
     let place = finding.place;
     let problem = finding.problem;
+    let kind = problem.kind();
     match form.style {
         Style::Text => writeln!(writer, "{severity} {place} {problem}"),
         Style::Json => writeln!(
             writer,
-            "{{\"path\":{path},\"severity\":\"{severity}\",{},\"kind\":\"{}\",\"text\":\"{problem}\"}}",
-            Members(place),
-            Kind(problem)
+            "{{\"path\":{path},\"severity\":\"{severity}\",{},\"kind\":\"{kind}\",\"text\":\"{problem}\"}}",
+            Members(place)
         ),
     }
 }

@@ -31,7 +31,7 @@ pub struct Chain {
 }
 
 // What stands at the address of a next block.
-#[derive(Clone, Copy, Debug, PartialEq, Eq)]
+#[derive(Clone, Copy)]
 enum Step {
     End,
     Fault(ChainFault),

@@ -10,7 +10,7 @@ use crate::findings::Finding;
 use crate::lines::{is_data_set, tracks_free, tracks_owned, tracks_used};
 use crate::reading::Contents;
 use crate::sets::{DataSet, data_set_of};
-use crate::words::{Day, Format, Kind, Organisation, Text, is_date};
+use crate::words::{Day, Format, Organisation, Text, is_date, kind_of};
 use ckd_track::Geometry;
 use dasd_volumes::VolumeFault;
 use data_sets::without_blanks;
@@ -310,13 +310,10 @@ fn write_problem<W: Write>(writer: &mut W, finding: &Finding) -> io::Result<()>
     ensures { OnOk result (Appends (W.contents writer.old) (W.contents writer.new) (finding_members finding.now)) }
 {
     let place = finding.place;
+    let kind = kind_of(&finding.problem);
     writeln!(
         writer,
-        ",\"cylinder\":{},\"head\":{},\"record\":{},\"kind\":\"{}\",\"text\":\"{}\"}}",
-        place.track.cylinder,
-        place.track.head,
-        place.number,
-        Kind(finding.problem),
-        finding.problem
+        ",\"cylinder\":{},\"head\":{},\"record\":{},\"kind\":\"{kind}\",\"text\":\"{}\"}}",
+        place.track.cylinder, place.track.head, place.number, finding.problem
     )
 }

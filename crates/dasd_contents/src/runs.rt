@@ -10,7 +10,7 @@ use ckd_track::Geometry;
 use volume_labels::{Extent, TrackAddress};
 
 /// Tracks that stand one behind another.
-#[derive(Clone, Copy, Debug, PartialEq, Eq)]
+#[derive(Clone, Copy)]
 pub(crate) struct Run {
     /// The number of the first on the volume.
     pub(crate) first: u32,

@@ -259,33 +259,26 @@ impl fmt::Display for ChainFault {
 }
 
 /// The kind of a problem, without what it is about.
-#[derive(Clone, Copy)]
-pub(crate) struct Kind(pub(crate) Problem);
-
-impl fmt::Display for Kind {
-    ghost output = { λ k. Some (kind_text k.0) };
-
-    fn fmt<W: fmt::Write>(&self, f: &mut fmt::Formatter<W>) -> fmt::Result {
-        match self.0 {
-            Problem::NoLabel => f.write_str("no volume label"),
-            Problem::NoContents(_) => f.write_str("no volume table of contents"),
-            Problem::BadContents(_) => f.write_str("bad extent of the volume table of contents"),
-            Problem::Unreadable(_) => f.write_str("unreadable"),
-            Problem::NoBlock => f.write_str("no control block"),
-            Problem::UnknownFormat(_) => f.write_str("unknown format"),
-            Problem::OtherKey => f.write_str("other key"),
-            Problem::Chain(ChainFault::Missing(_)) => f.write_str("next block missing"),
-            Problem::Chain(ChainFault::OtherFormat(_)) => f.write_str(
-                "next block of another format",
-            ),
-            Problem::Chain(ChainFault::Endless(_)) => f.write_str("endless chain"),
-            Problem::OtherNumber(_, _) => f.write_str("other number of extents"),
-            Problem::BadExtent(_) => f.write_str("bad extent"),
-            Problem::ExtentOutside(_) => f.write_str("extent outside"),
-            Problem::Overlap(_, _) => f.write_str("overlap"),
-            Problem::FreeOutside(_) => f.write_str("free tracks outside"),
-            Problem::FreeInUse(_, _) => f.write_str("free tracks in use"),
-        }
+pub(crate) fn kind_of(problem: &Problem) -> &'static str
+    ensures { result.now ≡ kind_text problem.now }
+{
+    match problem {
+        Problem::NoLabel => "no volume label",
+        Problem::NoContents(_) => "no volume table of contents",
+        Problem::BadContents(_) => "bad extent of the volume table of contents",
+        Problem::Unreadable(_) => "unreadable",
+        Problem::NoBlock => "no control block",
+        Problem::UnknownFormat(_) => "unknown format",
+        Problem::OtherKey => "other key",
+        Problem::Chain(ChainFault::Missing(_)) => "next block missing",
+        Problem::Chain(ChainFault::OtherFormat(_)) => "next block of another format",
+        Problem::Chain(ChainFault::Endless(_)) => "endless chain",
+        Problem::OtherNumber(_, _) => "other number of extents",
+        Problem::BadExtent(_) => "bad extent",
+        Problem::ExtentOutside(_) => "extent outside",
+        Problem::Overlap(_, _) => "overlap",
+        Problem::FreeOutside(_) => "free tracks outside",
+        Problem::FreeInUse(_, _) => "free tracks in use",
     }
 }
 

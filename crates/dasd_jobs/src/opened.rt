@@ -88,10 +88,7 @@ pub fn open_volume<F: ImageFiles>(
     let mut parts = Vec::new(alloc);
     let mut heads = Vec::new(alloc);
     for path in paths {
-        let mut file = files.open(alloc, path).map_err(|fault| of_read(fault))?;
-        let head = read_head(&mut file)?;
-        push(&mut heads, head)?;
-        push(&mut parts, Part { file, tracks: 0 })?;
+        add_file(alloc, files, path, &mut parts, &mut heads)?;
     }
     match mounted(heads.as_slice()) {
         Ok(geometry) => Ok(volume_of(parts, heads.as_slice(), geometry)),
@@ -100,6 +97,25 @@ pub fn open_volume<F: ImageFiles>(
             Err(JobFault::Mount(fault))
         }
     }
+}
+
+// Opens one file more, and keeps it with its header.
+fn add_file<F: ImageFiles>(
+    alloc: Global,
+    files: &mut F,
+    path: &str,
+    parts: &mut Vec<Part<F::Opened>>,
+    heads: &mut Vec<Head>,
+) -> Result<(), JobFault>
+    ensures kept { F.written files.new ≡ F.written files.old }
+    ensures fault { IfErr result (λ e. e ≢ JobFault.Write) }
+{
+    let mut file = match files.open(alloc, path) {
+        Ok(file) => file,
+        Err(fault) => return Err(of_read(fault)),
+    };
+    push(heads, read_head(&mut file)?)?;
+    push(parts, Part { file, tracks: 0 })
 }
 
 // One more at the end of a list.

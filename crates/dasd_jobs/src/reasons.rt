@@ -44,7 +44,7 @@ impl Head {
 }
 
 /// Why a file is not one of those that it was named with.
-#[derive(Clone, Copy, Debug, PartialEq, Eq)]
+#[derive(Clone, Copy)]
 enum Reason {
     /// What a fault that lies in this file alone says.
     Fault(MountFault),
@@ -103,7 +103,7 @@ impl fmt::Display for Reason {
 }
 
 /// A file, and why it is not as it must be.
-#[derive(Clone, Copy, Debug)]
+#[derive(Clone, Copy)]
 struct Remark<'a> {
     path: &'a str,
     reason: Reason,

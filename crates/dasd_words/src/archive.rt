@@ -2,7 +2,7 @@
 
 use crate::commands::{NO_PATH, wrong};
 use crate::listings;
-use crate::options::{flag, json, word};
+use crate::options::{flag, json, with, word};
 use crate::requests::{DumpedPart, Numbers, Request, WordFault};
 use ckd_image::MOST_FILES;
 use clap::{ArgAction, ArgMatches, Command};
@@ -22,18 +22,18 @@ const ALL_NUMBERS: &str = "0-255";
 
 /// `dasd check`, with the words of a strict one.
 pub(crate) fn check_command<'a>(alloc: Global) -> Result<Command<'a>, AllocError> {
-    listings::command(
+    let check = listings::command(
         alloc,
         "check",
         "Prints the tracks of a volume that can't be read",
         "Example: dasd check --strict work.ckd",
-    )?
-    .arg(flag(
+    );
+    let strict = flag(
         alloc,
         "strict",
         "prints all that a reader of the drive would trip over, with severities",
-    ))?
-    .arg(json(alloc))
+    );
+    with(with(check, strict), json(alloc))
 }
 
 /// What `dasd check` is asked.
@@ -54,7 +54,7 @@ pub(crate) fn read_check<'a>(
 
 /// `dasd dump`.
 pub(crate) fn dump_command<'a>(alloc: Global) -> Result<Command<'a>, AllocError> {
-    Command::new(alloc, "dump")
+    let dump = Command::new(alloc, "dump")
         .about("Prints the bytes of tracks in hexadecimal and in EBCDIC")
         .after_help("Example: dasd dump work.ckd 0 0-2 1-255")
         .arg(
@@ -65,8 +65,8 @@ pub(crate) fn dump_command<'a>(alloc: Global) -> Result<Command<'a>, AllocError>
             )
             .action(ArgAction::Append)
             .num_args(3..),
-        )?
-        .arg(json(alloc))
+        );
+    with(dump, json(alloc))
 }
 
 /// What `dasd dump` is asked: its last three words are numbers, and all before them paths; or its last two.
@@ -132,21 +132,22 @@ pub(crate) fn read_paths<'a>(alloc: Global, words: &[&'a str]) -> Result<Vec<&'a
 
 /// `dasd compare`.
 pub(crate) fn compare_command<'a>(alloc: Global) -> Result<Command<'a>, AllocError> {
-    Command::new(alloc, "compare")
+    let compare = Command::new(alloc, "compare")
         .about("Prints what differs of two volumes, track by track")
         .after_help("Example: dasd compare monday.ckd tuesday.ckd")
         .arg(word(
             alloc,
             "A",
             "an image; several files of one are joined by +, as big_1.ckd+big_2.ckd",
-        ))?
-        .arg(word(alloc, "B", "the image that it is compared with"))?
-        .arg(flag(
-            alloc,
-            "tracks",
-            "prints how many tracks differ, and no more",
-        ))?
-        .arg(json(alloc))
+        ));
+    let other = word(alloc, "B", "the image that it is compared with");
+    let compare = with(compare, other);
+    let tracks = flag(
+        alloc,
+        "tracks",
+        "prints how many tracks differ, and no more",
+    );
+    with(with(compare, tracks), json(alloc))
 }
 
 /// What `dasd compare` is asked.

@@ -1,6 +1,6 @@
 //! The commands of `dasd`: each has a module of its own, for its options and for what they ask.
 
-use crate::options::flag;
+use crate::options::{flag, with};
 use crate::requests::{Asked, Request, WordFault};
 use crate::{archive, explain, extract, format, list, run, vtoc};
 use clap::error::ErrorKind;
@@ -15,21 +15,21 @@ fn dasd_command<'a>(alloc: Global) -> Result<Command<'a>, AllocError> {
         .version("1.1.0")
         .after_help("Example: dasd run 90=new:2311:1 < deck.txt")
         .subcommand_required(true);
-    let dasd = with(alloc, dasd, format::command(alloc))?;
-    let dasd = with(alloc, dasd, list::command(alloc))?;
-    let dasd = with(alloc, dasd, archive::check_command(alloc))?;
-    let dasd = with(alloc, dasd, archive::dump_command(alloc))?;
-    let dasd = with(alloc, dasd, archive::compare_command(alloc))?;
-    let dasd = with(alloc, dasd, vtoc::command(alloc))?;
-    let dasd = with(alloc, dasd, extract::command(alloc))?;
-    let dasd = with(alloc, dasd, explain::command(alloc))?;
-    with(alloc, dasd, run::command(alloc))
+    let dasd = with_command(alloc, Ok(dasd), format::command(alloc));
+    let dasd = with_command(alloc, dasd, list::command(alloc));
+    let dasd = with_command(alloc, dasd, archive::check_command(alloc));
+    let dasd = with_command(alloc, dasd, archive::dump_command(alloc));
+    let dasd = with_command(alloc, dasd, archive::compare_command(alloc));
+    let dasd = with_command(alloc, dasd, vtoc::command(alloc));
+    let dasd = with_command(alloc, dasd, extract::command(alloc));
+    let dasd = with_command(alloc, dasd, explain::command(alloc));
+    with_command(alloc, dasd, run::command(alloc))
 }
 
-// The program with one command more, which may be asked to tell more.
-fn with<'a>(
+// The program with one command more, which may be asked to tell more, where there was memory for those before it.
+fn with_command<'a>(
     alloc: Global,
-    dasd: Command<'a>,
+    dasd: Result<Command<'a>, AllocError>,
     command: Result<Command<'a>, AllocError>,
 ) -> Result<Command<'a>, AllocError> {
     let verbose = flag(
@@ -37,7 +37,7 @@ fn with<'a>(
         "verbose",
         "tells more of a fault, also where standard error is no terminal",
     );
-    dasd.subcommand(command?.arg(verbose)?)
+    dasd?.subcommand(with(command, verbose)?)
 }
 
 /// Reads the words of `dasd`, the first of which is the program's name.
@@ -47,13 +47,25 @@ fn with<'a>(
 /// Wrong words, with the text that says so; a request for help or for the version, with that; a word of a volume that has
 /// another form; or no memory.
 pub fn read_words<'a>(alloc: Global, words: &'a [&'a str]) -> Result<Asked<'a>, WordFault> {
-    let Ok(command) = dasd_command(alloc) else {
-        return Err(WordFault::OutOfMemory);
-    };
-    let matches = match command.try_get_matches_from(words) {
-        Ok(matches) => matches,
-        Err(error) => return Err(told(alloc, &error)),
-    };
+    let matches = match_words(alloc, words)?;
+    read_matches(alloc, &matches)
+}
+
+const NO_COMMAND: &str = "error: no command\n";
+
+// The words as the options of `dasd` and of its commands.
+fn match_words<'a>(alloc: Global, words: &'a [&'a str]) -> Result<ArgMatches<'a>, WordFault> {
+    match dasd_command(alloc) {
+        Ok(dasd) => match dasd.try_get_matches_from(words) {
+            Ok(matches) => Ok(matches),
+            Err(error) => Err(told(alloc, &error)),
+        },
+        Err(_) => Err(WordFault::OutOfMemory),
+    }
+}
+
+// What the command among them is asked, and how.
+fn read_matches<'a>(alloc: Global, matches: &ArgMatches<'a>) -> Result<Asked<'a>, WordFault> {
     let Some((name, options)) = matches.subcommand() else {
         return Err(wrong(alloc, NO_COMMAND));
     };
@@ -62,8 +74,6 @@ pub fn read_words<'a>(alloc: Global, words: &'a [&'a str]) -> Result<Asked<'a>, 
         is_verbose: options.get_flag("verbose"),
     })
 }
-
-const NO_COMMAND: &str = "error: no command\n";
 
 // What the command of this name is asked.
 fn read_request<'a>(

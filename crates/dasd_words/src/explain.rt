@@ -1,7 +1,7 @@
 //! The words of `dasd explain`: numbers that somebody has noted, in hexadecimal digits.
 
 use crate::commands::wrong;
-use crate::options::{word, words};
+use crate::options::{with, word, words};
 use crate::requests::{Noted, Request, WordFault};
 use arrayvec::ArrayVec;
 use clap::{ArgMatches, Command};
@@ -29,17 +29,18 @@ const MOST_BYTES: usize = 8;
 
 /// The command, with its words.
 pub(crate) fn command<'a>(alloc: Global) -> Result<Command<'a>, AllocError> {
-    Command::new(alloc, "explain")
+    let explain = Command::new(alloc, "explain")
         .about("Says in words what status, sense bytes and command words mean")
         .after_help(NUMBER_TABLE)
         .arg(word(alloc, "NUMBER", "what the digits are").value_parser([
             "csw", "sense", "ccw",
-        ].as_slice()))?
-        .arg(words(
-            alloc,
-            "DIGITS",
-            "hexadecimal digits, in one word or in several",
-        ))
+        ].as_slice()));
+    let digits = words(
+        alloc,
+        "DIGITS",
+        "hexadecimal digits, in one word or in several",
+    );
+    with(explain, digits)
 }
 
 /// What it is asked to say.

@@ -2,7 +2,7 @@
 
 use crate::archive::read_paths;
 use crate::commands::{NO_PATH, wrong};
-use crate::options::{flag, json, option, words};
+use crate::options::{flag, json, option, with, words};
 use crate::requests::{ExtractedSet, ExtractedVolume, Request, SetName, WordFault};
 use clap::{Arg, ArgMatches, Command};
 use std::alloc::{AllocError, Global};
@@ -17,27 +17,36 @@ const ALL_JSON: &str = "error: --json goes with --all\n";
 
 /// The command, with its words.
 pub(crate) fn command<'a>(alloc: Global) -> Result<Command<'a>, AllocError> {
-    Command::new(alloc, "extract")
+    let to = to(alloc)?;
+    let extract = Command::new(alloc, "extract")
         .about("Takes data sets and members of partitioned ones out of a volume")
         .after_help("Example: dasd extract pack.ckd 'SYS1.MACLIB(OPEN)' --text --to open.txt")
         .arg(words(
             alloc,
             WORDS,
             "the files of an image, and a data set, as PAYROLL or SYS1.MACLIB(OPEN); with --all no name",
-        ))?
-        .arg(to(alloc)?)?
-        .arg(option(
-            alloc,
-            "all",
-            "DIR",
-            "takes out all data sets and members, each into a new file of this folder",
-        ))?
-        .arg(flag(
-            alloc,
-            "text",
-            "writes records as lines of text, from EBCDIC; without it, blocks as they stand",
-        ))?
-        .arg(json(alloc))
+        ));
+    let extract = with(extract, to);
+    let extract = with(extract, all(alloc));
+    let extract = with(extract, text(alloc));
+    with(extract, json(alloc))
+}
+
+fn all<'a>(alloc: Global) -> Arg<'a> {
+    option(
+        alloc,
+        "all",
+        "DIR",
+        "takes out all data sets and members, each into a new file of this folder",
+    )
+}
+
+fn text<'a>(alloc: Global) -> Arg<'a> {
+    flag(
+        alloc,
+        "text",
+        "writes records as lines of text, from EBCDIC; without it, blocks as they stand",
+    )
 }
 
 fn to<'a>(alloc: Global) -> Result<Arg<'a>, AllocError> {

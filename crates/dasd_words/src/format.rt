@@ -1,7 +1,7 @@
 //! The words of `dasd format`.
 
 use crate::commands::{NO_PATH, wrong};
-use crate::options::{flag, option, word};
+use crate::options::{flag, option, with, word};
 use crate::requests::{Request, WordFault};
 use crate::volumes::read_model;
 use ckd_track::DriveModel;
@@ -13,17 +13,20 @@ const CYLINDERS: u16 = 203;
 
 /// The command, with its options.
 pub(crate) fn command<'a>(alloc: Global) -> Result<Command<'a>, AllocError> {
-    Command::new(alloc, "format")
+    let format = Command::new(alloc, "format")
         .about("Writes a new image")
         .after_help("Example: dasd format work.ckd --model 2314 --cylinders 10")
         .arg(word(
             alloc,
             "PATH",
             "the image file, which is made, or replaced if it is there",
-        ))?
-        .arg(model(alloc))?
-        .arg(cylinders(alloc))?
-        .arg(flag(alloc, "no-replace", "refuses to replace a file"))
+        ));
+    let format = with(format, model(alloc));
+    let format = with(format, cylinders(alloc));
+    with(
+        format,
+        flag(alloc, "no-replace", "refuses to replace a file"),
+    )
 }
 
 fn model<'a>(alloc: Global) -> Arg<'a> {

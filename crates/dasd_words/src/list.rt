@@ -3,7 +3,7 @@
 use crate::archive::read_numbers;
 use crate::commands::wrong;
 use crate::listings;
-use crate::options::{flag, json, option};
+use crate::options::{flag, json, option, with};
 use crate::requests::{ListedPart, Numbers, Request, WordFault};
 use clap::{ArgMatches, Command};
 use std::alloc::{AllocError, Global};
@@ -12,24 +12,25 @@ const NO_CYLINDERS: &str = "error: --cylinder wants a number or a range, as 3 or
 
 /// The command, with its words.
 pub(crate) fn command<'a>(alloc: Global) -> Result<Command<'a>, AllocError> {
-    listings::command(
+    let list = listings::command(
         alloc,
         "list",
         "Prints a volume with its tracks and records",
         "Example: dasd list work.ckd",
-    )?
-    .arg(option(
+    );
+    let cylinder = option(
         alloc,
         "cylinder",
         "A-B",
         "lists the cylinders from A to B, or one that is a number alone",
-    ))?
-    .arg(flag(
+    );
+    let used = flag(
         alloc,
         "used",
         "lists only tracks that have more than one record or can't be read",
-    ))?
-    .arg(json(alloc))
+    );
+    let list = with(list, cylinder);
+    with(with(list, used), json(alloc))
 }
 
 /// What it is asked.

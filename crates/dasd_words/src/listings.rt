@@ -26,7 +26,7 @@ pub(crate) fn command<'a>(
                 "the image file, or the files of one image in their order",
             )
             .action(ArgAction::Append)
-            .num_args(1..=8),
+            .num_args(1..=MOST_FILES),
         )
 }
 

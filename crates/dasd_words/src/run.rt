@@ -1,7 +1,7 @@
 //! The words of `dasd run`.
 
 use crate::decks::DECK_TABLE;
-use crate::options::{flag, option, words};
+use crate::options::{flag, option, with, words};
 use crate::requests::{DeckRun, Request, TraceTarget, WordFault};
 use crate::volumes::{Volume, add_volume, read_volume};
 use clap::{Arg, ArgMatches, Command};
@@ -14,28 +14,16 @@ const CHANNEL: u8 = 1;
 
 /// The command, with its options.
 pub(crate) fn command<'a>(alloc: Global) -> Result<Command<'a>, AllocError> {
-    Command::new(alloc, "run")
+    let trace_to = trace_to(alloc)?;
+    let run = Command::new(alloc, "run")
         .about("Runs a deck of channel instructions, and replaces the images that it changed")
         .after_help(DECK_TABLE)
-        .arg(storage(alloc))?
-        .arg(channel(alloc))?
-        .arg(option(
-            alloc,
-            "deck",
-            "FILE",
-            "the deck; standard input where there is none",
-        ))?
-        .arg(flag(
-            alloc,
-            "trace",
-            "tells on standard error what each channel command word does",
-        ))?
-        .arg(trace_to(alloc)?)?
-        .arg(words(
-            alloc,
-            "VOLUME",
-            "a drive: UU=PATH, or UU=new:M:N for a new volume in memory",
-        ))
+        .arg(storage(alloc));
+    let run = with(run, channel(alloc));
+    let run = with(run, deck(alloc));
+    let run = with(run, trace(alloc));
+    let run = with(run, trace_to);
+    with(run, volumes(alloc))
 }
 
 fn storage<'a>(alloc: Global) -> Arg<'a> {
@@ -48,6 +36,31 @@ fn channel<'a>(alloc: Global) -> Arg<'a> {
     option(alloc, "channel", "N", "the number of the channel")
         .default_value("1")
         .value_parser(clap::value_parser!(u8))
+}
+
+fn deck<'a>(alloc: Global) -> Arg<'a> {
+    option(
+        alloc,
+        "deck",
+        "FILE",
+        "the deck; standard input where there is none",
+    )
+}
+
+fn trace<'a>(alloc: Global) -> Arg<'a> {
+    flag(
+        alloc,
+        "trace",
+        "tells on standard error what each channel command word does",
+    )
+}
+
+fn volumes<'a>(alloc: Global) -> Arg<'a> {
+    words(
+        alloc,
+        "VOLUME",
+        "a drive: UU=PATH, or UU=new:M:N for a new volume in memory",
+    )
 }
 
 fn trace_to<'a>(alloc: Global) -> Result<Arg<'a>, AllocError> {

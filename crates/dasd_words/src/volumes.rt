@@ -29,7 +29,7 @@ pub struct Volume<'a> {
 }
 
 /// What one word names.
-#[derive(Clone, Copy, Debug, PartialEq, Eq)]
+#[derive(Clone, Copy)]
 pub(crate) enum Named<'a> {
     Path(&'a str),
     New(DriveModel, u16),

@@ -1,7 +1,7 @@
 //! The words of `dasd vtoc`.
 
 use crate::listings;
-use crate::options::json;
+use crate::options::{json, with};
 use crate::requests::{Request, WordFault};
 use clap::{ArgMatches, Command};
 use std::alloc::{AllocError, Global};
@@ -13,8 +13,8 @@ pub(crate) fn command<'a>(alloc: Global) -> Result<Command<'a>, AllocError> {
         "vtoc",
         "Prints the label of a volume, its data sets, and what is wrong with them",
         "Example: dasd vtoc pack.ckd",
-    )?;
-    command.arg(json(alloc))
+    );
+    with(command, json(alloc))
 }
 
 /// What it is asked.

@@ -3,4 +3,4 @@ use Rattle.dasd_contents.proofs.objects.write_problem.Goals as goal
 
 pub returns : goal.returns
 unfolding finding_members
-returns g c = c.writeln.ensures.bytes
+returns g c = rw (c.kind_of-kind.ensures) at c.writeln.ensures.bytes
