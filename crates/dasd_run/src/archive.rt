@@ -21,7 +21,7 @@ use std::io::Write;
 const HEADER: usize = 512;
 
 /// Which lines a comparison prints.
-#[derive(Clone, Copy, Debug, PartialEq, Eq)]
+#[derive(Clone, Copy)]
 pub(crate) struct Lines {
     /// Whether each difference has one.
     pub(crate) lists: bool,

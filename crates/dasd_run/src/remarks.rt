@@ -6,7 +6,7 @@ use std::fmt;
 const SHOWN: usize = 32;
 
 /// What is said of a deck or of a run.
-#[derive(Clone, Copy, Debug)]
+#[derive(Clone, Copy)]
 pub(crate) enum Remark<'a> {
     /// A deck has more bytes than it may have.
     LongDeck,

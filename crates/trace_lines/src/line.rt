@@ -26,7 +26,7 @@ const SHOWN: usize = 6;
 pub(crate) type Text = ArrayString<160>;
 
 /// What is known of a word at work.
-#[derive(Clone, Copy, Debug)]
+#[derive(Clone, Copy)]
 pub(crate) struct Line {
     /// Where the word stands.
     pub(crate) at: u32,
@@ -45,7 +45,7 @@ pub(crate) struct Line {
 }
 
 /// What a command worked on, and what came of it.
-#[derive(Clone, Copy, Debug)]
+#[derive(Clone, Copy)]
 pub(crate) enum Found {
     /// Nothing that is known.
     Nothing,

@@ -8,7 +8,7 @@ use ckd_track::read_slot;
 use std::fmt;
 
 /// An area, with the eight count bytes of its record where they were seen.
-#[derive(Clone, Copy, Debug, PartialEq, Eq)]
+#[derive(Clone, Copy)]
 pub(crate) struct Met {
     /// The area.
     pub(crate) area: Area,
@@ -75,7 +75,7 @@ pub(crate) fn count_in(slot: &[u8], area: Area) -> Option<[u8; 8]> {
 }
 
 /// For what a credit gives leave.
-#[derive(Clone, Copy, Debug)]
+#[derive(Clone, Copy)]
 pub(crate) struct CreditNames(pub(crate) Credit);
 
 impl fmt::Display for CreditNames {

@@ -5,7 +5,7 @@ pub(crate) use s360_explain::{ChannelNames, SenseNames, UnitNames, code_name};
 use std::fmt;
 
 /// What a file mask does not allow.
-#[derive(Clone, Copy, Debug)]
+#[derive(Clone, Copy)]
 pub(crate) struct MaskNames(pub(crate) FileMask);
 
 impl fmt::Display for MaskNames {
