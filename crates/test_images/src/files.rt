@@ -4,7 +4,7 @@
 ghost use Rattle.std.specs.Prelude.{◌≡◌, ◌<◌, ◌^◌, ◌-◌, All, IsSome, IfOk};
 ghost use Rattle.ckd_track.specs.Geometry.{new_geometry};
 
-use crate::volumes::{are_all, must, new_file};
+use crate::volumes::{are_all, mounted, must, new_file, refused};
 use anyhow::{Context, Result, bail};
 use arrayvec::ArrayVec;
 use ckd_image::{FailingStore, Image, ImageStore, MemoryStore, MountFault, StoreFault};
@@ -60,14 +60,21 @@ fn fault_of_two(
     second: MemoryStore,
 ) -> Result<Option<MountFault>> {
     let before = [first.bytes().to_vec(alloc)?, second.bytes().to_vec(alloc)?];
-    let (fault, files) = match Image::mount_files(two_files(first, second)) {
-        Ok(image) => (None, image.into_stores()),
-        Err((fault, files)) => (Some(fault), files),
-    };
+    let (fault, files) = fault_of_files(two_files(first, second));
     if !hold(&files, before[0].as_slice(), before[1].as_slice()) {
         bail!("the files came back changed");
     }
     Ok(fault)
+}
+
+/// The fault of a mount of these files, if one is answered, and the files as they come back.
+fn fault_of_files(files: Files<MemoryStore>) -> (Option<MountFault>, Files<MemoryStore>)
+    requires { All IsSome files.items }
+{
+    match Image::mount_files(files) {
+        Ok(image) => (None, image.into_stores()),
+        Err((fault, files)) => (Some(fault), files),
+    }
 }
 
 /// Whether these are two files with these bytes.
@@ -78,60 +85,48 @@ fn hold(files: &Files<MemoryStore>, first: &[u8], second: &[u8]) -> bool {
     }
 }
 
-/// The fault of a mount of two parts, if one is answered.
-fn fault_of_parts(alloc: Global, first: Part, second: Part) -> Result<Option<MountFault>> {
+/// That a mount of two parts answers this fault, or none.
+fn parts_come_to(alloc: Global, first: Part, second: Part, want: Option<MountFault>) -> Result<()> {
     let first = first.file(alloc)?;
     let second = second.file(alloc)?;
-    fault_of_two(alloc, first, second)
+    must(fault_of_two(alloc, first, second)? == want)
 }
 
-/// The fault of a mount of one file, if one is answered.
-fn fault_of_one(store: MemoryStore) -> Option<MountFault> {
-    match Image::mount_files(one_file(store)) {
-        Ok(_) => None,
-        Err((fault, _)) => Some(fault),
-    }
+/// That a mount of one part answers this fault, or none.
+fn part_comes_to(alloc: Global, part: Part, want: Option<MountFault>) -> Result<()> {
+    let (fault, _) = fault_of_files(one_file(part.file(alloc)?));
+    must(fault == want)
 }
 
 pub(crate) fn lists_of_files(alloc: Global) -> Result<()> {
     must(file_a(alloc)?.len() == LENGTH_A as u64)?;
     must(file_b(alloc)?.len() == LENGTH_B as u64)?;
-    let pairs = [
-        (A, B, None),
-        (B, A, Some(MountFault::Split)),
-        (A, A, Some(MountFault::Split)),
-    ];
-    for (first, second, want) in pairs {
-        must(fault_of_parts(alloc, first, second)? == want)?;
-    }
-    let alone = [
-        (A, Some(MountFault::Split)),
-        (B, Some(MountFault::Split)),
-        (Part(512, LENGTH_A, 1, 0), None),
-    ];
-    for (part, want) in alone {
-        must(fault_of_one(part.file(alloc)?) == want)?;
-    }
-    match Image::<MemoryStore>::mount_files(ArrayVec::new()) {
-        Ok(_) => bail!("mounted"),
-        Err((fault, files)) => must(fault == MountFault::Split && files.is_empty()),
-    }
+    parts_come_to(alloc, A, B, None)?;
+    parts_come_to(alloc, B, A, Some(MountFault::Split))?;
+    parts_come_to(alloc, A, A, Some(MountFault::Split))?;
+    lists_of_one_file(alloc)?;
+    no_file_is_refused()
+}
+
+fn lists_of_one_file(alloc: Global) -> Result<()> {
+    part_comes_to(alloc, A, Some(MountFault::Split))?;
+    part_comes_to(alloc, B, Some(MountFault::Split))?;
+    part_comes_to(alloc, Part(512, LENGTH_A, 1, 0), None)
+}
+
+fn no_file_is_refused() -> Result<()> {
+    let (fault, files) = refused(Image::<MemoryStore>::mount_files(ArrayVec::new()))?;
+    must(fault == MountFault::Split && files.is_empty())
 }
 
 pub(crate) fn lengths_of_files(alloc: Global) -> Result<()> {
-    let pairs = [
-        (A, Part(LENGTH_A, LENGTH_A + LENGTH_B - 513, 2, 0)),
-        (Part(512, LENGTH_A, 1, 2), B),
-        // a cylinder of the second file stands in the first one: together they are as long as they must be
-        (
-            Part(512, LENGTH_A + 40_960, 1, 1),
-            Part(LENGTH_A, LENGTH_A, 2, 0),
-        ),
-    ];
-    for (first, second) in pairs {
-        must(fault_of_parts(alloc, first, second)? == Some(MountFault::Length))?;
-    }
-    Ok(())
+    let want = Some(MountFault::Length);
+    let shorter = Part(LENGTH_A, LENGTH_A + LENGTH_B - 513, 2, 0);
+    parts_come_to(alloc, A, shorter, want)?;
+    parts_come_to(alloc, Part(512, LENGTH_A, 1, 2), B, want)?;
+    // a cylinder of the second file stands in the first one: together they are as long as they must be
+    let longer = Part(512, LENGTH_A + 40_960, 1, 1);
+    parts_come_to(alloc, longer, Part(LENGTH_A, LENGTH_A, 2, 0), want)
 }
 
 /// A part with other bytes from a place on.
@@ -147,36 +142,45 @@ impl Changed<'_> {
     }
 }
 
-/// The fault of a mount of two parts with other bytes, if one is answered.
-fn fault_of_changed(alloc: Global, first: Changed, second: Changed) -> Result<Option<MountFault>> {
+/// That a mount of two parts with other bytes answers this fault.
+fn changed_come_to(alloc: Global, first: Changed, second: Changed, want: MountFault) -> Result<()> {
     let first = first.file(alloc)?;
     let second = second.file(alloc)?;
-    fault_of_two(alloc, first, second)
+    must(fault_of_two(alloc, first, second)? == Some(want))
+}
+
+/// That a mount of A and B answers this fault, where B has these bytes from a place on.
+fn b_comes_to(alloc: Global, at: u64, bytes: &[u8], want: MountFault) -> Result<()> {
+    changed_come_to(alloc, Changed(A, 0, &[]), Changed(B, at, bytes), want)
 }
 
 pub(crate) fn the_first_fault_is_told(alloc: Global) -> Result<()> {
-    // where the bytes stand in file B, and what a mount of A and B answers
-    let rows: [(u64, &[u8], MountFault); 8] = [
-        (0, b"CKD_C370", MountFault::Compressed),
-        (0, b"CKD_P371", MountFault::NotCkdP370),
-        (16, &[0x12], MountFault::DeviceType),
-        (8, &[20], MountFault::Heads),
-        (12, &[0, 0], MountFault::TrackSize),
-        // another track size than the first file's, and then the length
-        (12, &[1, 16], MountFault::Split),
-        (17, &[3], MountFault::Split),
-        (18, &[5], MountFault::Split),
-    ];
-    for (at, bytes, want) in rows {
-        let fault = fault_of_changed(alloc, Changed(A, 0, &[]), Changed(B, at, bytes))?;
-        must(fault == Some(want))?;
-    }
-    // a fault of the first file comes before one of the second, and one of a header before those of the list
+    b_comes_to(alloc, 0, b"CKD_C370", MountFault::Compressed)?;
+    b_comes_to(alloc, 0, b"CKD_P371", MountFault::NotCkdP370)?;
+    b_comes_to(alloc, 16, &[0x12], MountFault::DeviceType)?;
+    b_comes_to(alloc, 8, &[20], MountFault::Heads)?;
+    b_comes_to(alloc, 12, &[0, 0], MountFault::TrackSize)?;
+    other_lists_are_told(alloc)?;
+    the_first_file_comes_first(alloc)
+}
+
+fn other_lists_are_told(alloc: Global) -> Result<()> {
+    // another track size than the first file's, and then the length
+    b_comes_to(alloc, 12, &[1, 16], MountFault::Split)?;
+    b_comes_to(alloc, 17, &[3], MountFault::Split)?;
+    b_comes_to(alloc, 18, &[5], MountFault::Split)
+}
+
+/// That a fault of the first file comes before one of the second, and one of a header before those of the list.
+fn the_first_file_comes_first(alloc: Global) -> Result<()> {
     let compressed = Changed(B, 0, b"CKD_C370");
-    let fault = fault_of_changed(alloc, Changed(A, 8, &[11]), compressed)?;
-    must(fault == Some(MountFault::Heads))?;
-    let fault = fault_of_changed(alloc, compressed, Changed(A, 0, &[]))?;
-    must(fault == Some(MountFault::Compressed))
+    changed_come_to(alloc, Changed(A, 8, &[11]), compressed, MountFault::Heads)?;
+    changed_come_to(
+        alloc,
+        compressed,
+        Changed(A, 0, &[]),
+        MountFault::Compressed,
+    )
 }
 
 /// Files A and B, of which this call of the one or the other fails.
@@ -200,15 +204,16 @@ fn calls_of(files: &Files<FailingStore>) -> Option<(u64, u64)> {
 }
 
 pub(crate) fn the_read_of_a_header_fails(alloc: Global) -> Result<()> {
-    for (a, b, calls) in [(1, 0, (1, 0)), (0, 1, (1, 1))] {
-        match Image::mount_files(failing_files(alloc, a, b)?) {
-            Ok(_) => bail!("mounted"),
-            Err((fault, files)) => {
-                must(fault == MountFault::StoreFault && calls_of(&files) == Some(calls))?;
-            }
-        }
-    }
-    Ok(())
+    reads_fail(failing_files(alloc, 1, 0)?, (1, 0))?;
+    reads_fail(failing_files(alloc, 0, 1)?, (1, 1))
+}
+
+/// That the mount of two files fails behind so many calls of each.
+fn reads_fail(files: Files<FailingStore>, calls: (u64, u64)) -> Result<()>
+    requires { All IsSome files.items }
+{
+    let (fault, files) = refused(Image::mount_files(files))?;
+    must(fault == MountFault::StoreFault && calls_of(&files) == Some(calls))
 }
 
 /// The image in files A and B, of which a call fails.
@@ -217,10 +222,7 @@ fn failing_image(alloc: Global, a: u64, b: u64) -> Result<Image<FailingStore>>
     requires b { b < 1000 }
     ensures { IfOk result (λ i. i.geometry ≡ new_geometry DriveModel.D2311 3) }
 {
-    let image = match Image::mount_files(failing_files(alloc, a, b)?) {
-        Ok(image) => image,
-        Err((fault, _)) => bail!("{fault}"),
-    };
+    let image = mounted(Image::mount_files(failing_files(alloc, a, b)?))?;
     if image.geometry() != Geometry::new(DriveModel::D2311, 3) {
         bail!("another geometry");
     }

@@ -4,7 +4,7 @@ ghost use Rattle.std.specs.Prelude.{◌≡◌, ◌<◌, ◌^◌, ◌-◌, IfOk};
 ghost use Rattle.ckd_track.specs.Geometry.{new_geometry};
 
 use crate::volumes::{
-    ONE_CYLINDER, are_all, changed, first_difference, must, new_file, new_volume,
+    ONE_CYLINDER, are_all, changed, first_difference, mounted, must, new_file, new_volume, refused,
 };
 use anyhow::{Context, Result, bail};
 use ckd_image::{FailingStore, Image, ImageStore, MemoryStore, MountFault, StoreFault, image_len};
@@ -16,14 +16,19 @@ use test_rows::only_store;
 /// The fault of a mount, if one is answered. The store comes back with its bytes.
 fn mount_fault(alloc: Global, store: MemoryStore) -> Result<Option<MountFault>> {
     let before = store.bytes().to_vec(alloc)?;
-    let (fault, store) = match Image::mount(store) {
-        Ok(image) => (None, only_store(image.into_stores())?),
-        Err((fault, store)) => (Some(fault), store),
-    };
+    let (fault, store) = fault_and_store(store)?;
     if store.bytes() != before.as_slice() {
         bail!("the store came back changed");
     }
     Ok(fault)
+}
+
+/// The fault of a mount, if one is answered, and the store as it comes back.
+fn fault_and_store(store: MemoryStore) -> Result<(Option<MountFault>, MemoryStore)> {
+    match Image::mount(store) {
+        Ok(image) => Ok((None, only_store(image.into_stores())?)),
+        Err((fault, store)) => Ok((Some(fault), store)),
+    }
 }
 
 pub(crate) fn lengths() -> Result<()> {
@@ -87,35 +92,33 @@ pub(crate) fn formats_and_mounts(alloc: Global) -> Result<()> {
 /// Whether an image has this geometry, and its store is mounted with it again.
 fn is_mounted_again(image: Image<MemoryStore>, geometry: Geometry) -> Result<bool> {
     let is_formatted = image.geometry() == geometry;
-    match Image::mount(only_store(image.into_stores())?) {
-        Ok(image) => Ok(is_formatted && image.geometry() == geometry),
-        Err((fault, _)) => bail!("{fault}"),
-    }
+    let again = mounted(Image::mount(only_store(image.into_stores())?))?;
+    Ok(is_formatted && again.geometry() == geometry)
 }
 
 pub(crate) fn refuses_to_format(alloc: Global) -> Result<()> {
-    for (len, cylinders, want) in [
-        (ONE_CYLINDER, 0, MountFault::Length),
-        (0, 0, MountFault::Length),
-        (ONE_CYLINDER + 1, 1, MountFault::Length),
-        (ONE_CYLINDER - 1, 1, MountFault::StoreFault),
-        (0, 1, MountFault::StoreFault),
-    ] {
-        let store = MemoryStore::new(alloc, &vec![in alloc; 0xAAu8; len]?)?;
-        match Image::format(store, DriveModel::D2311, cylinders) {
-            Ok(_) => bail!("formatted"),
-            Err((fault, store)) => {
-                let kept = are_all(Some(store.bytes()), len, 0xAA);
-                let must_be_kept = want == MountFault::Length || len == 0;
-                must(fault == want && store.bytes().len() == len && kept == must_be_kept)?;
-            }
-        }
-    }
-    Ok(())
+    format_comes_to(alloc, ONE_CYLINDER, 0, MountFault::Length)?;
+    format_comes_to(alloc, 0, 0, MountFault::Length)?;
+    format_comes_to(alloc, ONE_CYLINDER + 1, 1, MountFault::Length)?;
+    format_comes_to(alloc, ONE_CYLINDER - 1, 1, MountFault::StoreFault)?;
+    format_comes_to(alloc, 0, 1, MountFault::StoreFault)
 }
 
-// What is put into a new file of a 2311, from which byte on, and the fault of its mount.
-const MOUNTS: [(u64, &[u8], Option<MountFault>); 18] = [
+/// That a format of so many bytes for so many cylinders of a 2311 answers this fault, and leaves bytes as it must.
+fn format_comes_to(alloc: Global, len: usize, cylinders: u16, want: MountFault) -> Result<()> {
+    let old = vec![in alloc; 0xAAu8; len]?;
+    let store = MemoryStore::new(alloc, old.as_slice())?;
+    let (fault, store) = refused(Image::format(store, DriveModel::D2311, cylinders))?;
+    let kept = are_all(Some(store.bytes()), len, 0xAA);
+    let must_be_kept = want == MountFault::Length || len == 0;
+    must(fault == want && store.bytes().len() == len && kept == must_be_kept)
+}
+
+/// What is put into a new file of a 2311, from which byte on, and the fault of its mount.
+type MountRow = (u64, &'static [u8], Option<MountFault>);
+
+/// Those of one field.
+const FIELDS: [MountRow; 7] = [
     (0, b"CKD_P370", None),
     (0, b"CKD_C370", Some(MountFault::Compressed)),
     (0, b"CKD_S370", Some(MountFault::Compressed)),
@@ -123,6 +126,10 @@ const MOUNTS: [(u64, &[u8], Option<MountFault>); 18] = [
     (16, &[0x12], Some(MountFault::DeviceType)),
     (8, &[11], Some(MountFault::Heads)),
     (8, &[20], Some(MountFault::Heads)),
+];
+
+/// Those of sizes and of files of several.
+const SIZES: [MountRow; 7] = [
     // 3,661 and 65,537 bytes
     (12, &[0x4D, 0x0E], Some(MountFault::TrackSize)),
     (12, &[0x01, 0x00, 0x01], Some(MountFault::TrackSize)),
@@ -132,7 +139,10 @@ const MOUNTS: [(u64, &[u8], Option<MountFault>); 18] = [
     (18, &[0, 1], Some(MountFault::Split)),
     // 4,097 bytes
     (12, &[0x01, 0x10], Some(MountFault::Length)),
-    // the first fault is reported: id, device type, heads, track size, file sequence
+];
+
+/// Those of several faults, of which the first is reported: id, device type, heads, track size, file sequence.
+const FIRST_FAULTS: [MountRow; 4] = [
     (
         0,
         b"CKD_P371\x0B\0\0\0\x4D\x0E\0\0\x12\x02",
@@ -152,9 +162,16 @@ const MOUNTS: [(u64, &[u8], Option<MountFault>); 18] = [
 ];
 
 pub(crate) fn refuses_to_mount(alloc: Global) -> Result<()> {
-    for (at, bytes, want) in MOUNTS {
-        let store = changed(alloc, at, bytes)?;
-        must(mount_fault(alloc, store)? == want)?;
+    mounts_come_to(alloc, &FIELDS)?;
+    mounts_come_to(alloc, &SIZES)?;
+    mounts_come_to(alloc, &FIRST_FAULTS)
+}
+
+/// That mounts answer what these rows say.
+fn mounts_come_to(alloc: Global, rows: &[MountRow]) -> Result<()> {
+    for (at, bytes, want) in rows {
+        let store = changed(alloc, *at, bytes)?;
+        must(mount_fault(alloc, store)? == *want)?;
     }
     Ok(())
 }
@@ -206,12 +223,8 @@ pub(crate) fn no_prefix_is_mounted(alloc: Global) -> Result<()> {
             bytes: &whole.bytes()[..len],
             refused: Count::new(),
         };
-        match Image::mount(prefix) {
-            Ok(_) => bail!("{len}"),
-            Err((fault, store)) => {
-                must(fault == MountFault::Length && store.bytes.len() == len)?;
-            }
-        }
+        let (fault, store) = refused(Image::mount(prefix))?;
+        must(fault == MountFault::Length && store.bytes.len() == len)?;
     }
     Ok(())
 }
@@ -244,10 +257,7 @@ fn fault_with_byte(
     }
     store.read_at(at, &mut before)?;
     store.write_at(at, &[byte])?;
-    let (fault, store) = match Image::mount(store) {
-        Ok(image) => (None, only_store(image.into_stores())?),
-        Err((fault, store)) => (Some(fault), store),
-    };
+    let (fault, store) = fault_and_store(store)?;
     Ok((fault, with_byte(store, at, before)?))
 }
 
@@ -329,11 +339,10 @@ fn written_before(at: u64) -> usize {
 fn failed_format(alloc: Global, old: &[u8], at: u64, for_good: bool) -> Result<FailingStore>
     requires { at < 1000 }
 {
-    match Image::format(failing(alloc, old, at, for_good)?, DriveModel::D2311, 1) {
-        Ok(_) => bail!("formatted"),
-        Err((MountFault::StoreFault, store)) => Ok(store),
-        Err((fault, _)) => bail!("{fault}"),
-    }
+    let format = Image::format(failing(alloc, old, at, for_good)?, DriveModel::D2311, 1);
+    let (fault, store) = refused(format)?;
+    must(fault == MountFault::StoreFault)?;
+    Ok(store)
 }
 
 pub(crate) fn each_write_of_a_format_fails(alloc: Global) -> Result<()> {
@@ -366,13 +375,9 @@ fn writes_a_front(alloc: Global, old: &[u8], new: &[u8], at: u64, for_good: bool
 
 /// Whether a format whose eleven writes do not fail writes all.
 fn writes_all(alloc: Global, old: &[u8], new: &[u8]) -> Result<bool> {
-    match Image::format(failing(alloc, old, 12, true)?, DriveModel::D2311, 1) {
-        Ok(image) => {
-            let store = only_store(image.into_stores())?;
-            Ok(store.calls() == 11 && store.into_inner().bytes() == new)
-        }
-        Err((fault, _)) => bail!("{fault}"),
-    }
+    let format = Image::format(failing(alloc, old, 12, true)?, DriveModel::D2311, 1);
+    let store = only_store(mounted(format)?.into_stores())?;
+    Ok(store.calls() == 11 && store.into_inner().bytes() == new)
 }
 
 pub(crate) fn the_read_of_a_mount_fails(alloc: Global) -> Result<()> {
@@ -387,14 +392,10 @@ pub(crate) fn the_read_of_a_mount_fails(alloc: Global) -> Result<()> {
 
 /// The fault of a mount of these bytes of which the first read fails, and how often they were read. They come back as they were.
 fn first_read_fails(alloc: Global, bytes: &[u8], for_good: bool) -> Result<(MountFault, u64)> {
-    match Image::mount(failing(alloc, bytes, 1, for_good)?) {
-        Ok(_) => bail!("mounted"),
-        Err((fault, store)) => {
-            let calls = store.calls();
-            must(store.into_inner().bytes() == bytes)?;
-            Ok((fault, calls))
-        }
-    }
+    let (fault, store) = refused(Image::mount(failing(alloc, bytes, 1, for_good)?))?;
+    let calls = store.calls();
+    must(store.into_inner().bytes() == bytes)?;
+    Ok((fault, calls))
 }
 
 /// An image of one cylinder of a 2311, of which call `at` of the store fails after the mount.
@@ -403,10 +404,7 @@ fn failing_image(alloc: Global, at: u64, for_good: bool) -> Result<Image<Failing
     ensures { IfOk result (λ i. i.geometry ≡ new_geometry DriveModel.D2311 1) }
 {
     let new = new_file(alloc, DriveModel::D2311, 1)?;
-    let image = match Image::mount(failing(alloc, new.bytes(), at + 1, for_good)?) {
-        Ok(image) => image,
-        Err((fault, _)) => bail!("{fault}"),
-    };
+    let image = mounted(Image::mount(failing(alloc, new.bytes(), at + 1, for_good)?))?;
     if image.geometry() != Geometry::new(DriveModel::D2311, 1) {
         bail!("another geometry");
     }
@@ -512,18 +510,18 @@ pub(crate) fn memory(alloc: Global) -> Result<()> {
 }
 
 pub(crate) fn texts(alloc: Global) -> Result<()> {
-    for (fault, want) in [
-        (MountFault::NotCkdP370, "not a CKD_P370 image"),
-        (MountFault::Compressed, "compressed image"),
-        (MountFault::DeviceType, "unknown device type"),
-        (MountFault::Heads, "wrong number of heads"),
-        (MountFault::TrackSize, "wrong track size"),
-        (MountFault::Split, "image in several files"),
-        (MountFault::Length, "wrong length"),
-        (MountFault::StoreFault, "store fault"),
-    ] {
-        must(format!(in alloc; "{fault}")?.as_str() == want)?;
-    }
-    must(format!(in alloc; "{StoreFault}")?.as_str() == "store fault")?;
-    Ok(())
+    is_told_as(alloc, MountFault::NotCkdP370, "not a CKD_P370 image")?;
+    is_told_as(alloc, MountFault::Compressed, "compressed image")?;
+    is_told_as(alloc, MountFault::DeviceType, "unknown device type")?;
+    is_told_as(alloc, MountFault::Heads, "wrong number of heads")?;
+    is_told_as(alloc, MountFault::TrackSize, "wrong track size")?;
+    is_told_as(alloc, MountFault::Split, "image in several files")?;
+    is_told_as(alloc, MountFault::Length, "wrong length")?;
+    is_told_as(alloc, MountFault::StoreFault, "store fault")?;
+    must(format!(in alloc; "{StoreFault}")?.as_str() == "store fault")
+}
+
+/// That this is the text of a fault.
+fn is_told_as(alloc: Global, fault: MountFault, want: &str) -> Result<()> {
+    must(format!(in alloc; "{fault}")?.as_str() == want)
 }

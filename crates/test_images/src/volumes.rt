@@ -4,7 +4,7 @@ ghost use Rattle.std.specs.Prelude.{◌≡◌, IfOk};
 ghost use Rattle.ckd_track.specs.Geometry.{new_geometry};
 
 use anyhow::{Result, bail};
-use ckd_image::{Image, ImageStore, MemoryStore, image_len};
+use ckd_image::{Image, ImageStore, MemoryStore, MountFault, image_len};
 use ckd_track::{DriveModel, Geometry};
 use std::alloc::Global;
 use test_rows::only_store;
@@ -21,14 +21,31 @@ pub(crate) fn new_volume(
     ensures { IfOk result (λ i. i.geometry ≡ new_geometry model cylinders) }
 {
     let store = MemoryStore::zeros(alloc, image_len(model, cylinders))?;
-    let image = match Image::format(store, model, cylinders) {
-        Ok(image) => image,
-        Err((fault, _)) => bail!("{fault}"),
-    };
+    let image = mounted(Image::format(store, model, cylinders))?;
     if image.geometry() != Geometry::new(model, cylinders) {
         bail!("another geometry");
     }
     Ok(image)
+}
+
+/// The image that a mount or a format answers.
+pub(crate) fn mounted<S: ImageStore, R: Drop>(
+    answer: std::result::Result<Image<S>, (MountFault, R)>,
+) -> Result<Image<S>> {
+    match answer {
+        Ok(image) => Ok(image),
+        Err((fault, _)) => bail!("{fault}"),
+    }
+}
+
+/// The fault of a mount or a format that is refused, and what it hands back.
+pub(crate) fn refused<S: ImageStore, R: Drop>(
+    answer: std::result::Result<Image<S>, (MountFault, R)>,
+) -> Result<(MountFault, R)> {
+    match answer {
+        Ok(_) => bail!("mounted"),
+        Err(refused) => Ok(refused),
+    }
 }
 
 /// The file of a new volume.
