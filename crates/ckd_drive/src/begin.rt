@@ -8,6 +8,7 @@ ghost use Rattle.ckd_drive.specs.Jobs.{half_done, parts_held, BeginsBy, Starts};
 ghost use Rattle.ckd_drive.specs.Calls.{Leaves, Loses, begun_at};
 ghost use Rattle.ckd_sense.specs.declared.sense_bytes.TheConstants.Sense.{STORE_FAULT};
 ghost use Rattle.ckd_command.specs.Answers.{moved_to};
+ghost use Rattle.ckd_slot.specs.Cache.{after_save};
 
 use crate::answers::{Begun, Stage};
 use crate::job::Job;
@@ -15,8 +16,8 @@ use ckd_command::{Mark, Opened, Registers, Start, add_cause, begin_command, move
 use ckd_image::{ImageStore, StoreFault};
 use ckd_sense::Sense;
 
-/// A track is lost whose saving failed.
-pub(crate) fn lose(registers: &mut Registers)
+// A track is lost whose saving failed.
+fn lose(registers: &mut Registers)
     ensures { registers.new ≡ with_cause (record registers.old { credit = None }) STORE_FAULT }
 {
     registers.credit = None;
@@ -35,6 +36,21 @@ pub(crate) fn begun(stage: Stage) -> Begun
 }
 
 impl<S: ImageStore> Job<S> {
+    /// Saves the track if it was written. Where that fails, the track is lost.
+    #[inline(always)]
+    pub(crate) fn save(&mut self, mark: &mut Mark) -> Result<(), StoreFault>
+        ensures saves { OnOk result (self.new ≡ record self.old { cache = after_save self.old.cache }) }
+        ensures stays { OnOk result (mark.new ≡ mark.old) }
+        ensures loses { OnErr result (Loses (half_done self.old) (half_done self.new) mark.new) }
+    {
+        if let Err(fault) = self.cache.save() {
+            lose(&mut self.registers);
+            *mark = Mark::Lost;
+            return Err(fault);
+        }
+        Ok(())
+    }
+
     /// Leaves the track for another, which stands at its index; it is saved first if it was written. Where the saving
     /// fails, the track is lost and the arm stays.
     // By itself, since few commands leave the track.
@@ -49,11 +65,7 @@ impl<S: ImageStore> Job<S> {
             (moved_to self.old.registers cylinder head)) }
         ensures loses { OnErr result (Loses (half_done self.old) (half_done self.new) mark.new) }
     {
-        if let Err(fault) = self.cache.save() {
-            lose(&mut self.registers);
-            *mark = Mark::Lost;
-            return Err(fault);
-        }
+        self.save(mark)?;
         move_to(&mut self.registers, cylinder, head);
         *mark = Mark::Saved;
         Ok(())

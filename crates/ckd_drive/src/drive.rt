@@ -314,17 +314,9 @@ impl<S: ImageStore> Drive<S> {
             ≡ Some (self.old.state.registers.cylinder, self.old.state.registers.head)) self.old self.new }
     {
         self.stage = Stage::Idle;
-        match self.job.cache.save() {
-            Ok(()) => {
-                self.mark = close::settled_mark(self.mark);
-                Ok(())
-            }
-            Err(fault) => {
-                begin::lose(&mut self.job.registers);
-                self.mark = Mark::Lost;
-                Err(fault)
-            }
-        }
+        self.job.save(&mut self.mark)?;
+        self.mark = close::settled_mark(self.mark);
+        Ok(())
     }
 
     /// Begins a channel program: the track stands at its index, the file mask is 00 and none was set, and there is no

@@ -1,13 +1,15 @@
-use Rattle.std.proofs.Common.{◌≡◌, ◌∙◌, ap, refl, ◌<◌, [], false, None, length, arith, slice_index_or, unwrap_or, rules}
+use Rattle.std.proofs.Common.{◌≡◌, ◌∙◌, ap, refl, ◌<◌, [], false, None, length, arith, rules}
+use Rattle.ckd_command.specs.declared.registers.Mark.{Mark}
 use Rattle.ckd_command.specs.declared.registers.Mark.TheVariants.{Lost}
 use Rattle.ckd_drive.specs.declared.transfer.Transfer.{Transfer}
 use Rattle.ckd_drive.specs.declared.transfer.Transfer.TheVariants.{Filled}
 use Rattle.ckd_drive.specs.declared.answers.Stage.{Stage}
 use Rattle.ckd_drive.specs.declared.answers.Stage.TheVariants.{Idle, Passing}
-use Rattle.ckd_slot.specs.Cache.{CacheState, after_save, after_failed_save}
+use Rattle.ckd_slot.specs.Cache.{after_save, after_failed_save}
 use Rattle.ckd_drive.specs.Work.{DriveState, passed_of, fault_met, with_image, after_settle, settled_mark, CallsStore}
 use Rattle.ckd_drive.specs.Invariant.{Stands, StageIs, IsPlaced, state_of, work_of, seen, is_filled, is_filled_by, HalfDone, Parts, parts_of, own_track, at_work, AtWork}
 use Rattle.ckd_drive.specs.Calls.{Loses}
+use Rattle.ckd_drive.specs.Jobs.{half_done}
 use Rattle.ckd_drive.proofs.Calls.{fault_none, lost_registers, save_lost, changed_is, calls_of_save, calls_of_failed_save}
 use Rattle.ckd_drive.proofs.Standing.{failures_saved, geometry_saved, no_filled_seen, parts_in}
 use Rattle.ckd_command.specs.Drive.{is_written}
@@ -35,9 +37,9 @@ record Settled (now : DriveState) (after : Parts) : Type 0 where
   pub state : state_of after ≡ with_image (after_settle (fault_met now (state_of after)) now) after.job.cache.image
   pub calls : CallsStore false (is_written now.state) now (state_of after)
 
-settled : (d : Parts) (c : CacheState) (now : DriveState) → Stands d → state_of d ≡ now → passed_of now.work ≡ [] → c ≡ after_save d.job.cache
-    → Settled now (parts_of (record d.job { cache = c }) (settled_mark d.mark) Idle)
-settled d c now x is e save =
+settled : (d : Parts) (came : HalfDone) (now : DriveState) → Stands d → state_of d ≡ now → passed_of now.work ≡ [] → came ≡ record d.job { cache = after_save d.job.cache }
+    → Settled now (parts_of came (settled_mark d.mark) Idle)
+settled d came now x is e save =
     let unwritten = unfilled d now x is e in
     let after = state_of (parts_of (record d.job { cache = after_save d.job.cache }) (settled_mark d.mark) Idle) in
     let none : fault_met (state_of d) after ≡ None = fault_none (state_of d) after (failures_saved d.job.cache) in
@@ -46,28 +48,24 @@ settled d c now x is e save =
       calls = calls_of_save _ _ d.job.cache (state_of d) after refl refl (changed_is d x unwritten);
     })
 
-unsettled : (d : Parts) (came : HalfDone) (now : DriveState) → Stands d → state_of d ≡ now → passed_of now.work ≡ [] → Loses d.job came Lost → Settled now (parts_of came Lost Idle)
-unsettled d came now x is e l =
+unsettled : (d : Parts) (came : HalfDone) (m : Mark) (now : DriveState) → Stands d → state_of d ≡ now → passed_of now.work ≡ [] → Loses d.job came m → Settled now (parts_of came m Idle)
+unsettled d came m now x is e l =
     let unwritten = unfilled d now x is e in
     let after = state_of (parts_of (record d.job { cache = after_failed_save d.job.cache l.left; registers = lost_registers d.job.registers }) Lost Idle) in
-    let s = save_lost d d.job came Lost after x unwritten refl l refl in
-    rw (← is, l.job) (record {
+    let s = save_lost d d.job came m after x unwritten refl l refl in
+    rw (← is, l.job, l.mark_is) (record {
       state = rw (s.fault, seen_plain d.stage d.job unwritten, s.written, s.held, s.whole) refl;
       calls = calls_of_failed_save _ _ d.job.cache l.left (state_of d) after refl refl (changed_is d x unwritten) l.changed;
     })
 
-pub returns-in-Ok : goal.returns-in-Ok
-returns-in-Ok g c =
-    let d = parts_in c.self.inside in
-    let s = settled d c.save.new.self c.args.self.now c.self.invariant c.self.view_is c.requires c.in-Ok.ensures.ok in
-    rw c.settled_mark-self-inside.ensures
-    record { state = s.state; saved = search rules; counted = search rules; calls = s.calls; reported = settle_reports c.args.self.now _ s.state s.calls }
+pub returns : goal.returns
+returns g c =
+    let k = c.in_ok-save.ensures in
+    let s = settled (parts_in c.self.inside) (half_done c.save.new.self) c.args.self.now c.self.invariant c.self.view_is c.requires (ap half_done k.saves) in
+    rw (c.settled_mark-self-inside.ensures, k.stays)
+    record { state = s.state; saved = rw k.saves (search rules); counted = rw k.saves (search rules); calls = s.calls; reported = settle_reports c.args.self.now _ s.state s.calls }
 
-pub returns-in-Err : goal.returns-in-Err
-returns-in-Err g c =
-    let d = parts_in c.self.inside in
-    let came : HalfDone = record d.job { cache = c.save.new.self; registers = c.lose.new.registers } in
-    let left = slice_index_or c.save.new.self.image.slots (unwrap_or d.job.cache.held 0) [] in
-    let l : Loses d.job came Lost = record { changed = c.in-Err.ensures.fails; left = left; size = c.in-Err.ensures.size; there = refl; job = cc (c.in-Err.ensures.err, c.lose.ensures); mark_is = refl } in
-    let s = unsettled d came c.args.self.now c.self.invariant c.self.view_is c.requires l in
+pub returns-in_err-save : goal.returns-in_err-save
+returns-in_err-save g c =
+    let s = unsettled (parts_in c.self.inside) (half_done c.save.new.self) c.save.new.mark c.args.self.now c.self.invariant c.self.view_is c.requires c.in_err-save.ensures.loses in
     record { state = s.state; saved = search rules; counted = search rules; calls = s.calls; reported = settle_reports c.args.self.now _ s.state s.calls }
