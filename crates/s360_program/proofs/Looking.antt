@@ -1,5 +1,5 @@
 -- What a look for the area of a command comes to.
-use Rattle.std.proofs.Common.{◌≡◌, ℕ, zero, suc, ◌<◌, refl, sym, ap, subst, ◌∙◌, arith, false, Bool, [], Option, None}
+use Rattle.std.proofs.Common.{◌≡◌, ℕ, zero, suc, ◌+◌, ◌<◌, refl, sym, ap, subst, ◌∙◌, arith, false, Bool, [], Option, None}
 use Rattle.s360_words.specs.Storage.{Storage}
 use Rattle.s360_words.specs.declared.words.Csw.{Csw}
 use Rattle.ckd_command.specs.declared.begin.Opened.{Opened}
@@ -7,17 +7,17 @@ use Rattle.ckd_command.specs.Drive.{Open, Fault, AfterLook, Ready, Passed, Faile
 use Rattle.ckd_command.proofs.Marks.{Calm, LookCalm, look_calm}
 use Rattle.ckd_command.proofs.Stable.{look_stable}
 use Rattle.ckd_drive.specs.declared.answers.Look.TheVariants as seen
-use Rattle.ckd_drive.specs.Work.{DriveState, Work, Idle, Over, Looking, Passing, fault_met, with_image, CallsStore, Reports, after_sight, after_look, after_look_of, answer_of_look, failed_ending, look_loads, look_saves}
+use Rattle.ckd_drive.specs.Work.{DriveState, Work, Idle, Over, Looking, Passing, fault_met, with_image, CallsStore, Reports, after_sight, after_look, after_look_of, answer_of_look, failed_ending, look_loads, look_saves, left_of, passed_of}
 use Rattle.s360_runs.specs.Endings.{ending, failed}
 use Rattle.s360_runs.specs.Scripts.{units}
 use Rattle.s360_runs.specs.Status.{no_channel_status}
 use Rattle.s360_runs.specs.Transfers.{Request}
-use Rattle.s360_runs.specs.Units.{GoesOn, unit, next_looked, walk, on_next, StandsIn}
+use Rattle.s360_runs.specs.Units.{ProgramPhase, GoesOn, unit, next_looked, walk, on_next, StandsIn}
 use Rattle.s360_runs.specs.Units as phase
 use Rattle.s360_program.specs.Advances.{IsEnding}
 use Rattle.s360_program.specs.Place.{place_of}
 use Rattle.s360_program.specs.Stands.{StageFits, StageWithin, phase_by, phase_in}
-use Rattle.s360_program.specs.Steps.{run_of, Fits, EndsBy, Steps, WalksBy, told_of}
+use Rattle.s360_program.specs.Steps.{run_of, Fits, EndsBy, OverBy, Steps, WalksBy, told_of}
 use Rattle.s360_program.specs.declared.conditions.ChannelCondition.TheVariants as condition
 use Rattle.s360_program.specs.declared.run.Run.{Run}
 use Rattle.s360_program.specs.Stage.{stage_by, stage_of}
@@ -146,6 +146,18 @@ module _ (r : Run) (s : Storage) (d0 d1 : DriveState) (fits : Fits r d0) (comes_
     ready_calm : Calm (tells_equipment_check (drive_of d0.state).sense ≡ false) d1.state
     ready_calm = subst (LookCalm (tells_equipment_check (drive_of d0.state).sense ≡ false)) ready_none calm_look
 
+    pub ready_left : left_of d1.work ≡ left
+    ready_left = go d1.work answer
+      where
+        go : (w : Work) → seen.Ready left ≡ answer_of_look w → left_of w ≡ left
+        go Idle h = absurd (cc h)
+        go (Over x) h = absurd (cc h)
+        go (Looking o) h = absurd (cc h)
+        go (Passing o b l) h = cc
+
+    pub ready_first : passed_of d1.work ≡ []
+    ready_first = ap passed_of ready.2
+
     pub look_fits : Fits (record r { comes = comes.Bytes; address = r.ccw.address }) d1
     look_fits = record {
       within = record { key = fits.within.key; place = fits.within.place; stage = subst (λ g. StageWithin g (place_of r.place)) at fits.within.stage };
@@ -156,6 +168,10 @@ module _ (r : Run) (s : Storage) (d0 d1 : DriveState) (fits : Fits r d0) (comes_
         → unit f r.key (phase_in (run_of r) s d0) ≡ unit f r.key (phase_by (stage.Moving r.ccw r.ccw.address) (place_of r.place) s d1.state d1.work)
     moves f h =
         ap (unit f r.key) looks ∙ ap (next_looked f r.key Q) h ∙ ap (λ w. unit f r.key (phase_by (stage.Moving r.ccw r.ccw.address) (place_of r.place) s d1.state w)) (sym ready.2)
+
+    pub walks : (n : ℕ) → 0 < n → walk (units n) r.key (phase_in (run_of r) s d0) ≡ walk (units n) r.key (phase_by (stage.Moving r.ccw r.ccw.address) (place_of r.place) s d1.state d1.work)
+    walks zero h = absurd (omega arith)
+    walks (suc n) h = ap (λ x. on_next (units n) x (walk (units n) r.key)) (moves None ready_none)
 
     pub look_finds : (most : ℕ) (r2 : Run) (s2 : Storage) (a : Step) (d2 : DriveState) → d2.image.loads ≡ d1.image.loads
         → Steps r.key (phase_by (stage.Moving r.ccw r.ccw.address) (place_of r.place) s d1.state d1.work) most a r2 s2 d1 d2
@@ -169,11 +185,23 @@ module _ (r : Run) (s : Storage) (d0 d1 : DriveState) (fits : Fits r d0) (comes_
       fits = w.fits;
       no_check = λ q. w.no_check (ready_calm.quiet q);
     }
+    look_finds most r2 s2 (step.Over n) d2 loads w = by w.earlier w.last w.goes
       where
-        walks : (n : ℕ) → 0 < n → walk (units n) r.key (phase_in (run_of r) s d0) ≡ walk (units n) r.key (phase_by (stage.Moving r.ccw r.ccw.address) (place_of r.place) s d1.state d1.work)
-        walks zero h = absurd (omega arith)
-        walks (suc n) h = ap (λ x. on_next (units n) x (walk (units n) r.key)) (moves None ready_none)
-    look_finds most r2 s2 step.Over d2 loads is =
-        more_after (λ f. look f O ≡ Ready (record { opened = ready.0; state = d1.state })) (λ f. unit f r.key (phase_in (run_of r) s d0))
-        (λ f. unit f r.key (phase_by (stage.Moving r.ccw r.ccw.address) (place_of r.place) s d1.state d1.work)) s2 (told_of r2) d0 d1 d2
-        moves ready_none (λ left rose. look_stable left O (Ready (record { opened = ready.0; state = d1.state })) ready_none tt) ready_same loads ready_calm.quiet is
+        over : (e : ℕ) → n ≡ e + 1 → (phase : ProgramPhase) → walk (units e) r.key (phase_in (run_of r) s d0) ≡ StandsIn phase
+            → ((f : Option Fault) → look f O ≡ Ready (record { opened = ready.0; state = d1.state }) → unit f r.key phase ≡ unit f r.key w.at) → OverBy r.key (phase_in (run_of r) s d0) most n (told_of r2) s2 d0 d2
+        over e last phase goes same = record {
+          earlier = e;
+          last = last;
+          few = w.few;
+          at = phase;
+          goes = goes;
+          ends = more_after (λ f. look f O ≡ Ready (record { opened = ready.0; state = d1.state })) (λ f. unit f r.key phase) (λ f. unit f r.key w.at) s2 (told_of r2) d0 d1 d2
+              same ready_none (λ left rose. look_stable left O (Ready (record { opened = ready.0; state = d1.state })) ready_none tt) ready_same loads ready_calm.quiet w.ends;
+        }
+
+        by : (e : ℕ) → n ≡ e + 1 → walk (units e) r.key (phase_by (stage.Moving r.ccw r.ccw.address) (place_of r.place) s d1.state d1.work) ≡ StandsIn w.at → OverBy r.key (phase_in (run_of r) s d0) most n (told_of r2) s2 d0 d2
+        by zero last goes = over zero last (phase_in (run_of r) s d0) refl (λ f h. moves f h ∙ ap (unit f r.key) (stands goes))
+          where
+            stands : {a b : ProgramPhase} → StandsIn a ≡ StandsIn b → a ≡ b
+            stands e = cc
+        by (suc e) last goes = over (suc e) last w.at (walks (suc e) (omega arith) ∙ goes) (λ f h. refl)

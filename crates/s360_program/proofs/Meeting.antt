@@ -262,8 +262,8 @@ pub comes_after : (At : Option Fault → Type 0) (next later : Option Fault → 
 comes_after At next later key s r (step.Units n) d0 d1 d2 e at stable same loads quiet is =
     let w = is.1 in
     (is.0, record { failures = w.failures ∙ same; goes = e None at ∙ w.goes; same_key = w.same_key; fits = w.fits; no_check = λ q. w.no_check (quiet q) })
-comes_after At next later key s r step.Over d0 d1 d2 e at stable same loads quiet is =
-    more_after At next later s (told_of r) d0 d1 d2 e at stable same loads quiet is
+comes_after At next later key s r (step.Over n) d0 d1 d2 e at stable same loads quiet is =
+    (is.0, more_after At next later s (told_of r) d0 d1 d2 e at stable same loads quiet is.1)
 
 -- How often the store is called.
 

@@ -1,5 +1,5 @@
 -- Units that need no call of the store.
-use Rattle.std.proofs.Common.{◌≡◌, ℕ, ◌<◌, arith, refl, sym, ap, ◌∙◌, subst, true, false, Bool, ◌&&◌, ◌||◌, [], ◌∷◌, Option, None, List}
+use Rattle.std.proofs.Common.{◌≡◌, ℕ, zero, suc, ◌+◌, ◌≤◌, ◌<◌, arith, refl, sym, ap, ◌∙◌, subst, true, false, Bool, ◌&&◌, ◌||◌, [], ◌∷◌, Option, None, List}
 use Rattle.s360_words.specs.Storage.{Storage}
 use Rattle.s360_words.specs.declared.words.Ccw.{Ccw}
 use Rattle.ckd_command.specs.Commands.{beginning, sight}
@@ -9,21 +9,24 @@ use Rattle.ckd_command.specs.declared.tables.Aim.{Aim}
 use Rattle.ckd_command.specs.declared.tables.Aim.TheVariants as aim_is
 use Rattle.ckd_command.specs.declared.begin.Opened.{Opened}
 use Rattle.ckd_command.proofs.Marks.{BegunTraces, begin_traces, LookTraces, look_traces}
-use Rattle.ckd_drive.specs.Work.{DriveState, Work, Idle, Over, Looking, Passing, is_idle, with_image, after_begun, after_begin, after_sight, after_look, after_look_of, closed_of, is_next, CallsStore, fault_met, begin_saves, goes_to_cylinder_zero, look_loads, look_loads_of, look_saves, look_saves_of, goes_to_next_head, answer_of_look}
+use Rattle.ckd_drive.specs.Work.{DriveState, Work, Idle, Over, Looking, Passing, is_idle, with_image, after_begun, after_begin, after_sight, after_look, after_look_of, closed_of, is_next, CallsStore, Reports, failed_ending, fault_met, begin_saves, goes_to_cylinder_zero, look_loads, look_saves, look_saves_of, goes_to_next_head, answer_of_look}
 use Rattle.ckd_drive.specs.declared.answers.Look.TheVariants as seen
+use Rattle.s360_runs.specs.Places.{Place}
 use Rattle.s360_runs.specs.Scripts.{units}
 use Rattle.s360_runs.specs.StoreCalls.{is_next as looks_next}
 use Rattle.s360_runs.specs.Units.{ProgramPhase, walk, StandsIn}
 use Rattle.s360_program.specs.Advances.{NeedsNoStore, NeedNoStore}
-use Rattle.s360_program.specs.Stands.{RunningState, Stands, phase_by, phase_in}
-use Rattle.s360_program.specs.Steps.{Fits, Flows, FlowsBy, IsQuiet, with_left}
+use Rattle.s360_program.specs.Place.{place_of}
+use Rattle.s360_program.specs.Stands.{RunningState, StageFits, Stands, phase_by, phase_in}
+use Rattle.s360_program.specs.Steps.{run_of, in_bytes, Fits, Flows, FlowsBy, IsQuiet, with_left}
 use Rattle.s360_program.specs.declared.moving.Flow.{Flow}
 use Rattle.s360_program.specs.declared.run.Run.{Run}
 use Rattle.s360_program.specs.Stage as stage
 use Rattle.s360_program.specs.declared.run.Comes.TheVariants as comes
 use Rattle.s360_program.proofs.Cases.{never, only_left, by_stage}
 use Rattle.s360_program.proofs.Cutting.{untouched_unwritten}
-use Rattle.s360_program.proofs.Looking.{looking_is}
+use Rattle.s360_program.proofs.Looking.{looking_is, look_fits, walks}
+use Rattle.s360_program.proofs.Advancing.{more_units}
 use Rattle.s360_program.proofs.Meeting.{untouched}
 
 -- what holds only where another thing does, does not where that does not
@@ -52,11 +55,15 @@ phase_quiet r s d t =
     moving : (o : Opened) (b : List ℕ) (l : ℕ) {ccw : Ccw} {a : ℕ} → NeedsNoStore (phase_by (stage.Moving ccw a) r.place s d.state (Passing o b l)) → IsQuiet (record d { work = Passing o b l })
     moving o b l h = let n = neither (is_written d.state) _ h.unwritten in record { unwritten = n.0; closes = n.1; looks = refl }
 
--- and units of which each needs no call make none, where the next ones need none either
-pub still_quiet : (key : ℕ) (phase : ProgramPhase) (done more : ℕ) (r : RunningState) (s : Storage) (d0 d1 d2 : DriveState) → done < more → Stands r d1 → walk (units done) key phase ≡ StandsIn (phase_in r s d1)
-    → (NeedNoStore key phase done → d1.image ≡ d0.image) → (IsQuiet d1 → d2.image ≡ d1.image) → NeedNoStore key phase more → d2.image ≡ d0.image
-still_quiet key phase done more r s d0 d1 d2 few fits walked before now h =
-    now (phase_quiet r s d1 fits (h done (phase_in r s d1) few walked)) ∙ before (λ n at k. h n at (omega (arith, k, few)))
+-- the first of units that need no call needs none
+pub first_quiet : (r : RunningState) (s : Storage) (d : DriveState) (n key : ℕ) → Stands r d → 0 < n → NeedNoStore key (phase_in r s d) n → IsQuiet d
+first_quiet r s d n key t some h = phase_quiet r s d t (h 0 (phase_in r s d) some refl)
+
+-- and units of which each needs no call make none, where the next ones make none either
+pub still_quiet : (key k : ℕ) (phase at : ProgramPhase) (done n more : ℕ) (d0 d1 d2 : DriveState) → k ≡ key → done + n ≤ more → walk (units done) key phase ≡ StandsIn at
+    → (NeedNoStore key phase done → d1.image ≡ d0.image) → (NeedNoStore k at n → d2.image ≡ d1.image) → NeedNoStore key phase more → d2.image ≡ d0.image
+still_quiet key k phase at done n more d0 d1 d2 e few walked before now h =
+    now (λ j next less w. h (done + j) next (omega (arith, few, less)) (more_units key k phase at next done j e walked w)) ∙ before (λ j next less. h j next (omega (arith, few, less)))
 
 -- a command that begins writes nothing
 pub begun_quiet : (f : Option Fault) (code : ℕ) (d0 d1 : DriveState) → unsaved d0.state ≡ None → is_idle d0.work ≡ true → is_written d0.state ≡ false
@@ -118,15 +125,35 @@ saves_not d (Over e) h = refl
 saves_not d (Looking o) h = ap (λ b. b && goes_to_next_head (sight d.state.volume.geometry (track_under d.state) o d.state.registers)) h
 saves_not d (Passing o b l) h = refl
 
-looks_no_more : (left : ℕ) (w : Work) → seen.Ready left ≡ answer_of_look w → look_loads_of w ≡ false
-looks_no_more left Idle h = refl
-looks_no_more left (Over e) h = refl
-looks_no_more left (Looking o) h = absurd (cc h)
-looks_no_more left (Passing o b l) h = refl
-
-pub finds_quiet : (r : Run) (left : ℕ) (d0 d1 d2 : DriveState) → Fits r d0 → r.comes ≡ comes.Look → d1 ≡ with_image (after_look (fault_met d0 d1) d0) d1.image
-    → seen.Ready left ≡ answer_of_look d1.work → CallsStore (look_loads d0) (look_saves d0) d0 d1 → (IsQuiet d1 → d2.image ≡ d1.image) → IsQuiet d0 → d2.image ≡ d0.image
-finds_quiet r left d0 d1 d2 fits at is answer calls later q =
+-- a look that fails, and the end of the program
+pub fails_quiet : (r : Run) (d0 d1 d2 : DriveState) → Fits r d0 → r.comes ≡ comes.Look → d1 ≡ with_image (after_look (fault_met d0 d1) d0) d1.image
+    → CallsStore (look_loads d0) (look_saves d0) d0 d1 → CallsStore false (is_written d1.state) d1 d2 → IsQuiet d0 → d2.image ≡ d0.image
+fails_quiet r d0 d1 d2 fits at is calls settles q =
     let o = looking_is r d0 fits at in
-    let w = looked_quiet (fault_met d0 d1) o.0 d0 d1 fits.stands.saved o.1 q.unwritten is in
-    later (record { unwritten = w.0; closes = w.1; looks = looks_no_more left d1.work answer }) ∙ look_untouched d0 d1 (saves_not d0 d0.work q.unwritten) q.looks calls
+    untouched (is_written d1.state) d1 d2 (looked_quiet (fault_met d0 d1) o.0 d0 d1 fits.stands.saved o.1 q.unwritten is).0 settles
+    ∙ look_untouched d0 d1 (saves_not d0 d0.work q.unwritten) q.looks calls
+
+quiet_at : (ccw : Ccw) (a : ℕ) (p : Place) (s : Storage) (d : DriveState) (w : Work) → StageFits (stage.Moving ccw a) d.state w → is_written d.state ≡ false → is_written (closed_of None d w).state ≡ false
+    → NeedsNoStore (phase_by (stage.Moving ccw a) p s d.state w)
+quiet_at ccw a p s d Idle f w c = absurd f
+quiet_at ccw a p s d (Over x) f w c = absurd f
+quiet_at ccw a p s d (Looking o) f w c = absurd f
+quiet_at ccw a p s d (Passing o b l) f w c = record { looks = refl; unwritten = rw w c }
+
+pub finds_quiet : (r : Run) (s : Storage) (left n : ℕ) (d0 d1 d2 : DriveState) (fits : Fits r d0) (at : r.comes ≡ comes.Look) (is : d1 ≡ with_image (after_look (fault_met d0 d1) d0) d1.image)
+    (answer : seen.Ready left ≡ answer_of_look d1.work) (reports : Reports (d1.work ≡ Over failed_ending) d0 d1) → CallsStore (look_loads d0) (look_saves d0) d0 d1 → 0 < n
+    → (NeedNoStore r.key (phase_in (run_of (in_bytes r)) s d1) n → d2.image ≡ d1.image) → NeedNoStore r.key (phase_in (run_of r) s d0) n → d2.image ≡ d0.image
+finds_quiet r s left n d0 d1 d2 fits at is answer reports calls some later h = later from ∙ look_untouched d0 d1 (saves_not d0 d0.work q.unwritten) q.looks calls
+  where
+    q : IsQuiet d0
+    q = first_quiet (run_of r) s d0 n r.key fits.stands some h
+
+    w : (is_written d1.state ≡ false) × (is_written (closed_of None d1 d1.work).state ≡ false)
+    w = let o = looking_is r d0 fits at in looked_quiet (fault_met d0 d1) o.0 d0 d1 fits.stands.saved o.1 q.unwritten is
+
+    stands : {a b : ProgramPhase} → StandsIn a ≡ StandsIn b → a ≡ b
+    stands e = cc
+
+    from : NeedNoStore r.key (phase_in (run_of (in_bytes r)) s d1) n
+    from zero next less e = subst NeedsNoStore (stands e) (quiet_at r.ccw r.ccw.address (place_of r.place) s d1 d1.work (look_fits r s d0 d1 fits at is left answer reports).stands.fits w.0 w.1)
+    from (suc j) next less e = h (suc j) next less (walks r s d0 d1 fits at is left answer reports (suc j) (omega arith) ∙ e)

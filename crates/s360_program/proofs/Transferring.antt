@@ -8,9 +8,12 @@ use Rattle.s360_words.specs.Words.{chains_data, suppresses_length}
 use Rattle.s360_words.specs.declared.flags.TheConstants.ChannelStatus.{INCORRECT_LENGTH}
 use Rattle.s360_words.specs.declared.flags.TheConstants.UnitStatus.{UNIT_CHECK}
 use Rattle.s360_words.specs.declared.words.Ccw.{Ccw}
+use Rattle.s360_words.specs.declared.words.Csw.{Csw}
 use Rattle.ckd_command.specs.Drive.{State, Open, Fault, length_of, close, drive_of, unsaved, tells_equipment_check}
 use Rattle.ckd_command.proofs.Lengths.{length_grows, length_stays, gives_length}
-use Rattle.ckd_drive.specs.Work.{DriveState, Work, Idle, Over, Looking, Passing, closed_of}
+use Rattle.ckd_drive.specs.Work.{DriveState, Work, Idle, Over, Looking, Passing, closed_of, left_of, gives_now, passed_of, may_end}
+use Rattle.ckd_command.specs.Tables.{action_of, is_giving}
+use Rattle.s360_program.proofs.Advancing.{more_units}
 use Rattle.s360_runs.specs.Commands.{choice}
 use Rattle.s360_runs.specs.Endings.{ending}
 use Rattle.s360_runs.specs.Places.{Place}
@@ -20,7 +23,7 @@ use Rattle.s360_runs.specs.Transfers.{Transfer, next_bytes}
 use Rattle.s360_runs.specs.Units.{ProgramPhase, Moving, Next, EndsIn, unit, next_chosen, walk, on_next, StandsIn}
 use Rattle.s360_program.specs.Place.{place_of}
 use Rattle.s360_program.specs.Stands.{LeftFits, StageFits, StageWithin, phase_by, phase_in}
-use Rattle.s360_program.specs.Steps.{run_of, Fits, ComesBy, Steps, WalksBy, Flows, FlowsBy, with_left, MovesBytes, MovesBytesBy, MovesBytesAs, status_of, condition_for, differs, request_at}
+use Rattle.s360_program.specs.Steps.{run_of, in_bytes, count_of, HasFound, FindsBy, Fits, ComesBy, EndsBy, OverBy, Steps, WalksBy, told_of, Flows, FlowsBy, with_left, MovesBytes, MovesBytesBy, MovesBytesAs, status_of, condition_for, differs, request_at}
 use Rattle.s360_program.specs.declared.conditions.ChannelCondition.{ChannelCondition}
 use Rattle.s360_program.specs.declared.conditions.ChannelCondition.TheVariants as condition
 use Rattle.s360_program.specs.declared.moving.Flow.{Flow}
@@ -35,6 +38,9 @@ use Rattle.s360_runs.proofs.AtOnce.{at_once}
 
 -- One unit.
 
+pub over_once : (key : ℕ) (phase : ProgramPhase) (most : ℕ) (told : Csw × Bool) (s : Storage) (d0 d1 : DriveState) → 0 < most → EndsBy (λ f. unit f key phase) told s d0 d1 → OverBy key phase most 1 told s d0 d1
+over_once key phase most told s d0 d1 h e = record { earlier = 0; last = refl; few = omega arith; at = phase; goes = refl; ends = e }
+
 pub unit_steps : (key : ℕ) (phase : ProgramPhase) (most : ℕ) (r : Run) (s : Storage) (a : Step) (d0 d1 : DriveState) → 0 < most → ComesBy key (λ f. unit f key phase) a r s d0 d1 → Steps key phase most a r s d0 d1
 unit_steps key phase most r s (step.Units n) d0 d1 h c =
     let w = c.1 in
@@ -47,7 +53,7 @@ unit_steps key phase most r s (step.Units n) d0 d1 h c =
       fits = w.fits;
       no_check = w.no_check;
     }
-unit_steps key phase most r s step.Over d0 d1 h c = c
+unit_steps key phase most r s (step.Over n) d0 d1 h c = subst (λ n. Steps key phase most (step.Over n) r s d0 d1) (sym c.0) (over_once key phase most (told_of r) s d0 d1 h c.1)
 
 -- the same from a drive that has only looked again
 pub unit_comes : (next later : Option Fault → Next) (key : ℕ) (s : Storage) (r : Run) (a : Step) (d0 d1 d2 : DriveState) → ((f : Option Fault) → next f ≡ later f) → d1.image ≡ d0.image → d1.state ≡ d0.state
@@ -155,6 +161,23 @@ module _ (r r2 : Run) (s : Storage) (a : Step) (d0 d1 d2 : DriveState) (flow : F
 
 -- Bytes.
 
+-- what a drive that has found the area reports again
+again : (d : DriveState) → HasFound d → (left_of d.work ≡ 0 → (gives_now d.work ≡ true) ⊎ (length (passed_of d.work) ≡ 8 → ⊥)) → Flows (record { gives = gives_now d.work; left = left_of d.work }) d d
+again d f all = by d.work f all
+  where
+    by : (w : Work) → FindsBy d.state w → (left_of w ≡ 0 → (gives_now w ≡ true) ⊎ (length (passed_of w) ≡ 8 → ⊥)) → Flows (record { gives = gives_now w; left = left_of w }) (record d { work = w }) (record d { work = w })
+    by Idle f all = absurd f
+    by (Over x) f all = absurd f
+    by (Looking o) f all = absurd f
+    by (Passing o b l) f all = record { told = (refl, λ z. none z (all z), f.0, f.1, f.2); drive = refl }
+      where
+        L : ℕ
+        L = length_of (record { opened = o; state = d.state }) b
+
+        none : l ≡ 0 → (is_giving (action_of o.command) ≡ true) ⊎ (length b ≡ 8 → ⊥) → length b ≡ L
+        none z (inl g) = let e : length b + l ≡ L = f.1 g in omega arith
+        none z (inr n) = let e : length b + l ≡ L = f.2 (λ h. n (omega arith)) in omega arith
+
 -- so many bytes move at once
 module _ (key : ℕ) (ccw : Ccw) (a most m : ℕ) (p : Place) (s s2 : Storage) (d0 d2 : DriveState) (flow : Flow) where
   abbrev IsMoved : Work → Type 0
@@ -242,3 +265,128 @@ moves_on r most few m n s s2 d0 d1 d2 flow fits at flows least h e =
 
     smaller : (a r m : ℕ) → m ≤ r → a + r < 2 ^ 25 → (a + m) + (r - m) < 2 ^ 25
     smaller a r m le h = omega arith
+
+-- All bytes of a command, and its end.
+
+-- what the drive is at behind them
+behind_bytes : (key : ℕ) (ccw : Ccw) (a most m : ℕ) (p : Place) (s s2 : Storage) (d d2 : DriveState) (w : Work) → MovesBytesBy key ccw a most (Ok m) s s2 d d2 w → m ≤ p.residual
+    → (left_of d2.work ≡ left_of w - m) × (length (passed_of d2.work) ≡ length (passed_of w) + m) × (gives_now d2.work ≡ gives_now w) × (d2.image ≡ d.image) × (d2.state ≡ d.state)
+behind_bytes key ccw a most m p s s2 d d2 Idle q le = absurd q
+behind_bytes key ccw a most m p s s2 d d2 (Over x) q le = absurd q
+behind_bytes key ccw a most m p s s2 d d2 (Looking o) q le = absurd q
+behind_bytes key ccw a most m p s s2 d d2 (Passing o b left) q le =
+    let k = q.2 p le in
+    rw k.drive (ap (λ n. left - n) k.count, length-append b _ ∙ ap (λ n. length b + n) k.count, refl, refl, refl)
+
+-- a step that was so many units more
+abbrev pub behind : (m : ℕ) → Step → Step
+behind m (step.Units n) = step.Units (m + 1)
+behind m (step.Over n) = step.Over (m + 1)
+
+unit_behind : (key m most : ℕ) (phase : ProgramPhase) (r r2 : Run) (s s2 : Storage) (a : Step) (d0 d1 d2 : DriveState) → m < most → walk (units m) key phase ≡ StandsIn (phase_in (run_of r) s d1)
+    → ComesBy key (λ f. unit f key (phase_in (run_of r) s d1)) a r2 s2 d0 d2 → Steps key phase most (behind m a) r2 s2 d0 d2
+unit_behind key m most phase r r2 s s2 (step.Units n) d0 d1 d2 few walked c =
+    let w = c.1 in
+    record {
+      some = omega arith;
+      few = omega (arith, few);
+      failures = w.failures;
+      goes = more_units key key phase (phase_in (run_of r) s d1) (phase_in (run_of r2) s2 d2) m 1 refl walked (ap (λ n. on_next [] n (walk [] key)) w.goes);
+      same_key = w.same_key;
+      fits = w.fits;
+      no_check = w.no_check;
+    }
+unit_behind key m most phase r r2 s s2 (step.Over n) d0 d1 d2 few walked c =
+    record { earlier = m; last = refl; few = omega (arith, few); at = phase_in (run_of r) s d1; goes = walked; ends = c.1 }
+
+-- the drive may end a command whose area it has found
+pub found_ends : (s : State) (w : Work) → FindsBy s w → may_end w ≡ true
+found_ends s Idle f = absurd f
+found_ends s (Over x) f = absurd f
+found_ends s (Looking o) f = absurd f
+found_ends s (Passing o b l) f = refl
+
+-- a drive whose first byte may not move stays
+pub refused_stays : (key : ℕ) (ccw : Ccw) (a most : ℕ) (check : ChannelCondition) (s s2 : Storage) (d d2 : DriveState) (w : Work) → MovesBytesBy key ccw a most (Err check) s s2 d d2 w → d2 ≡ d
+refused_stays key ccw a most check s s2 d d2 Idle q = absurd q
+refused_stays key ccw a most check s s2 d d2 (Over x) q = absurd q
+refused_stays key ccw a most check s s2 d d2 (Looking o) q = absurd q
+refused_stays key ccw a most check s s2 d d2 (Passing o b l) q = q.1
+
+-- one unit counts one, and a step some
+pub counts_one : (key : ℕ) (next : Option Fault → Next) (a : Step) (r : Run) (s : Storage) (d0 d1 : DriveState) → ComesBy key next a r s d0 d1 → 0 < count_of a
+counts_one key next (step.Units n) r s d0 d1 c = omega (arith, c.0)
+counts_one key next (step.Over n) r s d0 d1 c = omega (arith, c.0)
+
+pub counts_some : (key : ℕ) (phase : ProgramPhase) (most : ℕ) (a : Step) (r : Run) (s : Storage) (d0 d1 : DriveState) → Steps key phase most a r s d0 d1 → 0 < count_of a
+counts_some key phase most (step.Units n) r s d0 d1 w = w.some
+counts_some key phase most (step.Over n) r s d0 d1 w = omega (arith, w.last)
+
+module _ (r : Run) (d0 : DriveState) (fits : Fits (in_bytes r) d0) (some : 0 < r.place.residual) (left : left_of d0.work ≡ r.place.residual) where
+  abbrev pub found : Flow
+  found = record { gives = gives_now d0.work; left = left_of d0.work }
+
+  pub flows : Flows (record { gives = gives_now d0.work; left = left_of d0.work }) d0 d0
+  flows = again d0 fits.stands.fits (λ z. absurd (omega (arith, z, left, some)))
+
+  module _ (m : ℕ) (s s2 : Storage) (d2 : DriveState) (h : MovesBytes r.key r.ccw r.ccw.address r.place.residual s d0 (Ok m) s2 d2) where
+    -- some of them, or all
+    pub moves_some : (most n : ℕ) → r.place.residual < most → n ≡ m
+        → WalksBy r.key (phase_in (run_of (in_bytes r)) s d0) most m (record r { comes = comes.Bytes; place = record r.place { residual = r.place.residual - m }; address = r.ccw.address + n }) s2 d0 d2
+    moves_some most n few e =
+        moves_on (in_bytes r) most r.place.residual m n s s2 d0 d0 d2 (record { gives = gives_now d0.work; left = left_of d0.work }) fits refl flows
+        (record { asked = omega (arith, few); counted = omega arith; has = omega (arith, left) }) h e
+
+    abbrev pub moved_run : Run
+    moved_run = record r { comes = comes.Bytes; place = record r.place { residual = r.place.residual - m }; address = r.ccw.address + m }
+
+    pub walked : WalksBy r.key (phase_in (run_of (in_bytes r)) s d0) (r.place.residual + 1) m (record r { comes = comes.Bytes; place = record r.place { residual = r.place.residual - m }; address = r.ccw.address + m }) s2 d0 d2
+    walked = moves_some (r.place.residual + 1) m (omega arith) refl
+
+    module _ (first : passed_of d0.work ≡ []) (all : r.place.residual ≤ m) (whole : (gives_now d0.work ≡ true) ⊎ (m ≡ 8 → ⊥)) where
+      few_moved : m ≤ r.place.residual
+      few_moved = by d0.work h
+        where
+          by : (w : Work) → MovesBytesBy r.key r.ccw r.ccw.address r.place.residual (Ok m) s s2 d0 d2 w → m ≤ r.place.residual
+          by Idle q = absurd q
+          by (Over x) q = absurd q
+          by (Looking o) q = absurd q
+          by (Passing o b l) q = q.1
+
+      now : (left_of d2.work ≡ left_of d0.work - m) × (length (passed_of d2.work) ≡ length (passed_of d0.work) + m) × (gives_now d2.work ≡ gives_now d0.work) × (d2.image ≡ d0.image) × (d2.state ≡ d0.state)
+      now = behind_bytes r.key r.ccw r.ccw.address r.place.residual m (place_of r.place) s s2 d0 d2 d0.work h few_moved
+
+      pub all_moved : m ≡ r.place.residual
+      all_moved = omega (arith, all, few_moved)
+
+      passed : length (passed_of d2.work) ≡ m
+      passed = now.1 ∙ ap (λ (b : List ℕ). length b + m) first ∙ (omega arith)
+
+      spent : left_of d2.work ≡ 0
+      spent = omega (arith, now.0, left, all)
+
+      nothing : r.place.residual - m ≡ 0
+      nothing = omega (arith, all)
+
+      ends_whole : (gives_now d0.work ≡ true) ⊎ (m ≡ 8 → ⊥) → (gives_now d2.work ≡ true) ⊎ (length (passed_of d2.work) ≡ 8 → ⊥)
+      ends_whole (inl g) = inl (now.2 ∙ g)
+      ends_whole (inr n) = inr (λ e. n (sym passed ∙ e))
+
+      flows_behind : Flows (record { gives = gives_now d2.work; left = left_of d2.work }) d2 d2
+      flows_behind = again d2 walked.fits.stands.fits (λ z. ends_whole whole)
+
+      told : (b : Bool) → false ≡ (not b && differs (r.place.residual - m) (left_of d2.work))
+      told b = rw (nothing, spent) (by b)
+        where
+          by : (b : Bool) → false ≡ (not b && differs 0 0)
+          by true = refl
+          by false = refl
+
+      pub moves_all : (most : ℕ) (r3 : Run) (a : Step) (d3 : DriveState) → r.place.residual < most → chains_data r.ccw ≡ false → d3.image.loads ≡ d2.image.loads
+          → ComesBy r.key (λ f. next_chosen (choice f r.key (request_at s2 r.ccw (record r { place = record r.place { residual = 0 } })) (closed_of f d2 d2.work) (status_of (condition_for false (closed_of f d2 d2.work).unit)))) a r3 s2 d2 d3
+          → Steps r.key (phase_in (run_of (in_bytes r)) s d0) most (behind m a) r3 s2 d0 d3
+      moves_all most r3 a d3 few unchained loads is =
+          unit_behind r.key m most (phase_in (run_of (in_bytes r)) s d0) moved_run r3 s2 s2 a d0 d2 d3 (omega (arith, few, few_moved)) walked.goes
+          (unit_comes (λ f. unit f r.key (phase_in (run_of moved_run) s2 d2)) (λ f. unit f r.key (phase_in (run_of moved_run) s2 d2)) r.key s2 r3 a d0 d2 d3 (λ f. refl) now.3 now.4 loads
+          (completes moved_run r3 s2 a d2 d2 d3 (record { gives = gives_now d2.work; left = left_of d2.work }) refl flows_behind false (λ z. unchained) (inl nothing) (told (suppresses_length r.ccw)) loads
+          (subst (λ n. ComesBy r.key (λ f. next_chosen (choice f r.key (request_at s2 r.ccw (record r { place = record r.place { residual = n } })) (closed_of f d2 d2.work) (status_of (condition_for false (closed_of f d2 d2.work).unit)))) a r3 s2 d2 d3) (sym nothing) is)))

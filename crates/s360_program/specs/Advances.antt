@@ -47,7 +47,8 @@ pub record IsEnding (e : Ending) (told : Csw × Bool) (d : DriveState) : Type 0 
 -- Units.
 
 -- the units that were asked for were done, and met no fault
-pub record WentOn (key : ℕ) (before : ProgramPhase) (asked did : ℕ) (r : RunningState) (s : Storage) (old new : DriveState) : Type 0 where
+pub record WentOn (key : ℕ) (before : ProgramPhase) (asked did : ℕ) (r : RunningState) (s : Storage)
+    (old new : DriveState) : Type 0 where
   pub done : did ≡ asked
   pub failures : new.image.failures ≡ old.image.failures
   pub same_key : r.key ≡ key
@@ -55,7 +56,8 @@ pub record WentOn (key : ℕ) (before : ProgramPhase) (asked did : ℕ) (r : Run
   pub walk : walk (units did) key before ≡ StandsIn (phase_in r s new)
 
 -- the last of the units that were done ended the program; it alone may have met a fault
-pub record CameToEnd (key : ℕ) (before : ProgramPhase) (asked did : ℕ) (told : Csw × Bool) (s : Storage) (old new : DriveState) : Type 0 where
+pub record CameToEnd (key : ℕ) (before : ProgramPhase) (asked did : ℕ) (told : Csw × Bool) (s : Storage)
+    (old new : DriveState) : Type 0 where
   pub done : did ≤ asked
   pub earlier : ℕ
   pub last : did ≡ earlier + 1
@@ -66,16 +68,19 @@ pub record CameToEnd (key : ℕ) (before : ProgramPhase) (asked did : ℕ) (told
   pub is_ending : IsEnding ending told new
 
 -- units that were asked for came to this, by how many were done and whether an ending is told
-abbrev pub AdvancesTo : (key : ℕ) → ProgramPhase → (asked did : ℕ) → Option (Csw × Bool) → RunningState → Storage → (old new : DriveState) → Type 0
+abbrev pub AdvancesTo : (key : ℕ) → ProgramPhase → (asked did : ℕ) → Option (Csw × Bool) → RunningState → Storage
+    → (old new : DriveState) → Type 0
 AdvancesTo key before asked did None r s old new = WentOn key before asked did r s old new
 AdvancesTo key before asked did (Some told) r s old new = CameToEnd key before asked did told s old new
 
 -- the same, by what an advance answers
-abbrev pub Advances : (key : ℕ) → ProgramPhase → (asked : ℕ) → Advance → RunningState → Storage → (old new : DriveState) → Type 0
+abbrev pub Advances : (key : ℕ) → ProgramPhase → (asked : ℕ) → Advance → RunningState → Storage → (old new : DriveState)
+    → Type 0
 Advances key before asked a r s old new = AdvancesTo key before asked a.done a.ending r s old new
 
 -- the same of more units than 16 bits count
-abbrev pub RunsOn : (key : ℕ) → ProgramPhase → (asked : ℕ) → Ran → RunningState → Storage → (old new : DriveState) → Type 0
+abbrev pub RunsOn : (key : ℕ) → ProgramPhase → (asked : ℕ) → Ran → RunningState → Storage → (old new : DriveState)
+    → Type 0
 RunsOn key before asked a r s old new = AdvancesTo key before asked a.done a.ending r s old new
 
 -- units put bytes into storage, and change neither its size nor its keys
@@ -86,7 +91,8 @@ pub record KeepsStorage (before after : Storage) : Type 0 where
 -- A cut.
 
 -- the program is over as its cut there reports
-pub record Cuts (key : ℕ) (phase : ProgramPhase) (told : Csw × Bool × Option (ℕ × ℕ)) (old new : DriveState) : Type 0 where
+pub record Cuts (key : ℕ) (phase : ProgramPhase) (told : Csw × Bool × Option (ℕ × ℕ))
+    (old new : DriveState) : Type 0 where
   pub fault : Option Fault
   pub met : IsMet fault old new
   pub is_ending : IsEnding ((standing_in key phase).cut fault) (told.0, told.1) new
@@ -136,4 +142,5 @@ pub record NeedsNoStore (phase : ProgramPhase) : Type 0 where
 
 -- and so does each of so many units
 abbrev pub NeedNoStore : (key : ℕ) → ProgramPhase → (did : ℕ) → Type 0
-NeedNoStore key before did = (n : ℕ) (at : ProgramPhase) → n < did → walk (units n) key before ≡ StandsIn at → NeedsNoStore at
+NeedNoStore key before did = (n : ℕ) (at : ProgramPhase) → n < did → walk (units n) key before ≡ StandsIn at
+    → NeedsNoStore at

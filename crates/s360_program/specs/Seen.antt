@@ -28,7 +28,14 @@ work_at (stage.Moving ccw address) = at_work.Moving ccw address
 
 -- a program at this place, whose next unit does this
 abbrev pub seen_at : (key : ℕ) → Place → AtWork → ProgramView
-seen_at key p w = record { key = key; last = p.last; next = p.next; residual = p.residual; interruption = p.interruption; at_work = w }
+seen_at key p w = record {
+  key = key;
+  last = p.last;
+  next = p.next;
+  residual = p.residual;
+  interruption = p.interruption;
+  at_work = w;
+}
 
 -- a program that stands in a phase, as it is seen
 abbrev pub seen_in : (key : ℕ) → ProgramPhase → ProgramView

@@ -21,7 +21,8 @@ abbrev pub phase_by : Stage → Place → Storage → State → Work → Program
 phase_by (stage.Looking ccw) p s d (Looking o) =
     phase.Looking (record { opened = o; state = d }) (record { storage = s; ccw = ccw; place = p })
 phase_by (stage.Moving ccw address) p s d (Passing o b left) =
-    phase.Moving (record { opened = o; state = d }) (record { storage = s; ccw = ccw; place = p; address = address; bytes = b })
+    phase.Moving (record { opened = o; state = d })
+    (record { storage = s; ccw = ccw; place = p; address = address; bytes = b })
 phase_by _ p s d _ = Between (record { storage = s; place = p; state = d })
 
 -- the phase in which a running program stands

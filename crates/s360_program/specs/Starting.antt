@@ -74,14 +74,18 @@ request_for s ccw p = record { storage = s; ccw = ccw; place = place_of p }
 -- an immediate one: nothing is saved, since nothing is written
 abbrev pub ImmediateDone : (key : ℕ) → Ccw → KeptPlace → (motion : Bool) → FirstAnswer → (old new : DriveState) → Type 0
 ImmediateDone key ccw p motion (begun.Immediate told asked) old new =
-    (chains_command ccw ≡ false) × (new.image ≡ old.image) × (asked ≡ p.interruption) × (told.motion ≡ motion) × (told.unit ≡ (immediate old.state motion).unit)
+    (chains_command ccw ≡ false) × (new.image ≡ old.image) × (asked ≡ p.interruption) × (told.motion ≡ motion)
+    × (told.unit ≡ (immediate old.state motion).unit)
     × Leaves (ending None key (place_of p) (immediate old.state motion) no_channel_status) new
 ImmediateDone key ccw p motion (begun.Accepted r) old new =
-    (chains_command ccw ≡ true) × (new.image ≡ old.image) × (run_of r ≡ record { key = key; place = place_of p; stage = stage.Between }) × (new.state ≡ old.state) × (new.work ≡ Idle)
+    (chains_command ccw ≡ true) × (new.image ≡ old.image)
+    × (run_of r ≡ record { key = key; place = place_of p; stage = stage.Between }) × (new.state ≡ old.state)
+    × (new.work ≡ Idle)
 ImmediateDone key ccw p motion begun.Rejected old new = ⊥
 
 -- the first command is over at once, and the program with it
-pub record BegunImmediate (key : ℕ) (r : Request) (b : AfterBegin) (told : DriveEnding) (asked : Bool) (new : DriveState) : Type 0 where
+pub record BegunImmediate (key : ℕ) (r : Request) (b : AfterBegin) (told : DriveEnding) (asked : Bool)
+    (new : DriveState) : Type 0 where
   pub over : Ending
   pub first : first_begun key r b ≡ ImmediateStart over
   pub unit : over.csw.unit ≡ told.unit
@@ -92,8 +96,10 @@ pub record BegunImmediate (key : ℕ) (r : Request) (b : AfterBegin) (told : Dri
 -- what the first command comes to is what the first unit comes to
 abbrev pub FirstBegun : (key : ℕ) → Storage → Ccw → KeptPlace → FirstAnswer → (old new : DriveState) → Type 0
 FirstBegun key s ccw p begun.Rejected old new =
-    (first_begun key (request_for s ccw p) (begin None ccw.code old.state) ≡ RejectedStart (drive_of new.state)) × Rests new
-FirstBegun key s ccw p (begun.Immediate told asked) old new = BegunImmediate key (request_for s ccw p) (begin None ccw.code old.state) told asked new
+    (first_begun key (request_for s ccw p) (begin None ccw.code old.state) ≡ RejectedStart (drive_of new.state))
+    × Rests new
+FirstBegun key s ccw p (begun.Immediate told asked) old new = BegunImmediate key (request_for s ccw p)
+    (begin None ccw.code old.state) told asked new
 FirstBegun key s ccw p (begun.Accepted r) old new =
     (first_begun key (request_for s ccw p) (begin None ccw.code old.state) ≡ AcceptedStart) × (r.key ≡ key) × Fits r new
     × (next_begun None key (request_for s ccw p) (begin None ccw.code old.state) ≡ GoesOn (phase_in (run_of r) s new))

@@ -28,6 +28,7 @@ use Rattle.s360_program.specs.declared.conditions.ChannelCondition.{ChannelCondi
 use Rattle.s360_program.specs.declared.conditions.ChannelCondition.TheVariants as condition
 use Rattle.s360_program.specs.declared.moving.Flow.{Flow}
 use Rattle.s360_program.specs.declared.program.Ran.{Ran}
+use Rattle.s360_program.specs.declared.run.Comes.TheVariants as comes
 use Rattle.s360_program.specs.declared.run.Run.{Run}
 use Rattle.s360_program.specs.Stage.{Stage, stage_of}
 use Rattle.s360_program.specs.Stage as stage
@@ -56,7 +57,8 @@ status_of condition.ProtectionCheck = PROTECTION_CHECK
 
 -- incorrect length is not reported beside unit check
 abbrev pub condition_for : (incorrect : Bool) → UnitStatus → ChannelCondition
-condition_for incorrect unit = if incorrect && not (tells unit UNIT_CHECK) then condition.IncorrectLength else condition.Clear
+condition_for incorrect unit = if incorrect && not (tells unit UNIT_CHECK) then condition.IncorrectLength
+    else condition.Clear
 
 -- whether a command chains to the next: chain command is on, and nothing stops it
 abbrev pub chains_after : Ccw → UnitStatus → ChannelCondition → Bool
@@ -114,10 +116,11 @@ told_of r = (csw_at r.key (place_of r.place) r.ended.unit r.ended.channel, r.end
 -- one unit, which goes on or ends the program
 abbrev pub ComesBy : (key : ℕ) → (Option Fault → Next) → Step → Run → Storage → (old new : DriveState) → Type 0
 ComesBy key next (step.Units n) r s old new = (n ≡ 1) × GoesBy key (next None) r s old new
-ComesBy key next step.Over r s old new = EndsBy next (told_of r) s old new
+ComesBy key next (step.Over n) r s old new = (n ≡ 1) × EndsBy next (told_of r) s old new
 
 -- so many units, and no more than were asked for
-pub record WalksBy (key : ℕ) (phase : ProgramPhase) (most n : ℕ) (r : Run) (s : Storage) (old new : DriveState) : Type 0 where
+pub record WalksBy (key : ℕ) (phase : ProgramPhase) (most n : ℕ) (r : Run) (s : Storage)
+    (old new : DriveState) : Type 0 where
   pub some : 0 < n
   pub few : n ≤ most
   pub failures : new.image.failures ≡ old.image.failures
@@ -126,12 +129,31 @@ pub record WalksBy (key : ℕ) (phase : ProgramPhase) (most n : ℕ) (r : Run) (
   pub fits : Fits r new
   pub no_check : GainsNoCheck (drive_of old.state) (drive_of new.state)
 
--- units, or the one that ends the program
+-- so many units, and no more than were asked for, of which the last ends the program
+pub record OverBy (key : ℕ) (phase : ProgramPhase) (most n : ℕ) (told : Csw × Bool) (s : Storage)
+    (old new : DriveState) : Type 0 where
+  pub earlier : ℕ
+  pub last : n ≡ earlier + 1
+  pub few : n ≤ most
+  pub at : ProgramPhase
+  pub goes : walk (units earlier) key phase ≡ StandsIn at
+  pub ends : EndsBy (λ f. unit f key at) told s old new
+
+-- units that go on, or the last of which ends the program
 abbrev pub Steps : (key : ℕ) → ProgramPhase → (most : ℕ) → Step → Run → Storage → (old new : DriveState) → Type 0
 Steps key phase most (step.Units n) r s old new = WalksBy key phase most n r s old new
-Steps key phase most step.Over r s old new = EndsBy (λ f. unit f key phase) (told_of r) s old new
+Steps key phase most (step.Over n) r s old new = OverBy key phase most n (told_of r) s old new
+
+-- how many units a step was
+abbrev pub count_of : Step → ℕ
+count_of (step.Units n) = n
+count_of (step.Over n) = n
 
 -- The parts of a unit.
+
+-- a program whose bytes come next, under the word that it has kept
+abbrev pub in_bytes : Run → Run
+in_bytes r = record r { comes = comes.Bytes; address = r.ccw.address }
 
 -- where a program stands between two commands
 abbrev pub point_at : Storage → Run → DriveState → Point
@@ -170,7 +192,8 @@ abbrev pub FlowsBy : Flow → State → Work → Type 0
 FlowsBy flow s (Passing o b left) =
     let all = length_of (record { opened = o; state = s }) b in
     (flow.gives ≡ is_giving (action_of o.command)) × (flow.left ≡ 0 → length b ≡ all) × (length b + flow.left ≤ all)
-    × (is_giving (action_of o.command) ≡ true → length b + flow.left ≡ all) × ((length b + flow.left ≡ 8 → ⊥) → length b + flow.left ≡ all)
+    × (is_giving (action_of o.command) ≡ true → length b + flow.left ≡ all)
+    × ((length b + flow.left ≡ 8 → ⊥) → length b + flow.left ≡ all)
 FlowsBy flow s w = ⊥
 
 -- a command of which this many bytes more may move
@@ -188,24 +211,29 @@ abbrev pub transfer_by : Ccw → (address : ℕ) → Storage → Place → Work 
 transfer_by ccw address s p w = record { storage = s; ccw = ccw; place = p; address = address; bytes = passed_of w }
 
 -- so many bytes may move, and storage and the drive are those behind them
-pub record MovesBytesAs (m key : ℕ) (o : Open) (t : Transfer) (w : Work) (s_new : Storage) (d d_new : DriveState) : Type 0 where
+pub record MovesBytesAs (m key : ℕ) (o : Open) (t : Transfer) (w : Work) (s_new : Storage)
+    (d d_new : DriveState) : Type 0 where
   pub may : MayMove m key o t
   pub count : length (next_bytes m o t) ≡ m
   pub storage : s_new ≡ storage_after m o t
   pub drive : d_new ≡ record d { work = moved_on (next_bytes m o t) w }
 
 -- bytes of an open command move, or the first of them may not, for this reason
-abbrev pub MovesBytesBy : (key : ℕ) → Ccw → (address most : ℕ) → Result ℕ ChannelCondition → (s s_new : Storage) → (d d_new : DriveState) → Work → Type 0
+abbrev pub MovesBytesBy : (key : ℕ) → Ccw → (address most : ℕ) → Result ℕ ChannelCondition → (s s_new : Storage)
+    → (d d_new : DriveState) → Work → Type 0
 MovesBytesBy key ccw address most (Ok m) s s_new d d_new (Passing o b left) =
     (0 < m) × (m ≤ most) × ((p : Place) → m ≤ p.residual →
-    MovesBytesAs m key (record { opened = o; state = d.state }) (transfer_by ccw address s p (Passing o b left)) (Passing o b left) s_new d d_new)
+    MovesBytesAs m key (record { opened = o; state = d.state }) (transfer_by ccw address s p (Passing o b left))
+    (Passing o b left) s_new d d_new)
 MovesBytesBy key ccw address most (Err c) s s_new d d_new (Passing o b left) =
     (s_new ≡ s) × (d_new ≡ d) × (is_clear (status_of c) ≡ false)
-    × ((p : Place) → check_of key (record { opened = o; state = d.state }) (transfer_by ccw address s p (Passing o b left)) ≡ status_of c)
+    × ((p : Place) → check_of key (record { opened = o; state = d.state })
+    (transfer_by ccw address s p (Passing o b left)) ≡ status_of c)
 MovesBytesBy key ccw address most r s s_new d d_new w = ⊥
 
 -- bytes move at once, at least one; or the first may not
-abbrev pub MovesBytes : (key : ℕ) → Ccw → (address most : ℕ) → Storage → DriveState → Result ℕ ChannelCondition → Storage → DriveState → Type 0
+abbrev pub MovesBytes : (key : ℕ) → Ccw → (address most : ℕ) → Storage → DriveState → Result ℕ ChannelCondition
+    → Storage → DriveState → Type 0
 MovesBytes key ccw address most s d r s_new d_new = MovesBytesBy key ccw address most r s s_new d d_new d.work
 
 -- whether the count is spent, and the next word has a further area of the same command

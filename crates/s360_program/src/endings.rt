@@ -10,22 +10,10 @@ ghost use Rattle.s360_program.specs.Steps.{status_of, closed_with, told_of};
 
 use crate::conditions::{ChannelCondition, csw_at, with_interruption};
 use crate::run::{Ended, Run};
-use ckd_command::{CHANNEL_AND_DEVICE_END, DriveEnding, END_WITH_UNIT_CHECK};
+use ckd_command::DriveEnding;
 use ckd_drive::Drive;
 use ckd_image::ImageStore;
 use s360_words::{Csw, UnitStatus};
-
-/// No command is open, or none of its bytes has passed.
-pub(crate) const UNTOUCHED: DriveEnding = DriveEnding {
-    unit: CHANNEL_AND_DEVICE_END,
-    motion: false,
-};
-
-/// A command was rejected, or found no area.
-pub(crate) const FAILED: DriveEnding = DriveEnding {
-    unit: END_WITH_UNIT_CHECK,
-    motion: false,
-};
 
 /// Ends a program whose last command ended so: the drive saves the track that was written.
 // Out of the way of the units that go on, which it made slower.
@@ -37,9 +25,11 @@ pub(crate) fn end_program<S: ImageStore>(
     drive: &mut Drive<S>,
 )
     requires { passed_of drive.old.work ≡ [] }
-    ensures ending { IsEnding (ending (fault_met drive.old drive.new) run.old.key (place_of run.old.place) (closed_with drive.old.state drive_ending) (status_of condition)) (told_of run.new) drive.new }
+    ensures ending { IsEnding (ending (fault_met drive.old drive.new) run.old.key (place_of run.old.place)
+        (closed_with drive.old.state drive_ending) (status_of condition)) (told_of run.new) drive.new }
     ensures calls { CallsStore false (is_written drive.old.state) drive.old drive.new }
-    ensures reported { Reports (unsaved drive.new.state ≡ Some (drive.old.state.registers.cylinder, drive.old.state.registers.head)) drive.old drive.new }
+    ensures reported { Reports (unsaved drive.new.state
+        ≡ Some (drive.old.state.registers.cylinder, drive.old.state.registers.head)) drive.old drive.new }
 {
     let unit = match drive.settle() {
         Ok(()) => drive_ending.unit,

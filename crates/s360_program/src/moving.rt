@@ -22,10 +22,11 @@ pub(crate) struct Flow {
 }
 
 // The bytes of a count area, which a formatting write asks for first.
-const COUNT_AREA: usize = 8;
+pub(crate) const COUNT_AREA: u16 = 8;
 
 /// What a drive has or wants now. Where eight bytes have passed, and nothing is left of the drive's last look, another one
 /// reports: a formatting write wants more once the count area came. With any other number all bytes have passed.
+#[inline(always)]
 pub(crate) fn flow_of<S: ImageStore>(drive: &mut Drive<S>) -> Flow
     requires { HasFound drive.old }
     ensures { Flows result drive.old drive.new }
@@ -35,13 +36,26 @@ pub(crate) fn flow_of<S: ImageStore>(drive: &mut Drive<S>) -> Flow
         Phase::Takes { passed, left } => (passed, left),
         Phase::Idle | Phase::Over | Phase::Looking => unreachable!(),
     };
-    if left > 0 || passed != COUNT_AREA {
+    if left > 0 || passed != usize::from(COUNT_AREA) {
         return Flow { gives: false, left };
     }
     let Look::Ready(left) = drive.look() else {
         unreachable!()
     };
     Flow { gives: false, left }
+}
+
+/// Whether a drive that has found the area of its command gives the bytes.
+#[inline(always)]
+pub(crate) fn gives<S: ImageStore>(drive: &Drive<S>) -> bool
+    requires { HasFound drive.now }
+    ensures { result ≡ gives_now drive.now.work }
+{
+    match drive.phase() {
+        Phase::Gives { passed: _, left: _ } => true,
+        Phase::Takes { passed: _, left: _ } => false,
+        Phase::Idle | Phase::Over | Phase::Looking => unreachable!(),
+    }
 }
 
 /// Moves so many bytes at once at most, and at least one, or says why the first may not move.
@@ -85,7 +99,8 @@ fn write<S: ImageStore>(
     requires left { most ≤ left_of drive.old.work }
     requires moving { IsMoving drive.old }
     requires narrow { address < 2 ^ 25 }
-    ensures moves { (key : ℕ) (ccw : Ccw) → MovesBytes key ccw address most storage.now drive.old result storage.now drive.new }
+    ensures moves { (key : ℕ) (ccw : Ccw) → MovesBytes key ccw address most storage.now drive.old result storage.now
+        drive.new }
     ensures image { drive.new.image ≡ drive.old.image }
 {
     let bytes = storage.bytes_from(address, usize::from(most));

@@ -80,7 +80,8 @@ impl Running {
     /// to be saved (Principles of Operation, 'Start I/O').
     pub fn start<S: ImageStore>(caw: u32, storage: &Storage, drive: &mut Drive<S>) -> Start
         requires { Rests drive.old }
-        ensures first { IsFirst (record { caw = caw; storage = storage.now; drive = drive_of drive.old.state }) result drive.old drive.new }
+        ensures first { IsFirst (record { caw = caw; storage = storage.now; drive = drive_of drive.old.state }) result
+            drive.old drive.new }
         ensures quiet { StartsQuietly drive.old drive.new }
     {
         let Some(caw) = Caw::from_word(caw) else {
@@ -113,11 +114,13 @@ impl Running {
         drive: &mut Drive<S>,
     ) -> Advance
         requires { Stands self.old drive.old }
-        ensures advances { Advances self.old.key (phase_in self.old storage.old drive.old) units result self.new storage.new drive.old drive.new }
+        ensures advances { Advances self.old.key (phase_in self.old storage.old drive.old) units result self.new
+            storage.new drive.old drive.new }
         ensures storage { KeepsStorage storage.old storage.new }
         ensures calls { CallsAtMost (2 * result.done) drive.old drive.new }
         ensures tells { TellsOf result.ending drive.old drive.new }
-        ensures quiet { NeedNoStore self.old.key (phase_in self.old storage.old drive.old) result.done → drive.new.image ≡ drive.old.image }
+        ensures quiet { NeedNoStore self.old.key (phase_in self.old storage.old drive.old) result.done
+            → drive.new.image ≡ drive.old.image }
     {
         let ran = self.run_on(u32::from(units), storage, drive);
         Advance {
@@ -136,12 +139,14 @@ impl Running {
         drive: &mut Drive<S>,
     ) -> Ran
         requires { Stands self.old drive.old }
-        ensures runs { RunsOn self.old.key (phase_in self.old storage.old drive.old) units result self.new storage.new drive.old drive.new }
+        ensures runs { RunsOn self.old.key (phase_in self.old storage.old drive.old) units result self.new storage.new
+            drive.old drive.new }
         ensures most { result.done ≤ units }
         ensures storage { KeepsStorage storage.old storage.new }
         ensures calls { CallsAtMost (2 * result.done) drive.old drive.new }
         ensures tells { TellsOf result.ending drive.old drive.new }
-        ensures quiet { NeedNoStore self.old.key (phase_in self.old storage.old drive.old) result.done → drive.new.image ≡ drive.old.image }
+        ensures quiet { NeedNoStore self.old.key (phase_in self.old storage.old drive.old) result.done
+            → drive.new.image ≡ drive.old.image }
     {
         let mut run = self.run;
         let ran = run.advance(units, storage, drive);
@@ -157,7 +162,8 @@ impl Running {
     pub fn cut<S: ImageStore>(self, drive: &mut Drive<S>) -> (Csw, bool, Option<(u16, u16)>)
         requires { Stands self drive.old }
         ensures cut { (s : StorageState) → Cuts self.key (phase_in self s drive.old) result drive.old drive.new }
-        ensures calls { (s : StorageState) → CallsStore false (has_written (phase_in self s drive.old)) drive.old drive.new }
+        ensures calls { (s : StorageState) → CallsStore false (has_written (phase_in self s drive.old)) drive.old
+            drive.new }
         ensures tells { CutTellsOf result drive.old drive.new }
         ensures rests { Rests drive.new }
     {
@@ -169,8 +175,10 @@ impl Running {
     /// The channel status word of the interruption that a word of the program asked for, which is taken by this call; none
     /// where none is asked for (Principles of Operation, 'Program-Controlled Interruption').
     pub fn take_pci(&mut self) -> Option<Csw>
-        ensures answer { (s : StorageState) (d : DriveState) → result ≡ (standing_in self.old.key (phase_in self.old s d)).interruption }
-        ensures taken { (s : StorageState) (d : DriveState) → phase_in self.new s d ≡ phase_past TakesInterruption (phase_in self.old s d) }
+        ensures answer { (s : StorageState) (d : DriveState)
+            → result ≡ (standing_in self.old.key (phase_in self.old s d)).interruption }
+        ensures taken { (s : StorageState) (d : DriveState)
+            → phase_in self.new s d ≡ phase_past TakesInterruption (phase_in self.old s d) }
         ensures stands { (d : DriveState) → Stands self.old d → Stands self.new d }
         ensures key { self.new.key ≡ self.old.key }
     {
@@ -190,7 +198,8 @@ impl Running {
     /// What is seen of the program between two units: the word at work and the next one, the residual count, and what the next
     /// unit does. It is read off the phase in which the program stands.
     pub fn view(&self) -> ProgramView
-        ensures { (s : StorageState) (d : DriveState) → Stands self.now d → result ≡ seen_in self.now.key (phase_in self.now s d) }
+        ensures { (s : StorageState) (d : DriveState) → Stands self.now d
+            → result ≡ seen_in self.now.key (phase_in self.now s d) }
     {
         let run = &self.run;
         ProgramView {
@@ -205,7 +214,8 @@ impl Running {
 
     /// Whether an interruption is asked for and not yet taken.
     pub fn interruption_asked(&self) -> bool
-        ensures { (s : StorageState) (d : DriveState) → result ≡ is_some (standing_in self.now.key (phase_in self.now s d)).interruption }
+        ensures { (s : StorageState) (d : DriveState)
+            → result ≡ is_some (standing_in self.now.key (phase_in self.now s d)).interruption }
     {
         self.run.place.interruption
     }

@@ -51,9 +51,9 @@ pub(crate) struct Ended {
 #[derive(Clone, Copy, Debug, PartialEq, Eq)]
 pub(crate) enum Step {
     /// So many were done, and the program goes on.
-    Units(u16),
-    /// One was done, and the program is over.
-    Over,
+    Units(u32),
+    /// So many were done, and the last of them ended the program.
+    Over(u32),
 }
 
 /// No end has been reported.

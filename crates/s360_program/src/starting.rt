@@ -63,7 +63,8 @@ fn immediate<S: ImageStore>(key: u8, place: Place, ccw: Ccw, drive: &mut Drive<S
     requires key { key < 16 }
     requires next { place.next ≤ 2 ^ 24 }
     requires last { place.last ≤ 2 ^ 24 }
-    ensures { (motion : Bool) → drive.old.work ≡ Over (immediate_ending motion) → ImmediateDone key ccw place motion result drive.old drive.new }
+    ensures { (motion : Bool) → drive.old.work ≡ Over (immediate_ending motion)
+        → ImmediateDone key ccw place motion result drive.old drive.new }
 {
     let ending = drive.end();
     if ccw.chains_command() {

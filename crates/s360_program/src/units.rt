@@ -1,24 +1,25 @@
 //! A running channel program, unit by unit (Principles of Operation, Input/Output Operations).
 
-ghost use Rattle.std.specs.Prelude.{◌≡◌, ◌⊎◌, ◌<◌, ◌≤◌, ◌+◌, ◌*◌, ◌^◌, ◌&&◌, not, true, false, None, is_some};
-ghost use Rattle.s360_words.specs.Words.{suppresses_length};
+ghost use Rattle.std.specs.Prelude.{ℕ, ◌≡◌, ◌⊎◌, ◌<◌, ◌≤◌, ◌+◌, ◌*◌, ◌^◌, ◌&&◌, [], not, true, false, None, is_some};
+ghost use Rattle.s360_words.specs.Words.{chains_data, suppresses_length};
 ghost use Rattle.ckd_command.specs.Drive.{is_written, unsaved};
 ghost use Rattle.s360_runs.specs.Commands.{choice};
 ghost use Rattle.s360_runs.specs.Endings.{ending};
 ghost use Rattle.s360_runs.specs.Units.{unit, next_chosen, Between, EndsIn, standing_in};
 ghost use Rattle.s360_runs.specs.Unsaved.{has_written};
 ghost use Rattle.s360_words.specs.Storage.{Storage as StorageState};
-ghost use Rattle.ckd_drive.specs.Work.{is_idle, may_end, closed_of, CallsStore};
+ghost use Rattle.ckd_drive.specs.Work.{is_idle, may_end, closed_of, left_of, passed_of, CallsStore};
 ghost use Rattle.s360_program.specs.Advances.{RunsOn, CallsAtMost, KeepsStorage, NeedNoStore, TellsOf};
 ghost use Rattle.s360_program.specs.Stands.{phase_in, Within};
-ghost use Rattle.s360_program.specs.Steps.{run_of, Fits, IsQuiet, ComesBy, EndsBy, Steps, has_moved, goes_on, point_at, request_at, status_of, condition_for, differs, needs_area};
+ghost use Rattle.s360_program.specs.Steps.{run_of, in_bytes, count_of, Fits, IsQuiet, ComesBy, EndsBy, Steps, has_moved, goes_on, point_at, request_at, status_of, condition_for, differs, needs_area};
 
 use crate::conditions::{ChannelCondition, chains};
-use crate::endings::{FAILED, UNTOUCHED, end_program, told};
-use crate::moving::{flow_of, move_bytes};
+use crate::endings::{end_program, told};
+use crate::moving::{COUNT_AREA, flow_of, gives, move_bytes};
 use crate::place::Fetched;
 use crate::program::Ran;
 use crate::run::{Comes, Run, Step};
+use ckd_command::DriveEnding;
 use ckd_drive::{Begun, Drive, Look, Phase};
 use ckd_image::ImageStore;
 use s360_words::{Ccw, Csw, Storage};
@@ -32,21 +33,23 @@ impl Run {
         drive: &mut Drive<S>,
     ) -> Ran
         requires { Fits self.old drive.old }
-        ensures advances { RunsOn self.old.key (phase_in (run_of self.old) storage.old drive.old) units result (run_of self.new) storage.new drive.old drive.new }
+        ensures advances { RunsOn self.old.key (phase_in (run_of self.old) storage.old drive.old) units result
+            (run_of self.new) storage.new drive.old drive.new }
         ensures most { result.done ≤ units }
         ensures within { goes_on result ≡ true → Within (run_of self.new) }
         ensures storage { KeepsStorage storage.old storage.new }
         ensures calls { CallsAtMost (2 * result.done) drive.old drive.new }
         ensures tells { TellsOf result.ending drive.old drive.new }
-        ensures quiet { NeedNoStore self.old.key (phase_in (run_of self.old) storage.old drive.old) result.done → drive.new.image ≡ drive.old.image }
+        ensures quiet { NeedNoStore self.old.key (phase_in (run_of self.old) storage.old drive.old) result.done
+            → drive.new.image ≡ drive.old.image }
     {
         let mut left = units;
         while left > 0 {
             match self.step(left, storage, drive) {
-                Step::Units(n) => left -= n as u32,
-                Step::Over => {
+                Step::Units(n) => left -= n,
+                Step::Over(n) => {
                     return Ran {
-                        done: units - left + 1,
+                        done: units - left + n,
                         ending: Some(told(self)),
                     };
                 }
@@ -61,12 +64,15 @@ impl Run {
     /// Cuts the program: the open command is closed by the bytes that have passed, where any have.
     pub(crate) fn cut<S: ImageStore>(&mut self, drive: &mut Drive<S>) -> (Csw, bool)
         requires { Fits self.old drive.old }
-        ensures cut { (s : StorageState) → EndsBy (λ f. EndsIn s ((standing_in self.old.key (phase_in (run_of self.old) s drive.old)).cut f)) result s drive.old drive.new }
-        ensures calls { (s : StorageState) → CallsStore false (has_written (phase_in (run_of self.old) s drive.old)) drive.old drive.new }
-        ensures lost { (drive.new.image.failures ≡ drive.old.image.failures) ⊎ (is_some (unsaved drive.new.state) ≡ true) }
+        ensures cut { (s : StorageState) → EndsBy (λ f. EndsIn s
+            ((standing_in self.old.key (phase_in (run_of self.old) s drive.old)).cut f)) result s drive.old drive.new }
+        ensures calls { (s : StorageState) → CallsStore false (has_written (phase_in (run_of self.old) s drive.old))
+            drive.old drive.new }
+        ensures lost { (drive.new.image.failures ≡ drive.old.image.failures)
+            ⊎ (is_some (unsaved drive.new.state) ≡ true) }
     {
         if !has_moved(drive) {
-            end_program(self, UNTOUCHED, ChannelCondition::Clear, drive);
+            end_program(self, DriveEnding::ENDED, ChannelCondition::Clear, drive);
             return told(self);
         }
         let ending = drive.end();
@@ -83,10 +89,12 @@ impl Run {
     ) -> Step
         requires some { 0 < most }
         requires fits { Fits self.old drive.old }
-        ensures steps { Steps self.old.key (phase_in (run_of self.old) storage.old drive.old) most result self.new storage.new drive.old drive.new }
+        ensures steps { Steps self.old.key (phase_in (run_of self.old) storage.old drive.old) most result self.new
+            storage.new drive.old drive.new }
         ensures storage { KeepsStorage storage.old storage.new }
         ensures calls { CallsAtMost 2 drive.old drive.new }
-        ensures quiet { IsQuiet drive.old → drive.new.image ≡ drive.old.image }
+        ensures quiet { NeedNoStore self.old.key (phase_in (run_of self.old) storage.old drive.old) (count_of result)
+            → drive.new.image ≡ drive.old.image }
     {
         match self.comes {
             Comes::NextCommand => self.next_command(storage, drive),
@@ -100,15 +108,21 @@ impl Run {
         requires fits { Fits self.old drive.old }
         requires idle { is_idle drive.old.work ≡ true }
         requires stage { self.old.comes ≡ Comes.NextCommand }
-        ensures comes { ComesBy self.old.key (λ f. unit f self.old.key (Between (point_at storage.now self.old drive.old))) result self.new storage.now drive.old drive.new }
+        ensures comes { ComesBy self.old.key (λ f. unit f self.old.key
+            (Between (point_at storage.now self.old drive.old))) result self.new storage.now drive.old drive.new }
         ensures calls { CallsAtMost 2 drive.old drive.new }
         ensures quiet { IsQuiet drive.old → drive.new.image ≡ drive.old.image }
     {
         let ccw = match self.place.fetch(storage, true) {
             Fetched::NoCcw => {
                 self.place.miss();
-                end_program(self, UNTOUCHED, ChannelCondition::ProgramCheck, drive);
-                return Step::Over;
+                end_program(
+                    self,
+                    DriveEnding::ENDED,
+                    ChannelCondition::ProgramCheck,
+                    drive,
+                );
+                return Step::Over(1);
             }
             Fetched::TransferTo(address) => {
                 self.place.transfer(address);
@@ -121,8 +135,8 @@ impl Run {
         self.keep(ccw);
         match drive.begin(ccw.code) {
             Begun::Rejected => {
-                end_program(self, FAILED, ChannelCondition::Clear, drive);
-                Step::Over
+                end_program(self, DriveEnding::FAILED, ChannelCondition::Clear, drive);
+                Step::Over(1)
             }
             Begun::Immediate => self.conclude(ccw, false, drive),
             Begun::Started => {
@@ -140,16 +154,20 @@ impl Run {
         requires last { self.old.place.last ≤ 2 ^ 24 + 8 }
         requires may { may_end drive.old.work ≡ true }
         requires saved { unsaved drive.old.state ≡ None }
-        ensures comes { (s : StorageState) → ComesBy self.old.key (λ f. next_chosen (choice f self.old.key (request_at s ccw self.old) (closed_of f drive.old drive.old.work) (status_of (condition_for incorrect (closed_of f drive.old drive.old.work).unit)))) result self.new s drive.old drive.new }
+        ensures comes { (s : StorageState) → ComesBy self.old.key
+            (λ f. next_chosen (choice f self.old.key (request_at s ccw self.old) (closed_of f drive.old drive.old.work)
+            (status_of (condition_for incorrect (closed_of f drive.old drive.old.work).unit)))) result self.new s
+            drive.old drive.new }
         ensures loads { drive.new.image.loads ≡ drive.old.image.loads }
         ensures calls { CallsAtMost 1 drive.old drive.new }
-        ensures unwritten { is_written drive.old.state ≡ false → is_written (closed_of None drive.old drive.old.work).state ≡ false → drive.new.image ≡ drive.old.image }
+        ensures unwritten { is_written drive.old.state ≡ false
+            → is_written (closed_of None drive.old drive.old.work).state ≡ false → drive.new.image ≡ drive.old.image }
     {
         let ending = drive.end();
         let condition = ChannelCondition::of_length(incorrect, ending.unit);
         if !chains(ccw, ending.unit, condition) {
             end_program(self, ending, condition, drive);
-            return Step::Over;
+            return Step::Over(1);
         }
         self.place.modify(ending.unit);
         self.comes = Comes::NextCommand;
@@ -161,14 +179,16 @@ impl Run {
     fn stop<S: ImageStore>(&mut self, condition: ChannelCondition, drive: &mut Drive<S>) -> Step
         requires may { may_end drive.old.work ≡ true }
         requires saved { unsaved drive.old.state ≡ None }
-        ensures comes { (s : StorageState) → ComesBy self.old.key (λ f. EndsIn s (ending f self.old.key (run_of self.old).place (closed_of f drive.old drive.old.work) (status_of condition))) result self.new s drive.old drive.new }
+        ensures comes { (s : StorageState) → ComesBy self.old.key
+            (λ f. EndsIn s (ending f self.old.key (run_of self.old).place (closed_of f drive.old drive.old.work)
+            (status_of condition))) result self.new s drive.old drive.new }
         ensures loads { drive.new.image.loads ≡ drive.old.image.loads }
         ensures calls { CallsAtMost 1 drive.old drive.new }
         ensures quiet { IsQuiet drive.old → drive.new.image ≡ drive.old.image }
     {
         let ending = drive.end();
         end_program(self, ending, condition, drive);
-        Step::Over
+        Step::Over(1)
     }
 
     // A look for the area of a command; where it is found the unit goes on.
@@ -181,22 +201,69 @@ impl Run {
         requires some { 0 < most }
         requires fits { Fits self.old drive.old }
         requires stage { self.old.comes ≡ Comes.Look }
-        ensures steps { Steps self.old.key (phase_in (run_of self.old) storage.old drive.old) most result self.new storage.new drive.old drive.new }
+        ensures steps { Steps self.old.key (phase_in (run_of self.old) storage.old drive.old) most result self.new
+            storage.new drive.old drive.new }
         ensures storage { KeepsStorage storage.old storage.new }
         ensures calls { CallsAtMost 2 drive.old drive.new }
-        ensures quiet { IsQuiet drive.old → drive.new.image ≡ drive.old.image }
+        ensures quiet { NeedNoStore self.old.key (phase_in (run_of self.old) storage.old drive.old) (count_of result)
+            → drive.new.image ≡ drive.old.image }
     {
         match drive.look() {
             Look::Failed => {
-                end_program(self, FAILED, ChannelCondition::Clear, drive);
-                Step::Over
+                end_program(self, DriveEnding::FAILED, ChannelCondition::Clear, drive);
+                Step::Over(1)
             }
             Look::Passed => Step::Units(1),
-            Look::Ready(_) => {
+            Look::Ready(left) => {
+                let count = self.place.residual;
+                if left == usize::from(count)
+                    && most > u32::from(count)
+                    && !self.ccw.chains_data()
+                    && count > 0
+                {
+                    return self.complete(storage, drive);
+                }
                 self.comes = Comes::Bytes;
                 self.address = self.ccw.address;
                 self.transfer(most, storage, drive)
             }
+        }
+    }
+
+    // All bytes of a command whose area was just found, and its end, of which nothing half done is kept where all of them pass.
+    #[inline(always)]
+    fn complete<S: ImageStore>(&mut self, storage: &mut Storage, drive: &mut Drive<S>) -> Step
+        requires fits { Fits (in_bytes self.old) drive.old }
+        requires some { 0 < self.old.place.residual }
+        requires left { left_of drive.old.work ≡ self.old.place.residual }
+        requires first { passed_of drive.old.work ≡ [] }
+        requires unchained { chains_data self.old.ccw ≡ false }
+        ensures steps { (most : ℕ) → self.old.place.residual < most
+            → Steps self.old.key (phase_in (run_of (in_bytes self.old)) storage.old drive.old) most result self.new
+            storage.new drive.old drive.new }
+        ensures storage { KeepsStorage storage.old storage.new }
+        ensures loads { drive.new.image.loads ≡ drive.old.image.loads }
+        ensures calls { CallsAtMost 1 drive.old drive.new }
+        ensures quiet { NeedNoStore self.old.key (phase_in (run_of (in_bytes self.old)) storage.old drive.old)
+            (count_of result) → drive.new.image ≡ drive.old.image }
+    {
+        let gives = gives(drive);
+        let (key, ccw, count) = (self.key, self.ccw, self.place.residual);
+        match move_bytes(gives, key, ccw, ccw.address, count, storage, drive) {
+            Ok(m) if is_all(m, count, gives) => {
+                self.place.residual = 0;
+                match self.conclude(ccw, false, drive) {
+                    Step::Units(_) => Step::Units(u32::from(count) + 1),
+                    Step::Over(_) => Step::Over(u32::from(count) + 1),
+                }
+            }
+            Ok(m) => {
+                self.comes = Comes::Bytes;
+                self.place.residual -= m;
+                self.address = ccw.address + u32::from(m);
+                Step::Units(u32::from(m))
+            }
+            Err(condition) => self.stop(condition, drive),
         }
     }
 
@@ -211,7 +278,8 @@ impl Run {
         requires some { 0 < most }
         requires fits { Fits self.old drive.old }
         requires stage { self.old.comes ≡ Comes.Bytes }
-        ensures steps { Steps self.old.key (phase_in (run_of self.old) storage.old drive.old) most result self.new storage.new drive.old drive.new }
+        ensures steps { Steps self.old.key (phase_in (run_of self.old) storage.old drive.old) most result self.new
+            storage.new drive.old drive.new }
         ensures storage { KeepsStorage storage.old storage.new }
         ensures loads { drive.new.image.loads ≡ drive.old.image.loads }
         ensures calls { CallsAtMost 1 drive.old drive.new }
@@ -232,7 +300,7 @@ impl Run {
             Ok(m) => {
                 self.place.residual -= m;
                 self.address += u32::from(m);
-                Step::Units(m)
+                Step::Units(u32::from(m))
             }
             Err(condition) => self.stop(condition, drive),
         }
@@ -244,7 +312,8 @@ impl Run {
         requires fits { Fits self.old drive.old }
         requires stage { self.old.comes ≡ Comes.Bytes }
         requires residual { self.old.place.residual ≡ 0 }
-        ensures comes { ComesBy self.old.key (λ f. unit f self.old.key (phase_in (run_of self.old) storage.now drive.old)) result self.new storage.now drive.old drive.new }
+        ensures comes { ComesBy self.old.key (λ f. unit f self.old.key
+            (phase_in (run_of self.old) storage.now drive.old)) result self.new storage.now drive.old drive.new }
         ensures loads { drive.new.image.loads ≡ drive.old.image.loads }
         ensures calls { CallsAtMost 1 drive.old drive.new }
         ensures quiet { IsQuiet drive.old → drive.new.image ≡ drive.old.image }
@@ -263,7 +332,8 @@ impl Run {
         requires fits { Fits self.old drive.old }
         requires stage { self.old.comes ≡ Comes.Bytes }
         requires needs { needs_area (run_of self.old) ≡ true }
-        ensures comes { ComesBy self.old.key (λ f. unit f self.old.key (phase_in (run_of self.old) storage.now drive.old)) result self.new storage.now drive.old drive.new }
+        ensures comes { ComesBy self.old.key (λ f. unit f self.old.key
+            (phase_in (run_of self.old) storage.now drive.old)) result self.new storage.now drive.old drive.new }
         ensures loads { drive.new.image.loads ≡ drive.old.image.loads }
         ensures calls { CallsAtMost 1 drive.old drive.new }
         ensures quiet { IsQuiet drive.old → drive.new.image ≡ drive.old.image }
@@ -285,6 +355,13 @@ impl Run {
             }
         }
     }
+}
+
+// Whether so many bytes are all that a word counts, and all that the drive has: a formatting write may want more behind its count area.
+fn is_all(moved: u16, count: u16, gives: bool) -> bool
+    ensures { result ≡ true → (count ≤ moved) × ((gives ≡ true) ⊎ (moved ≡ 8 → ⊥)) }
+{
+    moved == count && (gives || moved != COUNT_AREA)
 }
 
 // Whether a byte of the open command has moved.

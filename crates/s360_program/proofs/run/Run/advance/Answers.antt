@@ -1,6 +1,7 @@
 use Rattle.std.proofs.Common.{◌≡◌, ◌∙◌, ◌+◌, ◌-◌, ◌≤◌, ℕ, subst, arith}
 use Rattle.s360_runs.specs.Scripts.{units}
 use Rattle.s360_runs.specs.Units.{walk, StandsIn}
+use Rattle.s360_program.specs.Advances.{CameToEnd}
 use Rattle.s360_program.specs.Stands.{phase_in}
 use Rattle.s360_program.specs.Steps.{run_of, told_of}
 use Rattle.s360_program.proofs.Advancing.{more_units, last_unit}
@@ -10,6 +11,9 @@ use Rattle.s360_program.proofs.run.Run.advance.Goals as goal
 -- so many are done where so many less are left
 fewer_left : (all left n : ℕ) → left ≤ all → n ≤ left → (all - left) + n ≡ all - (left - n)
 fewer_left all left n h k = omega arith
+
+in_all : (d earlier n all left : ℕ) → n ≡ earlier + 1 → left ≤ all → n ≤ left → d + earlier + 1 ≡ d + n
+in_all d earlier n all left h k few = omega arith
 
 pub loop-left-preserved : goal.loop-left-preserved
 loop-left-preserved g c =
@@ -31,7 +35,7 @@ loop-left-preserved g c =
       calls = record { calls = omega (arith, w.some, w.few, i.within, e.calls.calls, i.calls.calls); lasting = e.calls.lasting ∙ i.calls.lasting; geometry = e.calls.geometry ∙ i.calls.geometry };
       walked = subst (λ done. walk (units done) a.self.now.key (phase_in (run_of a.self.now) a.storage.now a.drive.now) ≡ StandsIn (phase_in (run_of c.step.new.self) c.step.new.storage c.step.new.drive)) fewer
           (more_units a.self.now.key l.self.key (phase_in (run_of a.self.now) a.storage.now a.drive.now) (phase_in (run_of l.self) l.storage l.drive) (phase_in (run_of c.step.new.self) c.step.new.storage c.step.new.drive) d n i.key i.walked w.goes);
-      quiet = still_quiet a.self.now.key (phase_in (run_of a.self.now) a.storage.now a.drive.now) d (a.units - (l.left - n)) (run_of l.self) l.storage a.drive.now l.drive c.step.new.drive (omega (arith, w.some, w.few, i.within)) i.fits.stands i.walked i.quiet e.quiet;
+      quiet = still_quiet a.self.now.key l.self.key (phase_in (run_of a.self.now) a.storage.now a.drive.now) (phase_in (run_of l.self) l.storage l.drive) d n (a.units - (l.left - n)) a.drive.now l.drive c.step.new.drive i.key (omega (arith, w.few, i.within)) i.walked i.quiet e.quiet;
     }
 
 pub returns-in-Over-clause-advances : goal.returns-in-Over-clause-advances
@@ -39,13 +43,17 @@ returns-in-Over-clause-advances g c =
     let i = c.loop-left.invariant in
     let l = c.loop-left in
     let a = c.args in
+    let n = c.in-Over.n in
+    let w = c.in-Over.ensures.steps in
+    let d = a.units - l.left in
     rw c.told.ensures
-    (last_unit a.self.now.key l.self.key (phase_in (run_of a.self.now) a.storage.now a.drive.now) (phase_in (run_of l.self) l.storage l.drive) (a.units - l.left) a.units (told_of c.step.new.self) c.step.new.storage a.drive.now l.drive c.step.new.drive
-    i.key i.walked i.failures (omega (arith, i.within)) c.in-Over.ensures.steps)
+    (subst (λ n. CameToEnd a.self.now.key (phase_in (run_of a.self.now) a.storage.now a.drive.now) a.units n (told_of c.step.new.self) c.step.new.storage a.drive.now c.step.new.drive) (in_all d w.earlier n a.units l.left w.last i.within w.few)
+    (last_unit a.self.now.key l.self.key (phase_in (run_of a.self.now) a.storage.now a.drive.now) w.at (d + w.earlier) a.units (told_of c.step.new.self) c.step.new.storage a.drive.now l.drive c.step.new.drive
+    i.key (more_units a.self.now.key l.self.key (phase_in (run_of a.self.now) a.storage.now a.drive.now) (phase_in (run_of l.self) l.storage l.drive) w.at d w.earlier i.key i.walked w.goes) i.failures (omega (arith, i.within, w.last, w.few)) w.ends))
 
 pub returns-in-Over-clause-quiet : goal.returns-in-Over-clause-quiet
 returns-in-Over-clause-quiet g c =
     let i = c.loop-left.invariant in
     let l = c.loop-left in
     let a = c.args in
-    still_quiet a.self.now.key (phase_in (run_of a.self.now) a.storage.now a.drive.now) (a.units - l.left) ((a.units - l.left) + 1) (run_of l.self) l.storage a.drive.now l.drive c.step.new.drive (omega arith) i.fits.stands i.walked i.quiet c.in-Over.ensures.quiet
+    still_quiet a.self.now.key l.self.key (phase_in (run_of a.self.now) a.storage.now a.drive.now) (phase_in (run_of l.self) l.storage l.drive) (a.units - l.left) c.in-Over.n ((a.units - l.left) + c.in-Over.n) a.drive.now l.drive c.step.new.drive i.key (omega arith) i.walked i.quiet c.in-Over.ensures.quiet

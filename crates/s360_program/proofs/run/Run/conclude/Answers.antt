@@ -9,10 +9,12 @@ returns-then-not-chains-clause-comes g c = λ s.
     let a = c.args in
     let e = c.end-ending in
     let k = c.of_length-condition in
-    let p = c.end_program in
-    concludes a.self.now.key (place_of a.self.now.place) k.result s _ _ a.drive.now e.new.self p.new.drive e.result
-    (record { saved = c.requires.saved; state = e.ensures.state; ending = e.ensures.ending; calls = e.ensures.calls; reports = e.ensures.reported })
-    (record { calls = p.ensures.calls; reports = p.ensures.reported; is = p.ensures.ending }) a.ccw a.incorrect k.ensures (sym c.chains.ensures ∙ c.if-not-chains.true)
+    let p = c.end_program in (
+      refl,
+      concludes a.self.now.key (place_of a.self.now.place) k.result s _ _ a.drive.now e.new.self p.new.drive e.result
+          (record { saved = c.requires.saved; state = e.ensures.state; ending = e.ensures.ending; calls = e.ensures.calls; reports = e.ensures.reported })
+          (record { calls = p.ensures.calls; reports = p.ensures.reported; is = p.ensures.ending }) a.ccw a.incorrect k.ensures (sym c.chains.ensures ∙ c.if-not-chains.true),
+    )
 
 pub returns-clause-comes : goal.returns-clause-comes
 returns-clause-comes g c = λ s.

@@ -1,6 +1,9 @@
-use Rattle.std.proofs.Common.{rules}
-use Rattle.s360_program.proofs.Looking.{look_fails, look_passes, look_fits, look_finds}
-use Rattle.s360_program.proofs.Quiet.{finds_quiet}
+use Rattle.std.proofs.Common.{arith, rules}
+use Rattle.s360_program.proofs.Looking.{look_fails, look_passes, look_fits, look_finds, ready_left, ready_first}
+use Rattle.s360_program.specs.Stands.{phase_in}
+use Rattle.s360_program.specs.Steps.{run_of, in_bytes, count_of}
+use Rattle.s360_program.proofs.Transferring.{over_once, counts_some}
+use Rattle.s360_program.proofs.Quiet.{finds_quiet, fails_quiet, first_quiet}
 use Rattle.s360_program.proofs.run.Run.look.Goals as goal
 
 pub returns-in-Failed-clause-steps : goal.returns-in-Failed-clause-steps
@@ -8,7 +11,8 @@ returns-in-Failed-clause-steps g c =
     let a = c.args in
     let l = c.in-Failed.ensures in
     let p = c.end_program in
-    look_fails a.self.now a.storage.now a.drive.now c.look.new.self c.requires.fits c.requires.stage l.state _ _ p.new.drive l.answer l.calls l.reported p.ensures.calls p.ensures.reported p.ensures.ending
+    over_once a.self.now.key (phase_in (run_of a.self.now) a.storage.now a.drive.now) a.most _ a.storage.now a.drive.now p.new.drive c.requires.some
+    (look_fails a.self.now a.storage.now a.drive.now c.look.new.self c.requires.fits c.requires.stage l.state _ _ p.new.drive l.answer l.calls l.reported p.ensures.calls p.ensures.reported p.ensures.ending)
 
 pub returns-in-Passed-clause-steps : goal.returns-in-Passed-clause-steps
 returns-in-Passed-clause-steps g c =
@@ -16,21 +20,70 @@ returns-in-Passed-clause-steps g c =
     let l = c.in-Passed.ensures in
     look_passes a.self.now a.storage.now a.drive.now c.look.new.self c.requires.fits c.requires.stage l.state a.most c.requires.some l.answer l.reported
 
+pub returns-in-Failed-clause-quiet : goal.returns-in-Failed-clause-quiet
+returns-in-Failed-clause-quiet g c = λ h.
+    let a = c.args in
+    let l = c.in-Failed.ensures in
+    let p = c.end_program in
+    fails_quiet a.self.now a.drive.now c.look.new.self p.new.drive c.requires.fits c.requires.stage l.state l.calls p.ensures.calls
+    (first_quiet (run_of a.self.now) a.storage.now a.drive.now 1 a.self.now.key c.requires.fits.stands (omega arith) h)
+
+pub returns-in-Passed-clause-quiet : goal.returns-in-Passed-clause-quiet
+returns-in-Passed-clause-quiet g c = λ h.
+    let a = c.args in
+    let k = first_quiet (run_of a.self.now) a.storage.now a.drive.now 1 a.self.now.key c.requires.fits.stands (omega arith) h in
+    search rules
+
+pub complete-requires-clause-fits : goal.complete-requires-clause-fits
+complete-requires-clause-fits g c =
+    let a = c.args in
+    let l = c.in-Ready.ensures in
+    look_fits a.self.now a.storage.now a.drive.now c.look.new.self c.requires.fits c.requires.stage l.state c.in-Ready.left l.answer l.reported
+
+pub complete-requires-clause-left : goal.complete-requires-clause-left
+complete-requires-clause-left g c =
+    let a = c.args in
+    let l = c.in-Ready.ensures in
+    omega (arith, ready_left a.self.now a.storage.now a.drive.now c.look.new.self c.requires.fits c.requires.stage l.state c.in-Ready.left l.answer l.reported, c.if-left-from.true)
+
+pub complete-requires-clause-first : goal.complete-requires-clause-first
+complete-requires-clause-first g c =
+    let a = c.args in
+    let l = c.in-Ready.ensures in
+    ready_first a.self.now a.storage.now a.drive.now c.look.new.self c.requires.fits c.requires.stage l.state c.in-Ready.left l.answer l.reported
+
+pub returns-then-count-gt0 : goal.returns-then-count-gt0
+returns-then-count-gt0 g c =
+    let a = c.args in
+    let q = c.requires in
+    let l = c.in-Ready.ensures in
+    let t = c.complete in
+    let k = t.ensures.steps a.most (omega arith) in
+    record {
+      steps = look_finds a.self.now a.storage.now a.drive.now c.look.new.self c.requires.fits c.requires.stage l.state c.in-Ready.left l.answer l.reported a.most t.new.self t.new.storage t.result t.new.drive t.ensures.loads k;
+      storage = search rules;
+      calls = search rules;
+      quiet = finds_quiet a.self.now a.storage.now c.in-Ready.left (count_of t.result) a.drive.now c.look.new.self t.new.drive q.fits q.stage l.state l.answer l.reported l.calls
+          (counts_some a.self.now.key (phase_in (run_of (in_bytes a.self.now)) a.storage.now c.look.new.self) a.most t.result t.new.self t.new.storage c.look.new.self t.new.drive k) t.ensures.quiet;
+    }
+
 pub transfer-requires-clause-fits : goal.transfer-requires-clause-fits
 transfer-requires-clause-fits g c =
     let a = c.args in
     let l = c.in-Ready.ensures in
-    look_fits a.self.now a.storage.now a.drive.now c.look.new.self c.requires.fits c.requires.stage l.state _ l.answer l.reported
+    look_fits a.self.now a.storage.now a.drive.now c.look.new.self c.requires.fits c.requires.stage l.state c.in-Ready.left l.answer l.reported
 
-pub returns-in-Ready : goal.returns-in-Ready
-returns-in-Ready g c =
+pub returns-else-left-from : goal.returns-else-left-from
+returns-else-left-from g c =
     let a = c.args in
     let q = c.requires in
     let l = c.in-Ready.ensures in
     let t = c.transfer in
+    let some = counts_some a.self.now.key (phase_in (run_of (in_bytes a.self.now)) a.storage.now c.look.new.self) a.most t.result t.new.self t.new.storage c.look.new.self t.new.drive t.ensures.steps in
     record {
-      steps = look_finds a.self.now a.storage.now a.drive.now c.look.new.self q.fits q.stage l.state _ l.answer l.reported a.most t.new.self t.new.storage t.result t.new.drive t.ensures.loads t.ensures.steps;
+      steps = look_finds a.self.now a.storage.now a.drive.now c.look.new.self c.requires.fits c.requires.stage l.state c.in-Ready.left l.answer l.reported a.most t.new.self t.new.storage t.result t.new.drive t.ensures.loads t.ensures.steps;
       storage = search rules;
       calls = search rules;
-      quiet = finds_quiet a.self.now _ a.drive.now c.look.new.self t.new.drive q.fits q.stage l.state l.answer l.calls t.ensures.quiet;
+      quiet = finds_quiet a.self.now a.storage.now c.in-Ready.left (count_of t.result) a.drive.now c.look.new.self t.new.drive q.fits q.stage l.state l.answer l.reported l.calls some
+          (λ h. t.ensures.quiet (first_quiet (run_of (in_bytes a.self.now)) a.storage.now c.look.new.self (count_of t.result) a.self.now.key (look_fits a.self.now a.storage.now a.drive.now c.look.new.self c.requires.fits c.requires.stage l.state c.in-Ready.left l.answer l.reported).stands some h));
     }

@@ -1,4 +1,4 @@
-use Rattle.std.proofs.Common.{rules}
+use Rattle.std.proofs.Common.{refl, rules}
 use Rattle.s360_program.specs.Place.{place_of}
 use Rattle.s360_program.proofs.Begins.{misses, rejects, immediately}
 use Rattle.s360_program.proofs.Quiet.{immediately_quiet}
@@ -7,17 +7,21 @@ use Rattle.s360_program.proofs.run.Run.next_command.Goals as goal
 pub returns-in-NoCcw-clause-comes : goal.returns-in-NoCcw-clause-comes
 returns-in-NoCcw-clause-comes g c =
     let a = c.args in
-    let p = c.end_program in
-    misses a.self.now.key (place_of a.self.now.place) (place_of c.miss.new.self) a.storage.now _ _ a.drive.now p.new.drive c.in-NoCcw.ensures.fetched c.requires.fits.stands.saved
-    p.ensures.calls p.ensures.reported c.miss.ensures p.ensures.ending
+    let p = c.end_program in (
+      refl,
+      misses a.self.now.key (place_of a.self.now.place) (place_of c.miss.new.self) a.storage.now _ _ a.drive.now p.new.drive c.in-NoCcw.ensures.fetched c.requires.fits.stands.saved
+          p.ensures.calls p.ensures.reported c.miss.ensures p.ensures.ending,
+    )
 
 pub returns-in-Rejected-clause-comes : goal.returns-in-Rejected-clause-comes
 returns-in-Rejected-clause-comes g c =
     let a = c.args in
     let b = c.in-Rejected.ensures in
-    let p = c.end_program-in-Rejected in
-    rejects a.self.now.key (place_of a.self.now.place) a.storage.now c.in-GoodCcw.ccw a.drive.now c.begin.new.self c.in-GoodCcw.ensures.fetched c.requires.fits.stands.saved b.state
-    _ _ p.new.drive b.answer b.calls b.reported p.ensures.calls p.ensures.reported (place_of c.go_by.new.self) c.go_by.ensures (rw c.keep.ensures at p.ensures.ending)
+    let p = c.end_program-in-Rejected in (
+      refl,
+      rejects a.self.now.key (place_of a.self.now.place) a.storage.now c.in-GoodCcw.ccw a.drive.now c.begin.new.self c.in-GoodCcw.ensures.fetched c.requires.fits.stands.saved b.state
+          _ _ p.new.drive b.answer b.calls b.reported p.ensures.calls p.ensures.reported (place_of c.go_by.new.self) c.go_by.ensures (rw c.keep.ensures at p.ensures.ending),
+    )
 
 pub returns-in-Immediate : goal.returns-in-Immediate
 returns-in-Immediate g c =

@@ -1,3 +1,4 @@
+use Rattle.std.proofs.Common.{refl}
 use Rattle.s360_program.specs.Place.{place_of}
 use Rattle.s360_program.proofs.Ends.{stops}
 use Rattle.s360_program.proofs.run.Run.stop.Goals as goal
@@ -6,7 +7,9 @@ pub returns-clause-comes : goal.returns-clause-comes
 returns-clause-comes g c = λ s.
     let a = c.args in
     let e = c.end-ending in
-    let p = c.end_program in
-    stops a.self.now.key (place_of a.self.now.place) a.condition s _ _ a.drive.now e.new.self p.new.drive e.result
-    (record { saved = c.requires.saved; state = e.ensures.state; ending = e.ensures.ending; calls = e.ensures.calls; reports = e.ensures.reported })
-    (record { calls = p.ensures.calls; reports = p.ensures.reported; is = p.ensures.ending })
+    let p = c.end_program in (
+      refl,
+      stops a.self.now.key (place_of a.self.now.place) a.condition s _ _ a.drive.now e.new.self p.new.drive e.result
+          (record { saved = c.requires.saved; state = e.ensures.state; ending = e.ensures.ending; calls = e.ensures.calls; reports = e.ensures.reported })
+          (record { calls = p.ensures.calls; reports = p.ensures.reported; is = p.ensures.ending }),
+    )

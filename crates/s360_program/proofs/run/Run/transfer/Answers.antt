@@ -20,8 +20,9 @@ pub returns-in-Ok-clause-steps : goal.returns-in-Ok-clause-steps
 returns-in-Ok-clause-steps g c =
     let a = c.args in
     let l = c.least-most in
-    moves_on a.self.now a.most l.result c.in-Ok.m c.from.result a.storage.now c.move_bytes.new.storage a.drive.now c.flow_of-flow.new.drive c.move_bytes.new.drive c.flow_of-flow.result c.requires.fits c.requires.stage c.flow_of-flow.ensures
-    (record { asked = l.ensures.most; counted = l.ensures.residual; has = l.ensures.left }) c.in-Ok.ensures.moves c.from.ensures
+    rw c.from-in-Ok.ensures
+    (moves_on a.self.now a.most l.result c.in-Ok.m c.from.result a.storage.now c.move_bytes.new.storage a.drive.now c.flow_of-flow.new.drive c.move_bytes.new.drive c.flow_of-flow.result c.requires.fits c.requires.stage c.flow_of-flow.ensures
+    (record { asked = l.ensures.most; counted = l.ensures.residual; has = l.ensures.left }) c.in-Ok.ensures.moves c.from.ensures)
 
 pub returns-in-Err-clause-steps : goal.returns-in-Err-clause-steps
 returns-in-Err-clause-steps g c =

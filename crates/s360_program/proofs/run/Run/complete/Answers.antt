@@ -1,0 +1,94 @@
+use Rattle.std.proofs.Common.{◌∙◌, refl, sym, subst, arith}
+use Rattle.ckd_drive.specs.Work.{closed_of}
+use Rattle.s360_runs.specs.Endings.{ending}
+use Rattle.s360_runs.specs.Units.{EndsIn}
+use Rattle.s360_program.specs.Stands.{phase_in}
+use Rattle.s360_program.specs.Steps.{run_of, in_bytes, count_of, IsQuiet, status_of}
+use Rattle.s360_program.specs.declared.run.Step.TheVariants as step
+use Rattle.s360_program.proofs.Quiet.{first_quiet, phase_quiet}
+use Rattle.s360_program.proofs.Transferring.{found, flows, moves_some, moved_run, walked, moves_all, found_ends, all_moved, checks, unit_steps, counts_one, refused_stays}
+use Rattle.s360_program.proofs.run.Run.complete.Goals as goal
+
+pub returns-in-Ok-2-clause-steps : goal.returns-in-Ok-2-clause-steps
+returns-in-Ok-2-clause-steps g c = λ most few.
+    let a = c.args in
+    let q = c.requires in
+    let b = c.move_bytes in
+    rw (c.from-in-Ok-2.ensures, c.from-in-Ok-2-2.ensures) (moves_some a.self.now a.drive.now q.fits q.some q.left c.in-Ok.m a.storage.now b.new.storage b.new.drive c.in-Ok.ensures.moves most c.in-Ok.m few refl)
+
+pub conclude-requires-clause-may : goal.conclude-requires-clause-may
+conclude-requires-clause-may g c =
+    let a = c.args in
+    let q = c.requires in
+    let b = c.move_bytes in
+    found_ends b.new.drive.state b.new.drive.work (walked a.self.now a.drive.now q.fits q.some q.left c.in-Ok.m a.storage.now b.new.storage b.new.drive c.in-Ok.ensures.moves).fits.stands.fits
+
+pub conclude-requires-clause-saved : goal.conclude-requires-clause-saved
+conclude-requires-clause-saved g c =
+    let a = c.args in
+    let q = c.requires in
+    let b = c.move_bytes in
+    (walked a.self.now a.drive.now q.fits q.some q.left c.in-Ok.m a.storage.now b.new.storage b.new.drive c.in-Ok.ensures.moves).fits.stands.saved
+
+pub returns-in-Units-clause-steps : goal.returns-in-Units-clause-steps
+returns-in-Units-clause-steps g c = λ most few.
+    let a = c.args in
+    let q = c.requires in
+    let b = c.move_bytes in
+    let e = c.conclude in
+    let w = rw c.gives-gives.ensures at (c.is_all.ensures c.if-is_all.true) in
+    rw (c.from.ensures ∙ sym (all_moved a.self.now a.drive.now q.fits q.some q.left c.in-Ok.m a.storage.now b.new.storage b.new.drive c.in-Ok.ensures.moves q.first w.0 w.1))
+    (moves_all a.self.now a.drive.now q.fits q.some q.left c.in-Ok.m a.storage.now b.new.storage b.new.drive c.in-Ok.ensures.moves q.first w.0 w.1 most e.new.self (step.Units c.in-Units.field-0) e.new.drive few q.unchained e.ensures.loads (c.in-Units.ensures.comes b.new.storage))
+
+pub returns-in-Over-clause-steps : goal.returns-in-Over-clause-steps
+returns-in-Over-clause-steps g c = λ most few.
+    let a = c.args in
+    let q = c.requires in
+    let b = c.move_bytes in
+    let e = c.conclude in
+    let w = rw c.gives-gives.ensures at (c.is_all.ensures c.if-is_all.true) in
+    rw (c.from-in-Over.ensures ∙ sym (all_moved a.self.now a.drive.now q.fits q.some q.left c.in-Ok.m a.storage.now b.new.storage b.new.drive c.in-Ok.ensures.moves q.first w.0 w.1))
+    (moves_all a.self.now a.drive.now q.fits q.some q.left c.in-Ok.m a.storage.now b.new.storage b.new.drive c.in-Ok.ensures.moves q.first w.0 w.1 most e.new.self (step.Over c.in-Over.field-0) e.new.drive few q.unchained e.ensures.loads (c.in-Over.ensures.comes b.new.storage))
+
+pub returns-in-Units-clause-quiet : goal.returns-in-Units-clause-quiet
+returns-in-Units-clause-quiet g c = λ h.
+    let a = c.args in
+    let q = c.requires in
+    let b = c.move_bytes in
+    let e = c.conclude in
+    let w = rw c.gives-gives.ensures at (c.is_all.ensures c.if-is_all.true) in
+    let x = walked a.self.now a.drive.now q.fits q.some q.left c.in-Ok.m a.storage.now b.new.storage b.new.drive c.in-Ok.ensures.moves in
+    let n = all_moved a.self.now a.drive.now q.fits q.some q.left c.in-Ok.m a.storage.now b.new.storage b.new.drive c.in-Ok.ensures.moves q.first w.0 w.1 in
+    let k = phase_quiet (run_of (moved_run a.self.now a.drive.now q.fits q.some q.left c.in-Ok.m a.storage.now b.new.storage b.new.drive c.in-Ok.ensures.moves)) b.new.storage b.new.drive x.fits.stands (h c.in-Ok.m (phase_in (run_of (moved_run a.self.now a.drive.now q.fits q.some q.left c.in-Ok.m a.storage.now b.new.storage b.new.drive c.in-Ok.ensures.moves)) b.new.storage b.new.drive) (omega (arith, c.from.ensures, n)) x.goes) in
+    e.ensures.unwritten k.unwritten k.closes ∙ b.ensures.image
+
+pub returns-in-Over-clause-quiet : goal.returns-in-Over-clause-quiet
+returns-in-Over-clause-quiet g c = λ h.
+    let a = c.args in
+    let q = c.requires in
+    let b = c.move_bytes in
+    let e = c.conclude in
+    let w = rw c.gives-gives.ensures at (c.is_all.ensures c.if-is_all.true) in
+    let x = walked a.self.now a.drive.now q.fits q.some q.left c.in-Ok.m a.storage.now b.new.storage b.new.drive c.in-Ok.ensures.moves in
+    let n = all_moved a.self.now a.drive.now q.fits q.some q.left c.in-Ok.m a.storage.now b.new.storage b.new.drive c.in-Ok.ensures.moves q.first w.0 w.1 in
+    let k = phase_quiet (run_of (moved_run a.self.now a.drive.now q.fits q.some q.left c.in-Ok.m a.storage.now b.new.storage b.new.drive c.in-Ok.ensures.moves)) b.new.storage b.new.drive x.fits.stands (h c.in-Ok.m (phase_in (run_of (moved_run a.self.now a.drive.now q.fits q.some q.left c.in-Ok.m a.storage.now b.new.storage b.new.drive c.in-Ok.ensures.moves)) b.new.storage b.new.drive) (omega (arith, c.from-in-Over.ensures, n)) x.goes) in
+    e.ensures.unwritten k.unwritten k.closes ∙ b.ensures.image
+
+pub returns-in-Err-clause-steps : goal.returns-in-Err-clause-steps
+returns-in-Err-clause-steps g c = λ most few.
+    let a = c.args in
+    let q = c.requires in
+    let b = c.move_bytes in
+    let e = c.stop in
+    unit_steps a.self.now.key (phase_in (run_of (in_bytes a.self.now)) a.storage.now a.drive.now) most e.new.self b.new.storage e.result a.drive.now e.new.drive (omega (arith, few))
+    (checks (in_bytes a.self.now) e.new.self a.storage.now e.result a.drive.now a.drive.now e.new.drive (found a.self.now a.drive.now q.fits q.some q.left) refl (flows a.self.now a.drive.now q.fits q.some q.left)
+    c.in-Err.condition a.self.now.place.residual b.new.storage b.new.drive q.some (omega (arith, q.left, q.some)) c.in-Err.ensures.moves e.ensures.loads (e.ensures.comes b.new.storage))
+
+pub returns-in-Err-clause-quiet : goal.returns-in-Err-clause-quiet
+returns-in-Err-clause-quiet g c = λ h.
+    let a = c.args in
+    let q = c.requires in
+    let b = c.move_bytes in
+    let e = c.stop in
+    let k = first_quiet (run_of (in_bytes a.self.now)) a.storage.now a.drive.now (count_of e.result) a.self.now.key q.fits.stands (counts_one a.self.now.key (λ f. EndsIn b.new.storage (ending f a.self.now.key (run_of a.self.now).place (closed_of f b.new.drive b.new.drive.work) (status_of c.in-Err.condition))) e.result e.new.self b.new.storage b.new.drive e.new.drive (e.ensures.comes b.new.storage)) h in
+    e.ensures.quiet (subst IsQuiet (sym (refused_stays a.self.now.key a.self.now.ccw a.self.now.ccw.address a.self.now.place.residual c.in-Err.condition a.storage.now b.new.storage a.drive.now b.new.drive a.drive.now.work c.in-Err.ensures.moves)) k) ∙ b.ensures.image
