@@ -12,7 +12,7 @@ use Rattle.s360_runs.specs.Endings.{ending, failed}
 use Rattle.s360_runs.specs.Scripts.{units}
 use Rattle.s360_runs.specs.Status.{no_channel_status}
 use Rattle.s360_runs.specs.Transfers.{Request}
-use Rattle.s360_runs.specs.Units.{ProgramPhase, GoesOn, unit, next_looked, walk, on_next, StandsIn}
+use Rattle.s360_runs.specs.Units.{ProgramPhase, unit, next_looked, walk, on_next, StandsIn}
 use Rattle.s360_runs.specs.Units as phase
 use Rattle.s360_program.specs.Advances.{IsEnding}
 use Rattle.s360_program.specs.Place.{place_of}
