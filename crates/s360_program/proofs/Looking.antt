@@ -12,7 +12,7 @@ use Rattle.s360_runs.specs.Endings.{ending, failed}
 use Rattle.s360_runs.specs.Scripts.{units}
 use Rattle.s360_runs.specs.Status.{no_channel_status}
 use Rattle.s360_runs.specs.Transfers.{Request}
-use Rattle.s360_runs.specs.Units.{ProgramPhase, GoesOn, unit, next_looked, walk, on_next, StandsIn}
+use Rattle.s360_runs.specs.Units.{ProgramPhase, unit, next_looked, walk, on_next, StandsIn}
 use Rattle.s360_runs.specs.Units as phase
 use Rattle.s360_program.specs.Advances.{IsEnding}
 use Rattle.s360_program.specs.Place.{place_of}
@@ -61,6 +61,9 @@ looking_is r d fits at = go d.work (subst (λ c. StageFits (stage_by c r.ccw r.a
     go Idle f = absurd f
     go (Over x) f = absurd f
     go (Passing o b l) f = absurd f
+
+pub looking_within : (r : Run) (d : DriveState) → Fits r d → r.comes ≡ comes.Look → StageWithin (stage.Looking r.ccw) (place_of r.place)
+looking_within r d fits at = subst (λ c. StageWithin (stage_by c r.ccw r.address) (place_of r.place)) at fits.within.stage
 
 module _ (r : Run) (s : Storage) (d0 d1 : DriveState) (fits : Fits r d0) (comes_look : r.comes ≡ comes.Look)
     (state : d1 ≡ with_image (after_look (fault_met d0 d1) d0) d1.image) where
@@ -159,8 +162,8 @@ module _ (r : Run) (s : Storage) (d0 d1 : DriveState) (fits : Fits r d0) (comes_
     ready_first = ap passed_of ready.2
 
     pub look_fits : Fits (record r { comes = comes.Bytes; address = r.ccw.address }) d1
-    look_fits = record {
-      within = record { key = fits.within.key; place = fits.within.place; stage = subst (λ g. StageWithin g (place_of r.place)) at fits.within.stage };
+    look_fits = let w = looking_within r d0 fits comes_look in record {
+      within = record { key = fits.within.key; place = fits.within.place; stage = (w.0, w.1) };
       stands = record { fits = subst (StageFits (stage.Moving r.ccw r.ccw.address) d1.state) (sym ready.2) (omega arith, λ g. omega arith, λ h. omega arith); saved = ready_calm.saved };
     }
 

@@ -285,6 +285,3 @@ both n k d0 d1 d2 a b = record { calls = omega (arith, a.calls, b.calls); lastin
 pub saves_together : (m w : Bool) (d0 d1 d2 : DriveState) → (m ≡ true → w ≡ false) → CallsStore false m d0 d1 → CallsStore false w d1 d2 → CallsStore false (m || w) d0 d2
 saves_together true w d0 d1 d2 only a b = behind false true d0 d1 d2 (untouched w d1 d2 (only refl) b) a
 saves_together false w d0 d1 d2 only a b = before false w d0 d1 d2 (untouched false d0 d1 refl a) b
-
-pub once_together : (m w : Bool) (d0 d1 d2 : DriveState) → (m ≡ true → w ≡ false) → CallsStore false m d0 d1 → CallsStore false w d1 d2 → CallsAtMost 1 d0 d2
-once_together m w d0 d1 d2 only a b = once false (m || w) d0 d2 (saves_together m w d0 d1 d2 only a b)

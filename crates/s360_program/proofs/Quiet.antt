@@ -18,8 +18,7 @@ use Rattle.s360_runs.specs.Units.{ProgramPhase, walk, StandsIn}
 use Rattle.s360_program.specs.Advances.{NeedsNoStore, NeedNoStore}
 use Rattle.s360_program.specs.Place.{place_of}
 use Rattle.s360_program.specs.Stands.{RunningState, StageFits, Stands, phase_by, phase_in}
-use Rattle.s360_program.specs.Steps.{run_of, in_bytes, Fits, Flows, FlowsBy, IsQuiet, with_left}
-use Rattle.s360_program.specs.declared.moving.Flow.{Flow}
+use Rattle.s360_program.specs.Steps.{run_of, in_bytes, Fits, IsQuiet}
 use Rattle.s360_program.specs.declared.run.Run.{Run}
 use Rattle.s360_program.specs.Stage as stage
 use Rattle.s360_program.specs.declared.run.Comes.TheVariants as comes
@@ -96,16 +95,6 @@ looked_quiet f o d0 d1 e at w is =
     go (Ready q) t = (let n = not_so (is_written d0.state) (is_written q.state) t.written w in (n, no_byte q n))
     go (Passed q) t = (let n = not_so (is_written d0.state) (is_written q.state) t.written w in (n, n))
     go (Failed s) t = (let n = not_so (is_written d0.state) (is_written s) t.written w in (n, n))
-
--- nor what says how many bytes are left
-pub flows_quiet : (flow : Flow) (d0 d1 : DriveState) → Flows flow d0 d1 → IsQuiet d0 → IsQuiet d1
-flows_quiet flow d0 d1 h q = subst IsQuiet (sym h.drive) (go d0.work h.told q)
-  where
-    go : (w : Work) → FlowsBy flow d0.state w → IsQuiet (record d0 { work = w }) → IsQuiet (record d0 { work = with_left flow.left w })
-    go Idle f q = absurd f
-    go (Over x) f q = absurd f
-    go (Looking o) f q = absurd f
-    go (Passing o b l) f q = record { unwritten = q.unwritten; closes = q.closes; looks = refl }
 
 -- An immediate command, and a look that finds the area, each with what follows in the unit.
 

@@ -23,7 +23,7 @@ use Rattle.s360_runs.specs.Transfers.{Transfer, next_bytes}
 use Rattle.s360_runs.specs.Units.{ProgramPhase, Moving, Next, EndsIn, unit, next_chosen, walk, on_next, StandsIn}
 use Rattle.s360_program.specs.Place.{place_of}
 use Rattle.s360_program.specs.Stands.{LeftFits, StageFits, StageWithin, phase_by, phase_in}
-use Rattle.s360_program.specs.Steps.{run_of, in_bytes, count_of, HasFound, FindsBy, Fits, ComesBy, EndsBy, OverBy, Steps, WalksBy, told_of, Flows, FlowsBy, with_left, MovesBytes, MovesBytesBy, MovesBytesAs, status_of, condition_for, differs, request_at}
+use Rattle.s360_program.specs.Steps.{run_of, in_bytes, count_of, HasFound, FindsBy, Fits, ComesBy, EndsBy, OverBy, Steps, WalksBy, told_of, Flows, FlowsBy, with_left, MovesBytes, MovesBytesBy, MovesBytesAs, status_of, condition_for, differs, request_at, behind, IsQuiet}
 use Rattle.s360_program.specs.declared.conditions.ChannelCondition.{ChannelCondition}
 use Rattle.s360_program.specs.declared.conditions.ChannelCondition.TheVariants as condition
 use Rattle.s360_program.specs.declared.moving.Flow.{Flow}
@@ -33,7 +33,9 @@ use Rattle.s360_program.specs.Stage as stage
 use Rattle.s360_program.specs.declared.run.Comes.TheVariants as comes
 use Rattle.s360_program.specs.declared.run.Step.{Step}
 use Rattle.s360_program.specs.declared.run.Step.TheVariants as step
+use Rattle.s360_program.specs.Advances.{NeedNoStore}
 use Rattle.s360_program.proofs.Meeting.{comes_after}
+use Rattle.s360_program.proofs.Quiet.{phase_quiet}
 use Rattle.s360_runs.proofs.AtOnce.{at_once}
 
 -- One unit.
@@ -278,11 +280,6 @@ behind_bytes key ccw a most m p s s2 d d2 (Passing o b left) q le =
     let k = q.2 p le in
     rw k.drive (ap (λ n. left - n) k.count, length-append b _ ∙ ap (λ n. length b + n) k.count, refl, refl, refl)
 
--- a step that was so many units more
-abbrev pub behind : (m : ℕ) → Step → Step
-behind m (step.Units n) = step.Units (m + 1)
-behind m (step.Over n) = step.Over (m + 1)
-
 unit_behind : (key m most : ℕ) (phase : ProgramPhase) (r r2 : Run) (s s2 : Storage) (a : Step) (d0 d1 d2 : DriveState) → m < most → walk (units m) key phase ≡ StandsIn (phase_in (run_of r) s d1)
     → ComesBy key (λ f. unit f key (phase_in (run_of r) s d1)) a r2 s2 d0 d2 → Steps key phase most (behind m a) r2 s2 d0 d2
 unit_behind key m most phase r r2 s s2 (step.Units n) d0 d1 d2 few walked c =
@@ -390,3 +387,10 @@ module _ (r : Run) (d0 : DriveState) (fits : Fits (in_bytes r) d0) (some : 0 < r
           (unit_comes (λ f. unit f r.key (phase_in (run_of moved_run) s2 d2)) (λ f. unit f r.key (phase_in (run_of moved_run) s2 d2)) r.key s2 r3 a d0 d2 d3 (λ f. refl) now.3 now.4 loads
           (completes moved_run r3 s2 a d2 d2 d3 (record { gives = gives_now d2.work; left = left_of d2.work }) refl flows_behind false (λ z. unchained) (inl nothing) (told (suppresses_length r.ccw)) loads
           (subst (λ n. ComesBy r.key (λ f. next_chosen (choice f r.key (request_at s2 r.ccw (record r { place = record r.place { residual = n } })) (closed_of f d2 d2.work) (status_of (condition_for false (closed_of f d2 d2.work).unit)))) a r3 s2 d2 d3) (sym nothing) is)))
+
+      pub quiet_behind : (a : Step) → NeedNoStore r.key (phase_in (run_of (in_bytes r)) s d0) (count_of (behind m a)) → IsQuiet d2
+      quiet_behind a h = phase_quiet (run_of moved_run) s2 d2 walked.fits.stands (h m (phase_in (run_of moved_run) s2 d2) (by a) walked.goes)
+        where
+          by : (a : Step) → m < count_of (behind m a)
+          by (step.Units n) = omega arith
+          by (step.Over n) = omega arith

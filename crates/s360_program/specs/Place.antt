@@ -24,11 +24,11 @@ fetched_of kept.NoCcw = NoCcw
 fetched_of (kept.TransferTo address) = TransferTo address
 fetched_of (kept.GoodCcw ccw) = GoodCcw ccw
 
--- a word that is fetched stands within the greatest storage, and addresses have 24 bits
+-- a word that is fetched stands within the greatest storage, addresses have 24 bits, and a good word's count is above 0
 abbrev pub FetchedWithin : Place → Fetched → Type 0
 FetchedWithin p NoCcw = Unit {0}
 FetchedWithin p (TransferTo address) = address < 2 ^ 24
-FetchedWithin p (GoodCcw ccw) = (p.next + 8 ≤ 2 ^ 24) × (ccw.address < 2 ^ 24)
+FetchedWithin p (GoodCcw ccw) = (p.next + 8 ≤ 2 ^ 24) × (ccw.address < 2 ^ 24) × (0 < ccw.count)
 
 -- status modifier passes over the next word ('Command Chaining')
 abbrev pub modified_place : Place → UnitStatus → Place

@@ -50,10 +50,11 @@ pub record Stands (r : RunningState) (d : DriveState) : Type 0 where
 
 -- Addresses.
 
--- a word that was fetched stands within the greatest storage, and so do the bytes under it, but for those of its count
+-- a word that was fetched stands within the greatest storage, and so do the bytes under it, but for those of its count;
+-- while its command looks for an area the whole count is left, and no good word counts 0
 abbrev pub StageWithin : Stage → Place → Type 0
 StageWithin stage.Between p = Unit {0}
-StageWithin (stage.Looking ccw) p = (p.next ≤ 2 ^ 24) × (ccw.address + p.residual < 2 ^ 25)
+StageWithin (stage.Looking ccw) p = (p.next ≤ 2 ^ 24) × (ccw.address + p.residual < 2 ^ 25) × (0 < p.residual)
 StageWithin (stage.Moving ccw address) p = (p.next ≤ 2 ^ 24) × (address + p.residual < 2 ^ 25)
 
 -- a status modifier may lead past the end of the greatest storage

@@ -109,6 +109,11 @@ pub record EndsBy (next : Option Fault → Next) (told : Csw × Bool) (s : Stora
   pub is_ending : IsEnding ending told new
   pub told_of : ToldOf fault told.0 old new
 
+-- a step of one unit, behind so many units
+abbrev pub behind : ℕ → Step → Step
+behind m (step.Units n) = step.Units (m + 1)
+behind m (step.Over n) = step.Over (m + 1)
+
 -- what is reported of a program that ended: its key, and where the channel is in it, are the run's
 abbrev pub told_of : Run → Csw × Bool
 told_of r = (csw_at r.key (place_of r.place) r.ended.unit r.ended.channel, r.ended.motion)

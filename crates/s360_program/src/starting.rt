@@ -38,7 +38,7 @@ pub(crate) fn first_command<S: ImageStore>(
     requires next { place.next ≤ 2 ^ 24 }
     requires last { place.last ≤ 2 ^ 24 }
     requires address { ccw.address < 2 ^ 24 }
-    requires count { place.residual < 2 ^ 16 }
+    requires count { (0 < place.residual) × (place.residual < 2 ^ 16) }
     ensures begun { (s : StorageState) → FirstBegun key s ccw place result drive.old drive.new }
     ensures quiet { StartsQuietly drive.old drive.new }
 {

@@ -11,7 +11,7 @@ ghost use Rattle.s360_words.specs.Storage.{Storage as StorageState};
 ghost use Rattle.ckd_drive.specs.Work.{is_idle, may_end, closed_of, left_of, passed_of, CallsStore};
 ghost use Rattle.s360_program.specs.Advances.{RunsOn, CallsAtMost, KeepsStorage, NeedNoStore, TellsOf};
 ghost use Rattle.s360_program.specs.Stands.{phase_in, Within};
-ghost use Rattle.s360_program.specs.Steps.{run_of, in_bytes, count_of, Fits, IsQuiet, ComesBy, EndsBy, Steps, has_moved, goes_on, point_at, request_at, status_of, condition_for, differs, needs_area};
+ghost use Rattle.s360_program.specs.Steps.{run_of, in_bytes, count_of, Fits, IsQuiet, ComesBy, EndsBy, Steps, has_moved, goes_on, point_at, request_at, status_of, condition_for, differs, needs_area, behind};
 
 use crate::conditions::{ChannelCondition, chains};
 use crate::endings::{end_program, told};
@@ -219,7 +219,6 @@ impl Run {
                 if left == usize::from(count)
                     && most > u32::from(count)
                     && !self.ccw.chains_data()
-                    && count > 0
                 {
                     return self.complete(storage, drive);
                 }
@@ -252,10 +251,7 @@ impl Run {
         match move_bytes(gives, key, ccw, ccw.address, count, storage, drive) {
             Ok(m) if is_all(m, count, gives) => {
                 self.place.residual = 0;
-                match self.conclude(ccw, false, drive) {
-                    Step::Units(_) => Step::Units(u32::from(count) + 1),
-                    Step::Over(_) => Step::Over(u32::from(count) + 1),
-                }
+                behind(count, self.conclude(ccw, false, drive))
             }
             Ok(m) => {
                 self.comes = Comes::Bytes;
@@ -354,6 +350,17 @@ impl Run {
                 Step::Units(1)
             }
         }
+    }
+}
+
+// A step of one unit, behind so many bytes, of which each was a unit.
+#[inline(always)]
+fn behind(passed: u16, step: Step) -> Step
+    ensures { result ≡ behind passed step }
+{
+    match step {
+        Step::Units(_) => Step::Units(u32::from(passed) + 1),
+        Step::Over(_) => Step::Over(u32::from(passed) + 1),
     }
 }
 

@@ -1,12 +1,11 @@
-use Rattle.std.proofs.Common.{◌∙◌, refl, sym, subst, arith}
+use Rattle.std.proofs.Common.{◌∙◌, ap, refl, sym, subst, arith}
 use Rattle.ckd_drive.specs.Work.{closed_of}
 use Rattle.s360_runs.specs.Endings.{ending}
 use Rattle.s360_runs.specs.Units.{EndsIn}
 use Rattle.s360_program.specs.Stands.{phase_in}
-use Rattle.s360_program.specs.Steps.{run_of, in_bytes, count_of, IsQuiet, status_of}
-use Rattle.s360_program.specs.declared.run.Step.TheVariants as step
-use Rattle.s360_program.proofs.Quiet.{first_quiet, phase_quiet}
-use Rattle.s360_program.proofs.Transferring.{found, flows, moves_some, moved_run, walked, moves_all, found_ends, all_moved, checks, unit_steps, counts_one, refused_stays}
+use Rattle.s360_program.specs.Steps.{run_of, in_bytes, behind, count_of, IsQuiet, status_of}
+use Rattle.s360_program.proofs.Quiet.{first_quiet}
+use Rattle.s360_program.proofs.Transferring.{found, flows, moves_some, walked, moves_all, found_ends, all_moved, quiet_behind, checks, unit_steps, counts_one, refused_stays}
 use Rattle.s360_program.proofs.run.Run.complete.Goals as goal
 
 pub returns-in-Ok-2-clause-steps : goal.returns-in-Ok-2-clause-steps
@@ -14,7 +13,7 @@ returns-in-Ok-2-clause-steps g c = λ most few.
     let a = c.args in
     let q = c.requires in
     let b = c.move_bytes in
-    rw (c.from-in-Ok-2.ensures, c.from-in-Ok-2-2.ensures) (moves_some a.self.now a.drive.now q.fits q.some q.left c.in-Ok.m a.storage.now b.new.storage b.new.drive c.in-Ok.ensures.moves most c.in-Ok.m few refl)
+    rw (c.from.ensures, c.from-in-Ok-2.ensures) (moves_some a.self.now a.drive.now q.fits q.some q.left c.in-Ok.m a.storage.now b.new.storage b.new.drive c.in-Ok.ensures.moves most c.in-Ok.m few refl)
 
 pub conclude-requires-clause-may : goal.conclude-requires-clause-may
 conclude-requires-clause-may g c =
@@ -30,48 +29,25 @@ conclude-requires-clause-saved g c =
     let b = c.move_bytes in
     (walked a.self.now a.drive.now q.fits q.some q.left c.in-Ok.m a.storage.now b.new.storage b.new.drive c.in-Ok.ensures.moves).fits.stands.saved
 
-pub returns-in-Units-clause-steps : goal.returns-in-Units-clause-steps
-returns-in-Units-clause-steps g c = λ most few.
+pub returns-in-Ok-clause-steps : goal.returns-in-Ok-clause-steps
+returns-in-Ok-clause-steps g c = λ most few.
     let a = c.args in
     let q = c.requires in
     let b = c.move_bytes in
     let e = c.conclude in
     let w = rw c.gives-gives.ensures at (c.is_all.ensures c.if-is_all.true) in
-    rw (c.from.ensures ∙ sym (all_moved a.self.now a.drive.now q.fits q.some q.left c.in-Ok.m a.storage.now b.new.storage b.new.drive c.in-Ok.ensures.moves q.first w.0 w.1))
-    (moves_all a.self.now a.drive.now q.fits q.some q.left c.in-Ok.m a.storage.now b.new.storage b.new.drive c.in-Ok.ensures.moves q.first w.0 w.1 most e.new.self (step.Units c.in-Units.field-0) e.new.drive few q.unchained e.ensures.loads (c.in-Units.ensures.comes b.new.storage))
+    rw (c.behind.ensures ∙ sym (ap (λ n. behind n e.result) (all_moved a.self.now a.drive.now q.fits q.some q.left c.in-Ok.m a.storage.now b.new.storage b.new.drive c.in-Ok.ensures.moves q.first w.0 w.1)))
+    (moves_all a.self.now a.drive.now q.fits q.some q.left c.in-Ok.m a.storage.now b.new.storage b.new.drive c.in-Ok.ensures.moves q.first w.0 w.1 most e.new.self e.result e.new.drive few q.unchained e.ensures.loads (e.ensures.comes b.new.storage))
 
-pub returns-in-Over-clause-steps : goal.returns-in-Over-clause-steps
-returns-in-Over-clause-steps g c = λ most few.
+pub returns-in-Ok-clause-quiet : goal.returns-in-Ok-clause-quiet
+returns-in-Ok-clause-quiet g c = λ h.
     let a = c.args in
     let q = c.requires in
     let b = c.move_bytes in
     let e = c.conclude in
     let w = rw c.gives-gives.ensures at (c.is_all.ensures c.if-is_all.true) in
-    rw (c.from-in-Over.ensures ∙ sym (all_moved a.self.now a.drive.now q.fits q.some q.left c.in-Ok.m a.storage.now b.new.storage b.new.drive c.in-Ok.ensures.moves q.first w.0 w.1))
-    (moves_all a.self.now a.drive.now q.fits q.some q.left c.in-Ok.m a.storage.now b.new.storage b.new.drive c.in-Ok.ensures.moves q.first w.0 w.1 most e.new.self (step.Over c.in-Over.field-0) e.new.drive few q.unchained e.ensures.loads (c.in-Over.ensures.comes b.new.storage))
-
-pub returns-in-Units-clause-quiet : goal.returns-in-Units-clause-quiet
-returns-in-Units-clause-quiet g c = λ h.
-    let a = c.args in
-    let q = c.requires in
-    let b = c.move_bytes in
-    let e = c.conclude in
-    let w = rw c.gives-gives.ensures at (c.is_all.ensures c.if-is_all.true) in
-    let x = walked a.self.now a.drive.now q.fits q.some q.left c.in-Ok.m a.storage.now b.new.storage b.new.drive c.in-Ok.ensures.moves in
     let n = all_moved a.self.now a.drive.now q.fits q.some q.left c.in-Ok.m a.storage.now b.new.storage b.new.drive c.in-Ok.ensures.moves q.first w.0 w.1 in
-    let k = phase_quiet (run_of (moved_run a.self.now a.drive.now q.fits q.some q.left c.in-Ok.m a.storage.now b.new.storage b.new.drive c.in-Ok.ensures.moves)) b.new.storage b.new.drive x.fits.stands (h c.in-Ok.m (phase_in (run_of (moved_run a.self.now a.drive.now q.fits q.some q.left c.in-Ok.m a.storage.now b.new.storage b.new.drive c.in-Ok.ensures.moves)) b.new.storage b.new.drive) (omega (arith, c.from.ensures, n)) x.goes) in
-    e.ensures.unwritten k.unwritten k.closes ∙ b.ensures.image
-
-pub returns-in-Over-clause-quiet : goal.returns-in-Over-clause-quiet
-returns-in-Over-clause-quiet g c = λ h.
-    let a = c.args in
-    let q = c.requires in
-    let b = c.move_bytes in
-    let e = c.conclude in
-    let w = rw c.gives-gives.ensures at (c.is_all.ensures c.if-is_all.true) in
-    let x = walked a.self.now a.drive.now q.fits q.some q.left c.in-Ok.m a.storage.now b.new.storage b.new.drive c.in-Ok.ensures.moves in
-    let n = all_moved a.self.now a.drive.now q.fits q.some q.left c.in-Ok.m a.storage.now b.new.storage b.new.drive c.in-Ok.ensures.moves q.first w.0 w.1 in
-    let k = phase_quiet (run_of (moved_run a.self.now a.drive.now q.fits q.some q.left c.in-Ok.m a.storage.now b.new.storage b.new.drive c.in-Ok.ensures.moves)) b.new.storage b.new.drive x.fits.stands (h c.in-Ok.m (phase_in (run_of (moved_run a.self.now a.drive.now q.fits q.some q.left c.in-Ok.m a.storage.now b.new.storage b.new.drive c.in-Ok.ensures.moves)) b.new.storage b.new.drive) (omega (arith, c.from-in-Over.ensures, n)) x.goes) in
+    let k = quiet_behind a.self.now a.drive.now q.fits q.some q.left c.in-Ok.m a.storage.now b.new.storage b.new.drive c.in-Ok.ensures.moves q.first w.0 w.1 e.result (rw (c.behind.ensures ∙ sym (ap (λ n. behind n e.result) n)) at h) in
     e.ensures.unwritten k.unwritten k.closes ∙ b.ensures.image
 
 pub returns-in-Err-clause-steps : goal.returns-in-Err-clause-steps

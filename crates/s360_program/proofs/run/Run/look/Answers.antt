@@ -1,5 +1,5 @@
 use Rattle.std.proofs.Common.{arith, rules}
-use Rattle.s360_program.proofs.Looking.{look_fails, look_passes, look_fits, look_finds, ready_left, ready_first}
+use Rattle.s360_program.proofs.Looking.{look_fails, look_passes, look_fits, look_finds, ready_left, ready_first, looking_within}
 use Rattle.s360_program.specs.Stands.{phase_in}
 use Rattle.s360_program.specs.Steps.{run_of, in_bytes, count_of}
 use Rattle.s360_program.proofs.Transferring.{over_once, counts_some}
@@ -40,6 +40,9 @@ complete-requires-clause-fits g c =
     let l = c.in-Ready.ensures in
     look_fits a.self.now a.storage.now a.drive.now c.look.new.self c.requires.fits c.requires.stage l.state c.in-Ready.left l.answer l.reported
 
+pub complete-requires-clause-some : goal.complete-requires-clause-some
+complete-requires-clause-some g c = (looking_within c.args.self.now c.args.drive.now c.requires.fits c.requires.stage).2
+
 pub complete-requires-clause-left : goal.complete-requires-clause-left
 complete-requires-clause-left g c =
     let a = c.args in
@@ -52,8 +55,8 @@ complete-requires-clause-first g c =
     let l = c.in-Ready.ensures in
     ready_first a.self.now a.storage.now a.drive.now c.look.new.self c.requires.fits c.requires.stage l.state c.in-Ready.left l.answer l.reported
 
-pub returns-then-count-gt0 : goal.returns-then-count-gt0
-returns-then-count-gt0 g c =
+pub returns-then-not-chains_data : goal.returns-then-not-chains_data
+returns-then-not-chains_data g c =
     let a = c.args in
     let q = c.requires in
     let l = c.in-Ready.ensures in
