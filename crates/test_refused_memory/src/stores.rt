@@ -2,10 +2,9 @@
 
 use crate::calls::{Call, Came, begin, end};
 use anyhow::{Result, bail};
-use ckd_slot::TrackCache;
 use ckd_drive::Drive;
 use ckd_image::{Image, ImageStore, MemoryStore, image_len};
-use ckd_slot::TrackBuffer;
+use ckd_slot::{TrackBuffer, TrackCache};
 use ckd_track::{DriveModel, Geometry};
 use s360_words::{Storage, StorageFault};
 use std::alloc::Global;
