@@ -328,7 +328,7 @@ module _ (r : Run) (d0 : DriveState) (fits : Fits (in_bytes r) d0) (some : 0 < r
 
   module _ (m : ℕ) (s s2 : Storage) (d2 : DriveState) (h : MovesBytes r.key r.ccw r.ccw.address r.place.residual s d0 (Ok m) s2 d2) where
     -- some of them, or all
-    pub moves_some : (most n : ℕ) → r.place.residual < most → n ≡ m
+    pub moves_some : (most n : ℕ) → r.place.residual ≤ most → n ≡ m
         → WalksBy r.key (phase_in (run_of (in_bytes r)) s d0) most m (record r { comes = comes.Bytes; place = record r.place { residual = r.place.residual - m }; address = r.ccw.address + n }) s2 d0 d2
     moves_some most n few e =
         moves_on (in_bytes r) most r.place.residual m n s s2 d0 d0 d2 (record { gives = gives_now d0.work; left = left_of d0.work }) fits refl flows
@@ -337,24 +337,15 @@ module _ (r : Run) (d0 : DriveState) (fits : Fits (in_bytes r) d0) (some : 0 < r
     abbrev pub moved_run : Run
     moved_run = record r { comes = comes.Bytes; place = record r.place { residual = r.place.residual - m }; address = r.ccw.address + m }
 
-    pub walked : WalksBy r.key (phase_in (run_of (in_bytes r)) s d0) (r.place.residual + 1) m (record r { comes = comes.Bytes; place = record r.place { residual = r.place.residual - m }; address = r.ccw.address + m }) s2 d0 d2
-    walked = moves_some (r.place.residual + 1) m (omega arith) refl
+    pub walked : WalksBy r.key (phase_in (run_of (in_bytes r)) s d0) r.place.residual m moved_run s2 d0 d2
+    walked = moves_some r.place.residual m (omega arith) refl
 
     module _ (first : passed_of d0.work ≡ []) (all : r.place.residual ≤ m) (whole : (gives_now d0.work ≡ true) ⊎ (m ≡ 8 → ⊥)) where
-      few_moved : m ≤ r.place.residual
-      few_moved = by d0.work h
-        where
-          by : (w : Work) → MovesBytesBy r.key r.ccw r.ccw.address r.place.residual (Ok m) s s2 d0 d2 w → m ≤ r.place.residual
-          by Idle q = absurd q
-          by (Over x) q = absurd q
-          by (Looking o) q = absurd q
-          by (Passing o b l) q = q.1
-
       now : (left_of d2.work ≡ left_of d0.work - m) × (length (passed_of d2.work) ≡ length (passed_of d0.work) + m) × (gives_now d2.work ≡ gives_now d0.work) × (d2.image ≡ d0.image) × (d2.state ≡ d0.state)
-      now = behind_bytes r.key r.ccw r.ccw.address r.place.residual m (place_of r.place) s s2 d0 d2 d0.work h few_moved
+      now = behind_bytes r.key r.ccw r.ccw.address r.place.residual m (place_of r.place) s s2 d0 d2 d0.work h walked.few
 
       pub all_moved : m ≡ r.place.residual
-      all_moved = omega (arith, all, few_moved)
+      all_moved = omega (arith, all, walked.few)
 
       passed : length (passed_of d2.work) ≡ m
       passed = now.1 ∙ ap (λ (b : List ℕ). length b + m) first ∙ (omega arith)
@@ -383,7 +374,7 @@ module _ (r : Run) (d0 : DriveState) (fits : Fits (in_bytes r) d0) (some : 0 < r
           → ComesBy r.key (λ f. next_chosen (choice f r.key (request_at s2 r.ccw (record r { place = record r.place { residual = 0 } })) (closed_of f d2 d2.work) (status_of (condition_for false (closed_of f d2 d2.work).unit)))) a r3 s2 d2 d3
           → Steps r.key (phase_in (run_of (in_bytes r)) s d0) most (behind m a) r3 s2 d0 d3
       moves_all most r3 a d3 few unchained loads is =
-          unit_behind r.key m most (phase_in (run_of (in_bytes r)) s d0) moved_run r3 s2 s2 a d0 d2 d3 (omega (arith, few, few_moved)) walked.goes
+          unit_behind r.key m most (phase_in (run_of (in_bytes r)) s d0) moved_run r3 s2 s2 a d0 d2 d3 (omega (arith, few, walked.few)) walked.goes
           (unit_comes (λ f. unit f r.key (phase_in (run_of moved_run) s2 d2)) (λ f. unit f r.key (phase_in (run_of moved_run) s2 d2)) r.key s2 r3 a d0 d2 d3 (λ f. refl) now.3 now.4 loads
           (completes moved_run r3 s2 a d2 d2 d3 (record { gives = gives_now d2.work; left = left_of d2.work }) refl flows_behind false (λ z. unchained) (inl nothing) (told (suppresses_length r.ccw)) loads
           (subst (λ n. ComesBy r.key (λ f. next_chosen (choice f r.key (request_at s2 r.ccw (record r { place = record r.place { residual = n } })) (closed_of f d2 d2.work) (status_of (condition_for false (closed_of f d2 d2.work).unit)))) a r3 s2 d2 d3) (sym nothing) is)))

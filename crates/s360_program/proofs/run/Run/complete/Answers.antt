@@ -1,4 +1,4 @@
-use Rattle.std.proofs.Common.{◌∙◌, ap, refl, sym, subst, arith}
+use Rattle.std.proofs.Common.{◌∙◌, ap, refl, sym, subst, arith, rules}
 use Rattle.ckd_drive.specs.Work.{closed_of}
 use Rattle.s360_runs.specs.Endings.{ending}
 use Rattle.s360_runs.specs.Units.{EndsIn}
@@ -13,7 +13,8 @@ returns-in-Ok-2-clause-steps g c = λ most few.
     let a = c.args in
     let q = c.requires in
     let b = c.move_bytes in
-    rw (c.from.ensures, c.from-in-Ok-2.ensures) (moves_some a.self.now a.drive.now q.fits q.some q.left c.in-Ok.m a.storage.now b.new.storage b.new.drive c.in-Ok.ensures.moves most c.in-Ok.m few refl)
+    rw (c.from.ensures, c.from-in-Ok-2.ensures) (moves_some a.self.now a.drive.now q.fits q.some q.left c.in-Ok.m a.storage.now b.new.storage b.new.drive c.in-Ok.ensures.moves most c.in-Ok.m
+    (omega (arith, few)) refl)
 
 pub conclude-requires-clause-may : goal.conclude-requires-clause-may
 conclude-requires-clause-may g c =
@@ -29,26 +30,25 @@ conclude-requires-clause-saved g c =
     let b = c.move_bytes in
     (walked a.self.now a.drive.now q.fits q.some q.left c.in-Ok.m a.storage.now b.new.storage b.new.drive c.in-Ok.ensures.moves).fits.stands.saved
 
-pub returns-in-Ok-clause-steps : goal.returns-in-Ok-clause-steps
-returns-in-Ok-clause-steps g c = λ most few.
-    let a = c.args in
-    let q = c.requires in
-    let b = c.move_bytes in
-    let e = c.conclude in
-    let w = rw c.gives-gives.ensures at (c.is_all.ensures c.if-is_all.true) in
-    rw (c.behind.ensures ∙ sym (ap (λ n. behind n e.result) (all_moved a.self.now a.drive.now q.fits q.some q.left c.in-Ok.m a.storage.now b.new.storage b.new.drive c.in-Ok.ensures.moves q.first w.0 w.1)))
-    (moves_all a.self.now a.drive.now q.fits q.some q.left c.in-Ok.m a.storage.now b.new.storage b.new.drive c.in-Ok.ensures.moves q.first w.0 w.1 most e.new.self e.result e.new.drive few q.unchained e.ensures.loads (e.ensures.comes b.new.storage))
-
-pub returns-in-Ok-clause-quiet : goal.returns-in-Ok-clause-quiet
-returns-in-Ok-clause-quiet g c = λ h.
+pub returns-in-Ok : goal.returns-in-Ok
+returns-in-Ok g c =
     let a = c.args in
     let q = c.requires in
     let b = c.move_bytes in
     let e = c.conclude in
     let w = rw c.gives-gives.ensures at (c.is_all.ensures c.if-is_all.true) in
     let n = all_moved a.self.now a.drive.now q.fits q.some q.left c.in-Ok.m a.storage.now b.new.storage b.new.drive c.in-Ok.ensures.moves q.first w.0 w.1 in
-    let k = quiet_behind a.self.now a.drive.now q.fits q.some q.left c.in-Ok.m a.storage.now b.new.storage b.new.drive c.in-Ok.ensures.moves q.first w.0 w.1 e.result (rw (c.behind.ensures ∙ sym (ap (λ n. behind n e.result) n)) at h) in
-    e.ensures.unwritten k.unwritten k.closes ∙ b.ensures.image
+    let is = c.behind.ensures ∙ sym (ap (λ n. behind n e.result) n) in
+    record {
+      steps = λ most few. rw is
+          (moves_all a.self.now a.drive.now q.fits q.some q.left c.in-Ok.m a.storage.now b.new.storage b.new.drive c.in-Ok.ensures.moves q.first w.0 w.1 most e.new.self e.result e.new.drive few q.unchained e.ensures.loads (e.ensures.comes b.new.storage));
+      storage = search rules;
+      loads = search rules;
+      calls = search rules;
+      quiet = λ h.
+          let k = quiet_behind a.self.now a.drive.now q.fits q.some q.left c.in-Ok.m a.storage.now b.new.storage b.new.drive c.in-Ok.ensures.moves q.first w.0 w.1 e.result (rw is at h) in
+          e.ensures.unwritten k.unwritten k.closes ∙ b.ensures.image;
+    }
 
 pub returns-in-Err-clause-steps : goal.returns-in-Err-clause-steps
 returns-in-Err-clause-steps g c = λ most few.
