@@ -66,54 +66,71 @@ fn play<W: Write>(alloc: Global, row: &str, writer: &mut W) -> Result<()> {
     writeln!(writer, "{name}")?;
     for line in lines.lines() {
         let words = words_of(alloc, line)?;
-        match words.as_slice() {
-            ["extract", form, track, first, tracks, extents @ ..] => {
-                let extents = extents_of(alloc, extents)?;
-                let start = RelativeAddress {
-                    track: track.parse::<u16>()?,
-                    number: first.parse::<u8>()?,
-                };
-                let source = Source {
-                    extents: extents.as_slice(),
-                    start,
-                    tracks: tracks.parse::<u16>()?,
-                    form: form_of(form)?,
-                };
-                print_blocks(alloc, lines, writer, source)?;
-            }
-            ["members", extents @ ..] => {
-                let extents = extents_of(alloc, extents)?;
-                print_members(alloc, lines, writer, extents.as_slice())?;
-            }
-            ["contents"] => print_contents(alloc, lines, writer, NO_CHANGE, false)?,
-            ["contents-json"] => print_contents(alloc, lines, writer, NO_CHANGE, true)?,
-            ["contents", track, at, bits] => {
-                let change = Change {
-                    track: number(track)?,
-                    at: number(at)?,
-                    pattern: u8::from_str_radix(bits, 16)?,
-                };
-                print_contents(alloc, lines, writer, change, false)?;
-            }
-            ["hostile-contents", track, at, count] => {
-                let place = (number(track)?, number(at)?, number(count)?);
-                try_contents(alloc, lines, writer, place)?;
-            }
-            ["hostile-members", track, at, count, extents @ ..] => {
-                let extents = extents_of(alloc, extents)?;
-                let place = (number(track)?, number(at)?, number(count)?);
-                try_members(alloc, lines, writer, place, extents.as_slice())?;
-            }
-            ["hostile-extract", form, track, at, count, extents @ ..] => {
-                let extents = extents_of(alloc, extents)?;
-                let place = (number(track)?, number(at)?, number(count)?);
-                let source = whole(extents.as_slice(), form_of(form)?);
-                try_blocks(alloc, lines, writer, place, source)?;
-            }
-            _ => {}
-        }
+        call(alloc, words.as_slice(), lines, writer)?;
     }
     Ok(())
+}
+
+// Prints what the call of these words prints, over the volume that the lines of its row make.
+fn call<W: Write>(alloc: Global, words: &[&str], lines: &str, writer: &mut W) -> Result<()> {
+    match words {
+        ["extract", form, track, first, tracks, extents @ ..] => {
+            let extents = extents_of(alloc, extents)?;
+            let start = RelativeAddress {
+                track: track.parse::<u16>()?,
+                number: first.parse::<u8>()?,
+            };
+            let source = Source {
+                extents: extents.as_slice(),
+                start,
+                tracks: tracks.parse::<u16>()?,
+                form: form_of(form)?,
+            };
+            print_blocks(alloc, lines, writer, source)
+        }
+        ["members", extents @ ..] => {
+            let extents = extents_of(alloc, extents)?;
+            print_members(alloc, lines, writer, extents.as_slice())
+        }
+        ["contents"] => print_contents(alloc, lines, writer, NO_CHANGE, false),
+        ["contents-json"] => print_contents(alloc, lines, writer, NO_CHANGE, true),
+        ["contents", track, at, bits] => {
+            let change = Change {
+                track: number(track)?,
+                at: number(at)?,
+                pattern: u8::from_str_radix(bits, 16)?,
+            };
+            print_contents(alloc, lines, writer, change, false)
+        }
+        _ => hostile_call(alloc, words, lines, writer),
+    }
+}
+
+// The same of a call over that volume with other bytes at a place, one after another; no other word is a call.
+fn hostile_call<W: Write>(
+    alloc: Global,
+    words: &[&str],
+    lines: &str,
+    writer: &mut W,
+) -> Result<()> {
+    match words {
+        ["hostile-contents", track, at, count] => {
+            let place = (number(track)?, number(at)?, number(count)?);
+            try_contents(alloc, lines, writer, place)
+        }
+        ["hostile-members", track, at, count, extents @ ..] => {
+            let extents = extents_of(alloc, extents)?;
+            let place = (number(track)?, number(at)?, number(count)?);
+            try_members(alloc, lines, writer, place, extents.as_slice())
+        }
+        ["hostile-extract", form, track, at, count, extents @ ..] => {
+            let extents = extents_of(alloc, extents)?;
+            let place = (number(track)?, number(at)?, number(count)?);
+            let source = whole(extents.as_slice(), form_of(form)?);
+            try_blocks(alloc, lines, writer, place, source)
+        }
+        _ => Ok(()),
+    }
 }
 
 // A whole data set.

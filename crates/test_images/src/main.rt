@@ -3,6 +3,7 @@
 //! what it must.
 #![tactic(auto)]
 
+mod failing_stores;
 mod files;
 mod one_file;
 mod volumes;
@@ -54,19 +55,19 @@ fn rows_of_headers(rt: &HostRuntime) -> Result<()> {
 fn rows_of_slots(rt: &HostRuntime) -> Result<()> {
     let alloc = rt.alloc();
     tell(rt, "loads and saves", one_file::loads_and_saves(alloc))?;
-    let row = one_file::each_write_of_a_format_fails(alloc);
+    let row = failing_stores::each_write_of_a_format_fails(alloc);
     tell(rt, "each write of a format fails", row)?;
-    let row = one_file::the_read_of_a_mount_fails(alloc);
+    let row = failing_stores::the_read_of_a_mount_fails(alloc);
     tell(rt, "the read of a mount fails", row)?;
-    tell(rt, "a load fails", one_file::a_load_fails(alloc))?;
-    tell(rt, "a save fails", one_file::a_save_fails(alloc))
+    tell(rt, "a load fails", failing_stores::a_load_fails(alloc))?;
+    tell(rt, "a save fails", failing_stores::a_save_fails(alloc))
 }
 
 fn rows_of_stores(rt: &HostRuntime) -> Result<()> {
     let alloc = rt.alloc();
-    let row = one_file::fewer_than_sixty_bytes_are_all_written(alloc);
+    let row = failing_stores::fewer_than_sixty_bytes_are_all_written(alloc);
     tell(rt, "fewer than sixty bytes are all written", row)?;
-    let row = one_file::no_call_is_made_to_fail(alloc);
+    let row = failing_stores::no_call_is_made_to_fail(alloc);
     tell(rt, "no call is made to fail", row)?;
     tell(rt, "track numbers", one_file::track_numbers())?;
     tell(rt, "memory", one_file::memory(alloc))?;
