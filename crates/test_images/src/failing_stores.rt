@@ -3,7 +3,9 @@
 ghost use Rattle.std.specs.Prelude.{◌≡◌, ◌<◌, ◌^◌, ◌-◌, IfOk};
 ghost use Rattle.ckd_track.specs.Geometry.{new_geometry};
 
-use crate::volumes::{ONE_CYLINDER, are_all, first_difference, mounted, must, new_file, refused};
+use crate::volumes::{
+    ONE_CYLINDER, are_all, begins, first_difference, mounted, must, new_file, refused,
+};
 use anyhow::{Result, bail};
 use ckd_image::{FailingStore, Image, ImageStore, MemoryStore, MountFault, StoreFault};
 use ckd_track::{DriveModel, Geometry};

@@ -4,7 +4,8 @@ ghost use Rattle.std.specs.Prelude.{◌≡◌};
 ghost use Rattle.ckd_track.specs.Geometry.{new_geometry};
 
 use crate::volumes::{
-    ONE_CYLINDER, are_all, changed, first_difference, mounted, must, new_file, new_volume, refused,
+    ONE_CYLINDER, are_all, begins, changed, first_difference, mounted, must, new_file, new_volume,
+    refused,
 };
 use anyhow::{Context, Result, bail};
 use ckd_image::{Image, ImageStore, MemoryStore, MountFault, StoreFault, image_len};
@@ -301,11 +302,6 @@ fn loads_what_it_saves(image: &mut Image<MemoryStore>) -> bool
     let is_before = image.load(12, &mut slot) == Ok(()) && begins(&slot, [0, 0, 1, 0, 2, 0]);
     let is_behind = image.load(14, &mut slot) == Ok(()) && begins(&slot, [0, 0, 1, 0, 4, 0]);
     is_saved && is_loaded && is_before && is_behind
-}
-
-/// Whether a slot begins with these bytes.
-fn begins(slot: &[u8], bytes: [u8; 6]) -> bool {
-    slot.get(..6) == Some(bytes.as_slice())
 }
 
 /// Whether a file is a new one of 2311 tracks, of which track 13 is saved.

@@ -93,3 +93,8 @@ pub(crate) fn must(holds: bool) -> Result<()> {
     }
     Ok(())
 }
+
+/// Whether a slot begins with these bytes.
+pub(crate) fn begins(slot: &[u8], bytes: [u8; 6]) -> bool {
+    slot.get(..6) == Some(bytes.as_slice())
+}
