@@ -36,7 +36,7 @@ const MOST_PASSES: u32 = 100_000;
 const UNITS: u16 = 65535;
 
 /// What does a work.
-#[derive(Clone, Copy, Debug, PartialEq, Eq)]
+#[derive(Clone, Copy)]
 enum Way {
     /// A drive alone.
     Drive,
@@ -47,7 +47,7 @@ enum Way {
 }
 
 /// What the words ask for.
-#[derive(Clone, Copy, Debug, PartialEq, Eq)]
+#[derive(Clone, Copy)]
 enum Wish {
     /// Each work once in each way, over a small volume.
     Each,
@@ -107,7 +107,7 @@ fn asked_for(rt: &HostRuntime) -> Option<Wish> {
 }
 
 /// How much was done in which time.
-#[derive(Clone, Copy, Debug, PartialEq, Eq)]
+#[derive(Clone, Copy)]
 struct Speed {
     /// Commands, or channel command words.
     items: u64,

@@ -45,7 +45,7 @@ pub(crate) trait Machine {
 }
 
 /// A channel program in storage, with how many channel command words are fetched in a run of it, and how many bytes pass.
-#[derive(Clone, Copy, Debug, PartialEq, Eq)]
+#[derive(Clone, Copy)]
 pub(crate) struct Program {
     next: u32,
     ccws: u64,

@@ -14,7 +14,7 @@ use ckd_position::{Area, Position};
 use ckd_sense::{Command, CommandCode, FileMask, Permit, Sense};
 
 /// A command that works, and the area that it works on, as soon as that is known.
-#[derive(Clone, Copy, Debug, PartialEq, Eq)]
+#[derive(Clone, Copy)]
 pub struct Opened {
     /// The command.
     pub command: Command,
@@ -25,7 +25,7 @@ pub struct Opened {
 }
 
 /// What a command code leads to, beside what the drive remembers then.
-#[derive(Clone, Copy, Debug, PartialEq, Eq)]
+#[derive(Clone, Copy)]
 pub enum Start {
     /// The command is not begun: the sense says why.
     Rejected,

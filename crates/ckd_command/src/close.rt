@@ -14,7 +14,7 @@ use ckd_track::Geometry;
 use s360_words::UnitStatus;
 
 /// How a command ends, as the channel sees it.
-#[derive(Clone, Copy, Debug, PartialEq, Eq)]
+#[derive(Clone, Copy)]
 pub struct DriveEnding {
     /// The unit status.
     pub unit: UnitStatus,
@@ -43,7 +43,7 @@ impl DriveEnding {
 }
 
 /// How a command closes, beside what it wrote and what the drive remembers then.
-#[derive(Clone, Copy, Debug, PartialEq, Eq)]
+#[derive(Clone, Copy)]
 pub enum Closed {
     /// With this unit status, and the arm stays.
     Stays(UnitStatus),

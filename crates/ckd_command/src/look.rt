@@ -14,7 +14,7 @@ use ckd_sense::Sense;
 use ckd_track::Geometry;
 
 /// What a look at the track under the arm leads to, beside what the drive remembers then.
-#[derive(Clone, Copy, Debug, PartialEq, Eq)]
+#[derive(Clone, Copy)]
 pub enum Seen {
     /// This area is found.
     Found(Area),

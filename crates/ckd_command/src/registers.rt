@@ -5,7 +5,7 @@ use ckd_sense::{FileMask, Sense};
 
 /// What a command leaves for the very next one: the area that it found equal, or that it wrote. TIC may stand
 /// between the two commands; every other command takes the credit away.
-#[derive(Clone, Copy, Debug, PartialEq, Eq)]
+#[derive(Clone, Copy)]
 pub enum Credit {
     /// A search found the whole home address equal.
     EqualHomeAddress,
@@ -20,7 +20,7 @@ pub enum Credit {
 }
 
 /// How often the index has passed since the commands began to look on this track.
-#[derive(Clone, Copy, Debug, PartialEq, Eq)]
+#[derive(Clone, Copy)]
 pub enum Lap {
     /// Not yet.
     First,
@@ -30,7 +30,7 @@ pub enum Lap {
 
 /// All that a drive remembers beside its volume. Cylinder, head and sense stay between programs; the rest begins anew
 /// with each program.
-#[derive(Clone, Copy, Debug, PartialEq, Eq)]
+#[derive(Clone, Copy)]
 pub struct Registers {
     /// The cylinder at which the arm stands.
     pub cylinder: u16,
@@ -51,7 +51,7 @@ pub struct Registers {
 }
 
 /// The track under the arm, as far as the image is concerned.
-#[derive(Clone, Copy, Debug, PartialEq, Eq)]
+#[derive(Clone, Copy)]
 pub enum Mark {
     /// As it was loaded or saved.
     Saved,

@@ -8,7 +8,7 @@ use ckd_position::{Area, Compare, Extent, Kind, Part};
 use ckd_sense::Command;
 
 /// What a command works on.
-#[derive(Clone, Copy, Debug, PartialEq, Eq)]
+#[derive(Clone, Copy)]
 pub enum Aim {
     /// No area of the track.
     NoArea,
@@ -19,7 +19,7 @@ pub enum Aim {
 }
 
 /// What a command does with the bytes that pass.
-#[derive(Clone, Copy, Debug, PartialEq, Eq)]
+#[derive(Clone, Copy)]
 pub enum Action {
     /// None pass.
     NoTransfer,

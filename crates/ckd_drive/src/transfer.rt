@@ -19,7 +19,7 @@ use ghost_data::Trace;
 use std::cmp::Ordering;
 
 /// What becomes of the bytes that pass, and where in the slot those stand that are still to pass.
-#[derive(Clone, Copy, Debug, PartialEq, Eq)]
+#[derive(Clone, Copy)]
 pub enum Transfer {
     /// These sense bytes are given.
     Sense([u8; 6]),
@@ -36,7 +36,7 @@ pub enum Transfer {
 }
 
 /// What a command has written.
-#[derive(Clone, Copy, Debug, PartialEq, Eq)]
+#[derive(Clone, Copy)]
 pub enum Written {
     /// The home address.
     HomeAddress,
@@ -47,7 +47,7 @@ pub enum Written {
 }
 
 /// What the bytes of a field are, once they came whole, to a command that may then change the track.
-#[derive(Clone, Copy, Debug, PartialEq, Eq)]
+#[derive(Clone, Copy)]
 pub enum Whole {
     /// They did not come whole, or the track is not changed.
     No,
@@ -58,7 +58,7 @@ pub enum Whole {
 }
 
 /// A command half done, whose area is found.
-#[derive(Clone, Copy, Debug, PartialEq, Eq)]
+#[derive(Clone, Copy)]
 pub struct Progress {
     /// How many bytes passed.
     pub moved: usize,

@@ -16,7 +16,7 @@ use arrayvec::ArrayVec;
 
 /// Where the slot of a track is: the place of the file that holds it, and the track's number among
 /// those of that file.
-#[derive(Clone, Copy, Debug)]
+#[derive(Clone, Copy)]
 struct SlotPlace {
     file: usize,
     track: u32,

@@ -21,7 +21,7 @@ const BESIDES_CAPACITY: u32 = 37;
 const GREATEST_TRACK_SIZE: u32 = 65_536;
 
 /// What the header of a file says, as far as one file can keep the rules, and the file's length.
-#[derive(Clone, Copy, Debug)]
+#[derive(Clone, Copy)]
 pub(crate) struct FileHeader {
     /// The drive, by its device type.
     pub(crate) model: DriveModel,

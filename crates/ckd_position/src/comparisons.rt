@@ -8,7 +8,7 @@ ghost use Rattle.ckd_position.specs.Comparisons.{accepts, is_satisfied, Satisfie
 use std::cmp::Ordering;
 
 /// What a search asks of the area's bytes, beside those that it is given.
-#[derive(Clone, Copy, Debug, PartialEq, Eq)]
+#[derive(Clone, Copy)]
 pub enum Compare {
     /// They are the same.
     Equal,

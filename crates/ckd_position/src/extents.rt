@@ -1,7 +1,7 @@
 //! Which bytes of an area are meant.
 
 /// Which bytes of the home address or of a record a command gives, compares or replaces.
-#[derive(Clone, Copy, Debug, PartialEq, Eq)]
+#[derive(Clone, Copy)]
 pub enum Extent {
     /// None.
     Nothing,

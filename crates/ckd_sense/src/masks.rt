@@ -6,7 +6,7 @@ ghost use Rattle.ckd_sense.specs.Masks.{mask_of_byte, permit_of, inhibits_write,
 use crate::commands::Command;
 
 /// Which writes the file mask allows: its bits C0 (hexadecimal).
-#[derive(Clone, Copy, Debug, PartialEq, Eq)]
+#[derive(Clone, Copy)]
 pub enum WritePermission {
     /// 00: every write but Write Home Address and Write R0.
     InhibitHomeAddressAndR0,
@@ -19,7 +19,7 @@ pub enum WritePermission {
 }
 
 /// Which seeks the file mask allows: its bits 18 (hexadecimal).
-#[derive(Clone, Copy, Debug, PartialEq, Eq)]
+#[derive(Clone, Copy)]
 pub enum SeekPermission {
     /// 00: all seeks, Recalibrate and Read IPL, and head changes by the multi-track bit.
     PermitAllSeeks,
@@ -32,7 +32,7 @@ pub enum SeekPermission {
 }
 
 /// Whether a file mask lets a command begin.
-#[derive(Clone, Copy, Debug, PartialEq, Eq)]
+#[derive(Clone, Copy)]
 pub enum Permit {
     /// It does.
     Yes,
@@ -44,7 +44,7 @@ pub enum Permit {
 
 /// What Set File Mask sets for the rest of a channel program (component descriptions of the 2841 and the 2314,
 /// 'Set File Mask').
-#[derive(Clone, Copy, Debug, PartialEq, Eq)]
+#[derive(Clone, Copy)]
 pub struct FileMask {
     /// The writes that may be done.
     pub writes: WritePermission,

@@ -9,7 +9,7 @@ use bitflags::{Flag, Flags, bitflag_items};
 /// (component descriptions of the 2841 and the 2314, 'Sense').
 ///
 /// Sense byte 0 is the high half of the number, and sense byte 1 the low half.
-#[derive(Clone, Copy, Debug, PartialEq, Eq)]
+#[derive(Clone, Copy, PartialEq, Eq)]
 pub struct Sense(pub u16);
 
 bitflag_items! {

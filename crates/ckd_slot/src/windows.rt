@@ -1,7 +1,7 @@
 //! Parts of a slot.
 
 /// A part of a slot.
-#[derive(Clone, Copy, Debug, PartialEq, Eq)]
+#[derive(Clone, Copy)]
 pub struct Window {
     /// Where it begins, from the slot's beginning.
     pub start: usize,

@@ -8,7 +8,7 @@ use std::io::Write;
 use thiserror::Error;
 
 /// A write failed, or took no byte; or a flush failed.
-#[derive(Clone, Copy, Debug, PartialEq, Eq, Error)]
+#[derive(Clone, Copy, Debug, Error)]
 #[error("write fault")]
 pub struct WriteFault;
 

@@ -20,7 +20,7 @@ use std::io::Write;
 
 /// How the lines of a comparison are written: their style, the paths of the two volumes as strings of JSON with their quotes,
 /// and whether each difference has a line.
-#[derive(Clone, Copy, Debug)]
+#[derive(Clone, Copy)]
 pub struct Comparison<'a> {
     /// The style.
     pub style: Style,

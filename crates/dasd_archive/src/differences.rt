@@ -8,7 +8,7 @@ use dasd_volumes::{Hexadecimal, Reason};
 use std::fmt;
 
 /// What differs of a track of two volumes. A record is named by its place on the track, R0 being 0; offsets are in bytes.
-#[derive(Clone, Copy, Debug, PartialEq, Eq)]
+#[derive(Clone, Copy)]
 pub enum Difference {
     /// The home addresses.
     HomeAddress([u8; 5], [u8; 5]),

@@ -21,7 +21,7 @@ use volume_labels::shown_character;
 const ROW: usize = 16;
 
 /// The numbers from a first to a last one, which is none where the last is less.
-#[derive(Clone, Copy, Debug, PartialEq, Eq)]
+#[derive(Clone, Copy)]
 pub struct Range {
     /// The first.
     pub first: u16,
@@ -39,7 +39,7 @@ impl Range {
 }
 
 /// A part of a volume.
-#[derive(Clone, Copy, Debug, PartialEq, Eq)]
+#[derive(Clone, Copy)]
 pub struct Part {
     /// Its cylinders.
     pub cylinders: Range,

@@ -8,7 +8,7 @@ use dasd_volumes::{Hexadecimal, Reason, TrackAddress};
 use std::fmt;
 
 /// How grave a finding is.
-#[derive(Clone, Copy, Debug, PartialEq, Eq)]
+#[derive(Clone, Copy)]
 pub enum Severity {
     /// A reader of the drive would trip over it, or the drive could not have written it.
     Error,
@@ -20,7 +20,7 @@ pub enum Severity {
 
 /// What is found of a header or of a track. A record is named by its place on the track, R0 being 0; bytes are those that stand
 /// there.
-#[derive(Clone, Copy, Debug, PartialEq, Eq)]
+#[derive(Clone, Copy)]
 pub enum Problem {
     /// A reserved byte of a header is not zero; the first such offset, in bytes.
     ReservedBytes(usize),
@@ -45,7 +45,7 @@ pub enum Problem {
 }
 
 /// Where something is found.
-#[derive(Clone, Copy, Debug, PartialEq, Eq)]
+#[derive(Clone, Copy)]
 pub enum Place {
     /// In the header of a file of the image; the first is number 1.
     Header(u8),
@@ -54,7 +54,7 @@ pub enum Place {
 }
 
 /// A problem and where it is.
-#[derive(Clone, Copy, Debug, PartialEq, Eq)]
+#[derive(Clone, Copy)]
 pub struct Finding {
     /// Where it is.
     pub place: Place,

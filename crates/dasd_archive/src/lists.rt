@@ -19,7 +19,7 @@ use std::io;
 use std::io::Write;
 
 /// What is listed of a volume, and how.
-#[derive(Clone, Copy, Debug)]
+#[derive(Clone, Copy)]
 pub struct Listing<'a> {
     /// How it is written.
     pub form: Form<'a>,

@@ -24,7 +24,7 @@ use volume_labels::{
 const LABEL: usize = 3;
 
 /// What a volume says of itself.
-#[derive(Debug, Drop)]
+#[derive(Drop)]
 pub struct Contents {
     /// The volume label.
     pub label: Option<VolumeLabel>,
@@ -35,7 +35,7 @@ pub struct Contents {
 }
 
 /// Control blocks, and what is wrong.
-#[derive(Debug, Drop)]
+#[derive(Drop)]
 pub struct Found {
     /// The control blocks in use, in the order of the volume table of contents.
     pub blocks: Vec<Block>,

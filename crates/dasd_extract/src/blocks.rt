@@ -20,7 +20,7 @@ const DIRECTORY_KEY: usize = 8;
 const REPLACEMENT: char = '\u{FFFD}';
 
 /// How blocks are written.
-#[derive(Clone, Copy, Debug, PartialEq, Eq)]
+#[derive(Clone, Copy)]
 pub enum Form {
     /// Their data as it stands.
     Raw,

@@ -16,7 +16,7 @@ use volume_labels::{Extent, RelativeAddress};
 const DIRECTORY_TRACKS: u16 = 512;
 
 /// The members of a partitioned data set, and what is wrong behind them.
-#[derive(Debug, Drop)]
+#[derive(Drop)]
 pub struct Members {
     /// Their entries, in order.
     pub entries: Vec<DirectoryEntry>,

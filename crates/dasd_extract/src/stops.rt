@@ -31,7 +31,7 @@ pub enum Cause {
 }
 
 /// Where the blocks of a data set end, and why: the track is counted from the data set's first on, which is 0.
-#[derive(Clone, Copy, Debug, PartialEq, Eq)]
+#[derive(Clone, Copy, Debug)]
 pub struct Stop {
     /// The track.
     pub track: u32,

@@ -13,7 +13,7 @@ use std::io;
 use std::io::Write;
 
 /// What is written of a track: how, which track of the data set it is, and the number of its first block.
-#[derive(Clone, Copy, Debug, PartialEq, Eq)]
+#[derive(Clone, Copy)]
 pub(crate) struct Part {
     pub(crate) form: Form,
     pub(crate) track: u32,

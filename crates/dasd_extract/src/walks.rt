@@ -15,7 +15,7 @@ use std::io::Write;
 use volume_labels::{Extent, RelativeAddress};
 
 /// Which blocks are written, and how.
-#[derive(Clone, Copy, Debug)]
+#[derive(Clone, Copy)]
 pub struct Source<'a> {
     /// The extents of their data set, in order.
     pub extents: &'a [Extent],

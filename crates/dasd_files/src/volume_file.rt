@@ -10,7 +10,7 @@ use std::alloc::{AllocError, Global};
 use std::marker::Model;
 
 /// Which writes move the number of changes on.
-#[derive(Clone, Copy, Debug, PartialEq, Eq)]
+#[derive(Clone, Copy)]
 enum CountedWrites {
     /// All of them, also those of bytes that stand there already. Nothing is compared.
     All,

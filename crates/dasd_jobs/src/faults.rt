@@ -9,7 +9,7 @@ use dasd_volumes::VolumeFault;
 use thiserror::Error;
 
 /// Why a job was not done, or not to its end.
-#[derive(Clone, Copy, Debug, PartialEq, Eq, Error)]
+#[derive(Clone, Copy, Debug, Error)]
 pub enum JobFault {
     /// There is no memory for it.
     #[error("out of memory")]

@@ -8,7 +8,7 @@ use std::alloc::Global;
 use std::fmt;
 
 /// Why a file was not opened, not read or not replaced.
-#[derive(Clone, Copy, Debug, PartialEq, Eq)]
+#[derive(Clone, Copy)]
 pub enum FileFault {
     /// There is no memory for its bytes or for its path.
     OutOfMemory,

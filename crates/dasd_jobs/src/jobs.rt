@@ -22,7 +22,7 @@ use std::io::Write;
 use text_lines::put_decimal;
 
 /// What is formatted: a new volume, and whether it may take the place of a file.
-#[derive(Clone, Copy, Debug, PartialEq, Eq)]
+#[derive(Clone, Copy)]
 pub struct NewVolume<'a> {
     /// The path of its image.
     pub path: &'a str,

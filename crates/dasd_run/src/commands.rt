@@ -23,7 +23,7 @@ use std::alloc::Global;
 use std::io::{Read, Write};
 
 /// How a command ended that did what it was asked.
-#[derive(Clone, Copy, Debug, PartialEq, Eq)]
+#[derive(Clone, Copy)]
 pub enum Ending {
     /// It has nothing to report.
     Done,

@@ -9,7 +9,7 @@ use dasd_volumes::VolumeFault;
 use thiserror::Error;
 
 /// Why a data set was not unloaded, or not as a whole.
-#[derive(Clone, Copy, Debug, PartialEq, Eq, Error)]
+#[derive(Clone, Copy, Debug, Error)]
 pub enum UnloadFault {
     /// The volume has no data set of this name.
     #[error("no such data set")]

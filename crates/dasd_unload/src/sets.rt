@@ -28,7 +28,7 @@ const FIRST: RelativeAddress = RelativeAddress {
 };
 
 /// A data set that is to be unloaded.
-#[derive(Clone, Copy, Debug, PartialEq, Eq)]
+#[derive(Clone, Copy)]
 pub struct WantedSet<'a> {
     /// Its name.
     pub name: &'a str,
@@ -41,7 +41,7 @@ pub struct WantedSet<'a> {
 }
 
 /// What was unloaded to a file: how many bytes, and where the blocks end and why.
-#[derive(Clone, Copy, Debug, PartialEq, Eq)]
+#[derive(Clone, Copy)]
 pub(crate) struct Unloaded {
     pub(crate) bytes: u64,
     pub(crate) stop: Stop,

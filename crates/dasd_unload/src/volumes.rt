@@ -16,7 +16,7 @@ use std::io::Write;
 use volume_labels::BlockKind;
 
 /// A volume all of whose data sets are to be unloaded.
-#[derive(Clone, Copy, Debug, PartialEq, Eq)]
+#[derive(Clone, Copy)]
 pub struct WantedVolume<'a> {
     /// The folder of the new files.
     pub folder: &'a str,

@@ -10,7 +10,7 @@ use std::fmt;
 const SMALL_VOLUME: u64 = 4_194_304;
 
 /// What a job over a large volume is about.
-#[derive(Clone, Copy, Debug, PartialEq, Eq)]
+#[derive(Clone, Copy)]
 pub enum Stage {
     /// A new volume of so many cylinders is made.
     Formatting(u16),

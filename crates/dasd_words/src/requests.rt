@@ -5,7 +5,7 @@ use arrayvec::ArrayVec;
 use ckd_track::DriveModel;
 
 /// What `dasd` is asked to do, and how.
-#[derive(Debug, Drop)]
+#[derive(Drop)]
 pub struct Asked<'a> {
     /// What it is to do.
     pub request: Request<'a>,
@@ -14,7 +14,7 @@ pub struct Asked<'a> {
 }
 
 /// The numbers from a first to a last one, which is not less.
-#[derive(Clone, Copy, Debug, PartialEq, Eq)]
+#[derive(Clone, Copy)]
 pub struct Numbers {
     /// The first.
     pub first: u16,
@@ -23,7 +23,7 @@ pub struct Numbers {
 }
 
 /// The part of a volume whose bytes are printed.
-#[derive(Clone, Copy, Debug, PartialEq, Eq)]
+#[derive(Clone, Copy)]
 pub struct DumpedPart {
     /// Its cylinders.
     pub cylinders: Numbers,
@@ -34,7 +34,7 @@ pub struct DumpedPart {
 }
 
 /// The part of a volume whose tracks are listed.
-#[derive(Clone, Copy, Debug, PartialEq, Eq)]
+#[derive(Clone, Copy)]
 pub struct ListedPart {
     /// Its cylinders; all, where there are none.
     pub cylinders: Option<Numbers>,
@@ -43,7 +43,7 @@ pub struct ListedPart {
 }
 
 /// A number that somebody has noted.
-#[derive(Debug, Drop)]
+#[derive(Drop)]
 pub enum Noted {
     /// A channel status word.
     Csw([u8; 8]),
@@ -58,7 +58,7 @@ pub enum Noted {
 }
 
 /// What `dasd` is asked to do.
-#[derive(Debug, Drop)]
+#[derive(Drop)]
 pub enum Request<'a> {
     /// Write a new image to a path.
     Format {
@@ -129,7 +129,7 @@ pub enum Request<'a> {
 }
 
 /// A data set or a member of one that is taken out of a volume.
-#[derive(Debug, Drop)]
+#[derive(Drop)]
 pub struct ExtractedSet<'a> {
     /// The files of the image.
     pub paths: Vec<&'a str>,
@@ -142,7 +142,7 @@ pub struct ExtractedSet<'a> {
 }
 
 /// A volume all of whose data sets are taken out, with all members, each to a new file.
-#[derive(Debug, Drop)]
+#[derive(Drop)]
 pub struct ExtractedVolume<'a> {
     /// The files of the image.
     pub paths: Vec<&'a str>,
@@ -155,7 +155,7 @@ pub struct ExtractedVolume<'a> {
 }
 
 /// The name of a data set or of a member of one.
-#[derive(Clone, Copy, Debug, PartialEq, Eq)]
+#[derive(Clone, Copy)]
 pub struct SetName<'a> {
     /// The data set.
     pub data_set: &'a str,
@@ -164,7 +164,7 @@ pub struct SetName<'a> {
 }
 
 /// A deck that is to be run.
-#[derive(Debug, Drop)]
+#[derive(Drop)]
 pub struct DeckRun<'a> {
     /// The size of main storage, in bytes.
     pub storage: u32,
@@ -179,7 +179,7 @@ pub struct DeckRun<'a> {
 }
 
 /// Where the trace of a deck goes.
-#[derive(Clone, Copy, Debug, PartialEq, Eq)]
+#[derive(Clone, Copy)]
 pub enum TraceTarget<'a> {
     /// To standard error.
     StandardError,
@@ -188,7 +188,7 @@ pub enum TraceTarget<'a> {
 }
 
 /// Why the words ask for nothing.
-#[derive(Debug, Drop)]
+#[derive(Drop)]
 pub enum WordFault {
     /// There is no memory to read them.
     OutOfMemory,

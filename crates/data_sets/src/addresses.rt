@@ -6,7 +6,7 @@ ghost use Rattle.data_sets.specs.Addresses.{is_unused, is_run, number_of_track, 
 use volume_labels::{Extent, TrackAddress};
 
 /// Where a track of a data set is on its volume.
-#[derive(Clone, Copy, Debug, PartialEq, Eq)]
+#[derive(Clone, Copy)]
 pub enum TrackPlace {
     /// The number of the track on the volume, cylinder by cylinder and head by head. A volume need not have such a track.
     Track(u32),
@@ -17,7 +17,7 @@ pub enum TrackPlace {
 }
 
 // What an extent makes of a search: an answer, or how many tracks are left to pass.
-#[derive(Clone, Copy, Debug, PartialEq, Eq)]
+#[derive(Clone, Copy)]
 enum Step {
     Found(TrackPlace),
     Left(u32),

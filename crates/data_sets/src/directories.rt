@@ -13,7 +13,7 @@ pub const DIRECTORY_BLOCK: usize = 256;
 const ENTRY: usize = 12;
 
 /// A member of a partitioned data set, or another name of one.
-#[derive(Clone, Copy, Debug, PartialEq, Eq)]
+#[derive(Clone, Copy)]
 pub struct DirectoryEntry {
     /// Its name, in EBCDIC, with blanks behind it.
     pub name: [u8; 8],
@@ -28,7 +28,7 @@ pub struct DirectoryEntry {
 }
 
 /// Why the entries of a directory block can't be told apart.
-#[derive(Clone, Copy, Debug, PartialEq, Eq)]
+#[derive(Clone, Copy)]
 pub enum DirectoryFault {
     /// The number of its used bytes is less than two, or more than it has.
     UsedBytes,
@@ -37,7 +37,7 @@ pub enum DirectoryFault {
 }
 
 /// What stands at an offset of the directory blocks of a data set.
-#[derive(Clone, Copy, Debug, PartialEq, Eq)]
+#[derive(Clone, Copy)]
 pub enum DirectoryStep {
     /// An entry, and the offset behind it.
     Entry(DirectoryEntry, usize),
@@ -50,7 +50,7 @@ pub enum DirectoryStep {
 }
 
 /// The entries of a directory, and why there are no more of them, if not since it ends.
-#[derive(Debug, Drop)]
+#[derive(Drop)]
 pub struct Directory {
     /// The entries, in order.
     pub entries: Vec<DirectoryEntry>,

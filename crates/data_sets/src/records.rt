@@ -4,7 +4,7 @@ ghost use Rattle.std.specs.Prelude.{◌≡◌, ◌≤◌, ◌<◌, ◌+◌, leng
 ghost use Rattle.data_sets.specs.Records.{form_of, number_at, segment_of, fixed_record, described, variable_record, next_record, IsWithin};
 
 /// The form of a data set's records.
-#[derive(Clone, Copy, Debug, PartialEq, Eq)]
+#[derive(Clone, Copy)]
 pub enum RecordForm {
     /// Records of this length, in bytes; 0 is one record a block.
     Fixed(u16),
@@ -17,7 +17,7 @@ pub enum RecordForm {
 }
 
 /// Which part of a record stands in a block.
-#[derive(Clone, Copy, Debug, PartialEq, Eq)]
+#[derive(Clone, Copy)]
 pub enum Segment {
     /// All of it.
     Whole,
@@ -31,7 +31,7 @@ pub enum Segment {
 
 /// A record of a block, or a part of one: the bytes from `start` up to `end`, without descriptor words. The next one stands at
 /// `end`.
-#[derive(Clone, Copy, Debug, PartialEq, Eq)]
+#[derive(Clone, Copy)]
 pub struct Piece {
     /// Where it begins.
     pub start: usize,

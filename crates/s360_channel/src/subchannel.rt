@@ -5,7 +5,7 @@ use s360_words::Csw;
 
 /// The subchannel: the part of the channel that a program occupies from its start until its channel status word is
 /// stored (Principles of Operation, 'Input/Output Operations').
-#[derive(Debug, Drop)]
+#[derive(Drop)]
 pub enum Subchannel {
     /// Available.
     Idle,

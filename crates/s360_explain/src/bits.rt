@@ -6,7 +6,7 @@ ghost use Rattle.s360_words.specs.Flags.{ccw_flags, unit_status_bits, channel_st
 ghost use Rattle.ckd_sense.specs.SenseBytes.{sense_bits};
 
 /// A field whose bits have names.
-#[derive(Clone, Copy, Debug, PartialEq, Eq)]
+#[derive(Clone, Copy)]
 pub enum Field {
     /// The unit status of a channel status word.
     UnitStatus,

@@ -6,7 +6,7 @@ ghost use Rattle.s360_explain.specs.Lines.{code_of};
 use ckd_sense::{Command, CommandCode};
 
 /// What a command code is to a channel and to the drive.
-#[derive(Clone, Copy, Debug, PartialEq, Eq)]
+#[derive(Clone, Copy)]
 pub enum Code {
     /// A transfer in channel.
     Transfer,

@@ -14,7 +14,7 @@ use s360_words::{Ccw, ChannelStatus, Csw, UnitStatus};
 use std::fmt;
 
 /// A line of an explanation.
-#[derive(Clone, Copy, Debug, PartialEq, Eq)]
+#[derive(Clone, Copy)]
 pub enum Line {
     /// The protection key of a channel program.
     Key(u8),

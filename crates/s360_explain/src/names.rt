@@ -7,7 +7,7 @@ use s360_words::{ChannelStatus, UnitStatus};
 use std::fmt;
 
 /// Unit status, by the short names of its bits, with blanks between.
-#[derive(Clone, Copy, Debug)]
+#[derive(Clone, Copy)]
 pub struct UnitNames(pub UnitStatus);
 
 impl fmt::Display for UnitNames {
@@ -28,7 +28,7 @@ impl fmt::Display for UnitNames {
 }
 
 /// Channel status, by the names of its bits, with commas between.
-#[derive(Clone, Copy, Debug)]
+#[derive(Clone, Copy)]
 pub struct ChannelNames(pub ChannelStatus);
 
 impl fmt::Display for ChannelNames {
@@ -38,7 +38,7 @@ impl fmt::Display for ChannelNames {
 }
 
 /// Sense bytes 0 and 1, by the names of their bits, with commas between.
-#[derive(Clone, Copy, Debug)]
+#[derive(Clone, Copy)]
 pub struct SenseNames(pub Sense);
 
 impl fmt::Display for SenseNames {

@@ -2,7 +2,7 @@
 
 /// The condition code of an input/output instruction (Principles of Operation, Input/Output Operations:
 /// 'Input/Output Instructions').
-#[derive(Clone, Copy, Debug, PartialEq, Eq)]
+#[derive(Clone, Copy)]
 pub enum ConditionCode {
     /// Start I/O started a program; Test I/O found the device available; Test Channel found the channel available;
     /// Halt I/O found an interruption that pends.

@@ -13,7 +13,7 @@ use ckd_image::ImageStore;
 use s360_words::{Ccw, Storage};
 
 /// Whether a drive gives the bytes of a command, or takes them, and how many are left.
-#[derive(Clone, Copy, Debug, PartialEq, Eq)]
+#[derive(Clone, Copy)]
 pub(crate) struct Flow {
     /// Whether it gives them.
     pub(crate) gives: bool,

@@ -10,7 +10,7 @@ use bitflags::Flags;
 use s360_words::{Ccw, Storage, UnitStatus};
 
 /// The channel's place in a program.
-#[derive(Clone, Copy, Debug, PartialEq, Eq)]
+#[derive(Clone, Copy)]
 pub(crate) struct Place {
     /// Where the next word is.
     pub(crate) next: u32,
@@ -25,7 +25,7 @@ pub(crate) struct Place {
 }
 
 /// What is found where a channel command word is fetched.
-#[derive(Clone, Copy, Debug, PartialEq, Eq)]
+#[derive(Clone, Copy)]
 pub(crate) enum Fetched {
     /// None that may stand there, which is a program check.
     NoCcw,

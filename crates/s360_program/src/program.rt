@@ -24,7 +24,7 @@ use s360_words::{Caw, ChannelStatus, Csw, Storage, UnitStatus};
 use std::marker::Model;
 
 /// A channel program that was accepted and has not ended. Bytes, drive and storage are not kept in it.
-#[derive(Debug, Drop)]
+#[derive(Drop)]
 pub struct Running {
     run: Run,
 }
@@ -43,7 +43,7 @@ impl Model for Running {
 }
 
 /// What Start I/O makes of a program's first unit.
-#[derive(Debug, Drop)]
+#[derive(Drop)]
 pub enum Start {
     /// A bad channel address word, or a program check at the first word: nothing is started.
     Bad,
@@ -56,7 +56,7 @@ pub enum Start {
 }
 
 /// What units of a program came to.
-#[derive(Clone, Copy, Debug, PartialEq, Eq)]
+#[derive(Clone, Copy)]
 pub struct Advance {
     /// How many were done: all that were asked for, unless the program ended.
     pub done: u16,
@@ -65,7 +65,7 @@ pub struct Advance {
 }
 
 /// The same of more units than 16 bits count.
-#[derive(Clone, Copy, Debug, PartialEq, Eq)]
+#[derive(Clone, Copy)]
 pub struct Ran {
     /// How many were done: all that were asked for, unless the program ended.
     pub done: u32,

@@ -9,7 +9,7 @@ use crate::view::AtWork;
 use s360_words::{Ccw, ChannelStatus, UnitStatus};
 
 /// What comes next.
-#[derive(Clone, Copy, Debug, PartialEq, Eq)]
+#[derive(Clone, Copy)]
 pub(crate) enum Comes {
     /// The fetch of a word that begins a command.
     NextCommand,
@@ -20,7 +20,7 @@ pub(crate) enum Comes {
 }
 
 /// What a running program keeps. It is flat, since it is changed in place with each unit.
-#[derive(Clone, Copy, Debug, PartialEq, Eq)]
+#[derive(Clone, Copy)]
 pub(crate) struct Run {
     /// The protection key of its stores.
     pub(crate) key: u8,
@@ -37,7 +37,7 @@ pub(crate) struct Run {
 }
 
 /// What a program's end reports beside where the channel is in it.
-#[derive(Clone, Copy, Debug, PartialEq, Eq)]
+#[derive(Clone, Copy)]
 pub(crate) struct Ended {
     /// The unit status.
     pub(crate) unit: UnitStatus,
@@ -48,7 +48,7 @@ pub(crate) struct Ended {
 }
 
 /// What units came to.
-#[derive(Clone, Copy, Debug, PartialEq, Eq)]
+#[derive(Clone, Copy)]
 pub(crate) enum Step {
     /// So many were done, and the program goes on.
     Units(u32),

@@ -14,7 +14,7 @@ use ckd_image::ImageStore;
 use s360_words::Ccw;
 
 /// What the first command comes to.
-#[derive(Clone, Copy, Debug, PartialEq, Eq)]
+#[derive(Clone, Copy)]
 pub(crate) enum First {
     /// The drive rejects it.
     Rejected,

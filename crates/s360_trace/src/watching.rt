@@ -15,7 +15,7 @@ use s360_events::{Answer, Event};
 use std::alloc::{AllocError, Global};
 
 /// When a watcher looks.
-#[derive(Clone, Copy, Debug)]
+#[derive(Clone, Copy)]
 pub enum Moment<'a> {
     /// This event is about to happen.
     Before(&'a Event),

@@ -18,7 +18,7 @@ use std::fmt;
 use std::io::Write;
 
 /// A trace could not be written.
-#[derive(Clone, Copy, Debug, PartialEq, Eq)]
+#[derive(Clone, Copy)]
 pub struct TraceFault;
 
 /// Writes a trace of what it sees. A write that fails is its last, and is told at the end; what is watched goes on.

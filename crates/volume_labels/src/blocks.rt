@@ -15,7 +15,7 @@ pub const KEY_LENGTH: usize = 44;
 pub const DATA_LENGTH: usize = 96;
 
 /// What a data set control block is for, by its format.
-#[derive(Clone, Copy, Debug, PartialEq, Eq)]
+#[derive(Clone, Copy)]
 pub enum BlockKind {
     /// Format 0: it is free.
     Free,
@@ -36,7 +36,7 @@ pub enum BlockKind {
 }
 
 /// What a format 1 block says of a data set.
-#[derive(Clone, Copy, Debug, PartialEq, Eq)]
+#[derive(Clone, Copy)]
 pub struct DataSetBlock {
     /// Its name, in EBCDIC, with blanks behind it.
     pub name: [u8; 44],
@@ -75,7 +75,7 @@ pub struct DataSetBlock {
 }
 
 /// What a format 4 block says.
-#[derive(Clone, Copy, Debug, PartialEq, Eq)]
+#[derive(Clone, Copy)]
 pub struct ContentsBlock {
     /// The last format 1 block.
     pub last_data_set: RecordAddress,

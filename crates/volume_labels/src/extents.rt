@@ -10,7 +10,7 @@ use crate::fields::{
 };
 
 /// What a format 2 block says of the indexes of an indexed sequential data set, as far as it is read.
-#[derive(Clone, Copy, Debug, PartialEq, Eq)]
+#[derive(Clone, Copy)]
 pub struct IndexesBlock {
     /// How many levels of indexes there are.
     pub levels: u8,
@@ -27,7 +27,7 @@ pub struct IndexesBlock {
 }
 
 /// What a format 3 block says.
-#[derive(Clone, Copy, Debug, PartialEq, Eq)]
+#[derive(Clone, Copy)]
 pub struct ExtentsBlock {
     /// The extents behind those of the block before it; those of type 0 are none.
     pub extents: [Extent; 13],
@@ -36,7 +36,7 @@ pub struct ExtentsBlock {
 }
 
 /// What a format 5 block of OS/360 says.
-#[derive(Clone, Copy, Debug, PartialEq, Eq)]
+#[derive(Clone, Copy)]
 pub struct FreeSpaceBlock {
     /// Free tracks; those of no cylinder and no track are none.
     pub free: [FreeTracks; 26],

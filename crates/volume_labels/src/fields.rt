@@ -4,7 +4,7 @@ ghost use Rattle.std.specs.Prelude.{◌≡◌, ◌+◌, ◌≤◌, length, slice
 ghost use Rattle.volume_labels.specs.Fields.{number_at, track_address_at, record_address_at, relative_address_at, extent_at, date_at, long_number_at, free_tracks_at};
 
 /// The address of a track, as a label says it. A volume need not have such a track.
-#[derive(Clone, Copy, Debug, PartialEq, Eq)]
+#[derive(Clone, Copy, PartialEq, Eq)]
 pub struct TrackAddress {
     /// The cylinder.
     pub cylinder: u16,
@@ -13,7 +13,7 @@ pub struct TrackAddress {
 }
 
 /// The address of a record. A track need not have such a record.
-#[derive(Clone, Copy, Debug, PartialEq, Eq)]
+#[derive(Clone, Copy, PartialEq, Eq)]
 pub struct RecordAddress {
     /// Its track.
     pub track: TrackAddress,
@@ -22,7 +22,7 @@ pub struct RecordAddress {
 }
 
 /// The address of a record of a data set.
-#[derive(Clone, Copy, Debug, PartialEq, Eq)]
+#[derive(Clone, Copy)]
 pub struct RelativeAddress {
     /// Its track, the data set's first being 0.
     pub track: u16,
@@ -31,7 +31,7 @@ pub struct RelativeAddress {
 }
 
 /// A run of tracks, as a control block says it: nothing is known of the two addresses.
-#[derive(Clone, Copy, Debug, PartialEq, Eq)]
+#[derive(Clone, Copy)]
 pub struct Extent {
     /// What it is for: 0 where there is no extent.
     pub kind: u8,
@@ -44,7 +44,7 @@ pub struct Extent {
 }
 
 /// A date; year and day are 0 where there is none.
-#[derive(Clone, Copy, Debug, PartialEq, Eq)]
+#[derive(Clone, Copy)]
 pub struct Date {
     /// Years behind 1900.
     pub year: u8,
@@ -53,7 +53,7 @@ pub struct Date {
 }
 
 /// Free tracks, as a control block says them: nothing is known of the three numbers. All are 0 where there are none.
-#[derive(Clone, Copy, Debug, PartialEq, Eq)]
+#[derive(Clone, Copy)]
 pub struct FreeTracks {
     /// The number of the first, track 0 being the first of the volume.
     pub first: u16,

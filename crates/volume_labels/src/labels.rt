@@ -12,7 +12,7 @@ const LABEL_LENGTH: usize = 80;
 const NAME: [u8; 4] = [0xE5, 0xD6, 0xD3, 0xF1];
 
 /// What the volume label says: the third record behind record 0 of cylinder 0, head 0.
-#[derive(Clone, Copy, Debug, PartialEq, Eq)]
+#[derive(Clone, Copy)]
 pub struct VolumeLabel {
     /// The volume's serial number, in EBCDIC.
     pub serial: [u8; 6],
