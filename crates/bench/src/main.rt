@@ -36,7 +36,7 @@ const MOST_PASSES: u32 = 100_000;
 const UNITS: u16 = 65535;
 
 /// What does a work.
-#[derive(Clone, Copy)]
+#[derive(Clone, Copy, PartialEq, Eq)]
 enum Way {
     /// A drive alone.
     Drive,

@@ -1,7 +1,7 @@
 //! What a drive answers, and the stages of a command by which it does.
 
 /// What a command code led to.
-#[derive(Clone, Copy)]
+#[derive(Clone, Copy, Debug, PartialEq, Eq)]
 pub enum Begun {
     /// The command is not begun: the sense bytes say why.
     Rejected,
@@ -12,7 +12,7 @@ pub enum Begun {
 }
 
 /// What a look at the track under the arm led to.
-#[derive(Clone, Copy)]
+#[derive(Clone, Copy, Debug, PartialEq, Eq)]
 pub enum Look {
     /// The area is found: so many more bytes may pass.
     Ready(usize),
@@ -24,7 +24,7 @@ pub enum Look {
 
 /// How far a command is, and so what may be called next. Other calls than those named wait: whoever makes one breaks
 /// its condition.
-#[derive(Clone, Copy)]
+#[derive(Clone, Copy, Debug, PartialEq, Eq)]
 pub enum Phase {
     /// No command is open: `begin`, `begin_program`, `clear_sense` and `settle`, and `into_image` where no track is written.
     Idle,

@@ -1,7 +1,7 @@
 //! The areas of a track in the order in which they pass, and the next one of a kind.
 
 /// A part of a record.
-#[derive(Clone, Copy)]
+#[derive(Clone, Copy, Debug)]
 pub enum Part {
     /// The count area: cylinder, head, record number, key length and data length.
     Count,
@@ -12,7 +12,7 @@ pub enum Part {
 }
 
 /// An area of a track.
-#[derive(Clone, Copy)]
+#[derive(Clone, Copy, Debug)]
 pub enum Area {
     /// The home address.
     HomeAddress,
@@ -21,7 +21,7 @@ pub enum Area {
 }
 
 /// How far a turn of the track has come.
-#[derive(Clone, Copy)]
+#[derive(Clone, Copy, Debug)]
 pub enum Position {
     /// At the index: no area has passed.
     AtIndex,
@@ -30,7 +30,7 @@ pub enum Position {
 }
 
 /// What is looked for on a turn of the track.
-#[derive(Clone, Copy)]
+#[derive(Clone, Copy, Debug)]
 pub enum Kind {
     /// The home address.
     HomeAddress,
@@ -52,7 +52,7 @@ pub enum Kind {
 }
 
 /// What a look finds before the index passes.
-#[derive(Clone, Copy)]
+#[derive(Clone, Copy, Debug)]
 pub enum Next {
     /// This area is next.
     Found(Area),

@@ -4,7 +4,7 @@ ghost use Rattle.std.specs.Prelude.{◌≡◌};
 ghost use Rattle.ckd_sense.specs.Commands.{decoded};
 
 /// A command of a control unit for count-key-data disks.
-#[derive(Clone, Copy)]
+#[derive(Clone, Copy, Debug, PartialEq, Eq)]
 pub enum Command {
     /// Does nothing.
     NoOperation,
@@ -61,7 +61,7 @@ pub enum Command {
 }
 
 /// What a command code says: the command, and whether its multi-track bit is on.
-#[derive(Clone, Copy)]
+#[derive(Clone, Copy, Debug, PartialEq, Eq)]
 pub struct CommandCode {
     /// The command.
     pub command: Command,

@@ -3,7 +3,7 @@
 use thiserror::Error;
 
 /// Why a volume was not listed or checked to its end.
-#[derive(Clone, Copy, Debug, Error)]
+#[derive(Clone, Copy, Debug, PartialEq, Eq, Error)]
 pub enum VolumeFault {
     /// There is no memory for a slot.
     #[error("out of memory")]

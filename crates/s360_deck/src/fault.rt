@@ -3,7 +3,7 @@
 use thiserror::Error;
 
 /// Why a text is no deck. Lines are counted from 1, and the first faulty line is reported.
-#[derive(Clone, Copy, Debug, Error)]
+#[derive(Clone, Copy, Debug, PartialEq, Eq, Error)]
 pub enum DeckFault {
     /// There is no memory for the events.
     #[error("out of memory")]

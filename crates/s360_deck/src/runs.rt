@@ -14,7 +14,7 @@ use std::io::{Read, Write};
 use thiserror::Error;
 
 /// Why a deck was not run, or its answers were not all written.
-#[derive(Clone, Copy, Debug, Error)]
+#[derive(Clone, Copy, Debug, PartialEq, Eq, Error)]
 pub enum RunFault {
     /// The text is no deck, or there is no memory for it, for its events or for their answers.
     #[error(transparent)]
