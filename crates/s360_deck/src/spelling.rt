@@ -1,7 +1,7 @@
 //! What one line spells.
 
 /// The name of an event.
-#[derive(Clone, Copy, Debug, PartialEq, Eq)]
+#[derive(Clone, Copy)]
 pub enum EventName {
     /// Start I/O.
     Sio,
@@ -30,7 +30,7 @@ pub enum EventName {
 }
 
 /// What is wrong with a line.
-#[derive(Clone, Copy, Debug, PartialEq, Eq)]
+#[derive(Clone, Copy)]
 pub enum LineFault {
     /// It has more than 512 bytes.
     TooLong,
