@@ -13,30 +13,19 @@ pub(crate) struct Answered<'a>(pub(crate) &'a Answer);
 impl fmt::Display for Answered<'_> {
     fn fmt<W: fmt::Write>(&self, f: &mut fmt::Formatter<W>) -> fmt::Result {
         match self.0 {
-            Answer::Sio(address, condition) => write!(
-                f,
-                "SIO {address:03X} {}",
-                started(condition)
-            ),
-            Answer::Tio(address, condition) => write!(f, "TIO {address:03X} {}", tested(condition)),
-            Answer::Hio(address, condition) => write!(f, "HIO {address:03X} {}", halted(condition)),
+            Answer::Sio(address, condition) => put(f, "SIO", *address, &started(condition)),
+            Answer::Tio(address, condition) => put(f, "TIO", *address, &tested(condition)),
+            Answer::Hio(address, condition) => put(f, "HIO", *address, &halted(condition)),
             Answer::Tch(condition) => write!(f, "TCH {}", channel_tested(condition)),
             Answer::Step(done) => write!(f, "STEP {done}"),
             Answer::Run(done) => write!(f, "RUN {done}"),
-            Answer::Arrive(address, true) => write!(
+            Answer::Arrive(address, arrived) => write!(
                 f,
-                "ARRIVE {address:03X}: the arm has come to rest"
-            ),
-            Answer::Arrive(address, false) => write!(
-                f,
-                "ARRIVE {address:03X}: no arm was in motion"
+                "ARRIVE {address:03X}: {}",
+                arrival(*arrived)
             ),
             Answer::Interrupt(None) => f.write_str("INT none"),
-            Answer::Interrupt(Some((address, csw))) => write!(
-                f,
-                "INT {address:03X} {}",
-                Word(*csw)
-            ),
+            Answer::Interrupt(Some((address, csw))) => put(f, "INT", *address, &Word(*csw)),
             Answer::Reset(None) => f.write_str("RESET"),
             Answer::Reset(Some((address, cylinder, head))) => write!(
                 f,
@@ -49,6 +38,16 @@ impl fmt::Display for Answered<'_> {
             Answer::Show(at, _) => write!(f, "SHOW {at:06X}"),
         }
     }
+}
+
+// The name of an event, an address, and what came of it.
+fn put<W: fmt::Write, T: Display>(
+    f: &mut fmt::Formatter<W>,
+    name: &str,
+    address: u16,
+    came: &T,
+) -> fmt::Result {
+    write!(f, "{name} {address:03X} {came}")
 }
 
 // A condition code, and what it means or what was stored.
@@ -109,6 +108,14 @@ fn channel_tested(condition: &Condition<()>) -> &'static str {
         Condition::Stored(()) => "CC 1, an interruption is pending",
         Condition::Two => "CC 2, a program runs",
         Condition::Three => "CC 3, not operational",
+    }
+}
+
+fn arrival(arrived: bool) -> &'static str {
+    if arrived {
+        "the arm has come to rest"
+    } else {
+        "no arm was in motion"
     }
 }
 
