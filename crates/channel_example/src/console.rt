@@ -1,7 +1,6 @@
 //! What the processor does with a channel, and how it is shown.
 
 use anyhow::Result;
-use bitflags::Flags;
 use ckd_image::ImageStore;
 use s360_channel::Channel;
 use s360_events::Condition;
@@ -18,27 +17,6 @@ pub(crate) fn code_of<T>(condition: &Condition<T>) -> u8 {
         Condition::Stored(_) => 1,
         Condition::Two => 2,
         Condition::Three => 3,
-    }
-}
-
-/// A channel status word: command address, unit status, channel status, residual count.
-#[derive(Clone, Copy)]
-pub(crate) struct Shown(pub Csw);
-
-impl fmt::Display for Shown {
-    fn fmt<W: fmt::Write>(&self, f: &mut fmt::Formatter<W>) -> fmt::Result {
-        let Csw {
-            key: _,
-            address,
-            unit,
-            channel,
-            count,
-        } = self.0;
-        let (unit, channel) = (unit.bits(), channel.bits());
-        write!(
-            f,
-            "{address:06X} unit {unit:02X} channel {channel:02X} count {count}"
-        )
     }
 }
 
@@ -75,37 +53,42 @@ pub(crate) fn run<S: ImageStore>(
 
 /// Takes an interruption, if one pends.
 pub(crate) fn take<S: ImageStore>(rt: &HostRuntime, channel: &mut Channel<S>) -> Result<()> {
-    let pends = channel.is_pending();
-    show_interruption(rt, pends, channel.interrupt())
+    let taken = if channel.is_pending() {
+        channel.interrupt()
+    } else {
+        None
+    };
+    show_interruption(rt, taken)
 }
 
-/// Shows an interruption that was taken, and whether it pended.
-pub(crate) fn show_interruption(
-    rt: &HostRuntime,
-    pends: bool,
-    taken: Option<(u16, Csw)>,
-) -> Result<()> {
-    match taken {
-        Some((address, csw)) if pends => println!(rt;
-            "  interruption {address:03X}: {}",
-            Shown(csw)
-        )?,
-        None if !pends => println!(rt; "  no interruption")?,
-        _ => println!(rt; "  an interruption that did not pend, or pends still")?,
-    }
+/// Shows an interruption, if one was taken.
+pub(crate) fn show_interruption(rt: &HostRuntime, taken: Option<(u16, Csw)>) -> Result<()> {
+    let Some((address, csw)) = taken else {
+        println!(rt; "  no interruption")?;
+        return Ok(());
+    };
+    print!(rt; "  interruption {address:03X}: ")?;
+    show_csw(rt, &csw)
+}
+
+/// Shows a channel status word: command address, unit status, channel status, residual count.
+pub(crate) fn show_csw(rt: &HostRuntime, csw: &Csw) -> Result<()> {
+    let (unit, channel) = (csw.unit.0, csw.channel.0);
+    println!(rt;
+        "{:06X} unit {unit:02X} channel {channel:02X} count {}",
+        csw.address, csw.count
+    )?;
     Ok(())
 }
 
-/// Shows bytes of storage.
+/// Shows bytes of storage; none where some of them are outside.
 pub(crate) fn show<S: ImageStore>(
     rt: &HostRuntime,
     channel: &Channel<S>,
     at: u32,
     len: u32,
 ) -> Result<()> {
-    match channel.peek(at, len) {
-        Some(bytes) => println!(rt; "  {at:06X}: {}", Hex(bytes))?,
-        None => println!(rt; "  {at:06X}: outside storage")?,
-    }
+    let bytes = channel.peek(at, len).unwrap_or(&[]);
+    println!(rt; "  {at:06X}: {}", Hex(bytes))?;
     Ok(())
 }

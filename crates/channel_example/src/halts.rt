@@ -1,7 +1,8 @@
 //! A halt in the middle of a write.
 
-use crate::console::{code_of, run, show, take};
-use crate::programs::{READ_DATA, WRITE_DATA, store_search};
+use crate::console::{code_of, take};
+use crate::programs::{WRITE_DATA, store_search};
+use crate::records::read;
 use anyhow::Result;
 use ckd_image::MemoryStore;
 use s360_channel::Channel;
@@ -15,7 +16,5 @@ pub(crate) fn halt_a_write(rt: &HostRuntime, channel: &mut Channel<MemoryStore>)
     let halted = code_of(&channel.hio(0x190));
     println!(rt; "an update: condition code {code}, {units} units; halt: condition code {halted}")?;
     take(rt, channel)?;
-    store_search(channel, 1, READ_DATA, 0x700)?;
-    run(rt, channel, "record 1 is read", 0x190)?;
-    show(rt, channel, 0x700, 8)
+    read(rt, channel, "record 1 is read", 1)
 }

@@ -18,20 +18,25 @@ mod records;
 mod volumes;
 
 use anyhow::Result;
+use ckd_image::MemoryStore;
+use s360_channel::Channel;
 
 fn main(rt: HostRuntime) -> Result<()> {
-    let mut channel = volumes::new_channel(rt.alloc(), 1)?;
-    for device in [0x90, 0x91] {
-        let pack = volumes::new_volume(rt.alloc(), 2)?;
-        volumes::attach(rt.alloc(), &mut channel, device, pack)?;
-    }
-    records::write_and_read(&rt, &mut channel)?;
-    interruptions::change_while_it_runs(&rt, &mut channel)?;
-    arms::arrive_while_another_works(&rt, &mut channel)?;
-    halts::halt_a_write(&rt, &mut channel)?;
-    packs::change(&rt, &mut channel)?;
+    let mut channel = volumes::new_channel(rt.alloc())?;
+    work(&rt, &mut channel)?;
     packs::give_back(&rt, channel)?;
     failures::fail_at_the_end(&rt)?;
     failures::fail_at_a_reset(&rt)?;
     pair::read_and_write_at_once(&rt)
+}
+
+/// The day of the small machine, which has two drives.
+fn work(rt: &HostRuntime, channel: &mut Channel<MemoryStore>) -> Result<()> {
+    volumes::attach_new(rt.alloc(), channel, 0x90, 2)?;
+    volumes::attach_new(rt.alloc(), channel, 0x91, 2)?;
+    records::write_and_read(rt, channel)?;
+    interruptions::change_while_it_runs(rt, channel)?;
+    arms::arrive_while_another_works(rt, channel)?;
+    halts::halt_a_write(rt, channel)?;
+    packs::change(rt, channel)
 }

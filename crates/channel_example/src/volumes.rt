@@ -1,18 +1,17 @@
 //! Volumes in memory, and a channel with drives that hold them.
 
-use anyhow::{Result, bail};
+use anyhow::Result;
 use ckd_image::{Image, ImageStore, MemoryStore, image_len};
 use ckd_track::DriveModel;
 use s360_channel::Channel;
 use s360_words::Storage;
 use std::alloc::Global;
 
-/// A channel with this number and with storage of 65,536 bytes, and no drives.
-pub(crate) fn new_channel<S: ImageStore>(alloc: Global, number: u8) -> Result<Channel<S>> {
-    let storage = Storage::new(alloc, 65_536)?;
-    match Channel::new(number, storage) {
+/// Channel 1 with storage of 65,536 bytes, and no drives.
+pub(crate) fn new_channel<S: ImageStore>(alloc: Global) -> Result<Channel<S>> {
+    match Channel::new(1, Storage::new(alloc, 65_536)?) {
         Ok(channel) => Ok(channel),
-        Err((fault, _storage)) => bail!("{fault}"),
+        Err((fault, _storage)) => Err(fault.into()),
     }
 }
 
@@ -21,7 +20,7 @@ pub(crate) fn new_volume(alloc: Global, cylinders: u16) -> Result<Image<MemorySt
     let store = MemoryStore::zeros(alloc, image_len(DriveModel::D2311, cylinders))?;
     match Image::format(store, DriveModel::D2311, cylinders) {
         Ok(image) => Ok(image),
-        Err((fault, _store)) => bail!("{fault}"),
+        Err((fault, _store)) => Err(fault.into()),
     }
 }
 
@@ -34,6 +33,21 @@ pub(crate) fn attach<S: ImageStore>(
 ) -> Result<()> {
     match channel.attach(alloc, device, image) {
         Ok(()) => Ok(()),
-        Err((fault, _image)) => bail!("{fault}"),
+        Err((fault, _image)) => Err(fault.into()),
     }
+}
+
+/// Attaches a drive that holds a new volume of so many cylinders.
+pub(crate) fn attach_new(
+    alloc: Global,
+    channel: &mut Channel<MemoryStore>,
+    device: u8,
+    cylinders: u16,
+) -> Result<()> {
+    attach(alloc, channel, device, new_volume(alloc, cylinders)?)
+}
+
+/// The data of record 1 on the first track, in the file of a 2311.
+pub(crate) fn record_1_in(file: &MemoryStore) -> &[u8] {
+    file.bytes().get(541..549).unwrap_or(&[])
 }

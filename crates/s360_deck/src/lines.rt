@@ -1,7 +1,8 @@
 //! The line of each answer.
 
 ghost use Rattle.std.specs.Prelude.{◌≡◌, ◌≤◌, ◌+◌, ◌++◌, ◌∷◌, [], Some, codes, length};
-ghost use Rattle.text_lines.specs.Text.{hexadecimal};
+ghost use Rattle.std.specs.Fmt.{decimal};
+ghost use Rattle.text_lines.specs.Text.{bytes_text, hexadecimal};
 ghost use Rattle.s360_deck.specs.Lines.{status_text, csw_text, condition_text, after_space, answer_text};
 
 use arrayvec::ArrayString;
@@ -37,27 +38,15 @@ pub(crate) fn put_answer(line: &mut Line, answer: &Answer)
     ensures fits { length line.new.bytes + 1 ≤ 80 }
 {
     match answer {
-        Answer::Sio(address, condition) => {
-            put_named(line, "SIO ", *address);
-            put_status_condition(line, *condition);
-        }
+        Answer::Sio(address, condition) => put_instruction(line, "SIO ", *address, *condition),
         Answer::Tio(address, condition) => {
             put_named(line, "TIO ", *address);
             put_csw_condition(line, *condition);
         }
-        Answer::Hio(address, condition) => {
-            put_named(line, "HIO ", *address);
-            put_status_condition(line, *condition);
-        }
+        Answer::Hio(address, condition) => put_instruction(line, "HIO ", *address, *condition),
         Answer::Tch(condition) => put_plain_condition(line, *condition),
-        Answer::Step(done) => {
-            line.push_str("STEP ");
-            put_decimal(line, u32::from(*done));
-        }
-        Answer::Run(done) => {
-            line.push_str("RUN ");
-            put_decimal(line, *done);
-        }
+        Answer::Step(done) => put_units(line, "STEP ", u32::from(*done)),
+        Answer::Run(done) => put_units(line, "RUN ", *done),
         Answer::Arrive(address, arrived) => {
             put_named(line, "ARRIVE ", *address);
             line.push_str(if *arrived { " YES" } else { " NO" });
@@ -75,12 +64,7 @@ pub(crate) fn put_answer(line: &mut Line, answer: &Answer)
         }
         Answer::Store(stored) => line.push_str(if *stored { "STORE OK" } else { "STORE OUTSIDE" }),
         Answer::Key(set) => line.push_str(if *set { "KEY OK" } else { "KEY OUTSIDE" }),
-        Answer::Show(at, Some(bytes)) => {
-            line.push_str("SHOW ");
-            put_hexadecimal(line, 6, *at);
-            line.push_str(" ");
-            put_bytes(line, bytes.as_slice());
-        }
+        Answer::Show(at, Some(bytes)) => put_shown(line, *at, bytes.as_slice()),
         Answer::Show(_, None) => line.push_str("SHOW OUTSIDE"),
     }
 }
@@ -94,6 +78,42 @@ fn put_named(line: &mut Line, name: &str, address: u16)
 {
     line.push_str(name);
     put_hexadecimal(line, 3, u32::from(address));
+}
+
+// Start I/O or Halt I/O, with its condition code.
+fn put_instruction(line: &mut Line, name: &str, address: u16, condition: Condition<Status>)
+    requires empty { line.old.bytes ≡ [] }
+    requires short { length name.now ≤ 14 }
+    ensures text { line.new.bytes ≡ name.now
+        ++ (hexadecimal 3 address ++ condition_text (λ s. after_space (status_text s)) condition) }
+    ensures size { length line.new.bytes ≤ 40 }
+{
+    put_named(line, name, address);
+    put_status_condition(line, condition);
+}
+
+// How many units a step or a run did.
+fn put_units(line: &mut Line, name: &str, done: u32)
+    requires empty { line.old.bytes ≡ [] }
+    requires short { length name.now ≤ 14 }
+    ensures text { line.new.bytes ≡ name.now ++ decimal done }
+    ensures size { length line.new.bytes ≤ 24 }
+{
+    line.push_str(name);
+    put_decimal(line, done);
+}
+
+// The bytes of a look at storage.
+fn put_shown(line: &mut Line, at: u32, bytes: &[u8])
+    requires empty { line.old.bytes ≡ [] }
+    requires few { length bytes.now ≤ 32 }
+    ensures text { line.new.bytes ≡ codes "SHOW " ++ (hexadecimal 6 at ++ (codes " " ++ bytes_text bytes.now)) }
+    ensures size { length line.new.bytes ≤ 78 }
+{
+    line.push_str("SHOW ");
+    put_hexadecimal(line, 6, at);
+    line.push_str(" ");
+    put_bytes(line, bytes);
 }
 
 // A cylinder and a head, each behind a space.

@@ -1,8 +1,7 @@
 //! What a trace tells of a program's end.
 
 use crate::found::{found, found_so_far};
-use crate::line::{Last, Line, not_taken, short, word_at};
-use crate::names::UnitNames;
+use crate::line::{Line, left_text, not_taken, unit_text, word_at};
 use crate::notes::Note;
 use crate::reasons;
 use crate::tracer::Tracer;
@@ -44,7 +43,7 @@ impl<W: Write + Drop> Tracer<W> {
         csw: Csw,
         channel: &Channel<S>,
     ) -> u8 {
-        let status = short(&UnitNames(csw.unit));
+        let status = unit_text(csw.unit);
         let word = word_at(channel.storage(), last);
         let line = match (self.line, word) {
             (Some(line), _) if line.at == last => line,
@@ -63,7 +62,7 @@ impl<W: Write + Drop> Tracer<W> {
         let satisfied = reasons::has_status_modifier(csw.unit);
         let place = reasons::place_in(channel.drive(device), csw.unit);
         let came = found(line, self.met, satisfied, place);
-        let left = short(&Last::Left(csw.count));
+        let left = left_text("", csw.count);
         self.put(&line.text(came, status.as_str(), left.as_str()));
         line.code
     }
@@ -82,8 +81,8 @@ impl<W: Write + Drop> Tracer<W> {
         };
         match (line, ended) {
             (Some(line), Some((_, csw))) if !line.is_told => {
-                let status = short(&UnitNames(csw.unit));
-                let behind = short(&Last::Cut(csw.count));
+                let status = unit_text(csw.unit);
+                let behind = left_text("cut; ", csw.count);
                 self.put(&line.text(found_so_far(line, met), status.as_str(), behind.as_str()));
             }
             (Some(line), None) if !line.is_told => {

@@ -1,12 +1,12 @@
 //! The line of one channel command word.
 
 use crate::met::Met;
-use crate::names::{MaskNames, code_name};
+use crate::names::{MaskNames, UnitNames, code_name};
 use arrayvec::ArrayString;
 use ckd_sense::{Command, CommandCode, FileMask};
-use s360_words::{Ccw, Storage};
+use s360_words::{Ccw, Storage, UnitStatus};
 use std::fmt;
-use std::fmt::Write;
+use std::fmt::{Display, Write};
 
 /// The columns at which the parts of a line begin.
 const AT_COUNT: usize = 34;
@@ -65,11 +65,11 @@ impl fmt::Display for Found {
     fn fmt<W: fmt::Write>(&self, f: &mut fmt::Formatter<W>) -> fmt::Result {
         match self {
             Found::Nothing => Ok(()),
-            Found::Area(met) => write!(f, "{met}"),
+            Found::Area(met) => met.fmt(f),
             Found::Compared(met, outcome) => write!(f, "{met} {outcome}"),
             Found::Behind(met) => write!(f, "behind {met}"),
             Found::Place(cylinder, head) => write!(f, "cylinder {cylinder} head {head}"),
-            Found::Mask(mask) => write!(f, "{}", MaskNames(*mask)),
+            Found::Mask(mask) => MaskNames(*mask).fmt(f),
         }
     }
 }
@@ -176,7 +176,7 @@ impl Line {
         }
         pad(text, AT_BYTES);
         if self.ccw.skips() && self.gives() {
-            let _ = write!(text, "skipped");
+            let _ = text.write_str("skipped");
             return;
         }
         for (byte, _) in self.first.iter().zip(0..self.moved) {
@@ -189,7 +189,7 @@ impl Line {
 fn put_at(text: &mut Text, column: usize, word: &str) {
     if !word.is_empty() {
         pad(text, column);
-        let _ = write!(text, "{word}");
+        let _ = text.write_str(word);
     }
 }
 
@@ -219,33 +219,22 @@ pub(crate) fn not_taken(at: u32, word: Option<Ccw>, before: Option<Line>, status
 
 // Blanks up to a column, and one at least.
 fn pad(text: &mut Text, column: usize) {
-    let _ = write!(text, " ");
+    let _ = text.write_str(" ");
     for _ in text.len()..column {
-        let _ = write!(text, " ");
+        let _ = text.write_str(" ");
     }
 }
 
-/// A short text, as far as it has room.
-pub(crate) fn short<T: fmt::Display>(shown: &T) -> ArrayString<32> {
+/// Unit status, by its bits.
+pub(crate) fn unit_text(unit: UnitStatus) -> ArrayString<32> {
     let mut text = ArrayString::new();
-    let _ = write!(text, "{shown}");
+    let _ = write!(text, "{}", UnitNames(unit));
     text
 }
 
-/// How a program came to its end, with the residual count.
-#[derive(Clone, Copy)]
-pub(crate) enum Last {
-    /// By itself.
-    Left(u16),
-    /// By a halt.
-    Cut(u16),
-}
-
-impl fmt::Display for Last {
-    fn fmt<W: fmt::Write>(&self, f: &mut fmt::Formatter<W>) -> fmt::Result {
-        match self {
-            Last::Left(count) => write!(f, "left {count}"),
-            Last::Cut(count) => write!(f, "cut; left {count}"),
-        }
-    }
+/// How a program came to its end, and the residual count.
+pub(crate) fn left_text(end: &str, count: u16) -> ArrayString<32> {
+    let mut text = ArrayString::new();
+    let _ = write!(text, "{end}left {count}");
+    text
 }

@@ -19,7 +19,7 @@ pub(crate) struct Met {
 impl fmt::Display for Met {
     fn fmt<W: fmt::Write>(&self, f: &mut fmt::Formatter<W>) -> fmt::Result {
         let Some(number) = record_of(self.area) else {
-            return write!(f, "home address");
+            return f.write_str("home address");
         };
         match self.count {
             Some(count) => write!(f, "R{number} {}", CountBytes(count)),
@@ -80,12 +80,13 @@ pub(crate) struct CreditNames(pub(crate) Credit);
 
 impl fmt::Display for CreditNames {
     fn fmt<W: fmt::Write>(&self, f: &mut fmt::Formatter<W>) -> fmt::Result {
-        match self.0 {
-            Credit::EqualHomeAddress => write!(f, "home address, found equal"),
-            Credit::EqualId(number) => write!(f, "R{number}, whose ID was found equal"),
-            Credit::EqualKey(number) => write!(f, "R{number}, whose key was found equal"),
-            Credit::WroteHomeAddress => write!(f, "home address, written"),
-            Credit::WroteRecord(number) => write!(f, "R{number}, written"),
-        }
+        let (number, what) = match self.0 {
+            Credit::EqualHomeAddress => return f.write_str("home address, found equal"),
+            Credit::WroteHomeAddress => return f.write_str("home address, written"),
+            Credit::EqualId(number) => (number, "whose ID was found equal"),
+            Credit::EqualKey(number) => (number, "whose key was found equal"),
+            Credit::WroteRecord(number) => (number, "written"),
+        };
+        write!(f, "R{number}, {what}")
     }
 }

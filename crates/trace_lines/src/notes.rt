@@ -16,12 +16,8 @@ pub(crate) enum Note {
     Index,
     /// The next head is looked at.
     NextHead(u16),
-    /// The command leaves a credit.
-    Leaves(Credit),
-    /// The command uses the credit.
-    Uses(Credit),
-    /// The command takes the credit away.
-    Takes(Credit),
+    /// What the command does to a credit.
+    Credit(&'static str, Credit),
     /// The channel ended the program, or did not begin it, and why.
     Channel(ChannelStatus, &'static str),
     /// The sense bytes.
@@ -33,16 +29,10 @@ pub(crate) enum Note {
 impl fmt::Display for Note {
     fn fmt<W: fmt::Write>(&self, f: &mut fmt::Formatter<W>) -> fmt::Result {
         match self {
-            Note::Asks => write!(f, "        asks for an interruption"),
-            Note::Index => write!(f, "        the index passes"),
+            Note::Asks => f.write_str("        asks for an interruption"),
+            Note::Index => f.write_str("        the index passes"),
             Note::NextHead(head) => write!(f, "        the next head: {head}"),
-            Note::Leaves(credit) => write!(f, "        leaves a credit: {}", CreditNames(*credit)),
-            Note::Uses(credit) => write!(f, "        uses the credit: {}", CreditNames(*credit)),
-            Note::Takes(credit) => write!(
-                f,
-                "        takes the credit away: {}",
-                CreditNames(*credit)
-            ),
+            Note::Credit(does, credit) => write!(f, "        {does}: {}", CreditNames(*credit)),
             Note::Channel(status, reason) => {
                 write!(
                     f,

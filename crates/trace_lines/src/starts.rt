@@ -1,8 +1,7 @@
 //! What a trace tells of a program's start, and of a command's.
 
 use crate::found::found;
-use crate::line::{Found, Line, not_taken, short, word_at};
-use crate::names::UnitNames;
+use crate::line::{Found, Line, not_taken, unit_text, word_at};
 use crate::notes::Note;
 use crate::reasons;
 use crate::tracer::Tracer;
@@ -60,7 +59,7 @@ impl<W: Write + Drop> Tracer<W> {
         let line = Line::of(at, ccw);
         let place = reasons::place_in(channel.drive(device), status.unit);
         let came = found(line, None, false, place);
-        let names = short(&UnitNames(status.unit));
+        let names = unit_text(status.unit);
         self.put(&line.text(came, names.as_str(), ""));
         if reasons::has_unit_check(status.unit) {
             self.tell_sense(device, ccw.code, channel);

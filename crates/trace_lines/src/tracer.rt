@@ -253,7 +253,7 @@ impl<W: Write + Drop> Tracer<W> {
         self.line = None;
         self.met = None;
         if let Some(credit) = registers.credit {
-            self.put(&Note::Leaves(credit));
+            self.put(&Note::Credit("leaves a credit", credit));
         }
     }
 
@@ -288,11 +288,12 @@ impl<W: Write + Drop> Tracer<W> {
         if ccw.is_transfer() {
             return;
         }
-        if is_credited(ccw.code) {
-            self.put(&Note::Uses(credit));
+        let does = if is_credited(ccw.code) {
+            "uses the credit"
         } else {
-            self.put(&Note::Takes(credit));
-        }
+            "takes the credit away"
+        };
+        self.put(&Note::Credit(does, credit));
     }
 }
 
