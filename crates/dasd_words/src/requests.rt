@@ -3,9 +3,10 @@
 use crate::volumes::Volume;
 use arrayvec::ArrayVec;
 use ckd_track::DriveModel;
+use std::alloc::AllocError;
 
 /// What `dasd` is asked to do, and how.
-#[derive(Debug, Drop)]
+#[derive(Drop)]
 pub struct Asked<'a> {
     /// What it is to do.
     pub request: Request<'a>,
@@ -14,7 +15,7 @@ pub struct Asked<'a> {
 }
 
 /// The numbers from a first to a last one, which is not less.
-#[derive(Clone, Copy, Debug, PartialEq, Eq)]
+#[derive(Clone, Copy)]
 pub struct Numbers {
     /// The first.
     pub first: u16,
@@ -23,7 +24,7 @@ pub struct Numbers {
 }
 
 /// The part of a volume whose bytes are printed.
-#[derive(Clone, Copy, Debug, PartialEq, Eq)]
+#[derive(Clone, Copy)]
 pub struct DumpedPart {
     /// Its cylinders.
     pub cylinders: Numbers,
@@ -34,7 +35,7 @@ pub struct DumpedPart {
 }
 
 /// The part of a volume whose tracks are listed.
-#[derive(Clone, Copy, Debug, PartialEq, Eq)]
+#[derive(Clone, Copy)]
 pub struct ListedPart {
     /// Its cylinders; all, where there are none.
     pub cylinders: Option<Numbers>,
@@ -43,7 +44,7 @@ pub struct ListedPart {
 }
 
 /// A number that somebody has noted.
-#[derive(Debug, Drop)]
+#[derive(Drop)]
 pub enum Noted {
     /// A channel status word.
     Csw([u8; 8]),
@@ -58,66 +59,24 @@ pub enum Noted {
 }
 
 /// What `dasd` is asked to do.
-#[derive(Debug, Drop)]
+#[derive(Drop)]
 pub enum Request<'a> {
     /// Write a new image to a path.
-    Format {
-        /// Where the image goes.
-        path: &'a str,
-        /// The drive of its volume.
-        model: DriveModel,
-        /// Its cylinders: at least one.
-        cylinders: u16,
-        /// Whether a file that is there is replaced.
-        replaces: bool,
-    },
+    Format(NewImage<'a>),
     /// Print the tracks and records of the image that these files hold.
     List(Vec<&'a str>),
-    /// Print some of the tracks of the image that these files hold, with their records, or all as objects.
-    ListPart {
-        /// The files.
-        paths: Vec<&'a str>,
-        /// The part.
-        part: ListedPart,
-        /// Whether each line is an object of JSON.
-        json: bool,
-    },
+    /// Print some of the tracks of a volume, with their records, or all as objects.
+    ListPart(PrintedVolume<'a>, ListedPart),
     /// Print the tracks that can't be read of the image that these files hold.
     Check(Vec<&'a str>),
-    /// Print all that is found on the volume of the image that these files hold.
-    CheckStrictly {
-        /// The files.
-        paths: Vec<&'a str>,
-        /// Whether each line is an object of JSON.
-        json: bool,
-    },
-    /// Print the bytes of a part of the volume of the image that these files hold.
-    Dump {
-        /// The files.
-        paths: Vec<&'a str>,
-        /// The part.
-        part: DumpedPart,
-        /// Whether each line is an object of JSON.
-        json: bool,
-    },
+    /// Print all that is found on a volume.
+    CheckStrictly(PrintedVolume<'a>),
+    /// Print the bytes of a part of a volume.
+    Dump(PrintedVolume<'a>, DumpedPart),
     /// Print what differs of the volumes of two images.
-    Compare {
-        /// The files of the first.
-        one: Vec<&'a str>,
-        /// The files of the second.
-        other: Vec<&'a str>,
-        /// Whether each difference has a line; if not, tracks are counted alone.
-        lists: bool,
-        /// Whether each line is an object of JSON.
-        json: bool,
-    },
-    /// Print what the volume of the image holds that these files are: its label, its data sets, and what is wrong with them.
-    ListContents {
-        /// The files.
-        paths: Vec<&'a str>,
-        /// Whether each line is an object of JSON.
-        json: bool,
-    },
+    Compare(ComparedVolumes<'a>),
+    /// Print what a volume holds: its label, its data sets, and what is wrong with them.
+    ListContents(PrintedVolume<'a>),
     /// Take a data set, or a member of one, out of a volume.
     Extract(ExtractedSet<'a>),
     /// Take all data sets out of a volume.
@@ -128,8 +87,43 @@ pub enum Request<'a> {
     Run(DeckRun<'a>),
 }
 
+/// A new image that is written to a path.
+#[derive(Clone, Copy)]
+pub struct NewImage<'a> {
+    /// Where the image goes.
+    pub path: &'a str,
+    /// The drive of its volume.
+    pub model: DriveModel,
+    /// Its cylinders: at least one.
+    pub cylinders: u16,
+    /// Whether a file that is there is replaced.
+    pub replaces: bool,
+}
+
+/// The volume of an image of which something is printed.
+#[derive(Drop)]
+pub struct PrintedVolume<'a> {
+    /// The files of the image.
+    pub paths: Vec<&'a str>,
+    /// Whether each line is an object of JSON.
+    pub json: bool,
+}
+
+/// The volumes of two images that are compared.
+#[derive(Drop)]
+pub struct ComparedVolumes<'a> {
+    /// The files of the first.
+    pub one: Vec<&'a str>,
+    /// The files of the second.
+    pub other: Vec<&'a str>,
+    /// Whether each difference has a line; if not, tracks are counted alone.
+    pub lists: bool,
+    /// Whether each line is an object of JSON.
+    pub json: bool,
+}
+
 /// A data set or a member of one that is taken out of a volume.
-#[derive(Debug, Drop)]
+#[derive(Drop)]
 pub struct ExtractedSet<'a> {
     /// The files of the image.
     pub paths: Vec<&'a str>,
@@ -142,7 +136,7 @@ pub struct ExtractedSet<'a> {
 }
 
 /// A volume all of whose data sets are taken out, with all members, each to a new file.
-#[derive(Debug, Drop)]
+#[derive(Drop)]
 pub struct ExtractedVolume<'a> {
     /// The files of the image.
     pub paths: Vec<&'a str>,
@@ -155,7 +149,7 @@ pub struct ExtractedVolume<'a> {
 }
 
 /// The name of a data set or of a member of one.
-#[derive(Clone, Copy, Debug, PartialEq, Eq)]
+#[derive(Clone, Copy)]
 pub struct SetName<'a> {
     /// The data set.
     pub data_set: &'a str,
@@ -164,7 +158,7 @@ pub struct SetName<'a> {
 }
 
 /// A deck that is to be run.
-#[derive(Debug, Drop)]
+#[derive(Drop)]
 pub struct DeckRun<'a> {
     /// The size of main storage, in bytes.
     pub storage: u32,
@@ -179,7 +173,7 @@ pub struct DeckRun<'a> {
 }
 
 /// Where the trace of a deck goes.
-#[derive(Clone, Copy, Debug, PartialEq, Eq)]
+#[derive(Clone, Copy)]
 pub enum TraceTarget<'a> {
     /// To standard error.
     StandardError,
@@ -188,7 +182,7 @@ pub enum TraceTarget<'a> {
 }
 
 /// Why the words ask for nothing.
-#[derive(Debug, Drop)]
+#[derive(Drop)]
 pub enum WordFault {
     /// There is no memory to read them.
     OutOfMemory,
@@ -200,4 +194,10 @@ pub enum WordFault {
     Help(String),
     /// They ask for the version, which is this text.
     Version(String),
+}
+
+impl From<AllocError> for WordFault {
+    fn from(_fault: AllocError) -> WordFault {
+        WordFault::OutOfMemory
+    }
 }

@@ -6,7 +6,7 @@ use ckd_image::MOST_FILES;
 use ckd_track::DriveModel;
 
 /// Where the volume of a drive comes from.
-#[derive(Debug, Drop)]
+#[derive(Drop)]
 pub enum VolumeSource<'a> {
     /// The files of one image, in their order: at least one.
     Files(ArrayVec<&'a str, MOST_FILES>),
@@ -20,7 +20,7 @@ pub enum VolumeSource<'a> {
 }
 
 /// A drive of a run: the words `UU=PATH` that stand one after another with one address, or one word `UU=new:M:N`.
-#[derive(Debug, Drop)]
+#[derive(Drop)]
 pub struct Volume<'a> {
     /// The address of the device.
     pub device: u8,
