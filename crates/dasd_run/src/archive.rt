@@ -10,8 +10,7 @@ use dasd_archive::{
     Comparison, Form, Part, Range, Style, Tally, check_headers, check_strict, compare, dump,
 };
 use dasd_jobs::{ImageFiles, JobFault, OpenedFile, SlotReader, open_volume};
-use dasd_volumes::VolumeFault;
-use dasd_words::{DumpedPart, Numbers};
+use dasd_words::{ComparedVolumes, DumpedPart, Numbers, PrintedVolume};
 use serde_json::Value;
 use std::alloc::Global;
 use std::fmt;
@@ -19,15 +18,6 @@ use std::io::Write;
 
 /// The length of a file's header, in bytes.
 const HEADER: usize = 512;
-
-/// Which lines a comparison prints.
-#[derive(Clone, Copy)]
-pub(crate) struct Lines {
-    /// Whether each difference has one.
-    pub(crate) lists: bool,
-    /// Whether each is an object of JSON.
-    pub(crate) json: bool,
-}
 
 /// For whom lines are printed.
 pub(crate) fn style(json: bool) -> Style {
@@ -39,23 +29,11 @@ pub(crate) fn quoted(alloc: Global, paths: &[&str]) -> Result<String, ProgramFau
     let mut joined = String::new(alloc);
     for (i, path) in paths.iter().enumerate() {
         if i > 0 {
-            joined.push('+').map_err(|_| ProgramFault::OutOfMemory)?;
+            joined.push('+')?;
         }
-        joined
-            .push_str(path)
-            .map_err(|_| ProgramFault::OutOfMemory)?;
+        joined.push_str(path)?;
     }
-    Value::String(joined)
-        .to_string(alloc)
-        .map_err(|_| ProgramFault::OutOfMemory)
-}
-
-/// What a fault over the files of a volume is: a slot that can't be read is a file that can't be.
-pub(crate) fn of_volume(fault: VolumeFault) -> ProgramFault {
-    ProgramFault::Job(match fault {
-        VolumeFault::Store => JobFault::Read,
-        fault => JobFault::from(fault),
-    })
+    Ok(Value::String(joined).to_string(alloc)?)
 }
 
 /// Prints all that is found on the volume of these files, and says whether there is an error.
@@ -63,49 +41,62 @@ pub(crate) fn check_strictly<F: ImageFiles, W: Write>(
     alloc: Global,
     files: &mut F,
     writer: &mut W,
-    paths: &[&str],
-    json: bool,
+    asked: &PrintedVolume,
 ) -> Result<Ending, ProgramFault>
     ensures { F.written files.new ≡ F.written files.old }
 {
-    let mut volume = open_volume(alloc, files, paths).map_err(ProgramFault::Job)?;
+    let paths = asked.paths.as_slice();
+    let mut volume = open_volume(alloc, files, paths)?;
     let path = quoted(alloc, paths)?;
     let form = Form {
-        style: style(json),
+        style: style(asked.json),
         path: path.as_str(),
     };
-    let mut tally = Tally::new();
-    for (i, path) in paths.iter().enumerate() {
-        check_header(alloc, files, writer, &mut tally, form, i, path)?;
-    }
-    match check_strict(alloc, &mut volume, writer, form, tally) {
-        Ok(tally) if tally.errors == 0 => Ok(Ending::Done),
-        Ok(_) => Ok(Ending::Findings),
-        Err(fault) => Err(of_volume(fault)),
+    let tally = check_each_header(alloc, files, writer, paths, form)?;
+    let tally = check_strict(alloc, &mut volume, writer, form, tally)?;
+    if tally.errors == 0 {
+        Ok(Ending::Done)
+    } else {
+        Ok(Ending::Findings)
     }
 }
 
-// Prints what is found of the header of a file, the first of which is number 1.
-fn check_header<F: ImageFiles, W: Write>(
+// Prints what is found of the headers of these files, the first of which is number 1, and counts it.
+fn check_each_header<F: ImageFiles, W: Write>(
     alloc: Global,
     files: &mut F,
     writer: &mut W,
-    tally: &mut Tally,
+    paths: &[&str],
     form: Form,
-    i: usize,
+) -> Result<Tally, ProgramFault>
+    ensures { F.written files.new ≡ F.written files.old }
+{
+    let mut tally = Tally::new();
+    let mut header = [0u8; HEADER];
+    for (i, path) in paths.iter().enumerate() {
+        read_header(alloc, files, path, &mut header)?;
+        let number = u8::try_from(i).unwrap_or(u8::MAX).saturating_add(1);
+        check_headers(writer, &mut tally, form, number, &header)?;
+    }
+    Ok(tally)
+}
+
+// Reads the header of a file.
+fn read_header<F: ImageFiles>(
+    alloc: Global,
+    files: &mut F,
     path: &str,
+    header: &mut [u8; HEADER],
 ) -> Result<(), ProgramFault>
     ensures { F.written files.new ≡ F.written files.old }
 {
-    let mut header = [0u8; HEADER];
     let Ok(mut file) = files.open(alloc, path) else {
         return Err(ProgramFault::Job(JobFault::Read));
     };
-    if file.read_at(0, &mut header).is_err() {
-        return Err(ProgramFault::Job(JobFault::Read));
+    match file.read_at(0, header) {
+        Ok(()) => Ok(()),
+        Err(_) => Err(ProgramFault::Job(JobFault::Read)),
     }
-    let number = u8::try_from(i).unwrap_or(u8::MAX).saturating_add(1);
-    check_headers(writer, tally, form, number, &header).map_err(|fault| of_volume(fault))
 }
 
 /// Prints the bytes of a part of the volume of these files.
@@ -113,25 +104,23 @@ pub(crate) fn dump_part<F: ImageFiles, W: Write>(
     alloc: Global,
     files: &mut F,
     writer: &mut W,
-    paths: &[&str],
+    asked: &PrintedVolume,
     part: DumpedPart,
-    json: bool,
 ) -> Result<Ending, ProgramFault>
     ensures { F.written files.new ≡ F.written files.old }
 {
-    let mut volume = open_volume(alloc, files, paths).map_err(ProgramFault::Job)?;
+    let paths = asked.paths.as_slice();
+    let mut volume = open_volume(alloc, files, paths)?;
     let Some(part) = part_of(volume.geometry(), part) else {
         return Err(ProgramFault::NoTrack);
     };
     let path = quoted(alloc, paths)?;
     let form = Form {
-        style: style(json),
+        style: style(asked.json),
         path: path.as_str(),
     };
-    match dump(alloc, &mut volume, writer, form, part) {
-        Ok(()) => Ok(Ending::Done),
-        Err(fault) => Err(of_volume(fault)),
-    }
+    dump(alloc, &mut volume, writer, form, part)?;
+    Ok(Ending::Done)
 }
 
 /// Numbers as a range.
@@ -168,30 +157,30 @@ pub(crate) fn compare_both<F: ImageFiles, W: Write>(
     alloc: Global,
     files: &mut F,
     writer: &mut W,
-    one: &[&str],
-    other: &[&str],
-    lines: Lines,
+    asked: &ComparedVolumes,
 ) -> Result<Ending, ProgramFault>
     ensures { F.written files.new ≡ F.written files.old }
 {
-    let Lines { lists, json } = lines;
-    let mut volume = open_volume(alloc, files, one).map_err(ProgramFault::Job)?;
-    let mut beside = open_volume(alloc, files, other).map_err(ProgramFault::Job)?;
+    let one = asked.one.as_slice();
+    let other = asked.other.as_slice();
+    let mut volume = open_volume(alloc, files, one)?;
+    let mut beside = open_volume(alloc, files, other)?;
     let path = quoted(alloc, one)?;
     let other = quoted(alloc, other)?;
     let form = Comparison {
-        style: style(json),
+        style: style(asked.json),
         path: path.as_str(),
         other: other.as_str(),
-        lists,
+        lists: asked.lists,
     };
     if volume.geometry() != beside.geometry() {
         return write_geometries(writer, form, volume.geometry(), beside.geometry());
     }
-    match compare(alloc, &mut volume, &mut beside, writer, form) {
-        Ok(0) => Ok(Ending::Done),
-        Ok(_) => Ok(Ending::Findings),
-        Err(fault) => Err(of_volume(fault)),
+    let differences = compare(alloc, &mut volume, &mut beside, writer, form)?;
+    if differences == 0 {
+        Ok(Ending::Done)
+    } else {
+        Ok(Ending::Findings)
     }
 }
 

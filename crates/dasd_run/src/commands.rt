@@ -6,7 +6,7 @@ ghost use Rattle.dasd_run.specs.Faults.{keeps_files};
 ghost use Rattle.dasd_run.specs.Runs.{RunsOrStops, Tells};
 ghost use Rattle.dasd_run.specs.Saves.{Concludes};
 
-use crate::archive::{Lines, check_strictly, compare_both, dump_part};
+use crate::archive::{check_strictly, compare_both, dump_part};
 use crate::decks::{read_deck, run_text, tell_fault};
 use crate::explain::explain;
 use crate::fault::ProgramFault;
@@ -17,7 +17,7 @@ use crate::unload::{extract_set, extract_volume};
 use crate::vtoc::list_contents;
 use counted_io::{Counted, WriteFault, write_flushed};
 use dasd_jobs::{ImageFiles, JobFault, NewVolume, Progress, check_files, format_file, list_files};
-use dasd_words::{DeckRun, Request, Volume, WordFault, read_words};
+use dasd_words::{DeckRun, NewImage, Request, Volume, WordFault, read_words};
 use s360_deck::RunFault;
 use std::alloc::Global;
 use std::io::{Read, Write};
@@ -71,55 +71,55 @@ fn answer<F: Traces, R: Read, W: Write, P: Progress>(
     ensures { IfErr result (λ e. keeps_files e ≡ true → F.written files.new ≡ F.written files.old) }
 {
     match request {
-        Request::Format {
-            path,
-            model,
-            cylinders,
-            replaces,
-        } => {
-            let volume = NewVolume {
-                path,
-                model,
-                cylinders,
-                replaces,
-            };
-            format_file(alloc, files, writer, progress, volume).map_err(ProgramFault::Job)?;
-            Ok(Ending::Done)
-        }
-        Request::List(paths) => {
-            list_files(alloc, files, writer, paths.as_slice()).map_err(ProgramFault::Job)?;
-            Ok(Ending::Done)
-        }
-        Request::ListPart { paths, part, json } => {
-            list_part(alloc, files, writer, paths.as_slice(), part, json)
-        }
+        Request::Format(asked) => format_volume(alloc, files, writer, progress, &asked),
+        Request::List(paths) => list_volume(alloc, files, writer, paths.as_slice()),
+        Request::ListPart(volume, part) => list_part(alloc, files, writer, &volume, part),
         Request::Check(paths) => check_volume(alloc, files, writer, progress, paths.as_slice()),
-        Request::CheckStrictly { paths, json } => {
-            check_strictly(alloc, files, writer, paths.as_slice(), json)
-        }
-        Request::Dump { paths, part, json } => {
-            dump_part(alloc, files, writer, paths.as_slice(), part, json)
-        }
-        Request::Compare {
-            one,
-            other,
-            lists,
-            json,
-        } => compare_both(
-            alloc,
-            files,
-            writer,
-            one.as_slice(),
-            other.as_slice(),
-            Lines { lists, json },
-        ),
-        Request::ListContents { paths, json } => {
-            list_contents(alloc, files, writer, paths.as_slice(), json)
-        }
+        Request::CheckStrictly(volume) => check_strictly(alloc, files, writer, &volume),
+        Request::Dump(volume, part) => dump_part(alloc, files, writer, &volume, part),
+        Request::Compare(volumes) => compare_both(alloc, files, writer, &volumes),
+        Request::ListContents(volume) => list_contents(alloc, files, writer, &volume),
         Request::Extract(asked) => extract_set(alloc, files, writer, &asked),
         Request::ExtractAll(asked) => extract_volume(alloc, files, writer, &asked),
         Request::Explain(noted) => explain(writer, noted),
         Request::Run(asked) => run_volumes(alloc, files, reader, writer, asked),
+    }
+}
+
+// Writes a new image.
+fn format_volume<F: ImageFiles, W: Write, P: Progress>(
+    alloc: Global,
+    files: &mut F,
+    writer: &mut Counted<W>,
+    progress: &mut P,
+    asked: &NewImage,
+) -> Result<Ending, ProgramFault>
+    ensures { IfErr result (λ e. keeps_files e ≡ true → F.written files.new ≡ F.written files.old) }
+{
+    let volume = NewVolume {
+        path: asked.path,
+        model: asked.model,
+        cylinders: asked.cylinders,
+        replaces: asked.replaces,
+    };
+    match format_file(alloc, files, writer, progress, volume) {
+        Ok(()) => Ok(Ending::Done),
+        Err(fault) => Err(ProgramFault::Job(fault)),
+    }
+}
+
+// Prints the tracks and records of the volume of these files.
+fn list_volume<F: ImageFiles, W: Write>(
+    alloc: Global,
+    files: &mut F,
+    writer: &mut Counted<W>,
+    paths: &[&str],
+) -> Result<Ending, ProgramFault>
+    ensures { F.written files.new ≡ F.written files.old }
+{
+    match list_files(alloc, files, writer, paths) {
+        Ok(()) => Ok(Ending::Done),
+        Err(fault) => Err(ProgramFault::Job(fault)),
     }
 }
 

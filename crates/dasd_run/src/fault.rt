@@ -2,10 +2,12 @@
 
 use dasd_jobs::JobFault;
 use dasd_unload::UnloadFault;
+use dasd_volumes::VolumeFault;
 use dasd_words::WordFault;
 use s360_channel::{AttachFault, NewFault};
 use s360_deck::{DeckFault, RunFault};
 use s360_words::StorageFault;
+use std::alloc::AllocError;
 use thiserror::Error;
 
 /// Why `dasd` did not do what it was asked, or not to its end.
@@ -81,6 +83,28 @@ impl From<WordFault> for ProgramFault {
             WordFault::Help(text) => ProgramFault::Help(text),
             WordFault::Usage(text) | WordFault::Version(text) => ProgramFault::Words(text),
         }
+    }
+}
+
+impl From<AllocError> for ProgramFault {
+    fn from(_fault: AllocError) -> ProgramFault {
+        ProgramFault::OutOfMemory
+    }
+}
+
+impl From<JobFault> for ProgramFault {
+    fn from(fault: JobFault) -> ProgramFault {
+        ProgramFault::Job(fault)
+    }
+}
+
+/// A slot that can't be read is a file that can't be.
+impl From<VolumeFault> for ProgramFault {
+    fn from(fault: VolumeFault) -> ProgramFault {
+        ProgramFault::Job(match fault {
+            VolumeFault::Store => JobFault::Read,
+            fault => JobFault::from(fault),
+        })
     }
 }
 

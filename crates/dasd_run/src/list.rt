@@ -2,13 +2,13 @@
 
 ghost use Rattle.std.specs.Prelude.{◌≡◌, ◌≤◌, ◌<◌, IfSome};
 
-use crate::archive::{of_volume, quoted, range, style};
+use crate::archive::{quoted, range, style};
 use crate::commands::Ending;
 use crate::fault::ProgramFault;
 use ckd_track::Geometry;
 use dasd_archive::{Form, Listing, Range};
 use dasd_jobs::{ImageFiles, SlotReader, open_volume};
-use dasd_words::{ListedPart, Numbers};
+use dasd_words::{ListedPart, Numbers, PrintedVolume};
 use std::alloc::Global;
 use std::io::Write;
 
@@ -17,19 +17,19 @@ pub(crate) fn list_part<F: ImageFiles, W: Write>(
     alloc: Global,
     files: &mut F,
     writer: &mut W,
-    paths: &[&str],
+    asked: &PrintedVolume,
     part: ListedPart,
-    json: bool,
 ) -> Result<Ending, ProgramFault>
     ensures { F.written files.new ≡ F.written files.old }
 {
-    let mut volume = open_volume(alloc, files, paths).map_err(ProgramFault::Job)?;
+    let paths = asked.paths.as_slice();
+    let mut volume = open_volume(alloc, files, paths)?;
     let Some(cylinders) = cylinders_of(volume.geometry(), part.cylinders) else {
         return Err(ProgramFault::NoTrack);
     };
     let path = quoted(alloc, paths)?;
     let form = Form {
-        style: style(json),
+        style: style(asked.json),
         path: path.as_str(),
     };
     let listing = Listing {
@@ -37,10 +37,8 @@ pub(crate) fn list_part<F: ImageFiles, W: Write>(
         cylinders,
         used_only: part.used_only,
     };
-    match dasd_archive::list_part(alloc, &mut volume, writer, listing) {
-        Ok(()) => Ok(Ending::Done),
-        Err(fault) => Err(of_volume(fault)),
-    }
+    dasd_archive::list_part(alloc, &mut volume, writer, listing)?;
+    Ok(Ending::Done)
 }
 
 // The cylinders that words ask for, or all, if a volume of this geometry has them.

@@ -65,13 +65,13 @@ pub(crate) fn begin_trace<F: Traces>(
 fn paths_of<'a>(alloc: Global, asked: &DeckRun<'a>) -> Result<Vec<&'a str>, ProgramFault> {
     let mut paths = Vec::new(alloc);
     if let Some(deck) = asked.deck {
-        paths.push(deck).map_err(|_| ProgramFault::OutOfMemory)?;
+        if paths.push(deck).is_err() {
+            return Err(ProgramFault::OutOfMemory);
+        }
     }
     for volume in &asked.volumes {
         if let VolumeSource::Files(files) = &volume.source {
-            paths
-                .extend_from_slice(files.as_slice())
-                .map_err(|_| ProgramFault::OutOfMemory)?;
+            paths.extend_from_slice(files.as_slice())?;
         }
     }
     Ok(paths)

@@ -2,12 +2,13 @@
 
 ghost use Rattle.std.specs.Prelude.{◌≡◌};
 
-use crate::archive::{of_volume, quoted};
+use crate::archive::quoted;
 use crate::commands::Ending;
 use crate::fault::ProgramFault;
 use ckd_track::Geometry;
 use dasd_contents::{Contents, check_contents, read_contents, write_lines, write_objects};
 use dasd_jobs::{ImageFiles, JobFault, SlotReader, open_volume};
+use dasd_words::PrintedVolume;
 use std::alloc::Global;
 use std::io::Write;
 
@@ -16,21 +17,19 @@ pub(crate) fn list_contents<F: ImageFiles, W: Write>(
     alloc: Global,
     files: &mut F,
     writer: &mut W,
-    paths: &[&str],
-    json: bool,
+    asked: &PrintedVolume,
 ) -> Result<Ending, ProgramFault>
     ensures { F.written files.new ≡ F.written files.old }
 {
-    let mut volume = open_volume(alloc, files, paths).map_err(ProgramFault::Job)?;
+    let paths = asked.paths.as_slice();
+    let mut volume = open_volume(alloc, files, paths)?;
     let geometry = volume.geometry();
     let contents = checked_contents(alloc, &mut volume, geometry)?;
-    if json {
+    if asked.json {
         let path = quoted(alloc, paths)?;
-        write_objects(alloc, writer, path.as_str(), geometry, &contents).map_err(|fault| of_volume(
-            fault,
-        ))?;
+        write_objects(alloc, writer, path.as_str(), geometry, &contents)?;
     } else {
-        write_lines(alloc, writer, geometry, &contents).map_err(|fault| of_volume(fault))?;
+        write_lines(alloc, writer, geometry, &contents)?;
     }
     match writer.flush() {
         Ok(()) if contents.found.findings.is_empty() => Ok(Ending::Done),
@@ -45,7 +44,7 @@ fn checked_contents<V: SlotReader>(
     volume: &mut V,
     geometry: Geometry,
 ) -> Result<Contents, ProgramFault> {
-    let mut contents = read_contents(alloc, volume).map_err(|fault| of_volume(fault))?;
+    let mut contents = read_contents(alloc, volume)?;
     match check_contents(alloc, geometry, &mut contents) {
         Ok(()) => Ok(contents),
         Err(_) => Err(ProgramFault::OutOfMemory),

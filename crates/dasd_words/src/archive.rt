@@ -1,14 +1,12 @@
 //! The words of what an archive asks: a strict check, a dump, and a comparison.
 
 use crate::commands::{NO_PATH, wrong};
-use crate::listings;
-use crate::options::{flag, json, with, word};
-use crate::requests::{DumpedPart, Numbers, Request, WordFault};
-use ckd_image::MOST_FILES;
-use clap::{ArgAction, ArgMatches, Command};
-use std::alloc::{AllocError, Global};
-
-const TOO_MANY_PATHS: &str = "error: an image has at most eight files\n";
+use crate::listings::{self, PATHS, read_joined, read_paths};
+use crate::options::{ArgKind, ArgRow, CommandRow, JSON, WORD};
+use crate::requests::{ComparedVolumes, DumpedPart, Numbers, PrintedVolume, Request, WordFault};
+use clap::ArgMatches;
+use clap::builder::ValueParser;
+use std::alloc::Global;
 
 const NO_NUMBERS: &str = "error: no cylinder and head behind the paths, as 0 3 or 0-2 3 1-4\n";
 
@@ -21,53 +19,50 @@ const DUMP_WORDS: &str = "PATH.. CYLINDER HEAD [RECORD]";
 const ALL_NUMBERS: &str = "0-255";
 
 /// `dasd check`, with the words of a strict one.
-pub(crate) fn check_command<'a>(alloc: Global) -> Result<Command<'a>, AllocError> {
-    let check = listings::command(
-        alloc,
-        "check",
-        "Prints the tracks of a volume that can't be read",
-        "Example: dasd check --strict work.ckd",
-    );
-    let strict = flag(
-        alloc,
-        "strict",
-        "prints all that a reader of the drive would trip over, with severities",
-    );
-    with(with(check, strict), json(alloc))
-}
+pub(crate) const CHECK: CommandRow = CommandRow {
+    name: "check",
+    about: "Prints the tracks of a volume that can't be read",
+    after_help: "Example: dasd check --strict work.ckd",
+    args: &[
+        PATHS,
+        ArgRow {
+            id: "strict",
+            help: "prints all that a reader of the drive would trip over, with severities",
+            kind: ArgKind::Flag,
+        },
+        JSON,
+    ],
+};
 
 /// What `dasd check` is asked.
 pub(crate) fn read_check<'a>(
     alloc: Global,
     options: &ArgMatches<'a>,
 ) -> Result<Request<'a>, WordFault> {
-    let paths = listings::read(alloc, options)?;
-    let json = options.get_flag("json");
+    let volume = listings::read_printed(alloc, options)?;
     if options.get_flag("strict") {
-        return Ok(Request::CheckStrictly { paths, json });
+        return Ok(Request::CheckStrictly(volume));
     }
-    if json {
+    if volume.json {
         return Err(wrong(alloc, STRICT_JSON));
     }
-    Ok(Request::Check(paths))
+    Ok(Request::Check(volume.paths))
 }
 
 /// `dasd dump`.
-pub(crate) fn dump_command<'a>(alloc: Global) -> Result<Command<'a>, AllocError> {
-    let dump = Command::new(alloc, "dump")
-        .about("Prints the bytes of tracks in hexadecimal and in EBCDIC")
-        .after_help("Example: dasd dump work.ckd 0 0-2 1-255")
-        .arg(
-            word(
-                alloc,
-                DUMP_WORDS,
-                "the files of an image, and numbers or ranges such as 0-2; records by their numbers",
-            )
-            .action(ArgAction::Append)
-            .num_args(3..),
-        );
-    with(dump, json(alloc))
-}
+pub(crate) const DUMP: CommandRow = CommandRow {
+    name: "dump",
+    about: "Prints the bytes of tracks in hexadecimal and in EBCDIC",
+    after_help: "Example: dasd dump work.ckd 0 0-2 1-255",
+    args: &[
+        ArgRow {
+            id: DUMP_WORDS,
+            help: "the files of an image, and numbers or ranges such as 0-2; records by their numbers",
+            kind: ArgKind::Words(ValueParser::String, 3, usize::MAX),
+        },
+        JSON,
+    ],
+};
 
 /// What `dasd dump` is asked: its last three words are numbers, and all before them paths; or its last two.
 pub(crate) fn read_dump<'a>(
@@ -77,7 +72,6 @@ pub(crate) fn read_dump<'a>(
     let Some(words) = options.get_strs(DUMP_WORDS) else {
         return Err(wrong(alloc, NO_PATH));
     };
-    let json = options.get_flag("json");
     let with_records = match words {
         [_, .., cylinders, heads, records] => numbers_of(cylinders, heads, records),
         _ => None,
@@ -90,11 +84,9 @@ pub(crate) fn read_dump<'a>(
         },
         _ => return Err(wrong(alloc, NO_NUMBERS)),
     };
-    Ok(Request::Dump {
-        paths: read_paths(alloc, &words[..count])?,
-        part,
-        json,
-    })
+    let paths = read_paths(alloc, &words[..count])?;
+    let json = options.get_flag("json");
+    Ok(Request::Dump(PrintedVolume { paths, json }, part))
 }
 
 // Three words as ranges of cylinders, heads and records.
@@ -122,33 +114,30 @@ fn read_number(digits: &str) -> Option<u16> {
     digits.parse::<u16>().ok()
 }
 
-/// The files of one image.
-pub(crate) fn read_paths<'a>(alloc: Global, words: &[&'a str]) -> Result<Vec<&'a str>, WordFault> {
-    if words.len() > MOST_FILES {
-        return Err(wrong(alloc, TOO_MANY_PATHS));
-    }
-    Vec::from_slice(alloc, words).map_err(|_| WordFault::OutOfMemory)
-}
-
 /// `dasd compare`.
-pub(crate) fn compare_command<'a>(alloc: Global) -> Result<Command<'a>, AllocError> {
-    let compare = Command::new(alloc, "compare")
-        .about("Prints what differs of two volumes, track by track")
-        .after_help("Example: dasd compare monday.ckd tuesday.ckd")
-        .arg(word(
-            alloc,
-            "A",
-            "an image; several files of one are joined by +, as big_1.ckd+big_2.ckd",
-        ));
-    let other = word(alloc, "B", "the image that it is compared with");
-    let compare = with(compare, other);
-    let tracks = flag(
-        alloc,
-        "tracks",
-        "prints how many tracks differ, and no more",
-    );
-    with(with(compare, tracks), json(alloc))
-}
+pub(crate) const COMPARE: CommandRow = CommandRow {
+    name: "compare",
+    about: "Prints what differs of two volumes, track by track",
+    after_help: "Example: dasd compare monday.ckd tuesday.ckd",
+    args: &[
+        ArgRow {
+            id: "A",
+            help: "an image; several files of one are joined by +, as big_1.ckd+big_2.ckd",
+            kind: WORD,
+        },
+        ArgRow {
+            id: "B",
+            help: "the image that it is compared with",
+            kind: WORD,
+        },
+        ArgRow {
+            id: "tracks",
+            help: "prints how many tracks differ, and no more",
+            kind: ArgKind::Flag,
+        },
+        JSON,
+    ],
+};
 
 /// What `dasd compare` is asked.
 pub(crate) fn read_compare<'a>(
@@ -158,24 +147,10 @@ pub(crate) fn read_compare<'a>(
     let (Some(one), Some(other)) = (options.get_str("A"), options.get_str("B")) else {
         return Err(wrong(alloc, NO_PATH));
     };
-    Ok(Request::Compare {
+    Ok(Request::Compare(ComparedVolumes {
         one: read_joined(alloc, one)?,
         other: read_joined(alloc, other)?,
         lists: !options.get_flag("tracks"),
         json: options.get_flag("json"),
-    })
-}
-
-// Paths that are joined by plus signs.
-fn read_joined<'a>(alloc: Global, word: &'a str) -> Result<Vec<&'a str>, WordFault> {
-    let mut paths = Vec::new(alloc);
-    for path in word.split('+') {
-        if paths.push(path).is_err() {
-            return Err(WordFault::OutOfMemory);
-        }
-    }
-    if paths.len() > MOST_FILES {
-        return Err(wrong(alloc, TOO_MANY_PATHS));
-    }
-    Ok(paths)
+    }))
 }

@@ -1,6 +1,6 @@
 //! The commands of `dasd`: each has a module of its own, for its options and for what they ask.
 
-use crate::options::{flag, with};
+use crate::options::{CommandRow, command};
 use crate::requests::{Asked, Request, WordFault};
 use crate::{archive, explain, extract, format, list, run, vtoc};
 use clap::error::ErrorKind;
@@ -9,35 +9,39 @@ use std::alloc::{AllocError, Global};
 
 pub(crate) const NO_PATH: &str = "error: no path\n";
 
+/// The commands, in the order of the help.
+static COMMANDS: [CommandRow; 9] = [
+    format::COMMAND,
+    list::COMMAND,
+    archive::CHECK,
+    archive::DUMP,
+    archive::COMPARE,
+    vtoc::COMMAND,
+    extract::COMMAND,
+    explain::COMMAND,
+    run::COMMAND,
+];
+
 fn dasd_command<'a>(alloc: Global) -> Result<Command<'a>, AllocError> {
-    let dasd = Command::new(alloc, "dasd")
+    let mut dasd = Command::new(alloc, "dasd")
         .about("Formats, lists and checks CKD_P370 disk images, and runs decks over them")
         .version("1.1.0")
         .after_help("Example: dasd run 90=new:2311:1 < deck.txt")
         .subcommand_required(true);
-    let dasd = with_command(alloc, Ok(dasd), format::command(alloc));
-    let dasd = with_command(alloc, dasd, list::command(alloc));
-    let dasd = with_command(alloc, dasd, archive::check_command(alloc));
-    let dasd = with_command(alloc, dasd, archive::dump_command(alloc));
-    let dasd = with_command(alloc, dasd, archive::compare_command(alloc));
-    let dasd = with_command(alloc, dasd, vtoc::command(alloc));
-    let dasd = with_command(alloc, dasd, extract::command(alloc));
-    let dasd = with_command(alloc, dasd, explain::command(alloc));
-    with_command(alloc, dasd, run::command(alloc))
+    for row in &COMMANDS {
+        dasd = with_command(alloc, dasd, row)?;
+    }
+    Ok(dasd)
 }
 
-// The program with one command more, which may be asked to tell more, where there was memory for those before it.
+// The program with the command of one row more.
 fn with_command<'a>(
     alloc: Global,
-    dasd: Result<Command<'a>, AllocError>,
-    command: Result<Command<'a>, AllocError>,
+    dasd: Command<'a>,
+    row: &CommandRow,
 ) -> Result<Command<'a>, AllocError> {
-    let verbose = flag(
-        alloc,
-        "verbose",
-        "tells more of a fault, also where standard error is no terminal",
-    );
-    dasd?.subcommand(with(command, verbose)?)
+    let command = command(alloc, row)?;
+    dasd.subcommand(command)
 }
 
 /// Reads the words of `dasd`, the first of which is the program's name.
@@ -55,12 +59,9 @@ const NO_COMMAND: &str = "error: no command\n";
 
 // The words as the options of `dasd` and of its commands.
 fn match_words<'a>(alloc: Global, words: &'a [&'a str]) -> Result<ArgMatches<'a>, WordFault> {
-    match dasd_command(alloc) {
-        Ok(dasd) => match dasd.try_get_matches_from(words) {
-            Ok(matches) => Ok(matches),
-            Err(error) => Err(told(alloc, &error)),
-        },
-        Err(_) => Err(WordFault::OutOfMemory),
+    match dasd_command(alloc)?.try_get_matches_from(words) {
+        Ok(matches) => Ok(matches),
+        Err(error) => Err(told(alloc, &error)),
     }
 }
 

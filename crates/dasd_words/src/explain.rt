@@ -1,11 +1,12 @@
 //! The words of `dasd explain`: numbers that somebody has noted, in hexadecimal digits.
 
 use crate::commands::wrong;
-use crate::options::{with, word, words};
+use crate::options::{ArgKind, ArgRow, CommandRow, WORDS};
 use crate::requests::{Noted, Request, WordFault};
 use arrayvec::ArrayVec;
-use clap::{ArgMatches, Command};
-use std::alloc::{AllocError, Global};
+use clap::ArgMatches;
+use clap::builder::ValueParser;
+use std::alloc::Global;
 
 const NO_NUMBER: &str = "error: no number\n";
 
@@ -28,20 +29,23 @@ Example: dasd explain csw 00000428 0E000320";
 const MOST_BYTES: usize = 8;
 
 /// The command, with its words.
-pub(crate) fn command<'a>(alloc: Global) -> Result<Command<'a>, AllocError> {
-    let explain = Command::new(alloc, "explain")
-        .about("Says in words what status, sense bytes and command words mean")
-        .after_help(NUMBER_TABLE)
-        .arg(word(alloc, "NUMBER", "what the digits are").value_parser([
-            "csw", "sense", "ccw",
-        ].as_slice()));
-    let digits = words(
-        alloc,
-        "DIGITS",
-        "hexadecimal digits, in one word or in several",
-    );
-    with(explain, digits)
-}
+pub(crate) const COMMAND: CommandRow = CommandRow {
+    name: "explain",
+    about: "Says in words what status, sense bytes and command words mean",
+    after_help: NUMBER_TABLE,
+    args: &[
+        ArgRow {
+            id: "NUMBER",
+            help: "what the digits are",
+            kind: ArgKind::Words(ValueParser::Names(&["csw", "sense", "ccw"]), 1, 1),
+        },
+        ArgRow {
+            id: "DIGITS",
+            help: "hexadecimal digits, in one word or in several",
+            kind: WORDS,
+        },
+    ],
+};
 
 /// What it is asked to say.
 pub(crate) fn read<'a>(alloc: Global, options: &ArgMatches<'a>) -> Result<Request<'a>, WordFault> {

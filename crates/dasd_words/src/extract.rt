@@ -1,14 +1,14 @@
 //! The words of `dasd extract`.
 
-use crate::archive::read_paths;
 use crate::commands::{NO_PATH, wrong};
-use crate::options::{flag, json, option, with, words};
+use crate::listings::read_paths;
+use crate::options::{ArgKind, ArgRow, CommandRow, FILE, JSON, Value, WORDS};
 use crate::requests::{ExtractedSet, ExtractedVolume, Request, SetName, WordFault};
-use clap::{Arg, ArgMatches, Command};
-use std::alloc::{AllocError, Global};
+use clap::ArgMatches;
+use std::alloc::Global;
 
 /// The name of the words of an extraction.
-const WORDS: &str = "PATH.. NAME";
+const PATHS_AND_NAME: &str = "PATH.. NAME";
 
 const NO_NAME: &str =
     "error: no name of a data set behind the paths, as SYS1.MACLIB(OPEN) or PAYROLL\n";
@@ -16,52 +16,44 @@ const NO_NAME: &str =
 const ALL_JSON: &str = "error: --json goes with --all\n";
 
 /// The command, with its words.
-pub(crate) fn command<'a>(alloc: Global) -> Result<Command<'a>, AllocError> {
-    let to = to(alloc)?;
-    let extract = Command::new(alloc, "extract")
-        .about("Takes data sets and members of partitioned ones out of a volume")
-        .after_help("Example: dasd extract pack.ckd 'SYS1.MACLIB(OPEN)' --text --to open.txt")
-        .arg(words(
-            alloc,
-            WORDS,
-            "the files of an image, and a data set, as PAYROLL or SYS1.MACLIB(OPEN); with --all no name",
-        ));
-    let extract = with(extract, to);
-    let extract = with(extract, all(alloc));
-    let extract = with(extract, text(alloc));
-    with(extract, json(alloc))
-}
-
-fn all<'a>(alloc: Global) -> Arg<'a> {
-    option(
-        alloc,
-        "all",
-        "DIR",
-        "takes out all data sets and members, each into a new file of this folder",
-    )
-}
-
-fn text<'a>(alloc: Global) -> Arg<'a> {
-    flag(
-        alloc,
-        "text",
-        "writes records as lines of text, from EBCDIC; without it, blocks as they stand",
-    )
-}
-
-fn to<'a>(alloc: Global) -> Result<Arg<'a>, AllocError> {
-    option(
-        alloc,
-        "to",
-        "FILE",
-        "a new file for what is taken out; standard output where there is none",
-    )
-    .conflicts_with("all")
-}
+pub(crate) const COMMAND: CommandRow = CommandRow {
+    name: "extract",
+    about: "Takes data sets and members of partitioned ones out of a volume",
+    after_help: "Example: dasd extract pack.ckd 'SYS1.MACLIB(OPEN)' --text --to open.txt",
+    args: &[
+        ArgRow {
+            id: PATHS_AND_NAME,
+            help: "the files of an image, and a data set, as PAYROLL or SYS1.MACLIB(OPEN); with --all no name",
+            kind: WORDS,
+        },
+        ArgRow {
+            id: "to",
+            help: "a new file for what is taken out; standard output where there is none",
+            kind: ArgKind::Valued(Value {
+                conflicts: &["all"],
+                ..FILE
+            }),
+        },
+        ArgRow {
+            id: "all",
+            help: "takes out all data sets and members, each into a new file of this folder",
+            kind: ArgKind::Valued(Value {
+                name: "DIR",
+                ..FILE
+            }),
+        },
+        ArgRow {
+            id: "text",
+            help: "writes records as lines of text, from EBCDIC; without it, blocks as they stand",
+            kind: ArgKind::Flag,
+        },
+        JSON,
+    ],
+};
 
 /// What it is asked: the last word is the name, and all before it are paths; with `--all` all are paths.
 pub(crate) fn read<'a>(alloc: Global, options: &ArgMatches<'a>) -> Result<Request<'a>, WordFault> {
-    let Some(words) = options.get_strs(WORDS) else {
+    let Some(words) = options.get_strs(PATHS_AND_NAME) else {
         return Err(wrong(alloc, NO_PATH));
     };
     let is_text = options.get_flag("text");
@@ -77,18 +69,23 @@ pub(crate) fn read<'a>(alloc: Global, options: &ArgMatches<'a>) -> Result<Reques
     if json {
         return Err(wrong(alloc, ALL_JSON));
     }
-    let [_, rest @ .., name] = words else {
-        return Err(wrong(alloc, NO_NAME));
-    };
-    let Some(name) = read_name(name) else {
+    let Some((paths, name)) = split_words(words) else {
         return Err(wrong(alloc, NO_NAME));
     };
     Ok(Request::Extract(ExtractedSet {
-        paths: read_paths(alloc, &words[..1 + rest.len()])?,
+        paths: read_paths(alloc, paths)?,
         name,
         target: options.get_str("to"),
         is_text,
     }))
+}
+
+// The paths, of which there is one at least, and the name behind them.
+fn split_words<'w, 'a>(words: &'w [&'a str]) -> Option<(&'w [&'a str], SetName<'a>)> {
+    match words {
+        [paths @ .., name] if !paths.is_empty() => Some((paths, read_name(name)?)),
+        _ => None,
+    }
 }
 
 // A data set's name, with the name of a member in parentheses or without.

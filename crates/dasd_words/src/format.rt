@@ -1,45 +1,55 @@
 //! The words of `dasd format`.
 
 use crate::commands::{NO_PATH, wrong};
-use crate::options::{flag, option, with, word};
-use crate::requests::{Request, WordFault};
+use crate::options::{ArgKind, ArgRow, CommandRow, FILE, Value, WORD};
+use crate::requests::{NewImage, Request, WordFault};
 use crate::volumes::read_model;
 use ckd_track::DriveModel;
-use clap::{Arg, ArgMatches, Command};
-use std::alloc::{AllocError, Global};
+use clap::ArgMatches;
+use clap::builder::ValueParser;
+use std::alloc::Global;
 
 /// The number of cylinders without the word for it.
 const CYLINDERS: u16 = 203;
 
 /// The command, with its options.
-pub(crate) fn command<'a>(alloc: Global) -> Result<Command<'a>, AllocError> {
-    let format = Command::new(alloc, "format")
-        .about("Writes a new image")
-        .after_help("Example: dasd format work.ckd --model 2314 --cylinders 10")
-        .arg(word(
-            alloc,
-            "PATH",
-            "the image file, which is made, or replaced if it is there",
-        ));
-    let format = with(format, model(alloc));
-    let format = with(format, cylinders(alloc));
-    with(
-        format,
-        flag(alloc, "no-replace", "refuses to replace a file"),
-    )
-}
-
-fn model<'a>(alloc: Global) -> Arg<'a> {
-    option(alloc, "model", "M", "the drive")
-        .default_value("2311")
-        .value_parser(["2311", "2314"].as_slice())
-}
-
-fn cylinders<'a>(alloc: Global) -> Arg<'a> {
-    option(alloc, "cylinders", "N", "the number of cylinders")
-        .default_value("203")
-        .value_parser(clap::value_parser!(u16).range(1..))
-}
+pub(crate) const COMMAND: CommandRow = CommandRow {
+    name: "format",
+    about: "Writes a new image",
+    after_help: "Example: dasd format work.ckd --model 2314 --cylinders 10",
+    args: &[
+        ArgRow {
+            id: "PATH",
+            help: "the image file, which is made, or replaced if it is there",
+            kind: WORD,
+        },
+        ArgRow {
+            id: "model",
+            help: "the drive",
+            kind: ArgKind::Valued(Value {
+                name: "M",
+                parser: ValueParser::Names(&["2311", "2314"]),
+                default: &["2311"],
+                ..FILE
+            }),
+        },
+        ArgRow {
+            id: "cylinders",
+            help: "the number of cylinders",
+            kind: ArgKind::Valued(Value {
+                name: "N",
+                parser: ValueParser::Signed(1, u16::MAX as i64),
+                default: &["203"],
+                ..FILE
+            }),
+        },
+        ArgRow {
+            id: "no-replace",
+            help: "refuses to replace a file",
+            kind: ArgKind::Flag,
+        },
+    ],
+};
 
 /// What it is asked to do.
 pub(crate) fn read<'a>(alloc: Global, options: &ArgMatches<'a>) -> Result<Request<'a>, WordFault> {
@@ -51,10 +61,10 @@ pub(crate) fn read<'a>(alloc: Global, options: &ArgMatches<'a>) -> Result<Reques
         .and_then(|model| read_model(model))
         .unwrap_or(DriveModel::D2311);
     let cylinders = options.get_one::<u16>("cylinders").unwrap_or(CYLINDERS);
-    Ok(Request::Format {
+    Ok(Request::Format(NewImage {
         path,
         model,
         cylinders,
         replaces: !options.get_flag("no-replace"),
-    })
+    }))
 }

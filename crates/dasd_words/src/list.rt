@@ -2,54 +2,49 @@
 
 use crate::archive::read_numbers;
 use crate::commands::wrong;
-use crate::listings;
-use crate::options::{flag, json, option, with};
+use crate::listings::{self, PATHS};
+use crate::options::{ArgKind, ArgRow, CommandRow, FILE, JSON, Value};
 use crate::requests::{ListedPart, Numbers, Request, WordFault};
-use clap::{ArgMatches, Command};
-use std::alloc::{AllocError, Global};
+use clap::ArgMatches;
+use std::alloc::Global;
 
 const NO_CYLINDERS: &str = "error: --cylinder wants a number or a range, as 3 or 0-2\n";
 
 /// The command, with its words.
-pub(crate) fn command<'a>(alloc: Global) -> Result<Command<'a>, AllocError> {
-    let list = listings::command(
-        alloc,
-        "list",
-        "Prints a volume with its tracks and records",
-        "Example: dasd list work.ckd",
-    );
-    let cylinder = option(
-        alloc,
-        "cylinder",
-        "A-B",
-        "lists the cylinders from A to B, or one that is a number alone",
-    );
-    let used = flag(
-        alloc,
-        "used",
-        "lists only tracks that have more than one record or can't be read",
-    );
-    let list = with(list, cylinder);
-    with(with(list, used), json(alloc))
-}
+pub(crate) const COMMAND: CommandRow = CommandRow {
+    name: "list",
+    about: "Prints a volume with its tracks and records",
+    after_help: "Example: dasd list work.ckd",
+    args: &[
+        PATHS,
+        ArgRow {
+            id: "cylinder",
+            help: "lists the cylinders from A to B, or one that is a number alone",
+            kind: ArgKind::Valued(Value {
+                name: "A-B",
+                ..FILE
+            }),
+        },
+        ArgRow {
+            id: "used",
+            help: "lists only tracks that have more than one record or can't be read",
+            kind: ArgKind::Flag,
+        },
+        JSON,
+    ],
+};
 
 /// What it is asked.
 pub(crate) fn read<'a>(alloc: Global, options: &ArgMatches<'a>) -> Result<Request<'a>, WordFault> {
-    let paths = listings::read(alloc, options)?;
-    let cylinders = read_cylinders(alloc, options)?;
-    let used_only = options.get_flag("used");
-    let json = options.get_flag("json");
-    if cylinders.is_none() && !used_only && !json {
-        return Ok(Request::List(paths));
+    let volume = listings::read_printed(alloc, options)?;
+    let part = ListedPart {
+        cylinders: read_cylinders(alloc, options)?,
+        used_only: options.get_flag("used"),
+    };
+    if part.cylinders.is_none() && !part.used_only && !volume.json {
+        return Ok(Request::List(volume.paths));
     }
-    Ok(Request::ListPart {
-        paths,
-        part: ListedPart {
-            cylinders,
-            used_only,
-        },
-        json,
-    })
+    Ok(Request::ListPart(volume, part))
 }
 
 // The cylinders, where words name them.

@@ -1,45 +1,133 @@
-//! Options and words of commands, each made by itself.
+//! The rows that say which options and words a command has, and the command that `clap` reads by them.
 
+use clap::builder::ValueParser;
 use clap::{Arg, ArgAction, Command};
 use std::alloc::{AllocError, Global};
 
-/// A command with one option or word more, where there was memory for those before it.
-pub(crate) fn with<'a>(
-    command: Result<Command<'a>, AllocError>,
-    arg: Arg<'a>,
-) -> Result<Command<'a>, AllocError> {
-    command?.arg(arg)
+/// A command of `dasd`.
+#[derive(Clone, Copy)]
+pub(crate) struct CommandRow {
+    /// Its name.
+    pub(crate) name: &'static str,
+    /// What it does.
+    pub(crate) about: &'static str,
+    /// What its help ends with.
+    pub(crate) after_help: &'static str,
+    /// Its options and words but `--verbose`, in the order of its help.
+    pub(crate) args: &'static [ArgRow],
 }
 
-/// An option that is there or is not.
-pub(crate) fn flag<'a>(alloc: Global, name: &'a str, help: &'a str) -> Arg<'a> {
-    Arg::new(alloc, name)
-        .long(name)
-        .action(ArgAction::SetTrue)
-        .help(help)
+/// An option or a word of a command.
+#[derive(Clone, Copy)]
+pub(crate) struct ArgRow {
+    /// What it is read by, and what an option is written as behind two hyphens.
+    pub(crate) id: &'static str,
+    /// What it means.
+    pub(crate) help: &'static str,
+    /// How it is written.
+    pub(crate) kind: ArgKind,
 }
 
-/// An option with a word behind it, which help shows as `value`.
-pub(crate) fn option<'a>(alloc: Global, name: &'a str, value: &'a str, help: &'a str) -> Arg<'a> {
-    Arg::new(alloc, name)
-        .long(name)
-        .value_name(value)
-        .help(help)
+/// How an option or a word is written.
+#[derive(Clone, Copy)]
+pub(crate) enum ArgKind {
+    /// An option that is there or is not.
+    Flag,
+    /// An option with a value behind it.
+    Valued(Value),
+    /// Words that must be there: what each has to be, and how many there are at least and at most.
+    Words(ValueParser<'static>, usize, usize),
 }
 
-/// A word that must be there.
-pub(crate) fn word<'a>(alloc: Global, name: &'a str, help: &'a str) -> Arg<'a> {
-    Arg::new(alloc, name).required(true).help(help)
+/// The value of an option.
+#[derive(Clone, Copy)]
+pub(crate) struct Value {
+    /// What help calls it.
+    pub(crate) name: &'static str,
+    /// What it has to be.
+    pub(crate) parser: ValueParser<'static>,
+    /// What it is where the option is not there, if it is something then.
+    pub(crate) default: &'static [&'static str],
+    /// The options that can't stand beside this one.
+    pub(crate) conflicts: &'static [&'static str],
 }
 
-/// Words of which there must be one at least.
-pub(crate) fn words<'a>(alloc: Global, name: &'a str, help: &'a str) -> Arg<'a> {
-    word(alloc, name, help)
-        .action(ArgAction::Append)
-        .num_args(1..)
-}
+/// The path of a file, or another text of any form.
+pub(crate) const FILE: Value = Value {
+    name: "FILE",
+    parser: ValueParser::String,
+    default: &[],
+    conflicts: &[],
+};
+
+/// One word, which is any text.
+pub(crate) const WORD: ArgKind = ArgKind::Words(ValueParser::String, 1, 1);
+
+/// Words, one at least, each of which is any text.
+pub(crate) const WORDS: ArgKind = ArgKind::Words(ValueParser::String, 1, usize::MAX);
 
 /// The option for lines of JSON.
-pub(crate) fn json<'a>(alloc: Global) -> Arg<'a> {
-    flag(alloc, "json", "prints one object of JSON a line")
+pub(crate) const JSON: ArgRow = ArgRow {
+    id: "json",
+    help: "prints one object of JSON a line",
+    kind: ArgKind::Flag,
+};
+
+/// The option of each command for more about a fault.
+const VERBOSE: ArgRow = ArgRow {
+    id: "verbose",
+    help: "tells more of a fault, also where standard error is no terminal",
+    kind: ArgKind::Flag,
+};
+
+/// The command of a row.
+pub(crate) fn command<'a>(alloc: Global, row: &CommandRow) -> Result<Command<'a>, AllocError> {
+    let mut command = Command::new(alloc, row.name)
+        .about(row.about)
+        .after_help(row.after_help);
+    for arg_row in row.args {
+        command = with_arg(alloc, command, arg_row)?;
+    }
+    with_arg(alloc, command, &VERBOSE)
+}
+
+// A command with the option or the words of one row more.
+fn with_arg<'a>(
+    alloc: Global,
+    command: Command<'a>,
+    row: &ArgRow,
+) -> Result<Command<'a>, AllocError> {
+    let arg = arg(alloc, row)?;
+    command.arg(arg)
+}
+
+// The option or the words of a row.
+fn arg<'a>(alloc: Global, row: &ArgRow) -> Result<Arg<'a>, AllocError> {
+    let arg = Arg::new(alloc, row.id).help(row.help);
+    match &row.kind {
+        ArgKind::Flag => Ok(arg.long(row.id).action(ArgAction::SetTrue)),
+        ArgKind::Valued(value) => valued(arg.long(row.id), value),
+        ArgKind::Words(parser, least, most) => Ok(words(arg, *parser, *least, *most)),
+    }
+}
+
+// An option with a value behind it.
+fn valued<'a>(arg: Arg<'a>, value: &Value) -> Result<Arg<'a>, AllocError> {
+    arg.value_name(value.name)
+        .value_parser(value.parser)
+        .default_values(value.default)
+        .conflicts_with_all(value.conflicts)
+}
+
+// Words that must be there.
+fn words<'a>(arg: Arg<'a>, parser: ValueParser<'a>, least: usize, most: usize) -> Arg<'a> {
+    let action = if most == 1 {
+        ArgAction::Set
+    } else {
+        ArgAction::Append
+    };
+    arg.required(true)
+        .action(action)
+        .num_args(least..=most)
+        .value_parser(parser)
 }

@@ -3,6 +3,7 @@
 use crate::volumes::Volume;
 use arrayvec::ArrayVec;
 use ckd_track::DriveModel;
+use std::alloc::AllocError;
 
 /// What `dasd` is asked to do, and how.
 #[derive(Drop)]
@@ -61,63 +62,21 @@ pub enum Noted {
 #[derive(Drop)]
 pub enum Request<'a> {
     /// Write a new image to a path.
-    Format {
-        /// Where the image goes.
-        path: &'a str,
-        /// The drive of its volume.
-        model: DriveModel,
-        /// Its cylinders: at least one.
-        cylinders: u16,
-        /// Whether a file that is there is replaced.
-        replaces: bool,
-    },
+    Format(NewImage<'a>),
     /// Print the tracks and records of the image that these files hold.
     List(Vec<&'a str>),
-    /// Print some of the tracks of the image that these files hold, with their records, or all as objects.
-    ListPart {
-        /// The files.
-        paths: Vec<&'a str>,
-        /// The part.
-        part: ListedPart,
-        /// Whether each line is an object of JSON.
-        json: bool,
-    },
+    /// Print some of the tracks of a volume, with their records, or all as objects.
+    ListPart(PrintedVolume<'a>, ListedPart),
     /// Print the tracks that can't be read of the image that these files hold.
     Check(Vec<&'a str>),
-    /// Print all that is found on the volume of the image that these files hold.
-    CheckStrictly {
-        /// The files.
-        paths: Vec<&'a str>,
-        /// Whether each line is an object of JSON.
-        json: bool,
-    },
-    /// Print the bytes of a part of the volume of the image that these files hold.
-    Dump {
-        /// The files.
-        paths: Vec<&'a str>,
-        /// The part.
-        part: DumpedPart,
-        /// Whether each line is an object of JSON.
-        json: bool,
-    },
+    /// Print all that is found on a volume.
+    CheckStrictly(PrintedVolume<'a>),
+    /// Print the bytes of a part of a volume.
+    Dump(PrintedVolume<'a>, DumpedPart),
     /// Print what differs of the volumes of two images.
-    Compare {
-        /// The files of the first.
-        one: Vec<&'a str>,
-        /// The files of the second.
-        other: Vec<&'a str>,
-        /// Whether each difference has a line; if not, tracks are counted alone.
-        lists: bool,
-        /// Whether each line is an object of JSON.
-        json: bool,
-    },
-    /// Print what the volume of the image holds that these files are: its label, its data sets, and what is wrong with them.
-    ListContents {
-        /// The files.
-        paths: Vec<&'a str>,
-        /// Whether each line is an object of JSON.
-        json: bool,
-    },
+    Compare(ComparedVolumes<'a>),
+    /// Print what a volume holds: its label, its data sets, and what is wrong with them.
+    ListContents(PrintedVolume<'a>),
     /// Take a data set, or a member of one, out of a volume.
     Extract(ExtractedSet<'a>),
     /// Take all data sets out of a volume.
@@ -126,6 +85,41 @@ pub enum Request<'a> {
     Explain(Noted),
     /// Run a deck.
     Run(DeckRun<'a>),
+}
+
+/// A new image that is written to a path.
+#[derive(Clone, Copy)]
+pub struct NewImage<'a> {
+    /// Where the image goes.
+    pub path: &'a str,
+    /// The drive of its volume.
+    pub model: DriveModel,
+    /// Its cylinders: at least one.
+    pub cylinders: u16,
+    /// Whether a file that is there is replaced.
+    pub replaces: bool,
+}
+
+/// The volume of an image of which something is printed.
+#[derive(Drop)]
+pub struct PrintedVolume<'a> {
+    /// The files of the image.
+    pub paths: Vec<&'a str>,
+    /// Whether each line is an object of JSON.
+    pub json: bool,
+}
+
+/// The volumes of two images that are compared.
+#[derive(Drop)]
+pub struct ComparedVolumes<'a> {
+    /// The files of the first.
+    pub one: Vec<&'a str>,
+    /// The files of the second.
+    pub other: Vec<&'a str>,
+    /// Whether each difference has a line; if not, tracks are counted alone.
+    pub lists: bool,
+    /// Whether each line is an object of JSON.
+    pub json: bool,
 }
 
 /// A data set or a member of one that is taken out of a volume.
@@ -200,4 +194,10 @@ pub enum WordFault {
     Help(String),
     /// They ask for the version, which is this text.
     Version(String),
+}
+
+impl From<AllocError> for WordFault {
+    fn from(_fault: AllocError) -> WordFault {
+        WordFault::OutOfMemory
+    }
 }

@@ -1,11 +1,12 @@
 //! The words of `dasd run`.
 
 use crate::decks::DECK_TABLE;
-use crate::options::{flag, option, with, words};
+use crate::options::{ArgKind, ArgRow, CommandRow, FILE, Value, WORDS};
 use crate::requests::{DeckRun, Request, TraceTarget, WordFault};
 use crate::volumes::{Volume, add_volume, read_volume};
-use clap::{Arg, ArgMatches, Command};
-use std::alloc::{AllocError, Global};
+use clap::ArgMatches;
+use clap::builder::ValueParser;
+use std::alloc::Global;
 
 /// What an option is without its word.
 const STORAGE: u32 = 65_536;
@@ -13,65 +14,56 @@ const STORAGE: u32 = 65_536;
 const CHANNEL: u8 = 1;
 
 /// The command, with its options.
-pub(crate) fn command<'a>(alloc: Global) -> Result<Command<'a>, AllocError> {
-    let trace_to = trace_to(alloc)?;
-    let run = Command::new(alloc, "run")
-        .about("Runs a deck of channel instructions, and replaces the images that it changed")
-        .after_help(DECK_TABLE)
-        .arg(storage(alloc));
-    let run = with(run, channel(alloc));
-    let run = with(run, deck(alloc));
-    let run = with(run, trace(alloc));
-    let run = with(run, trace_to);
-    with(run, volumes(alloc))
-}
-
-fn storage<'a>(alloc: Global) -> Arg<'a> {
-    option(alloc, "storage", "N", "the size of main storage in bytes")
-        .default_value("65536")
-        .value_parser(clap::value_parser!(u32))
-}
-
-fn channel<'a>(alloc: Global) -> Arg<'a> {
-    option(alloc, "channel", "N", "the number of the channel")
-        .default_value("1")
-        .value_parser(clap::value_parser!(u8))
-}
-
-fn deck<'a>(alloc: Global) -> Arg<'a> {
-    option(
-        alloc,
-        "deck",
-        "FILE",
-        "the deck; standard input where there is none",
-    )
-}
-
-fn trace<'a>(alloc: Global) -> Arg<'a> {
-    flag(
-        alloc,
-        "trace",
-        "tells on standard error what each channel command word does",
-    )
-}
-
-fn volumes<'a>(alloc: Global) -> Arg<'a> {
-    words(
-        alloc,
-        "VOLUME",
-        "a drive: UU=PATH, or UU=new:M:N for a new volume in memory",
-    )
-}
-
-fn trace_to<'a>(alloc: Global) -> Result<Arg<'a>, AllocError> {
-    option(
-        alloc,
-        "trace-to",
-        "FILE",
-        "as --trace, into a file, whose bytes are replaced",
-    )
-    .conflicts_with("trace")
-}
+pub(crate) const COMMAND: CommandRow = CommandRow {
+    name: "run",
+    about: "Runs a deck of channel instructions, and replaces the images that it changed",
+    after_help: DECK_TABLE,
+    args: &[
+        ArgRow {
+            id: "storage",
+            help: "the size of main storage in bytes",
+            kind: ArgKind::Valued(Value {
+                name: "N",
+                parser: ValueParser::Signed(0, u32::MAX as i64),
+                default: &["65536"],
+                ..FILE
+            }),
+        },
+        ArgRow {
+            id: "channel",
+            help: "the number of the channel",
+            kind: ArgKind::Valued(Value {
+                name: "N",
+                parser: ValueParser::Signed(0, u8::MAX as i64),
+                default: &["1"],
+                ..FILE
+            }),
+        },
+        ArgRow {
+            id: "deck",
+            help: "the deck; standard input where there is none",
+            kind: ArgKind::Valued(FILE),
+        },
+        ArgRow {
+            id: "trace",
+            help: "tells on standard error what each channel command word does",
+            kind: ArgKind::Flag,
+        },
+        ArgRow {
+            id: "trace-to",
+            help: "as --trace, into a file, whose bytes are replaced",
+            kind: ArgKind::Valued(Value {
+                conflicts: &["trace"],
+                ..FILE
+            }),
+        },
+        ArgRow {
+            id: "VOLUME",
+            help: "a drive: UU=PATH, or UU=new:M:N for a new volume in memory",
+            kind: WORDS,
+        },
+    ],
+};
 
 /// What it is asked to do.
 pub(crate) fn read<'a>(alloc: Global, options: &ArgMatches<'a>) -> Result<Request<'a>, WordFault> {

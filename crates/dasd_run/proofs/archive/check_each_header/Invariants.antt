@@ -1,5 +1,5 @@
 use Rattle.std.proofs.Common.{◌≡◌}
-use Rattle.dasd_run.proofs.archive.check_strictly.Given as goal
+use Rattle.dasd_run.proofs.archive.check_each_header.Given as goal
 
 -- no file was written
 abbrev pub invariant-loop-i : goal.invariant-loop-i
