@@ -4,7 +4,7 @@ use std::alloc::Global;
 use std::io::{Error, ErrorKind, Write};
 
 /// What was written; how many bytes may be, where a write behind them fails; whether a flush fails; and whether memory ran out.
-#[derive(Debug, Drop)]
+#[derive(Drop)]
 pub(crate) struct LineWriter {
     pub written: Vec<u8>,
     pub room: Option<usize>,

@@ -22,7 +22,7 @@ struct Course {
 }
 
 // What is reported of a call that fails.
-#[derive(Clone, Copy, Debug, PartialEq, Eq)]
+#[derive(Clone, Copy)]
 enum Report {
     // There is no such call.
     NoCall,

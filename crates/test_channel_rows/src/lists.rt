@@ -86,7 +86,7 @@ pub(crate) fn play_list<'a>(
 }
 
 // What comes of a program that is cut, and of its serial list.
-#[derive(Clone, Copy, Debug, PartialEq, Eq)]
+#[derive(Clone, Copy)]
 enum Course {
     // It ended before.
     Ended,

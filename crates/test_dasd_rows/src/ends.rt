@@ -6,7 +6,7 @@ use std::alloc::Global;
 use std::io::{Error, ErrorKind, Write};
 
 /// What was printed; how many bytes may be, where a write behind them fails; and whether a flush fails.
-#[derive(Debug, Drop)]
+#[derive(Drop)]
 pub(crate) struct LineWriter {
     pub printed: Vec<u8>,
     pub room: Option<usize>,
@@ -44,7 +44,7 @@ impl Write for LineWriter {
 }
 
 /// Each line that was shown, and whether the last still is; none is kept where there is no memory for it.
-#[derive(Debug, Drop)]
+#[derive(Drop)]
 pub(crate) struct ShownLines {
     alloc: Global,
     lines: String,

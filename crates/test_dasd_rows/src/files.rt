@@ -14,7 +14,7 @@ use std::alloc::Global;
 use std::fmt;
 use test_rows::{model_of, new_volume};
 
-#[derive(Debug, Drop)]
+#[derive(Drop)]
 struct File {
     name: String,
     bytes: Vec<u8>,

@@ -10,7 +10,7 @@ use std::alloc::Global;
 use test_rows::{DeckReader, bytes, number};
 
 /// What comes of a row.
-#[derive(Debug, Drop)]
+#[derive(Drop)]
 pub(crate) enum RowResult<'a> {
     /// Each of its commands comes to what it must.
     AsItMust(usize),

@@ -134,7 +134,7 @@ fn is_no_call(words: &[&str]) -> bool {
 }
 
 /// How far the calls of a row came to what they must.
-#[derive(Clone, Copy, Debug, PartialEq, Eq)]
+#[derive(Clone, Copy)]
 pub(crate) struct Played {
     /// How many did.
     pub calls: usize,

@@ -11,7 +11,7 @@ use std::fmt;
 use test_rows::{Calls, Failure, Files, RowStore, failure_of, files_of, number, words_of};
 
 /// What comes of a row.
-#[derive(Clone, Copy, Debug, PartialEq, Eq)]
+#[derive(Clone, Copy, PartialEq, Eq)]
 pub(crate) enum RowResult {
     /// Each of its calls comes to what it must.
     AsItMust(usize),
@@ -110,7 +110,7 @@ fn play_in_pieces(
 }
 
 // What is reported of a call of the store that fails.
-#[derive(Clone, Copy, Debug, PartialEq, Eq)]
+#[derive(Clone, Copy)]
 enum Report {
     // There is no such call.
     NoCall,

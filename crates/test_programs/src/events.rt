@@ -12,7 +12,7 @@ const MOVING: u8 = 0x08;
 
 /// How a program ended: after so many units since its start or the last line that counts them, and with this channel status
 /// word; a cut counts none.
-#[derive(Clone, Copy, Debug, PartialEq, Eq)]
+#[derive(Clone, Copy, PartialEq, Eq)]
 pub(crate) struct Ended {
     pub units: u16,
     pub csw: Csw,

@@ -24,7 +24,7 @@ pub(crate) struct Machine {
 }
 
 /// What a start comes to.
-#[derive(Clone, Copy, Debug, PartialEq, Eq)]
+#[derive(Clone, Copy, PartialEq, Eq)]
 pub(crate) enum Started {
     Bad,
     Rejected,

@@ -11,7 +11,7 @@ use std::fmt;
 use test_rows::{Failure, failure_of, files_of};
 
 /// What comes of a row.
-#[derive(Clone, Copy, Debug, PartialEq, Eq)]
+#[derive(Clone, Copy, PartialEq, Eq)]
 pub(crate) enum RowResult<'a> {
     /// All is as it must be.
     Good,
@@ -78,7 +78,7 @@ fn play_in_steps<'a>(
 }
 
 // What is reported of a call of the store that fails.
-#[derive(Clone, Copy, Debug, PartialEq, Eq)]
+#[derive(Clone, Copy)]
 enum Report {
     // There is no such call.
     NoCall,

@@ -5,7 +5,7 @@ ghost use Rattle.std.specs.Prelude.{Some};
 use std::io::{Error, ErrorKind, Read};
 
 /// A deck, and whether the read behind it fails.
-#[derive(Debug, Drop)]
+#[derive(Drop)]
 pub struct DeckReader<'a> {
     /// What is not yet read of it.
     pub rest: &'a [u8],

@@ -11,7 +11,7 @@ use std::alloc::Global;
 use std::fmt;
 
 /// How often calls of a kind were made, and where and how long the last was.
-#[derive(Clone, Copy, Debug, PartialEq, Eq)]
+#[derive(Clone, Copy, PartialEq, Eq)]
 pub struct Calls {
     /// The number of calls.
     pub count: usize,
@@ -46,7 +46,7 @@ impl fmt::Display for Calls {
 }
 
 /// Which call of a file's store fails, counted from 1 on, and whether each later one does; with 0 none fails.
-#[derive(Clone, Copy, Debug, PartialEq, Eq)]
+#[derive(Clone, Copy, PartialEq, Eq)]
 pub struct Failure {
     /// The place of the file among those of its image, from 0 on.
     pub file: usize,
