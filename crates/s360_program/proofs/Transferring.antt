@@ -270,6 +270,11 @@ moves_on r most few m n s s2 d0 d1 d2 flow fits at flows least h e =
 
 -- All bytes of a command, and its end.
 
+-- whether all of them have passed, and the command has all that it wants
+pub all_told : (m n : ℕ) (gives : Bool) → (m == n && (gives || not (m == 8))) ≡ true → (n ≤ m) × ((gives ≡ true) ⊎ (m ≡ 8 → ⊥))
+all_told m n true h = (grind (arith, nat_tests), inl refl)
+all_told m n false h = (grind (arith, nat_tests), inr (λ e. grind (arith, nat_tests)))
+
 -- what the drive is at behind them
 behind_bytes : (key : ℕ) (ccw : Ccw) (a most m : ℕ) (p : Place) (s s2 : Storage) (d d2 : DriveState) (w : Work) → MovesBytesBy key ccw a most (Ok m) s s2 d d2 w → m ≤ p.residual
     → (left_of d2.work ≡ left_of w - m) × (length (passed_of d2.work) ≡ length (passed_of w) + m) × (gives_now d2.work ≡ gives_now w) × (d2.image ≡ d.image) × (d2.state ≡ d.state)

@@ -1,6 +1,6 @@
 //! A running channel program, unit by unit (Principles of Operation, Input/Output Operations).
 
-ghost use Rattle.std.specs.Prelude.{ℕ, ◌≡◌, ◌⊎◌, ◌<◌, ◌≤◌, ◌+◌, ◌*◌, ◌^◌, ◌&&◌, [], not, true, false, None, is_some};
+ghost use Rattle.std.specs.Prelude.{ℕ, ◌≡◌, ◌⊎◌, ◌<◌, ◌≤◌, ◌+◌, ◌*◌, ◌^◌, ◌==◌, ◌&&◌, ◌||◌, [], not, true, false, None, is_some};
 ghost use Rattle.s360_words.specs.Words.{chains_data, suppresses_length};
 ghost use Rattle.ckd_command.specs.Drive.{is_written, unsaved};
 ghost use Rattle.s360_runs.specs.Commands.{choice};
@@ -366,7 +366,7 @@ fn behind(passed: u16, step: Step) -> Step
 
 // Whether so many bytes are all that a word counts, and all that the drive has: a formatting write may want more behind its count area.
 fn is_all(moved: u16, count: u16, gives: bool) -> bool
-    ensures { result ≡ true → (count ≤ moved) × ((gives ≡ true) ⊎ (moved ≡ 8 → ⊥)) }
+    ensures { result ≡ (moved == count && (gives || not (moved == 8))) }
 {
     moved == count && (gives || moved != COUNT_AREA)
 }
