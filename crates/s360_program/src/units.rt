@@ -15,7 +15,7 @@ ghost use Rattle.s360_program.specs.Steps.{run_of, in_bytes, count_of, Fits, IsQ
 
 use crate::conditions::{ChannelCondition, chains};
 use crate::endings::{end_program, told};
-use crate::moving::{COUNT_AREA, flow_of, gives, move_bytes};
+use crate::moving::{COUNT_AREA, Segment, flow_of, gives, move_bytes};
 use crate::place::Fetched;
 use crate::program::Ran;
 use crate::run::{Comes, Run, Step};
@@ -248,7 +248,14 @@ impl Run {
     {
         let gives = gives(drive);
         let (key, ccw, count) = (self.key, self.ccw, self.place.residual);
-        match move_bytes(gives, key, ccw, ccw.address, count, storage, drive) {
+        let address = ccw.address;
+        let segment = Segment {
+            key,
+            ccw,
+            address,
+            count,
+        };
+        match move_bytes(gives, &segment, storage, drive) {
             Ok(m) if is_all(m, count, gives) => {
                 self.place.residual = 0;
                 behind(count, self.conclude(ccw, false, drive))
@@ -256,7 +263,7 @@ impl Run {
             Ok(m) => {
                 self.comes = Comes::Bytes;
                 self.place.residual -= m;
-                self.address = ccw.address + u32::from(m);
+                self.address = address + u32::from(m);
                 Step::Units(u32::from(m))
             }
             Err(condition) => self.stop(condition, drive),
@@ -290,9 +297,13 @@ impl Run {
             let incorrect = is_incorrect(self.ccw, residual, flow.left);
             return self.conclude(self.ccw, incorrect, drive);
         }
-        let most = least(most, residual, flow.left);
-        let (key, ccw, address) = (self.key, self.ccw, self.address);
-        match move_bytes(flow.gives, key, ccw, address, most, storage, drive) {
+        let segment = Segment {
+            key: self.key,
+            ccw: self.ccw,
+            address: self.address,
+            count: least(most, residual, flow.left),
+        };
+        match move_bytes(flow.gives, &segment, storage, drive) {
             Ok(m) => {
                 self.place.residual -= m;
                 self.address += u32::from(m);

@@ -19,7 +19,7 @@ returns-then-flow-eq0-clause-steps g c =
 pub returns-in-Ok-clause-steps : goal.returns-in-Ok-clause-steps
 returns-in-Ok-clause-steps g c =
     let a = c.args in
-    let l = c.least-most in
+    let l = c.least in
     rw c.from-in-Ok.ensures
     (moves_on a.self.now a.most l.result c.in-Ok.m c.from.result a.storage.now c.move_bytes.new.storage a.drive.now c.flow_of-flow.new.drive c.move_bytes.new.drive c.flow_of-flow.result c.requires.fits c.requires.stage c.flow_of-flow.ensures
     (record { asked = l.ensures.most; counted = l.ensures.residual; has = l.ensures.left }) c.in-Ok.ensures.moves c.from.ensures)
@@ -34,4 +34,4 @@ returns-in-Err-clause-steps g c =
     let e = c.stop in
     unit_steps r.key (phase_in (run_of r) a.storage.now d) a.most e.new.self p.new.storage e.result d e.new.drive c.requires.some
     (checks r e.new.self a.storage.now e.result d f.new.drive e.new.drive f.result c.requires.stage f.ensures
-    c.in-Err.condition c.least-most.result p.new.storage p.new.drive (omega arith) (omega arith) c.in-Err.ensures.moves e.ensures.loads (e.ensures.comes p.new.storage))
+    c.in-Err.condition c.least.result p.new.storage p.new.drive (omega arith) (omega arith) c.in-Err.ensures.moves e.ensures.loads (e.ensures.comes p.new.storage))
