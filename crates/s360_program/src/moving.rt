@@ -9,6 +9,7 @@ ghost use Rattle.s360_program.specs.Steps.{Flows, HasFound, LiesWithin, MovesByt
 use crate::conditions::ChannelCondition;
 use ckd_drive::{Drive, Look, Phase};
 use ckd_image::ImageStore;
+use ckd_track::COUNT_LENGTH;
 use s360_words::{Ccw, Storage};
 
 /// Whether a drive gives the bytes of a command, or takes them, and how many are left.
@@ -34,7 +35,7 @@ pub(crate) struct Segment {
 }
 
 /// How many bytes a count area has, for which a formatting write asks first.
-pub(crate) const COUNT_AREA: u16 = 8;
+pub(crate) const COUNT_AREA: u16 = COUNT_LENGTH as u16;
 
 /// What a drive has or wants now. Where as many bytes have passed as a count area has, and nothing is left of the drive's last
 /// look, another one reports: a formatting write wants more once the count area came. With any other number all have passed.
