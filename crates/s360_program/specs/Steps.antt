@@ -21,7 +21,7 @@ use Rattle.s360_runs.specs.Status.{tells, no_channel_status, is_clear, stops_cha
 use Rattle.s360_runs.specs.Transfers.{Request, Transfer, next_bytes, storage_after, check_of}
 use Rattle.s360_runs.specs.Units.{ProgramPhase, Next, GoesOn, EndsIn, unit, walk, StandsIn}
 use Rattle.s360_runs.specs.Unsaved.{GainsNoCheck}
-use Rattle.s360_program.specs.Advances.{IsEnding, TellsFault, TellsNoFault}
+use Rattle.s360_program.specs.Advances.{IsEnding, KeepsStorage, NeedNoStore, TellsFault, TellsNoFault}
 use Rattle.s360_program.specs.Place.{place_of}
 use Rattle.s360_program.specs.Stands.{RunningState, LeftFits, Stands, Within, phase_in}
 use Rattle.s360_program.specs.declared.conditions.ChannelCondition.{ChannelCondition}
@@ -154,6 +154,14 @@ Steps key phase most (step.Over n) r s old new = OverBy key phase most n (told_o
 abbrev pub count_of : Step → ℕ
 count_of (step.Units n) = n
 count_of (step.Over n) = n
+
+-- a step of a program, from this storage and with this drive, of so many units at most: what they come to, what storage keeps, and
+-- that no call of the store is made where none of them needs one
+pub record IsStep (r : Run) (s : Storage) (d : DriveState) (most : ℕ) (a : Step) (r_new : Run) (s_new : Storage)
+    (d_new : DriveState) : Type 0 where
+  pub steps : Steps r.key (phase_in (run_of r) s d) most a r_new s_new d d_new
+  pub storage : KeepsStorage s s_new
+  pub quiet : NeedNoStore r.key (phase_in (run_of r) s d) (count_of a) → d_new.image ≡ d.image
 
 -- The parts of a unit.
 

@@ -11,7 +11,7 @@ ghost use Rattle.s360_words.specs.Storage.{Storage as StorageState};
 ghost use Rattle.ckd_drive.specs.Work.{is_idle, may_end, closed_of, left_of, passed_of, CallsStore};
 ghost use Rattle.s360_program.specs.Advances.{RunsOn, CallsAtMost, KeepsStorage, NeedNoStore, TellsOf};
 ghost use Rattle.s360_program.specs.Stands.{phase_in, Within};
-ghost use Rattle.s360_program.specs.Steps.{run_of, in_bytes, count_of, Fits, IsQuiet, ComesBy, EndsBy, Steps, has_moved, goes_on, point_at, request_at, status_of, condition_for, differs, needs_area, behind};
+ghost use Rattle.s360_program.specs.Steps.{run_of, in_bytes, count_of, Fits, IsQuiet, ComesBy, EndsBy, IsStep, Steps, has_moved, goes_on, point_at, request_at, status_of, condition_for, differs, needs_area, behind};
 
 use crate::conditions::{ChannelCondition, chains};
 use crate::endings::{end_program, told};
@@ -89,12 +89,8 @@ impl Run {
     ) -> Step
         requires some { 0 < most }
         requires fits { Fits self.old drive.old }
-        ensures steps { Steps self.old.key (phase_in (run_of self.old) storage.old drive.old) most result self.new
-            storage.new drive.old drive.new }
-        ensures storage { KeepsStorage storage.old storage.new }
+        ensures step { IsStep self.old storage.old drive.old most result self.new storage.new drive.new }
         ensures calls { CallsAtMost 2 drive.old drive.new }
-        ensures quiet { NeedNoStore self.old.key (phase_in (run_of self.old) storage.old drive.old) (count_of result)
-            → drive.new.image ≡ drive.old.image }
     {
         match self.comes {
             Comes::NextCommand => self.next_command(storage, drive),
@@ -201,12 +197,8 @@ impl Run {
         requires some { 0 < most }
         requires fits { Fits self.old drive.old }
         requires stage { self.old.comes ≡ Comes.Look }
-        ensures steps { Steps self.old.key (phase_in (run_of self.old) storage.old drive.old) most result self.new
-            storage.new drive.old drive.new }
-        ensures storage { KeepsStorage storage.old storage.new }
+        ensures step { IsStep self.old storage.old drive.old most result self.new storage.new drive.new }
         ensures calls { CallsAtMost 2 drive.old drive.new }
-        ensures quiet { NeedNoStore self.old.key (phase_in (run_of self.old) storage.old drive.old) (count_of result)
-            → drive.new.image ≡ drive.old.image }
     {
         match drive.look() {
             Look::Failed => {
@@ -281,12 +273,9 @@ impl Run {
         requires some { 0 < most }
         requires fits { Fits self.old drive.old }
         requires stage { self.old.comes ≡ Comes.Bytes }
-        ensures steps { Steps self.old.key (phase_in (run_of self.old) storage.old drive.old) most result self.new
-            storage.new drive.old drive.new }
-        ensures storage { KeepsStorage storage.old storage.new }
+        ensures step { IsStep self.old storage.old drive.old most result self.new storage.new drive.new }
         ensures loads { drive.new.image.loads ≡ drive.old.image.loads }
         ensures calls { CallsAtMost 1 drive.old drive.new }
-        ensures quiet { IsQuiet drive.old → drive.new.image ≡ drive.old.image }
     {
         let residual = self.place.residual;
         if residual == 0 {
