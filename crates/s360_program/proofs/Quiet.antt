@@ -9,7 +9,7 @@ use Rattle.ckd_command.specs.declared.tables.Aim.{Aim}
 use Rattle.ckd_command.specs.declared.tables.Aim.TheVariants as aim_is
 use Rattle.ckd_command.specs.declared.begin.Opened.{Opened}
 use Rattle.ckd_command.proofs.Marks.{BegunTraces, begin_traces, LookTraces, look_traces}
-use Rattle.ckd_drive.specs.Work.{DriveState, Work, Idle, Over, Looking, Passing, is_idle, with_image, after_begun, after_begin, after_sight, after_look, after_look_of, closed_of, is_next, CallsStore, Reports, failed_ending, fault_met, begin_saves, goes_to_cylinder_zero, look_loads, look_saves, look_saves_of, goes_to_next_head, answer_of_look}
+use Rattle.ckd_drive.specs.Work.{DriveState, Work, Idle, Over, Looking, Passing, is_idle, with_image, after_begun, after_begin, after_sight, after_look, after_look_of, closed_of, is_next, CallsStore, fault_met, begin_saves, goes_to_cylinder_zero, look_loads, look_saves, look_saves_of, goes_to_next_head, answer_of_look}
 use Rattle.ckd_drive.specs.declared.answers.Look.TheVariants as seen
 use Rattle.s360_runs.specs.Places.{Place}
 use Rattle.s360_runs.specs.Scripts.{units}
@@ -18,10 +18,9 @@ use Rattle.s360_runs.specs.Units.{ProgramPhase, walk, StandsIn}
 use Rattle.s360_program.specs.Advances.{NeedsNoStore, NeedNoStore}
 use Rattle.s360_program.specs.Place.{place_of}
 use Rattle.s360_program.specs.Stands.{RunningState, StageFits, Stands, phase_by, phase_in}
-use Rattle.s360_program.specs.Steps.{run_of, in_bytes, Fits, IsQuiet}
+use Rattle.s360_program.specs.Steps.{run_of, in_bytes, IsQuiet}
 use Rattle.s360_program.specs.declared.run.Run.{Run}
 use Rattle.s360_program.specs.Stage as stage
-use Rattle.s360_program.specs.declared.run.Comes.TheVariants as comes
 use Rattle.s360_program.proofs.Cases.{never, only_left, by_stage}
 use Rattle.s360_program.proofs.Cutting.{untouched_unwritten}
 use Rattle.s360_program.proofs.Looking.{Looked, looking_is, look_fits, walks}

@@ -7,7 +7,6 @@ use Rattle.s360_words.specs.Storage.{Storage}
 use Rattle.s360_words.specs.Words.{chains_data, suppresses_length}
 use Rattle.s360_words.specs.declared.flags.TheConstants.ChannelStatus.{INCORRECT_LENGTH}
 use Rattle.s360_words.specs.declared.flags.TheConstants.UnitStatus.{UNIT_CHECK}
-use Rattle.s360_words.specs.declared.words.Ccw.{Ccw}
 use Rattle.s360_words.specs.declared.words.Csw.{Csw}
 use Rattle.ckd_command.specs.Drive.{State, Open, Fault, length_of, close, drive_of, unsaved, tells_equipment_check}
 use Rattle.ckd_command.proofs.Lengths.{length_grows, length_stays, gives_length}

@@ -1,5 +1,4 @@
 use Rattle.std.proofs.Common.{◌≡◌, inr, arith, rules}
-use Rattle.s360_program.specs.Steps.{IsStep}
 use Rattle.s360_program.specs.declared.run.Step.TheVariants as step
 use Rattle.s360_program.proofs.Stepping.{kept, quietly, one_unit}
 use Rattle.s360_program.proofs.Transferring.{completes, checks, moves_on}
