@@ -10,7 +10,7 @@ use std::io;
 use std::io::Write;
 
 /// For whom lines are written.
-#[derive(Clone, Copy, Debug, PartialEq, Eq)]
+#[derive(Clone, Copy)]
 pub enum Style {
     /// For people: words and hexadecimal addresses.
     Text,
@@ -19,7 +19,7 @@ pub enum Style {
 }
 
 /// How lines are written: their style, and the volume's path as a string of JSON with its quotes, which objects have.
-#[derive(Clone, Copy, Debug)]
+#[derive(Clone, Copy)]
 pub struct Form<'a> {
     /// The style.
     pub style: Style,
@@ -28,7 +28,7 @@ pub struct Form<'a> {
 }
 
 /// How many findings there are of each severity, each counted up to `u64::MAX`.
-#[derive(Clone, Copy, Debug, PartialEq, Eq)]
+#[derive(Clone, Copy)]
 pub struct Tally {
     /// The errors.
     pub errors: u64,
