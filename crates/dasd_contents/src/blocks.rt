@@ -15,7 +15,7 @@ use volume_labels::{
 };
 
 /// A control block in use, as it stands on its volume.
-#[derive(Clone, Copy, Debug, PartialEq, Eq)]
+#[derive(Clone, Copy)]
 pub struct Block {
     /// Where it stands: the cylinder and head of its track, and its number in its count area.
     pub address: RecordAddress,

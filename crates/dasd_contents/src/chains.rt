@@ -11,7 +11,7 @@ use volume_labels::{BlockKind, RecordAddress, indexes_block};
 pub const LONGEST_CHAIN: usize = 21;
 
 /// Why a chain is not followed further.
-#[derive(Clone, Copy, Debug, PartialEq, Eq)]
+#[derive(Clone, Copy)]
 pub enum ChainFault {
     /// No control block in use stands at the address.
     Missing(RecordAddress),
@@ -22,7 +22,7 @@ pub enum ChainFault {
 }
 
 /// The control blocks behind one, in order, and why there are no more of them, if not since the chain ends.
-#[derive(Debug, Drop)]
+#[derive(Drop)]
 pub struct Chain {
     /// The blocks.
     pub links: Vec<Block>,

@@ -5,7 +5,7 @@ use ckd_track::SlotFault;
 use volume_labels::{Extent, FreeTracks, RecordAddress};
 
 /// What is wrong. Nothing of it keeps what else there is from being listed.
-#[derive(Clone, Copy, Debug, PartialEq, Eq)]
+#[derive(Clone, Copy)]
 pub enum Problem {
     /// The third record behind record 0 of cylinder 0, head 0 is no volume label: nothing more is read.
     NoLabel,
@@ -38,7 +38,7 @@ pub enum Problem {
 }
 
 /// A problem, and where it is.
-#[derive(Clone, Copy, Debug, PartialEq, Eq)]
+#[derive(Clone, Copy)]
 pub struct Finding {
     /// The record; its number is 0 where it is the track as a whole.
     pub place: RecordAddress,

@@ -14,7 +14,7 @@ use volume_labels::{
 };
 
 /// A data set, and where it is on its volume.
-#[derive(Debug, Drop)]
+#[derive(Drop)]
 pub struct DataSet {
     /// Where its format 1 block stands.
     pub address: RecordAddress,
@@ -27,7 +27,7 @@ pub struct DataSet {
 }
 
 /// The free tracks of a volume of OS/360.
-#[derive(Debug, Drop)]
+#[derive(Drop)]
 pub struct FreeSpace {
     /// Where the first block of format 5 stands, if there is one.
     pub address: Option<RecordAddress>,
