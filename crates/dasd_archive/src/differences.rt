@@ -80,7 +80,8 @@ fn write_identifiers<W: fmt::Write>(
     other: &[u8; 5],
 ) -> fmt::Result
     ensures { WritesOnOk W.write_str_gives f.old result
-        (concat (codes "record " ∷ decimal i ∷ codes " identifier " ∷ bytes_text one.now ∷ codes " and " ∷ bytes_text other.now ∷ [])) f.new }
+        (concat (codes "record " ∷ decimal i ∷ codes " identifier " ∷ bytes_text one.now ∷ codes " and "
+        ∷ bytes_text other.now ∷ [])) f.new }
 {
     write!(
         f,

@@ -104,7 +104,8 @@ fn dump_cylinders<V: SlotReader, W: Write>(
     requires part { IsPartOf lines.now.part (V.volume volume.old).geometry }
     requires size { length slot.old ≡ (V.volume volume.old).geometry.track_size }
     ensures lines { OnOk result
-        (Prints (dump_text lines.now.form.style lines.now.form.path.now lines.now.part) (V.volume volume.old) (W.contents writer.old) (W.contents writer.new)) }
+        (Prints (dump_text lines.now.form.style lines.now.form.path.now lines.now.part) (V.volume volume.old)
+        (W.contents writer.old) (W.contents writer.new)) }
     ensures volume { IsRead result (V.volume volume.old) (V.volume volume.new) (V.failures volume.old) (V.failures volume.new) }
 {
     let part = lines.part;
@@ -131,7 +132,8 @@ fn dump_cylinder<V: SlotReader, W: Write>(
     requires exists { cylinder < (V.volume volume.old).geometry.cylinders }
     requires size { length slot.old ≡ (V.volume volume.old).geometry.track_size }
     ensures lines { OnOk result
-        (Prints (cylinder_dump lines.now.form.style lines.now.form.path.now lines.now.part cylinder) (V.volume volume.old) (W.contents writer.old) (W.contents writer.new)) }
+        (Prints (cylinder_dump lines.now.form.style lines.now.form.path.now lines.now.part cylinder)
+        (V.volume volume.old) (W.contents writer.old) (W.contents writer.new)) }
     ensures volume { IsRead result (V.volume volume.old) (V.volume volume.new) (V.failures volume.old) (V.failures volume.new) }
     ensures size { length slot.new ≡ length slot.old }
 {
@@ -164,7 +166,8 @@ fn dump_track<W: Write>(
     slot: &[u8],
 ) -> io::Result<()>
     ensures { OnOk result (Appends (W.contents writer.old) (W.contents writer.new)
-        (track_dump lines.now.form.style lines.now.form.path.now lines.now.address.cylinder lines.now.address.head numbers (track_of slot.now))) }
+        (track_dump lines.now.form.style lines.now.form.path.now lines.now.address.cylinder lines.now.address.head
+        numbers (track_of slot.now))) }
 {
     match read_slot(slot) {
         Ok(track) => dump_readable(writer, lines, numbers, &track),
@@ -179,7 +182,8 @@ pub(crate) fn dump_unreadable<W: Write>(
     fault: SlotFault,
 ) -> io::Result<()>
     ensures { OnOk result (Appends (W.contents writer.old) (W.contents writer.new)
-        (unreadable_line lines.now.form.style lines.now.form.path.now lines.now.address.cylinder lines.now.address.head fault)) }
+        (unreadable_line lines.now.form.style lines.now.form.path.now lines.now.address.cylinder lines.now.address.head
+        fault)) }
 {
     let path = lines.form.path;
     let address = lines.address;
@@ -202,8 +206,10 @@ fn dump_readable<W: Write>(
     track: &TrackView,
 ) -> io::Result<()>
     ensures { OnOk result (Appends (W.contents writer.old) (W.contents writer.new)
-        (home_address_line lines.now.form.style lines.now.form.path.now lines.now.address.cylinder lines.now.address.head track.now.home_address
-        ++ flat_map (record_text lines.now.form.style lines.now.form.path.now lines.now.address.cylinder lines.now.address.head numbers) track.now.records)) }
+        (home_address_line lines.now.form.style lines.now.form.path.now lines.now.address.cylinder
+        lines.now.address.head track.now.home_address
+        ++ flat_map (record_text lines.now.form.style lines.now.form.path.now lines.now.address.cylinder
+        lines.now.address.head numbers) track.now.records)) }
 {
     dump_home_address(writer, lines, track)?;
     for i in 0..track.len() {
@@ -219,7 +225,8 @@ fn dump_home_address<W: Write>(
     track: &TrackView,
 ) -> io::Result<()>
     ensures { OnOk result (Appends (W.contents writer.old) (W.contents writer.new)
-        (home_address_line lines.now.form.style lines.now.form.path.now lines.now.address.cylinder lines.now.address.head track.now.home_address)) }
+        (home_address_line lines.now.form.style lines.now.form.path.now lines.now.address.cylinder
+        lines.now.address.head track.now.home_address)) }
 {
     let path = lines.form.path;
     let address = lines.address;
@@ -252,7 +259,8 @@ fn dump_asked<W: Write>(
 ) -> io::Result<()>
     requires { i < length track.now.records }
     ensures { OnOk result (Appends (W.contents writer.old) (W.contents writer.new)
-        (record_text lines.now.form.style lines.now.form.path.now lines.now.address.cylinder lines.now.address.head numbers (record_in track.now i))) }
+        (record_text lines.now.form.style lines.now.form.path.now lines.now.address.cylinder lines.now.address.head
+        numbers (record_in track.now i))) }
 {
     if numbers.contains(u16::from(number_of(track, i))) {
         dump_record(writer, lines, track, i)
@@ -270,7 +278,8 @@ fn dump_record<W: Write>(
 ) -> io::Result<()>
     requires { i < length track.now.records }
     ensures { OnOk result (Appends (W.contents writer.old) (W.contents writer.new)
-        (record_dump lines.now.form.style lines.now.form.path.now lines.now.address.cylinder lines.now.address.head (record_in track.now i))) }
+        (record_dump lines.now.form.style lines.now.form.path.now lines.now.address.cylinder lines.now.address.head
+        (record_in track.now i))) }
 {
     match lines.form.style {
         Style::Text => {
@@ -291,7 +300,8 @@ fn dump_object<W: Write>(
 ) -> io::Result<()>
     requires { i < length track.now.records }
     ensures { OnOk result (Appends (W.contents writer.old) (W.contents writer.new)
-        (record_dump Style.Json lines.now.form.path.now lines.now.address.cylinder lines.now.address.head (record_in track.now i))) }
+        (record_dump Style.Json lines.now.form.path.now lines.now.address.cylinder lines.now.address.head
+        (record_in track.now i))) }
 {
     let identifier = identifier(track, i);
     let areas = Areas {
@@ -318,7 +328,8 @@ fn write_object<W: Write>(
     areas: &Areas,
 ) -> io::Result<()>
     ensures { OnOk result (Appends (W.contents writer.old) (W.contents writer.new)
-        (object_text path.now address.cylinder address.head areas.now.identifier.now areas.now.key.now areas.now.body.now)) }
+        (object_text path.now address.cylinder address.head areas.now.identifier.now areas.now.key.now
+        areas.now.body.now)) }
 {
     write_place(writer, path, address)?;
     write_areas(writer, areas)

@@ -169,7 +169,8 @@ fn write_identifier<W: fmt::Write>(
     behind: &str,
 ) -> fmt::Result
     ensures { WritesOnOk W.write_str_gives f.old result
-        (concat (codes "record " ∷ decimal i ∷ codes " has the identifier " ∷ bytes_text identifier.now ∷ behind.now ∷ [])) f.new }
+        (concat (codes "record " ∷ decimal i ∷ codes " has the identifier " ∷ bytes_text identifier.now
+        ∷ behind.now ∷ [])) f.new }
 {
     write!(
         f,

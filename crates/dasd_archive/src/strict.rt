@@ -124,8 +124,8 @@ fn check_cylinder<V: SlotReader, W: Write>(
     requires exists { lines.now.cylinder < (V.volume volume.old).geometry.cylinders }
     requires size { length slot.old ≡ (V.volume volume.old).geometry.track_size }
     requires room { length table.old ≡ (V.volume volume.old).geometry.track_size }
-    ensures found { OnOk result (ReportsOf (findings_on lines.now.cylinder) (V.volume volume.old) lines.now.form.style lines.now.form.path.now
-        (W.contents writer.old) (W.contents writer.new) tally.old tally.new) }
+    ensures found { OnOk result (ReportsOf (findings_on lines.now.cylinder) (V.volume volume.old) lines.now.form.style
+        lines.now.form.path.now (W.contents writer.old) (W.contents writer.new) tally.old tally.new) }
     ensures volume { IsRead result (V.volume volume.old) (V.volume volume.new) (V.failures volume.old) (V.failures volume.new) }
     ensures size { length slot.new ≡ length slot.old }
     ensures room { length table.new ≡ length table.old }

@@ -43,8 +43,9 @@ pub(crate) fn check_track<W: Write>(
 ) -> io::Result<()>
     requires size { length slot.now ≤ 65536 }
     requires room { (length slot.now - 5) / 8 ≤ length table.old }
-    ensures { OnOk result (Reports track.now.form.style track.now.form.path.now (W.contents writer.old) (W.contents writer.new)
-        tally.old tally.new (findings_in_slot track.now.place.geometry track.now.place.cylinder track.now.place.head slot.now)) }
+    ensures { OnOk result (Reports track.now.form.style track.now.form.path.now
+        (W.contents writer.old) (W.contents writer.new) tally.old tally.new
+        (findings_in_slot track.now.place.geometry track.now.place.cylinder track.now.place.head slot.now)) }
 {
     match index_slot(slot, table) {
         Ok(records) => check_readable(
@@ -100,8 +101,9 @@ fn check_readable<W: Write>(
     view: &TrackView,
 ) -> io::Result<()>
     requires { track_of slot.now ≡ Ok view.now }
-    ensures { OnOk result (Reports track.now.form.style track.now.form.path.now (W.contents writer.old) (W.contents writer.new)
-        tally.old tally.new (findings_of track.now.place.geometry track.now.place.cylinder track.now.place.head slot.now view.now)) }
+    ensures { OnOk result (Reports track.now.form.style track.now.form.path.now
+        (W.contents writer.old) (W.contents writer.new) tally.old tally.new
+        (findings_of track.now.place.geometry track.now.place.cylinder track.now.place.head slot.now view.now)) }
 {
     check_whole(writer, tally, track, view)?;
     check_records(writer, tally, track, view)?;
@@ -115,8 +117,9 @@ fn check_whole<W: Write>(
     track: &CheckedTrack,
     view: &TrackView,
 ) -> io::Result<()>
-    ensures { OnOk result (Reports track.now.form.style track.now.form.path.now (W.contents writer.old) (W.contents writer.new)
-        tally.old tally.new (track_findings track.now.place.geometry track.now.place.cylinder track.now.place.head view.now)) }
+    ensures { OnOk result (Reports track.now.form.style track.now.form.path.now
+        (W.contents writer.old) (W.contents writer.new) tally.old tally.new
+        (track_findings track.now.place.geometry track.now.place.cylinder track.now.place.head view.now)) }
 {
     check_home_address(writer, tally, track, view)?;
     let finding = found(track.place, Problem::NoRecord0);
@@ -180,8 +183,9 @@ fn check_home_address<W: Write>(
     track: &CheckedTrack,
     view: &TrackView,
 ) -> io::Result<()>
-    ensures { OnOk result (Reports track.now.form.style track.now.form.path.now (W.contents writer.old) (W.contents writer.new)
-        tally.old tally.new (home_address_findings track.now.place.cylinder track.now.place.head view.now.home_address)) }
+    ensures { OnOk result (Reports track.now.form.style track.now.form.path.now
+        (W.contents writer.old) (W.contents writer.new) tally.old tally.new
+        (home_address_findings track.now.place.cylinder track.now.place.head view.now.home_address)) }
 {
     let home_address = view.ha();
     let is_other = !is_own(track.place, bytes_from(home_address, 1));
@@ -198,8 +202,9 @@ fn check_records<W: Write>(
     track: &CheckedTrack,
     view: &TrackView,
 ) -> io::Result<()>
-    ensures { OnOk result (Reports track.now.form.style track.now.form.path.now (W.contents writer.old) (W.contents writer.new)
-        tally.old tally.new (of_each (record_findings track.now.place.cylinder track.now.place.head view.now) (length view.now.records))) }
+    ensures { OnOk result (Reports track.now.form.style track.now.form.path.now
+        (W.contents writer.old) (W.contents writer.new) tally.old tally.new
+        (of_each (record_findings track.now.place.cylinder track.now.place.head view.now) (length view.now.records))) }
 {
     for i in 0..view.len() {
         check_record(writer, tally, track, view, i)?;
@@ -216,8 +221,9 @@ fn check_record<W: Write>(
     i: usize,
 ) -> io::Result<()>
     requires { i < length view.now.records }
-    ensures { OnOk result (Reports track.now.form.style track.now.form.path.now (W.contents writer.old) (W.contents writer.new)
-        tally.old tally.new (record_findings track.now.place.cylinder track.now.place.head view.now i)) }
+    ensures { OnOk result (Reports track.now.form.style track.now.form.path.now
+        (W.contents writer.old) (W.contents writer.new) tally.old tally.new
+        (record_findings track.now.place.cylinder track.now.place.head view.now i)) }
 {
     let identifier = identifier(view, i);
     let finding = found(track.place, Problem::SameIdentifier(i, identifier));
@@ -269,8 +275,10 @@ fn check_rest<W: Write>(
     slot: &[u8],
 ) -> io::Result<()>
     requires { IsOk (track_of slot.now) }
-    ensures { OnOk result (Reports track.now.form.style track.now.form.path.now (W.contents writer.old) (W.contents writer.new)
-        tally.old tally.new (rest_findings track.now.place.cylinder track.now.place.head (end_offset (track_in slot.now) + 8) (first_set (drop (end_offset (track_in slot.now) + 8) slot.now)))) }
+    ensures { OnOk result (Reports track.now.form.style track.now.form.path.now
+        (W.contents writer.old) (W.contents writer.new) tally.old tally.new
+        (rest_findings track.now.place.cylinder track.now.place.head (end_offset (track_in slot.now) + 8)
+        (first_set (drop (end_offset (track_in slot.now) + 8) slot.now)))) }
 {
     let from = end_offset_of(slot) + 8;
     match first_set(&slot[from..]) {
