@@ -32,6 +32,27 @@ pub struct Comparison<'a> {
     pub lists: bool,
 }
 
+// How the lines of a cylinder are written, and which it is.
+#[derive(Clone, Copy)]
+struct CylinderForm<'a> {
+    form: Comparison<'a>,
+    cylinder: u16,
+}
+
+// How the lines of two tracks are written, and where both stand.
+#[derive(Clone, Copy)]
+struct TrackForm<'a> {
+    form: Comparison<'a>,
+    address: TrackAddress,
+}
+
+// A slot, and the track that it spells.
+#[derive(Drop)]
+struct ReadSlot<'a> {
+    slot: &'a [u8],
+    track: TrackView<'a>,
+}
+
 /// Prints what differs of two volumes of one geometry, track by track, and how many tracks differ, which it answers.
 ///
 /// # Errors
@@ -58,8 +79,8 @@ pub fn compare<V: SlotReader, U: SlotReader, W: Write>(
     };
     let slot = slot.as_mut_slice();
     let other_slot = other_slot.as_mut_slice();
-    match compare_cylinders(one, other, writer, form, slot, other_slot) {
-        Ok(differing) => match write_number(writer, form, differing) {
+    match compare_cylinders(one, other, writer, &form, slot, other_slot) {
+        Ok(differing) => match write_number(writer, &form, differing) {
             Ok(()) => Ok(differing),
             Err(_) => Err(VolumeFault::Write),
         },
@@ -68,9 +89,9 @@ pub fn compare<V: SlotReader, U: SlotReader, W: Write>(
 }
 
 // The last line.
-fn write_number<W: Write>(writer: &mut W, form: Comparison, differing: u32) -> io::Result<()>
+fn write_number<W: Write>(writer: &mut W, form: &Comparison, differing: u32) -> io::Result<()>
     ensures { OnOk result (Appends (W.contents writer.old) (W.contents writer.new)
-        (number_line form.entry.style form.entry.path.now form.entry.other.now differing)) }
+        (number_line form.now.style form.now.path.now form.now.other.now differing)) }
 {
     let path = form.path;
     let other = form.other;
@@ -89,7 +110,7 @@ fn compare_cylinders<V: SlotReader, U: SlotReader, W: Write>(
     one: &mut V,
     other: &mut U,
     writer: &mut W,
-    form: Comparison,
+    form: &Comparison,
     slot: &mut [u8],
     other_slot: &mut [u8],
 ) -> Result<u32, VolumeFault>
@@ -97,14 +118,18 @@ fn compare_cylinders<V: SlotReader, U: SlotReader, W: Write>(
     requires size { length slot.old ≡ (V.volume one.old).geometry.track_size }
     requires other_size { length other_slot.old ≡ (V.volume one.old).geometry.track_size }
     ensures number { IfOk result (NumberOfBoth changed_in (V.volume one.old) (U.volume other.old)) }
-    ensures lines { OnOk result (PrintsBoth (volume_differences form.entry.style form.entry.path.now form.entry.other.now form.entry.lists)
+    ensures lines { OnOk result (PrintsBoth (volume_differences form.now.style form.now.path.now form.now.other.now form.now.lists)
         (V.volume one.old) (U.volume other.old) (W.contents writer.old) (W.contents writer.new)) }
     ensures kept { V.volume one.new ≡ V.volume one.old }
     ensures other_kept { U.volume other.new ≡ U.volume other.old }
 {
     let mut differing: u32 = 0;
     for cylinder in 0..one.geometry().cylinders {
-        match compare_cylinder(one, other, writer, form, cylinder, slot, other_slot) {
+        let lines = CylinderForm {
+            form: *form,
+            cylinder,
+        };
+        match compare_cylinder(one, other, writer, &lines, slot, other_slot) {
             Ok(found) => differing += found,
             Err(fault) => return Err(fault),
         }
@@ -117,19 +142,18 @@ fn compare_cylinder<V: SlotReader, U: SlotReader, W: Write>(
     one: &mut V,
     other: &mut U,
     writer: &mut W,
-    form: Comparison,
-    cylinder: u16,
+    lines: &CylinderForm,
     slot: &mut [u8],
     other_slot: &mut [u8],
 ) -> Result<u32, VolumeFault>
     requires same { (U.volume other.old).geometry ≡ (V.volume one.old).geometry }
-    requires exists { cylinder < (V.volume one.old).geometry.cylinders }
+    requires exists { lines.now.cylinder < (V.volume one.old).geometry.cylinders }
     requires size { length slot.old ≡ (V.volume one.old).geometry.track_size }
     requires other_size { length other_slot.old ≡ (V.volume one.old).geometry.track_size }
-    ensures number { IfOk result (NumberOfBoth (changed_on cylinder) (V.volume one.old) (U.volume other.old)) }
+    ensures number { IfOk result (NumberOfBoth (changed_on lines.now.cylinder) (V.volume one.old) (U.volume other.old)) }
     ensures few { IfOk result (λ n. n ≤ 20) }
     ensures lines { OnOk result
-        (PrintsBoth (cylinder_differences form.entry.style form.entry.path.now form.entry.other.now form.entry.lists cylinder)
+        (PrintsBoth (cylinder_differences lines.now.form.style lines.now.form.path.now lines.now.form.other.now lines.now.form.lists lines.now.cylinder)
         (V.volume one.old) (U.volume other.old) (W.contents writer.old) (W.contents writer.new)) }
     ensures kept { V.volume one.new ≡ V.volume one.old }
     ensures other_kept { U.volume other.new ≡ U.volume other.old }
@@ -137,6 +161,7 @@ fn compare_cylinder<V: SlotReader, U: SlotReader, W: Write>(
     ensures other_size { length other_slot.new ≡ length other_slot.old }
 {
     let geometry = one.geometry();
+    let cylinder = lines.cylinder;
     let mut differing: u32 = 0;
     for head in 0..geometry.model.heads() {
         let track = geometry.track_at(cylinder, head);
@@ -146,8 +171,11 @@ fn compare_cylinder<V: SlotReader, U: SlotReader, W: Write>(
         if other.load(track, other_slot).is_err() {
             return Err(VolumeFault::Store);
         }
-        let address = TrackAddress { cylinder, head };
-        match compare_track(writer, form, address, slot, other_slot) {
+        let track_lines = TrackForm {
+            form: lines.form,
+            address: TrackAddress { cylinder, head },
+        };
+        match compare_track(writer, &track_lines, slot, other_slot) {
             Ok(found) => differing += found,
             Err(_) => return Err(VolumeFault::Write),
         }
@@ -158,37 +186,35 @@ fn compare_cylinder<V: SlotReader, U: SlotReader, W: Write>(
 // The lines of a track; and whether it differs.
 fn compare_track<W: Write>(
     writer: &mut W,
-    form: Comparison,
-    address: TrackAddress,
+    lines: &TrackForm,
     slot: &[u8],
     other_slot: &[u8],
 ) -> io::Result<u32>
     ensures number { IfOk result (λ n. n ≡ length (changed slot.now other_slot.now)) }
     ensures few { IfOk result (λ n. n ≤ 1) }
     ensures lines { OnOk result (Appends (W.contents writer.old) (W.contents writer.new)
-        (track_lines form.entry.style form.entry.path.now form.entry.other.now form.entry.lists address.cylinder address.head slot.now other_slot.now)) }
+        (track_lines lines.now.form.style lines.now.form.path.now lines.now.form.other.now lines.now.form.lists lines.now.address.cylinder lines.now.address.head slot.now other_slot.now)) }
 {
     if slot == other_slot {
         return Ok(0);
     }
-    write_listed(writer, form, address, slot, other_slot)?;
+    write_listed(writer, lines, slot, other_slot)?;
     Ok(1)
 }
 
 // The lines of a track that differs, where each difference has one.
 fn write_listed<W: Write>(
     writer: &mut W,
-    form: Comparison,
-    address: TrackAddress,
+    lines: &TrackForm,
     slot: &[u8],
     other_slot: &[u8],
 ) -> io::Result<()>
     ensures { OnOk result (Appends (W.contents writer.old) (W.contents writer.new)
-        (if form.entry.lists then flat_map (difference_line form.entry.style form.entry.path.now form.entry.other.now address.cylinder address.head)
+        (if lines.now.form.lists then flat_map (difference_line lines.now.form.style lines.now.form.path.now lines.now.form.other.now lines.now.address.cylinder lines.now.address.head)
         (differences_of slot.now other_slot.now (track_of slot.now) (track_of other_slot.now)) else [])) }
 {
-    if form.lists {
-        write_differences(writer, form, address, slot, other_slot)
+    if lines.form.lists {
+        write_differences(writer, lines, slot, other_slot)
     } else {
         Ok(())
     }
@@ -197,30 +223,31 @@ fn write_listed<W: Write>(
 // The lines of a track that differs.
 fn write_differences<W: Write>(
     writer: &mut W,
-    form: Comparison,
-    address: TrackAddress,
+    lines: &TrackForm,
     slot: &[u8],
     other_slot: &[u8],
 ) -> io::Result<()>
     ensures { OnOk result (Appends (W.contents writer.old) (W.contents writer.new)
-        (flat_map (difference_line form.entry.style form.entry.path.now form.entry.other.now address.cylinder address.head)
+        (flat_map (difference_line lines.now.form.style lines.now.form.path.now lines.now.form.other.now lines.now.address.cylinder lines.now.address.head)
         (differences_of slot.now other_slot.now (track_of slot.now) (track_of other_slot.now)))) }
 {
     match read_slot(slot) {
-        Ok(one) => match read_slot(other_slot) {
-            Ok(other) => compare_readable(writer, form, address, slot, other_slot, &one, &other),
-            Err(fault) => write_difference(
-                writer,
-                form,
-                address,
-                Difference::SecondUnreadable(fault),
-            ),
+        Ok(track) => match read_slot(other_slot) {
+            Ok(other_track) => {
+                let one = ReadSlot { slot, track };
+                let other = ReadSlot {
+                    slot: other_slot,
+                    track: other_track,
+                };
+                compare_readable(writer, lines, &one, &other)
+            }
+            Err(fault) => write_difference(writer, lines, Difference::SecondUnreadable(fault)),
         },
         Err(fault) => match read_slot(other_slot) {
-            Ok(_) => write_difference(writer, form, address, Difference::FirstUnreadable(fault)),
+            Ok(_) => write_difference(writer, lines, Difference::FirstUnreadable(fault)),
             Err(_) => {
                 let same = same_length(slot, other_slot);
-                write_difference(writer, form, address, Difference::Unreadable(same))
+                write_difference(writer, lines, Difference::Unreadable(same))
             }
         },
     }
@@ -229,30 +256,25 @@ fn write_differences<W: Write>(
 // A difference as the only one.
 fn write_difference<W: Write>(
     writer: &mut W,
-    form: Comparison,
-    address: TrackAddress,
+    lines: &TrackForm,
     difference: Difference,
 ) -> io::Result<()>
     ensures { OnOk result (Appends (W.contents writer.old) (W.contents writer.new)
-        (flat_map (difference_line form.entry.style form.entry.path.now form.entry.other.now address.cylinder address.head) (difference ∷ []))) }
+        (flat_map (difference_line lines.now.form.style lines.now.form.path.now lines.now.form.other.now lines.now.address.cylinder lines.now.address.head) (difference ∷ []))) }
 {
-    write_line(writer, form, address, difference)
+    write_line(writer, lines, difference)
 }
 
 // The line of a difference.
-fn write_line<W: Write>(
-    writer: &mut W,
-    form: Comparison,
-    address: TrackAddress,
-    difference: Difference,
-) -> io::Result<()>
+fn write_line<W: Write>(writer: &mut W, lines: &TrackForm, difference: Difference) -> io::Result<()>
     ensures { OnOk result (Appends (W.contents writer.old) (W.contents writer.new)
-        (difference_line form.entry.style form.entry.path.now form.entry.other.now address.cylinder address.head difference)) }
+        (difference_line lines.now.form.style lines.now.form.path.now lines.now.form.other.now lines.now.address.cylinder lines.now.address.head difference)) }
 {
-    let path = form.path;
-    let other = form.other;
+    let path = lines.form.path;
+    let other = lines.form.other;
+    let address = lines.address;
     let TrackAddress { cylinder, head } = address;
-    match form.style {
+    match lines.form.style {
         Style::Text => writeln!(writer, "{address} {difference}"),
         Style::Json => writeln!(
             writer,
@@ -264,18 +286,17 @@ fn write_line<W: Write>(
 // The line of a difference, unless the two are the same.
 fn write_unless<W: Write>(
     writer: &mut W,
-    form: Comparison,
-    address: TrackAddress,
+    lines: &TrackForm,
     is_same: bool,
     difference: Difference,
 ) -> io::Result<()>
     ensures { OnOk result (Appends (W.contents writer.old) (W.contents writer.new)
-        (flat_map (difference_line form.entry.style form.entry.path.now form.entry.other.now address.cylinder address.head) (where_not is_same difference))) }
+        (flat_map (difference_line lines.now.form.style lines.now.form.path.now lines.now.form.other.now lines.now.address.cylinder lines.now.address.head) (where_not is_same difference))) }
 {
     if is_same {
         Ok(())
     } else {
-        write_difference(writer, form, address, difference)
+        write_difference(writer, lines, difference)
     }
 }
 
@@ -295,59 +316,54 @@ fn same_length(one: &[u8], other: &[u8]) -> usize
 // The lines of two tracks that can be read.
 fn compare_readable<W: Write>(
     writer: &mut W,
-    form: Comparison,
-    address: TrackAddress,
-    slot: &[u8],
-    other_slot: &[u8],
-    one: &TrackView,
-    other: &TrackView,
+    lines: &TrackForm,
+    one: &ReadSlot,
+    other: &ReadSlot,
 ) -> io::Result<()>
-    requires first { track_of slot.now ≡ Ok one.now }
-    requires second { track_of other_slot.now ≡ Ok other.now }
+    requires first { track_of one.now.slot.now ≡ Ok one.now.track }
+    requires second { track_of other.now.slot.now ≡ Ok other.now.track }
     ensures { OnOk result (Appends (W.contents writer.old) (W.contents writer.new)
-        (flat_map (difference_line form.entry.style form.entry.path.now form.entry.other.now address.cylinder address.head)
-        (readable_differences slot.now other_slot.now one.now other.now))) }
+        (flat_map (difference_line lines.now.form.style lines.now.form.path.now lines.now.form.other.now lines.now.address.cylinder lines.now.address.head)
+        (readable_differences one.now.slot.now other.now.slot.now one.now.track other.now.track))) }
 {
-    compare_home_addresses(writer, form, address, one, other)?;
-    compare_numbers(writer, form, address, one, other)?;
-    compare_records(writer, form, address, one, other)?;
-    compare_rests(writer, form, address, rest_of(slot), rest_of(other_slot))
+    compare_home_addresses(writer, lines, &one.track, &other.track)?;
+    compare_numbers(writer, lines, &one.track, &other.track)?;
+    compare_records(writer, lines, &one.track, &other.track)?;
+    compare_rests(writer, lines, rest_of(one.slot), rest_of(other.slot))
 }
 
 // The line of two home addresses that differ.
 fn compare_home_addresses<W: Write>(
     writer: &mut W,
-    form: Comparison,
-    address: TrackAddress,
+    lines: &TrackForm,
     one: &TrackView,
     other: &TrackView,
 ) -> io::Result<()>
     ensures { OnOk result (Appends (W.contents writer.old) (W.contents writer.new)
-        (flat_map (difference_line form.entry.style form.entry.path.now form.entry.other.now address.cylinder address.head)
+        (flat_map (difference_line lines.now.form.style lines.now.form.path.now lines.now.form.other.now lines.now.address.cylinder lines.now.address.head)
         (where_not (bytes_eq one.now.home_address other.now.home_address) (Difference.HomeAddress one.now.home_address other.now.home_address)))) }
 {
     let first = one.ha();
     let second = other.ha();
     let difference = Difference::HomeAddress(five(first), five(second));
-    write_unless(writer, form, address, is_equal(first, second), difference)
+    write_unless(writer, lines, is_equal(first, second), difference)
 }
 
 // The line of two numbers of records that differ.
 fn compare_numbers<W: Write>(
     writer: &mut W,
-    form: Comparison,
-    address: TrackAddress,
+    lines: &TrackForm,
     one: &TrackView,
     other: &TrackView,
 ) -> io::Result<()>
     ensures { OnOk result (Appends (W.contents writer.old) (W.contents writer.new)
-        (flat_map (difference_line form.entry.style form.entry.path.now form.entry.other.now address.cylinder address.head)
+        (flat_map (difference_line lines.now.form.style lines.now.form.path.now lines.now.form.other.now lines.now.address.cylinder lines.now.address.head)
         (where_not (length one.now.records == length other.now.records) (Difference.Records (length one.now.records) (length other.now.records))))) }
 {
     let first = one.len();
     let second = other.len();
     let difference = Difference::Records(first, second);
-    write_unless(writer, form, address, first == second, difference)
+    write_unless(writer, lines, first == second, difference)
 }
 
 // Whether bytes are the same.
@@ -360,17 +376,16 @@ fn is_equal(one: &[u8], other: &[u8]) -> bool
 // The lines of the records that both tracks have.
 fn compare_records<W: Write>(
     writer: &mut W,
-    form: Comparison,
-    address: TrackAddress,
+    lines: &TrackForm,
     one: &TrackView,
     other: &TrackView,
 ) -> io::Result<()>
     ensures { OnOk result (Appends (W.contents writer.old) (W.contents writer.new)
-        (flat_map (difference_line form.entry.style form.entry.path.now form.entry.other.now address.cylinder address.head)
+        (flat_map (difference_line lines.now.form.style lines.now.form.path.now lines.now.form.other.now lines.now.address.cylinder lines.now.address.head)
         (of_each (λ i. record_differences i (record_in one.now i) (record_in other.now i)) (min (length one.now.records) (length other.now.records))))) }
 {
     for i in 0..one.len().min(other.len()) {
-        compare_record(writer, form, address, one, other, i)?;
+        compare_record(writer, lines, one, other, i)?;
     }
     Ok(())
 }
@@ -378,8 +393,7 @@ fn compare_records<W: Write>(
 // The lines of two records.
 fn compare_record<W: Write>(
     writer: &mut W,
-    form: Comparison,
-    address: TrackAddress,
+    lines: &TrackForm,
     one: &TrackView,
     other: &TrackView,
     i: usize,
@@ -387,19 +401,18 @@ fn compare_record<W: Write>(
     requires first { i < length one.now.records }
     requires second { i < length other.now.records }
     ensures { OnOk result (Appends (W.contents writer.old) (W.contents writer.new)
-        (flat_map (difference_line form.entry.style form.entry.path.now form.entry.other.now address.cylinder address.head)
+        (flat_map (difference_line lines.now.form.style lines.now.form.path.now lines.now.form.other.now lines.now.address.cylinder lines.now.address.head)
         (record_differences i (record_in one.now i) (record_in other.now i)))) }
 {
-    compare_identifiers(writer, form, address, one, other, i)?;
-    compare_keys(writer, form, address, one, other, i)?;
-    compare_contents(writer, form, address, one, other, i)
+    compare_identifiers(writer, lines, one, other, i)?;
+    compare_keys(writer, lines, one, other, i)?;
+    compare_contents(writer, lines, one, other, i)
 }
 
 // The line of two identifiers that differ.
 fn compare_identifiers<W: Write>(
     writer: &mut W,
-    form: Comparison,
-    address: TrackAddress,
+    lines: &TrackForm,
     one: &TrackView,
     other: &TrackView,
     i: usize,
@@ -407,20 +420,19 @@ fn compare_identifiers<W: Write>(
     requires first { i < length one.now.records }
     requires second { i < length other.now.records }
     ensures { OnOk result (Appends (W.contents writer.old) (W.contents writer.new)
-        (flat_map (difference_line form.entry.style form.entry.path.now form.entry.other.now address.cylinder address.head)
+        (flat_map (difference_line lines.now.form.style lines.now.form.path.now lines.now.form.other.now lines.now.address.cylinder lines.now.address.head)
         (where_not (bytes_eq (record_in one.now i).id (record_in other.now i).id) (Difference.Identifier i (record_in one.now i).id (record_in other.now i).id)))) }
 {
     let first = identifier(one, i);
     let second = identifier(other, i);
     let difference = Difference::Identifier(i, first, second);
-    write_unless(writer, form, address, is_same(first, second), difference)
+    write_unless(writer, lines, is_same(first, second), difference)
 }
 
 // The line of two keys that differ.
 fn compare_keys<W: Write>(
     writer: &mut W,
-    form: Comparison,
-    address: TrackAddress,
+    lines: &TrackForm,
     one: &TrackView,
     other: &TrackView,
     i: usize,
@@ -428,20 +440,19 @@ fn compare_keys<W: Write>(
     requires first { i < length one.now.records }
     requires second { i < length other.now.records }
     ensures { OnOk result (Appends (W.contents writer.old) (W.contents writer.new)
-        (flat_map (difference_line form.entry.style form.entry.path.now form.entry.other.now address.cylinder address.head)
+        (flat_map (difference_line lines.now.form.style lines.now.form.path.now lines.now.form.other.now lines.now.address.cylinder lines.now.address.head)
         (where_not (bytes_eq (record_in one.now i).key_area (record_in other.now i).key_area) (Difference.Key i (same_length (record_in one.now i).key_area (record_in other.now i).key_area))))) }
 {
     let first = one.key_of(i);
     let second = other.key_of(i);
     let difference = Difference::Key(i, same_length(first, second));
-    write_unless(writer, form, address, is_equal(first, second), difference)
+    write_unless(writer, lines, is_equal(first, second), difference)
 }
 
 // The line of the data of two records that differ.
 fn compare_contents<W: Write>(
     writer: &mut W,
-    form: Comparison,
-    address: TrackAddress,
+    lines: &TrackForm,
     one: &TrackView,
     other: &TrackView,
     i: usize,
@@ -449,13 +460,13 @@ fn compare_contents<W: Write>(
     requires first { i < length one.now.records }
     requires second { i < length other.now.records }
     ensures { OnOk result (Appends (W.contents writer.old) (W.contents writer.new)
-        (flat_map (difference_line form.entry.style form.entry.path.now form.entry.other.now address.cylinder address.head)
+        (flat_map (difference_line lines.now.form.style lines.now.form.path.now lines.now.form.other.now lines.now.address.cylinder lines.now.address.head)
         (where_not (bytes_eq (record_in one.now i).data_area (record_in other.now i).data_area) (Difference.Contents i (same_length (record_in one.now i).data_area (record_in other.now i).data_area))))) }
 {
     let first = one.data_of(i);
     let second = other.data_of(i);
     let difference = Difference::Contents(i, same_length(first, second));
-    write_unless(writer, form, address, is_equal(first, second), difference)
+    write_unless(writer, lines, is_equal(first, second), difference)
 }
 
 // What stands behind the end mark of a slot.
@@ -469,16 +480,15 @@ fn rest_of(slot: &[u8]) -> &[u8]
 // The line of what stands behind two end marks.
 fn compare_rests<W: Write>(
     writer: &mut W,
-    form: Comparison,
-    address: TrackAddress,
+    lines: &TrackForm,
     one: &[u8],
     other: &[u8],
 ) -> io::Result<()>
     ensures { OnOk result (Appends (W.contents writer.old) (W.contents writer.new)
-        (flat_map (difference_line form.entry.style form.entry.path.now form.entry.other.now address.cylinder address.head) (rest_differences one.now other.now))) }
+        (flat_map (difference_line lines.now.form.style lines.now.form.path.now lines.now.form.other.now lines.now.address.cylinder lines.now.address.head) (rest_differences one.now other.now))) }
 {
     let same = same_length(one, other);
     let shorter = one.len().min(other.len());
     let difference = Difference::BehindEnd(same);
-    write_unless(writer, form, address, shorter <= same, difference)
+    write_unless(writer, lines, shorter <= same, difference)
 }

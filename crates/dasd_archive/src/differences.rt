@@ -1,6 +1,9 @@
 //! What differs of two tracks.
 
-ghost use Rattle.std.specs.Prelude.{◌≡◌, Some};
+ghost use Rattle.std.specs.Prelude.{◌≡◌, [], ◌∷◌, Some, codes};
+ghost use Rattle.std.specs.List.{concat};
+ghost use Rattle.std.specs.Fmt.{WritesOnOk, decimal};
+ghost use Rattle.dasd_volumes.specs.Lines.{bytes_text, fault_text};
 ghost use Rattle.dasd_archive.specs.Compare.{difference_text};
 
 use ckd_track::SlotFault;
@@ -35,29 +38,86 @@ impl fmt::Display for Difference {
 
     fn fmt<W: fmt::Write>(&self, f: &mut fmt::Formatter<W>) -> fmt::Result {
         match self {
-            Difference::HomeAddress(one, other) => write!(
-                f,
-                "home address {} and {}",
-                Hexadecimal(one),
-                Hexadecimal(other)
-            ),
+            Difference::HomeAddress(one, other) => write_home_addresses(f, one, other),
             Difference::Records(one, other) => write!(f, "records {one} and {other}"),
-            Difference::Identifier(i, one, other) => write!(
-                f,
-                "record {i} identifier {} and {}",
-                Hexadecimal(one),
-                Hexadecimal(other)
-            ),
-            Difference::Key(i, at) => write!(f, "record {i} key from {at} on"),
-            Difference::Contents(i, at) => write!(f, "record {i} data from {at} on"),
-            Difference::BehindEnd(at) => write!(f, "behind the end mark from {at} on"),
+            Difference::Identifier(i, one, other) => write_identifiers(f, *i, one, other),
+            Difference::Key(i, at) => write_area(f, *i, " key from ", *at),
+            Difference::Contents(i, at) => write_area(f, *i, " data from ", *at),
+            Difference::BehindEnd(at) => write_offset(f, "behind the end mark from ", *at),
             Difference::FirstUnreadable(fault) => {
-                write!(f, "unreadable in the first: {}", Reason(*fault))
+                write_unreadable(f, "unreadable in the first: ", *fault)
             }
             Difference::SecondUnreadable(fault) => {
-                write!(f, "unreadable in the second: {}", Reason(*fault))
+                write_unreadable(f, "unreadable in the second: ", *fault)
             }
-            Difference::Unreadable(at) => write!(f, "unreadable in both, bytes from {at} on"),
+            Difference::Unreadable(at) => write_offset(f, "unreadable in both, bytes from ", *at),
         }
     }
+}
+
+// Two home addresses.
+fn write_home_addresses<W: fmt::Write>(
+    f: &mut fmt::Formatter<W>,
+    one: &[u8; 5],
+    other: &[u8; 5],
+) -> fmt::Result
+    ensures { WritesOnOk W.write_str_gives f.old result
+        (concat (codes "home address " ∷ bytes_text one.now ∷ codes " and " ∷ bytes_text other.now ∷ [])) f.new }
+{
+    write!(
+        f,
+        "home address {} and {}",
+        Hexadecimal(one),
+        Hexadecimal(other)
+    )
+}
+
+// The identifiers of a record.
+fn write_identifiers<W: fmt::Write>(
+    f: &mut fmt::Formatter<W>,
+    i: usize,
+    one: &[u8; 5],
+    other: &[u8; 5],
+) -> fmt::Result
+    ensures { WritesOnOk W.write_str_gives f.old result
+        (concat (codes "record " ∷ decimal i ∷ codes " identifier " ∷ bytes_text one.now ∷ codes " and "
+        ∷ bytes_text other.now ∷ [])) f.new }
+{
+    write!(
+        f,
+        "record {i} identifier {} and {}",
+        Hexadecimal(one),
+        Hexadecimal(other)
+    )
+}
+
+// From where on an area of a record differs.
+fn write_area<W: fmt::Write>(
+    f: &mut fmt::Formatter<W>,
+    i: usize,
+    area: &str,
+    at: usize,
+) -> fmt::Result
+    ensures { WritesOnOk W.write_str_gives f.old result
+        (concat (codes "record " ∷ decimal i ∷ area.now ∷ decimal at ∷ codes " on" ∷ [])) f.new }
+{
+    write!(f, "record {i}{area}{at} on")
+}
+
+// From where on something differs.
+fn write_offset<W: fmt::Write>(f: &mut fmt::Formatter<W>, before: &str, at: usize) -> fmt::Result
+    ensures { WritesOnOk W.write_str_gives f.old result (concat (before.now ∷ decimal at ∷ codes " on" ∷ [])) f.new }
+{
+    write!(f, "{before}{at} on")
+}
+
+// Why a track can't be read.
+fn write_unreadable<W: fmt::Write>(
+    f: &mut fmt::Formatter<W>,
+    before: &str,
+    fault: SlotFault,
+) -> fmt::Result
+    ensures { WritesOnOk W.write_str_gives f.old result (concat (before.now ∷ fault_text fault ∷ [])) f.new }
+{
+    write!(f, "{before}{}", Reason(fault))
 }

@@ -49,6 +49,20 @@ pub struct Part {
     pub numbers: Range,
 }
 
+// How the lines of a part of a volume are written, and which it is.
+#[derive(Clone, Copy)]
+struct PartForm<'a> {
+    form: Form<'a>,
+    part: Part,
+}
+
+/// How the lines of a track are written, and where it stands.
+#[derive(Clone, Copy)]
+pub(crate) struct TrackForm<'a> {
+    pub(crate) form: Form<'a>,
+    pub(crate) address: TrackAddress,
+}
+
 /// Prints the home addresses and the records of a part of a volume, sixteen bytes of a key or of data to a line: the offset of
 /// the first, the bytes in hexadecimal, and their characters in EBCDIC. A track that can't be read is one line, with why.
 ///
@@ -70,7 +84,8 @@ pub fn dump<V: SlotReader, W: Write>(
     let Ok(mut slot) = vec![in alloc; 0u8; volume.geometry().track_size as usize] else {
         return Err(VolumeFault::OutOfMemory);
     };
-    if let Err(fault) = dump_cylinders(volume, writer, form, part, slot.as_mut_slice()) {
+    let lines = PartForm { form, part };
+    if let Err(fault) = dump_cylinders(volume, writer, &lines, slot.as_mut_slice()) {
         return Err(fault);
     }
     match writer.flush() {
@@ -83,21 +98,22 @@ pub fn dump<V: SlotReader, W: Write>(
 fn dump_cylinders<V: SlotReader, W: Write>(
     volume: &mut V,
     writer: &mut W,
-    form: Form,
-    part: Part,
+    lines: &PartForm,
     slot: &mut [u8],
 ) -> Result<(), VolumeFault>
-    requires part { IsPartOf part (V.volume volume.old).geometry }
+    requires part { IsPartOf lines.now.part (V.volume volume.old).geometry }
     requires size { length slot.old ≡ (V.volume volume.old).geometry.track_size }
     ensures lines { OnOk result
-        (Prints (dump_text form.entry.style form.entry.path.now part) (V.volume volume.old) (W.contents writer.old) (W.contents writer.new)) }
+        (Prints (dump_text lines.now.form.style lines.now.form.path.now lines.now.part) (V.volume volume.old)
+        (W.contents writer.old) (W.contents writer.new)) }
     ensures volume { IsRead result (V.volume volume.old) (V.volume volume.new) (V.failures volume.old) (V.failures volume.new) }
 {
+    let part = lines.part;
     let cylinders = volume.geometry().cylinders;
     prove!(part.cylinders.last < cylinders);
     for i in 0..part.cylinders.last + 1 - part.cylinders.first {
         let cylinder = part.cylinders.first + i;
-        if let Err(fault) = dump_cylinder(volume, writer, form, part, cylinder, slot) {
+        if let Err(fault) = dump_cylinder(volume, writer, lines, cylinder, slot) {
             return Err(fault);
         }
     }
@@ -108,19 +124,20 @@ fn dump_cylinders<V: SlotReader, W: Write>(
 fn dump_cylinder<V: SlotReader, W: Write>(
     volume: &mut V,
     writer: &mut W,
-    form: Form,
-    part: Part,
+    lines: &PartForm,
     cylinder: u16,
     slot: &mut [u8],
 ) -> Result<(), VolumeFault>
-    requires part { IsPartOf part (V.volume volume.old).geometry }
+    requires part { IsPartOf lines.now.part (V.volume volume.old).geometry }
     requires exists { cylinder < (V.volume volume.old).geometry.cylinders }
     requires size { length slot.old ≡ (V.volume volume.old).geometry.track_size }
     ensures lines { OnOk result
-        (Prints (cylinder_dump form.entry.style form.entry.path.now part cylinder) (V.volume volume.old) (W.contents writer.old) (W.contents writer.new)) }
+        (Prints (cylinder_dump lines.now.form.style lines.now.form.path.now lines.now.part cylinder)
+        (V.volume volume.old) (W.contents writer.old) (W.contents writer.new)) }
     ensures volume { IsRead result (V.volume volume.old) (V.volume volume.new) (V.failures volume.old) (V.failures volume.new) }
     ensures size { length slot.new ≡ length slot.old }
 {
+    let part = lines.part;
     let geometry = volume.geometry();
     for i in 0..part.heads.last + 1 - part.heads.first {
         let head = part.heads.first + i;
@@ -130,8 +147,11 @@ fn dump_cylinder<V: SlotReader, W: Write>(
         {
             return Err(VolumeFault::Store);
         }
-        let address = TrackAddress { cylinder, head };
-        if dump_track(writer, form, address, part.numbers, slot).is_err() {
+        let track_lines = TrackForm {
+            form: lines.form,
+            address: TrackAddress { cylinder, head },
+        };
+        if dump_track(writer, &track_lines, part.numbers, slot).is_err() {
             return Err(VolumeFault::Write);
         }
     }
@@ -141,33 +161,34 @@ fn dump_cylinder<V: SlotReader, W: Write>(
 // The lines of one track.
 fn dump_track<W: Write>(
     writer: &mut W,
-    form: Form,
-    address: TrackAddress,
+    lines: &TrackForm,
     numbers: Range,
     slot: &[u8],
 ) -> io::Result<()>
     ensures { OnOk result (Appends (W.contents writer.old) (W.contents writer.new)
-        (track_dump form.entry.style form.entry.path.now address.cylinder address.head numbers (track_of slot.now))) }
+        (track_dump lines.now.form.style lines.now.form.path.now lines.now.address.cylinder lines.now.address.head
+        numbers (track_of slot.now))) }
 {
     match read_slot(slot) {
-        Ok(track) => dump_readable(writer, form, address, numbers, &track),
-        Err(fault) => dump_unreadable(writer, form, address, fault),
+        Ok(track) => dump_readable(writer, lines, numbers, &track),
+        Err(fault) => dump_unreadable(writer, lines, fault),
     }
 }
 
 /// The line of a track that can't be read.
 pub(crate) fn dump_unreadable<W: Write>(
     writer: &mut W,
-    form: Form,
-    address: TrackAddress,
+    lines: &TrackForm,
     fault: SlotFault,
 ) -> io::Result<()>
     ensures { OnOk result (Appends (W.contents writer.old) (W.contents writer.new)
-        (unreadable_line form.entry.style form.entry.path.now address.cylinder address.head fault)) }
+        (unreadable_line lines.now.form.style lines.now.form.path.now lines.now.address.cylinder lines.now.address.head
+        fault)) }
 {
-    let path = form.path;
+    let path = lines.form.path;
+    let address = lines.address;
     let TrackAddress { cylinder, head } = address;
-    match form.style {
+    match lines.form.style {
         Style::Text => writeln!(writer, "{address} unreadable {}", Reason(fault)),
         Style::Json => writeln!(
             writer,
@@ -180,18 +201,19 @@ pub(crate) fn dump_unreadable<W: Write>(
 // The lines of a track that can be read.
 fn dump_readable<W: Write>(
     writer: &mut W,
-    form: Form,
-    address: TrackAddress,
+    lines: &TrackForm,
     numbers: Range,
     track: &TrackView,
 ) -> io::Result<()>
     ensures { OnOk result (Appends (W.contents writer.old) (W.contents writer.new)
-        (home_address_line form.entry.style form.entry.path.now address.cylinder address.head track.now.home_address
-        ++ flat_map (record_text form.entry.style form.entry.path.now address.cylinder address.head numbers) track.now.records)) }
+        (home_address_line lines.now.form.style lines.now.form.path.now lines.now.address.cylinder
+        lines.now.address.head track.now.home_address
+        ++ flat_map (record_text lines.now.form.style lines.now.form.path.now lines.now.address.cylinder
+        lines.now.address.head numbers) track.now.records)) }
 {
-    dump_home_address(writer, form, address, track)?;
+    dump_home_address(writer, lines, track)?;
     for i in 0..track.len() {
-        dump_asked(writer, form, address, numbers, track, i)?;
+        dump_asked(writer, lines, numbers, track, i)?;
     }
     Ok(())
 }
@@ -199,17 +221,18 @@ fn dump_readable<W: Write>(
 // The line of a home address.
 fn dump_home_address<W: Write>(
     writer: &mut W,
-    form: Form,
-    address: TrackAddress,
+    lines: &TrackForm,
     track: &TrackView,
 ) -> io::Result<()>
     ensures { OnOk result (Appends (W.contents writer.old) (W.contents writer.new)
-        (home_address_line form.entry.style form.entry.path.now address.cylinder address.head track.now.home_address)) }
+        (home_address_line lines.now.form.style lines.now.form.path.now lines.now.address.cylinder
+        lines.now.address.head track.now.home_address)) }
 {
-    let path = form.path;
+    let path = lines.form.path;
+    let address = lines.address;
     let TrackAddress { cylinder, head } = address;
     let home_address = Hexadecimal(track.ha());
-    match form.style {
+    match lines.form.style {
         Style::Text => writeln!(writer, "{address} HA {home_address}"),
         Style::Json => writeln!(
             writer,
@@ -229,18 +252,18 @@ fn number_of(track: &TrackView, i: usize) -> u8
 // The lines of a record whose number is asked for.
 fn dump_asked<W: Write>(
     writer: &mut W,
-    form: Form,
-    address: TrackAddress,
+    lines: &TrackForm,
     numbers: Range,
     track: &TrackView,
     i: usize,
 ) -> io::Result<()>
     requires { i < length track.now.records }
     ensures { OnOk result (Appends (W.contents writer.old) (W.contents writer.new)
-        (record_text form.entry.style form.entry.path.now address.cylinder address.head numbers (record_in track.now i))) }
+        (record_text lines.now.form.style lines.now.form.path.now lines.now.address.cylinder lines.now.address.head
+        numbers (record_in track.now i))) }
 {
     if numbers.contains(u16::from(number_of(track, i))) {
-        dump_record(writer, form, address, track, i)
+        dump_record(writer, lines, track, i)
     } else {
         Ok(())
     }
@@ -249,46 +272,52 @@ fn dump_asked<W: Write>(
 // The lines of a record.
 fn dump_record<W: Write>(
     writer: &mut W,
-    form: Form,
-    address: TrackAddress,
+    lines: &TrackForm,
     track: &TrackView,
     i: usize,
 ) -> io::Result<()>
     requires { i < length track.now.records }
     ensures { OnOk result (Appends (W.contents writer.old) (W.contents writer.new)
-        (record_dump form.entry.style form.entry.path.now address.cylinder address.head (record_in track.now i))) }
+        (record_dump lines.now.form.style lines.now.form.path.now lines.now.address.cylinder lines.now.address.head
+        (record_in track.now i))) }
 {
-    match form.style {
+    match lines.form.style {
         Style::Text => {
             dump_count(writer, track, i)?;
             dump_rows(writer, "K", track.key_of(i))?;
             dump_rows(writer, "D", track.data_of(i))
         }
-        Style::Json => dump_object(writer, form.path, address, track, i),
+        Style::Json => dump_object(writer, lines, track, i),
     }
 }
 
 // A record as an object.
 fn dump_object<W: Write>(
     writer: &mut W,
-    path: &str,
-    address: TrackAddress,
+    lines: &TrackForm,
     track: &TrackView,
     i: usize,
 ) -> io::Result<()>
     requires { i < length track.now.records }
     ensures { OnOk result (Appends (W.contents writer.old) (W.contents writer.new)
-        (record_dump Style.Json path.now address.cylinder address.head (record_in track.now i))) }
+        (record_dump Style.Json lines.now.form.path.now lines.now.address.cylinder lines.now.address.head
+        (record_in track.now i))) }
 {
     let identifier = identifier(track, i);
-    write_object(
-        writer,
-        path,
-        address,
-        identifier,
-        track.key_of(i),
-        track.data_of(i),
-    )
+    let areas = Areas {
+        identifier: &identifier,
+        key: track.key_of(i),
+        body: track.data_of(i),
+    };
+    write_object(writer, lines.form.path, lines.address, &areas)
+}
+
+// The identifier of a record, its key and its data.
+#[derive(Clone, Copy)]
+struct Areas<'a> {
+    identifier: &'a [u8],
+    key: &'a [u8],
+    body: &'a [u8],
 }
 
 // An identifier, a key and data as an object.
@@ -296,15 +325,14 @@ fn write_object<W: Write>(
     writer: &mut W,
     path: &str,
     address: TrackAddress,
-    identifier: [u8; 5],
-    key: &[u8],
-    body: &[u8],
+    areas: &Areas,
 ) -> io::Result<()>
     ensures { OnOk result (Appends (W.contents writer.old) (W.contents writer.new)
-        (object_text path.now address.cylinder address.head identifier key.now body.now)) }
+        (object_text path.now address.cylinder address.head areas.now.identifier.now areas.now.key.now
+        areas.now.body.now)) }
 {
     write_place(writer, path, address)?;
-    write_areas(writer, &identifier, key, body)
+    write_areas(writer, areas)
 }
 
 /// How an object of a track begins.
@@ -324,18 +352,13 @@ pub(crate) fn write_place<W: Write>(
 }
 
 // How an object of a record ends.
-fn write_areas<W: Write>(
-    writer: &mut W,
-    identifier: &[u8],
-    key: &[u8],
-    body: &[u8],
-) -> io::Result<()>
+fn write_areas<W: Write>(writer: &mut W, areas: &Areas) -> io::Result<()>
     ensures { OnOk result (Appends (W.contents writer.old) (W.contents writer.new)
-        (areas_text identifier.now key.now body.now)) }
+        (areas_text areas.now.identifier.now areas.now.key.now areas.now.body.now)) }
 {
-    let identifier = Hexadecimal(identifier);
-    let key = Hexadecimal(key);
-    let body = Hexadecimal(body);
+    let identifier = Hexadecimal(areas.identifier);
+    let key = Hexadecimal(areas.key);
+    let body = Hexadecimal(areas.body);
     writeln!(
         writer,
         ",\"identifier\":\"{identifier}\",\"key\":\"{key}\",\"data\":\"{body}\"}}"

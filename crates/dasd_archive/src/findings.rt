@@ -1,6 +1,9 @@
 //! What a strict check finds, how grave it is, and where.
 
-ghost use Rattle.std.specs.Prelude.{◌≡◌, Some};
+ghost use Rattle.std.specs.Prelude.{◌≡◌, [], ◌∷◌, Some, codes};
+ghost use Rattle.std.specs.List.{concat};
+ghost use Rattle.std.specs.Fmt.{WritesOnOk, decimal};
+ghost use Rattle.dasd_volumes.specs.Lines.{bytes_text};
 ghost use Rattle.dasd_archive.specs.Findings.{severity_of, severity_text, kind_text, problem_text, place_text, place_members};
 
 use ckd_track::SlotFault;
@@ -116,32 +119,64 @@ impl fmt::Display for Problem {
 
     fn fmt<W: fmt::Write>(&self, f: &mut fmt::Formatter<W>) -> fmt::Result {
         match self {
-            Problem::ReservedBytes(at) => write!(f, "reserved byte at {at} is not zero"),
+            Problem::ReservedBytes(at) => write_number(f, "reserved byte at ", *at, " is not zero"),
             Problem::Unreadable(fault) => write!(f, "{}", Reason(*fault)),
-            Problem::OtherHomeAddress(ha) => {
-                write!(f, "home address {} of another track", Hexadecimal(ha))
+            Problem::OtherHomeAddress(ha) => write_home_address(f, ha, " of another track"),
+            Problem::Flagged(ha) => write_home_address(f, ha, " with flags"),
+            Problem::NoRecord0 => f.write_str("no record 0"),
+            Problem::OverCapacity(used) => {
+                write_number(f, "records take ", *used as usize, ", over the capacity")
             }
-            Problem::Flagged(ha) => write!(f, "home address {} with flags", Hexadecimal(ha)),
-            Problem::NoRecord0 => write!(f, "no record 0"),
-            Problem::OverCapacity(used) => write!(f, "records take {used}, over the capacity"),
-            Problem::SameIdentifier(i, id) => {
-                write!(
-                    f,
-                    "record {i} has the identifier {} of an earlier one",
-                    Hexadecimal(id)
-                )
+            Problem::SameIdentifier(i, id) => write_identifier(f, *i, id, " of an earlier one"),
+            Problem::OtherIdentifier(i, id) => write_identifier(f, *i, id, " of another track"),
+            Problem::EndOfFile(i) => write_number(f, "record ", *i, " is an end of file"),
+            Problem::BytesBehindEnd(at) => {
+                write_number(f, "bytes behind the end mark from ", *at, " on")
             }
-            Problem::OtherIdentifier(i, id) => {
-                write!(
-                    f,
-                    "record {i} has the identifier {} of another track",
-                    Hexadecimal(id)
-                )
-            }
-            Problem::EndOfFile(i) => write!(f, "record {i} is an end of file"),
-            Problem::BytesBehindEnd(at) => write!(f, "bytes behind the end mark from {at} on"),
         }
     }
+}
+
+// A number, and the words before and behind it.
+fn write_number<W: fmt::Write>(
+    f: &mut fmt::Formatter<W>,
+    before: &str,
+    number: usize,
+    behind: &str,
+) -> fmt::Result
+    ensures { WritesOnOk W.write_str_gives f.old result (concat (before.now ∷ decimal number ∷ behind.now ∷ [])) f.new }
+{
+    write!(f, "{before}{number}{behind}")
+}
+
+// A home address, and what is said of it.
+fn write_home_address<W: fmt::Write>(
+    f: &mut fmt::Formatter<W>,
+    home_address: &[u8; 5],
+    behind: &str,
+) -> fmt::Result
+    ensures { WritesOnOk W.write_str_gives f.old result
+        (concat (codes "home address " ∷ bytes_text home_address.now ∷ behind.now ∷ [])) f.new }
+{
+    write!(f, "home address {}{behind}", Hexadecimal(home_address))
+}
+
+// The identifier of a record, and whose it is.
+fn write_identifier<W: fmt::Write>(
+    f: &mut fmt::Formatter<W>,
+    i: usize,
+    identifier: &[u8; 5],
+    behind: &str,
+) -> fmt::Result
+    ensures { WritesOnOk W.write_str_gives f.old result
+        (concat (codes "record " ∷ decimal i ∷ codes " has the identifier " ∷ bytes_text identifier.now
+        ∷ behind.now ∷ [])) f.new }
+{
+    write!(
+        f,
+        "record {i} has the identifier {}{behind}",
+        Hexadecimal(identifier)
+    )
 }
 
 impl fmt::Display for Place {

@@ -9,7 +9,7 @@ ghost use Rattle.dasd_volumes.specs.Reading.{Prints, IsRead};
 ghost use Rattle.dasd_volumes.specs.Volumes.{of_each};
 ghost use Rattle.dasd_archive.specs.Listing.{volume_object, volume_part, comma_before, record_object, listed_record, whole_text, track_object, track_part, listed_part, cylinder_part, cylinders_part, list_text};
 
-use crate::dumps::{Range, dump_count, dump_unreadable, write_place};
+use crate::dumps::{Range, TrackForm, dump_count, dump_unreadable, write_place};
 use crate::reports::{Form, Style};
 use crate::tracks::TrackPlace;
 use ckd_track::{DriveModel, Geometry, SlotFault, TrackView, read_slot, used};
@@ -205,7 +205,8 @@ fn list_unreadable<W: Write>(
         (track_part form.entry.style form.entry.path.now track.geometry.model track.cylinder track.head (Err fault))) }
 {
     let TrackPlace { cylinder, head, .. } = track;
-    dump_unreadable(writer, form, TrackAddress { cylinder, head }, fault)
+    let address = TrackAddress { cylinder, head };
+    dump_unreadable(writer, &TrackForm { form, address }, fault)
 }
 
 // The lines of a track that can be read, if it is asked for.

@@ -8,10 +8,17 @@ ghost use Rattle.dasd_archive.specs.Reports.{Reports, tally_line, tally_of};
 ghost use Rattle.dasd_archive.specs.Strict.{findings_on, strict_findings, findings_in_header, ReportsOf, Concludes, Adds};
 
 use crate::reports::{Form, Tally, write_tally};
-use crate::tracks::{TrackPlace, check_header, check_track};
+use crate::tracks::{CheckedTrack, TrackPlace, check_header, check_track};
 use dasd_volumes::{SlotReader, VolumeFault};
 use std::alloc::Global;
 use std::io::Write;
+
+// How what is found of a cylinder is written, and which it is.
+#[derive(Clone, Copy)]
+struct CylinderForm<'a> {
+    form: Form<'a>,
+    cylinder: u16,
+}
 
 /// Prints what is found of the header of a file of an image, and counts it. The first file is number 1.
 ///
@@ -97,7 +104,8 @@ fn check_cylinders<V: SlotReader, W: Write>(
 {
     let geometry = volume.geometry();
     for cylinder in 0..geometry.cylinders {
-        if let Err(fault) = check_cylinder(volume, writer, tally, form, cylinder, slot, table) {
+        let lines = CylinderForm { form, cylinder };
+        if let Err(fault) = check_cylinder(volume, writer, tally, &lines, slot, table) {
             return Err(fault);
         }
     }
@@ -109,21 +117,21 @@ fn check_cylinder<V: SlotReader, W: Write>(
     volume: &mut V,
     writer: &mut W,
     tally: &mut Tally,
-    form: Form,
-    cylinder: u16,
+    lines: &CylinderForm,
     slot: &mut [u8],
     table: &mut [u32],
 ) -> Result<(), VolumeFault>
-    requires exists { cylinder < (V.volume volume.old).geometry.cylinders }
+    requires exists { lines.now.cylinder < (V.volume volume.old).geometry.cylinders }
     requires size { length slot.old ≡ (V.volume volume.old).geometry.track_size }
     requires room { length table.old ≡ (V.volume volume.old).geometry.track_size }
-    ensures found { OnOk result (ReportsOf (findings_on cylinder) (V.volume volume.old) form.entry.style form.entry.path.now
-        (W.contents writer.old) (W.contents writer.new) tally.old tally.new) }
+    ensures found { OnOk result (ReportsOf (findings_on lines.now.cylinder) (V.volume volume.old) lines.now.form.style
+        lines.now.form.path.now (W.contents writer.old) (W.contents writer.new) tally.old tally.new) }
     ensures volume { IsRead result (V.volume volume.old) (V.volume volume.new) (V.failures volume.old) (V.failures volume.new) }
     ensures size { length slot.new ≡ length slot.old }
     ensures room { length table.new ≡ length table.old }
 {
     let geometry = volume.geometry();
+    let cylinder = lines.cylinder;
     for head in 0..geometry.model.heads() {
         if volume
             .load(geometry.track_at(cylinder, head), slot)
@@ -131,12 +139,15 @@ fn check_cylinder<V: SlotReader, W: Write>(
         {
             return Err(VolumeFault::Store);
         }
-        let track = TrackPlace {
-            geometry,
-            cylinder,
-            head,
+        let track = CheckedTrack {
+            form: lines.form,
+            place: TrackPlace {
+                geometry,
+                cylinder,
+                head,
+            },
         };
-        if check_track(writer, tally, form, track, slot, table).is_err() {
+        if check_track(writer, tally, &track, slot, table).is_err() {
             return Err(VolumeFault::Write);
         }
     }

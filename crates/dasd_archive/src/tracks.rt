@@ -26,25 +26,31 @@ pub(crate) struct TrackPlace {
     pub(crate) head: u16,
 }
 
+/// A track that is checked, and how what is found of it is written.
+#[derive(Clone, Copy)]
+pub(crate) struct CheckedTrack<'a> {
+    pub(crate) form: Form<'a>,
+    pub(crate) place: TrackPlace,
+}
+
 /// Checks the track in a slot. The table has room for the offsets of its records.
 pub(crate) fn check_track<W: Write>(
     writer: &mut W,
     tally: &mut Tally,
-    form: Form,
-    track: TrackPlace,
+    track: &CheckedTrack,
     slot: &[u8],
     table: &mut [u32],
 ) -> io::Result<()>
     requires size { length slot.now ≤ 65536 }
     requires room { (length slot.now - 5) / 8 ≤ length table.old }
-    ensures { OnOk result (Reports form.entry.style form.entry.path.now (W.contents writer.old) (W.contents writer.new)
-        tally.old tally.new (findings_in_slot track.geometry track.cylinder track.head slot.now)) }
+    ensures { OnOk result (Reports track.now.form.style track.now.form.path.now
+        (W.contents writer.old) (W.contents writer.new) tally.old tally.new
+        (findings_in_slot track.now.place.geometry track.now.place.cylinder track.now.place.head slot.now)) }
 {
     match index_slot(slot, table) {
         Ok(records) => check_readable(
             writer,
             tally,
-            form,
             track,
             slot,
             &view_at(slot, &table[..records]),
@@ -52,8 +58,8 @@ pub(crate) fn check_track<W: Write>(
         Err(fault) => report(
             writer,
             tally,
-            form,
-            found(track, Problem::Unreadable(fault)),
+            track.form,
+            found(track.place, Problem::Unreadable(fault)),
         ),
     }
 }
@@ -90,38 +96,38 @@ fn report_where<W: Write>(
 fn check_readable<W: Write>(
     writer: &mut W,
     tally: &mut Tally,
-    form: Form,
-    track: TrackPlace,
+    track: &CheckedTrack,
     slot: &[u8],
     view: &TrackView,
 ) -> io::Result<()>
     requires { track_of slot.now ≡ Ok view.now }
-    ensures { OnOk result (Reports form.entry.style form.entry.path.now (W.contents writer.old) (W.contents writer.new)
-        tally.old tally.new (findings_of track.geometry track.cylinder track.head slot.now view.now)) }
+    ensures { OnOk result (Reports track.now.form.style track.now.form.path.now
+        (W.contents writer.old) (W.contents writer.new) tally.old tally.new
+        (findings_of track.now.place.geometry track.now.place.cylinder track.now.place.head slot.now view.now)) }
 {
-    check_whole(writer, tally, form, track, view)?;
-    check_records(writer, tally, form, track, view)?;
-    check_rest(writer, tally, form, track, slot)
+    check_whole(writer, tally, track, view)?;
+    check_records(writer, tally, track, view)?;
+    check_rest(writer, tally, track, slot)
 }
 
 // Checks a track as a whole.
 fn check_whole<W: Write>(
     writer: &mut W,
     tally: &mut Tally,
-    form: Form,
-    track: TrackPlace,
+    track: &CheckedTrack,
     view: &TrackView,
 ) -> io::Result<()>
-    ensures { OnOk result (Reports form.entry.style form.entry.path.now (W.contents writer.old) (W.contents writer.new)
-        tally.old tally.new (track_findings track.geometry track.cylinder track.head view.now)) }
+    ensures { OnOk result (Reports track.now.form.style track.now.form.path.now
+        (W.contents writer.old) (W.contents writer.new) tally.old tally.new
+        (track_findings track.now.place.geometry track.now.place.cylinder track.now.place.head view.now)) }
 {
-    check_home_address(writer, tally, form, track, view)?;
-    let finding = found(track, Problem::NoRecord0);
-    report_where(writer, tally, form, !has_record_0(view), finding)?;
-    let used = used(track.geometry.model, view);
-    let is_over = track.geometry.model.capacity() < used;
-    let finding = found(track, Problem::OverCapacity(used));
-    report_where(writer, tally, form, is_over, finding)
+    check_home_address(writer, tally, track, view)?;
+    let finding = found(track.place, Problem::NoRecord0);
+    report_where(writer, tally, track.form, !has_record_0(view), finding)?;
+    let used = used(track.place.geometry.model, view);
+    let is_over = track.place.geometry.model.capacity() < used;
+    let finding = found(track.place, Problem::OverCapacity(used));
+    report_where(writer, tally, track.form, is_over, finding)
 }
 
 // Whether the first record's number is 0.
@@ -174,34 +180,34 @@ fn is_own(track: TrackPlace, bytes: &[u8]) -> bool
 fn check_home_address<W: Write>(
     writer: &mut W,
     tally: &mut Tally,
-    form: Form,
-    track: TrackPlace,
+    track: &CheckedTrack,
     view: &TrackView,
 ) -> io::Result<()>
-    ensures { OnOk result (Reports form.entry.style form.entry.path.now (W.contents writer.old) (W.contents writer.new)
-        tally.old tally.new (home_address_findings track.cylinder track.head view.now.home_address)) }
+    ensures { OnOk result (Reports track.now.form.style track.now.form.path.now
+        (W.contents writer.old) (W.contents writer.new) tally.old tally.new
+        (home_address_findings track.now.place.cylinder track.now.place.head view.now.home_address)) }
 {
     let home_address = view.ha();
-    let is_other = !is_own(track, bytes_from(home_address, 1));
-    let finding = found(track, Problem::OtherHomeAddress(five(home_address)));
-    report_where(writer, tally, form, is_other, finding)?;
-    let finding = found(track, Problem::Flagged(five(home_address)));
-    report_where(writer, tally, form, home_address[0] != 0, finding)
+    let is_other = !is_own(track.place, bytes_from(home_address, 1));
+    let finding = found(track.place, Problem::OtherHomeAddress(five(home_address)));
+    report_where(writer, tally, track.form, is_other, finding)?;
+    let finding = found(track.place, Problem::Flagged(five(home_address)));
+    report_where(writer, tally, track.form, home_address[0] != 0, finding)
 }
 
 // Checks the records of a track, each by itself and against those before it.
 fn check_records<W: Write>(
     writer: &mut W,
     tally: &mut Tally,
-    form: Form,
-    track: TrackPlace,
+    track: &CheckedTrack,
     view: &TrackView,
 ) -> io::Result<()>
-    ensures { OnOk result (Reports form.entry.style form.entry.path.now (W.contents writer.old) (W.contents writer.new)
-        tally.old tally.new (of_each (record_findings track.cylinder track.head view.now) (length view.now.records))) }
+    ensures { OnOk result (Reports track.now.form.style track.now.form.path.now
+        (W.contents writer.old) (W.contents writer.new) tally.old tally.new
+        (of_each (record_findings track.now.place.cylinder track.now.place.head view.now) (length view.now.records))) }
 {
     for i in 0..view.len() {
-        check_record(writer, tally, form, track, view, i)?;
+        check_record(writer, tally, track, view, i)?;
     }
     Ok(())
 }
@@ -210,29 +216,35 @@ fn check_records<W: Write>(
 fn check_record<W: Write>(
     writer: &mut W,
     tally: &mut Tally,
-    form: Form,
-    track: TrackPlace,
+    track: &CheckedTrack,
     view: &TrackView,
     i: usize,
 ) -> io::Result<()>
     requires { i < length view.now.records }
-    ensures { OnOk result (Reports form.entry.style form.entry.path.now (W.contents writer.old) (W.contents writer.new)
-        tally.old tally.new (record_findings track.cylinder track.head view.now i)) }
+    ensures { OnOk result (Reports track.now.form.style track.now.form.path.now
+        (W.contents writer.old) (W.contents writer.new) tally.old tally.new
+        (record_findings track.now.place.cylinder track.now.place.head view.now i)) }
 {
     let identifier = identifier(view, i);
-    let finding = found(track, Problem::SameIdentifier(i, identifier));
+    let finding = found(track.place, Problem::SameIdentifier(i, identifier));
     report_where(
         writer,
         tally,
-        form,
+        track.form,
         is_earlier(view, i, identifier),
         finding,
     )?;
-    let is_other = !is_own(track, &identifier[..4]);
-    let finding = found(track, Problem::OtherIdentifier(i, identifier));
-    report_where(writer, tally, form, is_other, finding)?;
-    let finding = found(track, Problem::EndOfFile(i));
-    report_where(writer, tally, form, view.data_of(i).is_empty(), finding)
+    let is_other = !is_own(track.place, &identifier[..4]);
+    let finding = found(track.place, Problem::OtherIdentifier(i, identifier));
+    report_where(writer, tally, track.form, is_other, finding)?;
+    let finding = found(track.place, Problem::EndOfFile(i));
+    report_where(
+        writer,
+        tally,
+        track.form,
+        view.data_of(i).is_empty(),
+        finding,
+    )
 }
 
 // Whether one of the first records of a track has this identifier.
@@ -259,13 +271,14 @@ fn first_set(bytes: &[u8]) -> Option<usize>
 fn check_rest<W: Write>(
     writer: &mut W,
     tally: &mut Tally,
-    form: Form,
-    track: TrackPlace,
+    track: &CheckedTrack,
     slot: &[u8],
 ) -> io::Result<()>
     requires { IsOk (track_of slot.now) }
-    ensures { OnOk result (Reports form.entry.style form.entry.path.now (W.contents writer.old) (W.contents writer.new)
-        tally.old tally.new (rest_findings track.cylinder track.head (end_offset (track_in slot.now) + 8) (first_set (drop (end_offset (track_in slot.now) + 8) slot.now)))) }
+    ensures { OnOk result (Reports track.now.form.style track.now.form.path.now
+        (W.contents writer.old) (W.contents writer.new) tally.old tally.new
+        (rest_findings track.now.place.cylinder track.now.place.head (end_offset (track_in slot.now) + 8)
+        (first_set (drop (end_offset (track_in slot.now) + 8) slot.now)))) }
 {
     let from = end_offset_of(slot) + 8;
     match first_set(&slot[from..]) {
@@ -273,8 +286,8 @@ fn check_rest<W: Write>(
         Some(i) => report(
             writer,
             tally,
-            form,
-            found(track, Problem::BytesBehindEnd(from + i)),
+            track.form,
+            found(track.place, Problem::BytesBehindEnd(from + i)),
         ),
     }
 }

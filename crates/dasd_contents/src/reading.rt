@@ -1,12 +1,12 @@
 //! The volume table of contents, read track by track.
 
-ghost use Rattle.std.specs.Prelude.{◌≡◌, ◌≢◌, ◌+◌, ◌^◌, ◌≤◌, ◌<◌, ◌++◌, true, length, IfOk, OnOk, IfErr, IfSome};
+ghost use Rattle.std.specs.Prelude.{◌≡◌, ◌≢◌, ◌+◌, ◌^◌, ◌≤◌, ◌<◌, [], ◌∷◌, ◌++◌, true, None, length, IfOk, OnOk, IfErr, IfSome};
 ghost use Rattle.ckd_track.specs.Geometry.{tracks_of};
 ghost use Rattle.ckd_track.specs.Track.{track_of};
 ghost use Rattle.ckd_image.specs.Store.{Counts};
 ghost use Rattle.dasd_volumes.specs.Reading.{IsRead, IsSlotOf};
 ghost use Rattle.dasd_contents.specs.Runs.{exists_on};
-ghost use Rattle.dasd_contents.specs.Contents.{label_in, label_on, table_in, table_on, bad_extent, no_label, no_table, said_with, IsContents, SaysOf, SaysOfSlots, IsOfSlots, AddsOfSlots, AddsOfTrack};
+ghost use Rattle.dasd_contents.specs.Contents.{label_in, label_on, table_in, table_on, bad_extent, label_place, said_with, IsContents, SaysOf, SaysOfSlots, IsOfSlots, AddsOfSlots, AddsOfTrack};
 
 use crate::blocks::{Block, add_finding, find_block, read_track};
 use crate::findings::{Finding, Problem};
@@ -61,19 +61,28 @@ pub fn read_contents<V: SlotReader>(alloc: Global, volume: &mut V) -> Result<Con
     let slot = slot.as_mut_slice();
     let label = match read_label(volume, slot) {
         Ok(Some(label)) => label,
-        Ok(None) => return without_label(alloc),
+        Ok(None) => return without_table(alloc, None, Problem::NoLabel),
         Err(fault) => return Err(fault),
     };
     match read_table(alloc, volume, slot, label.contents) {
         Ok(Some(table)) => read_blocks(alloc, volume, slot, label, table),
-        Ok(None) => without_table(alloc, label),
+        Ok(None) => without_table(alloc, Some(label), Problem::NoContents(label.contents)),
         Err(fault) => Err(fault),
     }
 }
 
-// What there is of a volume without a label.
-fn without_label(alloc: Global) -> Result<Contents, VolumeFault>
-    ensures contents { IfOk result (SaysOf no_label) }
+// What there is of a volume without a label, or without a volume table of contents.
+fn without_table(
+    alloc: Global,
+    label: Option<VolumeLabel>,
+    problem: Problem,
+) -> Result<Contents, VolumeFault>
+    ensures contents { IfOk result (SaysOf (record {
+      label = label;
+      table = None;
+      blocks = [];
+      findings = record { place = label_place; problem = problem } ∷ [];
+    })) }
     ensures memory { IfErr result (λ e. e ≡ VolumeFault.OutOfMemory) }
 {
     let track = TrackAddress {
@@ -81,38 +90,12 @@ fn without_label(alloc: Global) -> Result<Contents, VolumeFault>
         head: 0,
     };
     let place = RecordAddress { track, number: 3 };
-    let problem = Problem::NoLabel;
     let mut findings = Vec::new(alloc);
     if add_finding(&mut findings, Finding { place, problem }).is_err() {
         return Err(VolumeFault::OutOfMemory);
     }
     Ok(Contents {
-        label: None,
-        table: None,
-        found: Found {
-            blocks: Vec::new(alloc),
-            findings,
-        },
-    })
-}
-
-// What there is of a volume without a volume table of contents.
-fn without_table(alloc: Global, label: VolumeLabel) -> Result<Contents, VolumeFault>
-    ensures contents { IfOk result (SaysOf (no_table label)) }
-    ensures memory { IfErr result (λ e. e ≡ VolumeFault.OutOfMemory) }
-{
-    let track = TrackAddress {
-        cylinder: 0,
-        head: 0,
-    };
-    let place = RecordAddress { track, number: 3 };
-    let problem = Problem::NoContents(label.contents);
-    let mut findings = Vec::new(alloc);
-    if add_finding(&mut findings, Finding { place, problem }).is_err() {
-        return Err(VolumeFault::OutOfMemory);
-    }
-    Ok(Contents {
-        label: Some(label),
+        label,
         table: None,
         found: Found {
             blocks: Vec::new(alloc),

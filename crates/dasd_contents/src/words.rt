@@ -1,7 +1,8 @@
 //! The words in which labels, control blocks and findings are printed.
 
-ghost use Rattle.std.specs.Prelude.{◌≡◌, ◌≤◌, Some, length};
-ghost use Rattle.std.specs.Fmt.{WritesOnOk};
+ghost use Rattle.std.specs.Prelude.{◌≡◌, ◌≤◌, [], ◌∷◌, Some, length, codes};
+ghost use Rattle.std.specs.List.{concat};
+ghost use Rattle.std.specs.Fmt.{WritesOnOk, decimal};
 ghost use Rattle.dasd_contents.specs.Words.{owner_text, track_text, place_text, extent_text, piece_text, in_text, text_of, is_date, day_text, organisation_of, unmovable, organisation_text, form_of, where_set, format_text, chain_text, problem_text, kind_text};
 
 use crate::chains::ChainFault;
@@ -169,12 +170,13 @@ impl fmt::Display for Format {
 
     fn fmt<W: fmt::Write>(&self, f: &mut fmt::Formatter<W>) -> fmt::Result {
         let format = self.0;
-        f.write_str(form_of(format & 0xC0))?;
-        f.write_str(where_set(format, 0x10, "B"))?;
-        f.write_str(where_set(format, 0x08, "S"))?;
-        f.write_str(where_set(format, 0x20, "T"))?;
-        f.write_str(where_set(format, 0x04, "A"))?;
-        f.write_str(where_set(format, 0x02, "M"))
+        let form = form_of(format & 0xC0);
+        let blocked = where_set(format, 0x10, "B");
+        let spanned = where_set(format, 0x08, "S");
+        let overflow = where_set(format, 0x20, "T");
+        let asa = where_set(format, 0x04, "A");
+        let machine = where_set(format, 0x02, "M");
+        write!(f, "{form}{blocked}{spanned}{overflow}{asa}{machine}")
     }
 }
 
@@ -246,16 +248,28 @@ impl fmt::Display for ChainFault {
     ghost output = { λ c. Some (chain_text c) };
 
     fn fmt<W: fmt::Write>(&self, f: &mut fmt::Formatter<W>) -> fmt::Result {
-        match self {
-            ChainFault::Missing(at) => write!(f, "next control block {} is none", Place(*at)),
+        match *self {
+            ChainFault::Missing(at) => write_at(f, "next control block ", at, " is none"),
             ChainFault::OtherFormat(at) => {
-                write!(f, "next control block {} has another format", Place(*at))
+                write_at(f, "next control block ", at, " has another format")
             }
             ChainFault::Endless(at) => {
-                write!(f, "chain of control blocks does not end, at {}", Place(*at))
+                write_at(f, "chain of control blocks does not end, at ", at, "")
             }
         }
     }
+}
+
+// A place, and the words before and behind it.
+fn write_at<W: fmt::Write>(
+    f: &mut fmt::Formatter<W>,
+    before: &str,
+    place: RecordAddress,
+    behind: &str,
+) -> fmt::Result
+    ensures { WritesOnOk W.write_str_gives f.old result (concat (before.now ∷ place_text place ∷ behind.now ∷ [])) f.new }
+{
+    write!(f, "{before}{}{behind}", Place(place))
 }
 
 /// The kind of a problem, without what it is about.
@@ -286,52 +300,75 @@ impl fmt::Display for Problem {
     ghost output = { λ p. Some (problem_text p) };
 
     fn fmt<W: fmt::Write>(&self, f: &mut fmt::Formatter<W>) -> fmt::Result {
-        match self {
+        match *self {
             Problem::NoLabel => f.write_str("no volume label"),
-            Problem::NoContents(at) => {
-                write!(f, "no volume table of contents at {}", Place(*at))
-            }
+            Problem::NoContents(at) => write_at(f, "no volume table of contents at ", at, ""),
             Problem::BadContents(extent) => {
-                write!(
-                    f,
-                    "extent {} of the volume table of contents",
-                    Bounds(*extent)
-                )
+                write_extent(f, extent, " of the volume table of contents")
             }
-            Problem::Unreadable(fault) => write!(f, "{}", Reason(*fault)),
+            Problem::Unreadable(fault) => write!(f, "{}", Reason(fault)),
             Problem::NoBlock => f.write_str("record has not the lengths of a control block"),
             Problem::UnknownFormat(format) => {
-                let format = *format;
                 write!(f, "control block of unknown format {format:02X}")
             }
             Problem::OtherKey => f.write_str("control block has a key of another format"),
             Problem::Chain(fault) => write!(f, "{fault}"),
             Problem::OtherNumber(found, said) => write!(f, "{found} extents, and not {said}"),
-            Problem::BadExtent(extent) => write!(
-                f,
-                "extent {} is no run of tracks",
-                Bounds(*extent)
-            ),
+            Problem::BadExtent(extent) => write_extent(f, extent, " is no run of tracks"),
             Problem::ExtentOutside(extent) => {
-                write!(f, "extent {} is not all on the volume", Bounds(*extent))
+                write_extent(f, extent, " is not all on the volume")
             }
-            Problem::Overlap(extent, track) => {
-                write!(
-                    f,
-                    "extent {} has track {track} of an earlier one",
-                    Bounds(*extent)
-                )
-            }
-            Problem::FreeOutside(piece) => write!(
-                f,
-                "free tracks {} are not all on the volume",
-                Piece(*piece)
-            ),
-            Problem::FreeInUse(piece, track) => write!(
-                f,
-                "free tracks {} have track {track}, which is not free",
-                Piece(*piece)
-            ),
+            Problem::Overlap(extent, track) => write_overlap(f, extent, track),
+            Problem::FreeOutside(piece) => write_outside(f, piece),
+            Problem::FreeInUse(piece, track) => write_in_use(f, piece, track),
         }
     }
+}
+
+// An extent, and what is wrong with it.
+fn write_extent<W: fmt::Write>(
+    f: &mut fmt::Formatter<W>,
+    extent: Extent,
+    behind: &str,
+) -> fmt::Result
+    ensures { WritesOnOk W.write_str_gives f.old result (concat (codes "extent " ∷ extent_text extent ∷ behind.now ∷ [])) f.new }
+{
+    write!(f, "extent {}{behind}", Bounds(extent))
+}
+
+// An extent with a track that is another's.
+fn write_overlap<W: fmt::Write>(
+    f: &mut fmt::Formatter<W>,
+    extent: Extent,
+    track: u32,
+) -> fmt::Result
+    ensures { WritesOnOk W.write_str_gives f.old result
+        (concat (codes "extent " ∷ extent_text extent ∷ codes " has track " ∷ decimal track ∷ codes " of an earlier one" ∷ [])) f.new }
+{
+    let extent = Bounds(extent);
+    write!(f, "extent {extent} has track {track} of an earlier one")
+}
+
+// Free tracks that the volume has not.
+fn write_outside<W: fmt::Write>(f: &mut fmt::Formatter<W>, piece: FreeTracks) -> fmt::Result
+    ensures { WritesOnOk W.write_str_gives f.old result
+        (concat (codes "free tracks " ∷ piece_text piece ∷ codes " are not all on the volume" ∷ [])) f.new }
+{
+    write!(f, "free tracks {} are not all on the volume", Piece(piece))
+}
+
+// Free tracks one of which is not free.
+fn write_in_use<W: fmt::Write>(
+    f: &mut fmt::Formatter<W>,
+    piece: FreeTracks,
+    track: u32,
+) -> fmt::Result
+    ensures { WritesOnOk W.write_str_gives f.old result
+        (concat (codes "free tracks " ∷ piece_text piece ∷ codes " have track " ∷ decimal track ∷ codes ", which is not free" ∷ [])) f.new }
+{
+    let piece = Piece(piece);
+    write!(
+        f,
+        "free tracks {piece} have track {track}, which is not free"
+    )
 }

@@ -11,11 +11,11 @@ invariant-loop-head g l =
     let beside = g.U.SlotReader.volume l.fn.other in
     let i = before.geometry in record {
       number : (slots other_slots : List (List ℕ)) → before.slots ≡ Some slots → beside.slots ≡ Some other_slots
-          → l.differing ≡ length (of_each (λ head. changed (slot_at i slots l.cylinder head) (slot_at i other_slots l.cylinder head)) l.head);
+          → l.differing ≡ length (of_each (λ head. changed (slot_at i slots l.lines.cylinder head) (slot_at i other_slots l.lines.cylinder head)) l.head);
       few : l.differing ≤ l.head;
       lines : (slots other_slots : List (List ℕ)) → before.slots ≡ Some slots → beside.slots ≡ Some other_slots
           → Appends (g.W.Write.contents l.fn.writer) (g.W.Write.contents l.writer)
-          (of_each (λ head. track_lines l.form.style l.form.path.now l.form.other.now l.form.lists l.cylinder head (slot_at i slots l.cylinder head) (slot_at i other_slots l.cylinder head)) l.head);
+          (of_each (λ head. track_lines l.lines.form.style l.lines.form.path.now l.lines.form.other.now l.lines.form.lists l.lines.cylinder head (slot_at i slots l.lines.cylinder head) (slot_at i other_slots l.lines.cylinder head)) l.head);
       one : g.V.SlotReader.volume l.one ≡ before;
       other : g.U.SlotReader.volume l.other ≡ beside;
       size : length l.slot ≡ i.track_size;

@@ -9,13 +9,13 @@ use Rattle.dasd_archive.proofs.compares.compare_readable.Goals as goal
 
 pub returns : goal.returns
 returns g c =
-    let line = difference_line c.args.form.style c.args.form.path.now c.args.form.other.now c.args.address.cylinder c.args.address.head in
-    let a = c.args.one.now in
-    let b = c.args.other.now in
+    let line = difference_line c.args.lines.now.form.style c.args.lines.now.form.path.now c.args.lines.now.form.other.now c.args.lines.now.address.cylinder c.args.lines.now.address.head in
+    let a = c.args.one.now.track in
+    let b = c.args.other.now.track in
     let addresses = where_not (bytes_eq a.home_address b.home_address) (HomeAddress a.home_address b.home_address) in
     let numbers = where_not (nat_eq (length a.records) (length b.records)) (Records (length a.records) (length b.records)) in
     let records = of_each (λ i. record_differences i (record_in a i) (record_in b i)) (min (length a.records) (length b.records)) in
-    let rest = rest_differences (drop (end_offset a + 8) c.args.slot.now) (drop (end_offset b + 8) c.args.other_slot.now) in
+    let rest = rest_differences (drop (end_offset a + 8) c.args.one.now.slot.now) (drop (end_offset b + 8) c.args.other.now.slot.now) in
     let r = c.compare_rests.result in
     lines_then line r _ _ _ addresses (numbers ++ (records ++ rest)) c.in_ok-compare_home_addresses.ensures
     (lines_then line r _ _ _ numbers (records ++ rest) c.in_ok-compare_numbers.ensures

@@ -13,7 +13,7 @@ invariant-loop-i g l =
     let i = before.geometry in record {
       lines : (slots : List (List ℕ)) → before.slots ≡ Some slots
           → Appends (g.W.Write.contents l.fn.writer) (g.W.Write.contents l.writer)
-          (of_each (λ k. track_dump l.form.style l.form.path.now l.cylinder (l.part.heads.first + k) l.part.numbers (track_of (slice_index_or slots (track_at i l.cylinder (l.part.heads.first + k)) []))) l.i);
+          (of_each (λ k. track_dump l.lines.form.style l.lines.form.path.now l.cylinder (l.lines.part.heads.first + k) l.lines.part.numbers (track_of (slice_index_or slots (track_at i l.cylinder (l.lines.part.heads.first + k)) []))) l.i);
       volume : g.V.SlotReader.volume l.volume ≡ before;
       failures : g.V.SlotReader.failures l.volume ≡ g.V.SlotReader.failures l.fn.volume;
       size : length l.slot ≡ i.track_size;

@@ -11,7 +11,7 @@ invariant-loop-i g l =
     let i = before.geometry in record {
       lines : (slots : List (List ℕ)) → before.slots ≡ Some slots
           → Appends (g.W.Write.contents l.fn.writer) (g.W.Write.contents l.writer)
-          (of_each (λ k. cylinder_dump l.form.style l.form.path.now l.part (l.part.cylinders.first + k) i slots) l.i);
+          (of_each (λ k. cylinder_dump l.lines.form.style l.lines.form.path.now l.lines.part (l.lines.part.cylinders.first + k) i slots) l.i);
       volume : g.V.SlotReader.volume l.volume ≡ before;
       failures : g.V.SlotReader.failures l.volume ≡ g.V.SlotReader.failures l.fn.volume;
       size : length l.slot ≡ i.track_size;

@@ -11,8 +11,8 @@ invariant-loop-head g l =
     let before = g.V.SlotReader.volume l.fn.volume in
     let i = before.geometry in record {
       found : (slots : List (List ℕ)) → before.slots ≡ Some slots
-          → Reports l.fn.form.style l.fn.form.path.now (g.W.Write.contents l.fn.writer) (g.W.Write.contents l.writer) l.fn.tally l.tally
-          (of_each (λ head. findings_in_slot i l.cylinder head (slice_index_or slots (track_at i l.cylinder head) [])) l.head);
+          → Reports l.lines.form.style l.lines.form.path.now (g.W.Write.contents l.fn.writer) (g.W.Write.contents l.writer) l.fn.tally l.tally
+          (of_each (λ head. findings_in_slot i l.lines.cylinder head (slice_index_or slots (track_at i l.lines.cylinder head) [])) l.head);
       volume : g.V.SlotReader.volume l.volume ≡ before;
       failures : g.V.SlotReader.failures l.volume ≡ g.V.SlotReader.failures l.fn.volume;
       size : length l.slot ≡ i.track_size;
