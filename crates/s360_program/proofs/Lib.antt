@@ -10,3 +10,4 @@ pub mod Looking
 pub mod Advancing
 pub mod Cutting
 pub mod Quiet
+pub mod Wholes

@@ -1,10 +1,35 @@
-use Rattle.std.proofs.Common.{arith, rules}
+use Rattle.std.proofs.Common.{◌≡◌, ◌∙◌, ◌+◌, ◌<◌, ap, arith, length, List, rules, take, ℕ}
+use Rattle.std.specs.Prelude.{IsTrue}
+use Rattle.s360_words.specs.Storage.{Storage, may_store, stored}
+use Rattle.s360_program.proofs.MovingBytes.{keeps_put}
+use Rattle.s360_program.proofs.Wholes.{stores_all, takes_all}
 use Rattle.s360_program.proofs.Looking.{look_fails, look_passes, look_fits, look_finds, ready_left, ready_first, looking_within}
 use Rattle.s360_program.specs.Stands.{phase_in}
 use Rattle.s360_program.specs.Steps.{run_of, in_bytes, count_of}
 use Rattle.s360_program.proofs.Transferring.{over_once, counts_some}
 use Rattle.s360_program.proofs.Quiet.{finds_quiet, fails_quiet, first_quiet}
 use Rattle.s360_program.proofs.run.Run.look.Goals as goal
+
+-- all bytes of a read that passes whole were stored
+all_stored : (s s2 : Storage) (a n : ℕ) (bytes : List ℕ) → n ≡ length bytes → s2 ≡ stored s a (take n bytes) → s2 ≡ stored s a bytes
+all_stored s s2 a n bytes all is = is ∙ ap (stored s a) (takes_all bytes n all)
+
+pub returns-in-Some : goal.returns-in-Some
+returns-in-Some g c =
+    let a = c.args in
+    let x = c.in-Some in
+    let p = x.ensures in
+    let n = c.store in
+    let t = c.finish in
+    let may : (i : ℕ) → i < length x.bytes.now → IsTrue (may_store a.storage.now a.self.now.key (a.self.now.ccw.address + i)) = λ i h. p.may i (omega (arith, h, p.counts)) in
+    let all : n.result ≡ length x.bytes.now = stores_all a.storage.now a.self.now.key a.self.now.ccw.address n.result (length x.bytes.now) n.ensures.bound may n.ensures.next in
+    let is = all_stored a.storage.now n.new.self a.self.now.ccw.address n.result x.bytes.now all n.ensures.change in
+    record {
+      steps = rw is (t.ensures.steps a.most a.storage.now x.bytes.now p);
+      storage = keeps_put a.storage.now n.new.self a.self.now.ccw.address x.bytes.now is;
+      calls = search rules;
+      quiet = t.ensures.quiet a.storage.now;
+    }
 
 pub returns-in-Failed-clause-steps : goal.returns-in-Failed-clause-steps
 returns-in-Failed-clause-steps g c =
