@@ -255,6 +255,7 @@ more_after At next later s told d0 d1 d2 e at stable same loads quiet is = go is
     go (Some LoadFails) m n t = absurd (omega (arith, m.1, loads))
     go (Some (SaveFails left)) m n t = by (Some (SaveFails left)) (m ∙ ap (λ n. n + 1) same) (e (Some (SaveFails left)) (stable left m) ∙ n) t
 
+-- the same where the unit goes on; it names the drive before, between and behind the calls, since it joins what is said of each two
 pub comes_after : (At : Option Fault → Type 0) (next later : Option Fault → Next) (key : ℕ) (s : Storage) (r : Run) (a : Step) (d0 d1 d2 : DriveState)
     → ((f : Option Fault) → At f → next f ≡ later f) → At None → ((left : List ℕ) → d2.image.failures ≡ d1.image.failures + 1 → At (Some (SaveFails left)))
     → d1.image.failures ≡ d0.image.failures → d2.image.loads ≡ d1.image.loads → GainsNoCheck (drive_of d0.state) (drive_of d1.state)
