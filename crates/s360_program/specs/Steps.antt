@@ -9,11 +9,11 @@ use Rattle.s360_words.specs.declared.flags.UnitStatus.{UnitStatus}
 use Rattle.s360_words.specs.declared.words.Ccw.{Ccw}
 use Rattle.s360_words.specs.declared.words.Csw.{Csw}
 use Rattle.ckd_command.specs.declared.close.DriveEnding.{DriveEnding}
-use Rattle.ckd_command.specs.Drive.{State, Open, Closed, Fault, LoadFails, SaveFails, length_of, drive_of, is_written}
+use Rattle.ckd_command.specs.Drive.{State, Open, Closed, Fault, LoadFails, SaveFails, length_of, drive_of, is_written, unsaved}
 use Rattle.ckd_command.specs.Tables.{action_of, is_giving}
-use Rattle.ckd_drive.specs.Work.{DriveState, Work, Passing, passed_of, left_of, moved_on, closed_of, look_loads}
+use Rattle.ckd_drive.specs.Work.{DriveState, Work, Passing, passed_of, left_of, moved_on, closed_of, fault_met, look_loads, CallsStore, Reports}
 use Rattle.s360_runs.specs.Commands.{Point}
-use Rattle.s360_runs.specs.Endings.{Ending, csw_at}
+use Rattle.s360_runs.specs.Endings.{Ending, ending, csw_at}
 use Rattle.s360_runs.specs.Laws.{MayMove}
 use Rattle.s360_runs.specs.Places.{Place}
 use Rattle.s360_runs.specs.Scripts.{units}
@@ -118,6 +118,14 @@ behind m (step.Over n) = step.Over (m + 1)
 -- what is reported of a program that ended: its key, and where the channel is in it, are the run's
 abbrev pub told_of : Run → Csw × Bool
 told_of r = (csw_at r.key (place_of r.place) r.ended.unit r.ended.channel, r.ended.motion)
+
+-- a program ends where its last command is over so: the track that was written is saved, and the ending is told
+pub record Settles (c : Closed) (key : ℕ) (p : Place) (k : ChannelCondition) (told : Csw × Bool)
+    (old new : DriveState) : Type 0 where
+  pub calls : CallsStore false (is_written old.state) old new
+  pub reports : Reports
+      (unsaved new.state ≡ Some (old.state.registers.cylinder, old.state.registers.head)) old new
+  pub is : IsEnding (ending (fault_met old new) key p c (status_of k)) told new
 
 -- one unit, which goes on or ends the program
 abbrev pub ComesBy : (key : ℕ) → (Option Fault → Next) → Step → Run → Storage → (old new : DriveState) → Type 0

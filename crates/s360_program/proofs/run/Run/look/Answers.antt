@@ -19,7 +19,7 @@ returns-in-Failed g c =
     record {
       step = quietly r p.new.run s s d p.new.drive c.args.most (step.Over 1) k.fits (kept s) (fails_quiet r d c.look.new.self p.new.drive k p.ensures.calls)
           (over_once r.key (phase_in (run_of r) s d) c.args.most _ s d p.new.drive c.requires.some
-          (look_fails r s d c.look.new.self k _ _ p.new.drive l.answer p.ensures.calls p.ensures.reported p.ensures.ending));
+          (look_fails r s d c.look.new.self k _ p.new.drive l.answer p.ensures));
       calls = search rules;
     }
 
