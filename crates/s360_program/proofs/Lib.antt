@@ -10,4 +10,5 @@ pub mod Looking
 pub mod Advancing
 pub mod Cutting
 pub mod Quiet
+pub mod Stepping
 pub mod Wholes

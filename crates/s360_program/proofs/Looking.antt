@@ -3,21 +3,19 @@ use Rattle.std.proofs.Common.{◌≡◌, ℕ, zero, suc, ◌+◌, ◌<◌, refl,
 use Rattle.s360_words.specs.Storage.{Storage}
 use Rattle.s360_words.specs.declared.words.Csw.{Csw}
 use Rattle.ckd_command.specs.declared.begin.Opened.{Opened}
-use Rattle.ckd_command.specs.Drive.{Open, Fault, AfterLook, Ready, Passed, Failed, look, length_of, drive_of, is_written, tells_equipment_check}
+use Rattle.ckd_command.specs.Drive.{Open, Fault, AfterLook, Ready, Passed, Failed, look, length_of, drive_of, tells_equipment_check}
 use Rattle.ckd_command.proofs.Marks.{Calm, LookCalm, look_calm}
 use Rattle.ckd_command.proofs.Stable.{look_stable}
 use Rattle.ckd_drive.specs.declared.answers.Look.TheVariants as seen
 use Rattle.ckd_drive.specs.Work.{DriveState, Work, Idle, Over, Looking, Passing, fault_met, with_image, CallsStore, Reports, after_sight, after_look, after_look_of, answer_of_look, failed_ending, look_loads, look_saves, left_of, passed_of}
-use Rattle.s360_runs.specs.Endings.{ending, failed}
+use Rattle.s360_runs.specs.Endings.{failed}
 use Rattle.s360_runs.specs.Scripts.{units}
-use Rattle.s360_runs.specs.Status.{no_channel_status}
 use Rattle.s360_runs.specs.Transfers.{Request}
 use Rattle.s360_runs.specs.Units.{ProgramPhase, unit, next_looked, walk, on_next, StandsIn}
 use Rattle.s360_runs.specs.Units as phase
-use Rattle.s360_program.specs.Advances.{IsEnding}
 use Rattle.s360_program.specs.Place.{place_of}
 use Rattle.s360_program.specs.Stands.{StageFits, StageWithin, phase_by, phase_in}
-use Rattle.s360_program.specs.Steps.{run_of, Fits, EndsBy, OverBy, Steps, WalksBy, told_of}
+use Rattle.s360_program.specs.Steps.{run_of, Fits, EndsBy, OverBy, Settles, Steps, WalksBy, told_of}
 use Rattle.s360_program.specs.declared.conditions.ChannelCondition.TheVariants as condition
 use Rattle.s360_program.specs.declared.run.Run.{Run}
 use Rattle.s360_program.specs.Stage.{stage_by, stage_of}
@@ -65,35 +63,41 @@ looking_is r d fits at = go d.work (subst (λ c. StageFits (stage_by c r.ccw r.a
 pub looking_within : (r : Run) (d : DriveState) → Fits r d → r.comes ≡ comes.Look → StageWithin (stage.Looking r.ccw) (place_of r.place)
 looking_within r d fits at = subst (λ c. StageWithin (stage_by c r.ccw r.address) (place_of r.place)) at fits.within.stage
 
-module _ (r : Run) (s : Storage) (d0 d1 : DriveState) (fits : Fits r d0) (comes_look : r.comes ≡ comes.Look)
-    (state : d1 ≡ with_image (after_look (fault_met d0 d1) d0) d1.image) where
+-- the drive of a program has looked for the area of its command
+pub record Looked (r : Run) (d0 d1 : DriveState) : Type 0 where
+  pub fits : Fits r d0
+  pub at : r.comes ≡ comes.Look
+  pub state : d1 ≡ with_image (after_look (fault_met d0 d1) d0) d1.image
+  pub calls : CallsStore (look_loads d0) (look_saves d0) d0 d1
+  pub reports : Reports (d1.work ≡ Over failed_ending) d0 d1
+
+module _ (r : Run) (s : Storage) (d0 d1 : DriveState) (k : Looked r d0 d1) where
   at : stage_of r ≡ stage.Looking r.ccw
-  at = ap (λ c. stage_by c r.ccw r.address) comes_look
+  at = ap (λ c. stage_by c r.ccw r.address) k.at
 
   abbrev work : (o : Opened) × (d0.work ≡ Looking o)
-  work = looking_is r d0 fits comes_look
+  work = looking_is r d0 k.fits k.at
 
   abbrev O : Open
-  O = record { opened = (looking_is r d0 fits comes_look).0; state = d0.state }
+  O = record { opened = (looking_is r d0 k.fits k.at).0; state = d0.state }
 
   abbrev Q : Request
   Q = record { storage = s; ccw = r.ccw; place = place_of r.place }
 
   sighted : d1 ≡ with_image (after_sight (look (fault_met d0 d1) O) d0) d1.image
-  sighted = state ∙ ap (λ w. with_image (after_look_of (fault_met d0 d1) d0 w) d1.image) work.1
+  sighted = k.state ∙ ap (λ w. with_image (after_look_of (fault_met d0 d1) d0 w) d1.image) work.1
 
   looks : phase_in (run_of r) s d0 ≡ phase.Looking O Q
   looks = ap (λ g. phase_by g (place_of r.place) s d0.state d0.work) at ∙ ap (λ w. phase_by (stage.Looking r.ccw) (place_of r.place) s d0.state w) work.1
 
   calm_look : LookCalm (tells_equipment_check (drive_of d0.state).sense ≡ false) (look None O)
-  calm_look = look_calm _ O (calm_before d0 fits.stands.saved)
+  calm_look = look_calm _ O (calm_before d0 k.fits.stands.saved)
 
-  pub look_fails : (told : Csw × Bool) (So : Type 0) (d2 : DriveState) → seen.Failed ≡ answer_of_look d1.work → CallsStore (look_loads d0) (look_saves d0) d0 d1
-      → Reports (d1.work ≡ Over failed_ending) d0 d1 → CallsStore false (is_written d1.state) d1 d2 → Reports So d1 d2
-      → IsEnding (ending (fault_met d1 d2) r.key (place_of r.place) (failed d1.state) no_channel_status) told d2
+  pub look_fails : (told : Csw × Bool) (d2 : DriveState) → seen.Failed ≡ answer_of_look d1.work
+      → Settles (failed d1.state) r.key (place_of r.place) condition.Clear told d1 d2
       → EndsBy (λ f. unit f r.key (phase_in (run_of r) s d0)) told s d0 d2
-  look_fails told So d2 answer calls reports settles tells_of is =
-      ends_after (λ f. unit f r.key (phase_in (run_of r) s d0)) (failed d1.state) r.key (place_of r.place) condition.Clear s told So (λ f. look f O ≡ Failed d1.state) (d1.work ≡ Over failed_ending)
+  look_fails told d2 answer end =
+      ends_after (λ f. unit f r.key (phase_in (run_of r) s d0)) (failed d1.state) r.key (place_of r.place) condition.Clear s told (λ f. look f O ≡ Failed d1.state) (d1.work ≡ Over failed_ending)
       (look_loads d0) (look_saves d0) d0 d1 d2
       (record {
         stable = λ h left w. look_stable left O (Failed d1.state) h tt;
@@ -101,29 +105,28 @@ module _ (r : Run) (s : Storage) (d0 d1 : DriveState) (fits : Fits r d0) (comes_
         fails = λ h. refl;
         at = failed_is (look (fault_met d0 d1) O) d0 d1 answer sighted;
         same = refl;
-        calls = calls;
-        reports = reports;
+        calls = k.calls;
+        reports = k.reports;
       })
-      (record { calls = settles; reports = tells_of; is = is }) (λ f h. ap (unit f r.key) looks ∙ ap (next_looked f r.key Q) h)
+      end (λ f h. ap (unit f r.key) looks ∙ ap (next_looked f r.key Q) h)
 
-  not_over : (w : Work) (k : seen.the_data) → k ≡ answer_of_look w → (k ≡ seen.Failed → ⊥) → w ≡ Over failed_ending → ⊥
-  not_over w k e n h = n (e ∙ ap answer_of_look h)
+  not_over : (w : Work) (l : seen.the_data) → l ≡ answer_of_look w → (l ≡ seen.Failed → ⊥) → w ≡ Over failed_ending → ⊥
+  not_over w l e n h = n (e ∙ ap answer_of_look h)
 
-  pub look_passes : (most : ℕ) → 0 < most → seen.Passed ≡ answer_of_look d1.work → Reports (d1.work ≡ Over failed_ending) d0 d1
-      → WalksBy r.key (phase_in (run_of r) s d0) most 1 r s d0 d1
-  look_passes most some answer reports = record {
+  pub look_passes : (most : ℕ) → 0 < most → seen.Passed ≡ answer_of_look d1.work → WalksBy r.key (phase_in (run_of r) s d0) most 1 r s d0 d1
+  look_passes most some answer = record {
     some = omega arith;
     few = omega arith;
     failures = same;
     goes = ap (λ g. on_next [] (unit None r.key g) (walk [] r.key)) looks ∙ ap (λ l. on_next [] (next_looked None r.key Q l) (walk [] r.key)) none
         ∙ sym (ap StandsIn (ap (λ g. phase_by g (place_of r.place) s d1.state d1.work) at ∙ ap (λ w. phase_by (stage.Looking r.ccw) (place_of r.place) s d1.state w) q.2));
     same_key = refl;
-    fits = record { within = fits.within; stands = record { fits = subst (λ g. StageFits g d1.state d1.work) (sym at) (subst (StageFits (stage.Looking r.ccw) d1.state) (sym q.2) tt); saved = calm.saved } };
+    fits = record { within = k.fits.within; stands = record { fits = subst (λ g. StageFits g d1.state d1.work) (sym at) (subst (StageFits (stage.Looking r.ccw) d1.state) (sym q.2) tt); saved = calm.saved } };
     no_check = calm.quiet;
   }
     where
       same : d1.image.failures ≡ d0.image.failures
-      same = unfailed (d1.work ≡ Over failed_ending) d0 d1 (not_over d1.work seen.Passed answer (λ h. cc)) reports
+      same = unfailed (d1.work ≡ Over failed_ending) d0 d1 (not_over d1.work seen.Passed answer (λ h. cc)) k.reports
 
       q : (q : Opened) × (look (fault_met d0 d1) O ≡ Passed (record { opened = q; state = d1.state })) × (d1.work ≡ Looking q)
       q = passed_is (look (fault_met d0 d1) O) d0 d1 answer sighted
@@ -136,9 +139,9 @@ module _ (r : Run) (s : Storage) (d0 d1 : DriveState) (fits : Fits r d0) (comes_
 
   -- the area is found, and the unit goes on
 
-  module _ (left : ℕ) (answer : seen.Ready left ≡ answer_of_look d1.work) (reports : Reports (d1.work ≡ Over failed_ending) d0 d1) where
+  module _ (left : ℕ) (answer : seen.Ready left ≡ answer_of_look d1.work) where
     ready_same : d1.image.failures ≡ d0.image.failures
-    ready_same = unfailed (d1.work ≡ Over failed_ending) d0 d1 (not_over d1.work (seen.Ready left) answer (λ h. cc)) reports
+    ready_same = unfailed (d1.work ≡ Over failed_ending) d0 d1 (not_over d1.work (seen.Ready left) answer (λ h. cc)) k.reports
 
     abbrev ready : (q : Opened) × (look (fault_met d0 d1) O ≡ Ready (record { opened = q; state = d1.state })) × (d1.work ≡ Passing q [] (length_of (record { opened = q; state = d1.state }) []))
     ready = ready_is left (look (fault_met d0 d1) O) d0 d1 answer sighted
@@ -162,8 +165,8 @@ module _ (r : Run) (s : Storage) (d0 d1 : DriveState) (fits : Fits r d0) (comes_
     ready_first = ap passed_of ready.2
 
     pub look_fits : Fits (record r { comes = comes.Bytes; address = r.ccw.address }) d1
-    look_fits = let w = looking_within r d0 fits comes_look in record {
-      within = record { key = fits.within.key; place = fits.within.place; stage = (w.0, w.1) };
+    look_fits = let w = looking_within r d0 k.fits k.at in record {
+      within = record { key = k.fits.within.key; place = k.fits.within.place; stage = (w.0, w.1) };
       stands = record { fits = subst (StageFits (stage.Moving r.ccw r.ccw.address) d1.state) (sym ready.2) (omega arith, λ g. omega arith, λ h. omega arith); saved = ready_calm.saved };
     }
 

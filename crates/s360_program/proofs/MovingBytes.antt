@@ -18,6 +18,7 @@ use Rattle.s360_runs.specs.Transfers.{Transfer, Moves, transfer_unit, check_of, 
 use Rattle.ckd_drive.specs.Work.{DriveState, Work, Idle, Over, Looking, Passing, takes_now, gives_now, given_now, passed_of, left_of, moved_on}
 use Rattle.s360_program.specs.Advances.{KeepsStorage}
 use Rattle.s360_program.specs.Steps.{MovesBy, MovesBytesBy, transfer_by, status_of, refused}
+use Rattle.s360_program.specs.declared.moving.Segment.{Segment}
 
 -- so many bytes from a place on, as they are taken
 ranged : (xs : List ℕ) (at m : ℕ) → slice_range xs at (at + m) ≡ take m (drop at xs)
@@ -119,29 +120,29 @@ may_give m key o t g r free = may_move m key o (AreFree key o) t keeps free r (s
 
 -- What moves.
 
--- so many bytes pass at once, of those that are asked for, and the drive has them
-pub record MayPass (m most : ℕ) (s : State) (w : Work) : Type 0 where
+-- so many bytes of a segment pass at once, and the drive has them
+pub record MayPass (m : ℕ) (seg : Segment) (s : State) (w : Work) : Type 0 where
   pub moving : MovesBy s w
   pub some : 0 < m
-  pub few : m ≤ most
-  pub left : most ≤ left_of w
+  pub few : m ≤ seg.count
+  pub left : seg.count ≤ left_of w
 
 within : (b left m most L : ℕ) → b + left ≤ L → m ≤ most → most ≤ left → b + m ≤ L
 within b left m most L x y z = omega arith
 
-pub takes_so : (m key : ℕ) (ccw : Ccw) (a most : ℕ) (s : Storage) (d d2 : DriveState) (w : Work) → MayPass m most d.state w → takes_now w ≡ true → a + m ≤ length s.bytes
-    → d2 ≡ record d { work = moved_on (slice_range s.bytes a (a + m)) w } → MovesBytesBy key ccw a most (Ok m) s s d d2 w
-takes_so m key ccw a most s d d2 Idle h t inside e = absurd h.moving
-takes_so m key ccw a most s d d2 (Over x) h t inside e = absurd h.moving
-takes_so m key ccw a most s d d2 (Looking o) h t inside e = absurd h.moving
-takes_so m key ccw a most s d d2 (Passing o b left) h t inside e = (
+pub takes_so : (m : ℕ) (seg : Segment) (s : Storage) (d d2 : DriveState) (w : Work) → MayPass m seg d.state w → takes_now w ≡ true → seg.address + m ≤ length s.bytes
+    → d2 ≡ record d { work = moved_on (slice_range s.bytes seg.address (seg.address + m)) w } → MovesBytesBy seg (Ok m) s s d d2 w
+takes_so m seg s d d2 Idle h t inside e = absurd h.moving
+takes_so m seg s d d2 (Over x) h t inside e = absurd h.moving
+takes_so m seg s d d2 (Looking o) h t inside e = absurd h.moving
+takes_so m seg s d d2 (Passing o b left) h t inside e = (
   h.some,
   h.few,
   λ place r. record {
-    may = may_take m key O (transfer_by ccw a s place (Passing o b left)) g r (within (length b) left m most (length_of O b) h.moving h.few h.left) inside;
-    count = rw g (counted s.bytes a m inside);
+    may = may_take m seg.key O (transfer_by seg s place (Passing o b left)) g r (within (length b) left m seg.count (length_of O b) h.moving h.few h.left) inside;
+    count = rw g (counted s.bytes seg.address m inside);
     storage = rw g;
-    drive = rw g (rw (ranged s.bytes a m) at e);
+    drive = rw g (rw (ranged s.bytes seg.address m) at e);
   },
 )
   where
@@ -155,18 +156,18 @@ takes_so m key ccw a most s d d2 (Passing o b left) h t inside e = (
         not_true true h = cc
         not_true false h = refl
 
-pub gives_so : (m key : ℕ) (ccw : Ccw) (a most : ℕ) (s s2 : Storage) (d d2 : DriveState) (w : Work) → MayPass m most d.state w → gives_now w ≡ true → ((i : ℕ) → i < m → IsFree key ccw s (a + i))
+pub gives_so : (m : ℕ) (seg : Segment) (s s2 : Storage) (d d2 : DriveState) (w : Work) → MayPass m seg d.state w → gives_now w ≡ true → ((i : ℕ) → i < m → IsFree seg.key seg.ccw s (seg.address + i))
     → d2 ≡ record d { work = moved_on (slice_range (given_now d w) (length (passed_of w)) (length (passed_of w) + m)) w }
-    → s2 ≡ (if not (skips ccw) then stored s a (slice_range (given_now d w) (length (passed_of w)) (length (passed_of w) + m)) else s)
-    → MovesBytesBy key ccw a most (Ok m) s s2 d d2 w
-gives_so m key ccw a most s s2 d d2 Idle h g free e es = absurd h.moving
-gives_so m key ccw a most s s2 d d2 (Over x) h g free e es = absurd h.moving
-gives_so m key ccw a most s s2 d d2 (Looking o) h g free e es = absurd h.moving
-gives_so m key ccw a most s s2 d d2 (Passing o b left) h g free e es = (
+    → s2 ≡ (if not (skips seg.ccw) then stored s seg.address (slice_range (given_now d w) (length (passed_of w)) (length (passed_of w) + m)) else s)
+    → MovesBytesBy seg (Ok m) s s2 d d2 w
+gives_so m seg s s2 d d2 Idle h g free e es = absurd h.moving
+gives_so m seg s s2 d d2 (Over x) h g free e es = absurd h.moving
+gives_so m seg s s2 d d2 (Looking o) h g free e es = absurd h.moving
+gives_so m seg s s2 d d2 (Passing o b left) h g free e es = (
   h.some,
   h.few,
   λ place r. record {
-    may = may_give m key O (transfer_by ccw a s place (Passing o b left)) g r (long, free);
+    may = may_give m seg.key O (transfer_by seg s place (Passing o b left)) g r (long, free);
     count = rw g (counted (given O) (length b) m long);
     storage = rw g (rw (ranged (given O) (length b) m) at es);
     drive = rw g (rw (ranged (given O) (length b) m) at e);
@@ -177,7 +178,7 @@ gives_so m key ccw a most s s2 d d2 (Passing o b left) h g free e es = (
     O = record { opened = o; state = d.state }
 
     long : length b + m ≤ length (given (record { opened = o; state = d.state }))
-    long = subst (λ n. length b + m ≤ n) (gives_length (record { opened = o; state = d.state }) b g) (within (length b) left m most (length_of (record { opened = o; state = d.state }) b) h.moving h.few h.left)
+    long = subst (λ n. length b + m ≤ n) (gives_length (record { opened = o; state = d.state }) b g) (within (length b) left m seg.count (length_of (record { opened = o; state = d.state }) b) h.moving h.few h.left)
 
 -- Why the first byte may not move.
 
@@ -187,12 +188,12 @@ refuses : (s : Storage) (key at : ℕ) (t : Bool) → nat_lt at (length s.bytes)
 refuses s key at true e m = (refl, rw (some_below s.bytes at (grind (arith, nat_tests)), m))
 refuses s key at false e m = (refl, rw (slice_get_past s.bytes at (grind (arith, nat_tests))))
 
-pub gives_not : (key : ℕ) (ccw : Ccw) (a most : ℕ) (s : Storage) (d : DriveState) (w : Work) → MovesBy d.state w → gives_now w ≡ true → skips ccw ≡ false → may_store s key a ≡ false
-    → MovesBytesBy key ccw a most (Err (refused (nat_lt a (length s.bytes)))) s s d d w
-gives_not key ccw a most s d Idle f g k m = absurd f
-gives_not key ccw a most s d (Over x) f g k m = absurd f
-gives_not key ccw a most s d (Looking o) f g k m = absurd f
-gives_not key ccw a most s d (Passing o b left) f g k m = let why = refuses s key a (nat_lt a (length s.bytes)) refl m in (refl, refl, why.0, λ p. rw (g, k) why.1)
+pub gives_not : (seg : Segment) (s : Storage) (d : DriveState) (w : Work) → MovesBy d.state w → gives_now w ≡ true → skips seg.ccw ≡ false → may_store s seg.key seg.address ≡ false
+    → MovesBytesBy seg (Err (refused (nat_lt seg.address (length s.bytes)))) s s d d w
+gives_not seg s d Idle f g k m = absurd f
+gives_not seg s d (Over x) f g k m = absurd f
+gives_not seg s d (Looking o) f g k m = absurd f
+gives_not seg s d (Passing o b left) f g k m = let why = refuses s seg.key seg.address (nat_lt seg.address (length s.bytes)) refl m in (refl, refl, why.0, λ p. rw (g, k) why.1)
 
 -- what may be stored lies in storage, and its block's key admits it
 pub may_be : (s : Storage) (key at : ℕ) → IsTrue (may_store s key at) → (at < length s.bytes) × (admits (key_at s at) key ≡ true)

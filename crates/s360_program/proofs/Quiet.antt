@@ -9,7 +9,7 @@ use Rattle.ckd_command.specs.declared.tables.Aim.{Aim}
 use Rattle.ckd_command.specs.declared.tables.Aim.TheVariants as aim_is
 use Rattle.ckd_command.specs.declared.begin.Opened.{Opened}
 use Rattle.ckd_command.proofs.Marks.{BegunTraces, begin_traces, LookTraces, look_traces}
-use Rattle.ckd_drive.specs.Work.{DriveState, Work, Idle, Over, Looking, Passing, is_idle, with_image, after_begun, after_begin, after_sight, after_look, after_look_of, closed_of, is_next, CallsStore, Reports, failed_ending, fault_met, begin_saves, goes_to_cylinder_zero, look_loads, look_saves, look_saves_of, goes_to_next_head, answer_of_look}
+use Rattle.ckd_drive.specs.Work.{DriveState, Work, Idle, Over, Looking, Passing, is_idle, with_image, after_begun, after_begin, after_sight, after_look, after_look_of, closed_of, is_next, CallsStore, fault_met, begin_saves, goes_to_cylinder_zero, look_loads, look_saves, look_saves_of, goes_to_next_head, answer_of_look}
 use Rattle.ckd_drive.specs.declared.answers.Look.TheVariants as seen
 use Rattle.s360_runs.specs.Places.{Place}
 use Rattle.s360_runs.specs.Scripts.{units}
@@ -18,13 +18,12 @@ use Rattle.s360_runs.specs.Units.{ProgramPhase, walk, StandsIn}
 use Rattle.s360_program.specs.Advances.{NeedsNoStore, NeedNoStore}
 use Rattle.s360_program.specs.Place.{place_of}
 use Rattle.s360_program.specs.Stands.{RunningState, StageFits, Stands, phase_by, phase_in}
-use Rattle.s360_program.specs.Steps.{run_of, in_bytes, Fits, IsQuiet}
+use Rattle.s360_program.specs.Steps.{run_of, in_bytes, IsQuiet}
 use Rattle.s360_program.specs.declared.run.Run.{Run}
 use Rattle.s360_program.specs.Stage as stage
-use Rattle.s360_program.specs.declared.run.Comes.TheVariants as comes
 use Rattle.s360_program.proofs.Cases.{never, only_left, by_stage}
 use Rattle.s360_program.proofs.Cutting.{untouched_unwritten}
-use Rattle.s360_program.proofs.Looking.{looking_is, look_fits, walks}
+use Rattle.s360_program.proofs.Looking.{Looked, looking_is, look_fits, walks}
 use Rattle.s360_program.proofs.Advancing.{more_units}
 use Rattle.s360_program.proofs.Meeting.{untouched}
 
@@ -58,7 +57,8 @@ phase_quiet r s d t =
 pub first_quiet : (r : RunningState) (s : Storage) (d : DriveState) (n key : ℕ) → Stands r d → 0 < n → NeedNoStore key (phase_in r s d) n → IsQuiet d
 first_quiet r s d n key t some h = phase_quiet r s d t (h 0 (phase_in r s d) some refl)
 
--- and units of which each needs no call make none, where the next ones make none either
+-- and units of which each needs no call make none, where the next ones make none either; it names both ends and the middle of two
+-- walks that it joins
 pub still_quiet : (key k : ℕ) (phase at : ProgramPhase) (done n more : ℕ) (d0 d1 d2 : DriveState) → k ≡ key → done + n ≤ more → walk (units done) key phase ≡ StandsIn at
     → (NeedNoStore key phase done → d1.image ≡ d0.image) → (NeedNoStore k at n → d2.image ≡ d1.image) → NeedNoStore key phase more → d2.image ≡ d0.image
 still_quiet key k phase at done n more d0 d1 d2 e few walked before now h =
@@ -114,13 +114,15 @@ saves_not d (Over e) h = refl
 saves_not d (Looking o) h = ap (λ b. b && goes_to_next_head (sight d.state.volume.geometry (track_under d.state) o d.state.registers)) h
 saves_not d (Passing o b l) h = refl
 
+pub looks_quiet : (r : Run) (d0 d1 : DriveState) → Looked r d0 d1 → IsQuiet d0 → d1.image ≡ d0.image
+looks_quiet r d0 d1 k q = look_untouched d0 d1 (saves_not d0 d0.work q.unwritten) q.looks k.calls
+
+unwritten_behind : (r : Run) (d0 d1 : DriveState) → Looked r d0 d1 → IsQuiet d0 → (is_written d1.state ≡ false) × (is_written (closed_of None d1 d1.work).state ≡ false)
+unwritten_behind r d0 d1 k q = let o = looking_is r d0 k.fits k.at in looked_quiet (fault_met d0 d1) o.0 d0 d1 k.fits.stands.saved o.1 q.unwritten k.state
+
 -- a look that fails, and the end of the program
-pub fails_quiet : (r : Run) (d0 d1 d2 : DriveState) → Fits r d0 → r.comes ≡ comes.Look → d1 ≡ with_image (after_look (fault_met d0 d1) d0) d1.image
-    → CallsStore (look_loads d0) (look_saves d0) d0 d1 → CallsStore false (is_written d1.state) d1 d2 → IsQuiet d0 → d2.image ≡ d0.image
-fails_quiet r d0 d1 d2 fits at is calls settles q =
-    let o = looking_is r d0 fits at in
-    untouched (is_written d1.state) d1 d2 (looked_quiet (fault_met d0 d1) o.0 d0 d1 fits.stands.saved o.1 q.unwritten is).0 settles
-    ∙ look_untouched d0 d1 (saves_not d0 d0.work q.unwritten) q.looks calls
+pub fails_quiet : (r : Run) (d0 d1 d2 : DriveState) → Looked r d0 d1 → CallsStore false (is_written d1.state) d1 d2 → IsQuiet d0 → d2.image ≡ d0.image
+fails_quiet r d0 d1 d2 k settles q = untouched (is_written d1.state) d1 d2 (unwritten_behind r d0 d1 k q).0 settles ∙ looks_quiet r d0 d1 k q
 
 quiet_at : (ccw : Ccw) (a : ℕ) (p : Place) (s : Storage) (d : DriveState) (w : Work) → StageFits (stage.Moving ccw a) d.state w → is_written d.state ≡ false → is_written (closed_of None d w).state ≡ false
     → NeedsNoStore (phase_by (stage.Moving ccw a) p s d.state w)
@@ -129,20 +131,19 @@ quiet_at ccw a p s d (Over x) f w c = absurd f
 quiet_at ccw a p s d (Looking o) f w c = absurd f
 quiet_at ccw a p s d (Passing o b l) f w c = record { looks = refl; unwritten = rw w c }
 
-pub finds_quiet : (r : Run) (s : Storage) (left n : ℕ) (d0 d1 d2 : DriveState) (fits : Fits r d0) (at : r.comes ≡ comes.Look) (is : d1 ≡ with_image (after_look (fault_met d0 d1) d0) d1.image)
-    (answer : seen.Ready left ≡ answer_of_look d1.work) (reports : Reports (d1.work ≡ Over failed_ending) d0 d1) → CallsStore (look_loads d0) (look_saves d0) d0 d1 → 0 < n
+pub finds_quiet : (r : Run) (s : Storage) (left n : ℕ) (d0 d1 d2 : DriveState) → Looked r d0 d1 → seen.Ready left ≡ answer_of_look d1.work → 0 < n
     → (NeedNoStore r.key (phase_in (run_of (in_bytes r)) s d1) n → d2.image ≡ d1.image) → NeedNoStore r.key (phase_in (run_of r) s d0) n → d2.image ≡ d0.image
-finds_quiet r s left n d0 d1 d2 fits at is answer reports calls some later h = later from ∙ look_untouched d0 d1 (saves_not d0 d0.work q.unwritten) q.looks calls
+finds_quiet r s left n d0 d1 d2 k answer some later h = later from ∙ looks_quiet r d0 d1 k q
   where
     q : IsQuiet d0
-    q = first_quiet (run_of r) s d0 n r.key fits.stands some h
+    q = first_quiet (run_of r) s d0 n r.key k.fits.stands some h
 
     w : (is_written d1.state ≡ false) × (is_written (closed_of None d1 d1.work).state ≡ false)
-    w = let o = looking_is r d0 fits at in looked_quiet (fault_met d0 d1) o.0 d0 d1 fits.stands.saved o.1 q.unwritten is
+    w = unwritten_behind r d0 d1 k q
 
     stands : {a b : ProgramPhase} → StandsIn a ≡ StandsIn b → a ≡ b
     stands e = cc
 
     from : NeedNoStore r.key (phase_in (run_of (in_bytes r)) s d1) n
-    from zero next less e = subst NeedsNoStore (stands e) (quiet_at r.ccw r.ccw.address (place_of r.place) s d1 d1.work (look_fits r s d0 d1 fits at is left answer reports).stands.fits w.0 w.1)
-    from (suc j) next less e = h (suc j) next less (walks r s d0 d1 fits at is left answer reports (suc j) (omega arith) ∙ e)
+    from zero next less e = subst NeedsNoStore (stands e) (quiet_at r.ccw r.ccw.address (place_of r.place) s d1 d1.work (look_fits r s d0 d1 k left answer).stands.fits w.0 w.1)
+    from (suc j) next less e = h (suc j) next less (walks r s d0 d1 k left answer (suc j) (omega arith) ∙ e)

@@ -7,7 +7,6 @@ use Rattle.s360_words.specs.Storage.{Storage}
 use Rattle.s360_words.specs.Words.{chains_data, suppresses_length}
 use Rattle.s360_words.specs.declared.flags.TheConstants.ChannelStatus.{INCORRECT_LENGTH}
 use Rattle.s360_words.specs.declared.flags.TheConstants.UnitStatus.{UNIT_CHECK}
-use Rattle.s360_words.specs.declared.words.Ccw.{Ccw}
 use Rattle.s360_words.specs.declared.words.Csw.{Csw}
 use Rattle.ckd_command.specs.Drive.{State, Open, Fault, length_of, close, drive_of, unsaved, tells_equipment_check}
 use Rattle.ckd_command.proofs.Lengths.{length_grows, length_stays, gives_length}
@@ -23,10 +22,11 @@ use Rattle.s360_runs.specs.Transfers.{Transfer, next_bytes}
 use Rattle.s360_runs.specs.Units.{ProgramPhase, Moving, Next, EndsIn, unit, next_chosen, walk, on_next, StandsIn}
 use Rattle.s360_program.specs.Place.{place_of}
 use Rattle.s360_program.specs.Stands.{LeftFits, StageFits, StageWithin, phase_by, phase_in}
-use Rattle.s360_program.specs.Steps.{run_of, in_bytes, count_of, HasFound, FindsBy, Fits, ComesBy, EndsBy, OverBy, Steps, WalksBy, told_of, Flows, FlowsBy, with_left, MovesBytes, MovesBytesBy, MovesBytesAs, status_of, condition_for, differs, request_at, behind, IsQuiet}
+use Rattle.s360_program.specs.Steps.{run_of, in_bytes, count_of, HasFound, FindsBy, Fits, ComesBy, EndsBy, OverBy, Steps, WalksBy, told_of, Flows, FlowsBy, with_left, MovesBytes, MovesBytesBy, MovesBytesAs, segment_of, status_of, condition_for, differs, request_at, behind, IsQuiet}
 use Rattle.s360_program.specs.declared.conditions.ChannelCondition.{ChannelCondition}
 use Rattle.s360_program.specs.declared.conditions.ChannelCondition.TheVariants as condition
 use Rattle.s360_program.specs.declared.moving.Flow.{Flow}
+use Rattle.s360_program.specs.declared.moving.Segment.{Segment}
 use Rattle.s360_program.specs.declared.run.Run.{Run}
 use Rattle.s360_program.specs.Stage.{stage_by, stage_of}
 use Rattle.s360_program.specs.Stage as stage
@@ -94,38 +94,42 @@ told_length true false = refl
 told_length false true = refl
 told_length false false = refl
 
-module _ (key : ℕ) (ccw : Ccw) (a : ℕ) (p : Place) (s : Storage) (d0 d1 : DriveState) (flow : Flow) where
-  completes_by : (f : Option Fault) (incorrect : Bool) (w : Work) → FlowsBy flow d0.state w → (p.residual == 0 && chains_data ccw) ≡ false → (p.residual == 0 || flow.left == 0) ≡ true
-      → d1 ≡ record d0 { work = with_left flow.left w } → incorrect ≡ (not (suppresses_length ccw) && differs p.residual flow.left)
-      → unit f key (phase_by (stage.Moving ccw a) p s d0.state w)
-      ≡ next_chosen (choice f key (record { storage = s; ccw = ccw; place = p }) (closed_of f d1 d1.work) (status_of (condition_for incorrect (closed_of f d1 d1.work).unit)))
+module _ (r : Run) (s : Storage) (d0 d1 : DriveState) (flow : Flow) where
+  -- where bytes come next, under the word that the program has kept
+  abbrev at_bytes : Work → ProgramPhase
+  at_bytes w = phase_by (stage.Moving r.ccw r.address) (place_of r.place) s d0.state w
+
+  completes_by : (f : Option Fault) (incorrect : Bool) (w : Work) → FlowsBy flow d0.state w → (r.place.residual == 0 && chains_data r.ccw) ≡ false → (r.place.residual == 0 || flow.left == 0) ≡ true
+      → d1 ≡ record d0 { work = with_left flow.left w } → incorrect ≡ (not (suppresses_length r.ccw) && differs r.place.residual flow.left)
+      → unit f r.key (at_bytes w)
+      ≡ next_chosen (choice f r.key (request_at s r.ccw r) (closed_of f d1 d1.work) (status_of (condition_for incorrect (closed_of f d1 d1.work).unit)))
   completes_by f incorrect Idle told needs spent drive i = absurd told
   completes_by f incorrect (Over x) told needs spent drive i = absurd told
   completes_by f incorrect (Looking o) told needs spent drive i = absurd told
   completes_by f incorrect (Passing o b l) told needs spent drive i =
       rw (
         needs,
-        no_byte p.residual flow.left (length b) (length_of (record { opened = o; state = d0.state }) b) told.1 spent,
+        no_byte r.place.residual flow.left (length b) (length_of (record { opened = o; state = d0.state }) b) told.1 spent,
         drive,
-        ← (same_length p.residual flow.left (length b) (length_of (record { opened = o; state = d0.state }) b) told.1 told.2),
+        ← (same_length r.place.residual flow.left (length b) (length_of (record { opened = o; state = d0.state }) b) told.1 told.2),
         ← i,
         told_length (tells (close f (record { opened = o; state = d0.state }) b).unit UNIT_CHECK) incorrect,
       )
 
   -- a check stops it
-  checks_by : (check : ChannelCondition) (most : ℕ) (s2 : Storage) (d2 : DriveState) (w : Work) → FlowsBy flow d0.state w → (p.residual == 0 && chains_data ccw) ≡ false → (p.residual == 0 || flow.left == 0) ≡ false
-      → MovesBytesBy key ccw a most (Err check) s s2 (record d0 { work = with_left flow.left w }) d2 (with_left flow.left w)
+  checks_by : (check : ChannelCondition) (few : ℕ) (s2 : Storage) (d2 : DriveState) (w : Work) → FlowsBy flow d0.state w → (r.place.residual == 0 && chains_data r.ccw) ≡ false → (r.place.residual == 0 || flow.left == 0) ≡ false
+      → MovesBytesBy (segment_of r few) (Err check) s s2 (record d0 { work = with_left flow.left w }) d2 (with_left flow.left w)
       → (s2 ≡ s) × (d2.image ≡ d0.image) × (d2.state ≡ d0.state)
-      × ((f : Option Fault) → unit f key (phase_by (stage.Moving ccw a) p s d0.state w) ≡ EndsIn s2 (ending f key p (closed_of f d2 d2.work) (status_of check)))
-  checks_by check most s2 d2 Idle told needs spent h = absurd told
-  checks_by check most s2 d2 (Over x) told needs spent h = absurd told
-  checks_by check most s2 d2 (Looking o) told needs spent h = absurd told
-  checks_by check most s2 d2 (Passing o b l) told needs spent q =
+      × ((f : Option Fault) → unit f r.key (at_bytes w) ≡ EndsIn s2 (ending f r.key (place_of r.place) (closed_of f d2 d2.work) (status_of check)))
+  checks_by check few s2 d2 Idle told needs spent h = absurd told
+  checks_by check few s2 d2 (Over x) told needs spent h = absurd told
+  checks_by check few s2 d2 (Looking o) told needs spent h = absurd told
+  checks_by check few s2 d2 (Passing o b l) told needs spent q =
       let O : Open = record { opened = o; state = d0.state } in (
         q.0,
         ap (λ (d : DriveState). d.image) q.1,
         ap (λ (d : DriveState). d.state) q.1,
-        λ f. rw (q.0, q.1, needs, a_byte p.residual flow.left (length b) (length_of O b) told.2 spent, q.3 p, q.2),
+        λ f. rw (q.0, q.1, needs, a_byte r.place.residual flow.left (length b) (length_of O b) told.2 spent, q.3 (place_of r.place), q.2),
       )
 
 -- where bytes come next they come under the last word
@@ -144,12 +148,12 @@ module _ (r r2 : Run) (s : Storage) (a : Step) (d0 d1 d2 : DriveState) (flow : F
   completes incorrect needs spent i =
       unit_comes (λ f. unit f r.key (phase_in (run_of r) s d0))
       (λ f. next_chosen (choice f r.key (request_at s r.ccw r) (closed_of f d1 d1.work) (status_of (condition_for incorrect (closed_of f d1 d1.work).unit)))) r.key s r2 a d0 d1 d2
-      (λ f. unit_there f ∙ completes_by r.key r.ccw r.address (place_of r.place) s d0 d1 flow f incorrect d0.work flows.told
+      (λ f. unit_there f ∙ completes_by r s d0 d1 flow f incorrect d0.work flows.told
       (no_chain r.place.residual (chains_data r.ccw) needs) (no_more r.place.residual flow.left spent) flows.drive i)
       (ap (λ (d : DriveState). d.image) flows.drive) (ap (λ (d : DriveState). d.state) flows.drive)
 
   -- a check stops the command
-  pub checks : (check : ChannelCondition) (few : ℕ) (s2 : Storage) (d : DriveState) → 0 < r.place.residual → 0 < flow.left → MovesBytes r.key r.ccw r.address few s d1 (Err check) s2 d → d2.image.loads ≡ d.image.loads
+  pub checks : (check : ChannelCondition) (few : ℕ) (s2 : Storage) (d : DriveState) → 0 < r.place.residual → 0 < flow.left → MovesBytes (segment_of r few) s d1 (Err check) s2 d → d2.image.loads ≡ d.image.loads
       → ComesBy r.key (λ f. EndsIn s2 (ending f r.key (place_of r.place) (closed_of f d d.work) (status_of check))) a r2 s2 d d2
       → ComesBy r.key (λ f. unit f r.key (phase_in (run_of r) s d0)) a r2 s2 d0 d2
   checks check few s2 d some more h =
@@ -158,8 +162,8 @@ module _ (r r2 : Run) (s : Storage) (a : Step) (d0 d1 d2 : DriveState) (flow : F
     where
       k : (s2 ≡ s) × (d.image ≡ d0.image) × (d.state ≡ d0.state)
           × ((f : Option Fault) → unit f r.key (phase_by (stage.Moving r.ccw r.address) (place_of r.place) s d0.state d0.work) ≡ EndsIn s2 (ending f r.key (place_of r.place) (closed_of f d d.work) (status_of check)))
-      k = checks_by r.key r.ccw r.address (place_of r.place) s d0 d1 flow check few s2 d d0.work flows.told (no_chain r.place.residual (chains_data r.ccw) (λ z. absurd (omega arith))) (some_more r.place.residual flow.left some more)
-          (subst (λ (d' : DriveState). MovesBytesBy r.key r.ccw r.address few (Err check) s s2 d' d d'.work) flows.drive h)
+      k = checks_by r s d0 d1 flow check few s2 d d0.work flows.told (no_chain r.place.residual (chains_data r.ccw) (λ z. absurd (omega arith))) (some_more r.place.residual flow.left some more)
+          (subst (λ (d' : DriveState). MovesBytesBy (segment_of r few) (Err check) s s2 d' d d'.work) flows.drive h)
 
 -- Bytes.
 
@@ -181,43 +185,44 @@ again d f all = by d.work f all
         none z (inr n) = let e : length b + l ≡ L = f.2 (λ h. n (omega arith)) in omega arith
 
 -- so many bytes move at once
-module _ (key : ℕ) (ccw : Ccw) (a most m : ℕ) (p : Place) (s s2 : Storage) (d0 d2 : DriveState) (flow : Flow) where
+module _ (r : Run) (few m : ℕ) (s s2 : Storage) (d0 d2 : DriveState) (flow : Flow) where
   abbrev IsMoved : Work → Type 0
   IsMoved w =
-      (walk (units m) key (phase_by (stage.Moving ccw a) p s d0.state w) ≡ StandsIn (phase_by (stage.Moving ccw (a + m)) (record p { residual = p.residual - m }) s2 d2.state d2.work))
-      × StageFits (stage.Moving ccw (a + m)) d2.state d2.work × (d2.image ≡ d0.image) × (d2.state ≡ d0.state) × (0 < m) × (m ≤ most)
+      (walk (units m) r.key (phase_by (stage.Moving r.ccw r.address) (place_of r.place) s d0.state w)
+      ≡ StandsIn (phase_by (stage.Moving r.ccw (r.address + m)) (record (place_of r.place) { residual = r.place.residual - m }) s2 d2.state d2.work))
+      × StageFits (stage.Moving r.ccw (r.address + m)) d2.state d2.work × (d2.image ≡ d0.image) × (d2.state ≡ d0.state) × (0 < m) × (m ≤ few)
 
-  moved_by : (w : Work) → FlowsBy flow d0.state w → most ≤ flow.left → most ≤ p.residual
-      → MovesBytesBy key ccw a most (Ok m) s s2 (record d0 { work = with_left flow.left w }) d2 (with_left flow.left w) → IsMoved w
+  moved_by : (w : Work) → FlowsBy flow d0.state w → few ≤ flow.left → few ≤ r.place.residual
+      → MovesBytesBy (segment_of r few) (Ok m) s s2 (record d0 { work = with_left flow.left w }) d2 (with_left flow.left w) → IsMoved w
   moved_by Idle told ml mr q = absurd told
   moved_by (Over x) told ml mr q = absurd told
   moved_by (Looking o) told ml mr q = absurd told
   moved_by (Passing o b l) told ml mr q = (
     steps,
-    subst (λ (d : DriveState). StageFits (stage.Moving ccw (a + m)) d.state d.work) (sym k.drive) fits,
+    subst (λ (d : DriveState). StageFits (stage.Moving r.ccw (r.address + m)) d.state d.work) (sym k.drive) fits,
     ap (λ (d : DriveState). d.image) k.drive,
     ap (λ (d : DriveState). d.state) k.drive,
     q.0,
     q.1,
   )
     where
-      both : (m most r : ℕ) → m ≤ most → most ≤ r → m ≤ r
-      both m most r x y = omega arith
+      both : (m few r : ℕ) → m ≤ few → few ≤ r → m ≤ r
+      both m few r x y = omega arith
 
       O : Open
       O = record { opened = o; state = d0.state }
 
       t : Transfer
-      t = record { storage = s; ccw = ccw; place = p; address = a; bytes = b }
+      t = record { storage = s; ccw = r.ccw; place = place_of r.place; address = r.address; bytes = b }
 
-      k : MovesBytesAs m key O t (Passing o b flow.left) s2 (record d0 { work = Passing o b flow.left }) d2
-      k = q.2 p (both m most p.residual q.1 mr)
+      k : MovesBytesAs m r.key O t (Passing o b flow.left) s2 (record d0 { work = Passing o b flow.left }) d2
+      k = q.2 (place_of r.place) (both m few r.place.residual q.1 mr)
 
       new : List ℕ
       new = next_bytes m O t
 
       sum : length (b ++ new) + (flow.left - length new) ≡ length b + flow.left
-      sum = let few : m ≤ flow.left = both m most flow.left q.1 ml in omega (arith, length-append b new, k.count, few)
+      sum = let has : m ≤ flow.left = both m few flow.left q.1 ml in omega (arith, length-append b new, k.count, has)
 
       fits : LeftFits O (b ++ new) (flow.left - length new)
       fits = rw sum (
@@ -230,9 +235,9 @@ module _ (key : ℕ) (ccw : Ccw) (a most m : ℕ) (p : Place) (s s2 : Storage) (
           by_length h (inl eight) = absurd (h (told.4 h ∙ eight))
           by_length h (inr same) = told.4 h ∙ same
 
-      steps : walk (units m) key (Moving O t) ≡ StandsIn (phase_by (stage.Moving ccw (a + m)) (record p { residual = p.residual - m }) s2 d2.state d2.work)
+      steps : walk (units m) r.key (Moving O t) ≡ StandsIn (phase_by (stage.Moving r.ccw (r.address + m)) (record (place_of r.place) { residual = r.place.residual - m }) s2 d2.state d2.work)
       steps =
-          ap (λ u. walk u key (Moving O t)) (sym (append-nil (units m))) ∙ at_once m key [] O t k.may
+          ap (λ u. walk u r.key (Moving O t)) (sym (append-nil (units m))) ∙ at_once m r.key [] O t k.may
           ∙ rw (k.drive, k.storage) refl
 
 -- so few that they are asked for, counted and left
@@ -241,8 +246,10 @@ pub record IsLeast (few most residual left : ℕ) : Type 0 where
   pub counted : few ≤ residual
   pub has : few ≤ left
 
+-- so many bytes move at once; it names storage and drive before and behind them, and the drive that was asked, since it joins what is
+-- said of each two of them
 pub moves_on : (r : Run) (most few m n : ℕ) (s s2 : Storage) (d0 d1 d2 : DriveState) (flow : Flow) → Fits r d0 → r.comes ≡ comes.Bytes → Flows flow d0 d1
-    → IsLeast few most r.place.residual flow.left → MovesBytes r.key r.ccw r.address few s d1 (Ok m) s2 d2 → n ≡ m
+    → IsLeast few most r.place.residual flow.left → MovesBytes (segment_of r few) s d1 (Ok m) s2 d2 → n ≡ m
     → WalksBy r.key (phase_in (run_of r) s d0) most m (record r { place = record r.place { residual = r.place.residual - m }; address = r.address + n }) s2 d0 d2
 moves_on r most few m n s s2 d0 d1 d2 flow fits at flows least h e =
     subst (λ n. WalksBy r.key (phase_in (run_of r) s d0) most m (record r { place = record r.place { residual = r.place.residual - m }; address = r.address + n }) s2 d0 d2) (sym e)
@@ -259,8 +266,8 @@ moves_on r most few m n s s2 d0 d1 d2 flow fits at flows least h e =
       no_check = λ q. ap (λ (s : State). tells_equipment_check (drive_of s).sense) x.3 ∙ q;
     }))
   where
-    x : IsMoved r.key r.ccw r.address few m (place_of r.place) s s2 d0 d2 flow d0.work
-    x = moved_by r.key r.ccw r.address few m (place_of r.place) s s2 d0 d2 flow d0.work flows.told least.has least.counted (subst (λ (d : DriveState). MovesBytesBy r.key r.ccw r.address few (Ok m) s s2 d d2 d.work) flows.drive h)
+    x : IsMoved r few m s s2 d0 d2 flow d0.work
+    x = moved_by r few m s s2 d0 d2 flow d0.work flows.told least.has least.counted (subst (λ (d : DriveState). MovesBytesBy (segment_of r few) (Ok m) s s2 d d2 d.work) flows.drive h)
 
     narrow : StageWithin (stage.Moving r.ccw r.address) (place_of r.place)
     narrow = subst (λ c. StageWithin (stage_by c r.ccw r.address) (place_of r.place)) at fits.within.stage
@@ -270,16 +277,22 @@ moves_on r most few m n s s2 d0 d1 d2 flow fits at flows least h e =
 
 -- All bytes of a command, and its end.
 
+-- whether all of them have passed, and the command has all that it wants
+pub all_told : (m n : ℕ) (gives : Bool) → (m == n && (gives || not (m == 8))) ≡ true → (n ≤ m) × ((gives ≡ true) ⊎ (m ≡ 8 → ⊥))
+all_told m n true h = (grind (arith, nat_tests), inl refl)
+all_told m n false h = (grind (arith, nat_tests), inr (λ e. grind (arith, nat_tests)))
+
 -- what the drive is at behind them
-behind_bytes : (key : ℕ) (ccw : Ccw) (a most m : ℕ) (p : Place) (s s2 : Storage) (d d2 : DriveState) (w : Work) → MovesBytesBy key ccw a most (Ok m) s s2 d d2 w → m ≤ p.residual
+behind_bytes : (g : Segment) (m : ℕ) (p : Place) (s s2 : Storage) (d d2 : DriveState) (w : Work) → MovesBytesBy g (Ok m) s s2 d d2 w → m ≤ p.residual
     → (left_of d2.work ≡ left_of w - m) × (length (passed_of d2.work) ≡ length (passed_of w) + m) × (gives_now d2.work ≡ gives_now w) × (d2.image ≡ d.image) × (d2.state ≡ d.state)
-behind_bytes key ccw a most m p s s2 d d2 Idle q le = absurd q
-behind_bytes key ccw a most m p s s2 d d2 (Over x) q le = absurd q
-behind_bytes key ccw a most m p s s2 d d2 (Looking o) q le = absurd q
-behind_bytes key ccw a most m p s s2 d d2 (Passing o b left) q le =
+behind_bytes g m p s s2 d d2 Idle q le = absurd q
+behind_bytes g m p s s2 d d2 (Over x) q le = absurd q
+behind_bytes g m p s s2 d d2 (Looking o) q le = absurd q
+behind_bytes g m p s s2 d d2 (Passing o b left) q le =
     let k = q.2 p le in
     rw k.drive (ap (λ n. left - n) k.count, length-append b _ ∙ ap (λ n. length b + n) k.count, refl, refl, refl)
 
+-- one unit behind so many bytes; it names what stands before the bytes, between, and behind, since it joins two walks
 unit_behind : (key m most : ℕ) (phase : ProgramPhase) (r r2 : Run) (s s2 : Storage) (a : Step) (d0 d1 d2 : DriveState) → m < most → walk (units m) key phase ≡ StandsIn (phase_in (run_of r) s d1)
     → ComesBy key (λ f. unit f key (phase_in (run_of r) s d1)) a r2 s2 d0 d2 → Steps key phase most (behind m a) r2 s2 d0 d2
 unit_behind key m most phase r r2 s s2 (step.Units n) d0 d1 d2 few walked c =
@@ -304,11 +317,11 @@ found_ends s (Looking o) f = absurd f
 found_ends s (Passing o b l) f = refl
 
 -- a drive whose first byte may not move stays
-pub refused_stays : (key : ℕ) (ccw : Ccw) (a most : ℕ) (check : ChannelCondition) (s s2 : Storage) (d d2 : DriveState) (w : Work) → MovesBytesBy key ccw a most (Err check) s s2 d d2 w → d2 ≡ d
-refused_stays key ccw a most check s s2 d d2 Idle q = absurd q
-refused_stays key ccw a most check s s2 d d2 (Over x) q = absurd q
-refused_stays key ccw a most check s s2 d d2 (Looking o) q = absurd q
-refused_stays key ccw a most check s s2 d d2 (Passing o b l) q = q.1
+pub refused_stays : (g : Segment) (check : ChannelCondition) (s s2 : Storage) (d d2 : DriveState) (w : Work) → MovesBytesBy g (Err check) s s2 d d2 w → d2 ≡ d
+refused_stays g check s s2 d d2 Idle q = absurd q
+refused_stays g check s s2 d d2 (Over x) q = absurd q
+refused_stays g check s s2 d d2 (Looking o) q = absurd q
+refused_stays g check s s2 d d2 (Passing o b l) q = q.1
 
 -- one unit counts one, and a step some
 pub counts_one : (key : ℕ) (next : Option Fault → Next) (a : Step) (r : Run) (s : Storage) (d0 d1 : DriveState) → ComesBy key next a r s d0 d1 → 0 < count_of a
@@ -326,7 +339,7 @@ module _ (r : Run) (d0 : DriveState) (fits : Fits (in_bytes r) d0) (some : 0 < r
   pub flows : Flows (record { gives = gives_now d0.work; left = left_of d0.work }) d0 d0
   flows = again d0 fits.stands.fits (λ z. absurd (omega (arith, z, left, some)))
 
-  module _ (m : ℕ) (s s2 : Storage) (d2 : DriveState) (h : MovesBytes r.key r.ccw r.ccw.address r.place.residual s d0 (Ok m) s2 d2) where
+  module _ (m : ℕ) (s s2 : Storage) (d2 : DriveState) (h : MovesBytes (segment_of (in_bytes r) r.place.residual) s d0 (Ok m) s2 d2) where
     -- some of them, or all
     pub moves_some : (most n : ℕ) → r.place.residual ≤ most → n ≡ m
         → WalksBy r.key (phase_in (run_of (in_bytes r)) s d0) most m (record r { comes = comes.Bytes; place = record r.place { residual = r.place.residual - m }; address = r.ccw.address + n }) s2 d0 d2
@@ -342,7 +355,7 @@ module _ (r : Run) (d0 : DriveState) (fits : Fits (in_bytes r) d0) (some : 0 < r
 
     module _ (first : passed_of d0.work ≡ []) (all : r.place.residual ≤ m) (whole : (gives_now d0.work ≡ true) ⊎ (m ≡ 8 → ⊥)) where
       now : (left_of d2.work ≡ left_of d0.work - m) × (length (passed_of d2.work) ≡ length (passed_of d0.work) + m) × (gives_now d2.work ≡ gives_now d0.work) × (d2.image ≡ d0.image) × (d2.state ≡ d0.state)
-      now = behind_bytes r.key r.ccw r.ccw.address r.place.residual m (place_of r.place) s s2 d0 d2 d0.work h walked.few
+      now = behind_bytes (segment_of (in_bytes r) r.place.residual) m (place_of r.place) s s2 d0 d2 d0.work h walked.few
 
       pub all_moved : m ≡ r.place.residual
       all_moved = omega (arith, all, walked.few)

@@ -12,12 +12,12 @@ use Rattle.ckd_drive.specs.Work.{DriveState, Passing, Idle, Over, GivesWhole, st
 use Rattle.s360_runs.specs.Commands.{choice}
 use Rattle.s360_runs.specs.Units.{next_chosen}
 use Rattle.s360_program.specs.Stands.{phase_in}
-use Rattle.s360_program.specs.Steps.{run_of, in_bytes, behind, request_at, status_of, condition_for, Fits, ComesBy, MovesBytes, PassesWhole, Steps}
+use Rattle.s360_program.specs.Steps.{run_of, in_bytes, segment_of, behind, request_at, status_of, condition_for, Fits, ComesBy, MovesBytes, PassesWhole, Steps}
 use Rattle.s360_program.specs.declared.run.Comes.TheVariants as comes
 use Rattle.s360_program.specs.declared.run.Run.{Run}
 use Rattle.s360_program.specs.declared.run.Step.{Step}
 use Rattle.s360_program.proofs.Ends.{EndsCommand}
-use Rattle.s360_program.proofs.Looking.{look_finds, look_fits, looking_within}
+use Rattle.s360_program.proofs.Looking.{Looked, look_finds, look_fits, looking_within}
 use Rattle.s360_program.proofs.Meeting.{met_none}
 use Rattle.s360_program.proofs.MovingBytes.{gives_so, may_be}
 use Rattle.s360_program.proofs.Transferring.{moves_all}
@@ -100,22 +100,25 @@ module _ (r : Run) (most : ℕ) (s : Storage) (d : DriveState) (bytes : List ℕ
   some : 0 < r.place.residual
   some = (looking_within r d fits at).2
 
-  moved : MovesBytes r.key r.ccw r.ccw.address r.place.residual s (found_drive d bytes read p.gives) (Ok (length bytes)) (stored s r.ccw.address bytes) (passed_drive d bytes read p.gives)
+  moved : MovesBytes (segment_of (in_bytes r) r.place.residual) s (found_drive d bytes read p.gives) (Ok (length bytes)) (stored s r.ccw.address bytes) (passed_drive d bytes read p.gives)
   moved =
       let all = long d bytes read p.gives in
-      gives_so (length bytes) r.key r.ccw r.ccw.address r.place.residual s (stored s r.ccw.address bytes) (found_drive d bytes read p.gives) (passed_drive d bytes read p.gives) (found_drive d bytes read p.gives).work
+      gives_so (length bytes) (segment_of (in_bytes r) r.place.residual) s (stored s r.ccw.address bytes) (found_drive d bytes read p.gives) (passed_drive d bytes read p.gives) (found_drive d bytes read p.gives).work
       (record { moving = omega (arith, all); some = omega (arith, p.counts, some); few = omega (arith, p.counts); left = omega (arith, p.counts) }) p.gives.gives
       (λ i h. inr (may_be s r.key (r.ccw.address + i) (p.may i (omega (arith, p.counts, h)))))
       (passed_is d bytes read p.gives)
       (rw p.stores (ap (stored s r.ccw.address) (sym (range d bytes read p.gives))))
 
+  looked : Looked r d (found_drive d bytes read p.gives)
+  looked = record { fits = fits; at = at; state = looks_state d bytes read p.gives; calls = looks_calls d bytes read p.gives; reports = looks_reports d bytes read p.gives }
+
   fits_found : Fits (in_bytes r) (found_drive d bytes read p.gives)
-  fits_found = look_fits r s d (found_drive d bytes read p.gives) fits at (looks_state d bytes read p.gives) (length bytes) refl (looks_reports d bytes read p.gives)
+  fits_found = look_fits r s d (found_drive d bytes read p.gives) looked (length bytes) refl
 
   pub whole_steps : (r2 : Run) (a : Step) (d2 : DriveState) → d2.image.loads ≡ d.image.loads
       → ComesBy r.key (λ f. next_chosen (choice f r.key (request_at (stored s r.ccw.address bytes) r.ccw (record r { place = record r.place { residual = 0 } })) (closed_of f (passed_drive d bytes read p.gives) (passed_drive d bytes read p.gives).work) (status_of (condition_for false (closed_of f (passed_drive d bytes read p.gives) (passed_drive d bytes read p.gives).work).unit)))) a r2 (stored s r.ccw.address bytes) (passed_drive d bytes read p.gives) d2
       → Steps r.key (phase_in (run_of r) s d) most (behind r.place.residual a) r2 (stored s r.ccw.address bytes) d d2
   whole_steps r2 a d2 loads is =
       subst (λ n. Steps r.key (phase_in (run_of r) s d) most (behind n a) r2 (stored s r.ccw.address bytes) d d2) p.counts
-      (look_finds r s d (found_drive d bytes read p.gives) fits at (looks_state d bytes read p.gives) (length bytes) refl (looks_reports d bytes read p.gives) most r2 (stored s r.ccw.address bytes) (behind (length bytes) a) d2 loads
+      (look_finds r s d (found_drive d bytes read p.gives) looked (length bytes) refl most r2 (stored s r.ccw.address bytes) (behind (length bytes) a) d2 loads
       (moves_all r (found_drive d bytes read p.gives) fits_found some p.counts (length bytes) s (stored s r.ccw.address bytes) (passed_drive d bytes read p.gives) moved refl (omega (arith, p.counts)) (inl p.gives.gives) most r2 a d2 p.few p.unchained loads is))

@@ -1,5 +1,5 @@
 -- What the parts of a unit come to.
-use Rattle.std.specs.Prelude.{◌≡◌, ℕ, ◌+◌, ◌≤◌, ◌<◌, [], ◌∷◌, Bool, true, false, not, ◌&&◌, ◌||◌, ◌==◌, Option, Some, None, is_none, Result, Ok, Err, length, List, IsTrue, if◌then◌else◌}
+use Rattle.std.specs.Prelude.{◌≡◌, ℕ, ◌+◌, ◌≤◌, ◌<◌, ◌^◌, [], ◌∷◌, Bool, true, false, not, ◌&&◌, ◌||◌, ◌==◌, Option, Some, None, is_none, Result, Ok, Err, length, if◌then◌else◌, List, IsTrue}
 use Rattle.s360_words.specs.Storage.{Storage, may_store}
 use Rattle.s360_words.specs.Words.{chains_command, chains_data, skips}
 use Rattle.s360_words.specs.declared.flags.ChannelStatus.{ChannelStatus}
@@ -9,12 +9,12 @@ use Rattle.s360_words.specs.declared.flags.UnitStatus.{UnitStatus}
 use Rattle.s360_words.specs.declared.words.Ccw.{Ccw}
 use Rattle.s360_words.specs.declared.words.Csw.{Csw}
 use Rattle.ckd_command.specs.declared.close.DriveEnding.{DriveEnding}
-use Rattle.ckd_drive.specs.declared.answers.WholeRead.{WholeRead}
-use Rattle.ckd_command.specs.Drive.{State, Open, Closed, Fault, LoadFails, SaveFails, length_of, drive_of, is_written}
+use Rattle.ckd_command.specs.Drive.{State, Open, Closed, Fault, LoadFails, SaveFails, length_of, drive_of, is_written, unsaved}
 use Rattle.ckd_command.specs.Tables.{action_of, is_giving}
-use Rattle.ckd_drive.specs.Work.{DriveState, Work, Passing, passed_of, moved_on, closed_of, look_loads, GivesWhole}
+use Rattle.ckd_drive.specs.Work.{DriveState, Work, Passing, passed_of, left_of, moved_on, closed_of, fault_met, look_loads, CallsStore, Reports, GivesWhole}
+use Rattle.ckd_drive.specs.declared.answers.WholeRead.{WholeRead}
 use Rattle.s360_runs.specs.Commands.{Point}
-use Rattle.s360_runs.specs.Endings.{Ending, csw_at}
+use Rattle.s360_runs.specs.Endings.{Ending, ending, csw_at}
 use Rattle.s360_runs.specs.Laws.{MayMove}
 use Rattle.s360_runs.specs.Places.{Place}
 use Rattle.s360_runs.specs.Scripts.{units}
@@ -22,12 +22,13 @@ use Rattle.s360_runs.specs.Status.{tells, no_channel_status, is_clear, stops_cha
 use Rattle.s360_runs.specs.Transfers.{Request, Transfer, next_bytes, storage_after, check_of}
 use Rattle.s360_runs.specs.Units.{ProgramPhase, Next, GoesOn, EndsIn, unit, walk, StandsIn}
 use Rattle.s360_runs.specs.Unsaved.{GainsNoCheck}
-use Rattle.s360_program.specs.Advances.{IsEnding, TellsFault, TellsNoFault}
+use Rattle.s360_program.specs.Advances.{IsEnding, KeepsStorage, NeedNoStore, TellsFault, TellsNoFault}
 use Rattle.s360_program.specs.Place.{place_of}
 use Rattle.s360_program.specs.Stands.{RunningState, LeftFits, Stands, Within, phase_in}
 use Rattle.s360_program.specs.declared.conditions.ChannelCondition.{ChannelCondition}
 use Rattle.s360_program.specs.declared.conditions.ChannelCondition.TheVariants as condition
 use Rattle.s360_program.specs.declared.moving.Flow.{Flow}
+use Rattle.s360_program.specs.declared.moving.Segment.{Segment}
 use Rattle.s360_program.specs.declared.program.Ran.{Ran}
 use Rattle.s360_program.specs.declared.run.Comes.TheVariants as comes
 use Rattle.s360_program.specs.declared.run.Run.{Run}
@@ -119,6 +120,14 @@ behind m (step.Over n) = step.Over (m + 1)
 abbrev pub told_of : Run → Csw × Bool
 told_of r = (csw_at r.key (place_of r.place) r.ended.unit r.ended.channel, r.ended.motion)
 
+-- a program ends where its last command is over so: the track that was written is saved, and the ending is told
+pub record Settles (c : Closed) (key : ℕ) (p : Place) (k : ChannelCondition) (told : Csw × Bool)
+    (old new : DriveState) : Type 0 where
+  pub calls : CallsStore false (is_written old.state) old new
+  pub reports : Reports
+      (unsaved new.state ≡ Some (old.state.registers.cylinder, old.state.registers.head)) old new
+  pub is : IsEnding (ending (fault_met old new) key p c (status_of k)) told new
+
 -- one unit, which goes on or ends the program
 abbrev pub ComesBy : (key : ℕ) → (Option Fault → Next) → Step → Run → Storage → (old new : DriveState) → Type 0
 ComesBy key next (step.Units n) r s old new = (n ≡ 1) × GoesBy key (next None) r s old new
@@ -154,6 +163,14 @@ Steps key phase most (step.Over n) r s old new = OverBy key phase most n (told_o
 abbrev pub count_of : Step → ℕ
 count_of (step.Units n) = n
 count_of (step.Over n) = n
+
+-- a step of a program, from this storage and with this drive, of so many units at most: what they come to, what storage keeps, and
+-- that no call of the store is made where none of them needs one
+pub record IsStep (r : Run) (s : Storage) (d : DriveState) (most : ℕ) (a : Step) (r_new : Run) (s_new : Storage)
+    (d_new : DriveState) : Type 0 where
+  pub steps : Steps r.key (phase_in (run_of r) s d) most a r_new s_new d d_new
+  pub storage : KeepsStorage s s_new
+  pub quiet : NeedNoStore r.key (phase_in (run_of r) s d) (count_of a) → d_new.image ≡ d.image
 
 -- The parts of a unit.
 
@@ -212,9 +229,22 @@ pub record Flows (flow : Flow) (old new : DriveState) : Type 0 where
   pub told : FlowsBy flow old.state old.work
   pub drive : new ≡ record old { work = with_left flow.left old.work }
 
--- the bytes of a command, under this CCW and from or to this address on
-abbrev pub transfer_by : Ccw → (address : ℕ) → Storage → Place → Work → Transfer
-transfer_by ccw address s p w = record { storage = s; ccw = ccw; place = p; address = address; bytes = passed_of w }
+-- so many bytes of a program, under the word that it has kept
+abbrev pub segment_of : Run → (count : ℕ) → Segment
+segment_of r count = record { key = r.key; ccw = r.ccw; address = r.address; count = count }
+
+-- a segment lies within what the drive reports as left of the area that it has found: it has a byte at least, and an address and a
+-- key that programs may have
+pub record LiesWithin (g : Segment) (d : DriveState) : Type 0 where
+  pub some : 0 < g.count
+  pub left : g.count ≤ left_of d.work
+  pub moving : IsMoving d
+  pub narrow : g.address < 2 ^ 25
+  pub key : g.key < 16
+
+-- the bytes of a command, of which this segment comes next
+abbrev pub transfer_by : Segment → Storage → Place → Work → Transfer
+transfer_by g s p w = record { storage = s; ccw = g.ccw; place = p; address = g.address; bytes = passed_of w }
 
 -- so many bytes may move, and storage and the drive are those behind them
 pub record MovesBytesAs (m key : ℕ) (o : Open) (t : Transfer) (w : Work) (s_new : Storage)
@@ -224,23 +254,22 @@ pub record MovesBytesAs (m key : ℕ) (o : Open) (t : Transfer) (w : Work) (s_ne
   pub storage : s_new ≡ storage_after m o t
   pub drive : d_new ≡ record d { work = moved_on (next_bytes m o t) w }
 
--- bytes of an open command move, or the first of them may not, for this reason
-abbrev pub MovesBytesBy : (key : ℕ) → Ccw → (address most : ℕ) → Result ℕ ChannelCondition → (s s_new : Storage)
-    → (d d_new : DriveState) → Work → Type 0
-MovesBytesBy key ccw address most (Ok m) s s_new d d_new (Passing o b left) =
-    (0 < m) × (m ≤ most) × ((p : Place) → m ≤ p.residual →
-    MovesBytesAs m key (record { opened = o; state = d.state }) (transfer_by ccw address s p (Passing o b left))
+-- bytes of a segment move, or the first of them may not, for this reason
+abbrev pub MovesBytesBy : Segment → Result ℕ ChannelCondition → (s s_new : Storage) → (d d_new : DriveState) → Work
+    → Type 0
+MovesBytesBy g (Ok m) s s_new d d_new (Passing o b left) =
+    (0 < m) × (m ≤ g.count) × ((p : Place) → m ≤ p.residual →
+    MovesBytesAs m g.key (record { opened = o; state = d.state }) (transfer_by g s p (Passing o b left))
     (Passing o b left) s_new d d_new)
-MovesBytesBy key ccw address most (Err c) s s_new d d_new (Passing o b left) =
+MovesBytesBy g (Err c) s s_new d d_new (Passing o b left) =
     (s_new ≡ s) × (d_new ≡ d) × (is_clear (status_of c) ≡ false)
-    × ((p : Place) → check_of key (record { opened = o; state = d.state })
-    (transfer_by ccw address s p (Passing o b left)) ≡ status_of c)
-MovesBytesBy key ccw address most r s s_new d d_new w = ⊥
+    × ((p : Place) → check_of g.key (record { opened = o; state = d.state }) (transfer_by g s p (Passing o b left))
+    ≡ status_of c)
+MovesBytesBy g r s s_new d d_new w = ⊥
 
 -- bytes move at once, at least one; or the first may not
-abbrev pub MovesBytes : (key : ℕ) → Ccw → (address most : ℕ) → Storage → DriveState → Result ℕ ChannelCondition
-    → Storage → DriveState → Type 0
-MovesBytes key ccw address most s d r s_new d_new = MovesBytesBy key ccw address most r s s_new d d_new d.work
+abbrev pub MovesBytes : Segment → Storage → DriveState → Result ℕ ChannelCondition → Storage → DriveState → Type 0
+MovesBytes g s d r s_new d_new = MovesBytesBy g r s s_new d d_new d.work
 
 -- A command that looks for its area is a read that passes whole: the drive has just as many bytes as its word counts, and
 -- has them at hand; all of them may be stored; no further area follows; and more units are asked for than there are bytes.

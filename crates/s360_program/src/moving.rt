@@ -1,16 +1,17 @@
 //! Bytes between storage and a drive, as many at once as may pass (Principles of Operation, Input/Output Operations: 'Skipping',
 //! 'Program Check', 'Protection Check').
 
-ghost use Rattle.std.specs.Prelude.{nat_lt, ℕ, ◌≡◌, ◌<◌, ◌≤◌, ◌+◌, ◌^◌, true, false, length, slice_range, ◌||◌, ◌==◌, IsTrue};
+ghost use Rattle.std.specs.Prelude.{nat_lt, ◌≡◌, ◌+◌, true, false, length, slice_range, ◌||◌, ◌==◌, ℕ, ◌<◌, ◌≤◌, ◌^◌, IsTrue};
 ghost use Rattle.s360_words.specs.declared.words.Ccw.{Ccw};
 ghost use Rattle.s360_words.specs.Storage.{may_store};
 ghost use Rattle.ckd_drive.specs.Work.{left_of, gives_now, takes_now, given_now, passed_of, moved_on};
 ghost use Rattle.s360_program.specs.Advances.{KeepsStorage};
-ghost use Rattle.s360_program.specs.Steps.{Flows, HasFound, IsMoving, MovesBytes, refused};
+ghost use Rattle.s360_program.specs.Steps.{Flows, HasFound, LiesWithin, MovesBytes, refused};
 
 use crate::conditions::ChannelCondition;
 use ckd_drive::{Drive, Look, Phase};
 use ckd_image::ImageStore;
+use ckd_track::COUNT_LENGTH;
 use s360_words::{Ccw, Storage};
 
 /// Whether a drive gives the bytes of a command, or takes them, and how many are left.
@@ -22,11 +23,24 @@ pub(crate) struct Flow {
     pub(crate) left: usize,
 }
 
-// The bytes of a count area, which a formatting write asks for first.
-pub(crate) const COUNT_AREA: u16 = 8;
+/// Bytes of a command that may move at once: under which word, from or to which address of storage on, and with which key.
+#[derive(Clone, Copy)]
+pub(crate) struct Segment {
+    /// The protection key of the stores.
+    pub(crate) key: u8,
+    /// The word under which they move.
+    pub(crate) ccw: Ccw,
+    /// Where the first one stands in storage, or goes.
+    pub(crate) address: u32,
+    /// How many they are.
+    pub(crate) count: u16,
+}
 
-/// What a drive has or wants now. Where eight bytes have passed, and nothing is left of the drive's last look, another one
-/// reports: a formatting write wants more once the count area came. With any other number all bytes have passed.
+/// How many bytes a count area has, for which a formatting write asks first.
+pub(crate) const COUNT_AREA: u16 = COUNT_LENGTH as u16;
+
+/// What a drive has or wants now. Where as many bytes have passed as a count area has, and nothing is left of the drive's last
+/// look, another one reports: a formatting write wants more once the count area came. With any other number all have passed.
 #[inline(always)]
 pub(crate) fn flow_of<S: ImageStore>(drive: &mut Drive<S>) -> Flow
     requires { HasFound drive.old }
@@ -59,52 +73,40 @@ pub(crate) fn gives<S: ImageStore>(drive: &Drive<S>) -> bool
     }
 }
 
-/// Moves so many bytes at once at most, and at least one, or says why the first may not move.
+/// Moves as many bytes of a segment as may move at once, and at least one, or says why the first may not move.
 #[inline(always)]
 pub(crate) fn move_bytes<S: ImageStore>(
     gives: bool,
-    key: u8,
-    ccw: Ccw,
-    address: u32,
-    most: u16,
+    segment: &Segment,
     storage: &mut Storage,
     drive: &mut Drive<S>,
 ) -> Result<u16, ChannelCondition>
     requires gives { gives ≡ gives_now drive.old.work }
-    requires some { 0 < most }
-    requires left { most ≤ left_of drive.old.work }
-    requires moving { IsMoving drive.old }
-    requires narrow { address < 2 ^ 25 }
-    requires key { key < 16 }
-    ensures moves { MovesBytes key ccw address most storage.old drive.old result storage.new drive.new }
+    requires lies { LiesWithin segment.now drive.old }
+    ensures moves { MovesBytes segment.now storage.old drive.old result storage.new drive.new }
     ensures storage { KeepsStorage storage.old storage.new }
     ensures image { drive.new.image ≡ drive.old.image }
 {
     if gives {
-        read(key, ccw, address, most, storage, drive)
+        read(segment, storage, drive)
     } else {
-        write(address, most, storage, drive)
+        write(segment, storage, drive)
     }
 }
 
 // The drive takes bytes of storage, as they stand there.
 #[inline(always)]
 fn write<S: ImageStore>(
-    address: u32,
-    most: u16,
+    segment: &Segment,
     storage: &Storage,
     drive: &mut Drive<S>,
 ) -> Result<u16, ChannelCondition>
     requires takes { takes_now drive.old.work ≡ true }
-    requires some { 0 < most }
-    requires left { most ≤ left_of drive.old.work }
-    requires moving { IsMoving drive.old }
-    requires narrow { address < 2 ^ 25 }
-    ensures moves { (key : ℕ) (ccw : Ccw) → MovesBytes key ccw address most storage.now drive.old result storage.now
-        drive.new }
+    requires lies { LiesWithin segment.now drive.old }
+    ensures moves { MovesBytes segment.now storage.now drive.old result storage.now drive.new }
     ensures image { drive.new.image ≡ drive.old.image }
 {
-    let bytes = storage.bytes_from(address, usize::from(most));
+    let bytes = storage.bytes_from(segment.address, usize::from(segment.count));
     if bytes.is_empty() {
         return Err(ChannelCondition::ProgramCheck);
     }
@@ -115,31 +117,24 @@ fn write<S: ImageStore>(
 // The drive gives bytes, which go into storage, unless they are skipped.
 #[inline(always)]
 fn read<S: ImageStore>(
-    key: u8,
-    ccw: Ccw,
-    address: u32,
-    most: u16,
+    segment: &Segment,
     storage: &mut Storage,
     drive: &mut Drive<S>,
 ) -> Result<u16, ChannelCondition>
     requires gives { gives_now drive.old.work ≡ true }
-    requires some { 0 < most }
-    requires left { most ≤ left_of drive.old.work }
-    requires moving { IsMoving drive.old }
-    requires narrow { address < 2 ^ 25 }
-    requires key { key < 16 }
-    ensures moves { MovesBytes key ccw address most storage.old drive.old result storage.new drive.new }
+    requires lies { LiesWithin segment.now drive.old }
+    ensures moves { MovesBytes segment.now storage.old drive.old result storage.new drive.new }
     ensures storage { KeepsStorage storage.old storage.new }
     ensures image { drive.new.image ≡ drive.old.image }
 {
-    if ccw.skips() {
-        drive.pass(usize::from(most));
-        return Ok(most);
+    if segment.ccw.skips() {
+        drive.pass(usize::from(segment.count));
+        return Ok(segment.count);
     }
-    let given = &drive.next_bytes()[..usize::from(most)];
-    let n = storage.store(address, given, key);
+    let given = &drive.next_bytes()[..usize::from(segment.count)];
+    let n = storage.store(segment.address, given, segment.key);
     if n == 0 {
-        return Err(refusal(storage, address));
+        return Err(refusal(storage, segment.address));
     }
     drive.pass(n);
     Ok(n as u16)

@@ -1,6 +1,6 @@
 //! A running channel program, unit by unit (Principles of Operation, Input/Output Operations).
 
-ghost use Rattle.std.specs.Prelude.{ℕ, ◌≡◌, ◌⊎◌, ◌<◌, ◌≤◌, ◌+◌, ◌*◌, ◌^◌, ◌&&◌, [], not, true, false, None, is_some, List, IfSome};
+ghost use Rattle.std.specs.Prelude.{ℕ, ◌≡◌, ◌⊎◌, ◌<◌, ◌≤◌, ◌+◌, ◌*◌, ◌^◌, ◌==◌, ◌&&◌, ◌||◌, [], not, true, false, None, is_some, List, IfSome};
 ghost use Rattle.s360_words.specs.Words.{chains_data, suppresses_length};
 ghost use Rattle.ckd_command.specs.Drive.{is_written, unsaved};
 ghost use Rattle.s360_runs.specs.Commands.{choice};
@@ -11,11 +11,11 @@ ghost use Rattle.s360_words.specs.Storage.{Storage as StorageState, stored};
 ghost use Rattle.ckd_drive.specs.Work.{is_idle, may_end, closed_of, left_of, passed_of, CallsStore, GivesWhole};
 ghost use Rattle.s360_program.specs.Advances.{RunsOn, CallsAtMost, KeepsStorage, NeedNoStore, TellsOf};
 ghost use Rattle.s360_program.specs.Stands.{phase_in, Within};
-ghost use Rattle.s360_program.specs.Steps.{run_of, in_bytes, count_of, Fits, IsQuiet, ComesBy, EndsBy, Steps, has_moved, goes_on, point_at, request_at, status_of, condition_for, differs, needs_area, behind, PassesWhole};
+ghost use Rattle.s360_program.specs.Steps.{run_of, in_bytes, count_of, Fits, IsQuiet, ComesBy, EndsBy, IsStep, Steps, has_moved, goes_on, point_at, request_at, status_of, condition_for, differs, needs_area, behind, PassesWhole};
 
 use crate::conditions::{ChannelCondition, chains};
 use crate::endings::{end_program, told};
-use crate::moving::{COUNT_AREA, admits_all, flow_of, gives, move_bytes};
+use crate::moving::{COUNT_AREA, Segment, admits_all, flow_of, gives, move_bytes};
 use crate::place::Fetched;
 use crate::program::Ran;
 use crate::run::{Comes, Run, Step};
@@ -89,12 +89,8 @@ impl Run {
     ) -> Step
         requires some { 0 < most }
         requires fits { Fits self.old drive.old }
-        ensures steps { Steps self.old.key (phase_in (run_of self.old) storage.old drive.old) most result self.new
-            storage.new drive.old drive.new }
-        ensures storage { KeepsStorage storage.old storage.new }
+        ensures step { IsStep self.old storage.old drive.old most result self.new storage.new drive.new }
         ensures calls { CallsAtMost 2 drive.old drive.new }
-        ensures quiet { NeedNoStore self.old.key (phase_in (run_of self.old) storage.old drive.old) (count_of result)
-            → drive.new.image ≡ drive.old.image }
     {
         match self.comes {
             Comes::NextCommand => self.next_command(storage, drive),
@@ -201,12 +197,8 @@ impl Run {
         requires some { 0 < most }
         requires fits { Fits self.old drive.old }
         requires stage { self.old.comes ≡ Comes.Look }
-        ensures steps { Steps self.old.key (phase_in (run_of self.old) storage.old drive.old) most result self.new
-            storage.new drive.old drive.new }
-        ensures storage { KeepsStorage storage.old storage.new }
+        ensures step { IsStep self.old storage.old drive.old most result self.new storage.new drive.new }
         ensures calls { CallsAtMost 2 drive.old drive.new }
-        ensures quiet { NeedNoStore self.old.key (phase_in (run_of self.old) storage.old drive.old) (count_of result)
-            → drive.new.image ≡ drive.old.image }
     {
         if let Some((bytes, read)) = self.whole_read(most, storage, drive) {
             let _ = storage.store(self.ccw.address, bytes, self.key);
@@ -303,7 +295,14 @@ impl Run {
     {
         let gives = gives(drive);
         let (key, ccw, count) = (self.key, self.ccw, self.place.residual);
-        match move_bytes(gives, key, ccw, ccw.address, count, storage, drive) {
+        let address = ccw.address;
+        let segment = Segment {
+            key,
+            ccw,
+            address,
+            count,
+        };
+        match move_bytes(gives, &segment, storage, drive) {
             Ok(m) if is_all(m, count, gives) => {
                 self.place.residual = 0;
                 behind(count, self.conclude(ccw, false, drive))
@@ -311,7 +310,7 @@ impl Run {
             Ok(m) => {
                 self.comes = Comes::Bytes;
                 self.place.residual -= m;
-                self.address = ccw.address + u32::from(m);
+                self.address = address + u32::from(m);
                 Step::Units(u32::from(m))
             }
             Err(condition) => self.stop(condition, drive),
@@ -329,12 +328,9 @@ impl Run {
         requires some { 0 < most }
         requires fits { Fits self.old drive.old }
         requires stage { self.old.comes ≡ Comes.Bytes }
-        ensures steps { Steps self.old.key (phase_in (run_of self.old) storage.old drive.old) most result self.new
-            storage.new drive.old drive.new }
-        ensures storage { KeepsStorage storage.old storage.new }
+        ensures step { IsStep self.old storage.old drive.old most result self.new storage.new drive.new }
         ensures loads { drive.new.image.loads ≡ drive.old.image.loads }
         ensures calls { CallsAtMost 1 drive.old drive.new }
-        ensures quiet { IsQuiet drive.old → drive.new.image ≡ drive.old.image }
     {
         let residual = self.place.residual;
         if residual == 0 {
@@ -345,9 +341,13 @@ impl Run {
             let incorrect = is_incorrect(self.ccw, residual, flow.left);
             return self.conclude(self.ccw, incorrect, drive);
         }
-        let most = least(most, residual, flow.left);
-        let (key, ccw, address) = (self.key, self.ccw, self.address);
-        match move_bytes(flow.gives, key, ccw, address, most, storage, drive) {
+        let segment = Segment {
+            key: self.key,
+            ccw: self.ccw,
+            address: self.address,
+            count: least(most, residual, flow.left),
+        };
+        match move_bytes(flow.gives, &segment, storage, drive) {
             Ok(m) => {
                 self.place.residual -= m;
                 self.address += u32::from(m);
@@ -421,7 +421,7 @@ fn behind(passed: u16, step: Step) -> Step
 
 // Whether so many bytes are all that a word counts, and all that the drive has: a formatting write may want more behind its count area.
 fn is_all(moved: u16, count: u16, gives: bool) -> bool
-    ensures { result ≡ true → (count ≤ moved) × ((gives ≡ true) ⊎ (moved ≡ 8 → ⊥)) }
+    ensures { result ≡ (moved == count && (gives || not (moved == 8))) }
 {
     moved == count && (gives || moved != COUNT_AREA)
 }

@@ -9,14 +9,14 @@ returns-then-skips-clause-moves g c =
     let a = c.args in
     let q = c.requires in
     let k = sym c.skips.ensures ∙ c.if-skips.true in
-    gives_so a.most a.key a.ccw a.address a.most a.storage.now a.storage.now a.drive.now c.pass.new.self a.drive.now.work
-    (record { moving = q.moving; some = q.some; few = omega arith; left = q.left }) q.gives (λ i h. inl k) (rw c.from.ensures at c.pass.ensures) (rw k)
+    gives_so a.segment.now.count a.segment.now a.storage.now a.storage.now a.drive.now c.pass.new.self a.drive.now.work
+    (record { moving = q.lies.moving; some = q.lies.some; few = omega arith; left = q.lies.left }) q.gives (λ i h. inl k) (rw c.from.ensures at c.pass.ensures) (rw k)
 
 pub slice_bounds-given-end : goal.slice_bounds-given-end
 slice_bounds-given-end g c =
     let d = c.args.drive.now in
     let q = c.requires in
-    c.from-2.ensures ∙ sym (lent_size d d.work q.moving q.gives c.next_bytes.result.now c.next_bytes.ensures.bytes c.args.most q.left) ∙ ap (λ n. length (take n c.next_bytes.result.now)) (sym c.from-2.ensures)
+    c.from-2.ensures ∙ sym (lent_size d d.work q.lies.moving q.gives c.next_bytes.result.now c.next_bytes.ensures.bytes c.args.segment.now.count q.lies.left) ∙ ap (λ n. length (take n c.next_bytes.result.now)) (sym c.from-2.ensures)
 
 at_zero : (s : Storage) (key a n : ℕ) → n ≡ 0 → may_store s key (a + n) ≡ false → may_store s key a ≡ false
 at_zero s key a n e h = let same : a ≡ a + n = omega arith in ap (may_store s key) same ∙ h
@@ -24,31 +24,33 @@ at_zero s key a n e h = let same : a ≡ a + n = omega arith in ap (may_store s 
 pub returns-then-n-eq0-clause-moves : goal.returns-then-n-eq0-clause-moves
 returns-then-n-eq0-clause-moves g c =
     let a = c.args in
+    let p = a.segment.now in
     let d = a.drive.now in
     let q = c.requires in
     let n = c.store-n in
     let none : n.result ≡ 0 = omega arith in
-    let long = lent_size d d.work q.moving q.gives c.next_bytes.result.now c.next_bytes.ensures.bytes a.most q.left in
-    let same = stores_none a.storage.now n.new.self a.address n.result (take c.from-2.result c.next_bytes.result.now) none n.ensures.change in
-    subst (λ (s : Storage). MovesBytesBy a.key a.ccw a.address a.most (Err c.refusal.result) a.storage.now s d d d.work) (sym same)
+    let long = lent_size d d.work q.lies.moving q.gives c.next_bytes.result.now c.next_bytes.ensures.bytes p.count q.lies.left in
+    let same = stores_none a.storage.now n.new.self p.address n.result (take c.from-2.result c.next_bytes.result.now) none n.ensures.change in
+    subst (λ (s : Storage). MovesBytesBy p (Err c.refusal.result) a.storage.now s d d d.work) (sym same)
     (rw (c.refusal.ensures, same)
-    (gives_not a.key a.ccw a.address a.most a.storage.now d d.work q.moving q.gives (sym c.skips.ensures ∙ c.if-skips.false)
-    (at_zero a.storage.now a.key a.address n.result none (n.ensures.next (rw c.from-2.ensures (omega (arith, none, long, q.some)))))))
+    (gives_not p a.storage.now d d.work q.lies.moving q.gives (sym c.skips.ensures ∙ c.if-skips.false)
+    (at_zero a.storage.now p.key p.address n.result none (n.ensures.next (rw c.from-2.ensures (omega (arith, none, long, q.lies.some)))))))
 
 pub returns-then-n-eq0-clause-storage : goal.returns-then-n-eq0-clause-storage
-returns-then-n-eq0-clause-storage g c = keeps_put c.args.storage.now c.store-n.new.self c.args.address _ c.store-n.ensures.change
+returns-then-n-eq0-clause-storage g c = keeps_put c.args.storage.now c.store-n.new.self c.args.segment.now.address _ c.store-n.ensures.change
 
 pub returns-clause-moves : goal.returns-clause-moves
 returns-clause-moves g c =
     let a = c.args in
+    let p = a.segment.now in
     let d = a.drive.now in
     let q = c.requires in
     let n = c.store-n in
-    let long = lent_size d d.work q.moving q.gives c.next_bytes.result.now c.next_bytes.ensures.bytes a.most q.left in
-    let few : n.result ≤ a.most = omega (arith, rw c.from-2.ensures at n.ensures.bound, long) in
-    gives_so n.result a.key a.ccw a.address a.most a.storage.now n.new.self d c.pass-2.new.self d.work
-    (record { moving = q.moving; some = omega arith; few = few; left = q.left }) q.gives (λ i h. inr (may_be a.storage.now a.key (a.address + i) (n.ensures.each i h))) c.pass-2.ensures
-    (rw (sym c.skips.ensures ∙ c.if-skips.false) (n.ensures.change ∙ ap (stored a.storage.now a.address) (rw c.from-2.ensures (lends_first d d.work q.moving q.gives c.next_bytes.result.now c.next_bytes.ensures.bytes a.most n.result q.left few))))
+    let long = lent_size d d.work q.lies.moving q.gives c.next_bytes.result.now c.next_bytes.ensures.bytes p.count q.lies.left in
+    let few : n.result ≤ p.count = omega (arith, rw c.from-2.ensures at n.ensures.bound, long) in
+    gives_so n.result p a.storage.now n.new.self d c.pass-2.new.self d.work
+    (record { moving = q.lies.moving; some = omega arith; few = few; left = q.lies.left }) q.gives (λ i h. inr (may_be a.storage.now p.key (p.address + i) (n.ensures.each i h))) c.pass-2.ensures
+    (rw (sym c.skips.ensures ∙ c.if-skips.false) (n.ensures.change ∙ ap (stored a.storage.now p.address) (rw c.from-2.ensures (lends_first d d.work q.lies.moving q.gives c.next_bytes.result.now c.next_bytes.ensures.bytes p.count n.result q.lies.left few))))
 
 pub returns-clause-storage : goal.returns-clause-storage
-returns-clause-storage g c = keeps_put c.args.storage.now c.store-n.new.self c.args.address _ c.store-n.ensures.change
+returns-clause-storage g c = keeps_put c.args.storage.now c.store-n.new.self c.args.segment.now.address _ c.store-n.ensures.change

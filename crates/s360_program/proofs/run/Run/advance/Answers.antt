@@ -21,7 +21,8 @@ loop-left-preserved g c =
     let l = c.loop-left in
     let a = c.args in
     let n = c.in-Units.n in
-    let e = c.in-Units.ensures in
+    let e = c.in-Units.ensures.step in
+    let k = c.in-Units.ensures.calls in
     let w = e.steps in
     let d = a.units - l.left in
     let fewer = fewer_left a.units l.left n i.within w.few in
@@ -32,7 +33,7 @@ loop-left-preserved g c =
       fits = w.fits;
       no_check = λ q. w.no_check (i.no_check q);
       storage = record { size = e.storage.size ∙ i.storage.size; keys = e.storage.keys ∙ i.storage.keys };
-      calls = record { calls = omega (arith, w.some, w.few, i.within, e.calls.calls, i.calls.calls); lasting = e.calls.lasting ∙ i.calls.lasting; geometry = e.calls.geometry ∙ i.calls.geometry };
+      calls = record { calls = omega (arith, w.some, w.few, i.within, k.calls, i.calls.calls); lasting = k.lasting ∙ i.calls.lasting; geometry = k.geometry ∙ i.calls.geometry };
       walked = subst (λ done. walk (units done) a.self.now.key (phase_in (run_of a.self.now) a.storage.now a.drive.now) ≡ StandsIn (phase_in (run_of c.step.new.self) c.step.new.storage c.step.new.drive)) fewer
           (more_units a.self.now.key l.self.key (phase_in (run_of a.self.now) a.storage.now a.drive.now) (phase_in (run_of l.self) l.storage l.drive) (phase_in (run_of c.step.new.self) c.step.new.storage c.step.new.drive) d n i.key i.walked w.goes);
       quiet = still_quiet a.self.now.key l.self.key (phase_in (run_of a.self.now) a.storage.now a.drive.now) (phase_in (run_of l.self) l.storage l.drive) d n (a.units - (l.left - n)) a.drive.now l.drive c.step.new.drive i.key (omega (arith, w.few, i.within)) i.walked i.quiet e.quiet;
@@ -44,7 +45,7 @@ returns-in-Over-clause-advances g c =
     let l = c.loop-left in
     let a = c.args in
     let n = c.in-Over.n in
-    let w = c.in-Over.ensures.steps in
+    let w = c.in-Over.ensures.step.steps in
     let d = a.units - l.left in
     rw c.told.ensures
     (subst (λ n. CameToEnd a.self.now.key (phase_in (run_of a.self.now) a.storage.now a.drive.now) a.units n (told_of c.step.new.self) c.step.new.storage a.drive.now c.step.new.drive) (in_all d w.earlier n a.units l.left w.last i.within w.few)
@@ -56,4 +57,4 @@ returns-in-Over-clause-quiet g c =
     let i = c.loop-left.invariant in
     let l = c.loop-left in
     let a = c.args in
-    still_quiet a.self.now.key l.self.key (phase_in (run_of a.self.now) a.storage.now a.drive.now) (phase_in (run_of l.self) l.storage l.drive) (a.units - l.left) c.in-Over.n ((a.units - l.left) + c.in-Over.n) a.drive.now l.drive c.step.new.drive i.key (omega arith) i.walked i.quiet c.in-Over.ensures.quiet
+    still_quiet a.self.now.key l.self.key (phase_in (run_of a.self.now) a.storage.now a.drive.now) (phase_in (run_of l.self) l.storage l.drive) (a.units - l.left) c.in-Over.n ((a.units - l.left) + c.in-Over.n) a.drive.now l.drive c.step.new.drive i.key (omega arith) i.walked i.quiet c.in-Over.ensures.step.quiet

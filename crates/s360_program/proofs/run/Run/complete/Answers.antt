@@ -3,9 +3,9 @@ use Rattle.ckd_drive.specs.Work.{closed_of}
 use Rattle.s360_runs.specs.Endings.{ending}
 use Rattle.s360_runs.specs.Units.{EndsIn}
 use Rattle.s360_program.specs.Stands.{phase_in}
-use Rattle.s360_program.specs.Steps.{run_of, in_bytes, behind, count_of, IsQuiet, status_of}
+use Rattle.s360_program.specs.Steps.{run_of, in_bytes, segment_of, behind, count_of, IsQuiet, status_of}
 use Rattle.s360_program.proofs.Quiet.{first_quiet}
-use Rattle.s360_program.proofs.Transferring.{found, flows, moves_some, walked, moves_all, found_ends, all_moved, quiet_behind, checks, unit_steps, counts_one, refused_stays}
+use Rattle.s360_program.proofs.Transferring.{found, flows, moves_some, walked, moves_all, found_ends, all_told, all_moved, quiet_behind, checks, unit_steps, counts_one, refused_stays}
 use Rattle.s360_program.proofs.run.Run.complete.Goals as goal
 
 pub returns-in-Ok-2-clause-steps : goal.returns-in-Ok-2-clause-steps
@@ -36,7 +36,7 @@ returns-in-Ok g c =
     let q = c.requires in
     let b = c.move_bytes in
     let e = c.conclude in
-    let w = rw c.gives-gives.ensures at (c.is_all.ensures c.if-is_all.true) in
+    let w = rw c.gives-gives.ensures at (all_told c.in-Ok.m a.self.now.place.residual c.gives-gives.result (sym c.is_all.ensures ∙ c.if-is_all.true)) in
     let n = all_moved a.self.now a.drive.now q.fits q.some q.left c.in-Ok.m a.storage.now b.new.storage b.new.drive c.in-Ok.ensures.moves q.first w.0 w.1 in
     let is = c.behind.ensures ∙ sym (ap (λ n. behind n e.result) n) in
     record {
@@ -67,4 +67,4 @@ returns-in-Err-clause-quiet g c = λ h.
     let b = c.move_bytes in
     let e = c.stop in
     let k = first_quiet (run_of (in_bytes a.self.now)) a.storage.now a.drive.now (count_of e.result) a.self.now.key q.fits.stands (counts_one a.self.now.key (λ f. EndsIn b.new.storage (ending f a.self.now.key (run_of a.self.now).place (closed_of f b.new.drive b.new.drive.work) (status_of c.in-Err.condition))) e.result e.new.self b.new.storage b.new.drive e.new.drive (e.ensures.comes b.new.storage)) h in
-    e.ensures.quiet (subst IsQuiet (sym (refused_stays a.self.now.key a.self.now.ccw a.self.now.ccw.address a.self.now.place.residual c.in-Err.condition a.storage.now b.new.storage a.drive.now b.new.drive a.drive.now.work c.in-Err.ensures.moves)) k) ∙ b.ensures.image
+    e.ensures.quiet (subst IsQuiet (sym (refused_stays (segment_of (in_bytes a.self.now) a.self.now.place.residual) c.in-Err.condition a.storage.now b.new.storage a.drive.now b.new.drive a.drive.now.work c.in-Err.ensures.moves)) k) ∙ b.ensures.image

@@ -16,9 +16,9 @@ returns-then-not-chains-clause-steps g c = λ most s bytes p.
     let q = c.end_program in
     rw c.from.ensures (whole_steps r most s d bytes a.read c.requires.fits c.requires.stage p q.new.run (step.Over 1) q.new.drive (search rules) (
       refl,
-      concludes r.key (place_of (record r.place { residual = 0 })) k.result _ _ _ (passed_drive d bytes a.read p.gives) e.new.self q.new.drive e.result
+      concludes r.key (place_of (record r.place { residual = 0 })) k.result _ _ (passed_drive d bytes a.read p.gives) e.new.self q.new.drive e.result
           (passed_ends d bytes a.read p.gives e.result e.new.self c.requires.fits.stands.saved e.ensures.ending e.ensures.ended)
-          (record { calls = q.ensures.calls; reports = q.ensures.reported; is = q.ensures.ending }) r.ccw false k.ensures (sym c.chains.ensures ∙ c.if-not-chains.true),
+          q.ensures r.ccw false k.ensures (sym c.chains.ensures ∙ c.if-not-chains.true),
     ))
 
 pub returns-clause-steps : goal.returns-clause-steps

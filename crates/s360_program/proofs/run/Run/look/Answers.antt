@@ -1,13 +1,15 @@
 use Rattle.std.proofs.Common.{◌≡◌, ◌∙◌, ◌+◌, ◌<◌, ap, arith, length, List, rules, take, ℕ}
 use Rattle.std.specs.Prelude.{IsTrue}
 use Rattle.s360_words.specs.Storage.{Storage, may_store, stored}
+use Rattle.s360_program.specs.Stands.{phase_in}
+use Rattle.s360_program.specs.Steps.{run_of}
+use Rattle.s360_program.specs.declared.run.Step.TheVariants as step
 use Rattle.s360_program.proofs.MovingBytes.{keeps_put}
 use Rattle.s360_program.proofs.Wholes.{stores_all, takes_all}
-use Rattle.s360_program.proofs.Looking.{look_fails, look_passes, look_fits, look_finds, ready_left, ready_first, looking_within}
-use Rattle.s360_program.specs.Stands.{phase_in}
-use Rattle.s360_program.specs.Steps.{run_of, in_bytes, count_of}
-use Rattle.s360_program.proofs.Transferring.{over_once, counts_some}
-use Rattle.s360_program.proofs.Quiet.{finds_quiet, fails_quiet, first_quiet}
+use Rattle.s360_program.proofs.Looking.{Looked, look_fails, look_passes, look_fits, ready_left, ready_first, looking_within}
+use Rattle.s360_program.proofs.Quiet.{fails_quiet, looks_quiet}
+use Rattle.s360_program.proofs.Stepping.{kept, quietly, finds}
+use Rattle.s360_program.proofs.Transferring.{over_once}
 use Rattle.s360_program.proofs.run.Run.look.Goals as goal
 
 -- all bytes of a read that passes whole were stored
@@ -25,93 +27,81 @@ returns-in-Some g c =
     let all : n.result ≡ length x.bytes.now = stores_all a.storage.now a.self.now.key a.self.now.ccw.address n.result (length x.bytes.now) n.ensures.bound may n.ensures.next in
     let is = all_stored a.storage.now n.new.self a.self.now.ccw.address n.result x.bytes.now all n.ensures.change in
     record {
-      steps = rw is (t.ensures.steps a.most a.storage.now x.bytes.now p);
-      storage = keeps_put a.storage.now n.new.self a.self.now.ccw.address x.bytes.now is;
+      step = record {
+        steps = rw is (t.ensures.steps a.most a.storage.now x.bytes.now p);
+        storage = keeps_put a.storage.now n.new.self a.self.now.ccw.address x.bytes.now is;
+        quiet = t.ensures.quiet a.storage.now;
+      };
       calls = search rules;
-      quiet = t.ensures.quiet a.storage.now;
     }
 
-pub returns-in-Failed-clause-steps : goal.returns-in-Failed-clause-steps
-returns-in-Failed-clause-steps g c =
-    let a = c.args in
+pub returns-in-Failed : goal.returns-in-Failed
+returns-in-Failed g c =
+    let r = c.args.self.now in
+    let s = c.args.storage.now in
+    let d = c.args.drive.now in
     let l = c.in-Failed.ensures in
     let p = c.end_program in
-    over_once a.self.now.key (phase_in (run_of a.self.now) a.storage.now a.drive.now) a.most _ a.storage.now a.drive.now p.new.drive c.requires.some
-    (look_fails a.self.now a.storage.now a.drive.now c.look.new.self c.requires.fits c.requires.stage l.state _ _ p.new.drive l.answer l.calls l.reported p.ensures.calls p.ensures.reported p.ensures.ending)
+    let k : Looked r d c.look.new.self = record { fits = c.requires.fits; at = c.requires.stage; state = l.state; calls = l.calls; reports = l.reported } in
+    record {
+      step = quietly r p.new.run s s d p.new.drive c.args.most (step.Over 1) k.fits (kept s) (fails_quiet r d c.look.new.self p.new.drive k p.ensures.calls)
+          (over_once r.key (phase_in (run_of r) s d) c.args.most _ s d p.new.drive c.requires.some
+          (look_fails r s d c.look.new.self k _ p.new.drive l.answer p.ensures));
+      calls = search rules;
+    }
 
-pub returns-in-Passed-clause-steps : goal.returns-in-Passed-clause-steps
-returns-in-Passed-clause-steps g c =
-    let a = c.args in
+pub returns-in-Passed : goal.returns-in-Passed
+returns-in-Passed g c =
+    let r = c.args.self.now in
+    let s = c.args.storage.now in
+    let d = c.args.drive.now in
     let l = c.in-Passed.ensures in
-    look_passes a.self.now a.storage.now a.drive.now c.look.new.self c.requires.fits c.requires.stage l.state a.most c.requires.some l.answer l.reported
+    let k : Looked r d c.look.new.self = record { fits = c.requires.fits; at = c.requires.stage; state = l.state; calls = l.calls; reports = l.reported } in
+    record {
+      step = quietly r r s s d c.look.new.self c.args.most (step.Units 1) k.fits (kept s) (looks_quiet r d c.look.new.self k)
+          (look_passes r s d c.look.new.self k c.args.most c.requires.some l.answer);
+      calls = search rules;
+    }
 
-pub returns-in-Failed-clause-quiet : goal.returns-in-Failed-clause-quiet
-returns-in-Failed-clause-quiet g c = λ h.
-    let a = c.args in
-    let l = c.in-Failed.ensures in
-    let p = c.end_program in
-    fails_quiet a.self.now a.drive.now c.look.new.self p.new.drive c.requires.fits c.requires.stage l.state l.calls p.ensures.calls
-    (first_quiet (run_of a.self.now) a.storage.now a.drive.now 1 a.self.now.key c.requires.fits.stands (omega arith) h)
-
-pub returns-in-Passed-clause-quiet : goal.returns-in-Passed-clause-quiet
-returns-in-Passed-clause-quiet g c = λ h.
-    let a = c.args in
-    let k = first_quiet (run_of a.self.now) a.storage.now a.drive.now 1 a.self.now.key c.requires.fits.stands (omega arith) h in
-    search rules
-
-pub complete-requires-clause-fits : goal.complete-requires-clause-fits
-complete-requires-clause-fits g c =
-    let a = c.args in
+pub complete-requires : goal.complete-requires
+complete-requires g c =
+    let r = c.args.self.now in
+    let s = c.args.storage.now in
+    let d = c.args.drive.now in
     let l = c.in-Ready.ensures in
-    look_fits a.self.now a.storage.now a.drive.now c.look.new.self c.requires.fits c.requires.stage l.state c.in-Ready.left l.answer l.reported
-
-pub complete-requires-clause-some : goal.complete-requires-clause-some
-complete-requires-clause-some g c = (looking_within c.args.self.now c.args.drive.now c.requires.fits c.requires.stage).2
-
-pub complete-requires-clause-left : goal.complete-requires-clause-left
-complete-requires-clause-left g c =
-    let a = c.args in
-    let l = c.in-Ready.ensures in
-    omega (arith, ready_left a.self.now a.storage.now a.drive.now c.look.new.self c.requires.fits c.requires.stage l.state c.in-Ready.left l.answer l.reported, c.if-left-from.true)
-
-pub complete-requires-clause-first : goal.complete-requires-clause-first
-complete-requires-clause-first g c =
-    let a = c.args in
-    let l = c.in-Ready.ensures in
-    ready_first a.self.now a.storage.now a.drive.now c.look.new.self c.requires.fits c.requires.stage l.state c.in-Ready.left l.answer l.reported
+    let k : Looked r d c.look.new.self = record { fits = c.requires.fits; at = c.requires.stage; state = l.state; calls = l.calls; reports = l.reported } in
+    record {
+      fits = look_fits r s d c.look.new.self k c.in-Ready.left l.answer;
+      some = (looking_within r d k.fits k.at).2;
+      left = omega (arith, ready_left r s d c.look.new.self k c.in-Ready.left l.answer, c.if-left-from.true);
+      first = ready_first r s d c.look.new.self k c.in-Ready.left l.answer;
+      unchained = search rules;
+    }
 
 pub returns-then-not-chains_data : goal.returns-then-not-chains_data
 returns-then-not-chains_data g c =
-    let a = c.args in
-    let q = c.requires in
+    let r = c.args.self.now in
     let l = c.in-Ready.ensures in
     let t = c.complete in
-    let k = t.ensures.steps a.most (omega arith) in
     record {
-      steps = look_finds a.self.now a.storage.now a.drive.now c.look.new.self c.requires.fits c.requires.stage l.state c.in-Ready.left l.answer l.reported a.most t.new.self t.new.storage t.result t.new.drive t.ensures.loads k;
-      storage = search rules;
+      step = finds r t.new.self c.args.storage.now t.new.storage c.in-Ready.left c.args.most c.args.drive.now c.look.new.self t.new.drive
+          (record { fits = c.requires.fits; at = c.requires.stage; state = l.state; calls = l.calls; reports = l.reported }) l.answer t.ensures.loads
+          (record { steps = t.ensures.steps c.args.most (omega arith); storage = t.ensures.storage; quiet = t.ensures.quiet });
       calls = search rules;
-      quiet = finds_quiet a.self.now a.storage.now c.in-Ready.left (count_of t.result) a.drive.now c.look.new.self t.new.drive q.fits q.stage l.state l.answer l.reported l.calls
-          (counts_some a.self.now.key (phase_in (run_of (in_bytes a.self.now)) a.storage.now c.look.new.self) a.most t.result t.new.self t.new.storage c.look.new.self t.new.drive k) t.ensures.quiet;
     }
 
 pub transfer-requires-clause-fits : goal.transfer-requires-clause-fits
 transfer-requires-clause-fits g c =
-    let a = c.args in
     let l = c.in-Ready.ensures in
-    look_fits a.self.now a.storage.now a.drive.now c.look.new.self c.requires.fits c.requires.stage l.state c.in-Ready.left l.answer l.reported
+    look_fits c.args.self.now c.args.storage.now c.args.drive.now c.look.new.self
+    (record { fits = c.requires.fits; at = c.requires.stage; state = l.state; calls = l.calls; reports = l.reported }) c.in-Ready.left l.answer
 
 pub returns-else-left-from : goal.returns-else-left-from
 returns-else-left-from g c =
-    let a = c.args in
-    let q = c.requires in
     let l = c.in-Ready.ensures in
     let t = c.transfer in
-    let some = counts_some a.self.now.key (phase_in (run_of (in_bytes a.self.now)) a.storage.now c.look.new.self) a.most t.result t.new.self t.new.storage c.look.new.self t.new.drive t.ensures.steps in
     record {
-      steps = look_finds a.self.now a.storage.now a.drive.now c.look.new.self c.requires.fits c.requires.stage l.state c.in-Ready.left l.answer l.reported a.most t.new.self t.new.storage t.result t.new.drive t.ensures.loads t.ensures.steps;
-      storage = search rules;
+      step = finds c.args.self.now t.new.self c.args.storage.now t.new.storage c.in-Ready.left c.args.most c.args.drive.now c.look.new.self t.new.drive
+          (record { fits = c.requires.fits; at = c.requires.stage; state = l.state; calls = l.calls; reports = l.reported }) l.answer t.ensures.loads t.ensures.step;
       calls = search rules;
-      quiet = finds_quiet a.self.now a.storage.now c.in-Ready.left (count_of t.result) a.drive.now c.look.new.self t.new.drive q.fits q.stage l.state l.answer l.reported l.calls some
-          (λ h. t.ensures.quiet (first_quiet (run_of (in_bytes a.self.now)) a.storage.now c.look.new.self (count_of t.result) a.self.now.key (look_fits a.self.now a.storage.now a.drive.now c.look.new.self c.requires.fits c.requires.stage l.state c.in-Ready.left l.answer l.reported).stands some h));
     }
