@@ -10,3 +10,4 @@ pub mod Starts
 pub mod Takes
 pub mod Standing
 pub mod Looks
+pub mod Wholes

@@ -47,7 +47,7 @@ use Rattle.ckd_position.specs.declared.extents.Extent.TheVariants as extent
 use Rattle.ckd_command.proofs.Sights.{passing, sight_by}
 use Rattle.ckd_slot.specs.Buffer.{HasBytes}
 
-on_track : (e : Extent) (t : Sighted) (a : Area) → IsOnTrack (track_or_none t) a → HasBytes e t a
+pub on_track : (e : Extent) (t : Sighted) (a : Area) → IsOnTrack (track_or_none t) a → HasBytes e t a
 on_track extent.Count t (Of part i) on = on
 on_track extent.CountKeyAndData t (Of part i) on = on
 on_track _ t _ on = tt

@@ -9,12 +9,16 @@ use Rattle.ckd_command.specs.Answers.{Beginning, ToCylinderZero, Sight, NextHead
 use Rattle.ckd_command.specs.declared.close.DriveEnding.{DriveEnding}
 use Rattle.ckd_command.specs.declared.begin.Opened.{Opened}
 use Rattle.ckd_command.specs.Tables.{aim, action_of, is_giving}
-use Rattle.ckd_command.specs.Commands.{ending_status, in_motion_status, unit_check_status, beginning, sight, closing}
+use Rattle.ckd_position.specs.declared.areas.Area.TheVariants.{Of}
+use Rattle.ckd_position.specs.declared.areas.Part.TheVariants.{Data}
+use Rattle.ckd_position.specs.declared.areas.Position.TheVariants.{At}
+use Rattle.ckd_command.specs.Commands.{ending_status, unit_exception_status, in_motion_status, unit_check_status, beginning, sight, closing}
 use Rattle.ckd_command.specs.Drive.{State, with_registers, Fault, LoadFails, SaveFails, Open, AfterBegin, Rejected, Immediate, Started, AfterLook, Ready, Passed, Failed, Closed, begin, look, given, length_of, close, saving, left_by, begin_program, drive_of, first_drive, number_under, track_under, is_written, tells_equipment_check, no_sense}
 use Rattle.ckd_drive.specs.declared.answers.Begun.{Begun}
 use Rattle.ckd_drive.specs.declared.answers.Begun.TheVariants as begun
 use Rattle.ckd_drive.specs.declared.answers.Look.{Look}
 use Rattle.ckd_drive.specs.declared.answers.Look.TheVariants as looked
+use Rattle.ckd_drive.specs.declared.answers.WholeRead.{WholeRead}
 use Rattle.ckd_drive.specs.declared.answers.Phase.{Phase}
 use Rattle.ckd_drive.specs.declared.answers.Phase.TheVariants as phase
 
@@ -296,6 +300,33 @@ pub record Reports (so : Type 0) (old new : DriveState) : Type 0 where
       ⊎ (so × (tells_equipment_check new.state.registers.sense ≡ true) × (is_written new.state ≡ false))
   pub good : new.image.failures ≡ old.image.failures → tells_equipment_check new.state.registers.sense ≡ true
       → tells_equipment_check old.state.registers.sense ≡ true
+
+-- A read that passes whole.
+
+-- how a read ends all of whose bytes passed at once: where its record has no data, that is reported
+abbrev pub whole_ending : WholeRead → DriveEnding
+whole_ending read = record {
+  unit = record { 0 = if read.no_data then unit_exception_status else ending_status };
+  motion = false;
+}
+
+-- the state then: the record's data passed last, and nothing else changes
+abbrev pub state_behind : State → WholeRead → State
+state_behind s read = with_registers s (record s.registers { position = At (Of Data read.record) })
+
+-- A command that looks for its area finds it on the track under the arm with its next look, which saves nothing; it gives
+-- just these bytes, and once all of them have passed it ends so, and saves nothing.
+pub record GivesWhole (d : DriveState) (bytes : List ℕ) (read : WholeRead) : Type 0 where
+  pub asked : Opened
+  pub opened : Opened
+  pub works : d.work ≡ Looking asked
+  pub finds : look None (open_at d asked) ≡ Ready (open_at d opened)
+  pub stays : look_saves_of d (Looking asked) ≡ false
+  pub gives : is_giving (action_of opened.command) ≡ true
+  pub given : given (open_at d opened) ≡ bytes
+  pub ends : close None (open_at d opened) bytes
+      ≡ record { state = state_behind d.state read; unit = (whole_ending read).unit; motion = false }
+  pub keeps : end_saves_of d (Passing opened bytes 0) ≡ false
 
 -- A new drive.
 

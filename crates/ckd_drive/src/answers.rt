@@ -30,7 +30,8 @@ pub enum Phase {
     Idle,
     /// A command is over: `end`, or `settle` in its place.
     Over,
-    /// A command works, and its area is not found yet, or the index passed: `look`, or `settle` to cut it.
+    /// A command works, and its area is not found yet, or the index passed: `look`, or `settle` to cut it; or `end_whole`,
+    /// where `whole_read` lent its bytes.
     Looking,
     /// A command works, and the drive gives bytes: `give` of no more than are left, `look` and `end`; or `settle` to cut it,
     /// where none has passed.
@@ -48,6 +49,15 @@ pub enum Phase {
         /// How many more may pass by the last look.
         left: usize,
     },
+}
+
+/// How a read ends all of whose bytes pass at once.
+#[derive(Clone, Copy, Debug, PartialEq, Eq)]
+pub struct WholeRead {
+    /// The number of its record.
+    pub record: usize,
+    /// Whether that has no data.
+    pub no_data: bool,
 }
 
 /// What a drive does.

@@ -11,7 +11,8 @@ mod laws;
 mod look;
 mod transfer;
 mod view;
+mod whole;
 
-pub use crate::answers::{Begun, Look, Phase};
+pub use crate::answers::{Begun, Look, Phase, WholeRead};
 pub use crate::drive::Drive;
 pub use crate::laws::{each_call_tells, each_trail_tells};

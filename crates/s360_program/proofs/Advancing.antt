@@ -25,7 +25,7 @@ met_since None d0 d1 d2 e m = m ∙ e
 met_since (Some LoadFails) d0 d1 d2 e m = m.0 ∙ ap (λ n. n + 1) e
 met_since (Some (SaveFails left)) d0 d1 d2 e m = m ∙ ap (λ n. n + 1) e
 
--- the last unit
+-- the last unit; it names both ends and the middle of the walk before it and of the unit, which it joins
 pub last_unit : (key k : ℕ) (phase at : ProgramPhase) (done asked : ℕ) (told : Csw × Bool) (s : Storage) (d0 d1 d2 : DriveState) → k ≡ key → walk (units done) key phase ≡ StandsIn at → d1.image.failures ≡ d0.image.failures → done < asked
     → EndsBy (λ f. unit f k at) told s d1 d2 → CameToEnd key phase asked (done + 1) told s d0 d2
 last_unit key k phase at done asked told s d0 d1 d2 e before same few h = record {

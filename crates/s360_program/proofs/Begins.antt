@@ -2,7 +2,6 @@
 use Rattle.std.proofs.Common.{◌≡◌, ℕ, ◌+◌, refl, sym, ap, subst, ◌∙◌, arith, true, false, Bool, List, Option, Some, None, ◌≤◌, ◌<◌, ◌^◌, ◌&&◌}
 use Rattle.ckd_image.specs.Image.{ImageState}
 use Rattle.s360_words.specs.Storage.{Storage}
-use Rattle.s360_words.specs.declared.flags.TheConstants.ChannelStatus.{PROGRAM_CHECK}
 use Rattle.s360_words.specs.declared.words.Ccw.{Ccw}
 use Rattle.s360_words.specs.declared.words.Csw.{Csw}
 use Rattle.ckd_command.specs.Drive.{Fault, SaveFails, AfterBegin, Rejected, Immediate, Started, begin, drive_of, is_written, unsaved, tells_equipment_check}
@@ -14,8 +13,7 @@ use Rattle.s360_runs.specs.Places.{Place, fetch, NoCcw, GoodCcw, past_ccw, past_
 use Rattle.s360_runs.specs.Status.{no_channel_status, with_interruption, tells}
 use Rattle.s360_runs.specs.Units.{Between, unit, next_fetched, next_begun, next_chosen, GoesOn}
 use Rattle.ckd_drive.specs.Work.{DriveState, Over, fault_met, with_image, CallsStore, Reports, after_begun, after_begin, answer_of_begin, immediate_ending, closed_of, begin_saves, goes_to_cylinder_zero}
-use Rattle.s360_program.specs.Advances.{IsEnding}
-use Rattle.s360_program.specs.Steps.{EndsBy, ComesBy, status_of, condition_for}
+use Rattle.s360_program.specs.Steps.{EndsBy, ComesBy, Settles, status_of, condition_for}
 use Rattle.ckd_drive.specs.declared.answers.Begun.TheVariants as begun
 use Rattle.s360_program.specs.declared.conditions.ChannelCondition.TheVariants as condition
 use Rattle.s360_program.specs.declared.run.Run.{Run}
@@ -52,13 +50,12 @@ immediate_is (Started o) d0 d1 a e = absurd (cc a)
 
 -- No command is there.
 
-pub misses : (key : ℕ) (p q : Place) (s : Storage) (told : Csw × Bool) (So : Type 0) (d0 d2 : DriveState) → NoCcw ≡ fetch s p true → unsaved d0.state ≡ None
-    → CallsStore false (is_written d0.state) d0 d2 → Reports So d0 d2
-    → q ≡ past_no_ccw p → IsEnding (ending (fault_met d0 d2) key q (untouched d0.state) PROGRAM_CHECK) told d2
+pub misses : (key : ℕ) (p q : Place) (s : Storage) (told : Csw × Bool) (d0 d2 : DriveState) → NoCcw ≡ fetch s p true → unsaved d0.state ≡ None
+    → q ≡ past_no_ccw p → Settles (untouched d0.state) key q condition.ProgramCheck told d0 d2
     → EndsBy (λ f. unit f key (Between (record { storage = s; place = p; state = d0.state }))) told s d0 d2
-misses key p q s told So d0 d2 h saved settles tells_of past is =
-    ends_now (λ f. unit f key (Between (record { storage = s; place = p; state = d0.state }))) (untouched d0.state) key (past_no_ccw p) condition.ProgramCheck s told So d0 d2 refl saved
-    (record { calls = settles; reports = tells_of; is = subst (λ q. IsEnding (ending (fault_met d0 d2) key q (untouched d0.state) PROGRAM_CHECK) told d2) past is })
+misses key p q s told d0 d2 h saved past end =
+    ends_now (λ f. unit f key (Between (record { storage = s; place = p; state = d0.state }))) (untouched d0.state) key (past_no_ccw p) condition.ProgramCheck s told d0 d2 refl saved
+    (subst (λ q. Settles (untouched d0.state) key q condition.ProgramCheck told d0 d2) past end)
     (λ f. ap (next_fetched f key (record { storage = s; place = p; state = d0.state })) (sym h))
 
 -- A command is there.
@@ -72,13 +69,12 @@ module _ (key : ℕ) (p : Place) (s : Storage) (ccw : Ccw) (d0 d1 : DriveState) 
   calm_begun = begin_calm _ ccw.code d0.state (calm_before d0 saved)
 
   -- the drive rejects it
-  pub rejects : (told : Csw × Bool) (So : Type 0) (d2 : DriveState) → begun.Rejected ≡ answer_of_begin (begin (fault_met d0 d1) ccw.code d0.state)
+  pub rejects : (told : Csw × Bool) (d2 : DriveState) → begun.Rejected ≡ answer_of_begin (begin (fault_met d0 d1) ccw.code d0.state)
       → CallsStore false (begin_saves ccw.code d0) d0 d1 → Reports (begun.Rejected ≡ begun.Rejected) d0 d1
-      → CallsStore false (is_written d1.state) d1 d2 → Reports So d1 d2
-      → (q : Place) → q ≡ past_ccw p ccw → IsEnding (ending (fault_met d1 d2) key q (failed d1.state) no_channel_status) told d2
+      → (q : Place) → q ≡ past_ccw p ccw → Settles (failed d1.state) key q condition.Clear told d1 d2
       → EndsBy (λ f. unit f key (Between (record { storage = s; place = p; state = d0.state }))) told s d0 d2
-  rejects told So d2 answer calls reports settles tells_of q past is =
-      ends_after (λ f. unit f key (Between before)) (failed d1.state) key (past_ccw p ccw) condition.Clear s told So (λ f. begin f ccw.code d0.state ≡ Rejected d1.state) (begun.Rejected ≡ begun.Rejected)
+  rejects told d2 answer calls reports q past end =
+      ends_after (λ f. unit f key (Between before)) (failed d1.state) key (past_ccw p ccw) condition.Clear s told (λ f. begin f ccw.code d0.state ≡ Rejected d1.state) (begun.Rejected ≡ begun.Rejected)
       false (begin_saves ccw.code d0) d0 d1 d2
       (record {
         stable = λ at left w. begin_stable ccw.code d0.state left (Rejected d1.state) at w;
@@ -89,7 +85,7 @@ module _ (key : ℕ) (p : Place) (s : Storage) (ccw : Ccw) (d0 d1 : DriveState) 
         calls = calls;
         reports = reports;
       })
-      (record { calls = settles; reports = tells_of; is = subst (λ q. IsEnding (ending (fault_met d1 d2) key q (failed d1.state) no_channel_status) told d2) past is })
+      (subst (λ q. Settles (failed d1.state) key q condition.Clear told d1 d2) past end)
       (λ f at. ap (next_fetched f key before) (sym there) ∙ ap (next_begun f key (requested before ccw)) at)
 
   -- it is over at once

@@ -18,13 +18,13 @@ use Rattle.s360_runs.specs.Unsaved.{GainsNoCheck}
 use Rattle.ckd_drive.specs.Work.{DriveState, Work, Idle, Over, Looking, Passing, fault_met, with_image, CallsStore, Reports, after_end, closed_of, ending_of, end_saves, failed_ending}
 use Rattle.s360_program.specs.Place.{place_of, modified_place}
 use Rattle.s360_program.specs.Stands.{StageFits, StageWithin, PlaceWithin, phase_by}
-use Rattle.s360_program.specs.Steps.{EndsBy, GoesBy, closed_with, request_at, status_of, condition_for, chains_after}
+use Rattle.s360_program.specs.Steps.{EndsBy, GoesBy, Settles, closed_with, request_at, status_of, condition_for, chains_after}
 use Rattle.s360_program.specs.declared.conditions.ChannelCondition.{ChannelCondition}
 use Rattle.s360_program.specs.declared.run.Run.{Run}
 use Rattle.s360_program.specs.Stage.{stage_of}
 use Rattle.s360_program.specs.Stage as stage
 use Rattle.s360_program.proofs.Cases.{never}
-use Rattle.s360_program.proofs.Meeting.{unfailed, Settles, ends_after, met_none}
+use Rattle.s360_program.proofs.Meeting.{unfailed, ends_after, met_none}
 
 -- a drive in which no track is reported as not saved, before any call
 pub calm_before : (d : DriveState) → unsaved d.state ≡ None → Calm (tells_equipment_check (drive_of d.state).sense ≡ false) d.state
@@ -58,11 +58,11 @@ pub record EndsCommand (e : DriveEnding) (d0 d1 : DriveState) : Type 0 where
   pub calls : CallsStore false (end_saves d0) d0 d1
   pub reports : Reports (e ≡ failed_ending) d0 d1
 
-module _ (key : ℕ) (p : Place) (k : ChannelCondition) (s : Storage) (told : Csw × Bool) (So : Type 0) (d0 d1 d2 : DriveState) (e : DriveEnding)
-    (over : EndsCommand e d0 d1) (end : Settles So (closed_with d1.state e) key p k told d1 d2) where
+module _ (key : ℕ) (p : Place) (k : ChannelCondition) (s : Storage) (told : Csw × Bool) (d0 d1 d2 : DriveState) (e : DriveEnding)
+    (over : EndsCommand e d0 d1) (end : Settles (closed_with d1.state e) key p k told d1 d2) where
   ends_closed : (next : Option Fault → Next) → ((f : Option Fault) → closed_of f d0 d0.work ≡ closed_with d1.state e → next f ≡ EndsIn s (ending f key p (closed_with d1.state e) (status_of k))) → EndsBy next told s d0 d2
   ends_closed next =
-      ends_after next (closed_with d1.state e) key p k s told So (λ f. closed_of f d0 d0.work ≡ closed_with d1.state e) (e ≡ failed_ending) false (end_saves d0) d0 d1 d2
+      ends_after next (closed_with d1.state e) key p k s told (λ f. closed_of f d0 d0.work ≡ closed_with d1.state e) (e ≡ failed_ending) false (end_saves d0) d0 d1 d2
       (record {
         stable = λ at left w. closed_stable d0 d0.work left (closed_with d1.state e) at w;
         calm = λ at. subst (λ (c : Closed). Calm (tells_equipment_check (drive_of d0.state).sense ≡ false) c.state) at (closed_calm d0 d0.work over.saved);

@@ -11,3 +11,4 @@ pub mod Advancing
 pub mod Cutting
 pub mod Quiet
 pub mod Stepping
+pub mod Wholes

@@ -3,21 +3,19 @@ use Rattle.std.proofs.Common.{◌≡◌, ℕ, zero, suc, ◌+◌, ◌<◌, refl,
 use Rattle.s360_words.specs.Storage.{Storage}
 use Rattle.s360_words.specs.declared.words.Csw.{Csw}
 use Rattle.ckd_command.specs.declared.begin.Opened.{Opened}
-use Rattle.ckd_command.specs.Drive.{Open, Fault, AfterLook, Ready, Passed, Failed, look, length_of, drive_of, is_written, tells_equipment_check}
+use Rattle.ckd_command.specs.Drive.{Open, Fault, AfterLook, Ready, Passed, Failed, look, length_of, drive_of, tells_equipment_check}
 use Rattle.ckd_command.proofs.Marks.{Calm, LookCalm, look_calm}
 use Rattle.ckd_command.proofs.Stable.{look_stable}
 use Rattle.ckd_drive.specs.declared.answers.Look.TheVariants as seen
 use Rattle.ckd_drive.specs.Work.{DriveState, Work, Idle, Over, Looking, Passing, fault_met, with_image, CallsStore, Reports, after_sight, after_look, after_look_of, answer_of_look, failed_ending, look_loads, look_saves, left_of, passed_of}
-use Rattle.s360_runs.specs.Endings.{ending, failed}
+use Rattle.s360_runs.specs.Endings.{failed}
 use Rattle.s360_runs.specs.Scripts.{units}
-use Rattle.s360_runs.specs.Status.{no_channel_status}
 use Rattle.s360_runs.specs.Transfers.{Request}
 use Rattle.s360_runs.specs.Units.{ProgramPhase, unit, next_looked, walk, on_next, StandsIn}
 use Rattle.s360_runs.specs.Units as phase
-use Rattle.s360_program.specs.Advances.{IsEnding}
 use Rattle.s360_program.specs.Place.{place_of}
 use Rattle.s360_program.specs.Stands.{StageFits, StageWithin, phase_by, phase_in}
-use Rattle.s360_program.specs.Steps.{run_of, Fits, EndsBy, OverBy, Steps, WalksBy, told_of}
+use Rattle.s360_program.specs.Steps.{run_of, Fits, EndsBy, OverBy, Settles, Steps, WalksBy, told_of}
 use Rattle.s360_program.specs.declared.conditions.ChannelCondition.TheVariants as condition
 use Rattle.s360_program.specs.declared.run.Run.{Run}
 use Rattle.s360_program.specs.Stage.{stage_by, stage_of}
@@ -95,11 +93,11 @@ module _ (r : Run) (s : Storage) (d0 d1 : DriveState) (k : Looked r d0 d1) where
   calm_look : LookCalm (tells_equipment_check (drive_of d0.state).sense ≡ false) (look None O)
   calm_look = look_calm _ O (calm_before d0 k.fits.stands.saved)
 
-  pub look_fails : (told : Csw × Bool) (So : Type 0) (d2 : DriveState) → seen.Failed ≡ answer_of_look d1.work → CallsStore false (is_written d1.state) d1 d2 → Reports So d1 d2
-      → IsEnding (ending (fault_met d1 d2) r.key (place_of r.place) (failed d1.state) no_channel_status) told d2
+  pub look_fails : (told : Csw × Bool) (d2 : DriveState) → seen.Failed ≡ answer_of_look d1.work
+      → Settles (failed d1.state) r.key (place_of r.place) condition.Clear told d1 d2
       → EndsBy (λ f. unit f r.key (phase_in (run_of r) s d0)) told s d0 d2
-  look_fails told So d2 answer settles tells_of is =
-      ends_after (λ f. unit f r.key (phase_in (run_of r) s d0)) (failed d1.state) r.key (place_of r.place) condition.Clear s told So (λ f. look f O ≡ Failed d1.state) (d1.work ≡ Over failed_ending)
+  look_fails told d2 answer end =
+      ends_after (λ f. unit f r.key (phase_in (run_of r) s d0)) (failed d1.state) r.key (place_of r.place) condition.Clear s told (λ f. look f O ≡ Failed d1.state) (d1.work ≡ Over failed_ending)
       (look_loads d0) (look_saves d0) d0 d1 d2
       (record {
         stable = λ h left w. look_stable left O (Failed d1.state) h tt;
@@ -110,7 +108,7 @@ module _ (r : Run) (s : Storage) (d0 d1 : DriveState) (k : Looked r d0 d1) where
         calls = k.calls;
         reports = k.reports;
       })
-      (record { calls = settles; reports = tells_of; is = is }) (λ f h. ap (unit f r.key) looks ∙ ap (next_looked f r.key Q) h)
+      end (λ f h. ap (unit f r.key) looks ∙ ap (next_looked f r.key Q) h)
 
   not_over : (w : Work) (l : seen.the_data) → l ≡ answer_of_look w → (l ≡ seen.Failed → ⊥) → w ≡ Over failed_ending → ⊥
   not_over w l e n h = n (e ∙ ap answer_of_look h)

@@ -21,7 +21,7 @@ use Rattle.s360_runs.specs.Units.{Next, EndsIn}
 use Rattle.s360_runs.specs.Unsaved.{GainsNoCheck}
 use Rattle.ckd_drive.specs.Work.{DriveState, fault_met, CallsStore, Reports}
 use Rattle.s360_program.specs.Advances.{IsEnding, TellsFault, CallsAtMost}
-use Rattle.s360_program.specs.Steps.{IsMetBy, ToldOf, EndsBy, ComesBy, told_of, status_of}
+use Rattle.s360_program.specs.Steps.{IsMetBy, ToldOf, EndsBy, ComesBy, Settles, told_of, status_of}
 use Rattle.s360_program.specs.declared.conditions.ChannelCondition.{ChannelCondition}
 use Rattle.s360_program.specs.declared.conditions.ChannelCondition.TheVariants as condition
 use Rattle.s360_program.specs.declared.run.Run.{Run}
@@ -150,14 +150,8 @@ pub record Call (At : Option Fault → Type 0) (Failed : Type 0) (l m : Bool) (c
   pub calls : CallsStore l m d0 d1
   pub reports : Reports Failed d0 d1
 
--- the end of the program, which settles the drive
-pub record Settles (So : Type 0) (c : Closed) (key : ℕ) (p : Place) (k : ChannelCondition) (told : Csw × Bool) (d1 d2 : DriveState) : Type 0 where
-  pub calls : CallsStore false (is_written d1.state) d1 d2
-  pub reports : Reports So d1 d2
-  pub is : IsEnding (ending (fault_met d1 d2) key p c (status_of k)) told d2
-
-module _ (next : Option Fault → Next) (c : Closed) (key : ℕ) (p : Place) (k : ChannelCondition) (s : Storage) (told : Csw × Bool) (So : Type 0) where
-  pub ends_after : (At : Option Fault → Type 0) (Failed : Type 0) (l m : Bool) (d0 d1 d2 : DriveState) → Call At Failed l m c d0 d1 → Settles So c key p k told d1 d2
+module _ (next : Option Fault → Next) (c : Closed) (key : ℕ) (p : Place) (k : ChannelCondition) (s : Storage) (told : Csw × Bool) where
+  pub ends_after : (At : Option Fault → Type 0) (Failed : Type 0) (l m : Bool) (d0 d1 d2 : DriveState) → Call At Failed l m c d0 d1 → Settles c key p k told d1 d2
       → ((f : Option Fault) → At f → next f ≡ EndsIn s (ending f key p c (status_of k))) → EndsBy next told s d0 d2
   ends_after At Failed l m d0 d1 d2 call end nexts = by_count call.calls.failures call.reports.failed
     where
@@ -173,7 +167,7 @@ module _ (next : Option Fault → Next) (c : Closed) (key : ℕ) (p : Place) (k 
       }
       second h at (Some LoadFails) m is = absurd (omega (arith, m.1, loads_none (is_written d1.state) d1 d2 end.calls))
       second h at (Some (SaveFails left)) m is =
-          let x = saving_failed (is_written d1.state) So d1 d2 end.calls end.reports m in
+          let x = saving_failed (is_written d1.state) _ d1 d2 end.calls end.reports m in
           let w : is_written c.state ≡ true = ap is_written call.same ∙ x.0 in
           record {
             fault = Some (SaveFails left);
@@ -223,7 +217,7 @@ module _ (next : Option Fault → Next) (c : Closed) (key : ℕ) (p : Place) (k 
       by_count (inr x) (inl h) = second h (subst At (met_none d0 d1 h) call.at) (fault_met d1 d2) (met_by false (is_written d1.state) d1 d2 end.calls) end.is
 
   -- The program ends by one call of the drive, its last.
-  pub ends_now : (d0 d2 : DriveState) → c.state ≡ d0.state → unsaved d0.state ≡ None → Settles So c key p k told d0 d2
+  pub ends_now : (d0 d2 : DriveState) → c.state ≡ d0.state → unsaved d0.state ≡ None → Settles c key p k told d0 d2
       → ((f : Option Fault) → next f ≡ EndsIn s (ending f key p c (status_of k))) → EndsBy next told s d0 d2
   ends_now d0 d2 same saved end nexts =
       ends_after (λ f. Unit {0}) ⊥ false false d0 d0 d2 (record {
@@ -255,6 +249,7 @@ more_after At next later s told d0 d1 d2 e at stable same loads quiet is = go is
     go (Some LoadFails) m n t = absurd (omega (arith, m.1, loads))
     go (Some (SaveFails left)) m n t = by (Some (SaveFails left)) (m ∙ ap (λ n. n + 1) same) (e (Some (SaveFails left)) (stable left m) ∙ n) t
 
+-- the same where the unit goes on; it names the drive before, between and behind the calls, since it joins what is said of each two
 pub comes_after : (At : Option Fault → Type 0) (next later : Option Fault → Next) (key : ℕ) (s : Storage) (r : Run) (a : Step) (d0 d1 d2 : DriveState)
     → ((f : Option Fault) → At f → next f ≡ later f) → At None → ((left : List ℕ) → d2.image.failures ≡ d1.image.failures + 1 → At (Some (SaveFails left)))
     → d1.image.failures ≡ d0.image.failures → d2.image.loads ≡ d1.image.loads → GainsNoCheck (drive_of d0.state) (drive_of d1.state)

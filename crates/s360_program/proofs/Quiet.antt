@@ -57,7 +57,8 @@ phase_quiet r s d t =
 pub first_quiet : (r : RunningState) (s : Storage) (d : DriveState) (n key : ℕ) → Stands r d → 0 < n → NeedNoStore key (phase_in r s d) n → IsQuiet d
 first_quiet r s d n key t some h = phase_quiet r s d t (h 0 (phase_in r s d) some refl)
 
--- and units of which each needs no call make none, where the next ones make none either
+-- and units of which each needs no call make none, where the next ones make none either; it names both ends and the middle of two
+-- walks that it joins
 pub still_quiet : (key k : ℕ) (phase at : ProgramPhase) (done n more : ℕ) (d0 d1 d2 : DriveState) → k ≡ key → done + n ≤ more → walk (units done) key phase ≡ StandsIn at
     → (NeedNoStore key phase done → d1.image ≡ d0.image) → (NeedNoStore k at n → d2.image ≡ d1.image) → NeedNoStore key phase more → d2.image ≡ d0.image
 still_quiet key k phase at done n more d0 d1 d2 e few walked before now h =

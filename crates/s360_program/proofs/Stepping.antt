@@ -32,7 +32,8 @@ pub one_unit : (r r2 : Run) (s s2 : Storage) (d0 d2 : DriveState) (most : ℕ) (
 one_unit r r2 s s2 d0 d2 most a fits some keeps quiet comes =
     quietly r r2 s s2 d0 d2 most a fits keeps quiet (unit_steps r.key (phase_in (run_of r) s d0) most r2 s2 a d0 d2 some comes)
 
--- a look that finds the area, and the step that goes on from there
+-- a look that finds the area, and the step that goes on from there; it names run, storage and drive before, between and behind, since
+-- it joins the two
 pub finds : (r r2 : Run) (s s2 : Storage) (left most : ℕ) (d0 d1 d2 : DriveState) {a : Step} → Looked r d0 d1 → seen.Ready left ≡ answer_of_look d1.work → d2.image.loads ≡ d1.image.loads
     → IsStep (in_bytes r) s d1 most a r2 s2 d2 → IsStep r s d0 most a r2 s2 d2
 finds r r2 s s2 left most d0 d1 d2 {a} k answer loads is = record {

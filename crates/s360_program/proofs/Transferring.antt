@@ -246,6 +246,8 @@ pub record IsLeast (few most residual left : ℕ) : Type 0 where
   pub counted : few ≤ residual
   pub has : few ≤ left
 
+-- so many bytes move at once; it names storage and drive before and behind them, and the drive that was asked, since it joins what is
+-- said of each two of them
 pub moves_on : (r : Run) (most few m n : ℕ) (s s2 : Storage) (d0 d1 d2 : DriveState) (flow : Flow) → Fits r d0 → r.comes ≡ comes.Bytes → Flows flow d0 d1
     → IsLeast few most r.place.residual flow.left → MovesBytes (segment_of r few) s d1 (Ok m) s2 d2 → n ≡ m
     → WalksBy r.key (phase_in (run_of r) s d0) most m (record r { place = record r.place { residual = r.place.residual - m }; address = r.address + n }) s2 d0 d2
@@ -290,6 +292,7 @@ behind_bytes g m p s s2 d d2 (Passing o b left) q le =
     let k = q.2 p le in
     rw k.drive (ap (λ n. left - n) k.count, length-append b _ ∙ ap (λ n. length b + n) k.count, refl, refl, refl)
 
+-- one unit behind so many bytes; it names what stands before the bytes, between, and behind, since it joins two walks
 unit_behind : (key m most : ℕ) (phase : ProgramPhase) (r r2 : Run) (s s2 : Storage) (a : Step) (d0 d1 d2 : DriveState) → m < most → walk (units m) key phase ≡ StandsIn (phase_in (run_of r) s d1)
     → ComesBy key (λ f. unit f key (phase_in (run_of r) s d1)) a r2 s2 d0 d2 → Steps key phase most (behind m a) r2 s2 d0 d2
 unit_behind key m most phase r r2 s s2 (step.Units n) d0 d1 d2 few walked c =

@@ -1,7 +1,7 @@
 -- What the parts of a unit come to.
-use Rattle.std.specs.Prelude.{◌≡◌, ℕ, ◌+◌, ◌≤◌, ◌<◌, ◌^◌, [], ◌∷◌, Bool, true, false, not, ◌&&◌, ◌||◌, ◌==◌, Option, Some, None, is_none, Result, Ok, Err, length, if◌then◌else◌}
-use Rattle.s360_words.specs.Storage.{Storage}
-use Rattle.s360_words.specs.Words.{chains_command, chains_data}
+use Rattle.std.specs.Prelude.{◌≡◌, ℕ, ◌+◌, ◌≤◌, ◌<◌, ◌^◌, [], ◌∷◌, Bool, true, false, not, ◌&&◌, ◌||◌, ◌==◌, Option, Some, None, is_none, Result, Ok, Err, length, if◌then◌else◌, List, IsTrue}
+use Rattle.s360_words.specs.Storage.{Storage, may_store}
+use Rattle.s360_words.specs.Words.{chains_command, chains_data, skips}
 use Rattle.s360_words.specs.declared.flags.ChannelStatus.{ChannelStatus}
 use Rattle.s360_words.specs.declared.flags.TheConstants.ChannelStatus.{INCORRECT_LENGTH, PROGRAM_CHECK, PROTECTION_CHECK}
 use Rattle.s360_words.specs.declared.flags.TheConstants.UnitStatus.{UNIT_CHECK}
@@ -9,11 +9,12 @@ use Rattle.s360_words.specs.declared.flags.UnitStatus.{UnitStatus}
 use Rattle.s360_words.specs.declared.words.Ccw.{Ccw}
 use Rattle.s360_words.specs.declared.words.Csw.{Csw}
 use Rattle.ckd_command.specs.declared.close.DriveEnding.{DriveEnding}
-use Rattle.ckd_command.specs.Drive.{State, Open, Closed, Fault, LoadFails, SaveFails, length_of, drive_of, is_written}
+use Rattle.ckd_command.specs.Drive.{State, Open, Closed, Fault, LoadFails, SaveFails, length_of, drive_of, is_written, unsaved}
 use Rattle.ckd_command.specs.Tables.{action_of, is_giving}
-use Rattle.ckd_drive.specs.Work.{DriveState, Work, Passing, passed_of, left_of, moved_on, closed_of, look_loads}
+use Rattle.ckd_drive.specs.Work.{DriveState, Work, Passing, passed_of, left_of, moved_on, closed_of, fault_met, look_loads, CallsStore, Reports, GivesWhole}
+use Rattle.ckd_drive.specs.declared.answers.WholeRead.{WholeRead}
 use Rattle.s360_runs.specs.Commands.{Point}
-use Rattle.s360_runs.specs.Endings.{Ending, csw_at}
+use Rattle.s360_runs.specs.Endings.{Ending, ending, csw_at}
 use Rattle.s360_runs.specs.Laws.{MayMove}
 use Rattle.s360_runs.specs.Places.{Place}
 use Rattle.s360_runs.specs.Scripts.{units}
@@ -118,6 +119,14 @@ behind m (step.Over n) = step.Over (m + 1)
 -- what is reported of a program that ended: its key, and where the channel is in it, are the run's
 abbrev pub told_of : Run → Csw × Bool
 told_of r = (csw_at r.key (place_of r.place) r.ended.unit r.ended.channel, r.ended.motion)
+
+-- a program ends where its last command is over so: the track that was written is saved, and the ending is told
+pub record Settles (c : Closed) (key : ℕ) (p : Place) (k : ChannelCondition) (told : Csw × Bool)
+    (old new : DriveState) : Type 0 where
+  pub calls : CallsStore false (is_written old.state) old new
+  pub reports : Reports
+      (unsaved new.state ≡ Some (old.state.registers.cylinder, old.state.registers.head)) old new
+  pub is : IsEnding (ending (fault_met old new) key p c (status_of k)) told new
 
 -- one unit, which goes on or ends the program
 abbrev pub ComesBy : (key : ℕ) → (Option Fault → Next) → Step → Run → Storage → (old new : DriveState) → Type 0
@@ -261,6 +270,17 @@ MovesBytesBy g r s s_new d d_new w = ⊥
 -- bytes move at once, at least one; or the first may not
 abbrev pub MovesBytes : Segment → Storage → DriveState → Result ℕ ChannelCondition → Storage → DriveState → Type 0
 MovesBytes g s d r s_new d_new = MovesBytesBy g r s s_new d d_new d.work
+
+-- A command that looks for its area is a read that passes whole: the drive has just as many bytes as its word counts, and
+-- has them at hand; all of them may be stored; no further area follows; and more units are asked for than there are bytes.
+pub record PassesWhole (r : Run) (most : ℕ) (s : Storage) (d : DriveState) (bytes : List ℕ)
+    (read : WholeRead) : Type 0 where
+  pub gives : GivesWhole d bytes read
+  pub counts : length bytes ≡ r.place.residual
+  pub few : r.place.residual < most
+  pub unchained : chains_data r.ccw ≡ false
+  pub stores : skips r.ccw ≡ false
+  pub may : (i : ℕ) → i < r.place.residual → IsTrue (may_store s r.key (r.ccw.address + i))
 
 -- whether the count is spent, and the next word has a further area of the same command
 abbrev pub chains_by : Stage → Bool

@@ -6,7 +6,7 @@ ghost use Rattle.s360_runs.specs.Endings.{ending};
 ghost use Rattle.ckd_drive.specs.Work.{passed_of, fault_met, CallsStore, Reports};
 ghost use Rattle.s360_program.specs.Advances.{IsEnding};
 ghost use Rattle.s360_program.specs.Place.{place_of};
-ghost use Rattle.s360_program.specs.Steps.{status_of, closed_with, told_of};
+ghost use Rattle.s360_program.specs.Steps.{Settles, status_of, closed_with, told_of};
 
 use crate::conditions::{ChannelCondition, csw_at, with_interruption};
 use crate::run::{Ended, Run};
@@ -25,11 +25,8 @@ pub(crate) fn end_program<S: ImageStore>(
     drive: &mut Drive<S>,
 )
     requires { passed_of drive.old.work ≡ [] }
-    ensures ending { IsEnding (ending (fault_met drive.old drive.new) run.old.key (place_of run.old.place)
-        (closed_with drive.old.state drive_ending) (status_of condition)) (told_of run.new) drive.new }
-    ensures calls { CallsStore false (is_written drive.old.state) drive.old drive.new }
-    ensures reported { Reports (unsaved drive.new.state
-        ≡ Some (drive.old.state.registers.cylinder, drive.old.state.registers.head)) drive.old drive.new }
+    ensures { Settles (closed_with drive.old.state drive_ending) run.old.key (place_of run.old.place) condition
+        (told_of run.new) drive.old drive.new }
 {
     let unit = match drive.settle() {
         Ok(()) => drive_ending.unit,

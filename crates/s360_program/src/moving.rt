@@ -1,7 +1,9 @@
 //! Bytes between storage and a drive, as many at once as may pass (Principles of Operation, Input/Output Operations: 'Skipping',
 //! 'Program Check', 'Protection Check').
 
-ghost use Rattle.std.specs.Prelude.{nat_lt, ◌≡◌, ◌+◌, true, false, length, slice_range, ◌||◌, ◌==◌};
+ghost use Rattle.std.specs.Prelude.{nat_lt, ◌≡◌, ◌+◌, true, false, length, slice_range, ◌||◌, ◌==◌, ℕ, ◌<◌, ◌≤◌, ◌^◌, IsTrue};
+ghost use Rattle.s360_words.specs.declared.words.Ccw.{Ccw};
+ghost use Rattle.s360_words.specs.Storage.{may_store};
 ghost use Rattle.ckd_drive.specs.Work.{left_of, gives_now, takes_now, given_now, passed_of, moved_on};
 ghost use Rattle.s360_program.specs.Advances.{KeepsStorage};
 ghost use Rattle.s360_program.specs.Steps.{Flows, HasFound, LiesWithin, MovesBytes, refused};
@@ -136,6 +138,19 @@ fn read<S: ImageStore>(
     }
     drive.pass(n);
     Ok(n as u16)
+}
+
+/// Whether so many bytes may be stored with this key from an address on.
+// Key 0 by itself, which may store into every block: then no block's key is asked.
+#[inline(always)]
+pub(crate) fn admits_all(storage: &Storage, address: u32, count: u16, key: u8) -> bool
+    requires { key < 16 }
+    ensures { result ≡ true → (i : ℕ) → i < count → IsTrue (may_store storage.now key (address + i)) }
+{
+    if key == 0 {
+        return address as usize + usize::from(count) <= storage.size() as usize;
+    }
+    storage.storable(address, u32::from(count), key) == u32::from(count)
 }
 
 // Why no byte may be stored at an address: it is outside storage, or its block is protected.

@@ -11,9 +11,9 @@ returns-then-not-chains-clause-comes g c = λ s.
     let k = c.of_length-condition in
     let p = c.end_program in (
       refl,
-      concludes a.self.now.key (place_of a.self.now.place) k.result s _ _ a.drive.now e.new.self p.new.drive e.result
+      concludes a.self.now.key (place_of a.self.now.place) k.result s _ a.drive.now e.new.self p.new.drive e.result
           (record { saved = c.requires.saved; state = e.ensures.state; ending = e.ensures.ending; calls = e.ensures.calls; reports = e.ensures.reported })
-          (record { calls = p.ensures.calls; reports = p.ensures.reported; is = p.ensures.ending }) a.ccw a.incorrect k.ensures (sym c.chains.ensures ∙ c.if-not-chains.true),
+          p.ensures a.ccw a.incorrect k.ensures (sym c.chains.ensures ∙ c.if-not-chains.true),
     )
 
 pub returns-clause-comes : goal.returns-clause-comes

@@ -1,12 +1,39 @@
-use Rattle.std.proofs.Common.{arith, rules}
+use Rattle.std.proofs.Common.{◌≡◌, ◌∙◌, ◌+◌, ◌<◌, ap, arith, length, List, rules, take, ℕ}
+use Rattle.std.specs.Prelude.{IsTrue}
+use Rattle.s360_words.specs.Storage.{Storage, may_store, stored}
 use Rattle.s360_program.specs.Stands.{phase_in}
 use Rattle.s360_program.specs.Steps.{run_of}
 use Rattle.s360_program.specs.declared.run.Step.TheVariants as step
+use Rattle.s360_program.proofs.MovingBytes.{keeps_put}
+use Rattle.s360_program.proofs.Wholes.{stores_all, takes_all}
 use Rattle.s360_program.proofs.Looking.{Looked, look_fails, look_passes, look_fits, ready_left, ready_first, looking_within}
 use Rattle.s360_program.proofs.Quiet.{fails_quiet, looks_quiet}
 use Rattle.s360_program.proofs.Stepping.{kept, quietly, finds}
 use Rattle.s360_program.proofs.Transferring.{over_once}
 use Rattle.s360_program.proofs.run.Run.look.Goals as goal
+
+-- all bytes of a read that passes whole were stored
+all_stored : (s s2 : Storage) (a n : ℕ) (bytes : List ℕ) → n ≡ length bytes → s2 ≡ stored s a (take n bytes) → s2 ≡ stored s a bytes
+all_stored s s2 a n bytes all is = is ∙ ap (stored s a) (takes_all bytes n all)
+
+pub returns-in-Some : goal.returns-in-Some
+returns-in-Some g c =
+    let a = c.args in
+    let x = c.in-Some in
+    let p = x.ensures in
+    let n = c.store in
+    let t = c.finish in
+    let may : (i : ℕ) → i < length x.bytes.now → IsTrue (may_store a.storage.now a.self.now.key (a.self.now.ccw.address + i)) = λ i h. p.may i (omega (arith, h, p.counts)) in
+    let all : n.result ≡ length x.bytes.now = stores_all a.storage.now a.self.now.key a.self.now.ccw.address n.result (length x.bytes.now) n.ensures.bound may n.ensures.next in
+    let is = all_stored a.storage.now n.new.self a.self.now.ccw.address n.result x.bytes.now all n.ensures.change in
+    record {
+      step = record {
+        steps = rw is (t.ensures.steps a.most a.storage.now x.bytes.now p);
+        storage = keeps_put a.storage.now n.new.self a.self.now.ccw.address x.bytes.now is;
+        quiet = t.ensures.quiet a.storage.now;
+      };
+      calls = search rules;
+    }
 
 pub returns-in-Failed : goal.returns-in-Failed
 returns-in-Failed g c =
@@ -19,7 +46,7 @@ returns-in-Failed g c =
     record {
       step = quietly r p.new.run s s d p.new.drive c.args.most (step.Over 1) k.fits (kept s) (fails_quiet r d c.look.new.self p.new.drive k p.ensures.calls)
           (over_once r.key (phase_in (run_of r) s d) c.args.most _ s d p.new.drive c.requires.some
-          (look_fails r s d c.look.new.self k _ _ p.new.drive l.answer p.ensures.calls p.ensures.reported p.ensures.ending));
+          (look_fails r s d c.look.new.self k _ p.new.drive l.answer p.ensures));
       calls = search rules;
     }
 

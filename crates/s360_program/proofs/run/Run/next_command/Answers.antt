@@ -9,8 +9,7 @@ returns-in-NoCcw-clause-comes g c =
     let a = c.args in
     let p = c.end_program in (
       refl,
-      misses a.self.now.key (place_of a.self.now.place) (place_of c.miss.new.self) a.storage.now _ _ a.drive.now p.new.drive c.in-NoCcw.ensures.fetched c.requires.fits.stands.saved
-          p.ensures.calls p.ensures.reported c.miss.ensures p.ensures.ending,
+      misses a.self.now.key (place_of a.self.now.place) (place_of c.miss.new.self) a.storage.now _ a.drive.now p.new.drive c.in-NoCcw.ensures.fetched c.requires.fits.stands.saved c.miss.ensures p.ensures,
     )
 
 pub returns-in-Rejected-clause-comes : goal.returns-in-Rejected-clause-comes
@@ -20,7 +19,7 @@ returns-in-Rejected-clause-comes g c =
     let p = c.end_program-in-Rejected in (
       refl,
       rejects a.self.now.key (place_of a.self.now.place) a.storage.now c.in-GoodCcw.ccw a.drive.now c.begin.new.self c.in-GoodCcw.ensures.fetched c.requires.fits.stands.saved b.state
-          _ _ p.new.drive b.answer b.calls b.reported p.ensures.calls p.ensures.reported (place_of c.go_by.new.self) c.go_by.ensures (rw c.keep.ensures at p.ensures.ending),
+          _ p.new.drive b.answer b.calls b.reported (place_of c.go_by.new.self) c.go_by.ensures (rw c.keep.ensures at p.ensures),
     )
 
 pub returns-in-Immediate : goal.returns-in-Immediate

@@ -9,7 +9,7 @@ returns-clause-comes g c = λ s.
     let e = c.end-ending in
     let p = c.end_program in (
       refl,
-      stops a.self.now.key (place_of a.self.now.place) a.condition s _ _ a.drive.now e.new.self p.new.drive e.result
+      stops a.self.now.key (place_of a.self.now.place) a.condition s _ a.drive.now e.new.self p.new.drive e.result
           (record { saved = c.requires.saved; state = e.ensures.state; ending = e.ensures.ending; calls = e.ensures.calls; reports = e.ensures.reported })
-          (record { calls = p.ensures.calls; reports = p.ensures.reported; is = p.ensures.ending }),
+          p.ensures,
     )

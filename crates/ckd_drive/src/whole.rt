@@ -1,0 +1,109 @@
+//! A read all of whose bytes pass at once: they are found before anything is changed, and nothing half done is kept.
+
+ghost use Rattle.std.specs.Prelude.{◌≡◌, List, ℕ, IfSome};
+ghost use Rattle.ckd_command.specs.declared.begin.Opened.{Opened};
+ghost use Rattle.ckd_command.specs.declared.registers.Mark.{Mark as MarkValue};
+ghost use Rattle.ckd_command.specs.declared.tables.Action.TheVariants.{Read};
+ghost use Rattle.ckd_command.specs.declared.tables.Aim.TheVariants.{Next as Aims};
+ghost use Rattle.ckd_command.specs.Commands.{IsAtTrack};
+ghost use Rattle.ckd_command.specs.Tables.{aim, action_of};
+ghost use Rattle.ckd_drive.specs.declared.answers.Stage.TheVariants as stage;
+ghost use Rattle.ckd_drive.specs.Invariant.{state_of};
+ghost use Rattle.ckd_drive.specs.Jobs.{parts_held};
+ghost use Rattle.ckd_drive.specs.Work.{Idle, GivesWhole, whole_ending, state_behind};
+
+use crate::answers::{Stage, WholeRead};
+use crate::drive::Drive;
+use crate::job::Job;
+use ckd_command::{CHANNEL_AND_DEVICE_END, DriveEnding, tables};
+use ckd_image::ImageStore;
+use ckd_position::{Area, Kind, Next, Part, Position};
+use ckd_sense::Command;
+use ckd_sense::Command::{ReadCountKeyAndData, ReadData};
+use s360_words::UnitStatus;
+
+// Channel end, device end and unit exception.
+const END_WITH_UNIT_EXCEPTION: UnitStatus = UnitStatus(0x0D);
+
+impl<S: ImageStore> Job<S> {
+    // The bytes of this read, if the next area of this kind is on the track at hand.
+    #[inline(always)]
+    fn whole_of(&self, command: Command, kind: Kind) -> Option<(&[u8], WholeRead)>
+        requires arm { IsAtTrack self.now.cache.image.geometry self.now.registers }
+        requires command { command ≡ self.now.opened.command }
+        requires aim { aim command ≡ Aims kind }
+        requires reads { action_of command ≡ Read }
+        ensures { (m : MarkValue) → IfSome result (λ x. GivesWhole (state_of (parts_held self.now m stage.Looking))
+            x.0.now x.1) }
+    {
+        let geometry = self.cache.geometry();
+        let track = geometry.track_at(self.registers.cylinder, self.registers.head);
+        let buffer = self.cache.at_hand(track)?;
+        if !buffer.is_readable() {
+            return None;
+        }
+        let Next::Found(area) = buffer.next_area(self.registers.position, kind) else {
+            return None;
+        };
+        let extent = tables::extent(command);
+        let Area::Of(Part::Data, record) = tables::area_left(extent, area) else {
+            return None;
+        };
+        if !tables::ends_with_data(extent) {
+            return None;
+        }
+        let (window, no_data) = buffer.part(extent, area);
+        let bytes = &buffer.bytes()[window.start..window.start + window.len];
+        Some((bytes, WholeRead { record, no_data }))
+    }
+
+    // The same, of the command that looks for its area: the commonest reads, by themselves.
+    #[inline(always)]
+    fn whole(&self) -> Option<(&[u8], WholeRead)>
+        requires { IsAtTrack self.now.cache.image.geometry self.now.registers }
+        ensures { (m : MarkValue) → IfSome result (λ x. GivesWhole (state_of (parts_held self.now m stage.Looking))
+            x.0.now x.1) }
+    {
+        match self.opened.command {
+            ReadData => self.whole_of(ReadData, Kind::Data),
+            ReadCountKeyAndData => self.whole_of(ReadCountKeyAndData, Kind::LaterCount),
+            _ => None,
+        }
+    }
+}
+
+impl<S: ImageStore> Drive<S> {
+    /// All bytes of the command at hand, if it is a read that looks for its area, and finds it with its next look on the
+    /// track that is at hand already; and how it then ends. Nothing changes. There may be none also where a `look` finds the
+    /// area: it answers for the commonest reads alone (component descriptions, 'Read Data' and 'Read Count, Key and Data').
+    #[inline(always)]
+    pub fn whole_read(&self) -> Option<(&[u8], WholeRead)>
+        ensures { IfSome result (λ x. GivesWhole self.now x.0.now x.1) }
+    {
+        match self.stage {
+            Stage::Looking => self.job.whole(),
+            _ => None,
+        }
+    }
+
+    /// Ends a read whose bytes `whole_read` lent, once all of them have passed: by a look, `pass` of them all, and `end`
+    /// it would come to the same. Answers the unit status; the arm does not move.
+    #[inline(always)]
+    pub fn end_whole(&mut self, read: WholeRead) -> DriveEnding
+        requires { (bytes : List ℕ) × GivesWhole self.old bytes read }
+        ensures ended { self.new ≡ record self.old { state = state_behind self.old.state read; work = Idle } }
+        ensures ending { result ≡ whole_ending read }
+    {
+        self.job.registers.position = Position::At(Area::Of(Part::Data, read.record));
+        self.stage = Stage::Idle;
+        let unit = if read.no_data {
+            END_WITH_UNIT_EXCEPTION
+        } else {
+            CHANNEL_AND_DEVICE_END
+        };
+        DriveEnding {
+            unit,
+            motion: false,
+        }
+    }
+}
