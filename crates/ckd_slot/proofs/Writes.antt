@@ -26,7 +26,7 @@ use Rattle.ckd_slot.specs.declared.charges.Charged.{Charged}
 use Rattle.ckd_position.specs.declared.extents.Extent.{Extent}
 use Rattle.ckd_position.specs.declared.extents.Extent.TheVariants as extent
 use Rattle.ckd_slot.specs.declared.windows.Window.{Window}
-use Rattle.ckd_slot.proofs.AreaPlaces.{Reads, parts_there, how_many}
+use Rattle.ckd_slot.proofs.AreaPlaces.{Reads, reads, parts_there, how_many}
 use Rattle.ckd_slot.proofs.Lengths.{lengths_of}
 
 -- The table.
@@ -106,8 +106,7 @@ pub length-kept : (t : Track) (before : Option ℕ) → ForSome before (λ i. i 
 length-kept t before lt = ap length (kept_take t before) ∙ omega (arith, length-take (number_up_to before) t.records, up_to_le t before lt)
 
 -- what is known of a new record that fits
-pub record Fitting (slot : List ℕ) (model : DriveModel) (before : Option ℕ) (after : Option Area) (count : List ℕ) : Type 0 where
-  pub fits : fits_track model after count (track_of slot) ≡ true
+pub record Fitting (slot : List ℕ) (before : Option ℕ) (after : Option Area) (count : List ℕ) : Type 0 where
   pub spells : Spells slot (track_in slot)
   pub bytes : AreBytes count
   pub eight : length count ≡ 8
@@ -119,14 +118,13 @@ pub record Fitting (slot : List ℕ) (model : DriveModel) (before : Option ℕ) 
 -- by what the code asked of the track as it sees it, and by the answer
 pub fitting : (slot : List ℕ) (model : DriveModel) (before : Option ℕ) (after : Option Area) (count : List ℕ) (seen : Track) (n : ℕ) (answer : Bool) → Spells slot (track_in slot) → AreBytes count → length count ≡ 8
     → kept_records before (track_in slot) ≡ kept (track_of slot) after → ForSome before (λ i. i < length (track_in slot).records) → track_of slot ≡ Ok seen → n ≡ number_up_to before
-    → answer ≡ has_room model (take n seen.records) (key_length count) (data_length count) → answer ≡ true → capacity_of model + 37 ≤ length slot → Fitting slot model before after count
+    → answer ≡ has_room model (take n seen.records) (key_length count) (data_length count) → answer ≡ true → capacity_of model + 37 ≤ length slot → Fitting slot before after count × (fits_track model after count (track_of slot) ≡ true)
 fitting slot model before after count seen n answer s b eight same there read is by_sum holds size =
     let same_track : track_in slot ≡ seen = ap track_or_none read in
     let has : has_room model (kept_records before (track_in slot)) (key_length count) (data_length count) ≡ true = rw (kept_take (track_in slot) before, same_track, ← is) (sym by_sum ∙ holds) in
     let S : Track → Type 0 = λ x. length (spelling x) ≤ capacity_of model + 37 in
     let le = subst S (formatted_is slot before after count eight same) (leaves_room model (track_in slot) before (key_length count) (data_length count) s.home_address s.records has count (replicate (body_length count) 0) eight refl refl (length-replicate {A = ℕ} (body_length count) 0)) in
-    record {
-      fits = ap (λ (rs : List Record). has_room model rs (key_length count) (data_length count)) (sym same) ∙ has;
+    (record {
       spells = s;
       bytes = b;
       eight = eight;
@@ -134,9 +132,15 @@ fitting slot model before after count seen n answer s b eight same there read is
       same = same;
       there = there;
       room = omega (arith, le, size);
-    }
+    }, ap (λ (rs : List Record). has_room model rs (key_length count) (data_length count)) (sym same) ∙ has)
 
-module _ {slot : List ℕ} {model : DriveModel} {before : Option ℕ} {after : Option Area} {count : List ℕ} (k : Fitting slot model before after count) where
+-- by what a caller knows of it
+pub formatting : {slot offsets : List ℕ} {records : Option ℕ} {zeros_from : ℕ} {charged : Charged} (before : Option ℕ) (after : Option Area) (count : List ℕ) → IsBuffer slot offsets records zeros_from charged → is_readable (track_of slot) ≡ true
+    → AreBytes count → length count ≡ 8 → bytes_eq count end_mark ≡ false → kept_records before (track_in slot) ≡ kept (track_of slot) after → ForSome before (λ i. i < length (track_in slot).records)
+    → FitsSlot (length slot) (formatted (track_of slot) after count) → Fitting slot before after count
+formatting before after count x r bytes eight no_mark same there f = record { spells = (reads x r).spells; bytes = bytes; eight = eight; no_mark = no_mark; same = same; there = there; room = f.room }
+
+module _ {slot : List ℕ} {before : Option ℕ} {after : Option Area} {count : List ℕ} (k : Fitting slot before after count) where
   -- the new record, and the track with it
   abbrev zeros : List ℕ
   zeros = replicate (body_length count) 0
@@ -219,6 +223,22 @@ module _ {slot : List ℕ} {model : DriveModel} {before : Option ℕ} {after : O
       ap record_size there ∙ sym (length-record_bytes (record_at (count ++ zeros)) makes_new.is_record) ∙ ap length makes_new.all ∙ all in
       let long : length (record_in made number).key_area + length (record_in made number).data_area ≡ body_length count = omega (arith, size) in
       rw (offset, long) refl)
+
+  -- the place that the new record has
+  pub place_is : (w : Window) → IsPlaceOf extent.KeyAndData made (Of part.Data (length (kept (track_of slot) after))) w → w ≡ record { start = end_of_records (track_in slot) (number_up_to before) + 8; len = body_length count }
+  place_is w p =
+      let i = length (kept (track_of slot) after) in
+      let same : i ≡ number_up_to before = ap (λ (rs : List Record). length rs) (sym k.same) ∙ length-kept (track_in slot) before k.there in
+      let last : i < length made.records = omega (arith, length-append (kept (track_of slot) after) (new_record count ∷ [])) in
+      p last ∙ sym (format_place i (end_of_records (track_in slot) (number_up_to before)) same refl last)
+
+  -- the record that begins with these bytes
+  pub written_slot : (w : Window) (bytes : List ℕ) → w ≡ record { start = end_of_records (track_in slot) (number_up_to before) + 8; len = body_length count }
+      → overwritten (ended_at (overwritten (overwritten slot (w.start - 8) count) w.start (replicate w.len 0)) (w.start + w.len)) w.start bytes ≡ overwritten (slot_of (length slot) made) w.start bytes
+  written_slot w bytes is =
+      let at = end_of_records (track_in slot) (number_up_to before) in
+      let e : at + 8 - 8 ≡ at = omega arith in
+      rw (is, e) (ap (λ (x : List ℕ). overwritten x (at + 8) bytes) format_slot)
 
 -- Other bytes in a record's areas.
 

@@ -5,7 +5,7 @@ use Rattle.ckd_track.specs.declared.model.DriveModel.{DriveModel}
 use Rattle.ckd_position.specs.declared.areas.Area.{Area}
 use Rattle.ckd_position.specs.declared.areas.Area.TheVariants.{HomeAddress, Of}
 use Rattle.ckd_position.specs.declared.areas.Part.TheVariants as part
-use Rattle.ckd_track.specs.Changes.{IsZeroFrom}
+use Rattle.ckd_track.specs.Changes.{IsZeroFrom, overwritten}
 use Rattle.ckd_track.specs.Charges.{capacity_left, has_room}
 use Rattle.ckd_slot.specs.declared.windows.Window.{Window}
 use Rattle.ckd_slot.specs.declared.charges.Charged.{Charged}
@@ -132,9 +132,11 @@ pub record HasFormatted (model : DriveModel) (size : ℕ) (after : Option Area) 
   pub spelled : FitsSlot size (formatted t after count)
   pub place : IsPlaceOf extent.KeyAndData (formatted t after count) (Of part.Data number) rest
 
--- the slot is that of the track with the new record, or stays where that does not fit
-abbrev pub Formats : DriveModel → Option Area → (count old new : List ℕ) → Option (ℕ × Window) → Type 0
-Formats model after count old new (Some n) =
-    HasFormatted model (length old) after count (track_of old) n.0 n.1
-    × (new ≡ slot_of (length old) (formatted (track_of old) after count))
-Formats model after count old new None = (fits_track model after count (track_of old) ≡ false) × (new ≡ old)
+-- where the key and data of a new record would stand behind this area; none where it does not fit the track
+abbrev pub Places : DriveModel → (size : ℕ) → Option Area → (count : List ℕ) → Sighted → Option Window → Type 0
+Places model size after count t (Some w) = HasFormatted model size after count t (length (kept t after)) w
+Places model size after count t None = fits_track model after count t ≡ false
+
+-- a slot of this track has its records where they are once these bytes stand at the place
+abbrev pub BeginsRecord : (size : ℕ) → Track → Window → (bytes : List ℕ) → Type 0
+BeginsRecord size t w bytes = SameRecords (slot_of size t) (overwritten (slot_of size t) w.start bytes)
