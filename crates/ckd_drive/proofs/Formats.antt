@@ -20,7 +20,7 @@ use Rattle.ckd_command.specs.Commands.{Closing, command_end, own_home_address, n
 use Rattle.ckd_slot.specs.Buffer.{HasFormatted, BeginsRecord, SameRecords, fits_track, lengths_on}
 use Rattle.ckd_slot.specs.Cache.{CacheState, with_held, slot_held, after_format}
 use Rattle.ckd_drive.specs.declared.transfer.Written.TheVariants as written
-use Rattle.ckd_drive.specs.Invariant.{HalfDone, Works, MayTake, Absorbs, HasDue, HasFilled, IsFound, at_work, number_due, own_slot, seen_with, with_taken, own_track, action_now, IsFilled, AtHand, slot_at, track_under, whole_of, AtWork, geometry_in, action_in}
+use Rattle.ckd_drive.specs.Invariant.{HalfDone, Works, MayTake, Absorbs, HasDue, HasFilled, IsFound, at_work, number_due, own_slot, with_taken, own_track, action_now, IsFilled, AtHand, slot_at, track_under, whole_of, AtWork, geometry_in, action_in}
 use Rattle.ckd_slot.proofs.Writes.{update_length, update_place}
 use Rattle.ckd_drive.proofs.Fills.{there, new_slot_at, reads_new, Filling, room_of, ClosesFilled, form_filled, filled_absorbs, length-padded, padded_whole}
 use Rattle.ckd_command.proofs.Closings.{formats_on}

@@ -5,7 +5,7 @@ use Rattle.std.proofs.Math.Seq.{take-add}
 use Rattle.ckd_track.specs.Track.{end_mark}
 use Rattle.ckd_track.specs.Changes.{overwritten, ended_at, IsZeroFrom}
 use Rattle.ckd_track.proofs.Rewritten.{length-overwritten, take-overwritten, overwritten-middle}
-use Rattle.ckd_track.proofs.Zeros.{zero_over, zero_front}
+use Rattle.ckd_track.proofs.Zeros.{zero_front}
 
 -- zeros from there on are zeros from a later place on
 pub zero_later : (s : List ℕ) (z k : ℕ) → IsZeroFrom s z → z ≤ k → k ≤ length s → IsZeroFrom s k

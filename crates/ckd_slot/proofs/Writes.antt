@@ -123,16 +123,18 @@ fitting slot model before after count seen n answer s b eight same there read is
     let same_track : track_in slot ≡ seen = ap track_or_none read in
     let has : has_room model (kept_records before (track_in slot)) (key_length count) (data_length count) ≡ true = rw (kept_take (track_in slot) before, same_track, ← is) (sym by_sum ∙ holds) in
     let S : Track → Type 0 = λ x. length (spelling x) ≤ capacity_of model + 37 in
-    let le = subst S (formatted_is slot before after count eight same) (leaves_room model (track_in slot) before (key_length count) (data_length count) s.home_address s.records has count (replicate (body_length count) 0) eight refl refl (length-replicate {A = ℕ} (body_length count) 0)) in
-    (record {
-      spells = s;
-      bytes = b;
-      eight = eight;
-      no_mark = no_end_mark model (kept_records before (track_in slot)) count has;
-      same = same;
-      there = there;
-      room = omega (arith, le, size);
-    }, ap (λ (rs : List Record). has_room model rs (key_length count) (data_length count)) (sym same) ∙ has)
+    let le = subst S (formatted_is slot before after count eight same) (leaves_room model (track_in slot) before (key_length count) (data_length count) s.home_address s.records has count (replicate (body_length count) 0) eight refl refl (length-replicate {A = ℕ} (body_length count) 0)) in (
+      record {
+        spells = s;
+        bytes = b;
+        eight = eight;
+        no_mark = no_end_mark model (kept_records before (track_in slot)) count has;
+        same = same;
+        there = there;
+        room = omega (arith, le, size);
+      },
+      ap (λ (rs : List Record). has_room model rs (key_length count) (data_length count)) (sym same) ∙ has,
+    )
 
 -- by what a caller knows of it
 pub formatting : {slot offsets : List ℕ} {records : Option ℕ} {zeros_from : ℕ} {charged : Charged} (before : Option ℕ) (after : Option Area) (count : List ℕ) → IsBuffer slot offsets records zeros_from charged → is_readable (track_of slot) ≡ true

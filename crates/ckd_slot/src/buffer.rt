@@ -18,8 +18,8 @@ use crate::windows::Window;
 use ckd_image::{Image, ImageStore, StoreFault};
 use ckd_position::{Area, Extent, Kind, Next, Position, next_area};
 use ckd_track::{
-    COUNT_LENGTH, DriveModel, RECORDS_START, body_length, clear_area, data_length,
-    index_slot, key_length, overwrite, put_end_mark, put_home_address, view_at,
+    COUNT_LENGTH, DriveModel, RECORDS_START, body_length, clear_area, data_length, index_slot,
+    key_length, overwrite, put_end_mark, put_home_address, view_at,
 };
 use std::alloc::{AllocError, Global};
 use std::marker::Model;
@@ -158,13 +158,7 @@ fn end_with_zeros(slot: &mut [u8], at: usize, n: usize, zeros_from: usize)
 
 // Writes these count bytes before a place, at the place these bytes and zeros behind them, and behind the place the end mark and
 // zeros; from `zeros_from` on all bytes of the slot are zero before.
-fn write_record(
-    slot: &mut [u8],
-    count: &[u8; 8],
-    place: Window,
-    bytes: &[u8],
-    zeros_from: usize,
-)
+fn write_record(slot: &mut [u8], count: &[u8; 8], place: Window, bytes: &[u8], zeros_from: usize)
     requires before { 8 ≤ place.start }
     requires room { place.start + place.len + 8 ≤ length slot.old }
     requires first { length bytes.now ≤ place.len }

@@ -1,5 +1,5 @@
-use Rattle.std.proofs.Common.{◌∙◌, sym, ap, arith}
-use Rattle.ckd_slot.proofs.Begun.{zero_later, none_over}
+use Rattle.std.proofs.Common.{arith}
+use Rattle.ckd_slot.proofs.Begun.{zero_later}
 use Rattle.ckd_slot.proofs.buffer.end_with_zeros.Goals as goal
 
 pub put_end_mark-requires-clause-zeros : goal.put_end_mark-requires-clause-zeros

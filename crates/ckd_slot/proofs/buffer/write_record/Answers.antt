@@ -1,4 +1,4 @@
-use Rattle.std.proofs.Common.{◌≡◌, ◌∙◌, ◌-◌, ap, length, arith, rules}
+use Rattle.std.proofs.Common.{◌≡◌, ◌-◌, length, arith, rules}
 use Rattle.ckd_track.specs.Changes.{overwritten}
 use Rattle.ckd_track.proofs.Rewritten.{length-overwritten}
 use Rattle.ckd_track.proofs.Zeros.{zero_over}

@@ -1,5 +1,4 @@
-use Rattle.std.proofs.Common.{◌≡◌, ◌∙◌, ◌+◌, ◌-◌, ◌≤◌, List, Some, set, ap, refl, sym, length, arith, rules}
-use Rattle.std.specs.Vec.{with_items}
+use Rattle.std.proofs.Common.{◌≡◌, ◌∙◌, ◌+◌, ◌-◌, ◌≤◌, Some, set, ap, refl, sym, length, arith, rules}
 use Rattle.std.proofs.lemmas.List.{with_items_is}
 use Rattle.ckd_track.specs.Track.{track_in, track_of, slot_of, body_length}
 use Rattle.ckd_track.specs.Changes.{overwritten}
@@ -11,7 +10,7 @@ use Rattle.ckd_position.specs.Contents.{formatted}
 use Rattle.ckd_slot.specs.Buffer.{end_of_records, number_up_to, IsBuffer}
 use Rattle.ckd_slot.specs.declared.windows.Window.{Window}
 use Rattle.ckd_slot.proofs.AreaPlaces.{reads}
-use Rattle.ckd_slot.proofs.Writes.{formatting, format_room, format_slot, format_fits, format_indexed, format_keeps, place_is, written_slot, length-kept, up_to_le}
+use Rattle.ckd_slot.proofs.Writes.{formatting, format_room, format_slot, format_fits, format_indexed, format_keeps, place_is, written_slot, up_to_le}
 use Rattle.ckd_slot.proofs.Updates.{kept_buffer}
 use Rattle.ckd_slot.proofs.buffer.TrackBuffer.format.Goals as goal
 

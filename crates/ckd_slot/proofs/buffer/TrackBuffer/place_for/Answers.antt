@@ -1,5 +1,5 @@
-use Rattle.std.proofs.Common.{◌≡◌, ◌∙◌, ◌+◌, ◌≤◌, List, ap, refl, sym, length, arith, rules}
-use Rattle.ckd_track.specs.Track.{Record, track_in, track_of, track_or_none}
+use Rattle.std.proofs.Common.{◌≡◌, ◌∙◌, List, ap, refl, sym, length, arith, rules}
+use Rattle.ckd_track.specs.Track.{Record, track_in, track_of}
 use Rattle.ckd_track.proofs.Offsets.{are_bytes, few_records}
 use Rattle.ckd_slot.specs.Buffer.{end_of_records, number_up_to}
 use Rattle.ckd_slot.proofs.AreaPlaces.{reads}
