@@ -17,11 +17,12 @@ use Rattle.ckd_drive.specs.declared.transfer.Transfer.TheVariants.{Field, Due, F
 use Rattle.ckd_command.specs.Tables.{action_of}
 use Rattle.ckd_position.specs.Contents.{Sighted, is_readable, new_record, formatted, kept, padded, replaced, with_record_changed}
 use Rattle.ckd_command.specs.Commands.{Closing, command_end, own_home_address, new_record_fits, format_ends}
-use Rattle.ckd_slot.specs.Buffer.{HasFormatted, BeginsRecord, SameRecords, fits_track, lengths_on}
+use Rattle.ckd_slot.specs.Buffer.{HasFormatted, CanMake, FitsSlot, IsPlaceOf, SameRecords, fits_track, lengths_on, made_on}
 use Rattle.ckd_slot.specs.Cache.{CacheState, with_held, slot_held, after_format}
 use Rattle.ckd_drive.specs.declared.transfer.Written.TheVariants as written
-use Rattle.ckd_drive.specs.Invariant.{HalfDone, Works, MayTake, Absorbs, HasDue, HasFilled, IsFound, at_work, number_due, own_slot, with_taken, own_track, action_now, IsFilled, AtHand, slot_at, track_under, whole_of, AtWork, geometry_in, action_in}
-use Rattle.ckd_slot.proofs.Writes.{update_length, update_place}
+use Rattle.ckd_drive.specs.Invariant.{HalfDone, Works, MayTake, Absorbs, HasDue, HasFilled, IsFound, at_work, own_slot, with_taken, own_track, action_now, IsFilled, AtHand, slot_at, track_under, whole_of, AtWork, geometry_in, action_in}
+use Rattle.ckd_slot.proofs.Writes.{update_length, update_place, made_formatted, kept_le}
+use Rattle.ckd_track.proofs.ChargeLaws.{no_end_mark}
 use Rattle.ckd_drive.proofs.Fills.{there, new_slot_at, reads_new, Filling, room_of, ClosesFilled, form_filled, filled_absorbs, length-padded, padded_whole}
 use Rattle.ckd_command.proofs.Closings.{formats_on}
 use Rattle.ckd_command.proofs.Lengths.{same_count}
@@ -175,12 +176,11 @@ format_absorbs half more f field count i w may at is long e has =
     filled (made ∙ ap (slot_of g.track_size) (sym whole))
 
 -- a record that fits is due, and the track stays
-pub due_absorbs : (half : HalfDone) (more f field count : List ℕ) (w : Window) → MayTake half more → half.progress.place ≡ Field f → field ≡ overwritten f half.progress.moved more → length field ≡ 8
+pub due_absorbs : (half : HalfDone) (more f field count : List ℕ) (i : ℕ) (w : Window) → MayTake half more → half.progress.place ≡ Field f → field ≡ overwritten f half.progress.moved more → length field ≡ 8
     → whole_of (action_now half) (own_home_address half.registers) (half.progress.moved + length more) field ≡ whole.Count count
-    → HasFormatted half.cache.image.geometry.model half.cache.image.geometry.track_size half.opened.area count (track_of (slot_held half.cache)) (length (kept (track_of (slot_held half.cache)) half.opened.area)) w
-    → Absorbs half more half.cache half.before (Due w count)
-due_absorbs half more f field count w may at is long e has =
-    let i = length (kept (track_of (slot_held half.cache)) half.opened.area) in
+    → HasFormatted half.cache.image.geometry.model half.cache.image.geometry.track_size half.opened.area count (track_of (slot_held half.cache)) i w
+    → Absorbs half more half.cache half.before (Due w i count)
+due_absorbs half more f field count i w may at is long e has =
     let a = format_absorbs half more f field count i w may at is long e has in
     let k = format_goes half more f field count may at is long e in
     let job = at_work (with_taken half more (after_format half.cache half.opened.area count) (slot_held half.cache) (Filled w (written.Record i))) in
@@ -215,50 +215,62 @@ due_absorbs half more f field count w may at is long e has =
     }
 
 -- a record that is due, once it is made with these bytes
-pub record NextMade (half : HalfDone) (more : List ℕ) (w : Window) (count : List ℕ) : Type 0 where
-  pub due : HasDue (at_work half) w count
+pub record NextMade (half : HalfDone) (more : List ℕ) (w : Window) (number : ℕ) (count : List ℕ) : Type 0 where
+  pub due : HasDue (at_work half) w number count
   pub readable : is_readable (track_of (slot_held half.cache)) ≡ true
   pub le : length more ≤ w.len
   pub room : w.start + w.len < 2 ^ 32
-  pub records : BeginsRecord half.cache.image.geometry.track_size (formatted (track_of (slot_held half.cache)) half.opened.area count) w more
-  pub absorbs : Absorbs half more
-      (with_held half.cache (overwritten (slot_of half.cache.image.geometry.track_size (formatted (track_of (slot_held half.cache)) half.opened.area count)) w.start more))
-      (slot_held half.cache) (Filled (record { start = w.start + length more; len = w.len - length more }) (written.Record (length (kept (track_of (slot_held half.cache)) half.opened.area))))
+  pub can : CanMake half.cache.image.geometry.track_size (track_of (slot_held half.cache)) number count w more
+  pub absorbs : Absorbs half more (with_held half.cache (overwritten (slot_of half.cache.image.geometry.track_size (made_on (track_of (slot_held half.cache)) number count)) w.start more))
+      (slot_held half.cache) (Filled (record { start = w.start + length more; len = w.len - length more }) (written.Record number))
 
-pub made_absorbs : (half : HalfDone) (more : List ℕ) (w : Window) (count : List ℕ) → Works half → half.progress.place ≡ Due w count → length more ≤ half.progress.left → NextMade half more w count
-made_absorbs half more w count x at le =
+pub made_absorbs : (half : HalfDone) (more : List ℕ) (w : Window) (number : ℕ) (count : List ℕ) → Works half → half.progress.place ≡ Due w number count → length more ≤ half.progress.left → NextMade half more w number count
+made_absorbs half more w number count x at le =
     let c = half.cache in
     let size = c.image.geometry.track_size in
     let n = own_track half in
-    let h : HasDue (at_work half) w count = rw at at x.goes.placed in
-    let i = number_due (at_work half) in
-    let made : List ℕ = slot_of size (formatted (track_of (slot_held c)) half.opened.area count) in
-    let c' = after_format c half.opened.area count in
+    let h : HasDue (at_work half) w number count = rw at at x.goes.placed in
+    let t = track_of (slot_held c) in
+    let area = half.opened.area in
+    let same_track : formatted t area count ≡ made_on t number count = sym (made_formatted t area number count h.fits.is_last) in
+    let made : List ℕ = slot_of size (made_on t number count) in
+    let c' = after_format c area count in
     let left : half.progress.left ≤ w.len = rw at at x.goes.left in
-    let half' : HalfDone = record half { cache = c'; before = slot_held c; progress = record half.progress { place = Filled w (written.Record i) } } in
+    let half' : HalfDone = record half { cache = c'; before = slot_held c; progress = record half.progress { place = Filled w (written.Record number) } } in
     let works' : Works half' = record {
       volume = h.volume;
       arm = x.arm;
       anchored = λ _. h.at_hand.held;
       goes = record { moved = x.goes.moved; left = left; placed = h.filled; no_credit = x.goes.no_credit };
     } in
-    let k = filled_absorbs half' more w (written.Record i) (record { works = works'; room = le; taking = h.filled.takes }) refl in
-    let new_at : slot_held c' ≡ made = slot_is c' n (slot_held c') h.at_hand.held refl ∙ new_slot_at c n made h.at_hand.held (there half x) in
+    let k = filled_absorbs half' more w (written.Record number) (record { works = works'; room = le; taking = h.filled.takes }) refl in
+    let new_at : slot_held c' ≡ made =
+    slot_is c' n (slot_held c') h.at_hand.held refl ∙ new_slot_at c n (slot_of size (formatted t area count)) h.at_hand.held (there half x) ∙ ap (slot_of size) same_track in
     let w' : Window = record { start = w.start + length more; len = w.len - length more } in
     let S : List ℕ → Type 0 = λ y. SameRecords y (overwritten y w.start more) in
-    let A : List ℕ → Type 0 = λ y. Absorbs half' more (with_held c' (overwritten y w.start more)) (slot_held c) (Filled w' (written.Record i)) in
-    let C : CacheState → Type 0 = λ y. Absorbs half' more y (slot_held c) (Filled w' (written.Record i)) in
+    let A : List ℕ → Type 0 = λ y. Absorbs half' more (with_held c' (overwritten y w.start more)) (slot_held c) (Filled w' (written.Record number)) in
+    let C : CacheState → Type 0 = λ y. Absorbs half' more y (slot_held c) (Filled w' (written.Record number)) in
     let same : with_held c' (overwritten made w.start more) ≡ with_held c (overwritten made w.start more) =
-    ap (λ (s : List (List ℕ)). let y : CacheState = record c { slots = s; changed = true } in y) (set-set c.slots (unwrap_or c.held 0) made (overwritten made w.start more)) in
+    ap (λ (s : List (List ℕ)). let y : CacheState = record c { slots = s; changed = true } in y) (set-set c.slots (unwrap_or c.held 0) (slot_of size (formatted t area count)) (overwritten made w.start more)) in
     let a = subst C same (subst A new_at k.absorbs) in
     let here = slot_is c n (slot_held c) h.at_hand.held refl in
     let f = h.filled.filled in
+    let short : length more ≤ w.len = omega (arith, le, left) in
+    let G : Track → Type 0 = λ y. FitsSlot size y in
+    let P : Track → Type 0 = λ y. IsPlaceOf extent.KeyAndData y (Of part.Data number) w in
     record {
       due = h;
       readable = rw here h.at_hand.readable;
-      le = omega (arith, le, left);
+      le = short;
       room = omega (arith, f.within, x.volume.geometry.limit);
-      records = subst S new_at k.records;
+      can = record {
+        there = omega (arith, h.fits.is_last, kept_le t area);
+        no_end_mark = no_end_mark c.image.geometry.model (kept t area) count h.fits.fits;
+        fits = subst G same_track h.fits.spelled;
+        place = subst P same_track h.fits.place;
+        room = short;
+        begins = subst S new_at k.records;
+      };
       absorbs = record {
         works = a.works;
         image = a.image;

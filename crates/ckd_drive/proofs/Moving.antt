@@ -131,7 +131,7 @@ pub finished : (d : Parts) (c : CacheState) (before : List ℕ) (place : Transfe
 finished d c before place x is f = by_place d.job.progress.place refl f
   where
     by_place : (p : Transfer) → d.job.progress.place ≡ p → Finishes d.job p c before place → Finished d (with_place d.job c before place)
-    by_place (Due w count) at k =
+    by_place (Due w number count) at k =
         let a = k.0 in
         let job = d.job in
         let S : HalfDone → Type 0 = λ h. Stands (parts_of h d.mark Passing) in
@@ -215,7 +215,7 @@ given_absorbs half more k x n may giving = rw n (by_place half.progress.place re
     by_place (Field f) at = absurd (field_takes (action_now half) (rw at at placed).0.is_field giving)
     by_place (Search w so_far) at = absurd (not_given _ action.Search (rw at at placed).0.is_search refl giving)
     by_place (Fill w u) at = absurd (not_given _ action.Update (rw at at placed).0.is_update refl giving)
-    by_place (Due w count) at = absurd (not_given _ _ refl (rw at at placed).filled.takes giving)
+    by_place (Due w number count) at = absurd (not_given _ _ refl (rw at at placed).filled.takes giving)
     by_place (Filled w u) at = absurd (not_given _ _ refl (rw at at placed).takes giving)
 
 -- what may be given: so many bytes, and they are what the definitions give

@@ -113,12 +113,12 @@ impl<S: ImageStore> Job<S> {
     // A new record of which no byte came behind its count area is made with zeros.
     // By itself, since few records are left so.
     #[inline(never)]
-    fn close_due(&mut self, place: Window, count: [u8; 8]) -> Closed
+    fn close_due(&mut self, place: Window, number: usize, count: [u8; 8]) -> Closed
         requires works { Works (half_done self.old) }
-        requires at { self.old.progress.place ≡ held.Due place count }
+        requires at { self.old.progress.place ≡ held.Due place number count }
         ensures { ClosesTo self.old result self.new }
     {
-        let number = self.make(&[], place, count);
+        self.make(&[], place, number, count);
         close_format(&mut self.registers, number)
     }
 
@@ -145,9 +145,9 @@ impl<S: ImageStore> Job<S> {
                 close_search(opened, registers, satisfied, window.len == 0)
             }
             Transfer::Field(field) => field_ends(geometry, opened, registers, &field[..moved]),
-            Transfer::Due(place, count) => {
-                let (place, count) = (*place, *count);
-                self.close_due(place, count)
+            Transfer::Due(place, number, count) => {
+                let (place, number, count) = (*place, *number, *count);
+                self.close_due(place, number, count)
             }
         }
     }

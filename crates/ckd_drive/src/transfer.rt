@@ -1,7 +1,7 @@
 //! The bytes of a command that pass: where they stand, and what becomes of those that it takes.
 
-ghost use Rattle.std.specs.Prelude.{◌≡◌, ◌≤◌, ◌<◌, ◌+◌, false, length, ◌-◌, ◌^◌, slice_range};
-ghost use Rattle.ckd_drive.specs.Invariant.{MayTake, Works, MayGive, IsNoSearch, is_due, whole_of, remaining, field_size, given_on};
+ghost use Rattle.std.specs.Prelude.{◌≡◌, ◌≤◌, ◌<◌, ◌+◌, length, ◌-◌, ◌^◌, slice_range};
+ghost use Rattle.ckd_drive.specs.Invariant.{MayTake, Works, MayGive, IsNoSearch, whole_of, remaining, field_size, given_on};
 ghost use Rattle.ckd_drive.specs.Jobs.{half_done, Takes};
 ghost use Rattle.ckd_command.specs.Commands.{own_home_address};
 ghost use Rattle.std.specs.Ordering.{nat_cmp, ordering_then};
@@ -32,8 +32,9 @@ pub enum Transfer {
     Search(Window, Ordering),
     /// These bytes are to be replaced, none was yet; and whether the area's record has no data.
     Fill(Window, bool),
-    /// A record of these count bytes fits the track, which is as it was, and its key and data will stand there.
-    Due(Window, [u8; 8]),
+    /// A new record fits the track, which is as it was: its key and data will stand there, and it has this number and these
+    /// count bytes.
+    Due(Window, usize, [u8; 8]),
     /// The track is changed, these bytes are zeros that may still be replaced, and the command then closes so.
     Filled(Window, Written),
 }
@@ -95,7 +96,7 @@ pub(crate) fn remaining(action: Action, place: &Transfer, moved: usize) -> usize
         Transfer::Read(window, _)
         | Transfer::Search(window, _)
         | Transfer::Fill(window, _)
-        | Transfer::Due(window, _)
+        | Transfer::Due(window, _, _)
         | Transfer::Filled(window, _) => window.len,
     }
 }
@@ -219,11 +220,11 @@ impl<S: ImageStore> Job<S> {
                 );
             }
             Whole::Count(count) => {
-                let Some(place) = self.cache.place_for(self.opened.area, count) else {
+                let Some((number, place)) = self.cache.place_for(self.opened.area, count) else {
                     self.progress.place = Transfer::Field(field);
                     return;
                 };
-                self.progress.place = Transfer::Due(place, count);
+                self.progress.place = Transfer::Due(place, number, count);
             }
         }
     }
@@ -249,23 +250,22 @@ impl<S: ImageStore> Job<S> {
         self.progress.place = Transfer::Filled(behind(window, bytes.len()), Written::Area(no_data));
     }
 
-    /// A new record that is due is made with the first bytes of its key and data, however many, and has this number.
-    // By itself, since its bytes come seldom otherwise than whole.
+    /// A new record that is due is made with the first bytes of its key and data, however many.
     #[inline(never)]
-    pub(crate) fn make(&mut self, bytes: &[u8], place: Window, count: [u8; 8]) -> usize
+    pub(crate) fn make(&mut self, bytes: &[u8], place: Window, number: usize, count: [u8; 8])
         requires works { Works (half_done self.old) }
-        requires at { self.old.progress.place ≡ held.Due place count }
+        requires at { self.old.progress.place ≡ held.Due place number count }
         requires room { length bytes.now ≤ self.old.progress.left }
         ensures takes { Takes self.old bytes.now self.new }
         ensures filled { self.new.progress.place ≡ held.Filled (record {
           start = place.start + length bytes.now;
           len = place.len - length bytes.now;
-        }) (written.Record result) }
+        }) (written.Record number) }
     {
+        // noted first, so that the copy is the last that is done
         self.before = Trace::of(self.cache.buffer().bytes());
-        let number = self.cache.format(self.opened.area, count, place, bytes);
         self.progress.place = Transfer::Filled(behind(place, bytes.len()), Written::Record(number));
-        number
+        self.cache.format(number, count, place, bytes);
     }
 
     // More bytes of an area that is being written.
@@ -279,27 +279,24 @@ impl<S: ImageStore> Job<S> {
         self.cache.put(window.start, bytes);
     }
 
-    // A command that has found its area, is no search, and has no record that is due, takes these bytes.
+    // A command that has found its area, and is no search, takes these bytes.
     #[inline(never)]
     fn absorb_elsewhere(&mut self, bytes: &[u8])
         requires may { MayTake (half_done self.old) bytes.now }
         requires elsewhere { IsNoSearch self.old.progress.place }
-        requires made { is_due self.old.progress.place ≡ false }
         ensures { Takes self.old bytes.now self.new }
     {
         match self.progress.place {
             Transfer::Field(field) => self.collect(bytes, field),
             Transfer::Fill(window, no_data) => self.fill(bytes, window, no_data),
+            Transfer::Due(place, number, count) => self.make(bytes, place, number, count),
             Transfer::Filled(window, written) => self.fill_on(bytes, window, written),
-            Transfer::Search(_, _)
-            | Transfer::Due(_, _)
-            | Transfer::Sense(_)
-            | Transfer::Read(_, _) => unreachable!(),
+            Transfer::Search(_, _) | Transfer::Sense(_) | Transfer::Read(_, _) => unreachable!(),
         }
     }
 
     /// A command that has found its area takes these bytes, and the rest have the place that is left.
-    // A search by itself, since fewer commands write, and the body of a new record, which is a call less.
+    // A search by itself, since fewer commands write.
     #[inline(always)]
     pub(crate) fn absorb(&mut self, bytes: &[u8])
         requires may { MayTake (half_done self.old) bytes.now }
@@ -307,9 +304,6 @@ impl<S: ImageStore> Job<S> {
     {
         match self.progress.place {
             Transfer::Search(window, so_far) => self.search(bytes, window, so_far),
-            Transfer::Due(place, count) => {
-                self.make(bytes, place, count);
-            }
             _ => self.absorb_elsewhere(bytes),
         }
     }

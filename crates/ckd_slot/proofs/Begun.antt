@@ -44,3 +44,13 @@ begun_slot c p n bytes le room =
     ap (λ (e : ℕ). overwritten (ended_at (overwritten c (p + k) (replicate m 0)) e) p bytes) last ∙ ap (λ (x : List ℕ). overwritten x p bytes) begun
     ∙ overwritten-middle (take p c) (take k (drop p c)) y bytes p front there
     ∙ sym (overwritten-middle (take p c) (replicate k 0) y bytes p front (sym (length-replicate {A = ℕ} k 0))) ∙ ap (λ (x : List ℕ). overwritten x p bytes) (sym cleared)
+
+-- the same where the bytes are whole
+pub whole_slot : (c : List ℕ) (p n : ℕ) (bytes : List ℕ) → length bytes ≡ n → p + n + 8 ≤ length c
+    → overwritten (ended_at c (p + n)) p bytes ≡ overwritten (ended_at (overwritten c p (replicate n 0)) (p + n)) p bytes
+whole_slot c p n bytes whole room =
+    let none : n - length bytes ≡ 0 = omega (arith, whole) in
+    let last : p + length bytes + (n - length bytes) ≡ p + n = omega (arith, whole) in
+    ap (λ (x : List ℕ). overwritten (ended_at x (p + n)) p bytes) (sym (none_over c (p + length bytes) (n - length bytes) none))
+    ∙ ap (λ (e : ℕ). overwritten (ended_at (overwritten c (p + length bytes) (replicate (n - length bytes) 0)) e) p bytes) (sym last)
+    ∙ begun_slot c p n bytes (omega (arith, whole)) room

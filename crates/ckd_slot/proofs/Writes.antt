@@ -1,5 +1,5 @@
 -- What writes leave of the slot and of the table.
-use Rattle.std.proofs.Common.{◌≡◌, ◌∙◌, ap, sym, subst, refl, ℕ, ◌+◌, ◌-◌, ◌/◌, ◌^◌, ◌≤◌, ◌<◌, min, List, [], ◌∷◌, ◌++◌, Bool, true, false, length, take, drop, set, flat_map, replicate, slice_index, bytes_eq, length-append, length-take, length-set, append-nil, Option, Some, None, Ok, unwrap_or, All, sum_by, arith}
+use Rattle.std.proofs.Common.{◌≡◌, ◌∙◌, ap, sym, subst, refl, ℕ, zero, suc, ◌+◌, ◌-◌, ◌/◌, ◌^◌, ◌≤◌, ◌<◌, min, List, [], ◌∷◌, ◌++◌, Bool, true, false, length, take, drop, set, flat_map, replicate, slice_index, bytes_eq, length-append, length-take, length-set, append-nil, Option, Some, None, Ok, unwrap_or, All, sum_by, arith}
 use Rattle.std.specs.Option.{ForSome}
 use Rattle.std.proofs.lemmas.List.{length-replicate, take_min, take_at, take-take, take_more_set, get_or_at}
 use Rattle.std.proofs.Math.Seq.{map-set_same}
@@ -20,8 +20,8 @@ use Rattle.ckd_position.specs.declared.areas.Area.{Area}
 use Rattle.ckd_position.specs.declared.areas.Area.TheVariants.{HomeAddress, Of}
 use Rattle.ckd_position.specs.declared.areas.Part.{Part}
 use Rattle.ckd_position.specs.declared.areas.Part.TheVariants as part
-use Rattle.ckd_position.specs.Contents.{is_readable, padded, new_record, formatted, kept, replaced, with_record_changed}
-use Rattle.ckd_slot.specs.Buffer.{IsIndexed, IsBuffer, StandsThere, number_up_to, FitsSlot, IsUpdate, IsRecordOf, IsPlaceOf, end_of_records, record_place, lengths_on, fits_track}
+use Rattle.ckd_position.specs.Contents.{Sighted, is_readable, padded, new_record, record_before, formatted, kept, replaced, with_record_changed}
+use Rattle.ckd_slot.specs.Buffer.{IsIndexed, IsBuffer, StandsThere, number_up_to, FitsSlot, IsUpdate, IsRecordOf, IsPlaceOf, end_of_records, record_place, lengths_on, fits_track, area_before, made_on}
 use Rattle.ckd_slot.specs.declared.charges.Charged.{Charged}
 use Rattle.ckd_position.specs.declared.extents.Extent.{Extent}
 use Rattle.ckd_position.specs.declared.extents.Extent.TheVariants as extent
@@ -227,12 +227,11 @@ module _ {slot : List ℕ} {before : Option ℕ} {after : Option Area} {count : 
       rw (offset, long) refl)
 
   -- the place that the new record has
-  pub place_is : (w : Window) → IsPlaceOf extent.KeyAndData made (Of part.Data (length (kept (track_of slot) after))) w → w ≡ record { start = end_of_records (track_in slot) (number_up_to before) + 8; len = body_length count }
-  place_is w p =
-      let i = length (kept (track_of slot) after) in
-      let same : i ≡ number_up_to before = ap (λ (rs : List Record). length rs) (sym k.same) ∙ length-kept (track_in slot) before k.there in
-      let last : i < length made.records = omega (arith, length-append (kept (track_of slot) after) (new_record count ∷ [])) in
-      p last ∙ sym (format_place i (end_of_records (track_in slot) (number_up_to before)) same refl last)
+  pub place_is : (n : ℕ) (w : Window) → n ≡ number_up_to before → IsPlaceOf extent.KeyAndData made (Of part.Data n) w → w ≡ record { start = end_of_records (track_in slot) (number_up_to before) + 8; len = body_length count }
+  place_is n w same p =
+      let many : length (kept (track_of slot) after) ≡ number_up_to before = ap (λ (rs : List Record). length rs) (sym k.same) ∙ length-kept (track_in slot) before k.there in
+      let last : n < length made.records = omega (arith, same, many, length-append (kept (track_of slot) after) (new_record count ∷ [])) in
+      p last ∙ sym (format_place n (end_of_records (track_in slot) (number_up_to before)) same refl last)
 
   -- the record that begins with these bytes
   pub written_slot : (w : Window) (bytes : List ℕ) → w ≡ record { start = end_of_records (track_in slot) (number_up_to before) + 8; len = body_length count }
@@ -331,3 +330,37 @@ clear_is e slot (Of part i) w end u s there p last =
       lengths = ap lengths_on (sym same) ∙ k.lengths;
       within = omega (arith, place.0, place.1, last, end_is t, k.within, length-replicate {A = ℕ} n 0);
     }
+
+-- A record by its number.
+
+pub before_there : (n m : ℕ) → n ≤ m → ForSome (record_before (area_before n)) (λ i. i < m)
+before_there zero m le = λ k e. absurd cc
+before_there (suc i) m le = λ k e. (let same : i ≡ k = cc in omega (arith, same, le))
+
+pub up_to_is : (n : ℕ) → number_up_to (record_before (area_before n)) ≡ n
+up_to_is zero = refl
+up_to_is (suc i) = omega arith
+
+no_records : (rs : List Record) → length rs ≡ 0 → [] ≡ rs
+no_records [] e = refl
+no_records (r ∷ rs) e = absurd (omega (arith, e))
+
+kept_by : (m i : ℕ) (t : Track) → length (take (i + 1) t.records) ≡ m → kept_records (record_before (area_before m)) t ≡ take (i + 1) t.records
+kept_by zero i t e = no_records (take (i + 1) t.records) e
+kept_by (suc k) i t e = (let s : k + 1 ≡ min (i + 1) (length t.records) = omega (arith, e, length-take (i + 1) t.records) in rw s (take_min (i + 1) t.records))
+
+kept_before_by : (b : Option ℕ) (t : Track) → kept_records (record_before (area_before (length (kept_records b t)))) t ≡ kept_records b t
+kept_before_by None t = refl
+kept_before_by (Some i) t = kept_by (length (take (i + 1) t.records)) i t refl
+
+-- the record behind an area is that of its number
+pub made_formatted : (t : Sighted) (after : Option Area) (number : ℕ) (count : List ℕ) → number ≡ length (kept t after) → made_on t number count ≡ formatted t after count
+made_formatted t after number count e =
+    rw e (ap (λ (rs : List Record). let y : Track = record (track_or_none t) { records = rs ++ new_record count ∷ [] } in y) (kept_before_by (record_before after) (track_or_none t)))
+
+pub kept_le : (t : Sighted) (after : Option Area) → length (kept t after) ≤ length (track_or_none t).records
+kept_le t after = by (record_before after) (track_or_none t)
+  where
+    by : (b : Option ℕ) (t : Track) → length (kept_records b t) ≤ length t.records
+    by None t = omega arith
+    by (Some i) t = omega (arith, length-take (i + 1) t.records)

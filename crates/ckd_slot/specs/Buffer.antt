@@ -1,6 +1,6 @@
 -- One slot at hand, and a table of its records.
-use Rattle.std.specs.Prelude.{◌≡◌, ℕ, ◌+◌, ◌-◌, ◌/◌, ◌≤◌, ◌<◌, ◌^◌, List, Bool, true, false, Option, Some, None, Ok, length, take, map, flat_map, slice_range, slice_index, All}
-use Rattle.ckd_track.specs.Track.{Record, Track, IsRecord, Spells, track_of, track_in, record_offsets, record_in, record_bytes, spelling, slot_of, key_length, data_length}
+use Rattle.std.specs.Prelude.{◌≡◌, ℕ, zero, suc, ◌+◌, ◌-◌, ◌/◌, ◌≤◌, ◌<◌, ◌^◌, List, Bool, true, false, Option, Some, None, Ok, length, take, map, flat_map, slice_range, slice_index, bytes_eq, All}
+use Rattle.ckd_track.specs.Track.{Record, Track, IsRecord, Spells, track_of, track_in, record_offsets, record_in, record_bytes, spelling, slot_of, end_mark, key_length, data_length}
 use Rattle.ckd_track.specs.declared.model.DriveModel.{DriveModel}
 use Rattle.ckd_position.specs.declared.areas.Area.{Area}
 use Rattle.ckd_position.specs.declared.areas.Area.TheVariants.{HomeAddress, Of}
@@ -132,11 +132,25 @@ pub record HasFormatted (model : DriveModel) (size : ℕ) (after : Option Area) 
   pub spelled : FitsSlot size (formatted t after count)
   pub place : IsPlaceOf extent.KeyAndData (formatted t after count) (Of part.Data number) rest
 
--- where the key and data of a new record would stand behind this area; none where it does not fit the track
-abbrev pub Places : DriveModel → (size : ℕ) → Option Area → (count : List ℕ) → Sighted → Option Window → Type 0
-Places model size after count t (Some w) = HasFormatted model size after count t (length (kept t after)) w
+-- the number of a new record behind this area, and where its key and data would stand; none where it does not fit the track
+abbrev pub Places : DriveModel → (size : ℕ) → Option Area → (count : List ℕ) → Sighted → Option (ℕ × Window) → Type 0
+Places model size after count t (Some n) = HasFormatted model size after count t n.0 n.1
 Places model size after count t None = fits_track model after count t ≡ false
 
--- a slot of this track has its records where they are once these bytes stand at the place
-abbrev pub BeginsRecord : (size : ℕ) → Track → Window → (bytes : List ℕ) → Type 0
-BeginsRecord size t w bytes = SameRecords (slot_of size t) (overwritten (slot_of size t) w.start bytes)
+-- the area behind which a record of this number is made
+abbrev pub area_before : ℕ → Option Area
+area_before zero = None
+area_before (suc i) = Some (Of part.Data i)
+
+-- the track with a new record of this number and of these count bytes, and with none behind it
+abbrev pub made_on : Sighted → (number : ℕ) → (count : List ℕ) → Track
+made_on t number count = formatted t (area_before number) count
+
+-- such a record can be made in a slot of this size, has its key and data at the place, and may begin with these bytes
+pub record CanMake (size : ℕ) (t : Sighted) (number : ℕ) (count : List ℕ) (w : Window) (bytes : List ℕ) : Type 0 where
+  pub there : number ≤ length (records_on t)
+  pub no_end_mark : bytes_eq count end_mark ≡ false
+  pub fits : FitsSlot size (made_on t number count)
+  pub place : IsPlaceOf extent.KeyAndData (made_on t number count) (Of part.Data number) w
+  pub room : length bytes ≤ w.len
+  pub begins : SameRecords (slot_of size (made_on t number count)) (overwritten (slot_of size (made_on t number count)) w.start bytes)

@@ -4,8 +4,8 @@ ghost use Rattle.std.specs.Prelude.{◌≡◌, ◌≤◌, ◌<◌, ◌+◌, Some
 ghost use Rattle.ckd_track.specs.Geometry.{tracks_of};
 ghost use Rattle.ckd_track.specs.Track.{track_of, track_in, slot_of};
 ghost use Rattle.ckd_track.specs.Changes.{overwritten, bare_track};
-ghost use Rattle.ckd_position.specs.Contents.{is_readable, with_record_changed, replaced, kept, formatted};
-ghost use Rattle.ckd_slot.specs.Buffer.{SameRecords, FitsSlot, IsUpdate, IsRecordOf, HasFormatted, Places, BeginsRecord};
+ghost use Rattle.ckd_position.specs.Contents.{is_readable, with_record_changed, replaced};
+ghost use Rattle.ckd_slot.specs.Buffer.{SameRecords, FitsSlot, IsUpdate, IsRecordOf, Places, CanMake, made_on};
 ghost use Rattle.ckd_slot.specs.Cache.{slot_held, slot_at_hand, with_held, holds, after_hold, after_failed_hold, after_save, after_failed_save, IsVolume};
 
 use crate::buffer::TrackBuffer;
@@ -151,9 +151,9 @@ impl<S: ImageStore> TrackCache<S> {
         self.changed = true;
     }
 
-    /// Where the key and data of a record of these count bytes would stand in the slot at hand behind the kept ones, if it fits
-    /// the track. The slot stays.
-    pub fn place_for(&mut self, after: Option<Area>, count: [u8; 8]) -> Option<Window>
+    /// The number that a record of these count bytes would have in the slot at hand behind the kept ones, and where its key and
+    /// data would stand, if it fits the track. The slot stays.
+    pub fn place_for(&mut self, after: Option<Area>, count: [u8; 8]) -> Option<(usize, Window)>
         requires held { IsSome self.old.held }
         requires readable { is_readable (track_of (slot_held self.old)) ≡ true }
         ensures places { Places self.old.image.geometry.model self.old.image.geometry.track_size after count
@@ -164,30 +164,21 @@ impl<S: ImageStore> TrackCache<S> {
             .place_for(self.image.geometry().model, after, count)
     }
 
-    /// Writes a record of these count bytes behind the kept ones into the slot at hand, whose key and data stand at this place,
-    /// which [`place_for`](TrackCache::place_for) answers, and removes all records behind it. These bytes are the first of its
-    /// key and data, and those behind them are zeros. Answers its number.
-    pub fn format(
-        &mut self,
-        after: Option<Area>,
-        count: [u8; 8],
-        place: Window,
-        bytes: &[u8],
-    ) -> usize
+    /// Writes a record of this number and of these count bytes into the slot at hand, whose key and data stand at this place, as
+    /// [`place_for`](TrackCache::place_for) answers them, and removes all records behind it. These bytes are the first of its
+    /// key and data, and those behind them are zeros.
+    #[inline(always)]
+    pub fn format(&mut self, number: usize, count: [u8; 8], place: Window, bytes: &[u8])
         requires held { IsSome self.old.held }
         requires readable { is_readable (track_of (slot_held self.old)) ≡ true }
-        requires fits { HasFormatted self.old.image.geometry.model self.old.image.geometry.track_size after count
-            (track_of (slot_held self.old)) (length (kept (track_of (slot_held self.old)) after)) place }
-        requires room { length bytes.now ≤ place.len }
-        requires records { BeginsRecord self.old.image.geometry.track_size (formatted (track_of (slot_held self.old)) after count)
-            place bytes.now }
-        ensures number { result ≡ length (kept (track_of (slot_held self.old)) after) }
-        ensures slot { self.new ≡ with_held self.old (overwritten (slot_of self.old.image.geometry.track_size
-            (formatted (track_of (slot_held self.old)) after count)) place.start bytes.now) }
+        requires can { CanMake self.old.image.geometry.track_size (track_of (slot_held self.old)) number count place
+            bytes.now }
+        ensures { self.new ≡ with_held self.old (overwritten (slot_of self.old.image.geometry.track_size
+            (made_on (track_of (slot_held self.old)) number count)) place.start bytes.now) }
     {
         // noted first, so that the copy is the last that is done
         self.changed = true;
-        self.buffer.format(after, count, place, bytes)
+        self.buffer.format(number, count, place, bytes);
     }
 
     /// Puts zeros in the place of the bytes of a record's area in the slot at hand, and behind the end mark.

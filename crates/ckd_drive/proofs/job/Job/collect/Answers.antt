@@ -27,4 +27,4 @@ returns-in-Some g c =
     let half = half_done c.args.self.now in
     let fits = rw c.in-Some.is at c.place_for.ensures.places in
     rw c.place_for.ensures.stays
-    record { absorbs = due_absorbs half c.args.bytes.now c.args.field c.collected-field.result c.in-Count.count c.in-Some.place c.requires.may c.requires.at c.collected-field.ensures (search rules) (sym c.whole_field.ensures ∙ c.in-Count.is) fits; stays = refl }
+    record { absorbs = due_absorbs half c.args.bytes.now c.args.field c.collected-field.result c.in-Count.count c.in-Some.number c.in-Some.place c.requires.may c.requires.at c.collected-field.ensures (search rules) (sym c.whole_field.ensures ∙ c.in-Count.is) fits; stays = refl }
