@@ -17,13 +17,13 @@ use Rattle.ckd_command.specs.declared.begin.Opened.{Opened}
 use Rattle.ckd_command.specs.Answers.{CommandEnd}
 use Rattle.ckd_slot.specs.declared.windows.Window.{Window}
 use Rattle.ckd_drive.specs.declared.transfer.Transfer.{Transfer}
-use Rattle.ckd_drive.specs.declared.transfer.Transfer.TheVariants.{Field, Search, Filled}
+use Rattle.ckd_drive.specs.declared.transfer.Transfer.TheVariants.{Field, Search, Due, Filled}
 use Rattle.ckd_drive.specs.declared.answers.Stage.TheVariants.{Idle, Passing}
 use Rattle.ckd_command.specs.Tables.{action_of}
 use Rattle.ckd_position.specs.Contents.{Sighted}
 use Rattle.ckd_command.specs.Commands.{Closing, IsAtTrack, area_bytes, closing, close_by, command_end, search_ends, own_home_address, new_record_fits, number as number_of, whole_field, at_end}
 use Rattle.ckd_slot.specs.Cache.{CacheState, after_save, after_failed_save}
-use Rattle.ckd_drive.specs.Invariant.{Stands, mark_left, HasFilled, state_of, IsPlaced, IsField, CreditIs, AtHand, command_end_at, field_ends, seen_by, track_under, is_filled, is_filled_by, HalfDone, Parts, parts_of, own_track, AtWork, at_work, geometry_in, number_in, slot_in, closing_in, closes_by}
+use Rattle.ckd_drive.specs.Invariant.{Stands, mark_left, HasFilled, state_of, IsPlaced, IsField, CreditIs, AtHand, command_end_at, field_ends, seen_by, track_under, is_filled, is_filled_by, is_due, HalfDone, Parts, parts_of, own_track, AtWork, at_work, geometry_in, number_in, slot_in, closing_in, closes_by}
 use Rattle.ckd_command.specs.Drive.{closed_staying, SaveFails, is_written_by}
 use Rattle.ckd_command.specs.declared.close.DriveEnding.{DriveEnding}
 use Rattle.ckd_drive.specs.declared.transfer.Written.{Written}
@@ -55,34 +55,36 @@ search_unwritten o r false b = refl
 
 -- how a command closes is known by its place
 pub command_end_is : (job : AtWork) (p : Transfer) (moved : ℕ)
-    → number_in job < length job.cache.slots → IsPlaced job p → length job.passed ≡ moved → command_end (closing_in job (seen_track job p)) ≡ command_end_at (geometry_in job) job.registers job.opened moved p
-command_end_is job (Filled w u) moved lt x m =
+    → is_due p ≡ false → number_in job < length job.cache.slots → IsPlaced job p → length job.passed ≡ moved → command_end (closing_in job (seen_track job p)) ≡ command_end_at (geometry_in job) job.registers job.opened moved p
+command_end_is job (Due w number count) moved made lt x m = absurd cc
+command_end_is job (Filled w u) moved made lt x m =
     let k = x.filled.closes [] (omega arith) in
     let same : job.passed ++ [] ≡ job.passed = append-nil job.passed in
     rw (get_or-set_same job.cache.slots (number_in job) job.before [] lt) (rw same at k.so)
-command_end_is job (Field f) moved lt x m =
+command_end_is job (Field f) moved made lt x m =
     let t = track_of (slot_in job) in
     let a = action_of job.opened.command in
     let is : closing (geometry_in job) t job.opened job.registers job.passed ≡ close_by a (geometry_in job) t job.opened job.registers job.passed = closing_by a (geometry_in job) t job.opened job.registers job.passed refl in
     let plain = field_closes a (geometry_in job) t job.opened job.registers job.passed x.0.is_field (ap (λ (k : Closing). k.written) (sym is) ∙ x.2) in
     let bytes : take moved f ≡ job.passed = rw m at x.0.collected in
     rw bytes (ap command_end (is ∙ plain))
-command_end_is job (Search w so_far) moved lt x m =
+command_end_is job (Search w so_far) moved made lt x m =
     let t = track_of (slot_in job) in
     let area = area_bytes t job.opened job.registers in
     let is = closing_by action.Search (geometry_in job) t job.opened job.registers job.passed x.0.is_search in
     let size : length area ≡ length job.passed + w.len = omega (arith, x.0.lies.size, length-drop (length job.passed) area, x.0.room) in
     let whole : (length job.passed == length area) ≡ (w.len == 0) = grind (arith, nat_tests, size) in
     ap command_end is ∙ rw (whole, x.0.compared, m) refl
-command_end_is job _ moved lt x m = x.2.so
+command_end_is job _ moved made lt x m = x.2.so
 
 pub unwritten_is : (job : AtWork) (p : Transfer)
-    → IsPlaced job p → is_filled_by p ≡ false → (closing_in job (seen_track job p)).written ≡ None
-unwritten_is job (Filled w u) x f = absurd cc
-unwritten_is job (Field y) x f = x.2
-unwritten_is job (Search w so_far) x f =
+    → is_due p ≡ false → IsPlaced job p → is_filled_by p ≡ false → (closing_in job (seen_track job p)).written ≡ None
+unwritten_is job (Due w number count) made x f = absurd cc
+unwritten_is job (Filled w u) made x f = absurd cc
+unwritten_is job (Field y) made x f = x.2
+unwritten_is job (Search w so_far) made x f =
     ap (λ (k : Closing). k.written) (closing_by action.Search (geometry_in job) (track_of (slot_in job)) job.opened job.registers job.passed x.0.is_search) ∙ search_unwritten job.opened job.registers _ _
-unwritten_is job _ x f = x.2.unwritten
+unwritten_is job _ made x f = x.2.unwritten
 
 -- The state that is left.
 
@@ -96,16 +98,18 @@ written_there job w u lt x =
     (k.track, rw (get_or-set_same job.cache.slots (number_in job) job.before [] lt) (rw same at k.written), rw (slot, set-set job.cache.slots (number_in job) job.before (slot_in job)) (set-get_or job.cache.slots (number_in job) []))
 
 pub staying : (job : AtWork) (m : Mark) (p : Transfer) (u : CommandEnd)
-    → number_in job < length job.cache.slots → IsPlaced job p → command_end (closing_in job (seen_track job p)) ≡ u
+    → is_due p ≡ false → number_in job < length job.cache.slots → IsPlaced job p → command_end (closing_in job (seen_track job p)) ≡ u
     → closed_staying (record { volume = record { geometry = geometry_in job; slots = seen_by job.cache.slots (number_in job) job.before p }; registers = job.registers; mark = m }) (closing_in job (seen_track job p))
     ≡ record { state = record { volume = record { geometry = geometry_in job; slots = job.cache.slots }; registers = u.registers; mark = mark_left p m }; unit = u.ending.unit; motion = u.ending.motion }
-staying job m (Filled w v) u lt x out = (let there = written_there job w v lt x in rw (there.1, there.2, ← out) refl)
-staying job m p u lt x out = rw (unwritten_is job p x refl, ← out) refl
+staying job m (Filled w v) u made lt x out = (let there = written_there job w v lt x in rw (there.1, there.2, ← out) refl)
+staying job m (Due w number count) u made lt x out = absurd cc
+staying job m p u made lt x out = rw (unwritten_is job p made x refl, ← out) refl
 
--- A drive stands while the bytes of a command pass, which would close so.
+-- A drive stands while the bytes of a command pass, which would close so; a record that was due is made.
 pub record Closes (d : Parts) (u : CommandEnd) : Type 0 where
   pub stands : Stands d
   pub passes : d.stage ≡ Passing
+  pub made : is_due d.job.progress.place ≡ false
   pub out : u ≡ command_end_at d.job.cache.image.geometry d.job.registers d.job.opened d.job.progress.moved d.job.progress.place
 
 -- how the command closes by the definitions, and by the track as they see it
@@ -116,7 +120,7 @@ closing_seen h = closing_in (at_work h) (seen_track (at_work h) h.progress.place
 closes_so : {d : Parts} {u : CommandEnd} → Closes d u → command_end (closing_seen d.job) ≡ u
 closes_so {d} e =
     let goes = goes_of d e.stands e.passes in
-    command_end_is (at_work d.job) d.job.progress.place d.job.progress.moved (number_there d e.stands) goes.placed goes.moved ∙ sym e.out
+    command_end_is (at_work d.job) d.job.progress.place d.job.progress.moved e.made (number_there d e.stands) goes.placed goes.moved ∙ sym e.out
 
 off_so : {d : Parts} {u : CommandEnd} → Closes d u → (closing_seen d.job).moves_off ≡ u.moves_off
 off_so e = ap (λ (y : CommandEnd). y.moves_off) (closes_so e)
@@ -230,7 +234,7 @@ stays_ends {d} {u} e off =
     let goes = goes_of d e.stands e.passes in
     let stays : (closing_seen d.job).moves_off ≡ false = off_so e ∙ off in
     let closed : closed_of None (state_of d) (state_of d).work ≡ record { state = (state_of after).state; unit = u.ending.unit; motion = u.ending.motion } =
-    rw (e.passes, stays) (staying (at_work d.job) d.mark d.job.progress.place u (number_there d e.stands) goes.placed (closes_so e)) in
+    rw (e.passes, stays) (staying (at_work d.job) d.mark d.job.progress.place u e.made (number_there d e.stands) goes.placed (closes_so e)) in
     let k = (land e).stays off in
     let same : track_under d.job.cache.image.geometry u.registers ≡ own_track d.job = rw (k.0, k.1) refl in
     ended (state_of d) after u.ending

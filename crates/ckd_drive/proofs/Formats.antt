@@ -1,5 +1,6 @@
 -- A track that gets a new record.
-use Rattle.std.proofs.Common.{◌≡◌, ◌∙◌, ap, sym, subst, refl, ℕ, ◌+◌, ◌-◌, ◌<◌, ◌≤◌, List, [], ◌∷◌, ◌++◌, true, false, Option, Some, length, take, drop, slice_range, replicate, length-append, length-drop, length-take, drop-drop, append_assoc, append-nil, arith}
+use Rattle.std.proofs.Common.{◌≡◌, ◌∙◌, ap, sym, subst, refl, ℕ, ◌+◌, ◌-◌, ◌<◌, ◌≤◌, ◌^◌, List, [], ◌∷◌, ◌++◌, true, false, Option, Some, length, take, drop, slice_range, replicate, unwrap_or, set-set, length-append, length-drop, length-take, drop-drop, append_assoc, append-nil, arith}
+use Rattle.std.proofs.Math.Bool.{or-false, or-true}
 use Rattle.std.proofs.Math.Seq.{get_or-append_seam, set-append_seam}
 use Rattle.std.proofs.lemmas.List.{drop_at, take_all, take-append-le}
 use Rattle.ckd_track.specs.Track.{Track, Record, track_of, track_in, record_in, no_record, record_at, slot_of, key_length, body_length}
@@ -12,16 +13,17 @@ use Rattle.ckd_command.specs.declared.tables.Action.TheVariants as action
 use Rattle.ckd_position.specs.declared.extents.Extent.TheVariants as extent
 use Rattle.ckd_drive.specs.declared.transfer.Whole.TheVariants as whole
 use Rattle.ckd_slot.specs.declared.windows.Window.{Window}
-use Rattle.ckd_drive.specs.declared.transfer.Transfer.TheVariants.{Field, Filled}
+use Rattle.ckd_drive.specs.declared.transfer.Transfer.TheVariants.{Field, Due, Filled}
 use Rattle.ckd_command.specs.Tables.{action_of}
-use Rattle.ckd_position.specs.Contents.{Sighted, new_record, formatted, kept, padded, replaced, with_record_changed}
+use Rattle.ckd_position.specs.Contents.{Sighted, is_readable, new_record, formatted, kept, padded, replaced, with_record_changed}
 use Rattle.ckd_command.specs.Commands.{Closing, command_end, own_home_address, new_record_fits, format_ends}
-use Rattle.ckd_slot.specs.Buffer.{HasFormatted, fits_track, lengths_on}
-use Rattle.ckd_slot.specs.Cache.{with_held, slot_held, after_format}
+use Rattle.ckd_slot.specs.Buffer.{HasFormatted, CanMake, FitsSlot, IsPlaceOf, SameRecords, fits_track, lengths_on, made_on}
+use Rattle.ckd_slot.specs.Cache.{CacheState, with_held, slot_held, after_format}
 use Rattle.ckd_drive.specs.declared.transfer.Written.TheVariants as written
-use Rattle.ckd_drive.specs.Invariant.{HalfDone, MayTake, Absorbs, own_track, action_now, IsFilled, AtHand, slot_at, track_under, whole_of, AtWork, geometry_in, action_in}
-use Rattle.ckd_slot.proofs.Writes.{update_length, update_place}
-use Rattle.ckd_drive.proofs.Fills.{there, new_slot_at, reads_new, Filling, room_of, ClosesFilled, form_filled, length-padded, padded_whole}
+use Rattle.ckd_drive.specs.Invariant.{HalfDone, Works, MayTake, Absorbs, HasDue, HasFilled, IsFound, at_work, own_slot, with_taken, own_track, action_now, IsFilled, AtHand, slot_at, track_under, whole_of, AtWork, geometry_in, action_in}
+use Rattle.ckd_slot.proofs.Writes.{update_length, update_place, made_formatted, kept_le}
+use Rattle.ckd_track.proofs.ChargeLaws.{no_end_mark}
+use Rattle.ckd_drive.proofs.Fills.{there, new_slot_at, reads_new, Filling, room_of, ClosesFilled, form_filled, filled_absorbs, length-padded, padded_whole}
 use Rattle.ckd_command.proofs.Closings.{formats_on}
 use Rattle.ckd_command.proofs.Lengths.{same_count}
 use Rattle.ckd_drive.proofs.Takes.{field_goes, field_absorbs}
@@ -172,3 +174,109 @@ format_absorbs half more f field count i w may at is long e has =
     newly_absorbs half more new w (written.Record i) (omega arith) may.works k.at_hand.held (rw at refl) goes.again
     may.taking (omega (arith, k.eight, goes.long)) (omega (arith, left, k.eight, goes.long)) (omega (arith, k.eight, goes.long))
     filled (made ∙ ap (slot_of g.track_size) (sym whole))
+
+-- a record that fits is due, and the track stays
+pub due_absorbs : (half : HalfDone) (more f field count : List ℕ) (i : ℕ) (w : Window) → MayTake half more → half.progress.place ≡ Field f → field ≡ overwritten f half.progress.moved more → length field ≡ 8
+    → whole_of (action_now half) (own_home_address half.registers) (half.progress.moved + length more) field ≡ whole.Count count
+    → HasFormatted half.cache.image.geometry.model half.cache.image.geometry.track_size half.opened.area count (track_of (slot_held half.cache)) i w
+    → Absorbs half more half.cache half.before (Due w i count)
+due_absorbs half more f field count i w may at is long e has =
+    let a = format_absorbs half more f field count i w may at is long e has in
+    let k = format_goes half more f field count may at is long e in
+    let job = at_work (with_taken half more (after_format half.cache half.opened.area count) (slot_held half.cache) (Filled w (written.Record i))) in
+    let h : HasFilled job w (written.Record i) = a.works.goes.placed in
+    let here = slot_is half.cache (own_track half) (slot_held half.cache) k.at_hand.held refl in
+    let F : List ℕ → Type 0 = λ y. IsFound job (track_of y) (Filled w (written.Record i)) in
+    let found : IsFound job (track_of (own_slot half)) (Filled w (written.Record i)) = subst F here h.found in
+    record {
+      works = record {
+        volume = may.works.volume;
+        arm = may.works.arm;
+        anchored = may.works.anchored;
+        goes = record {
+          moved = a.works.goes.moved;
+          left = a.works.goes.left;
+          placed = record {
+            at_hand = k.at_hand;
+            fits = has;
+            volume = a.works.volume;
+            filled = h;
+            found = record { again = found.again; len = found.len };
+            plain = rw at at a.seen_same;
+          };
+          no_credit = may.works.goes.no_credit;
+        };
+      };
+      image = refl;
+      seen_same = rw at refl;
+      changed = sym (or-false half.cache.changed);
+      still = λ filled. absurd (let plain = rw at at filled in cc);
+      small = a.small;
+    }
+
+-- a record that is due, once it is made with these bytes
+pub record NextMade (half : HalfDone) (more : List ℕ) (w : Window) (number : ℕ) (count : List ℕ) : Type 0 where
+  pub due : HasDue (at_work half) w number count
+  pub readable : is_readable (track_of (slot_held half.cache)) ≡ true
+  pub le : length more ≤ w.len
+  pub room : w.start + w.len < 2 ^ 32
+  pub can : CanMake half.cache.image.geometry.track_size (track_of (slot_held half.cache)) number count w more
+  pub absorbs : Absorbs half more (with_held half.cache (overwritten (slot_of half.cache.image.geometry.track_size (made_on (track_of (slot_held half.cache)) number count)) w.start more))
+      (slot_held half.cache) (Filled (record { start = w.start + length more; len = w.len - length more }) (written.Record number))
+
+pub made_absorbs : (half : HalfDone) (more : List ℕ) (w : Window) (number : ℕ) (count : List ℕ) → Works half → half.progress.place ≡ Due w number count → length more ≤ half.progress.left → NextMade half more w number count
+made_absorbs half more w number count x at le =
+    let c = half.cache in
+    let size = c.image.geometry.track_size in
+    let n = own_track half in
+    let h : HasDue (at_work half) w number count = rw at at x.goes.placed in
+    let t = track_of (slot_held c) in
+    let area = half.opened.area in
+    let same_track : formatted t area count ≡ made_on t number count = sym (made_formatted t area number count h.fits.is_last) in
+    let made : List ℕ = slot_of size (made_on t number count) in
+    let c' = after_format c area count in
+    let left : half.progress.left ≤ w.len = rw at at x.goes.left in
+    let half' : HalfDone = record half { cache = c'; before = slot_held c; progress = record half.progress { place = Filled w (written.Record number) } } in
+    let works' : Works half' = record {
+      volume = h.volume;
+      arm = x.arm;
+      anchored = λ _. h.at_hand.held;
+      goes = record { moved = x.goes.moved; left = left; placed = h.filled; no_credit = x.goes.no_credit };
+    } in
+    let k = filled_absorbs half' more w (written.Record number) (record { works = works'; room = le; taking = h.filled.takes }) refl in
+    let new_at : slot_held c' ≡ made =
+    slot_is c' n (slot_held c') h.at_hand.held refl ∙ new_slot_at c n (slot_of size (formatted t area count)) h.at_hand.held (there half x) ∙ ap (slot_of size) same_track in
+    let w' : Window = record { start = w.start + length more; len = w.len - length more } in
+    let S : List ℕ → Type 0 = λ y. SameRecords y (overwritten y w.start more) in
+    let A : List ℕ → Type 0 = λ y. Absorbs half' more (with_held c' (overwritten y w.start more)) (slot_held c) (Filled w' (written.Record number)) in
+    let C : CacheState → Type 0 = λ y. Absorbs half' more y (slot_held c) (Filled w' (written.Record number)) in
+    let same : with_held c' (overwritten made w.start more) ≡ with_held c (overwritten made w.start more) =
+    ap (λ (s : List (List ℕ)). let y : CacheState = record c { slots = s; changed = true } in y) (set-set c.slots (unwrap_or c.held 0) (slot_of size (formatted t area count)) (overwritten made w.start more)) in
+    let a = subst C same (subst A new_at k.absorbs) in
+    let here = slot_is c n (slot_held c) h.at_hand.held refl in
+    let f = h.filled.filled in
+    let short : length more ≤ w.len = omega (arith, le, left) in
+    let G : Track → Type 0 = λ y. FitsSlot size y in
+    let P : Track → Type 0 = λ y. IsPlaceOf extent.KeyAndData y (Of part.Data number) w in
+    record {
+      due = h;
+      readable = rw here h.at_hand.readable;
+      le = short;
+      room = omega (arith, f.within, x.volume.geometry.limit);
+      can = record {
+        there = omega (arith, h.fits.is_last, kept_le t area);
+        no_end_mark = no_end_mark c.image.geometry.model (kept t area) count h.fits.fits;
+        fits = subst G same_track h.fits.spelled;
+        place = subst P same_track h.fits.place;
+        room = short;
+        begins = subst S new_at k.records;
+      };
+      absorbs = record {
+        works = a.works;
+        image = a.image;
+        seen_same = a.seen_same ∙ h.plain ∙ rw at refl;
+        changed = sym (or-true c.changed);
+        still = λ _. refl;
+        small = a.small;
+      };
+    }

@@ -10,7 +10,7 @@ use Rattle.ckd_command.specs.declared.tables.Action.TheVariants as action
 use Rattle.ckd_command.specs.declared.begin.Opened.{Opened}
 use Rattle.ckd_command.specs.Answers.{Found, IndexPassed, NextHead, Missed, moved_to}
 use Rattle.ckd_drive.specs.declared.transfer.Transfer.{Transfer}
-use Rattle.ckd_drive.specs.declared.transfer.Transfer.TheVariants.{Sense, Field, Read, Search, Fill, Filled}
+use Rattle.ckd_drive.specs.declared.transfer.Transfer.TheVariants.{Sense, Field, Read, Search, Fill, Due, Filled}
 use Rattle.ckd_command.specs.Tables.{action_of, aim, needs_readable}
 use Rattle.ckd_position.specs.Contents.{is_readable, Sighted}
 use Rattle.ckd_command.specs.Commands.{Closing, sight, command_end, IsAtTrack, length_after, with_cause, sight_of}
@@ -146,6 +146,7 @@ first_placed job (Fill w u) f h again =
       record { again = again; len = omega (arith, length_by action.Update (geometry_in job) t job.opened job.registers [] f.0, ap length area, f.1.size) },
       record { so = ap command_end is ∙ sym f.3; unwritten = ap (λ (k : Closing). k.written) is },
     )
+first_placed job (Due w number count) f h again = absurd f
 first_placed job (Filled w u) f h again = absurd f
 
 first_not_filled : (slot : List ℕ) (o : Opened) (r : Registers) (p : Transfer) → IsFirstPlace slot o r p → is_filled_by p ≡ false
@@ -155,6 +156,7 @@ first_not_filled slot o r _ f = refl
 -- how many bytes it wants, by its place
 pub first_len : (job : AtWork) (p : Transfer) → IsFirstPlace (slot_in job) job.opened job.registers p → IsPlaced (record job { passed = [] }) p
     → length_after (geometry_in job) (track_of (slot_in job)) job.opened job.registers [] ≡ 0 + remaining (action_of job.opened.command) p 0
+first_len job (Due w number count) f x = absurd f
 first_len job (Filled w u) f x = absurd f
 first_len job _ f x = x.1.len
 

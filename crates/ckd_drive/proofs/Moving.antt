@@ -1,5 +1,5 @@
 -- Bytes that pass.
-use Rattle.std.proofs.Common.{◌≡◌, ◌∙◌, ap, sym, subst, refl, inl, inr, ◌⊎◌, ℕ, ◌+◌, ◌-◌, ◌<◌, ◌≤◌, ◌^◌, List, [], ◌++◌, true, false, length, take, drop, slice_range, length-append, length-take, length-drop, drop-drop, arith, Bool, ◌||◌}
+use Rattle.std.proofs.Common.{◌≡◌, ◌∙◌, ap, sym, subst, refl, inl, inr, ◌⊎◌, ℕ, ◌+◌, ◌-◌, ◌<◌, ◌≤◌, ◌^◌, List, [], ◌++◌, true, false, length, take, drop, slice_range, append-nil, length-append, length-take, length-drop, drop-drop, arith, Bool, ◌||◌}
 use Rattle.std.proofs.lemmas.List.{take-take, drop-take, get_or_past}
 use Rattle.std.proofs.lemmas.Bool.{cases_lt}
 use Rattle.ckd_track.specs.Track.{track_of}
@@ -8,7 +8,7 @@ use Rattle.ckd_command.specs.declared.tables.Action.TheVariants as action
 use Rattle.ckd_command.specs.Answers.{CommandEnd}
 use Rattle.ckd_slot.specs.declared.windows.Window.{Window}
 use Rattle.ckd_drive.specs.declared.transfer.Transfer.{Transfer}
-use Rattle.ckd_drive.specs.declared.transfer.Transfer.TheVariants.{Sense, Field, Read, Search, Fill, Filled}
+use Rattle.ckd_drive.specs.declared.transfer.Transfer.TheVariants.{Sense, Field, Read, Search, Fill, Due, Filled}
 use Rattle.ckd_drive.specs.declared.answers.Stage.TheVariants.{Passing}
 use Rattle.ckd_command.specs.Tables.{is_giving}
 use Rattle.ckd_position.specs.Contents.{Sighted}
@@ -17,7 +17,7 @@ use Rattle.ckd_slot.specs.Buffer.{Lies}
 use Rattle.ckd_slot.specs.Cache.{CacheState, IsVolume, slot_held}
 use Rattle.ckd_drive.specs.Work as work
 use Rattle.ckd_drive.specs.Work.{DriveState, gives_now, left_of, given_now, passed_of, moved_on}
-use Rattle.ckd_drive.specs.Invariant.{Stands, IsPlaced, IsField, ClosesUnwritten, remaining, given_on, state_of, slot_at, is_filled_by, Parts, AtWork, closing_in, HalfDone, Works, Absorbs, own_slot, own_track, action_now, seen_with, with_taken, at_work, parts_of}
+use Rattle.ckd_drive.specs.Invariant.{Stands, IsPlaced, IsField, ClosesUnwritten, remaining, given_on, state_of, slot_at, is_filled_by, Parts, AtWork, closing_in, HalfDone, Works, Absorbs, own_slot, own_track, action_now, seen_with, with_taken, with_place, Finishes, is_due, at_work, parts_of}
 use Rattle.ckd_command.proofs.Closings.{area_by, closing_by, sense_closes as closes_sense, sense_length}
 use Rattle.ckd_command.proofs.Lengths.{length_by}
 use Rattle.ckd_drive.proofs.Standing.{goes_of, slot_is}
@@ -121,6 +121,29 @@ pub taken_state : {d : Parts} {more : List ℕ} {c : CacheState} {before : List 
     → state_of (parts_of (with_taken d.job more c before place) d.mark Passing) ≡ record now { work = moved_on more now.work }
 taken_state now is now_is a = rw (← now_is, is, a.image, a.seen_same) refl
 
+-- A command once a record that was due is made: its drive is as it was for those who call it.
+pub record Finished (d : Parts) (h : HalfDone) : Type 0 where
+  pub stands : Stands (parts_of h d.mark d.stage)
+  pub state : state_of (parts_of h d.mark d.stage) ≡ state_of d
+  pub made : is_due h.progress.place ≡ false
+
+pub finished : (d : Parts) (c : CacheState) (before : List ℕ) (place : Transfer) → Stands d → d.stage ≡ Passing → Finishes d.job d.job.progress.place c before place → Finished d (with_place d.job c before place)
+finished d c before place x is f = by_place d.job.progress.place refl f
+  where
+    by_place : (p : Transfer) → d.job.progress.place ≡ p → Finishes d.job p c before place → Finished d (with_place d.job c before place)
+    by_place (Due w number count) at k =
+        let a = k.0 in
+        let job = d.job in
+        let S : HalfDone → Type 0 = λ h. Stands (parts_of h d.mark Passing) in
+        let nothing : job.passed ++ [] ≡ job.passed = append-nil job.passed in
+        let moved : job.progress.moved + 0 ≡ job.progress.moved = omega arith in
+        let left : job.progress.left - 0 ≡ job.progress.left = omega arith in
+        let same : with_taken job [] c before place ≡ with_place job c before place = rw (nothing, moved, left) refl in
+        record { stands = rw is (subst S same (taken_stands x is a)); state = rw (is, a.image, a.seen_same) refl; made = k.1 }
+    by_place p at k =
+        let F : Transfer → Type 0 = λ q. Finished d (with_place d.job d.job.cache d.job.before q) in
+        rw (k.0, k.1, k.2) (subst F at (record { stands = x; state = refl; made = rw at refl }))
+
 -- Bytes that are given.
 
 same_closing : (job : AtWork) (t : Sighted) (more : List ℕ) (u : CommandEnd) → closing_in (record job { passed = job.passed ++ more }) t ≡ closing_in job t → ClosesUnwritten job t u → ClosesUnwritten (record job { passed = job.passed ++ more }) t u
@@ -192,6 +215,7 @@ given_absorbs half more k x n may giving = rw n (by_place half.progress.place re
     by_place (Field f) at = absurd (field_takes (action_now half) (rw at at placed).0.is_field giving)
     by_place (Search w so_far) at = absurd (not_given _ action.Search (rw at at placed).0.is_search refl giving)
     by_place (Fill w u) at = absurd (not_given _ action.Update (rw at at placed).0.is_update refl giving)
+    by_place (Due w number count) at = absurd (not_given _ _ refl (rw at at placed).filled.takes giving)
     by_place (Filled w u) at = absurd (not_given _ _ refl (rw at at placed).takes giving)
 
 -- what may be given: so many bytes, and they are what the definitions give

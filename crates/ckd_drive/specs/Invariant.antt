@@ -23,7 +23,7 @@ use Rattle.std.specs.declared.cmp.Ordering.{Ordering}
 use Rattle.std.specs.declared.cmp.Ordering.TheVariants as order
 use Rattle.std.specs.Cmp.Lexicographic.{slice_cmp}
 use Rattle.ckd_drive.specs.declared.transfer.Transfer.{Transfer}
-use Rattle.ckd_drive.specs.declared.transfer.Transfer.TheVariants.{Sense, Field, Read, Search, Fill, Filled}
+use Rattle.ckd_drive.specs.declared.transfer.Transfer.TheVariants.{Sense, Field, Read, Search, Fill, Due, Filled}
 use Rattle.ckd_drive.specs.declared.transfer.Written.{Written as WrittenBy}
 use Rattle.ckd_drive.specs.declared.transfer.Written.TheVariants as written
 use Rattle.ckd_drive.specs.declared.transfer.Whole.{Whole}
@@ -37,8 +37,8 @@ use Rattle.ckd_sense.specs.SenseBytes.{sense_bytes}
 use Rattle.ckd_sense.specs.declared.sense_bytes.TheConstants.Sense as cause
 use Rattle.ckd_position.specs.Contents.{Sighted, is_readable, padded}
 use Rattle.ckd_command.specs.Commands.{Closing, IsAtTrack, sight as sight_on, area_bytes, bytes_at, area_ends, end_of_area, search_ends, whole_field, seek_cylinder_and_head, seek_head, set_file_mask, fails, ends, at_end, ending_status, length_after, closing, command_end, home_address_ends, format_ends}
-use Rattle.ckd_slot.specs.Buffer.{Lies, HasBytes, IsPlaceOf, FitsSlot, lengths_on}
-use Rattle.ckd_slot.specs.Cache.{CacheState, IsVolume}
+use Rattle.ckd_slot.specs.Buffer.{Lies, HasBytes, IsPlaceOf, FitsSlot, HasFormatted, lengths_on}
+use Rattle.ckd_slot.specs.Cache.{CacheState, IsVolume, slot_held, after_format}
 use Rattle.ckd_command.specs.Drive.{is_written_by}
 use Rattle.ckd_drive.specs.Work.{Work, Idle, Over, Looking, Passing, DriveState, immediate_ending, failed_ending}
 
@@ -62,6 +62,7 @@ remaining a (Field f) moved = field_size a - moved
 remaining a (Read w no_data) moved = w.len
 remaining a (Search w so_far) moved = w.len
 remaining a (Fill w no_data) moved = w.len
+remaining a (Due w number count) moved = w.len
 remaining a (Filled w what) moved = w.len
 
 -- how a command closes that has written
@@ -297,6 +298,20 @@ pub record HasFilled (job : AtWork) (w : Window) (what : WrittenBy) : Type 0 whe
   pub takes : is_giving (action_in job) ≡ false
   pub some : 0 < length job.passed
 
+-- the command, had it made a record of these count bytes with zeros
+abbrev pub with_made : AtWork → (count : List ℕ) → AtWork
+with_made job count = record job { cache = after_format job.cache job.opened.area count; before = slot_held job.cache }
+
+-- a new record that fits is due: the track is as it was, and would be being written had the record been made with zeros
+pub record HasDue (job : AtWork) (w : Window) (number : ℕ) (count : List ℕ) : Type 0 where
+  pub at_hand : AtHand job.cache (number_in job)
+  pub fits : HasFormatted (geometry_in job).model (geometry_in job).track_size job.opened.area count
+      (track_of (slot_held job.cache)) number w
+  pub volume : IsVolume (with_made job count).cache
+  pub filled : HasFilled (with_made job count) w (written.Record number)
+  pub found : IsFound job (track_of (slot_in job)) (Due w number count)
+  pub plain : slice_set (with_made job count).cache.slots (number_in job) (slot_held job.cache) ≡ job.cache.slots
+
 -- a command that works by a credit has the credit's track at hand
 abbrev pub CreditAtHand : Aim → CacheState → ℕ → Type 0
 CreditAtHand Credited c n = AtHand c n
@@ -313,6 +328,7 @@ IsPlaced job (Read w no_data) = HasRead job w × IsFound job (track_of (slot_in 
 IsPlaced job (Search w so_far) = HasSearched job w so_far × IsFound job (track_of (slot_in job)) (Search w so_far)
 IsPlaced job (Fill w no_data) = WillFill job w × IsFound job (track_of (slot_in job)) (Fill w no_data)
     × ClosesUnwritten job (track_of (slot_in job)) (area_end job no_data)
+IsPlaced job (Due w number count) = HasDue job w number count
 IsPlaced job (Filled w what) = HasFilled job w what
 
 -- What a look has found.
@@ -471,6 +487,8 @@ command_end_at g r o moved (Sense b) = command_end (area_ends o r false)
 command_end_at g r o moved (Read w no_data) = command_end (area_ends o r no_data)
 command_end_at g r o moved (Fill w no_data) = command_end (area_ends o r no_data)
 command_end_at g r o moved (Filled w what) = closes_by r o what
+-- a record that is due is made before
+command_end_at g r o moved (Due w number count) = command_end (area_ends o r false)
 
 -- no more bytes passed than the field has
 abbrev pub MovedInField : Action → (moved : ℕ) → Transfer → Type 0
@@ -521,3 +539,19 @@ pub record Absorbs (h : HalfDone) (more : List ℕ) (c : CacheState) (before : L
   pub changed : c.changed ≡ (h.cache.changed || is_filled_by place)
   pub still : is_filled_by h.progress.place ≡ true → is_filled_by place ≡ true
   pub small : length h.passed + length more < 2 ^ 32
+
+-- A record that is due is made as the command closes.
+
+-- the command once it is over this cache, with this slot before it wrote and this place of the rest
+abbrev pub with_place : HalfDone → CacheState → (before : List ℕ) → Transfer → HalfDone
+with_place h c before place = record h { cache = c; before = before; progress = record h.progress { place = place } }
+
+-- whether a new record is due
+abbrev pub is_due : Transfer → Bool
+is_due (Due w number count) = true
+is_due _ = false
+
+-- where a record was due it has been made with zeros, and where none was all is as it was
+abbrev pub Finishes : HalfDone → Transfer → CacheState → (before : List ℕ) → Transfer → Type 0
+Finishes h (Due w number count) c before place = Absorbs h [] c before place × (is_due place ≡ false)
+Finishes h was c before place = (c ≡ h.cache) × (before ≡ h.before) × (place ≡ was)

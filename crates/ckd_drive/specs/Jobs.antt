@@ -9,7 +9,7 @@ use Rattle.ckd_command.specs.Commands.{beginning, sight}
 use Rattle.ckd_drive.specs.declared.job.Job.{Job}
 use Rattle.ckd_drive.specs.declared.answers.Stage.{Stage}
 use Rattle.ckd_drive.specs.declared.answers.Stage.TheVariants as stage
-use Rattle.ckd_drive.specs.Invariant.{HalfDone, own_track, own_slot, Absorbs, Parts, parts_of, BeginsWell, AreaIsThere, command_end_at}
+use Rattle.ckd_drive.specs.Invariant.{HalfDone, own_track, own_slot, Absorbs, Parts, parts_of, BeginsWell, AreaIsThere, Finishes, command_end_at}
 use Rattle.ckd_drive.specs.Calls.{Begins, Looks}
 
 -- the command half done that a job holds
@@ -59,9 +59,15 @@ pub record Sees {S : Type 0} (old : Job S) (seen : Seen) (new : Job S) : Type 0 
 abbrev pub LooksTo : {S : Type 0} → (old : Job S) → (was : Mark) → (new : Job S) → (now : Mark) → Stage → Type 0
 LooksTo old was new now s = Looks (parts_held old was stage.Looking) (parts_held new now s)
 
--- a job closes its command so by the bytes that passed; nothing but the registers changes
+-- a job closes its command so by the bytes that passed, once a record that was due is made; nothing else but the registers changes
 pub record ClosesTo {S : Type 0} (old : Job S) (closed : Closed) (new : Job S) : Type 0 where
+  pub finishes : Finishes (half_done old) old.progress.place new.cache new.before.bytes new.progress.place
   pub closes : closed_as closed new.registers
-      ≡ command_end_at old.cache.image.geometry old.registers old.opened old.progress.moved old.progress.place
+      ≡ command_end_at new.cache.image.geometry old.registers old.opened old.progress.moved new.progress.place
   pub registers : ClosedStays closed old.registers new.registers
-  pub stays : new ≡ record old { registers = new.registers }
+  pub stays : new ≡ record old {
+    cache = new.cache;
+    before = new.before;
+    progress = record old.progress { place = new.progress.place };
+    registers = new.registers;
+  }

@@ -6,8 +6,9 @@ ghost use Rattle.ckd_command.specs.Commands.{command_end, whole_field, at_end, f
 ghost use Rattle.ckd_command.specs.Answers.{closed_as, ClosedStays};
 ghost use Rattle.ckd_sense.specs.declared.sense_bytes.TheConstants.Sense.{WRONG_HOME_ADDRESS};
 ghost use Rattle.ckd_drive.specs.Work.{settled_mark, owed_mark};
-ghost use Rattle.ckd_drive.specs.Invariant.{field_ends, MovedInField, mark_left, field_size, closes_by};
-ghost use Rattle.ckd_drive.specs.Jobs.{ClosesTo};
+ghost use Rattle.ckd_drive.specs.Invariant.{field_ends, MovedInField, mark_left, field_size, closes_by, Works};
+ghost use Rattle.ckd_drive.specs.Jobs.{half_done, ClosesTo};
+ghost use Rattle.ckd_drive.specs.declared.transfer.Transfer.TheVariants as held;
 
 use crate::job::Job;
 use crate::transfer::{Transfer, Written};
@@ -18,6 +19,7 @@ use ckd_command::{
 };
 use ckd_image::ImageStore;
 use ckd_sense::Sense;
+use ckd_slot::Window;
 use ckd_track::Geometry;
 
 /// The mark of a track that a command leaves whose arm stays.
@@ -108,10 +110,24 @@ fn written_ends(opened: &Opened, registers: &mut Registers, written: Written) ->
 }
 
 impl<S: ImageStore> Job<S> {
-    /// How the command closes, as far as it is known by the place of its bytes and by how many have passed.
+    // A new record of which no byte came behind its count area is made with zeros.
+    // By itself, since few records are left so.
+    #[inline(never)]
+    fn close_due(&mut self, place: Window, number: usize, count: [u8; 8]) -> Closed
+        requires works { Works (half_done self.old) }
+        requires at { self.old.progress.place ≡ held.Due place number count }
+        ensures { ClosesTo self.old result self.new }
+    {
+        self.make(&[], place, number, count);
+        close_format(&mut self.registers, number)
+    }
+
+    /// How the command closes, as far as it is known by the place of its bytes and by how many have passed. A new record that is
+    /// due is made before.
     #[inline(always)]
     pub(crate) fn close(&mut self) -> Closed
-        requires { MovedInField (action_of self.old.opened.command) self.old.progress.moved self.old.progress.place }
+        requires moved { MovedInField (action_of self.old.opened.command) self.old.progress.moved self.old.progress.place }
+        requires works { Works (half_done self.old) }
         ensures { ClosesTo self.old result self.new }
     {
         let geometry = self.cache.geometry();
@@ -129,6 +145,10 @@ impl<S: ImageStore> Job<S> {
                 close_search(opened, registers, satisfied, window.len == 0)
             }
             Transfer::Field(field) => field_ends(geometry, opened, registers, &field[..moved]),
+            Transfer::Due(place, number, count) => {
+                let (place, number, count) = (*place, *number, *count);
+                self.close_due(place, number, count)
+            }
         }
     }
 }

@@ -1,7 +1,7 @@
 //! The bytes of a command that pass: where they stand, and what becomes of those that it takes.
 
 ghost use Rattle.std.specs.Prelude.{◌≡◌, ◌≤◌, ◌<◌, ◌+◌, length, ◌-◌, ◌^◌, slice_range};
-ghost use Rattle.ckd_drive.specs.Invariant.{MayTake, MayGive, IsNoSearch, whole_of, remaining, field_size, given_on};
+ghost use Rattle.ckd_drive.specs.Invariant.{MayTake, Works, MayGive, IsNoSearch, whole_of, remaining, field_size, given_on};
 ghost use Rattle.ckd_drive.specs.Jobs.{half_done, Takes};
 ghost use Rattle.ckd_command.specs.Commands.{own_home_address};
 ghost use Rattle.std.specs.Ordering.{nat_cmp, ordering_then};
@@ -9,6 +9,7 @@ ghost use Rattle.std.specs.Cmp.Lexicographic.{slice_cmp};
 ghost use Rattle.ckd_command.specs.Tables.{action_of};
 ghost use Rattle.ckd_track.specs.Changes.{overwritten};
 ghost use Rattle.ckd_drive.specs.declared.transfer.Transfer.TheVariants as held;
+ghost use Rattle.ckd_drive.specs.declared.transfer.Written.TheVariants as written;
 
 use crate::job::Job;
 use ckd_command::{Action, Opened, Registers, own_home_address, tables};
@@ -31,6 +32,9 @@ pub enum Transfer {
     Search(Window, Ordering),
     /// These bytes are to be replaced, none was yet; and whether the area's record has no data.
     Fill(Window, bool),
+    /// A new record fits the track, which is as it was: its key and data will stand there, and it has this number and these
+    /// count bytes.
+    Due(Window, usize, [u8; 8]),
     /// The track is changed, these bytes are zeros that may still be replaced, and the command then closes so.
     Filled(Window, Written),
 }
@@ -92,6 +96,7 @@ pub(crate) fn remaining(action: Action, place: &Transfer, moved: usize) -> usize
         Transfer::Read(window, _)
         | Transfer::Search(window, _)
         | Transfer::Fill(window, _)
+        | Transfer::Due(window, _, _)
         | Transfer::Filled(window, _) => window.len,
     }
 }
@@ -195,7 +200,8 @@ impl<S: ImageStore> Job<S> {
         );
     }
 
-    // A field is collected, and once it came whole the track is changed where that is allowed.
+    // A field is collected, and once it came whole the track is changed where that is allowed, or a new record is due that fits.
+    #[inline(never)]
     fn collect(&mut self, bytes: &[u8], field: [u8; 8])
         requires may { MayTake (half_done self.old) bytes.now }
         requires at { self.old.progress.place ≡ held.Field field }
@@ -214,18 +220,17 @@ impl<S: ImageStore> Job<S> {
                 );
             }
             Whole::Count(count) => {
-                let was = Trace::of(self.cache.buffer().bytes());
-                let Some((number, rest)) = self.cache.format(self.opened.area, count) else {
+                let Some((number, place)) = self.cache.place_for(self.opened.area, count) else {
                     self.progress.place = Transfer::Field(field);
                     return;
                 };
-                self.before = was;
-                self.progress.place = Transfer::Filled(rest, Written::Record(number));
+                self.progress.place = Transfer::Due(place, number, count);
             }
         }
     }
 
     // The bytes of an area are replaced: those that came by their own, the others by zeros.
+    #[inline(never)]
     fn fill(&mut self, bytes: &[u8], window: Window, no_data: bool)
         requires may { MayTake (half_done self.old) bytes.now }
         requires at { self.old.progress.place ≡ held.Fill window no_data }
@@ -243,6 +248,24 @@ impl<S: ImageStore> Job<S> {
         self.cache.clear(tables::extent(self.opened.command), area);
         self.cache.put(window.start, bytes);
         self.progress.place = Transfer::Filled(behind(window, bytes.len()), Written::Area(no_data));
+    }
+
+    /// A new record that is due is made with the first bytes of its key and data, however many.
+    #[inline(never)]
+    pub(crate) fn make(&mut self, bytes: &[u8], place: Window, number: usize, count: [u8; 8])
+        requires works { Works (half_done self.old) }
+        requires at { self.old.progress.place ≡ held.Due place number count }
+        requires room { length bytes.now ≤ self.old.progress.left }
+        ensures takes { Takes self.old bytes.now self.new }
+        ensures filled { self.new.progress.place ≡ held.Filled (record {
+          start = place.start + length bytes.now;
+          len = place.len - length bytes.now;
+        }) (written.Record number) }
+    {
+        // noted first, so that the copy is the last that is done
+        self.before = Trace::of(self.cache.buffer().bytes());
+        self.progress.place = Transfer::Filled(behind(place, bytes.len()), Written::Record(number));
+        self.cache.format(number, count, place, bytes);
     }
 
     // More bytes of an area that is being written.
@@ -266,6 +289,7 @@ impl<S: ImageStore> Job<S> {
         match self.progress.place {
             Transfer::Field(field) => self.collect(bytes, field),
             Transfer::Fill(window, no_data) => self.fill(bytes, window, no_data),
+            Transfer::Due(place, number, count) => self.make(bytes, place, number, count),
             Transfer::Filled(window, written) => self.fill_on(bytes, window, written),
             Transfer::Search(_, _) | Transfer::Sense(_) | Transfer::Read(_, _) => unreachable!(),
         }

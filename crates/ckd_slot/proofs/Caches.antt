@@ -1,5 +1,5 @@
 -- The slot at hand and the image's slots.
-use Rattle.std.proofs.Common.{◌≡◌, ◌∙◌, refl, ℕ, ◌+◌, ◌<◌, List, [], Bool, true, false, Option, Some, None, IsSome, length, get_or, set, get_or-set_same, slice_set, set-set, arith}
+use Rattle.std.proofs.Common.{◌≡◌, ◌∙◌, refl, ℕ, ◌+◌, ◌<◌, List, [], Bool, true, false, Option, Some, None, IsSome, length, get_or-set_same, slice_set, set-set}
 use Rattle.ckd_image.specs.Image.{ImageState}
 use Rattle.ckd_slot.specs.Cache.{CacheState, Holds, with_held, slot_held, held_over, after_failed_save}
 

@@ -1,5 +1,5 @@
 -- What writes leave of the slot and of the table.
-use Rattle.std.proofs.Common.{◌≡◌, ◌∙◌, ap, sym, subst, refl, ℕ, ◌+◌, ◌-◌, ◌/◌, ◌^◌, ◌≤◌, ◌<◌, min, List, [], ◌∷◌, ◌++◌, Bool, true, false, length, take, drop, set, flat_map, replicate, slice_index, bytes_eq, length-append, length-take, length-set, append-nil, Option, Some, None, Ok, unwrap_or, All, sum_by, arith}
+use Rattle.std.proofs.Common.{◌≡◌, ◌∙◌, ap, sym, subst, refl, ℕ, zero, suc, ◌+◌, ◌-◌, ◌/◌, ◌^◌, ◌≤◌, ◌<◌, min, List, [], ◌∷◌, ◌++◌, Bool, true, false, length, take, drop, set, flat_map, replicate, slice_index, bytes_eq, length-append, length-take, length-set, append-nil, Option, Some, None, Ok, unwrap_or, All, sum_by, arith}
 use Rattle.std.specs.Option.{ForSome}
 use Rattle.std.proofs.lemmas.List.{length-replicate, take_min, take_at, take-take, take_more_set, get_or_at}
 use Rattle.std.proofs.Math.Seq.{map-set_same}
@@ -20,13 +20,13 @@ use Rattle.ckd_position.specs.declared.areas.Area.{Area}
 use Rattle.ckd_position.specs.declared.areas.Area.TheVariants.{HomeAddress, Of}
 use Rattle.ckd_position.specs.declared.areas.Part.{Part}
 use Rattle.ckd_position.specs.declared.areas.Part.TheVariants as part
-use Rattle.ckd_position.specs.Contents.{is_readable, padded, new_record, formatted, kept, replaced, with_record_changed}
-use Rattle.ckd_slot.specs.Buffer.{IsIndexed, IsBuffer, StandsThere, number_up_to, FitsSlot, IsUpdate, IsRecordOf, IsPlaceOf, end_of_records, record_place, lengths_on, fits_track}
+use Rattle.ckd_position.specs.Contents.{Sighted, is_readable, padded, new_record, record_before, formatted, kept, replaced, with_record_changed}
+use Rattle.ckd_slot.specs.Buffer.{IsIndexed, IsBuffer, StandsThere, number_up_to, FitsSlot, IsUpdate, IsRecordOf, IsPlaceOf, end_of_records, record_place, lengths_on, fits_track, area_before, made_on}
 use Rattle.ckd_slot.specs.declared.charges.Charged.{Charged}
 use Rattle.ckd_position.specs.declared.extents.Extent.{Extent}
 use Rattle.ckd_position.specs.declared.extents.Extent.TheVariants as extent
 use Rattle.ckd_slot.specs.declared.windows.Window.{Window}
-use Rattle.ckd_slot.proofs.AreaPlaces.{Reads, parts_there, how_many}
+use Rattle.ckd_slot.proofs.AreaPlaces.{Reads, reads, parts_there, how_many}
 use Rattle.ckd_slot.proofs.Lengths.{lengths_of}
 
 -- The table.
@@ -106,8 +106,7 @@ pub length-kept : (t : Track) (before : Option ℕ) → ForSome before (λ i. i 
 length-kept t before lt = ap length (kept_take t before) ∙ omega (arith, length-take (number_up_to before) t.records, up_to_le t before lt)
 
 -- what is known of a new record that fits
-pub record Fitting (slot : List ℕ) (model : DriveModel) (before : Option ℕ) (after : Option Area) (count : List ℕ) : Type 0 where
-  pub fits : fits_track model after count (track_of slot) ≡ true
+pub record Fitting (slot : List ℕ) (before : Option ℕ) (after : Option Area) (count : List ℕ) : Type 0 where
   pub spells : Spells slot (track_in slot)
   pub bytes : AreBytes count
   pub eight : length count ≡ 8
@@ -119,24 +118,31 @@ pub record Fitting (slot : List ℕ) (model : DriveModel) (before : Option ℕ) 
 -- by what the code asked of the track as it sees it, and by the answer
 pub fitting : (slot : List ℕ) (model : DriveModel) (before : Option ℕ) (after : Option Area) (count : List ℕ) (seen : Track) (n : ℕ) (answer : Bool) → Spells slot (track_in slot) → AreBytes count → length count ≡ 8
     → kept_records before (track_in slot) ≡ kept (track_of slot) after → ForSome before (λ i. i < length (track_in slot).records) → track_of slot ≡ Ok seen → n ≡ number_up_to before
-    → answer ≡ has_room model (take n seen.records) (key_length count) (data_length count) → answer ≡ true → capacity_of model + 37 ≤ length slot → Fitting slot model before after count
+    → answer ≡ has_room model (take n seen.records) (key_length count) (data_length count) → answer ≡ true → capacity_of model + 37 ≤ length slot → Fitting slot before after count × (fits_track model after count (track_of slot) ≡ true)
 fitting slot model before after count seen n answer s b eight same there read is by_sum holds size =
     let same_track : track_in slot ≡ seen = ap track_or_none read in
     let has : has_room model (kept_records before (track_in slot)) (key_length count) (data_length count) ≡ true = rw (kept_take (track_in slot) before, same_track, ← is) (sym by_sum ∙ holds) in
     let S : Track → Type 0 = λ x. length (spelling x) ≤ capacity_of model + 37 in
-    let le = subst S (formatted_is slot before after count eight same) (leaves_room model (track_in slot) before (key_length count) (data_length count) s.home_address s.records has count (replicate (body_length count) 0) eight refl refl (length-replicate {A = ℕ} (body_length count) 0)) in
-    record {
-      fits = ap (λ (rs : List Record). has_room model rs (key_length count) (data_length count)) (sym same) ∙ has;
-      spells = s;
-      bytes = b;
-      eight = eight;
-      no_mark = no_end_mark model (kept_records before (track_in slot)) count has;
-      same = same;
-      there = there;
-      room = omega (arith, le, size);
-    }
+    let le = subst S (formatted_is slot before after count eight same) (leaves_room model (track_in slot) before (key_length count) (data_length count) s.home_address s.records has count (replicate (body_length count) 0) eight refl refl (length-replicate {A = ℕ} (body_length count) 0)) in (
+      record {
+        spells = s;
+        bytes = b;
+        eight = eight;
+        no_mark = no_end_mark model (kept_records before (track_in slot)) count has;
+        same = same;
+        there = there;
+        room = omega (arith, le, size);
+      },
+      ap (λ (rs : List Record). has_room model rs (key_length count) (data_length count)) (sym same) ∙ has,
+    )
 
-module _ {slot : List ℕ} {model : DriveModel} {before : Option ℕ} {after : Option Area} {count : List ℕ} (k : Fitting slot model before after count) where
+-- by what a caller knows of it
+pub formatting : {slot offsets : List ℕ} {records : Option ℕ} {zeros_from : ℕ} {charged : Charged} (before : Option ℕ) (after : Option Area) (count : List ℕ) → IsBuffer slot offsets records zeros_from charged → is_readable (track_of slot) ≡ true
+    → AreBytes count → length count ≡ 8 → bytes_eq count end_mark ≡ false → kept_records before (track_in slot) ≡ kept (track_of slot) after → ForSome before (λ i. i < length (track_in slot).records)
+    → FitsSlot (length slot) (formatted (track_of slot) after count) → Fitting slot before after count
+formatting before after count x r bytes eight no_mark same there f = record { spells = (reads x r).spells; bytes = bytes; eight = eight; no_mark = no_mark; same = same; there = there; room = f.room }
+
+module _ {slot : List ℕ} {before : Option ℕ} {after : Option Area} {count : List ℕ} (k : Fitting slot before after count) where
   -- the new record, and the track with it
   abbrev zeros : List ℕ
   zeros = replicate (body_length count) 0
@@ -219,6 +225,21 @@ module _ {slot : List ℕ} {model : DriveModel} {before : Option ℕ} {after : O
       ap record_size there ∙ sym (length-record_bytes (record_at (count ++ zeros)) makes_new.is_record) ∙ ap length makes_new.all ∙ all in
       let long : length (record_in made number).key_area + length (record_in made number).data_area ≡ body_length count = omega (arith, size) in
       rw (offset, long) refl)
+
+  -- the place that the new record has
+  pub place_is : (n : ℕ) (w : Window) → n ≡ number_up_to before → IsPlaceOf extent.KeyAndData made (Of part.Data n) w → w ≡ record { start = end_of_records (track_in slot) (number_up_to before) + 8; len = body_length count }
+  place_is n w same p =
+      let many : length (kept (track_of slot) after) ≡ number_up_to before = ap (λ (rs : List Record). length rs) (sym k.same) ∙ length-kept (track_in slot) before k.there in
+      let last : n < length made.records = omega (arith, same, many, length-append (kept (track_of slot) after) (new_record count ∷ [])) in
+      p last ∙ sym (format_place n (end_of_records (track_in slot) (number_up_to before)) same refl last)
+
+  -- the record that begins with these bytes
+  pub written_slot : (w : Window) (bytes : List ℕ) → w ≡ record { start = end_of_records (track_in slot) (number_up_to before) + 8; len = body_length count }
+      → overwritten (ended_at (overwritten (overwritten slot (w.start - 8) count) w.start (replicate w.len 0)) (w.start + w.len)) w.start bytes ≡ overwritten (slot_of (length slot) made) w.start bytes
+  written_slot w bytes is =
+      let at = end_of_records (track_in slot) (number_up_to before) in
+      let e : at + 8 - 8 ≡ at = omega arith in
+      rw (is, e) (ap (λ (x : List ℕ). overwritten x (at + 8) bytes) format_slot)
 
 -- Other bytes in a record's areas.
 
@@ -309,3 +330,37 @@ clear_is e slot (Of part i) w end u s there p last =
       lengths = ap lengths_on (sym same) ∙ k.lengths;
       within = omega (arith, place.0, place.1, last, end_is t, k.within, length-replicate {A = ℕ} n 0);
     }
+
+-- A record by its number.
+
+pub before_there : (n m : ℕ) → n ≤ m → ForSome (record_before (area_before n)) (λ i. i < m)
+before_there zero m le = λ k e. absurd cc
+before_there (suc i) m le = λ k e. (let same : i ≡ k = cc in omega (arith, same, le))
+
+pub up_to_is : (n : ℕ) → number_up_to (record_before (area_before n)) ≡ n
+up_to_is zero = refl
+up_to_is (suc i) = omega arith
+
+no_records : (rs : List Record) → length rs ≡ 0 → [] ≡ rs
+no_records [] e = refl
+no_records (r ∷ rs) e = absurd (omega (arith, e))
+
+kept_by : (m i : ℕ) (t : Track) → length (take (i + 1) t.records) ≡ m → kept_records (record_before (area_before m)) t ≡ take (i + 1) t.records
+kept_by zero i t e = no_records (take (i + 1) t.records) e
+kept_by (suc k) i t e = (let s : k + 1 ≡ min (i + 1) (length t.records) = omega (arith, e, length-take (i + 1) t.records) in rw s (take_min (i + 1) t.records))
+
+kept_before_by : (b : Option ℕ) (t : Track) → kept_records (record_before (area_before (length (kept_records b t)))) t ≡ kept_records b t
+kept_before_by None t = refl
+kept_before_by (Some i) t = kept_by (length (take (i + 1) t.records)) i t refl
+
+-- the record behind an area is that of its number
+pub made_formatted : (t : Sighted) (after : Option Area) (number : ℕ) (count : List ℕ) → number ≡ length (kept t after) → made_on t number count ≡ formatted t after count
+made_formatted t after number count e =
+    rw e (ap (λ (rs : List Record). let y : Track = record (track_or_none t) { records = rs ++ new_record count ∷ [] } in y) (kept_before_by (record_before after) (track_or_none t)))
+
+pub kept_le : (t : Sighted) (after : Option Area) → length (kept t after) ≤ length (track_or_none t).records
+kept_le t after = by (record_before after) (track_or_none t)
+  where
+    by : (b : Option ℕ) (t : Track) → length (kept_records b t) ≤ length t.records
+    by None t = omega arith
+    by (Some i) t = omega (arith, length-take (i + 1) t.records)

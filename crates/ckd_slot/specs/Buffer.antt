@@ -1,11 +1,11 @@
 -- One slot at hand, and a table of its records.
-use Rattle.std.specs.Prelude.{◌≡◌, ℕ, ◌+◌, ◌-◌, ◌/◌, ◌≤◌, ◌<◌, ◌^◌, List, Bool, true, false, Option, Some, None, Ok, length, take, map, flat_map, slice_range, slice_index, All}
-use Rattle.ckd_track.specs.Track.{Record, Track, IsRecord, Spells, track_of, track_in, record_offsets, record_in, record_bytes, spelling, slot_of, key_length, data_length}
+use Rattle.std.specs.Prelude.{◌≡◌, ℕ, zero, suc, ◌+◌, ◌-◌, ◌/◌, ◌≤◌, ◌<◌, ◌^◌, List, Bool, true, false, Option, Some, None, Ok, length, take, map, flat_map, slice_range, slice_index, bytes_eq, All}
+use Rattle.ckd_track.specs.Track.{Record, Track, IsRecord, Spells, track_of, track_in, record_offsets, record_in, record_bytes, spelling, slot_of, end_mark, key_length, data_length}
 use Rattle.ckd_track.specs.declared.model.DriveModel.{DriveModel}
 use Rattle.ckd_position.specs.declared.areas.Area.{Area}
 use Rattle.ckd_position.specs.declared.areas.Area.TheVariants.{HomeAddress, Of}
 use Rattle.ckd_position.specs.declared.areas.Part.TheVariants as part
-use Rattle.ckd_track.specs.Changes.{IsZeroFrom}
+use Rattle.ckd_track.specs.Changes.{IsZeroFrom, overwritten}
 use Rattle.ckd_track.specs.Charges.{capacity_left, has_room}
 use Rattle.ckd_slot.specs.declared.windows.Window.{Window}
 use Rattle.ckd_slot.specs.declared.charges.Charged.{Charged}
@@ -132,9 +132,25 @@ pub record HasFormatted (model : DriveModel) (size : ℕ) (after : Option Area) 
   pub spelled : FitsSlot size (formatted t after count)
   pub place : IsPlaceOf extent.KeyAndData (formatted t after count) (Of part.Data number) rest
 
--- the slot is that of the track with the new record, or stays where that does not fit
-abbrev pub Formats : DriveModel → Option Area → (count old new : List ℕ) → Option (ℕ × Window) → Type 0
-Formats model after count old new (Some n) =
-    HasFormatted model (length old) after count (track_of old) n.0 n.1
-    × (new ≡ slot_of (length old) (formatted (track_of old) after count))
-Formats model after count old new None = (fits_track model after count (track_of old) ≡ false) × (new ≡ old)
+-- the number of a new record behind this area, and where its key and data would stand; none where it does not fit the track
+abbrev pub Places : DriveModel → (size : ℕ) → Option Area → (count : List ℕ) → Sighted → Option (ℕ × Window) → Type 0
+Places model size after count t (Some n) = HasFormatted model size after count t n.0 n.1
+Places model size after count t None = fits_track model after count t ≡ false
+
+-- the area behind which a record of this number is made
+abbrev pub area_before : ℕ → Option Area
+area_before zero = None
+area_before (suc i) = Some (Of part.Data i)
+
+-- the track with a new record of this number and of these count bytes, and with none behind it
+abbrev pub made_on : Sighted → (number : ℕ) → (count : List ℕ) → Track
+made_on t number count = formatted t (area_before number) count
+
+-- such a record can be made in a slot of this size, has its key and data at the place, and may begin with these bytes
+pub record CanMake (size : ℕ) (t : Sighted) (number : ℕ) (count : List ℕ) (w : Window) (bytes : List ℕ) : Type 0 where
+  pub there : number ≤ length (records_on t)
+  pub no_end_mark : bytes_eq count end_mark ≡ false
+  pub fits : FitsSlot size (made_on t number count)
+  pub place : IsPlaceOf extent.KeyAndData (made_on t number count) (Of part.Data number) w
+  pub room : length bytes ≤ w.len
+  pub begins : SameRecords (slot_of size (made_on t number count)) (overwritten (slot_of size (made_on t number count)) w.start bytes)

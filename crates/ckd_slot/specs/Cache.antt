@@ -5,8 +5,6 @@ use Rattle.ckd_image.specs.Image.{ImageState}
 use Rattle.ckd_track.specs.Track.{track_of, slot_of}
 use Rattle.ckd_position.specs.declared.areas.Area.{Area}
 use Rattle.ckd_position.specs.Contents.{formatted}
-use Rattle.ckd_slot.specs.declared.windows.Window.{Window}
-use Rattle.ckd_slot.specs.Buffer.{HasFormatted, fits_track}
 
 -- an image with the slot of one track at hand: which track that is, and whether its slot was changed and not saved
 pub record CacheState : Type 0 where
@@ -103,16 +101,7 @@ pub record IsVolume (c : CacheState) : Type 0 where
   pub sizes : All (λ slot. length slot ≡ c.image.geometry.track_size) c.slots
   pub clean : c.changed ≡ false → c.slots ≡ c.image.slots
 
--- after a formatting write: the slot at hand is that of the track with the new record, or stays where that does not fit
+-- after a formatting write of which no byte came: the slot at hand is that of the track with the new record
 abbrev pub after_format : CacheState → Option Area → (count : List ℕ) → CacheState
 after_format c after count = with_held c (slot_of c.image.geometry.track_size
     (formatted (track_of (slot_held c)) after count))
-
--- what a formatting write answers and leaves: the new record's number with the window of its key and data; or none,
--- and nothing changes, where the record does not fit
-abbrev pub FormatsHeld : (old new : CacheState) → Option Area → (count : List ℕ) → Option (ℕ × Window) → Type 0
-FormatsHeld old new after count (Some n) =
-    HasFormatted old.image.geometry.model old.image.geometry.track_size after count (track_of (slot_held old)) n.0 n.1
-    × (new ≡ after_format old after count)
-FormatsHeld old new after count None = (fits_track old.image.geometry.model after count (track_of (slot_held old))
-    ≡ false) × (new ≡ old)

@@ -1,22 +1,22 @@
 //! The slot of one track at hand, with a table of where its records stand.
 
-ghost use Rattle.std.specs.Prelude.{◌≡◌, ◌≤◌, ◌<◌, ◌+◌, ◌-◌, ◌/◌, ◌^◌, ◌==◌, length, drop, false, slice_index_or, IfOk, OnOk, OnErr, Ok, Some, [], true};
+ghost use Rattle.std.specs.Prelude.{◌≡◌, ◌≤◌, ◌<◌, ◌+◌, ◌-◌, ◌/◌, ◌^◌, ◌==◌, max, length, drop, replicate, false, slice_index_or, IfOk, OnOk, OnErr, Ok, Some, [], true};
 ghost use Rattle.ckd_track.specs.Track.{track_of, track_in, track_or_none, no_track, slot_of, key_length, data_length};
 ghost use Rattle.ckd_track.specs.Geometry.{tracks_of};
 ghost use Rattle.ckd_position.specs.Areas.{next_of_kind, IsOnTrack, IfFound};
-ghost use Rattle.ckd_track.specs.Changes.{overwritten, bare_track, kept_records};
+ghost use Rattle.ckd_track.specs.Changes.{overwritten, bare_track, kept_records, ended_at, IsZeroFrom};
 ghost use Rattle.ckd_track.specs.Model.{capacity_of};
 ghost use Rattle.std.specs.Option.{ForSome};
 ghost use Rattle.ckd_position.specs.Contents.{bytes_of, is_readable, has_no_data, with_record_changed, replaced, kept, record_before};
-ghost use Rattle.ckd_slot.specs.Buffer.{Lies, HasBytes, IsPlaceOf, StandsThere, home_address_place, record_place, IsRead, end_of_records, number_up_to, IsRecordOf, SameRecords, FitsSlot, IsUpdate, Formats};
+ghost use Rattle.ckd_slot.specs.Buffer.{Lies, HasBytes, IsPlaceOf, StandsThere, home_address_place, record_place, IsRead, end_of_records, number_up_to, IsRecordOf, SameRecords, FitsSlot, IsUpdate, Places, CanMake, made_on};
 
 use crate::charges::Charged;
 use crate::windows::Window;
 use ckd_image::{Image, ImageStore, StoreFault};
 use ckd_position::{Area, Extent, Kind, Next, Position, next_area};
 use ckd_track::{
-    COUNT_LENGTH, DriveModel, RECORDS_START, body_length, clear_area, data_length, format_record,
-    index_slot, key_length, overwrite, put_home_address, view_at,
+    COUNT_LENGTH, DriveModel, RECORDS_START, body_length, clear_area, data_length, index_slot,
+    key_length, overwrite, put_end_mark, put_home_address, view_at,
 };
 use std::alloc::{AllocError, Global};
 use std::marker::Model;
@@ -137,6 +137,58 @@ fn record_part(slot: &[u8], at: usize, extent: Extent) -> (Window, bool)
         record_window(slot, at, extent),
         record_window(slot, at, Extent::Data).len == 0,
     )
+}
+
+// Writes so many zeros from an offset on, which are often none, and behind them the end mark and zeros; from `zeros_from` on,
+// or from that offset on where that is later, all bytes of the slot are zero before.
+fn end_with_zeros(slot: &mut [u8], at: usize, n: usize, zeros_from: usize)
+    requires room { at + n + 8 ≤ length slot.old }
+    requires zeros { IsZeroFrom slot.old (max zeros_from at) }
+    ensures { slot.new ≡ ended_at (overwritten slot.old at (replicate n 0)) (at + n) }
+{
+    if n == 0 {
+        put_end_mark(slot, at, zeros_from);
+        return;
+    }
+    clear_area(slot, at, n, at + n, zeros_from.max(at));
+}
+
+// Writes these count bytes before a place, at the place these bytes and zeros behind them, and behind the place the end mark and
+// zeros; from `zeros_from` on all bytes of the slot are zero before.
+// By itself, since mostly the bytes come whole, and zeros are behind them already.
+#[inline(never)]
+fn clear_and_write(slot: &mut [u8], count: &[u8; 8], place: Window, bytes: &[u8], zeros_from: usize)
+    requires before { 8 ≤ place.start }
+    requires room { place.start + place.len + 8 ≤ length slot.old }
+    requires first { length bytes.now ≤ place.len }
+    requires zeros { IsZeroFrom slot.old zeros_from }
+    ensures { slot.new ≡ overwritten (ended_at (overwritten (overwritten slot.old (place.start - 8) count.now) place.start
+        (replicate place.len 0)) (place.start + place.len)) place.start bytes.now }
+{
+    overwrite(slot, place.start - COUNT_LENGTH, count);
+    let rest = place.len - bytes.len();
+    end_with_zeros(slot, place.start + bytes.len(), rest, zeros_from);
+    overwrite(slot, place.start, bytes);
+}
+
+// The same, also where nothing is to be cleared.
+#[inline(always)]
+fn write_record(slot: &mut [u8], count: &[u8; 8], place: Window, bytes: &[u8], zeros_from: usize)
+    requires before { 8 ≤ place.start }
+    requires room { place.start + place.len + 8 ≤ length slot.old }
+    requires first { length bytes.now ≤ place.len }
+    requires zeros { IsZeroFrom slot.old zeros_from }
+    ensures { slot.new ≡ overwritten (ended_at (overwritten (overwritten slot.old (place.start - 8) count.now) place.start
+        (replicate place.len 0)) (place.start + place.len)) place.start bytes.now }
+{
+    let end = place.start + place.len;
+    if bytes.len() < place.len || end + COUNT_LENGTH < zeros_from {
+        clear_and_write(slot, count, place, bytes, zeros_from);
+        return;
+    }
+    overwrite(slot, place.start - COUNT_LENGTH, count);
+    put_end_mark(slot, end, zeros_from);
+    overwrite(slot, place.start, bytes);
 }
 
 impl TrackBuffer {
@@ -313,10 +365,9 @@ impl TrackBuffer {
         self.charged.keep(0);
     }
 
-    /// Writes a record of these count bytes behind the kept ones, with zeros in its key and data, and removes all records
-    /// behind it, where it fits. Answers its number, and where its key and data stand; or nothing where it does not fit, and
-    /// the slot stays.
-    pub fn format(
+    /// The number that a record of these count bytes would have behind the kept ones, and where its key and data would stand, if
+    /// it fits the track. The slot stays.
+    pub fn place_for(
         &mut self,
         model: DriveModel,
         after: Option<Area>,
@@ -324,8 +375,8 @@ impl TrackBuffer {
     ) -> Option<(usize, Window)>
         requires readable { is_readable (track_of self.old) ≡ true }
         requires size { capacity_of model + 37 ≤ length self.old }
-        ensures formats { Formats model after count self.old self.new result }
-        ensures size { length self.new ≡ length self.old }
+        ensures places { Places model (length self.old) after count (track_of self.old) result }
+        ensures stays { self.new ≡ self.old }
     {
         let kept = records_up_to(self.before(after));
         let at = self.end_of(kept);
@@ -334,13 +385,31 @@ impl TrackBuffer {
         if !self.charged.fits(model, &view, kept, &count) {
             return None;
         }
-        let body = body_length(&count);
-        format_record(&mut self.slot, at, &count, body, self.zeros_from);
-        self.offsets[kept] = at as u32;
-        self.records = Some(kept + 1);
         let start = at + COUNT_LENGTH;
-        self.zeros_from = start + body + COUNT_LENGTH;
-        Some((kept, Window { start, len: body }))
+        let len = body_length(&count);
+        Some((kept, Window { start, len }))
+    }
+
+    /// Writes a record of this number and of these count bytes, whose key and data stand at this place, and removes all records
+    /// behind it. These bytes are the first of its key and data, and those behind them are zeros.
+    ///
+    /// The new record may not be eight bytes FF, and the changed track fits the slot; where
+    /// [`place_for`](TrackBuffer::place_for) has answered number and place, it is so.
+    #[inline(always)]
+    pub fn format(&mut self, number: usize, count: [u8; 8], place: Window, bytes: &[u8])
+        requires readable { is_readable (track_of self.old) ≡ true }
+        requires can { CanMake (length self.old) (track_of self.old) number count place bytes.now }
+        ensures slot { self.new ≡ overwritten (slot_of (length self.old) (made_on (track_of self.old) number count)) place.start
+            bytes.now }
+        ensures size { length self.new ≡ length self.old }
+    {
+        let zeros_from = self.zeros_from;
+        // noted first, so that the copy is the last that is done
+        self.offsets[number] = (place.start - COUNT_LENGTH) as u32;
+        self.records = Some(number + 1);
+        self.zeros_from = place.start + place.len + COUNT_LENGTH;
+        self.charged.keep(number);
+        write_record(&mut self.slot, &count, place, bytes, zeros_from);
     }
 
     /// Puts zeros in the place of the bytes of a record's area, and behind the end mark.

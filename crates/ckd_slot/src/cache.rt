@@ -4,9 +4,9 @@ ghost use Rattle.std.specs.Prelude.{◌≡◌, ◌≤◌, ◌<◌, ◌+◌, Some
 ghost use Rattle.ckd_track.specs.Geometry.{tracks_of};
 ghost use Rattle.ckd_track.specs.Track.{track_of, track_in, slot_of};
 ghost use Rattle.ckd_track.specs.Changes.{overwritten, bare_track};
-ghost use Rattle.ckd_position.specs.Contents.{is_readable, with_record_changed, replaced, kept};
-ghost use Rattle.ckd_slot.specs.Buffer.{SameRecords, FitsSlot, IsUpdate, IsRecordOf};
-ghost use Rattle.ckd_slot.specs.Cache.{slot_held, slot_at_hand, with_held, holds, after_hold, after_failed_hold, after_save, after_failed_save, IsVolume, FormatsHeld};
+ghost use Rattle.ckd_position.specs.Contents.{is_readable, with_record_changed, replaced};
+ghost use Rattle.ckd_slot.specs.Buffer.{SameRecords, FitsSlot, IsUpdate, IsRecordOf, Places, CanMake, made_on};
+ghost use Rattle.ckd_slot.specs.Cache.{slot_held, slot_at_hand, with_held, holds, after_hold, after_failed_hold, after_save, after_failed_save, IsVolume};
 
 use crate::buffer::TrackBuffer;
 use crate::windows::Window;
@@ -151,19 +151,34 @@ impl<S: ImageStore> TrackCache<S> {
         self.changed = true;
     }
 
-    /// Writes a record of these count bytes behind the kept ones into the slot at hand, with zeros in its key and data, and
-    /// removes all records behind it, where it fits the track. Answers its number, and where its key and data stand; or nothing
-    /// where it does not fit, and the slot stays.
-    pub fn format(&mut self, after: Option<Area>, count: [u8; 8]) -> Option<(usize, Window)>
+    /// The number that a record of these count bytes would have in the slot at hand behind the kept ones, and where its key and
+    /// data would stand, if it fits the track. The slot stays.
+    pub fn place_for(&mut self, after: Option<Area>, count: [u8; 8]) -> Option<(usize, Window)>
         requires held { IsSome self.old.held }
         requires readable { is_readable (track_of (slot_held self.old)) ≡ true }
-        ensures { FormatsHeld self.old self.new after count result }
+        ensures places { Places self.old.image.geometry.model self.old.image.geometry.track_size after count
+            (track_of (slot_held self.old)) result }
+        ensures stays { self.new ≡ self.old }
     {
-        let formatted = self
-            .buffer
-            .format(self.image.geometry().model, after, count)?;
+        self.buffer
+            .place_for(self.image.geometry().model, after, count)
+    }
+
+    /// Writes a record of this number and of these count bytes into the slot at hand, whose key and data stand at this place, as
+    /// [`place_for`](TrackCache::place_for) answers them, and removes all records behind it. These bytes are the first of its
+    /// key and data, and those behind them are zeros.
+    #[inline(always)]
+    pub fn format(&mut self, number: usize, count: [u8; 8], place: Window, bytes: &[u8])
+        requires held { IsSome self.old.held }
+        requires readable { is_readable (track_of (slot_held self.old)) ≡ true }
+        requires can { CanMake self.old.image.geometry.track_size (track_of (slot_held self.old)) number count place
+            bytes.now }
+        ensures { self.new ≡ with_held self.old (overwritten (slot_of self.old.image.geometry.track_size
+            (made_on (track_of (slot_held self.old)) number count)) place.start bytes.now) }
+    {
+        // noted first, so that the copy is the last that is done
         self.changed = true;
-        Some(formatted)
+        self.buffer.format(number, count, place, bytes);
     }
 
     /// Puts zeros in the place of the bytes of a record's area in the slot at hand, and behind the end mark.

@@ -1,7 +1,7 @@
 use Rattle.std.proofs.Common.{◌∙◌, sym, refl, rules}
 use Rattle.ckd_drive.specs.Jobs.{half_done}
 use Rattle.ckd_drive.proofs.News.{field_stays, home_absorbs}
-use Rattle.ckd_drive.proofs.Formats.{format_stays, format_absorbs}
+use Rattle.ckd_drive.proofs.Formats.{format_stays, due_absorbs}
 use Rattle.ckd_drive.proofs.job.Job.collect.Goals as goal
 
 pub returns-in-No : goal.returns-in-No
@@ -18,13 +18,13 @@ returns-in-HomeAddress g c =
 pub returns-in_default : goal.returns-in_default
 returns-in_default g c =
     let half = half_done c.args.self.now in
-    let full = rw c.in_default.is at c.format.ensures in
-    rw full.1
-    record { absorbs = format_stays half c.args.bytes.now c.args.field c.collected-field.result c.in-Count.count c.requires.may c.requires.at c.collected-field.ensures (search rules) (sym c.whole_field.ensures ∙ c.in-Count.is) full.0; stays = refl }
+    let full = rw c.in_default.is at c.place_for.ensures.places in
+    rw c.place_for.ensures.stays
+    record { absorbs = format_stays half c.args.bytes.now c.args.field c.collected-field.result c.in-Count.count c.requires.may c.requires.at c.collected-field.ensures (search rules) (sym c.whole_field.ensures ∙ c.in-Count.is) full; stays = refl }
 
 pub returns-in-Some : goal.returns-in-Some
 returns-in-Some g c =
     let half = half_done c.args.self.now in
-    let done = rw c.in-Some.is at c.format.ensures in
-    rw (c.of-was.ensures, c.bytes-in-Count.ensures, c.buffer-in-Count.ensures.slot, done.1)
-    record { absorbs = format_absorbs half c.args.bytes.now c.args.field c.collected-field.result c.in-Count.count c.in-Some.number c.in-Some.rest c.requires.may c.requires.at c.collected-field.ensures (search rules) (sym c.whole_field.ensures ∙ c.in-Count.is) done.0; stays = refl }
+    let fits = rw c.in-Some.is at c.place_for.ensures.places in
+    rw c.place_for.ensures.stays
+    record { absorbs = due_absorbs half c.args.bytes.now c.args.field c.collected-field.result c.in-Count.count c.in-Some.number c.in-Some.place c.requires.may c.requires.at c.collected-field.ensures (search rules) (sym c.whole_field.ensures ∙ c.in-Count.is) fits; stays = refl }
