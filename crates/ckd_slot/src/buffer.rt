@@ -395,7 +395,6 @@ impl TrackBuffer {
     ///
     /// The new record may not be eight bytes FF, and the changed track fits the slot; where
     /// [`place_for`](TrackBuffer::place_for) has answered number and place, it is so.
-    #[inline(always)]
     pub fn format(&mut self, number: usize, count: [u8; 8], place: Window, bytes: &[u8])
         requires readable { is_readable (track_of self.old) ≡ true }
         requires can { CanMake (length self.old) (track_of self.old) number count place bytes.now }

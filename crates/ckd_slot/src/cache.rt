@@ -167,7 +167,6 @@ impl<S: ImageStore> TrackCache<S> {
     /// Writes a record of this number and of these count bytes into the slot at hand, whose key and data stand at this place, as
     /// [`place_for`](TrackCache::place_for) answers them, and removes all records behind it. These bytes are the first of its
     /// key and data, and those behind them are zeros.
-    #[inline(always)]
     pub fn format(&mut self, number: usize, count: [u8; 8], place: Window, bytes: &[u8])
         requires held { IsSome self.old.held }
         requires readable { is_readable (track_of (slot_held self.old)) ≡ true }
