@@ -1,5 +1,5 @@
 -- What a drive works with, and what the parts of a call make of it.
-use Rattle.std.specs.Prelude.{◌≡◌, ℕ, List}
+use Rattle.std.specs.Prelude.{◌≡◌, ℕ, List, Bool, ◌&&◌}
 use Rattle.ckd_track.specs.Track.{track_of}
 use Rattle.ckd_command.specs.declared.registers.Mark.{Mark}
 use Rattle.ckd_command.specs.declared.look.Seen.{Seen}
@@ -9,8 +9,10 @@ use Rattle.ckd_command.specs.Commands.{beginning, sight}
 use Rattle.ckd_drive.specs.declared.job.Job.{Job}
 use Rattle.ckd_drive.specs.declared.answers.Stage.{Stage}
 use Rattle.ckd_drive.specs.declared.answers.Stage.TheVariants as stage
-use Rattle.ckd_drive.specs.Invariant.{HalfDone, own_track, own_slot, Absorbs, Parts, parts_of, BeginsWell, AreaIsThere, Finishes, command_end_at}
+use Rattle.ckd_drive.specs.Invariant.{HalfDone, own_track, own_slot, Absorbs, Parts, parts_of, BeginsWell, AreaIsThere, Finishes, command_end_at, state_of}
 use Rattle.ckd_drive.specs.Calls.{Begins, Looks}
+use Rattle.ckd_drive.specs.Work.{gives_at_once}
+use Rattle.ckd_slot.specs.Cache.{holds}
 
 -- the command half done that a job holds
 abbrev pub half_done : {S : Type 0} → Job S → HalfDone
@@ -71,3 +73,8 @@ pub record ClosesTo {S : Type 0} (old : Job S) (closed : Closed) (new : Job S) :
     progress = record old.progress { place = new.progress.place };
     registers = new.registers;
   }
+
+-- whether a job with this mark, whose command looks for its area, gives its bytes at once: its track is at hand, and the
+-- command is a read that is lent whole and finds its area with its next look
+abbrev pub lends : {S : Type 0} → Job S → Mark → Bool
+lends j m = holds j.cache.held (own_track (half_done j)) && gives_at_once (state_of (parts_held j m stage.Looking))

@@ -9,6 +9,8 @@ use Rattle.ckd_command.specs.Answers.{Beginning, ToCylinderZero, Sight, NextHead
 use Rattle.ckd_command.specs.declared.close.DriveEnding.{DriveEnding}
 use Rattle.ckd_command.specs.declared.begin.Opened.{Opened}
 use Rattle.ckd_command.specs.Tables.{aim, action_of, is_giving}
+use Rattle.ckd_sense.specs.declared.commands.Command.{Command}
+use Rattle.ckd_sense.specs.declared.commands.Command.TheVariants.{ReadData, ReadCountKeyAndData}
 use Rattle.ckd_position.specs.declared.areas.Area.TheVariants.{Of}
 use Rattle.ckd_position.specs.declared.areas.Part.TheVariants.{Data}
 use Rattle.ckd_position.specs.declared.areas.Position.TheVariants.{At}
@@ -313,6 +315,26 @@ whole_ending read = record {
 -- the state then: the record's data passed last, and nothing else changes
 abbrev pub state_behind : State → WholeRead → State
 state_behind s read = with_registers s (record s.registers { position = At (Of Data read.record) })
+
+-- the reads that are lent whole, the commonest: Read Data, and Read Count, Key and Data
+abbrev pub is_lent_whole : Command → Bool
+is_lent_whole ReadData = true
+is_lent_whole ReadCountKeyAndData = true
+is_lent_whole _ = false
+
+-- whether a look found the command's area
+abbrev pub is_ready : AfterLook → Bool
+is_ready (Ready o) = true
+is_ready _ = false
+
+-- whether a command this far is one of those reads, and finds its area with its next look
+abbrev pub gives_at_once_of : DriveState → Work → Bool
+gives_at_once_of d (Looking o) = is_lent_whole o.command && is_ready (look None (open_at d o))
+gives_at_once_of d w = false
+
+-- whether the command at hand is a read that is lent whole where its track is at hand
+abbrev pub gives_at_once : DriveState → Bool
+gives_at_once d = gives_at_once_of d d.work
 
 -- A command that looks for its area finds it on the track under the arm with its next look, which saves nothing; it gives
 -- just these bytes, and once all of them have passed it ends so, and saves nothing.

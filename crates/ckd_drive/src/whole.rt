@@ -1,16 +1,16 @@
 //! A read all of whose bytes pass at once: they are found before anything is changed, and nothing half done is kept.
 
-ghost use Rattle.std.specs.Prelude.{◌≡◌, List, ℕ, IfSome};
+ghost use Rattle.std.specs.Prelude.{◌≡◌, List, ℕ, IfSome, is_some, true};
 ghost use Rattle.ckd_command.specs.declared.begin.Opened.{Opened};
 ghost use Rattle.ckd_command.specs.declared.registers.Mark.{Mark as MarkValue};
-ghost use Rattle.ckd_command.specs.declared.tables.Action.TheVariants.{Read};
 ghost use Rattle.ckd_command.specs.declared.tables.Aim.TheVariants.{Next as Aims};
 ghost use Rattle.ckd_command.specs.Commands.{IsAtTrack};
-ghost use Rattle.ckd_command.specs.Tables.{aim, action_of};
+ghost use Rattle.ckd_command.specs.Drive.{is_written};
+ghost use Rattle.ckd_command.specs.Tables.{aim};
 ghost use Rattle.ckd_drive.specs.declared.answers.Stage.TheVariants as stage;
 ghost use Rattle.ckd_drive.specs.Invariant.{state_of};
-ghost use Rattle.ckd_drive.specs.Jobs.{parts_held};
-ghost use Rattle.ckd_drive.specs.Work.{Idle, GivesWhole, whole_ending, state_behind};
+ghost use Rattle.ckd_drive.specs.Jobs.{parts_held, lends};
+ghost use Rattle.ckd_drive.specs.Work.{Idle, GivesWhole, gives_at_once, is_lent_whole, whole_ending, state_behind};
 
 use crate::answers::{Stage, WholeRead};
 use crate::drive::Drive;
@@ -32,9 +32,10 @@ impl<S: ImageStore> Job<S> {
         requires arm { IsAtTrack self.now.cache.image.geometry self.now.registers }
         requires command { command ≡ self.now.opened.command }
         requires aim { aim command ≡ Aims kind }
-        requires reads { action_of command ≡ Read }
-        ensures { (m : MarkValue) → IfSome result (λ x. GivesWhole (state_of (parts_held self.now m stage.Looking))
+        requires lent { is_lent_whole command ≡ true }
+        ensures gives { (m : MarkValue) → IfSome result (λ x. GivesWhole (state_of (parts_held self.now m stage.Looking))
             x.0.now x.1) }
+        ensures lends { (m : MarkValue) → is_some result ≡ lends self.now m }
     {
         let geometry = self.cache.geometry();
         let track = geometry.track_at(self.registers.cylinder, self.registers.head);
@@ -61,8 +62,9 @@ impl<S: ImageStore> Job<S> {
     #[inline(always)]
     fn whole(&self) -> Option<(&[u8], WholeRead)>
         requires { IsAtTrack self.now.cache.image.geometry self.now.registers }
-        ensures { (m : MarkValue) → IfSome result (λ x. GivesWhole (state_of (parts_held self.now m stage.Looking))
+        ensures gives { (m : MarkValue) → IfSome result (λ x. GivesWhole (state_of (parts_held self.now m stage.Looking))
             x.0.now x.1) }
+        ensures lends { (m : MarkValue) → is_some result ≡ lends self.now m }
     {
         match self.opened.command {
             ReadData => self.whole_of(ReadData, Kind::Data),
@@ -74,11 +76,16 @@ impl<S: ImageStore> Job<S> {
 
 impl<S: ImageStore> Drive<S> {
     /// All bytes of the command at hand, if it is a read that looks for its area, and finds it with its next look on the
-    /// track that is at hand already; and how it then ends. Nothing changes. There may be none also where a `look` finds the
-    /// area: it answers for the commonest reads alone (component descriptions, 'Read Data' and 'Read Count, Key and Data').
+    /// track that is at hand already; and how it then ends. Nothing changes.
+    ///
+    /// There are none where the command is another than Read Data and Read Count, Key and Data (component descriptions, the
+    /// sections of these names), the commonest reads, nor where that look would not find the area. Where it would, there are
+    /// bytes exactly if the track is at hand, as one that was written, and is not saved, always is.
     #[inline(always)]
     pub fn whole_read(&self) -> Option<(&[u8], WholeRead)>
-        ensures { IfSome result (λ x. GivesWhole self.now x.0.now x.1) }
+        ensures gives { IfSome result (λ x. GivesWhole self.now x.0.now x.1) }
+        ensures only { is_some result ≡ true → gives_at_once self.now ≡ true }
+        ensures written { is_written self.now.state ≡ true → is_some result ≡ gives_at_once self.now }
     {
         match self.stage {
             Stage::Looking => self.job.whole(),
