@@ -95,6 +95,22 @@ fn give_into(drive: &mut RecordedDrive, bytes: &[u8]) -> bool {
     &into[..n] == bytes
 }
 
+/// Whether the drive lends no read whole.
+pub(crate) fn lends_none(drive: &RecordedDrive) -> bool {
+    drive.whole_read().is_none()
+}
+
+/// Whether the drive lends a read whole, which has just these bytes; it ends then, and answers its unit status and whether
+/// the arm still moves.
+pub(crate) fn whole(drive: &mut RecordedDrive, bytes: &[u8]) -> Option<(u8, bool)> {
+    let (lent, read) = drive.whole_read()?;
+    if lent != bytes {
+        return None;
+    }
+    let ending = drive.end_whole(read);
+    Some((ending.unit.0, ending.motion))
+}
+
 /// Has the drive take as many of these bytes as it wants, and answers how many it took.
 pub(crate) fn take(drive: &mut RecordedDrive, bytes: &[u8]) -> usize
     ensures { result ≤ length bytes.now }

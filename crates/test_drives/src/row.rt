@@ -48,6 +48,11 @@ fn call(alloc: Global, drive: &mut RecordedDrive, words: &[&str]) -> Result<Opti
             let body = bytes(alloc, body)?;
             calls::take(drive, body.as_slice()) == body.len()
         }
+        ["whole", "none"] => calls::lends_none(drive),
+        ["whole", body, status] => {
+            let body = bytes(alloc, body)?;
+            calls::whole(drive, body.as_slice()) == Some((byte(status)?, false))
+        }
         ["end", status] => ends(drive, byte(status)?),
         _ => return Ok(None),
     }))
