@@ -7,7 +7,7 @@ use std::fmt;
 use std::fmt::Display;
 
 /// How many commands ended, how many bytes passed in them, and how many of them ended in unit check.
-#[derive(Clone, Copy, Debug, Default, PartialEq, Eq)]
+#[derive(Clone, Copy, Default)]
 pub(crate) struct Tally {
     commands: u64,
     bytes: u64,
@@ -46,7 +46,7 @@ impl Display for Tally {
 }
 
 /// What programs came to.
-#[derive(Clone, Copy, Debug, Default, PartialEq, Eq)]
+#[derive(Clone, Copy, Default)]
 pub(crate) struct ProgramTally {
     programs: u64,
     ccws: u64,
