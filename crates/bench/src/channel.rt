@@ -20,6 +20,7 @@ const ADDRESS: u16 = 0x0190;
 const CAW_ADDRESS: u32 = 72;
 
 /// A channel with one drive.
+#[derive(Drop)]
 pub(crate) struct ChannelMachine {
     channel: Channel<MemoryStore>,
     units: u16,
@@ -32,10 +33,7 @@ impl ChannelMachine {
         let storage = Storage::new(alloc, SIZE).ok()?;
         let mut channel = Channel::new(NUMBER, storage).ok()?;
         let image = disk.into_drive().into_image();
-        if channel.attach(alloc, DEVICE, image).is_err() {
-            let _ = channel.finish();
-            return None;
-        }
+        channel.attach(alloc, DEVICE, image).ok()?;
         Some(ChannelMachine {
             channel,
             units,
@@ -71,13 +69,7 @@ impl Machine for ChannelMachine {
         self.tally.add(program, ending);
     }
 
-    fn end(self) -> ProgramTally {
-        let ChannelMachine {
-            channel,
-            units: _,
-            tally,
-        } = self;
-        let _ = channel.finish();
-        tally
+    fn tally(&self) -> ProgramTally {
+        self.tally
     }
 }

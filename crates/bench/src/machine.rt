@@ -54,7 +54,7 @@ impl Machine for DriveMachine {
         self.tally.add(program, ending);
     }
 
-    fn end(self) -> ProgramTally {
+    fn tally(&self) -> ProgramTally {
         self.tally
     }
 }

@@ -36,7 +36,7 @@ const MOST_PASSES: u32 = 100_000;
 const UNITS: u16 = 65535;
 
 /// What does a work.
-#[derive(Clone, Copy, PartialEq, Eq)]
+#[derive(Clone, Copy, PartialEq)]
 enum Way {
     /// A drive alone.
     Drive,
@@ -59,7 +59,12 @@ fn main(rt: HostRuntime) -> ExitCode {
     let done = match asked_for(&rt) {
         Some(Wish::Each) => do_each(&rt),
         Some(Wish::One(work, way, passes)) => {
-            prints_speed(&rt, do_work(&rt, work, way, FULL, passes), way)
+            let task = Task {
+                work,
+                cylinders: FULL,
+                passes,
+            };
+            prints_speed(&rt, do_task(&rt, task, way), way)
         }
         None => {
             let _ = eprintln!(rt;
@@ -77,33 +82,45 @@ fn main(rt: HostRuntime) -> ExitCode {
 
 /// What the words ask for, if they ask for anything.
 fn asked_for(rt: &HostRuntime) -> Option<Wish> {
-    let mut words = env::args(rt).ok()?;
-    let _name = words.next();
-    let Some(first) = words.next() else {
-        return Some(Wish::Each);
-    };
-    let is_named = matches!(first.as_str(), "programs" | "channel");
-    let letter = if is_named {
-        words.next()?
-    } else {
-        first.clone().ok()?
-    };
-    let work = Work::of_letter(letter.as_str())?;
-    let passes: u32 = words.next()?.as_str().parse().ok()?;
-    let units: u16 = match words.next() {
-        Some(word) if is_named => word.as_str().parse().ok()?,
-        Some(_) => return None,
-        None => UNITS,
-    };
-    if passes > MOST_PASSES || units == 0 || words.next().is_some() {
-        return None;
+    let mut words = Vec::new(rt.alloc());
+    for word in env::args(rt).ok()? {
+        words.push(word).ok()?;
     }
-    let way = match first.as_str() {
-        "programs" => Way::Programs(units),
-        "channel" => Way::Channel(units),
-        _ => Way::Drive,
-    };
-    (!is_named || PROGRAMS.contains(&work)).then_some(Wish::One(work, way, passes))
+    wish_of(words.as_slice())
+}
+
+/// What these words ask for, of which the first is the program's name.
+fn wish_of(words: &[String]) -> Option<Wish> {
+    match words {
+        [] | [_] => Some(Wish::Each),
+        [_, letter, passes] => one(letter.as_str(), Way::Drive, passes.as_str()),
+        [_, name, letter, passes] => {
+            let way = way_of(name.as_str(), UNITS)?;
+            one(letter.as_str(), way, passes.as_str())
+        }
+        [_, name, letter, passes, units] => {
+            let way = way_of(name.as_str(), units.as_str().parse().ok()?)?;
+            one(letter.as_str(), way, passes.as_str())
+        }
+        _ => None,
+    }
+}
+
+/// The way that has this name, by which programs are asked for so many units at a time.
+fn way_of(name: &str, units: u16) -> Option<Way> {
+    match name {
+        "programs" if units > 0 => Some(Way::Programs(units)),
+        "channel" if units > 0 => Some(Way::Channel(units)),
+        _ => None,
+    }
+}
+
+/// The work of this letter so often, if it is done in this way.
+fn one(letter: &str, way: Way, passes: &str) -> Option<Wish> {
+    let work = Work::of_letter(letter)?;
+    let passes: u32 = passes.parse().ok()?;
+    let is_done = way == Way::Drive || PROGRAMS.contains(&work);
+    (is_done && passes <= MOST_PASSES).then_some(Wish::One(work, way, passes))
 }
 
 /// How much was done in which time.
@@ -137,60 +154,75 @@ fn prints_speed(rt: &HostRuntime, speed: Option<Speed>, way: Way) -> bool {
     println!(rt; "{many} {items} a second, {bytes} bytes a second").is_ok()
 }
 
-/// Does each work once in each way; whether all were done and reported.
-fn do_each(rt: &HostRuntime) -> bool {
-    let all = |works: &[Work], way: Way| -> bool {
-        works
-            .iter()
-            .all(|work| do_work(rt, *work, way, SMALL, 1).is_some())
-    };
-    all(&WORKS, Way::Drive)
-        && all(&PROGRAMS, Way::Programs(UNITS))
-        && all(&PROGRAMS, Way::Channel(UNITS))
+/// A work, the cylinders of the volume over which it is done, and how often it is done.
+#[derive(Clone, Copy)]
+struct Task {
+    work: Work,
+    cylinders: u16,
+    passes: u32,
 }
 
-/// Does a work so often, over a new volume of so many cylinders, and prints what it came to; none where there was no memory for
-/// the volume, no clock, or the line was not printed.
-fn do_work(rt: &HostRuntime, work: Work, way: Way, cylinders: u16, passes: u32) -> Option<Speed> {
-    let Some(mut disk) = Disk::new(rt.alloc(), cylinders) else {
-        return no_memory(rt);
-    };
-    work.prepare(&mut disk, cylinders);
-    disk.reset_tally();
+/// Does each work once in each way; whether all were done and reported.
+fn do_each(rt: &HostRuntime) -> bool {
+    do_all(rt, &WORKS, Way::Drive)
+        && do_all(rt, &PROGRAMS, Way::Programs(UNITS))
+        && do_all(rt, &PROGRAMS, Way::Channel(UNITS))
+}
+
+fn do_all(rt: &HostRuntime, works: &[Work], way: Way) -> bool {
+    for work in works {
+        let task = Task {
+            work: *work,
+            cylinders: SMALL,
+            passes: 1,
+        };
+        if do_task(rt, task, way).is_none() {
+            return false;
+        }
+    }
+    true
+}
+
+/// Does a task over a new volume, and prints what it came to; none where there was no memory for the volume, no clock, or the line
+/// was not printed.
+fn do_task(rt: &HostRuntime, task: Task, way: Way) -> Option<Speed> {
     match way {
-        Way::Drive => at_drive(rt, work, disk, cylinders, passes),
-        Way::Programs(units) => match DriveMachine::new(rt.alloc(), disk, units) {
-            Some(machine) => by_programs(rt, work, machine, " by programs", cylinders, passes),
-            None => no_memory(rt),
-        },
-        Way::Channel(units) => match ChannelMachine::new(rt.alloc(), disk, units) {
-            Some(machine) => by_programs(rt, work, machine, " at a channel", cylinders, passes),
-            None => no_memory(rt),
-        },
+        Way::Drive => at_drive(rt, task),
+        Way::Programs(units) => by_programs(rt, task, units),
+        Way::Channel(units) => at_channel(rt, task, units),
     }
 }
 
+/// A drive over a new volume with the records that the work reads.
+fn prepared(rt: &HostRuntime, task: Task) -> Option<Disk> {
+    let Some(mut disk) = Disk::new(rt.alloc(), task.cylinders) else {
+        return no_memory(rt);
+    };
+    task.work.prepare(&mut disk, task.cylinders);
+    disk.reset_tally();
+    Some(disk)
+}
+
 /// Tells that there is no memory.
-fn no_memory(rt: &HostRuntime) -> Option<Speed> {
+fn no_memory<T>(rt: &HostRuntime) -> Option<T> {
     let _ = eprintln!(rt; "bench: out of memory");
     None
 }
 
-/// Does a work so often at a drive alone.
-fn at_drive(
-    rt: &HostRuntime,
-    work: Work,
-    mut disk: Disk,
-    cylinders: u16,
-    passes: u32,
-) -> Option<Speed> {
+/// Does a task at a drive alone.
+fn at_drive(rt: &HostRuntime, task: Task) -> Option<Speed> {
+    let mut disk = prepared(rt, task)?;
+    run_commands(rt, task, &mut disk)
+}
+
+fn run_commands(rt: &HostRuntime, task: Task, disk: &mut Disk) -> Option<Speed> {
     let began = Instant::now(rt).ok()?;
-    for _ in 0..passes {
-        work.run(&mut disk, cylinders);
+    for _ in 0..task.passes {
+        task.work.run(disk, task.cylinders);
     }
     let time = began.elapsed(rt).ok()?;
     let tally = disk.tally();
-    println!(rt; "{work}: {tally}").ok()?;
+    println!(rt; "{}: {tally}", task.work).ok()?;
     Some(Speed {
         items: tally.commands(),
         bytes: tally.bytes(),
@@ -198,22 +230,37 @@ fn at_drive(
     })
 }
 
-/// Does a work so often by channel programs, where these run.
-fn by_programs<M: Machine>(
-    rt: &HostRuntime,
-    work: Work,
-    mut machine: M,
-    place: &str,
-    cylinders: u16,
-    passes: u32,
-) -> Option<Speed> {
-    let began = Instant::now(rt);
-    for _ in 0..passes {
-        work.run_programs(&mut machine, cylinders);
+/// Does a task by channel programs, which are asked for so many units at a time.
+fn by_programs(rt: &HostRuntime, task: Task, units: u16) -> Option<Speed> {
+    let disk = prepared(rt, task)?;
+    match DriveMachine::new(rt.alloc(), disk, units) {
+        Some(mut machine) => run_programs(rt, task, &mut machine, " by programs"),
+        None => no_memory(rt),
     }
-    let tally = machine.end();
-    let time = began.ok()?.elapsed(rt).ok()?;
-    println!(rt; "{work}{place}: {tally}").ok()?;
+}
+
+/// Does a task by channel programs at a channel, so many units at a time.
+fn at_channel(rt: &HostRuntime, task: Task, units: u16) -> Option<Speed> {
+    let disk = prepared(rt, task)?;
+    match ChannelMachine::new(rt.alloc(), disk, units) {
+        Some(mut machine) => run_programs(rt, task, &mut machine, " at a channel"),
+        None => no_memory(rt),
+    }
+}
+
+fn run_programs<M: Machine>(
+    rt: &HostRuntime,
+    task: Task,
+    machine: &mut M,
+    place: &str,
+) -> Option<Speed> {
+    let began = Instant::now(rt).ok()?;
+    for _ in 0..task.passes {
+        task.work.run_programs(machine, task.cylinders);
+    }
+    let time = began.elapsed(rt).ok()?;
+    let tally = machine.tally();
+    println!(rt; "{}{place}: {tally}", task.work).ok()?;
     Some(Speed {
         items: tally.ccws(),
         bytes: tally.bytes(),

@@ -40,9 +40,12 @@ pub(crate) trait Machine {
     /// Runs a program to its end.
     fn run(&mut self, program: &Program);
 
-    /// What the programs came to, behind the last.
-    fn end(self) -> ProgramTally;
+    /// What the programs came to so far.
+    fn tally(&self) -> ProgramTally;
 }
+
+/// A channel command word: a command's code, the address of its bytes, flags, and how many bytes.
+struct Word(u8, u32, u8, u16);
 
 /// A channel program in storage, with how many channel command words are fetched in a run of it, and how many bytes pass.
 #[derive(Clone, Copy)]
@@ -84,7 +87,8 @@ impl Program {
     }
 
     // Stores the next word.
-    fn put<M: Machine>(&mut self, machine: &mut M, code: u8, address: u32, flags: u8, count: u16) {
+    fn put<M: Machine>(&mut self, machine: &mut M, word: Word) {
+        let Word(code, address, flags, count) = word;
         let [_, a, b, c] = address.to_be_bytes();
         let [high, low] = count.to_be_bytes();
         machine.store(self.next, &[code, a, b, c, flags, 0, high, low]);
@@ -92,21 +96,21 @@ impl Program {
     }
 
     // Stores the next word, which is fetched once.
-    fn word<M: Machine>(&mut self, machine: &mut M, code: u8, address: u32, flags: u8, count: u16) {
-        self.put(machine, code, address, flags, count);
+    fn word<M: Machine>(&mut self, machine: &mut M, word: Word) {
         self.ccws = self.ccws.saturating_add(1);
-        self.bytes = self.bytes.saturating_add(count as u64);
+        self.bytes = self.bytes.saturating_add(u64::from(word.3));
+        self.put(machine, word);
     }
 
     fn seek<M: Machine>(&mut self, machine: &mut M) {
-        self.word(machine, SEEK, SEEK_ADDRESS, COMMAND_CHAINING, 6);
+        self.word(machine, Word(SEEK, SEEK_ADDRESS, COMMAND_CHAINING, 6));
     }
 
     // A search that is satisfied at once, and passes over the transfer behind it.
     fn search<M: Machine>(&mut self, machine: &mut M, code: u8, count: u16) {
         let at = self.next;
-        self.word(machine, code, SEARCHED, COMMAND_CHAINING, count);
-        self.put(machine, TRANSFER_IN_CHANNEL, at, 0, 0);
+        self.word(machine, Word(code, SEARCHED, COMMAND_CHAINING, count));
+        self.put(machine, Word(TRANSFER_IN_CHANNEL, at, 0, 0));
     }
 
     // A search of record 1 from the index on: record 0 is another, and the next is found.
@@ -120,7 +124,7 @@ impl Program {
     fn last<M: Machine>(&mut self, machine: &mut M, times: u16, code: u8, count: u16) {
         for left in (0..times).rev() {
             let flags = if left == 0 { 0 } else { COMMAND_CHAINING };
-            self.word(machine, code, BUFFER, flags, count);
+            self.word(machine, Word(code, BUFFER, flags, count));
         }
     }
 
@@ -131,12 +135,9 @@ impl Program {
             let flags = if left == 0 { 0 } else { COMMAND_CHAINING };
             self.word(
                 machine,
-                WRITE_COUNT_KEY_AND_DATA,
-                count_area,
-                DATA_CHAINING,
-                8,
+                Word(WRITE_COUNT_KEY_AND_DATA, count_area, DATA_CHAINING, 8),
             );
-            self.word(machine, 0, BUFFER, flags, DATA as u16);
+            self.word(machine, Word(0, BUFFER, flags, DATA as u16));
             count_area = count_area.saturating_add(8);
         }
     }
@@ -161,7 +162,7 @@ impl Work {
             }
             Work::ReadFromHomeAddress => {
                 program.search(machine, SEARCH_HOME_ADDRESS, 4);
-                program.word(machine, READ_R0, BUFFER, COMMAND_CHAINING, 16);
+                program.word(machine, Word(READ_R0, BUFFER, COMMAND_CHAINING, 16));
                 program.last(machine, records, READ_DATA, DATA as u16);
             }
             Work::Update => {

@@ -39,7 +39,7 @@ pub(crate) const LONG_DATA: usize = 7294;
 const SHORT_RECORDS: u8 = 60;
 
 /// What is done on each track, or on each cylinder.
-#[derive(Clone, Copy, PartialEq, Eq)]
+#[derive(Clone, Copy, PartialEq)]
 pub(crate) enum Work {
     /// Seek, Search Identifier of record 1 until it is found, seven Read Data.
     SearchAndRead,
