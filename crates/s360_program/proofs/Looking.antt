@@ -7,7 +7,7 @@ use Rattle.ckd_command.specs.Drive.{Open, Fault, AfterLook, Ready, Passed, Faile
 use Rattle.ckd_command.proofs.Marks.{Calm, LookCalm, look_calm}
 use Rattle.ckd_command.proofs.Stable.{look_stable}
 use Rattle.ckd_drive.specs.declared.answers.Look.TheVariants as seen
-use Rattle.ckd_drive.specs.Work.{DriveState, Work, Idle, Over, Looking, Passing, fault_met, with_image, CallsStore, Reports, after_sight, after_look, after_look_of, answer_of_look, failed_ending, look_loads, look_saves, left_of, passed_of}
+use Rattle.ckd_drive.specs.Work.{DriveState, Work, Idle, Over, Looking, Passing, fault_met, with_image, after_sight, after_look_of, answer_of_look, failed_ending, look_loads, look_saves, left_of, passed_of}
 use Rattle.s360_runs.specs.Endings.{failed}
 use Rattle.s360_runs.specs.Scripts.{units}
 use Rattle.s360_runs.specs.Transfers.{Request}
@@ -15,7 +15,7 @@ use Rattle.s360_runs.specs.Units.{ProgramPhase, unit, next_looked, walk, on_next
 use Rattle.s360_runs.specs.Units as phase
 use Rattle.s360_program.specs.Place.{place_of}
 use Rattle.s360_program.specs.Stands.{StageFits, StageWithin, phase_by, phase_in}
-use Rattle.s360_program.specs.Steps.{run_of, Fits, EndsBy, OverBy, Settles, Steps, WalksBy, told_of}
+use Rattle.s360_program.specs.Steps.{run_of, Fits, EndsBy, Looked, OverBy, Settles, Steps, WalksBy, told_of}
 use Rattle.s360_program.specs.declared.conditions.ChannelCondition.TheVariants as condition
 use Rattle.s360_program.specs.declared.run.Run.{Run}
 use Rattle.s360_program.specs.Stage.{stage_by, stage_of}
@@ -62,14 +62,6 @@ looking_is r d fits at = go d.work (subst (λ c. StageFits (stage_by c r.ccw r.a
 
 pub looking_within : (r : Run) (d : DriveState) → Fits r d → r.comes ≡ comes.Look → StageWithin (stage.Looking r.ccw) (place_of r.place)
 looking_within r d fits at = subst (λ c. StageWithin (stage_by c r.ccw r.address) (place_of r.place)) at fits.within.stage
-
--- the drive of a program has looked for the area of its command
-pub record Looked (r : Run) (d0 d1 : DriveState) : Type 0 where
-  pub fits : Fits r d0
-  pub at : r.comes ≡ comes.Look
-  pub state : d1 ≡ with_image (after_look (fault_met d0 d1) d0) d1.image
-  pub calls : CallsStore (look_loads d0) (look_saves d0) d0 d1
-  pub reports : Reports (d1.work ≡ Over failed_ending) d0 d1
 
 module _ (r : Run) (s : Storage) (d0 d1 : DriveState) (k : Looked r d0 d1) where
   at : stage_of r ≡ stage.Looking r.ccw

@@ -18,12 +18,12 @@ use Rattle.s360_runs.specs.Units.{ProgramPhase, walk, StandsIn}
 use Rattle.s360_program.specs.Advances.{NeedsNoStore, NeedNoStore}
 use Rattle.s360_program.specs.Place.{place_of}
 use Rattle.s360_program.specs.Stands.{RunningState, StageFits, Stands, phase_by, phase_in}
-use Rattle.s360_program.specs.Steps.{run_of, in_bytes, IsQuiet}
+use Rattle.s360_program.specs.Steps.{run_of, in_bytes, IsQuiet, Looked}
 use Rattle.s360_program.specs.declared.run.Run.{Run}
 use Rattle.s360_program.specs.Stage as stage
 use Rattle.s360_program.proofs.Cases.{never, only_left, by_stage}
 use Rattle.s360_program.proofs.Cutting.{untouched_unwritten}
-use Rattle.s360_program.proofs.Looking.{Looked, looking_is, look_fits, walks}
+use Rattle.s360_program.proofs.Looking.{looking_is, look_fits, walks}
 use Rattle.s360_program.proofs.Advancing.{more_units}
 use Rattle.s360_program.proofs.Meeting.{untouched}
 

@@ -6,10 +6,10 @@ use Rattle.ckd_drive.specs.declared.answers.Look.TheVariants as seen
 use Rattle.s360_runs.specs.Units.{unit}
 use Rattle.s360_program.specs.Advances.{KeepsStorage}
 use Rattle.s360_program.specs.Stands.{phase_in}
-use Rattle.s360_program.specs.Steps.{run_of, in_bytes, count_of, ComesBy, Fits, IsQuiet, IsStep, Steps}
+use Rattle.s360_program.specs.Steps.{run_of, in_bytes, count_of, ComesBy, Fits, IsQuiet, IsStep, Looked, Steps}
 use Rattle.s360_program.specs.declared.run.Run.{Run}
 use Rattle.s360_program.specs.declared.run.Step.{Step}
-use Rattle.s360_program.proofs.Looking.{Looked, look_finds}
+use Rattle.s360_program.proofs.Looking.{look_finds}
 use Rattle.s360_program.proofs.Quiet.{finds_quiet, first_quiet}
 use Rattle.s360_program.proofs.Transferring.{counts_some, unit_steps}
 

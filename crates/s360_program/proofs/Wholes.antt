@@ -12,12 +12,12 @@ use Rattle.ckd_drive.specs.Work.{DriveState, Passing, Idle, Over, GivesWhole, st
 use Rattle.s360_runs.specs.Commands.{choice}
 use Rattle.s360_runs.specs.Units.{next_chosen}
 use Rattle.s360_program.specs.Stands.{phase_in}
-use Rattle.s360_program.specs.Steps.{run_of, in_bytes, segment_of, behind, request_at, status_of, condition_for, Fits, ComesBy, MovesBytes, PassesWhole, Steps}
+use Rattle.s360_program.specs.Steps.{run_of, in_bytes, segment_of, behind, request_at, status_of, condition_for, Fits, ComesBy, MovesBytes, PassesWhole, Looked, Steps}
 use Rattle.s360_program.specs.declared.run.Comes.TheVariants as comes
 use Rattle.s360_program.specs.declared.run.Run.{Run}
 use Rattle.s360_program.specs.declared.run.Step.{Step}
 use Rattle.s360_program.proofs.Ends.{EndsCommand}
-use Rattle.s360_program.proofs.Looking.{Looked, look_finds, look_fits, looking_within}
+use Rattle.s360_program.proofs.Looking.{look_finds, look_fits, looking_within}
 use Rattle.s360_program.proofs.Meeting.{met_none}
 use Rattle.s360_program.proofs.MovingBytes.{gives_so, may_be}
 use Rattle.s360_program.proofs.Transferring.{moves_all}

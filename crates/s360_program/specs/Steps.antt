@@ -11,7 +11,8 @@ use Rattle.s360_words.specs.declared.words.Csw.{Csw}
 use Rattle.ckd_command.specs.declared.close.DriveEnding.{DriveEnding}
 use Rattle.ckd_command.specs.Drive.{State, Open, Closed, Fault, LoadFails, SaveFails, length_of, drive_of, is_written, unsaved}
 use Rattle.ckd_command.specs.Tables.{action_of, is_giving}
-use Rattle.ckd_drive.specs.Work.{DriveState, Work, Passing, passed_of, left_of, moved_on, closed_of, fault_met, look_loads, CallsStore, Reports, GivesWhole}
+use Rattle.ckd_drive.specs.Work.{DriveState, Work, Over, Passing, passed_of, left_of, moved_on, closed_of, fault_met, with_image, after_look, answer_of_look, failed_ending, look_loads, look_saves, CallsStore, Reports, GivesWhole}
+use Rattle.ckd_drive.specs.declared.answers.Look.TheVariants as seen
 use Rattle.ckd_drive.specs.declared.answers.WholeRead.{WholeRead}
 use Rattle.s360_runs.specs.Commands.{Point}
 use Rattle.s360_runs.specs.Endings.{Ending, ending, csw_at}
@@ -174,6 +175,14 @@ pub record IsStep (r : Run) (s : Storage) (d : DriveState) (most : ℕ) (a : Ste
 
 -- The parts of a unit.
 
+-- the drive of a program has looked for the area of its command
+pub record Looked (r : Run) (old new : DriveState) : Type 0 where
+  pub fits : Fits r old
+  pub at : r.comes ≡ comes.Look
+  pub state : new ≡ with_image (after_look (fault_met old new) old) new.image
+  pub calls : CallsStore (look_loads old) (look_saves old) old new
+  pub reports : Reports (new.work ≡ Over failed_ending) old new
+
 -- a program whose bytes come next, under the word that it has kept
 abbrev pub in_bytes : Run → Run
 in_bytes r = record r { comes = comes.Bytes; address = r.ccw.address }
@@ -181,6 +190,14 @@ in_bytes r = record r { comes = comes.Bytes; address = r.ccw.address }
 -- where a program stands between two commands
 abbrev pub point_at : Storage → Run → DriveState → Point
 point_at s r d = record { storage = s; place = place_of r.place; state = d.state }
+
+-- a look has found the area of the command, of which so many bytes may pass, and they come next
+pub record FindsArea (r : Run) (s : Storage) (d : DriveState) (r_new : Run) (s_new : Storage) (d_new : DriveState) : Type 0 where
+  pub looked : Looked r d d_new
+  pub left : ℕ
+  pub answer : seen.Ready left ≡ answer_of_look d_new.work
+  pub run : r_new ≡ in_bytes r
+  pub storage : s_new ≡ s
 
 -- the command that a program asks for, with this storage
 abbrev pub request_at : Storage → Ccw → Run → Request

@@ -1,6 +1,6 @@
 //! A running channel program, unit by unit (Principles of Operation, Input/Output Operations).
 
-ghost use Rattle.std.specs.Prelude.{ℕ, ◌≡◌, ◌⊎◌, ◌<◌, ◌≤◌, ◌+◌, ◌*◌, ◌^◌, ◌==◌, ◌&&◌, ◌||◌, [], not, true, false, None, is_some, List, IfSome};
+ghost use Rattle.std.specs.Prelude.{ℕ, ◌≡◌, ◌⊎◌, ◌<◌, ◌≤◌, ◌+◌, ◌*◌, ◌^◌, ◌==◌, ◌&&◌, ◌||◌, [], not, true, false, None, is_some, List, IfSome, IfNone};
 ghost use Rattle.s360_words.specs.Words.{chains_data, suppresses_length};
 ghost use Rattle.ckd_command.specs.Drive.{is_written, unsaved};
 ghost use Rattle.s360_runs.specs.Commands.{choice};
@@ -11,7 +11,7 @@ ghost use Rattle.s360_words.specs.Storage.{Storage as StorageState, stored};
 ghost use Rattle.ckd_drive.specs.Work.{is_idle, may_end, closed_of, left_of, passed_of, CallsStore, GivesWhole};
 ghost use Rattle.s360_program.specs.Advances.{RunsOn, CallsAtMost, KeepsStorage, NeedNoStore, TellsOf};
 ghost use Rattle.s360_program.specs.Stands.{phase_in, Within};
-ghost use Rattle.s360_program.specs.Steps.{run_of, in_bytes, count_of, Fits, IsQuiet, ComesBy, EndsBy, IsStep, Steps, has_moved, goes_on, point_at, request_at, status_of, condition_for, differs, needs_area, behind, PassesWhole};
+ghost use Rattle.s360_program.specs.Steps.{run_of, in_bytes, count_of, Fits, IsQuiet, ComesBy, EndsBy, IsStep, Steps, FindsArea, has_moved, goes_on, point_at, request_at, status_of, condition_for, differs, needs_area, behind, PassesWhole};
 
 use crate::conditions::{ChannelCondition, chains};
 use crate::endings::{end_program, told};
@@ -93,10 +93,15 @@ impl Run {
         ensures calls { CallsAtMost 2 drive.old drive.new }
     {
         match self.comes {
-            Comes::NextCommand => self.next_command(storage, drive),
-            Comes::Look => self.look(most, storage, drive),
-            Comes::Bytes => self.transfer(most, storage, drive),
+            Comes::NextCommand => return self.next_command(storage, drive),
+            Comes::Look => {
+                if let Some(step) = self.look(most, storage, drive) {
+                    return step;
+                }
+            }
+            Comes::Bytes => {}
         }
+        self.transfer(most, storage, drive)
     }
 
     // The fetch of a word that begins a command.
@@ -187,40 +192,41 @@ impl Run {
         Step::Over(1)
     }
 
-    // A look for the area of a command; where it is found the unit goes on.
+    // A look for the area of a command, and the step that it comes to; none where the area is found and its bytes come next.
     fn look<S: ImageStore>(
         &mut self,
         most: u32,
         storage: &mut Storage,
         drive: &mut Drive<S>,
-    ) -> Step
+    ) -> Option<Step>
         requires some { 0 < most }
         requires fits { Fits self.old drive.old }
         requires stage { self.old.comes ≡ Comes.Look }
-        ensures step { IsStep self.old storage.old drive.old most result self.new storage.new drive.new }
+        ensures step { IfSome result (λ a. IsStep self.old storage.old drive.old most a self.new storage.new drive.new) }
+        ensures found { IfNone result (FindsArea self.old storage.old drive.old self.new storage.new drive.new) }
         ensures calls { CallsAtMost 2 drive.old drive.new }
     {
         if let Some((bytes, read)) = self.whole_read(most, storage, drive) {
             let _ = storage.store(self.ccw.address, bytes, self.key);
-            return self.finish(read, drive);
+            return Some(self.finish(read, drive));
         }
         match drive.look() {
             Look::Failed => {
                 end_program(self, DriveEnding::FAILED, ChannelCondition::Clear, drive);
-                Step::Over(1)
+                Some(Step::Over(1))
             }
-            Look::Passed => Step::Units(1),
+            Look::Passed => Some(Step::Units(1)),
             Look::Ready(left) => {
                 let count = self.place.residual;
                 if left == usize::from(count)
                     && most > u32::from(count)
                     && !self.ccw.chains_data()
                 {
-                    return self.complete(storage, drive);
+                    return Some(self.complete(storage, drive));
                 }
                 self.comes = Comes::Bytes;
                 self.address = self.ccw.address;
-                self.transfer(most, storage, drive)
+                None
             }
         }
     }
@@ -333,11 +339,11 @@ impl Run {
         ensures calls { CallsAtMost 1 drive.old drive.new }
     {
         let residual = self.place.residual;
-        if residual == 0 {
-            return self.spend(storage, drive);
+        if residual == 0 && self.ccw.chains_data() {
+            return self.next_area(storage, drive);
         }
         let flow = flow_of(drive);
-        if flow.left == 0 {
+        if residual == 0 || flow.left == 0 {
             let incorrect = is_incorrect(self.ccw, residual, flow.left);
             return self.conclude(self.ccw, incorrect, drive);
         }
@@ -355,26 +361,6 @@ impl Run {
             }
             Err(condition) => self.stop(condition, drive),
         }
-    }
-
-    // The count is spent: the next word has a further area, or the command ends.
-    #[inline(always)]
-    fn spend<S: ImageStore>(&mut self, storage: &Storage, drive: &mut Drive<S>) -> Step
-        requires fits { Fits self.old drive.old }
-        requires stage { self.old.comes ≡ Comes.Bytes }
-        requires residual { self.old.place.residual ≡ 0 }
-        ensures comes { ComesBy self.old.key (λ f. unit f self.old.key
-            (phase_in (run_of self.old) storage.now drive.old)) result self.new storage.now drive.old drive.new }
-        ensures loads { drive.new.image.loads ≡ drive.old.image.loads }
-        ensures calls { CallsAtMost 1 drive.old drive.new }
-        ensures quiet { IsQuiet drive.old → drive.new.image ≡ drive.old.image }
-    {
-        if self.ccw.chains_data() {
-            return self.next_area(storage, drive);
-        }
-        let flow = flow_of(drive);
-        let incorrect = is_incorrect(self.ccw, 0, flow.left);
-        self.conclude(self.ccw, incorrect, drive)
     }
 
     // The fetch of a word that has a further area of the command that works.

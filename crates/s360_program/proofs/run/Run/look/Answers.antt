@@ -1,12 +1,12 @@
-use Rattle.std.proofs.Common.{◌≡◌, ◌∙◌, ◌+◌, ◌<◌, ap, arith, length, List, rules, take, ℕ}
+use Rattle.std.proofs.Common.{◌≡◌, ◌∙◌, ◌+◌, ◌<◌, ap, arith, length, List, refl, rules, take, ℕ}
 use Rattle.std.specs.Prelude.{IsTrue}
 use Rattle.s360_words.specs.Storage.{Storage, may_store, stored}
 use Rattle.s360_program.specs.Stands.{phase_in}
-use Rattle.s360_program.specs.Steps.{run_of}
+use Rattle.s360_program.specs.Steps.{run_of, Looked}
 use Rattle.s360_program.specs.declared.run.Step.TheVariants as step
 use Rattle.s360_program.proofs.MovingBytes.{keeps_put}
 use Rattle.s360_program.proofs.Wholes.{stores_all, takes_all}
-use Rattle.s360_program.proofs.Looking.{Looked, look_fails, look_passes, look_fits, ready_left, ready_first, looking_within}
+use Rattle.s360_program.proofs.Looking.{look_fails, look_passes, look_fits, ready_left, ready_first, looking_within}
 use Rattle.s360_program.proofs.Quiet.{fails_quiet, looks_quiet}
 use Rattle.s360_program.proofs.Stepping.{kept, quietly, finds}
 use Rattle.s360_program.proofs.Transferring.{over_once}
@@ -32,6 +32,7 @@ returns-in-Some g c =
         storage = keeps_put a.storage.now n.new.self a.self.now.ccw.address x.bytes.now is;
         quiet = t.ensures.quiet a.storage.now;
       };
+      found = tt;
       calls = search rules;
     }
 
@@ -47,6 +48,7 @@ returns-in-Failed g c =
       step = quietly r p.new.run s s d p.new.drive c.args.most (step.Over 1) k.fits (kept s) (fails_quiet r d c.look.new.self p.new.drive k p.ensures.calls)
           (over_once r.key (phase_in (run_of r) s d) c.args.most _ s d p.new.drive c.requires.some
           (look_fails r s d c.look.new.self k _ p.new.drive l.answer p.ensures));
+      found = tt;
       calls = search rules;
     }
 
@@ -60,6 +62,7 @@ returns-in-Passed g c =
     record {
       step = quietly r r s s d c.look.new.self c.args.most (step.Units 1) k.fits (kept s) (looks_quiet r d c.look.new.self k)
           (look_passes r s d c.look.new.self k c.args.most c.requires.some l.answer);
+      found = tt;
       calls = search rules;
     }
 
@@ -87,21 +90,17 @@ returns-then-not-chains_data g c =
       step = finds r t.new.self c.args.storage.now t.new.storage c.in-Ready.left c.args.most c.args.drive.now c.look.new.self t.new.drive
           (record { fits = c.requires.fits; at = c.requires.stage; state = l.state; calls = l.calls; reports = l.reported }) l.answer t.ensures.loads
           (record { steps = t.ensures.steps c.args.most (omega arith); storage = t.ensures.storage; quiet = t.ensures.quiet });
+      found = tt;
       calls = search rules;
     }
 
-pub transfer-requires-clause-fits : goal.transfer-requires-clause-fits
-transfer-requires-clause-fits g c =
+pub returns-else-left-from-clause-found : goal.returns-else-left-from-clause-found
+returns-else-left-from-clause-found g c =
     let l = c.in-Ready.ensures in
-    look_fits c.args.self.now c.args.storage.now c.args.drive.now c.look.new.self
-    (record { fits = c.requires.fits; at = c.requires.stage; state = l.state; calls = l.calls; reports = l.reported }) c.in-Ready.left l.answer
-
-pub returns-else-left-from : goal.returns-else-left-from
-returns-else-left-from g c =
-    let l = c.in-Ready.ensures in
-    let t = c.transfer in
     record {
-      step = finds c.args.self.now t.new.self c.args.storage.now t.new.storage c.in-Ready.left c.args.most c.args.drive.now c.look.new.self t.new.drive
-          (record { fits = c.requires.fits; at = c.requires.stage; state = l.state; calls = l.calls; reports = l.reported }) l.answer t.ensures.loads t.ensures.step;
-      calls = search rules;
+      looked = record { fits = c.requires.fits; at = c.requires.stage; state = l.state; calls = l.calls; reports = l.reported };
+      left = c.in-Ready.left;
+      answer = l.answer;
+      run = refl;
+      storage = refl;
     }

@@ -1,24 +1,30 @@
-use Rattle.std.proofs.Common.{◌≡◌, inr, arith, rules}
+use Rattle.std.proofs.Common.{◌≡◌, ◌⊎◌, ◌∙◌, inl, inr, arith, false, rules, sym}
+use Rattle.s360_words.specs.Words.{chains_data}
 use Rattle.s360_program.specs.declared.run.Step.TheVariants as step
 use Rattle.s360_program.proofs.Stepping.{kept, quietly, one_unit}
 use Rattle.s360_program.proofs.Transferring.{completes, checks, moves_on}
 use Rattle.s360_program.proofs.run.Run.transfer.Goals as goal
+use Rattle.s360_program.proofs.run.Run.transfer.Goals.{else-residual-eq0-via-then-residual-eq0+else-chains_data, else-residual-eq0-via-else-residual-eq0}
 
-pub returns-then-residual-eq0-clause-step : goal.returns-then-residual-eq0-clause-step
-returns-then-residual-eq0-clause-step g c =
+pub returns-then-chains_data-clause-step : goal.returns-then-chains_data-clause-step
+returns-then-chains_data-clause-step g c =
     let a = c.args in
-    let e = c.spend in
+    let e = c.next_area in
     one_unit a.self.now e.new.self a.storage.now a.storage.now a.drive.now e.new.drive a.most e.result c.requires.fits c.requires.some (kept a.storage.now) e.ensures.quiet e.ensures.comes
 
-pub returns-then-flow-eq0-clause-step : goal.returns-then-flow-eq0-clause-step
-returns-then-flow-eq0-clause-step g c =
+pub returns-then-residual-eq0-2-clause-step : goal.returns-then-residual-eq0-2-clause-step
+returns-then-residual-eq0-2-clause-step g c =
     let a = c.args in
     let f = c.flow_of-flow in
     let e = c.conclude in
-    let none : f.result.left ≡ 0 = omega arith in
+    let needs : a.self.now.place.residual ≡ 0 → chains_data a.self.now.ccw ≡ false = elim c.else-residual-eq0.branch [
+      else-residual-eq0-via-then-residual-eq0+else-chains_data w ↦ λ z. sym w.chains_data.ensures ∙ w.if-chains_data.false |
+      else-residual-eq0-via-else-residual-eq0 w ↦ λ z. absurd (w.if-residual-eq0.false z)
+    ] in
+    let spent : (a.self.now.place.residual ≡ 0) ⊎ (f.result.left ≡ 0) = elim c.then-residual-eq0-2.either [ inl z ↦ inl z | inr z ↦ inr z.1 ] in
     one_unit a.self.now e.new.self a.storage.now a.storage.now a.drive.now e.new.drive a.most e.result c.requires.fits c.requires.some (kept a.storage.now) (λ q. search rules)
     (completes a.self.now e.new.self a.storage.now e.result a.drive.now f.new.drive e.new.drive f.result c.requires.stage f.ensures
-    c.is_incorrect-incorrect.result (λ z. absurd (omega arith)) (inr none) c.is_incorrect-incorrect.ensures e.ensures.loads (e.ensures.comes a.storage.now))
+    c.is_incorrect-incorrect.result needs spent c.is_incorrect-incorrect.ensures e.ensures.loads (e.ensures.comes a.storage.now))
 
 pub returns-in-Ok-clause-step : goal.returns-in-Ok-clause-step
 returns-in-Ok-clause-step g c =
