@@ -145,7 +145,8 @@ fn read<S: ImageStore>(
 #[inline(always)]
 pub(crate) fn admits_all(storage: &Storage, address: u32, count: u16, key: u8) -> bool
     requires { key < 16 }
-    ensures { result ≡ true → (i : ℕ) → i < count → IsTrue (may_store storage.now key (address + i)) }
+    ensures all { result ≡ true → (i : ℕ) → i < count → IsTrue (may_store storage.now key (address + i)) }
+    ensures stops { result ≡ false → 0 < count → (i : ℕ) × (i < count) × (may_store storage.now key (address + i) ≡ false) }
 {
     if key == 0 {
         return address as usize + usize::from(count) <= storage.size() as usize;
