@@ -12,7 +12,7 @@ use bitflags::Flags;
 use s360_words::{Ccw, ChannelStatus, Csw, UnitStatus};
 
 /// What the channel itself has to report.
-#[derive(Clone, Copy)]
+#[derive(Clone, Copy, PartialEq, Eq)]
 pub(crate) enum ChannelCondition {
     /// Nothing.
     Clear,
