@@ -17,7 +17,7 @@ pub enum RecordForm {
 }
 
 /// Which part of a record stands in a block.
-#[derive(Clone, Copy)]
+#[derive(Clone, Copy, PartialEq, Eq)]
 pub enum Segment {
     /// All of it.
     Whole,

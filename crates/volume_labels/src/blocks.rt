@@ -15,7 +15,7 @@ pub const KEY_LENGTH: usize = 44;
 pub const DATA_LENGTH: usize = 96;
 
 /// What a data set control block is for, by its format.
-#[derive(Clone, Copy)]
+#[derive(Clone, Copy, PartialEq, Eq)]
 pub enum BlockKind {
     /// Format 0: it is free.
     Free,
