@@ -462,11 +462,6 @@ abbrev pub given_on : Transfer → ℕ → Transfer
 given_on (Read w no_data) n = Read (record { start = w.start + n; len = w.len - n }) no_data
 given_on p n = p
 
--- a place that is no search's
-abbrev pub IsNoSearch : Transfer → Type 0
-IsNoSearch (Search w so_far) = ⊥
-IsNoSearch _ = Unit {0}
-
 -- How a command closes, by its place.
 
 -- a field that did not change the track

@@ -1,7 +1,7 @@
 //! The bytes of a command that pass: where they stand, and what becomes of those that it takes.
 
 ghost use Rattle.std.specs.Prelude.{◌≡◌, ◌≤◌, ◌<◌, ◌+◌, length, ◌-◌, ◌^◌, slice_range};
-ghost use Rattle.ckd_drive.specs.Invariant.{MayTake, Works, MayGive, IsNoSearch, whole_of, remaining, field_size, given_on};
+ghost use Rattle.ckd_drive.specs.Invariant.{MayTake, Works, MayGive, whole_of, remaining, field_size, given_on};
 ghost use Rattle.ckd_drive.specs.Jobs.{half_done, Takes};
 ghost use Rattle.ckd_command.specs.Commands.{own_home_address};
 ghost use Rattle.std.specs.Ordering.{nat_cmp, ordering_then};
@@ -279,24 +279,7 @@ impl<S: ImageStore> Job<S> {
         self.cache.put(window.start, bytes);
     }
 
-    // A command that has found its area, and is no search, takes these bytes.
-    #[inline(never)]
-    fn absorb_elsewhere(&mut self, bytes: &[u8])
-        requires may { MayTake (half_done self.old) bytes.now }
-        requires elsewhere { IsNoSearch self.old.progress.place }
-        ensures { Takes self.old bytes.now self.new }
-    {
-        match self.progress.place {
-            Transfer::Field(field) => self.collect(bytes, field),
-            Transfer::Fill(window, no_data) => self.fill(bytes, window, no_data),
-            Transfer::Due(place, number, count) => self.make(bytes, place, number, count),
-            Transfer::Filled(window, written) => self.fill_on(bytes, window, written),
-            Transfer::Search(_, _) | Transfer::Sense(_) | Transfer::Read(_, _) => unreachable!(),
-        }
-    }
-
     /// A command that has found its area takes these bytes, and the rest have the place that is left.
-    // A search by itself, since fewer commands write.
     #[inline(always)]
     pub(crate) fn absorb(&mut self, bytes: &[u8])
         requires may { MayTake (half_done self.old) bytes.now }
@@ -304,7 +287,11 @@ impl<S: ImageStore> Job<S> {
     {
         match self.progress.place {
             Transfer::Search(window, so_far) => self.search(bytes, window, so_far),
-            _ => self.absorb_elsewhere(bytes),
+            Transfer::Field(field) => self.collect(bytes, field),
+            Transfer::Fill(window, no_data) => self.fill(bytes, window, no_data),
+            Transfer::Due(place, number, count) => self.make(bytes, place, number, count),
+            Transfer::Filled(window, written) => self.fill_on(bytes, window, written),
+            Transfer::Sense(_) | Transfer::Read(_, _) => unreachable!(),
         }
     }
 }
