@@ -16,10 +16,10 @@ Counted is what Hercules' process executes in user mode, in all its threads: wha
 file and changes threads, is in no count. The first number of a way is what stands within the function that executes a channel program,
 s370_execute_ccw_chain, with all that it calls. The second has this in it, and what else stands within the instruction Start I/O, the
 device's thread and the interruption (s370_start_io, device_thread, s370_perform_io_interrupt). From both is taken what they are in a
-run whose list is empty. Whole processes are not compared: other threads go by the clock, and execute as much as a work or more.
+run whose list is empty. Whole processes are not compared: other threads go by the clock, with millions of instructions a run.
 Clears are counted as stores of vectors, and not by byte (GLIBC_TUNABLES below).
 
-It needs Debian's packages hercules (3.13) and valgrind. There are four runs for each work, of some ten seconds each."""
+It needs Debian's packages hercules (3.13) and valgrind. There are four runs for each work, of five to fifteen seconds each."""
 
 import argparse
 import os
