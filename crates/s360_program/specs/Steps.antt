@@ -192,7 +192,8 @@ abbrev pub point_at : Storage → Run → DriveState → Point
 point_at s r d = record { storage = s; place = place_of r.place; state = d.state }
 
 -- a look has found the area of the command, of which so many bytes may pass, and they come next
-pub record FindsArea (r : Run) (s : Storage) (d : DriveState) (r_new : Run) (s_new : Storage) (d_new : DriveState) : Type 0 where
+pub record FindsArea (r : Run) (s : Storage) (d : DriveState) (r_new : Run) (s_new : Storage)
+    (d_new : DriveState) : Type 0 where
   pub looked : Looked r d d_new
   pub left : ℕ
   pub answer : seen.Ready left ≡ answer_of_look d_new.work
