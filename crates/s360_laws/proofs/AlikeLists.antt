@@ -1,13 +1,13 @@
 -- The acts of the serial list are the acts of the list.
-use Rattle.std.proofs.Common.{◌≡◌, ℕ, zero, suc, ◌+◌, ◌*◌, ◌/◌, ◌%◌, refl, sym, ap, subst, ◌∙◌, arith, true, false, Bool, not, ◌&&◌, ◌||◌, ◌==◌, List, [], ◌∷◌, ◌++◌, Option, Some, None, zero-add, append_assoc, append-nil, cond}
+use Rattle.std.proofs.Common.{◌≡◌, ℕ, zero, suc, ◌+◌, ◌*◌, ◌/◌, ◌%◌, refl, sym, ap, subst, ◌∙◌, arith, true, false, Bool, not, ◌&&◌, ◌||◌, ◌==◌, List, [], ◌∷◌, ◌++◌, Option, None, zero-add, append_assoc, append-nil, cond}
 use Rattle.std.proofs.lemmas.Bool.{and_parts, cond_both, eqb-true, not-false}
 use Rattle.std.specs.Prelude.{replicate, filter}
-use Rattle.s360_words.specs.Storage.{Change, csw_stored, Bytes, KeyOf}
+use Rattle.s360_words.specs.Storage.{Change}
 use Rattle.s360_words.specs.declared.flags.UnitStatus.{UnitStatus}
-use Rattle.s360_runs.specs.Scripts.{units, OneUnit}
+use Rattle.s360_runs.specs.Scripts.{units}
 use Rattle.s360_laws.specs.Arms.{arrives}
-use Rattle.s360_laws.specs.Events.{Exchange, Hio, WithCode, Reset, Sio, StepBy, Stepped, Interrupt, Interrupted, Store, WasKept, SetKey, Tio, Tch, HasArrived, Arrive, Show, FaultAfter, CswStored, StatusStored}
-use Rattle.s360_laws.specs.History.{units_ahead, script_ahead, fate_ahead, acts, own_change, where_over, Changes, acts_of, Program, turns_of}
+use Rattle.s360_laws.specs.Events.{Exchange, Hio, WithCode, Sio, StepBy, Stepped, Interrupt, Interrupted, Store, WasKept, SetKey, Tio, Tch, HasArrived, Arrive, Show, FaultAfter}
+use Rattle.s360_laws.specs.History.{units_ahead, script_ahead, fate_ahead, acts, own_change, where_over, Changes, acts_of, turns_of}
 use Rattle.s360_laws.specs.Ledger.{is_reset, is_accepted, stores_end}
 use Rattle.s360_laws.specs.SerialLists.{changes_nothing, is_arrival, arrivals_last, steps_ahead, is_step, is_between, whole_step, steps_of, ArePlain, steps_joined, SameActs}
 use Rattle.s360_laws.specs.declared.condition.ConditionCode.TheVariants.{Two, Zero}
@@ -31,29 +31,16 @@ back p = record { ahead = sym p.ahead; script = sym p.script; ends = sym p.ends;
 -- behind an event.
 
 units_behind : (t : Exchange) (x y : List Exchange) → units_ahead x ≡ units_ahead y → units_ahead (t ∷ x) ≡ units_ahead (t ∷ y)
-units_behind (Hio a, m, WithCode Two) x y h = refl
-units_behind (Reset, m, r) x y h = refl
-units_behind (Sio a, m, WithCode Zero) x y h = refl
-units_behind (StepBy k, m, Stepped d) x y h = ap (λ n. d + n) h
-units_behind t x y h = h
+units_behind t x y h = grind arith
 
 fate_behind : (t : Exchange) (x y : List Exchange) → fate_ahead x ≡ fate_ahead y → fate_ahead (t ∷ x) ≡ fate_ahead (t ∷ y)
-fate_behind (Hio a, m, WithCode Two) x y h = refl
-fate_behind (Reset, m, r) x y h = refl
-fate_behind (Sio a, m, WithCode Zero) x y h = refl
-fate_behind t x y h = h
+fate_behind t x y h = grind arith
 
 owns : (c : Change) (x y : List Exchange) → units_ahead x ≡ units_ahead y → own_change x c ≡ own_change y c
 owns c x y h = ap (λ n. where_over n (Changes c ∷ []) []) h
 
 act_behind : (t : Exchange) (x y : List Exchange) → Alike x y → acts_of t x ≡ acts_of t y
-act_behind (Sio a, m, WithCode Zero) x y h = ap (λ s. Program (a % 256) (OneUnit None ∷ s) (fate_ahead x) ∷ []) h.script ∙ ap (λ f. Program (a % 256) (OneUnit None ∷ script_ahead y) f ∷ []) h.ends
-act_behind (Interrupt, m, Interrupted (Some i)) x y h = owns (csw_stored i.1) x y h.ahead
-act_behind (Store at bytes, m, WasKept true) x y h = owns (Bytes at bytes) x y h.ahead
-act_behind (SetKey at key, m, WasKept true) x y h = owns (KeyOf at key) x y h.ahead
-act_behind (Tio a, m, CswStored csw) x y h = refl
-act_behind (Hio a, m, StatusStored unit channel) x y h = refl
-act_behind t x y h = refl
+act_behind t x y h = grind arith
 
 behind : (t : Exchange) (x y : List Exchange) → Alike x y → Alike (t ∷ x) (t ∷ y)
 behind t x y h = record {

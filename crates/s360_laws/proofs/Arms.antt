@@ -31,28 +31,23 @@ Has_arm arm y = option_map (λ v. v.arm) y ≡ Some arm
 
 -- a status without device end, where it is for this address
 unended : (b c : Bool) (arm : Arm) → (b ≡ true → c ≡ false) → Some arm ≡ Some (cond (b && c) AtRest (cond false Arrived arm))
-unended true c arm k = ap (λ c. Some (cond c AtRest arm)) (sym (k refl))
-unended false c arm k = refl
+unended b c arm k = grind arith
 
 -- an exchange that tells nothing of the arm
 untold : (r s b : Bool) (arm : Arm) → r ≡ false → s ≡ false → b ≡ false → Some arm ≡ Some (cond (r || s) AtRest (cond b Arrived arm))
-untold false false false arm hr hs hb = refl
-untold r s b arm hr hs hb = absurd (cc)
+untold r s b arm hr hs hb = rw (hr, hs, hb) refl
 
 owes_of : (y : Option Device) (arm : Arm) → Has_arm arm y → device_owes y ≡ arm_owes arm
-owes_of None arm h = absurd (cc)
-owes_of (Some v) arm h = let same : v.arm ≡ arm = cc in ap arm_owes same
+owes_of y arm h = grind arith
 
 is_there : (y : Option Device) (arm : Arm) → Has_arm arm y → is_some y ≡ true
-is_there None arm h = absurd (cc)
-is_there (Some v) arm h = refl
+is_there y arm h = grind arith
 
 reset_arm : (w : Machine) (u : ℕ) → is_some (device_for w u) ≡ true → arm_for (all_at_rest w) u ≡ Some AtRest
 reset_arm w u there = ap (option_map (λ v. v.arm)) (found_map (λ d. 256 * w.channel + d == u) at_rest (λ v. refl) w.devices) ∙ go (device_for w u) there
   where
     go : (y : Option Device) → is_some y ≡ true → option_map (λ v. v.arm) (option_map at_rest y) ≡ Some AtRest
-    go None h = absurd (cc)
-    go (Some v) h = refl
+    go y h = grind arith
 
 -- where the arm at an address owes a device end
 module _ (m : Machine) (u : ℕ) (arm : Arm) (h : arm_for m u ≡ Some arm) (o : arm_owes arm ≡ 1) where
@@ -82,8 +77,7 @@ module _ (m : Machine) (u : ℕ) (arm : Arm) (h : arm_for m u ≡ Some arm) (o :
       no_end (tells csw.unit DEVICE_END) (device_owes (device_at m p)) r.1 (ap device_owes (sym (at_device m p u (device_at m p) (e ∙ eqb-true a u k) refl)) ∙ owes_of (device_for m u) arm h ∙ o))
     where
       no_end : (c : Bool) (n : ℕ) → cond c 1 0 + n ≡ 1 → n ≡ 1 → c ≡ false
-      no_end true n q k = absurd (omega arith)
-      no_end false n q k = refl
+      no_end c n q k = grind arith
 
   arm_by : (x : Option FaultAfter) {c : Subchannel} {e : Event} {r : Answer × Machine} → Reacts m x c e r → AreDistinct m.devices → Rest m c → Keeps_arm u arm e x r
   arm_by x (Same c e a q k) ds z = let n = (unmoved (e, x, a) q).0 u in h ∙ untold _ _ _ arm n.0 (n.2 DEVICE_END) n.3
@@ -118,9 +112,7 @@ pub arm_follows : ArmFollows
 arm_follows m e u arm sound h o = let p = sound_parts m m.subchannel sound.1 in arm_by m u arm h o e.1 (reacts m e.1 m.subchannel e.0 p.0) sound.0 p.1
 
 still_owes : (b c : Bool) (arm : Arm) → b ≡ false → arm_owes arm ≡ 1 → arm_owes (cond b AtRest (cond c Arrived arm)) ≡ 1
-still_owes true c arm k o = absurd (cc)
-still_owes false true arm k o = refl
-still_owes false false arm k o = o
+still_owes b c arm k o = grind arith
 
 pub arm_stays : ArmStays
 arm_stays m [] u arm arm_now sound h o k = h ∙ k

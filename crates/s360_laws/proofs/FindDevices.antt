@@ -1,6 +1,6 @@
 -- Numbers, tests and devices that are found by their addresses; and a machine in each state of its subchannel.
 use Rattle.std.proofs.Common.{subst, ◌≡◌, ℕ, ◌+◌, ◌*◌, ◌/◌, ◌%◌, refl, sym, ap, ◌∙◌, arith, true, false, Bool, cond, ◌==◌, List, [], ◌∷◌, map, Option, Some, None}
-use Rattle.std.proofs.lemmas.Bool.{ne_eqb, eq-eqb, eqb-true, eqb-false, cond_both}
+use Rattle.std.proofs.lemmas.Bool.{ne_eqb, eqb-true, cond_both}
 use Rattle.std.specs.Prelude.{find, option_map}
 use Rattle.s360_words.specs.declared.words.Csw.{Csw}
 use Rattle.ckd_command.specs.Drive.{IdleDrive}
@@ -18,11 +18,7 @@ different a b f = ne_eqb a b f
 
 -- two tests of numbers that hold together
 same_test : (a b c d : ℕ) → (a ≡ b → c ≡ d) → (c ≡ d → a ≡ b) → (a == b) ≡ (c == d)
-same_test a b c d f g = go (c == d) refl
-  where
-    go : (r : Bool) → (c == d) ≡ r → (a == b) ≡ r
-    go true h = eq-eqb _ _ (g (eqb-true c d h))
-    go false h = ne_eqb _ _ (λ e. eqb-false c d h (f e))
+same_test a b c d f g = grind arith
 
 -- Finding devices.
 

@@ -1,5 +1,5 @@
 -- A slot that no program of a list may write keeps its bytes.
-use Rattle.std.proofs.Common.{◌≡◌, ℕ, refl, ap, subst, sym, ◌∙◌, true, false, Bool, cond, ◌&&◌, ◌==◌, List, [], ◌∷◌, map, Option, Some, None}
+use Rattle.std.proofs.Common.{arith, ◌≡◌, ℕ, refl, ap, subst, sym, ◌∙◌, true, false, Bool, cond, ◌&&◌, ◌==◌, List, [], ◌∷◌, map, Option, Some, None}
 use Rattle.std.proofs.lemmas.Bool.{cond_both, eqb-true, or_parts, eq-eqb}
 use Rattle.std.specs.Prelude.{find, option_map}
 use Rattle.s360_words.specs.Words.{caw_of}
@@ -37,8 +37,7 @@ with_slot : (track device p : ℕ) (drive : IdleDrive) (ds : Drives) (d : ℕ ×
 with_slot track device p drive ds d is k = ap (slot track) (find_map (λ d. d.0 == device) (λ d. d.0 == device) (λ d. cond (d.0 == p) (d.0, drive) d) (λ d. number d (d.0 == p)) ds) ∙ go (at device ds) refl
   where
     number : (d : ℕ × IdleDrive) (b : Bool) → ((cond b (d.0, drive) d).0 == device) ≡ (d.0 == device)
-    number d true = refl
-    number d false = refl
+    number d b = grind arith
 
     go : (y : Option (ℕ × IdleDrive)) → at device ds ≡ y → slot track (option_map (λ d. cond (d.0 == p) (d.0, drive) d) y) ≡ slot track y
     go None e = refl
@@ -70,8 +69,7 @@ first_keeps s drive track h = from (caw_of s.caw) (subst (λ f. IsFirstUnit s f 
     by_unit caw (EndsIn st f) e k q = let same : f ≡ e = cc in subst (λ e. slot_in e.drive.volume track ≡ slot_in s.drive.volume track) same k
 
     none : (b : Bool) → (b && false) ≡ false
-    none true = refl
-    none false = refl
+    none b = grind arith
 
     from : (c : Option Caw) → IsFirstUnit s (RejectedStart drive) (run_from (units 1) s c) → slot_in drive.volume track ≡ slot_in s.drive.volume track
     from None r = let q = r.1 in absurd (cc)

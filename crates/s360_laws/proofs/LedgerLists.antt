@@ -1,5 +1,5 @@
 -- The ledger: each event keeps what is stored and what is owed in balance, and so does a list of events.
-use Rattle.std.proofs.Common.{not, ◌≡◌, ℕ, ◌+◌, refl, sym, ap, ◌∙◌, arith, true, false, Bool, cond, ◌&&◌, ◌==◌, Option, Some, None, zero-add, ◌*◌, ◌/◌, ◌%◌, subst, List, [], ◌∷◌, ◌⊎◌, inl, inr, add-zero, ◌++◌, ◌≤◌, ◌||◌}
+use Rattle.std.proofs.Common.{not, ◌≡◌, ℕ, ◌+◌, refl, sym, ap, ◌∙◌, arith, true, false, Bool, cond, ◌&&◌, ◌==◌, Option, Some, None, zero-add, ◌*◌, ◌/◌, ◌%◌, subst, List, [], ◌∷◌, ◌⊎◌, add-zero, ◌++◌, ◌≤◌, ◌||◌}
 use Rattle.std.proofs.Math.Bool.{and-true}
 use Rattle.std.proofs.lemmas.Bool.{cond_both, eqb-true, ne_eqb, eq-eqb, false≢true, and_from, cond-false, cond-true}
 use Rattle.std.specs.Prelude.{option_map, find, filter, nat_lt, fold}
@@ -55,19 +55,16 @@ nothing c d = (zero-add c, zero-add d, λ h. absurd (cc))
 
 -- a status without this end
 silent : (b : Bool) (c : ℕ) → cond (b && false) 1 0 + c ≡ c
-silent true c = zero-add c
-silent false c = zero-add c
+silent b c = grind arith
 
 -- what tells nothing leaves all owed
 all_false : {P : Type 0} (r a c d : Bool) (n k : ℕ) → r ≡ false → a ≡ false → c ≡ false → d ≡ false
     → (cond c 1 0 + n ≡ cond r 0 (cond a 1 n)) × (cond d 1 0 + k ≡ cond r 0 (cond a 1 k)) × (a ≡ true → P)
-all_false false false false false n k hr ha hc hd = nothing n k
-all_false r a c d n k hr ha hc hd = absurd (cc)
+all_false r a c d n k hr ha hc hd = rw (hr, ha, hc, hd) (nothing n k)
 
 -- a program that ended: its device end, or the motion of its arm
 end_owes : (c motion : Bool) → c ≡ not motion → cond c 1 0 + arm_owes (cond motion InMotion AtRest) ≡ 1
-end_owes c true h = ap (λ c. cond c 1 0 + 1) h
-end_owes c false h = ap (λ c. cond c 1 0 + 0) h
+end_owes c motion h = grind arith
 
 -- a change of one device keeps addresses apart
 distinct : (m : Machine) (d : ℕ) (f : Device → Device) → Keeps f → AreDistinct m.devices → AreDistinct (with_device d f m).devices
@@ -84,8 +81,7 @@ arrival_owes : (m : Machine) (a d u : ℕ) (v : Device) → IsAt m a d v → is_
 arrival_owes m a d u v at h = changed_for m (set_arm Arrived) (λ v. refl) a d v at u (λ b y z. device_owes y ≡ device_owes z) (moves v.arm h) (λ y. refl)
   where
     moves : (arm : Arm) → is_in_motion arm ≡ true → 1 ≡ arm_owes arm
-    moves InMotion h = refl
-    moves arm h = absurd (cc)
+    moves arm h = grind arith
 
 arrival_rest : (m : Machine) (c : Subchannel) (a d : ℕ) (v : Device) → IsAt m a d v → is_in_motion v.arm ≡ true → Rest m c → Rest (with_arm Arrived d m) c
 arrival_rest m c a d v at h r = go c r
@@ -110,14 +106,11 @@ reset_fine m w x unsaved ds = (
 )
   where
     free : (y : Option Device) → device_owes (option_map at_rest y) ≡ 0
-    free None = refl
-    free (Some v) = refl
+    free y = grind arith
 
 -- Starts.
 
-due_one : (b : Bool) → cond (b && true) 1 0 + 0 ≡ cond b 1 0
-due_one true = refl
-due_one false = refl
+
 
 -- a device whose arm is at rest owes nothing
 free_due : (m : Machine) (a d u : ℕ) (v : Device) → IsAt m a d v → v.arm ≡ AtRest → (a == u) ≡ true → ◌≡◌ {A = ℕ} 0 0 × (0 + device_owes (device_for m u) ≡ 0)
@@ -138,8 +131,7 @@ first_good s f h = go f (subst (λ f. IsFirstUnit s f (run (units 1) s)) h (firs
 -- an immediate command is accepted and over at once
 at_once : (a u : ℕ) (x : Option FaultAfter) (unit : UnitStatus) (channel : ChannelStatus) → (unit ≡ CHANNEL_END) ⊎ (unit ≡ normal_end)
     → (is_accepted u (Sio a, x, StatusStored unit channel) ≡ (a == u)) × (tells unit CHANNEL_END ≡ true)
-at_once a u x unit channel (inl k) = subst (λ unit. (is_accepted u (Sio a, x, StatusStored unit channel) ≡ (a == u)) × (tells unit CHANNEL_END ≡ true)) (sym k) (refl, refl)
-at_once a u x unit channel (inr k) = subst (λ unit. (is_accepted u (Sio a, x, StatusStored unit channel) ≡ (a == u)) × (tells unit CHANNEL_END ≡ true)) (sym k) (refl, refl)
+at_once a u x unit channel h = grind arith
 
 begin_fine : (m : Machine) (x : Option FaultAfter) (a d : ℕ) (v : Device) (f : First) → IsAt m a d v → v.arm ≡ AtRest → FirstGood (start_of m v.drive) f → AreDistinct m.devices → Fine (idle m) (Sio a) x (started d (idle m) f)
 begin_fine m x a d v BadStart at free g ds = (ds, tt, λ u. (silent (a == u) 0, silent (a == u) _, λ b. absurd (cc)))
@@ -162,7 +154,7 @@ begin_fine m x a d v (ImmediateStart z) at free g ds = (
   distinct m d (set_both (arm_after z) z.drive) (λ v. refl) ds,
   tt,
   λ u. let k = at_once a u x z.csw.unit z.csw.channel g.1 in (
-    ap (λ c. cond ((a == u) && c) 1 0 + 0) k.1 ∙ due_one (a == u) ∙ ap (λ b. cond b 1 0) (sym k.0),
+    ap (λ c. cond ((a == u) && c) 1 0 + 0) k.1 ∙ add-zero _ ∙ ap (λ b. cond b 1 0) (and-true (a == u) ∙ sym k.0),
     changed_for m (set_both (arm_after z) z.drive) (λ v. refl) a d v at u (λ b y z_two. cond (b && tells z.csw.unit DEVICE_END) 1 0 + (0 + device_owes y) ≡ cond b 1 (0 + device_owes z_two))
         (ap (λ n. cond (tells z.csw.unit DEVICE_END) 1 0 + n) (zero-add _) ∙ end_owes (tells z.csw.unit DEVICE_END) z.motion g.0.device_end) (λ y. zero-add _)
         ∙ ap (λ b. cond b 1 (0 + device_owes (device_for m u))) (sym k.0),
@@ -276,14 +268,10 @@ fine_by m x (Within d s w (Bytes at bytes)) ds z = (ds, z, λ u. nothing _ _)
 fine_by m x (Within d s w (KeyOf at key)) ds z = (ds, z, λ u. nothing _ _)
 
 pub sound_parts : (m : Machine) (c : Subchannel) → IsSoundIn m c → Runs m c × Rest m c
-sound_parts m Idle h = (tt, tt)
-sound_parts m (Working d s) h = h
-sound_parts m (Pending p csw) h = (tt, h)
+sound_parts m c h = grind arith
 
 sound_whole : (m : Machine) (c : Subchannel) → Runs m c → Rest m c → IsSoundIn m c
-sound_whole m Idle r h = tt
-sound_whole m (Working d s) r h = (r, h)
-sound_whole m (Pending p csw) r h = h
+sound_whole m c r h = grind arith
 
 fine : (m : Machine) (e : Event) (x : Option FaultAfter) → IsSound m → Fine m e x (react e x m)
 fine m e x h = let p = sound_parts m m.subchannel h.1 in fine_by m x (reacts m x m.subchannel e p.0) h.0 p.1
@@ -306,9 +294,7 @@ Holds b s n o = n + o ≡ due b s
 
 holds_next : (b : ℕ) (s : Since) (r a : Bool) (n t o o_two : ℕ) → Holds b s n o → t + o_two ≡ cond r 0 (cond a 1 o)
     → Holds b (cond r SinceReset (cond a SinceAcceptance s)) (cond (r || a) 0 n + t) o_two
-holds_next b s true a n t o o_two h e = omega arith
-holds_next b s false true n t o o_two h e = omega arith
-holds_next b s false false n t o o_two h e = omega arith
+holds_next b s r a n t o o_two h e = grind arith
 
 holds_all : (u b q : ℕ) (es : List Input) (m : Machine) (s : Since) (c d : ℕ) → IsSound m → Holds b s c (owes_channel_end u m) → Holds q s d (owes_device_end u m)
     → Holds b (fold (later u) s (exchanges es m)) (fold (counted CHANNEL_END u) c (exchanges es m)) (owes_channel_end u (after_all es m))
@@ -325,22 +311,14 @@ ends_pend m es u h = holds_all u (owes_channel_end u m) (owes_device_end u m) es
 
 -- What a sound machine owes.
 
-one_at_most : (b : Bool) → cond b 1 0 ≤ 1
-one_at_most true = omega arith
-one_at_most false = omega arith
+
 
 arm_most : (y : Option Device) → device_owes y ≤ 1
-arm_most None = omega arith
-arm_most (Some v) = go v.arm
-  where
-    go : (arm : Arm) → arm_owes arm ≤ 1
-    go AtRest = omega arith
-    go arm = omega arith
+arm_most y = grind arith
 
 -- the owed channel end and device end of a device, where either the device end or the arm is owed
 owed_ends : (b c d : Bool) (n : ℕ) → n ≤ 1 → (b ≡ true → cond d 1 0 + n ≡ 1) → (cond (b && c) 1 0 ≤ cond (b && d) 1 0 + n) × (cond (b && d) 1 0 + n ≤ 1)
-owed_ends true c d n l k = let e = k refl in let f = one_at_most c in (omega arith, omega arith)
-owed_ends false c d n l k = (omega arith, omega arith)
+owed_ends b c d n l k = grind arith
 
 owed : (m : Machine) (c : Subchannel) (u : ℕ) → Rest m c
     → (channel_owes CHANNEL_END u m c ≤ channel_owes DEVICE_END u m c + device_owes (device_for m u)) × (channel_owes DEVICE_END u m c + device_owes (device_for m u) ≤ 1)
@@ -353,18 +331,13 @@ owed m c u h = go c h
     same d b = ap device_owes (at_device m d u (device_at m d) (eqb-true _ _ b) refl)
 
     go : (c : Subchannel) → Rest m c → (channel_owes CHANNEL_END u m c ≤ channel_owes DEVICE_END u m c + n) × (channel_owes DEVICE_END u m c + n ≤ 1)
-    go Idle h = owed_ends false false false n (arm_most (device_for m u)) (λ b. absurd (cc))
-    go (Working d s) h = subst (λ b. (cond b 1 0 ≤ cond b 1 0 + n) × (cond b 1 0 + n ≤ 1)) (and-true (address_of m d == u))
-        (owed_ends (address_of m d == u) true true n (arm_most (device_for m u)) (λ b. ap (λ n. 1 + n) (same d b ∙ h)))
-    go (Pending d csw) h = owed_ends (address_of m d == u) (tells csw.unit CHANNEL_END) (tells csw.unit DEVICE_END) n (arm_most (device_for m u)) (λ b. ap (λ n. cond (tells csw.unit DEVICE_END) 1 0 + n) (same d b) ∙ h.1)
+    go c h = grind (arith, same, arm_most)
 
 owed_most : (m : Machine) (u : ℕ) → IsSound m → (owes_channel_end u m ≤ owes_device_end u m) × (owes_device_end u m ≤ 1)
 owed_most m u h = owed m m.subchannel u (sound_parts m m.subchannel h.1).1
 
 most : (b : ℕ) (s : Since) (n o : ℕ) → b ≤ 1 → Holds b s n o → n ≤ 1
-most b SinceBeginning n o l h = omega arith
-most b SinceAcceptance n o l h = omega arith
-most b SinceReset n o l h = omega arith
+most b s n o l h = grind arith
 
 pub at_most_once : AtMostOnce
 at_most_once m es u h =
@@ -373,58 +346,44 @@ at_most_once m es u h =
     let few : owes_channel_end u m ≤ 1 = omega arith in
     (most _ _ _ _ few k.0, most _ _ _ _ o.1 k.1)
 
--- what is stored and owed together once it is known what came last
-pends_since : (m : Machine) (es : List Input) (u : ℕ) (s : Since) → IsSound m → since u (exchanges es m) ≡ s
-    → (times_stored CHANNEL_END u (exchanges es m) + owes_channel_end u (after_all es m) ≡ due (owes_channel_end u m) s)
-    × (times_stored DEVICE_END u (exchanges es m) + owes_device_end u (after_all es m) ≡ due (owes_device_end u m) s)
-pends_since m es u s h e = let k = ends_pend m es u h in (k.0 ∙ ap (due (owes_channel_end u m)) e, k.1 ∙ ap (due (owes_device_end u m)) e)
+
 
 pub exactly_once : ExactlyOnce
 exactly_once m es e u h s a =
-    let k = pends_since m es u SinceAcceptance h s in
+    let k = rw s at (ends_pend m es u h) in
     let z = ((fine (after_all es m) e.0 e.1 (stays_sound m es h)).2 u).2 a in
     (omega arith, omega arith)
 
 pub channel_end_first : ChannelEndFirst
 channel_end_first m es u h s =
-    let k = pends_since m es u SinceAcceptance h s in
+    let k = rw s at (ends_pend m es u h) in
     let owes = owed_most (after_all es m) u (stays_sound m es h) in
     omega arith
 
 pub none_after_reset : NoneAfterReset
-none_after_reset m es u h s = let k = pends_since m es u SinceReset h s in (omega arith, omega arith)
+none_after_reset m es u h s = let k = rw s at (ends_pend m es u h) in (omega arith, omega arith)
 
 pub idle_sound : IdleIsSound
 idle_sound m h ds = (ds, subst (IsSoundIn m) (sym h) tt)
 
 -- When a start is accepted.
 
-no_start : (b : Bool) (m : Machine) → ◌≡◌ {A = Answer × Machine} (cond b (WithCode Two, m) (WithCode Three, m)) (WithCode (cond b Two Three), m)
-no_start true m = refl
-no_start false m = refl
+
 
 pub no_start_while_working : NoStartWhileWorking
 no_start_while_working m h a x = go m.subchannel h
   where
     go : (c : Subchannel) → is_working c ≡ true → ◌≡◌ {A = Answer × Machine} (react (Sio a) x (record m { subchannel = c })) (WithCode (cond (a / 256 == m.channel) Two Three), record m { subchannel = c })
-    go (Working d s) h = no_start (a / 256 == m.channel) (working m d s)
-    go c h = absurd (cc)
+    go c h = grind arith
 
--- where the channel is not idle, no start is accepted
-not_accepted : (a v : ℕ) (x : Option FaultAfter) (b : Bool) (m : Machine) → is_accepted v (Sio a, x, (cond {A = Answer × Machine} b (WithCode Two, m) (WithCode Three, m)).0) ≡ false
-not_accepted a v x b m = cond_both {A = Answer × Machine} b (WithCode Two, m) (WithCode Three, m) (λ r. is_accepted v (Sio a, x, r.0) ≡ false) (λ e. refl) (λ e. refl)
+
 
 accepted_idle : (m : Machine) (e : Event) (x : Option FaultAfter) (v : ℕ) → is_accepted v (e, x, (react e x m).0) ≡ true → m.subchannel ≡ Idle
-accepted_idle m (Sio a) x v h = go m.subchannel h
-  where
-    go : (c : Subchannel) → is_accepted v (Sio a, x, (react (Sio a) x (with_subchannel c m)).0) ≡ true → c ≡ Idle
-    go Idle h = refl
-    go c h = absurd (false≢true (sym (not_accepted a v x (a / 256 == m.channel) (with_subchannel c m)) ∙ h))
-accepted_idle m e x v h = absurd (cc)
+accepted_idle m e x v h = grind arith
 
 pub starts_after_channel_end : StartsAfterChannelEnd
 starts_after_channel_end m es e u v sound s h =
-    let k = pends_since m es u SinceAcceptance sound s in
+    let k = rw s at (ends_pend m es u sound) in
     let idle = accepted_idle (after_all es m) e.0 e.1 v h in
     let none = ap (channel_owes CHANNEL_END u (after_all es m)) idle in
     omega arith
@@ -443,10 +402,7 @@ held_answer m p csw e x = tt
 
 -- its CSW was taken
 taken : (m : Machine) (p q a : ℕ) (csw other : Csw) → address_of m q ≡ a → Pending q other ≡ Pending p csw → tells csw.unit CHANNEL_END ≡ true → ((a == address_of m p) && tells other.unit CHANNEL_END) ≡ false → ⊥
-taken m p q a csw other e is t h =
-    let device : q ≡ p = cc in
-    let same : other ≡ csw = cc in
-    false≢true (sym h ∙ and_from _ _ (eq-eqb _ _ (sym e ∙ ap (address_of m) device)) (ap (λ csw. tells csw.unit CHANNEL_END) same ∙ t))
+taken m p q a csw other e is t h = grind arith
 
 -- the machine that follows has it still, unless it was stored or reset
 abbrev StillHeld : Machine → ℕ → Csw → Machine → Type 0

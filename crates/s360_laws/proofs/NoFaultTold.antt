@@ -1,5 +1,5 @@
 -- Without a fault no event reports one; and a reset reports a track only where the program had written it.
-use Rattle.std.proofs.Common.{◌%◌, ◌≡◌, ℕ, refl, sym, ap, subst, ◌∙◌, true, false, cond, ◌==◌, [], ◌∷◌, ◌++◌, map, Option, Some, None, append-nil}
+use Rattle.std.proofs.Common.{arith, ◌%◌, ◌≡◌, ℕ, refl, sym, ap, subst, ◌∙◌, true, false, cond, ◌==◌, [], ◌∷◌, ◌++◌, map, Option, Some, None, append-nil}
 use Rattle.std.proofs.lemmas.Bool.{cond_both, eqb-true}
 use Rattle.std.specs.Prelude.{find, option_map, is_some}
 use Rattle.s360_words.specs.Storage.{Storage}
@@ -34,7 +34,7 @@ the_device : (d e : Device) → Some d ≡ Some e → d ≡ e
 the_device d e h = cc
 
 same_devices : (x : Option Device) → Quietly x x
-same_devices x d e h k = subst (λ e. GainsNoCheck d.drive e.drive) (the_device d e (sym h ∙ k)) (λ q. q)
+same_devices x d e h k = grind arith
 
 -- where one device is changed, and gains nothing
 one_changed : (m : Machine) (d : ℕ) (f : Device → Device) → Keeps f → ((v : Device) → device_at m d ≡ Some v → GainsNoCheck v.drive (f v).drive)
@@ -65,8 +65,7 @@ ending_calm m d st e v at h = one_changed m d (set_both (arm_after e) e.drive) (
 without_append : (script : Script) (k : ℕ) → without_faults script ++ units k ≡ without_faults (script ++ units k)
 without_append [] k = sym (plain_step k None)
 without_append (OneUnit f ∷ rest) k = ap (λ l. OneUnit None ∷ l) (without_append rest k)
-without_append (Outside c ∷ rest) k = ap (λ l. Outside c ∷ l) (without_append rest k)
-without_append (TakesInterruption ∷ rest) k = ap (λ l. TakesInterruption ∷ l) (without_append rest k)
+without_append (turn ∷ rest) k = ap (λ l. turn ∷ l) (without_append rest k)
 
 -- over further units without a fault
 runs_calm : (m : Machine) (d : ℕ) (s : Script) (w : Stands m d s) (k : ℕ) → OutcomeTellsNoFault w.drive.drive (run (s ++ units k) (start_of m w.drive.drive))
@@ -86,8 +85,7 @@ rests_calm : (m n : Machine) → NoneGainsCheck m (all_at_rest n)
 rests_calm m n d v e at after = λ q. go (device_at n d) (sym (found_map (λ b. b == d) at_rest (λ w. refl) n.devices) ∙ after)
   where
     go : (y : Option Device) → option_map at_rest y ≡ Some e → tells_equipment_check e.drive.sense ≡ false
-    go None h = absurd (cc)
-    go (Some w) h = subst (λ e. tells_equipment_check e.drive.sense ≡ false) (the_device (at_rest w) e h) refl
+    go y h = grind arith
 
 -- a program that runs is cut with no fault
 cut_calm : (m : Machine) (d : ℕ) (s : Script) (w : Stands m d s) → TellsNoFault w.drive.drive (w.seen.cut None)
@@ -112,8 +110,7 @@ no_fault_none_told m e r = calm m (reacts m None m.subchannel e r)
 -- Resets that report a track.
 
 told_some : (address : ℕ) (y : Option (ℕ × ℕ)) (track : ℕ × ℕ × ℕ) → WasReset (option_map (λ t. (address, t.0, t.1)) y) ≡ WasReset (Some track) → is_some y ≡ true
-told_some address None track h = absurd (cc)
-told_some address (Some t) track h = refl
+told_some address y track h = grind arith
 
 pub reset_tells_written : ResetTellsWritten
 reset_tells_written m x track h = go m.subchannel refl h

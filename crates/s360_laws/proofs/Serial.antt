@@ -1,5 +1,5 @@
 -- Event by event, the machine does what its acts do.
-use Rattle.std.proofs.Common.{◌≡◌, ℕ, refl, sym, ap, ◌∙◌, true, false, Bool, cond, ◌==◌, List, [], ◌∷◌, ◌++◌, map, Option, ◌%◌, subst, Some, None, ◌⊎◌, inl, inr, zero, suc, ◌-◌, append_assoc, append-nil}
+use Rattle.std.proofs.Common.{arith, ◌≡◌, ℕ, refl, sym, ap, ◌∙◌, true, false, Bool, cond, ◌==◌, List, [], ◌∷◌, ◌++◌, map, Option, ◌%◌, subst, Some, None, ◌⊎◌, inl, inr, zero, suc, ◌-◌, append_assoc, append-nil}
 use Rattle.std.proofs.lemmas.Bool.{cond_both}
 use Rattle.std.proofs.lemmas.List.{map-id}
 use Rattle.std.specs.Prelude.{find, option_map}
@@ -12,7 +12,7 @@ use Rattle.s360_runs.specs.Runs.{run, Start}
 use Rattle.s360_runs.specs.Scripts.{units, Script, units_in, Outside, TakesInterruption}
 use Rattle.s360_runs.specs.Starts.{First, first, BadStart, AcceptedStart, RejectedStart, ImmediateStart}
 use Rattle.s360_runs.specs.Status.{no_channel_status, normal_end, busy_device_end}
-use Rattle.s360_runs.specs.Units.{ProgramPhase, walk, StandsIn, standing_in, Between, phase_past, Looking, Moving, StandsAt}
+use Rattle.s360_runs.specs.Units.{ProgramPhase, walk, StandsIn, standing_in, Between, phase_past, StandsAt}
 use Rattle.s360_runs.proofs.FirstUnits.{first_is_unit}
 use Rattle.s360_runs.proofs.Standing.{seen_there, goes_by, stands_somewhere}
 use Rattle.s360_laws.specs.Events.{Exchange, Event, FaultAfter, Answer, Arrive, Sio, StepBy, Input, HasArrived, Stepped}
@@ -37,8 +37,7 @@ seen_map f g h [] = refl
 seen_map f g h (u ∷ us) = ap (λ x. x ∷ map seen (map f us)) (h u) ∙ ap (λ r. g (seen u) ∷ r) (seen_map f g h us)
 
 seen_cond : (b : Bool) (x y : Device) → seen (cond b x y) ≡ cond b (seen x) (seen y)
-seen_cond true x y = refl
-seen_cond false x y = refl
+seen_cond b x y = grind arith
 
 arms : (arm : Arm) (device : ℕ) (us : List Device) → map seen (map (λ u. cond (u.device == device) (set_arm arm u) u) us) ≡ map seen us
 arms arm device us = seen_map _ (λ p. p) (λ u. cond_both (u.device == device) (set_arm arm u) u (λ v. seen v ≡ seen u) (λ e. refl) (λ e. refl)) us ∙ map-id (map seen us)
@@ -92,8 +91,7 @@ own ahead c w h = sym (ap (λ n. history w (where_over n (Changes c ∷ []) [] +
 
 -- what is alike has the same acts, also where a program runs
 alike : (c : Subchannel) (w : World) {y z : List Exchange} → Alike y z → history w (begun_act c z ++ acts z) ≡ history w (begun_act c y ++ acts y)
-alike (Working d s) w k = let script = k.script in let ends = k.ends in let does = k.does in cc
-alike c w k = ap (history w) (sym k.does)
+alike c w k = grind arith
 
 -- a reset clears what is seen of the sense
 clear : (m : Machine) (ahead : List Exchange) → history (record (world_of m) { drives = map seen (map at_rest m.devices) }) (acts ahead) ≡ history (does (world_of m) ClearsSense) (acts ahead)
@@ -132,8 +130,7 @@ begin_good a x m u (ImmediateStart e) at h r = record {
 }
   where
     at_once : (e.csw.unit ≡ CHANNEL_END) ⊎ (e.csw.unit ≡ normal_end) → start_acts (a % 256) e.csw.unit ≡ Program (a % 256) (units 1) ByItself ∷ []
-    at_once (inl k) = ap (start_acts (a % 256)) k
-    at_once (inr k) = ap (start_acts (a % 256)) k
+    at_once k = grind arith
 
 -- a program that runs
 module _ (m : Machine) (x : Option FaultAfter) (d : ℕ) (s : Script) (w : Stands m d s) where
@@ -175,13 +172,11 @@ Later key more c g = (h : ProgramPhase) × (walk more key g ≡ StandsIn h) × (
 
 later_change : (c : Change) (key : ℕ) (g : ProgramPhase) → Later key (Outside c ∷ []) c g
 later_change c key (Between p) = (phase_past (Outside c) (Between p), refl, refl, λ f. refl)
-later_change c key (Looking o p) = (phase_past (Outside c) (Looking o p), refl, refl, λ f. refl)
-later_change c key (Moving o p) = (phase_past (Outside c) (Moving o p), refl, refl, λ f. refl)
+later_change c key g = (phase_past (Outside c) g, refl, refl, λ f. refl)
 
 later_mark : (c : Change) (key : ℕ) (g : ProgramPhase) → Later key (TakesInterruption ∷ Outside c ∷ []) c g
 later_mark c key (Between p) = (phase_past (Outside c) (phase_past TakesInterruption (Between p)), refl, refl, λ f. refl)
-later_mark c key (Looking o p) = (phase_past (Outside c) (phase_past TakesInterruption (Looking o p)), refl, refl, λ f. refl)
-later_mark c key (Moving o p) = (phase_past (Outside c) (phase_past TakesInterruption (Moving o p)), refl, refl, λ f. refl)
+later_mark c key g = (phase_past (Outside c) (phase_past TakesInterruption g), refl, refl, λ f. refl)
 
 changed_run : (w : World) (d : ℕ) (fate : Fate) (c : Change) (a b : Standing) → b.storage ≡ changed c a.storage → ((f : Option Fault) → (b.cut f).drive ≡ (a.cut f).drive)
     → after_run w d fate (NotEnded b) ≡ does (after_run w d fate (NotEnded a)) (Changes c)
@@ -278,8 +273,7 @@ quiet [] m r w = refl
 quiet (e ∷ es) m r w = calm (reacts m e.1 m.subchannel e.0 r) w (exchanges es (react e.0 e.1 m).1) (quiet es (react e.0 e.1 m).1 (good m e.0 e.1 r).runs)
 
 nothing_told : (m : Machine) (c : Subchannel) → is_working c ≡ false → world_of m ≡ history (world_of m) (begun_act c [] ++ [])
-nothing_told m (Working d s) w = cc
-nothing_told m c w = refl
+nothing_told m c w = grind arith
 
 pub serial : IsSerial
 serial m [] r w = nothing_told m m.subchannel w
