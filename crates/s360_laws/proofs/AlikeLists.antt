@@ -70,19 +70,7 @@ Unmoved t = ((u : ℕ) → (is_reset t ≡ false) × (is_accepted u t ≡ false)
     × ((x : List Exchange) → Alike (t ∷ x) x)
 
 pub unmoved : (t : Exchange) → changes_nothing t ≡ true → Unmoved t
-unmoved (Sio a, m, WithCode Zero) h = absurd (cc)
-unmoved (Sio a, m, WithCode code) h = (λ u. (refl, refl, λ end. refl, refl), λ x. gone x (Sio a, m, WithCode code) refl refl refl refl)
-unmoved (Tio a, m, WithCode n) h = (λ u. (refl, refl, λ end. refl, refl), λ x. gone x (Tio a, m, WithCode n) refl refl refl refl)
-unmoved (Hio a, m, WithCode Two) h = absurd (cc)
-unmoved (Hio a, m, WithCode code) h = (λ u. (refl, refl, λ end. refl, refl), λ x. gone x (Hio a, m, WithCode code) refl refl refl refl)
-unmoved (Tch, m, r) h = (λ u. (refl, refl, λ end. refl, refl), λ x. gone x (Tch, m, r) refl refl refl refl)
-unmoved (StepBy k, m, Stepped zero) h = (λ u. (refl, refl, λ end. refl, refl), λ x. gone x (StepBy k, m, Stepped zero) (zero-add (units_ahead x)) (no_units 0 m refl) refl refl)
-unmoved (Arrive a, m, HasArrived false) h = (λ u. (refl, refl, λ end. refl, refl), λ x. gone x (Arrive a, m, HasArrived false) refl refl refl refl)
-unmoved (Interrupt, m, Interrupted None) h = (λ u. (refl, refl, λ end. refl, refl), λ x. gone x (Interrupt, m, Interrupted None) refl refl refl refl)
-unmoved (Store at bytes, m, WasKept false) h = (λ u. (refl, refl, λ end. refl, refl), λ x. gone x (Store at bytes, m, WasKept false) refl refl refl refl)
-unmoved (SetKey at key, m, WasKept false) h = (λ u. (refl, refl, λ end. refl, refl), λ x. gone x (SetKey at key, m, WasKept false) refl refl refl refl)
-unmoved (Show at len, m, r) h = (λ u. (refl, refl, λ end. refl, refl), λ x. gone x (Show at len, m, r) refl refl refl refl)
-unmoved t h = absurd (cc)
+unmoved t h = (λ u. (grind arith, grind arith, λ end. grind arith, grind arith), λ x. gone x t (grind arith) (grind (arith, no_units)) (grind arith) (grind arith))
 
 -- alike, and of plain exchanges
 abbrev Plainly : List Exchange → List Exchange → Type 0
@@ -98,8 +86,7 @@ filtered (t ∷ list) h =
 -- Arrivals.
 
 pub arrival_gone : (t : Exchange) (x : List Exchange) → is_arrival t ≡ true → Alike (t ∷ x) x
-arrival_gone (Arrive a, m, r) x h = gone x (Arrive a, m, r) refl refl refl refl
-arrival_gone t x h = absurd (cc)
+arrival_gone t x h = gone x t (grind arith) (grind arith) (grind arith) (grind arith)
 
 -- arrivals that are held back
 abbrev AreArrivals : List Exchange → Type 0

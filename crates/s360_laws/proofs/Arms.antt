@@ -37,23 +37,19 @@ unended b c arm k = grind arith
 untold : (r s b : Bool) (arm : Arm) → r ≡ false → s ≡ false → b ≡ false → Some arm ≡ Some (cond (r || s) AtRest (cond b Arrived arm))
 untold r s b arm hr hs hb = rw (hr, hs, hb) refl
 
-owes_of : (y : Option Device) (arm : Arm) → Has_arm arm y → device_owes y ≡ arm_owes arm
-owes_of y arm h = grind arith
+
 
 is_there : (y : Option Device) (arm : Arm) → Has_arm arm y → is_some y ≡ true
 is_there y arm h = grind arith
 
 reset_arm : (w : Machine) (u : ℕ) → is_some (device_for w u) ≡ true → arm_for (all_at_rest w) u ≡ Some AtRest
-reset_arm w u there = ap (option_map (λ v. v.arm)) (found_map (λ d. 256 * w.channel + d == u) at_rest (λ v. refl) w.devices) ∙ go (device_for w u) there
-  where
-    go : (y : Option Device) → is_some y ≡ true → option_map (λ v. v.arm) (option_map at_rest y) ≡ Some AtRest
-    go y h = grind arith
+reset_arm w u there = let same = found_map (λ d. 256 * w.channel + d == u) at_rest (λ v. refl) w.devices in grind arith
 
 -- where the arm at an address owes a device end
 module _ (m : Machine) (u : ℕ) (arm : Arm) (h : arm_for m u ≡ Some arm) (o : arm_owes arm ≡ 1) where
   -- a device that owes nothing is not there
   free_away : (P : Type 0) (d : ℕ) (v : Device) → device_at m d ≡ Some v → device_owes (device_at m d) ≡ 0 → Has_arm arm (Some v) → P
-  free_away P d v at z k = let free = sym (ap device_owes at) ∙ z in let owes = owes_of (Some v) arm k in absurd (omega arith)
+  free_away P d v at z k = grind arith
 
   -- its device end is told
   told_arm : (a d : ℕ) (v : Device) → IsAt m a d v → arm_for (with_arm AtRest d m) u ≡ Some (cond ((a == u) && true) AtRest (cond false Arrived arm))
@@ -73,17 +69,12 @@ module _ (m : Machine) (u : ℕ) (arm : Arm) (h : arm_for m u ≡ Some arm) (o :
 
   -- the CSW that pends has no device end for an arm that owes it
   told_csw_arm : (p a : ℕ) (csw : Csw) → address_of m p ≡ a → Rest m (Pending p csw) → Some arm ≡ Some (cond ((a == u) && tells csw.unit DEVICE_END) AtRest (cond false Arrived arm))
-  told_csw_arm p a csw e r = unended (a == u) (tells csw.unit DEVICE_END) arm (λ k.
-      no_end (tells csw.unit DEVICE_END) (device_owes (device_at m p)) r.1 (ap device_owes (sym (at_device m p u (device_at m p) (e ∙ eqb-true a u k) refl)) ∙ owes_of (device_for m u) arm h ∙ o))
-    where
-      no_end : (c : Bool) (n : ℕ) → cond c 1 0 + n ≡ 1 → n ≡ 1 → c ≡ false
-      no_end c n q k = grind arith
+  told_csw_arm p a csw e r = unended (a == u) (tells csw.unit DEVICE_END) arm (λ k. let same = at_device m p u (device_at m p) (e ∙ eqb-true a u k) refl in grind arith)
 
   arm_by : (x : Option FaultAfter) {c : Subchannel} {e : Event} {r : Answer × Machine} → Reacts m x c e r → AreDistinct m.devices → Rest m c → Keeps_arm u arm e x r
   arm_by x (Same c e a q k) ds z = let n = (unmoved (e, x, a) q).0 u in h ∙ untold _ _ _ arm n.0 (n.2 DEVICE_END) n.3
   arm_by x (Arrives c a d v at k) ds z = changed_for m (set_arm Arrived) (λ v. refl) a d v at u (λ b y z. Has_arm arm z → option_map (λ v. v.arm) y ≡ Some (cond b Arrived arm)) (λ k. refl) (λ y k. k) h
-  arm_by x (Changed c (Bytes at bytes) k) ds z = h
-  arm_by x (Changed c (KeyOf at key) k) ds z = h
+  arm_by x (Changed c made k) ds z = grind arith
   arm_by x (Clears c k) ds z = reset_arm m u (is_there (device_for m u) arm h)
   arm_by x (BusyStart a) ds z = h ∙ unended (a == u) false arm (λ k. refl)
   arm_by x (BusyTest a) ds z = h ∙ unended (a == u) false arm (λ k. refl)
@@ -102,8 +93,7 @@ module _ (m : Machine) (u : ℕ) (arm : Arm) (h : arm_for m u ≡ Some arm) (o :
   arm_by x (Asks d s w csw q) ds z =
       h ∙ unended (address_of m d == u) false arm (λ k. refl)
       ∙ ap (λ k. Some (cond ((address_of m d == u) && tells k DEVICE_END) AtRest (cond false Arrived arm))) (sym (subst AsksGood q (good_stands m d s w).1))
-  arm_by x (Within d s w (Bytes at bytes)) ds z = h
-  arm_by x (Within d s w (KeyOf at key)) ds z = h
+  arm_by x (Within d s w made) ds z = grind arith
   arm_by x y ds z = h
 
 -- Any event, and lists.
@@ -125,45 +115,32 @@ arm_stays m (e ∷ es) u arm arm_now sound h o k =
 -- The lowest of the devices whose arms have arrived.
 
 abbrev Least : Option ℕ → ℕ → Type 0
-Least l d = (c : ℕ) × (l ≡ Some c) × (c ≤ d)
+Least None d = ⊥
+Least (Some c) d = c ≤ d
 
-lower_one : (b : ℕ) (l : Option ℕ) → Least (lower b l) b
-lower_one b None = (b, refl, omega arith)
-lower_one b (Some e) = cond_both (nat_lt b e) (Some b) (Some e) (λ y. Least y b) (λ k. (b, refl, omega arith)) (λ k. (e, refl, ltb-false b e k))
-
-lower_other : (b d : ℕ) (l : Option ℕ) → Least l d → Least (lower b l) d
-lower_other b d l (c, k, n) = subst (λ l. Least (lower b l) d) (sym k)
-    (cond_both (nat_lt b c) (Some b) (Some c) (λ y. Least y d) (λ k. (b, refl, let less = ltb-true b c k in omega arith)) (λ k. (c, refl, n)))
+-- of one device more, where the devices that have arrived and the one that is found are known of the others
+least_more : (v : Device) (d : ℕ) (arrived : List Device) (y : Option Device) → (Has_arm Arrived y → Least (lowest arrived) d)
+    → Has_arm Arrived (cond (v.device == d) (Some v) y) → Least (lowest (cond (has_arrived v) (v ∷ arrived) arrived)) d
+least_more v d arrived y k h = grind arith
 
 least : (vs : List Device) (d : ℕ) → option_map (λ v. v.arm) (find (λ v. v.device == d) vs) ≡ Some Arrived → Least (lowest (filter has_arrived vs)) d
 least [] d h = absurd (cc)
-least (v ∷ vs) d h = cond_both (v.device == d) (Some v) (find (λ v. v.device == d) vs) (λ y. option_map (λ v. v.arm) y ≡ Some Arrived → Chosen v.arm)
-    (λ e q. let arm : v.arm ≡ Arrived = cc in subst Chosen (sym arm) (subst (Least (lower v.device rest)) (eqb-true _ _ e) (lower_one v.device rest)))
-    (λ e q. other v.arm (least vs d q)) h
-  where
-    rest : Option ℕ
-    rest = lowest (filter has_arrived vs)
-
-    Chosen : Arm → Type 0
-    Chosen arm = Least (lowest (cond (has_arrived (record v { arm = arm })) (v ∷ filter has_arrived vs) (filter has_arrived vs))) d
-
-    other : (arm : Arm) → Least rest d → Chosen arm
-    other Arrived r = lower_other v.device d rest r
-    other arm r = r
+least (v ∷ vs) d h = least_more v d (filter has_arrived vs) (find (λ v. v.device == d) vs) (least vs d) h
 
 pub arrived_interrupts : ArrivedInterrupts
-arrived_interrupts m x device sound is_idle low = go m.subchannel is_idle (least m.devices device low.arrived)
+arrived_interrupts m x device sound is_idle low = go m.subchannel is_idle (lowest (filter has_arrived m.devices)) refl (least m.devices device low.arrived)
   where
     the_arm : (c : ℕ) → Lowest c m.devices → option_map (λ v. v.arm) (device_at m c) ≡ Some Arrived
     the_arm c (v, at, arm) = ap (option_map (λ v. v.arm)) at ∙ ap Some arm
 
-    go : (s : Subchannel) → s ≡ Idle → Least (lowest (filter has_arrived m.devices)) device → (react Interrupt x (record m { subchannel = s })).0 ≡ Interrupted (Some (address_of m device, csw_of_unit DEVICE_END))
-    go Idle e (c, k, n) =
+    go : (s : Subchannel) → s ≡ Idle → (l : Option ℕ) → lowest (filter has_arrived m.devices) ≡ l → Least l device → (react Interrupt x (record m { subchannel = s })).0 ≡ Interrupted (Some (address_of m device, csw_of_unit DEVICE_END))
+    go Idle e None k n = absurd n
+    go Idle e (Some c) k n =
         let low_enough = low.lowest c (the_arm c (lowest_found m.devices sound.0 c k)) in
         let same : c ≡ device = omega arith in
         ap (λ l. (interrupt_device (idle m) l).0) k
         ∙ ap (λ d. Interrupted (Some (address_of m d, csw_of_unit DEVICE_END))) same
-    go c e l = absurd (cc)
+    go c e l k n = absurd (cc)
 
 pub halt_of_pending_stays : HaltOfPendingStays
 halt_of_pending_stays m a p csw x e h = go m.subchannel h (a / 256 == m.channel) (eq-eqb _ _ e)

@@ -1,7 +1,7 @@
 -- The ledger: each event keeps what is stored and what is owed in balance, and so does a list of events.
 use Rattle.std.proofs.Common.{not, ◌≡◌, ℕ, ◌+◌, refl, sym, ap, ◌∙◌, arith, true, false, Bool, cond, ◌&&◌, ◌==◌, Option, Some, None, zero-add, ◌*◌, ◌/◌, ◌%◌, subst, List, [], ◌∷◌, ◌⊎◌, add-zero, ◌++◌, ◌≤◌, ◌||◌}
 use Rattle.std.proofs.Math.Bool.{and-true}
-use Rattle.std.proofs.lemmas.Bool.{cond_both, eqb-true, ne_eqb, eq-eqb, false≢true, and_from, cond-false, cond-true}
+use Rattle.std.proofs.lemmas.Bool.{cond_both, eqb-true, ne_eqb, eq-eqb, cond-false, cond-true}
 use Rattle.std.specs.Prelude.{option_map, find, filter, nat_lt, fold}
 use Rattle.s360_words.specs.Storage.{Storage, Bytes, KeyOf}
 use Rattle.s360_words.specs.declared.flags.ChannelStatus.{ChannelStatus}
@@ -19,7 +19,7 @@ use Rattle.s360_runs.proofs.EndStatus.{IsGood, RunGood, good_run, AsksGood, Stan
 use Rattle.s360_runs.proofs.FirstUnits.{first_is_unit}
 use Rattle.s360_laws.specs.Events.{Exchange, Event, FaultAfter, Answer, Reset, WasReset, Sio, StatusStored, WithCode, Input, Tio, CswStored, Tch, Interrupt}
 use Rattle.s360_laws.specs.History.{Runs}
-use Rattle.s360_laws.specs.Ledger.{is_reset, is_accepted, stores_end, Since, SinceBeginning, SinceAcceptance, SinceReset, later, counted, due, EndsPend, AtMostOnce, ExactlyOnce, ChannelEndFirst, NoneAfterReset, NoStartWhileWorking, StartsAfterChannelEnd, since, times_stored, HeldAnswer, ends_holding, HeldAnswers, HeldUntilStored}
+use Rattle.s360_laws.specs.Ledger.{is_reset, is_accepted, stores_end, Since, SinceBeginning, SinceAcceptance, SinceReset, later, counted, due, EndsPend, AtMostOnce, ExactlyOnce, ChannelEndFirst, NoneAfterReset, NoStartWhileWorking, StartsAfterChannelEnd, HeldAnswer, ends_holding, HeldAnswers, HeldUntilStored}
 use Rattle.s360_laws.specs.Machine.{Machine, Subchannel, Idle, Working, address_of, Pending, device_at, Device, with_arm, is_in_motion, at_rest, all_at_rest, with_device, arm_after, start_of, started, lowest, has_arrived, lower, react, ended, fault_in, units_with, exchanges, after_all, is_working, with_subchannel, unsaved_at, test_io, with_csw, with_change}
 use Rattle.s360_laws.specs.Soundness.{channel_owes, device_owes, device_for, owes_channel_end, owes_device_end, AreDistinct, arm_owes, IsSound, IsSoundIn, StaysSound, IdleIsSound}
 use Rattle.s360_laws.specs.declared.arm.Arm.{Arm}
@@ -230,8 +230,7 @@ fine_by m x (Arrives c a d v at k) ds z = (
   arrival_rest m c a d v at k z,
   λ u. (zero-add _, zero-add _ ∙ ap (λ n. channel_owes DEVICE_END u m c + n) (arrival_owes m a d u v at k), λ b. absurd (cc)),
 )
-fine_by m x (Changed c (Bytes at bytes) k) ds z = (ds, z, λ u. nothing _ _)
-fine_by m x (Changed c (KeyOf at key) k) ds z = (ds, z, λ u. nothing _ _)
+fine_by m x (Changed c made k) ds z = (ds, z, λ u. grind arith)
 fine_by m x (Clears c k) ds z = reset_fine (with_subchannel c m) m x None ds
 fine_by m x (FreeHalt a) ds z = (ds, tt, λ u. nothing _ _)
 fine_by m x (BusyStart a) ds z = (ds, tt, λ u. (silent (a == u) 0, silent (a == u) _, λ b. absurd (cc)))
@@ -255,17 +254,8 @@ fine_by m x (StepEnds d s k w used st e h) ds z =
     (o.apart, o.rest, λ u. (o.channel_end u, o.device_end u, λ b. absurd (cc)))
 fine_by m x (StepGoes d s k w seen h) ds z = (ds, z, λ u. nothing _ _)
 fine_by m x (Asks d s w csw h) ds z =
-    let g : csw.unit ≡ no_unit_status = subst AsksGood h (good_stands m d s w).1 in (
-      ds,
-      z,
-      λ u. (
-        ap (λ k. cond ((address_of m d == u) && tells k CHANNEL_END) 1 0 + owes_channel_end u (working m d s)) g ∙ silent (address_of m d == u) _,
-        ap (λ k. cond ((address_of m d == u) && tells k DEVICE_END) 1 0 + owes_device_end u (working m d s)) g ∙ silent (address_of m d == u) _,
-        λ b. absurd (cc),
-      ),
-    )
-fine_by m x (Within d s w (Bytes at bytes)) ds z = (ds, z, λ u. nothing _ _)
-fine_by m x (Within d s w (KeyOf at key)) ds z = (ds, z, λ u. nothing _ _)
+    let g : csw.unit ≡ no_unit_status = subst AsksGood h (good_stands m d s w).1 in (ds, z, λ u. rw g (silent (address_of m d == u) _, silent (address_of m d == u) _, λ b. absurd (cc)))
+fine_by m x (Within d s w made) ds z = (ds, z, λ u. grind arith)
 
 pub sound_parts : (m : Machine) (c : Subchannel) → IsSoundIn m c → Runs m c × Rest m c
 sound_parts m c h = grind arith

@@ -7,7 +7,6 @@ use Rattle.s360_runs.specs.Endings.{Outcome, Ended, Ending, NotEnded}
 use Rattle.s360_runs.specs.Faults.{cut_drive, OutcomeByFault, EndsByFault}
 use Rattle.s360_runs.specs.Runs.{Start, run}
 use Rattle.s360_runs.specs.Scripts.{Script, OneUnit, units, units_in}
-use Rattle.s360_runs.specs.Units.{ProgramPhase}
 use Rattle.s360_runs.proofs.FaultsMet.{fault_ends_cut, run_by_fault}
 use Rattle.s360_runs.proofs.Standing.{stands_somewhere}
 use Rattle.s360_runs.proofs.Walks.{units_in_two, ended_stays}

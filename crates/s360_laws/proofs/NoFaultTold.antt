@@ -9,7 +9,7 @@ use Rattle.ckd_command.specs.Drive.{tells_equipment_check}
 use Rattle.s360_runs.specs.Endings.{Ending}
 use Rattle.s360_runs.specs.Faults.{without_faults}
 use Rattle.s360_runs.specs.Runs.{run, run_from, start_point}
-use Rattle.s360_runs.specs.Scripts.{Script, OneUnit, Outside, TakesInterruption, units}
+use Rattle.s360_runs.specs.Scripts.{Script, OneUnit, units}
 use Rattle.s360_runs.specs.Starts.{First, RejectedStart, ImmediateStart}
 use Rattle.s360_runs.specs.Units.{Between, walk, Walk, StandsIn, EndsWith, outcome_of, standing_in}
 use Rattle.s360_runs.specs.Unsaved.{GainsNoCheck, TellsNoFault, OutcomeTellsNoFault, FirstTellsNoFault}

@@ -1,5 +1,5 @@
 -- Event by event, the machine does what its acts do.
-use Rattle.std.proofs.Common.{arith, ◌≡◌, ℕ, refl, sym, ap, ◌∙◌, true, false, Bool, cond, ◌==◌, List, [], ◌∷◌, ◌++◌, map, Option, ◌%◌, subst, Some, None, ◌⊎◌, inl, inr, zero, suc, ◌-◌, append_assoc, append-nil}
+use Rattle.std.proofs.Common.{arith, ◌≡◌, ℕ, refl, sym, ap, ◌∙◌, true, false, Bool, cond, ◌==◌, List, [], ◌∷◌, ◌++◌, map, Option, ◌%◌, subst, Some, None, ◌⊎◌, zero, suc, ◌-◌, append_assoc, append-nil}
 use Rattle.std.proofs.lemmas.Bool.{cond_both}
 use Rattle.std.proofs.lemmas.List.{map-id}
 use Rattle.std.specs.Prelude.{find, option_map}
@@ -36,17 +36,13 @@ seen_map : (f : Device → Device) (g : ℕ × IdleDrive → ℕ × IdleDrive) �
 seen_map f g h [] = refl
 seen_map f g h (u ∷ us) = ap (λ x. x ∷ map seen (map f us)) (h u) ∙ ap (λ r. g (seen u) ∷ r) (seen_map f g h us)
 
-seen_cond : (b : Bool) (x y : Device) → seen (cond b x y) ≡ cond b (seen x) (seen y)
-seen_cond b x y = grind arith
+
 
 arms : (arm : Arm) (device : ℕ) (us : List Device) → map seen (map (λ u. cond (u.device == device) (set_arm arm u) u) us) ≡ map seen us
 arms arm device us = seen_map _ (λ p. p) (λ u. cond_both (u.device == device) (set_arm arm u) u (λ v. seen v ≡ seen u) (λ e. refl) (λ e. refl)) us ∙ map-id (map seen us)
 
-ends : (arm : Arm) (d : IdleDrive) (device : ℕ) (us : List Device) → map seen (map (λ u. cond (u.device == device) (set_both arm d u) u) us) ≡ with_drive device d (map seen us)
-ends arm d device us = seen_map _ _ (λ u. seen_cond (u.device == device) (set_both arm d u) u) us
-
-drives : (d : IdleDrive) (device : ℕ) (us : List Device) → map seen (map (λ u. cond (u.device == device) (set_drive d u) u) us) ≡ with_drive device d (map seen us)
-drives d device us = seen_map _ _ (λ u. seen_cond (u.device == device) (set_drive d u) u) us
+drives : (f : Device → Device) (d : IdleDrive) → ((u : Device) → seen (f u) ≡ (u.device, d)) → (device : ℕ) (us : List Device) → map seen (map (λ u. cond (u.device == device) (f u) u) us) ≡ with_drive device d (map seen us)
+drives f d k device us = seen_map _ _ (λ u. let changed = k u in grind arith) us
 
 found : (device : ℕ) (us : List Device) → find (λ p. p.0 == device) (map seen us) ≡ option_map seen (find (λ u. u.device == device) us)
 found device us = find_map (λ p. p.0 == device) (λ u. u.device == device) seen (λ u. refl) us
@@ -104,7 +100,7 @@ program_world : (m : Machine) (device : ℕ) (script : Script) (fate : Fate) (u 
 program_world m device script fate u o at h = ap (after_program (world_of m) device script fate) (look_up m device u at) ∙ ap (after_run (world_of m) device fate) h
 
 end_world : (m : Machine) (device : ℕ) (st : Storage) (e : Ending) → world_of (with_ending device st e m) ≡ after_end (world_of m) device st e.drive
-end_world m device st e = ap (λ ds. record (world_of m) { storage = st; drives = ds }) (ends (arm_after e) e.drive device m.devices)
+end_world m device st e = ap (λ ds. record (world_of m) { storage = st; drives = ds }) (drives (set_both (arm_after e) e.drive) e.drive (λ u. refl) device m.devices)
 
 runs_at : (m : Machine) (d : ℕ) (script : Script) (u : Device) (seen : Standing) → device_at m d ≡ Some u → run script (start_of m u.drive) ≡ NotEnded seen → IsRunning (run_of m d script)
 runs_at m d script u seen at h = subst IsRunning (sym (run_at m d u script at ∙ ap Some h)) tt
@@ -117,7 +113,7 @@ begin_good a x m u AcceptedStart at h r = record { runs = subst IsRunning (sym (
 begin_good a x m u (RejectedStart d) at h r = record {
   runs = tt;
   follows = λ ahead q. same_after ahead _ _
-      (ap (λ ds. record (world_of (with_status UNIT_CHECK no_channel_status m)) { drives = ds }) (drives d (a % 256) m.devices)
+      (ap (λ ds. record (world_of (with_status UNIT_CHECK no_channel_status m)) { drives = ds }) (drives (set_drive d) d (λ u. refl) (a % 256) m.devices)
       ∙ ap (λ f. does (after_first (world_of m) (a % 256) f) (Changes (status_stored UNIT_CHECK.0 no_channel_status.0))) (sym h)
       ∙ ap (λ y. does (after_rejection (world_of m) (a % 256) y) (Changes (status_stored UNIT_CHECK.0 no_channel_status.0))) (sym (look_up m (a % 256) u at)));
 }
@@ -219,14 +215,8 @@ good_by m x (Arrives c a d v at k) r = record {
   runs = still_runs (with_subchannel c m) c Arrived d r;
   follows = λ ahead q. ap (λ ds. history (with_world (world_of m) ds) (begun_act c ahead ++ acts ahead)) (arms Arrived d m.devices) ∙ alike c (world_of m) (arrival_gone (Arrive a, x, HasArrived true) ahead refl);
 }
-good_by m x (Changed Idle (Bytes at bytes) k) r = record { runs = tt; follows = λ ahead q. own ahead (Bytes at bytes) (world_of m) (q refl) }
-good_by m x (Changed Idle (KeyOf at key) k) r = record { runs = tt; follows = λ ahead q. own ahead (KeyOf at key) (world_of m) (q refl) }
-good_by m x (Changed (Pending p csw) (Bytes at bytes) k) r = record { runs = tt; follows = λ ahead q. own ahead (Bytes at bytes) (world_of m) (q refl) }
-good_by m x (Changed (Pending p csw) (KeyOf at key) k) r = record { runs = tt; follows = λ ahead q. own ahead (KeyOf at key) (world_of m) (q refl) }
-good_by m x (Changed (Working d s) made k) r = absurd (cc)
-good_by m x (Clears Idle k) r = record { runs = tt; follows = λ ahead q. clear m ahead }
-good_by m x (Clears (Pending p csw) k) r = record { runs = tt; follows = λ ahead q. clear m ahead }
-good_by m x (Clears (Working d s) k) r = absurd (cc)
+good_by m x (Changed c made k) r = record { runs = grind arith; follows = λ ahead q. let own_act = own ahead made (world_of m) (q k) in grind arith }
+good_by m x (Clears c k) r = record { runs = tt; follows = λ ahead q. let cleared = clear m ahead in grind arith }
 good_by m x (EndAtStart a d v at k) r = record { runs = tt; follows = λ ahead q. ap (λ ds. history (with_world (world_of (with_status busy_device_end no_channel_status m)) ds) (acts ahead)) (arms AtRest d m.devices) }
 good_by m x (EndAtTest a d v at k) r = record { runs = tt; follows = λ ahead q. ap (λ ds. history (with_world (world_of (with_csw (csw_of_unit DEVICE_END) m)) ds) (acts ahead)) (arms AtRest d m.devices) }
 good_by m x (EndInterrupts d k) r = record {
@@ -243,8 +233,7 @@ good_by m x (Cuts d s w) r = record {
 good_by m x (StepEnds d s k w used st e h) r = step_ends m x d s w k used st e h
 good_by m x (StepGoes d s k w seen h) r = step_goes m x d s w k seen h
 good_by m x (Asks d s w csw h) r = let g = between_good m d s (TakesInterruption ∷ Outside (csw_stored csw) ∷ []) (csw_stored csw) w (later_mark (csw_stored csw)) in record { runs = g.0; follows = λ ahead q. g.1 ahead }
-good_by m x (Within d s w (Bytes at bytes)) r = let g = between_good m d s (Outside (Bytes at bytes) ∷ []) (Bytes at bytes) w (later_change (Bytes at bytes)) in record { runs = g.0; follows = λ ahead q. g.1 ahead }
-good_by m x (Within d s w (KeyOf at key)) r = let g = between_good m d s (Outside (KeyOf at key) ∷ []) (KeyOf at key) w (later_change (KeyOf at key)) in record { runs = g.0; follows = λ ahead q. g.1 ahead }
+good_by m x (Within d s w made) r = let g = between_good m d s (Outside made ∷ []) made w (later_change made) in record { runs = g.0; follows = λ ahead q. let same = g.1 ahead in grind arith }
 good_by m x y r = record { runs = tt; follows = λ ahead q. refl }
 
 pub good : (m : Machine) (e : Event) (x : Option FaultAfter) → Runs m m.subchannel → Good m e x (react e x m)
@@ -256,8 +245,7 @@ calm : {m : Machine} {x : Option FaultAfter} {c : Subchannel} {e : Event} {r : A
     → (rest : List Exchange) → (is_working r.1.subchannel ≡ false → units_ahead rest ≡ 0) → units_ahead ((e, x, r.0) ∷ rest) ≡ 0
 calm (Same c e a h k) w rest q = ((unmoved (e, _, a) h).1 rest).ahead ∙ q w
 calm (Arrives c a d v at k) w rest q = q w
-calm (Changed c (Bytes at bytes) k) w rest q = q w
-calm (Changed c (KeyOf at key) k) w rest q = q w
+calm (Changed c made k) w rest q = let none = q w in grind arith
 calm (Starts a v at k AcceptedStart h) w rest q = refl
 calm (Clears c k) w rest q = refl
 calm (Halts d s a y) w rest q = absurd (cc)
