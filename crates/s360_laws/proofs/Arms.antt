@@ -33,9 +33,7 @@ Has_arm arm y = option_map (λ v. v.arm) y ≡ Some arm
 unended : (b c : Bool) (arm : Arm) → (b ≡ true → c ≡ false) → Some arm ≡ Some (cond (b && c) AtRest (cond false Arrived arm))
 unended b c arm k = grind arith
 
--- an exchange that tells nothing of the arm
-untold : (r s b : Bool) (arm : Arm) → r ≡ false → s ≡ false → b ≡ false → Some arm ≡ Some (cond (r || s) AtRest (cond b Arrived arm))
-untold r s b arm hr hs hb = rw (hr, hs, hb) refl
+
 
 
 
@@ -72,12 +70,11 @@ module _ (m : Machine) (u : ℕ) (arm : Arm) (h : arm_for m u ≡ Some arm) (o :
   told_csw_arm p a csw e r = unended (a == u) (tells csw.unit DEVICE_END) arm (λ k. let same = at_device m p u (device_at m p) (e ∙ eqb-true a u k) refl in grind arith)
 
   arm_by : (x : Option FaultAfter) {c : Subchannel} {e : Event} {r : Answer × Machine} → Reacts m x c e r → AreDistinct m.devices → Rest m c → Keeps_arm u arm e x r
-  arm_by x (Same c e a q k) ds z = let n = (unmoved (e, x, a) q).0 u in h ∙ untold _ _ _ arm n.0 (n.2 DEVICE_END) n.3
+  arm_by x (Same c e a q k) ds z = let n = (unmoved (e, x, a) q).0 u in rw (n.0, n.2 DEVICE_END, n.3) h
   arm_by x (Arrives c a d v at k) ds z = changed_for m (set_arm Arrived) (λ v. refl) a d v at u (λ b y z. Has_arm arm z → option_map (λ v. v.arm) y ≡ Some (cond b Arrived arm)) (λ k. refl) (λ y k. k) h
-  arm_by x (Changed c made k) ds z = grind arith
+
   arm_by x (Clears c k) ds z = reset_arm m u (is_there (device_for m u) arm h)
-  arm_by x (BusyStart a) ds z = h ∙ unended (a == u) false arm (λ k. refl)
-  arm_by x (BusyTest a) ds z = h ∙ unended (a == u) false arm (λ k. refl)
+
   arm_by x (EndAtStart a d v at k) ds z = told_arm a d v at
   arm_by x (EndAtTest a d v at k) ds z = told_arm a d v at
   arm_by x (EndInterrupts d k) ds z = let l = lowest_found m.devices ds d k in told_arm (address_of m d) d l.0 (record { address = refl; is_there = l.1 })
@@ -93,8 +90,7 @@ module _ (m : Machine) (u : ℕ) (arm : Arm) (h : arm_for m u ≡ Some arm) (o :
   arm_by x (Asks d s w csw q) ds z =
       h ∙ unended (address_of m d == u) false arm (λ k. refl)
       ∙ ap (λ k. Some (cond ((address_of m d == u) && tells k DEVICE_END) AtRest (cond false Arrived arm))) (sym (subst AsksGood q (good_stands m d s w).1))
-  arm_by x (Within d s w made) ds z = grind arith
-  arm_by x y ds z = h
+  arm_by x y ds z = grind arith
 
 -- Any event, and lists.
 

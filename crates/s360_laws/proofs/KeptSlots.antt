@@ -1,5 +1,6 @@
 -- A slot that no program of a list may write keeps its bytes.
 use Rattle.std.proofs.Common.{arith, ◌≡◌, ℕ, refl, ap, subst, sym, ◌∙◌, true, false, Bool, cond, ◌&&◌, ◌==◌, List, [], ◌∷◌, map, Option, Some, None}
+use Rattle.std.proofs.Math.Bool.{and-false}
 use Rattle.std.proofs.lemmas.Bool.{cond_both, eqb-true, or_parts, eq-eqb}
 use Rattle.std.specs.Prelude.{find, option_map}
 use Rattle.s360_words.specs.Words.{caw_of}
@@ -34,10 +35,8 @@ slot track d = option_map (λ d. slot_in d.1.volume track) d
 
 with_slot : (track device p : ℕ) (drive : IdleDrive) (ds : Drives) (d : ℕ × IdleDrive) → at p ds ≡ Some d → ((p == device) ≡ true → slot_in drive.volume track ≡ slot_in d.1.volume track)
     → slot track (at device (with_drive p drive ds)) ≡ slot track (at device ds)
-with_slot track device p drive ds d is k = ap (slot track) (find_map (λ d. d.0 == device) (λ d. d.0 == device) (λ d. cond (d.0 == p) (d.0, drive) d) (λ d. number d (d.0 == p)) ds) ∙ go (at device ds) refl
+with_slot track device p drive ds d is k = ap (slot track) (find_map (λ d. d.0 == device) (λ d. d.0 == device) (λ d. cond (d.0 == p) (d.0, drive) d) (λ d. grind arith) ds) ∙ go (at device ds) refl
   where
-    number : (d : ℕ × IdleDrive) (b : Bool) → ((cond b (d.0, drive) d).0 == device) ≡ (d.0 == device)
-    number d b = grind arith
 
     go : (y : Option (ℕ × IdleDrive)) → at device ds ≡ y → slot track (option_map (λ d. cond (d.0 == p) (d.0, drive) d) y) ≡ slot track y
     go None e = refl
@@ -52,11 +51,9 @@ with_slot track device p drive ds d is k = ap (slot track) (find_map (λ d. d.0 
 
 -- a change of sense bytes
 cleared : (track device : ℕ) (ds : Drives) → slot track (at device (map (λ d. (d.0, record d.1 { sense = no_sense })) ds)) ≡ slot track (at device ds)
-cleared track device ds = ap (slot track) (find_map (λ d. d.0 == device) (λ d. d.0 == device) (λ d. (d.0, record d.1 { sense = no_sense })) (λ d. refl) ds) ∙ go (at device ds)
-  where
-    go : (y : Option (ℕ × IdleDrive)) → slot track (option_map (λ d. (d.0, record d.1 { sense = no_sense })) y) ≡ slot track y
-    go None = refl
-    go (Some d) = refl
+cleared track device ds =
+    let same = find_map (λ (d : ℕ × IdleDrive). d.0 == device) (λ d. d.0 == device) (λ (d : ℕ × IdleDrive). (d.0, record d.1 { sense = no_sense })) (λ d. refl) ds in
+    grind arith
 
 -- A command that is rejected is over in the first unit, before which nothing is written.
 
@@ -65,18 +62,16 @@ first_keeps s drive track h = from (caw_of s.caw) (subst (λ f. IsFirstUnit s f 
   where
     by_unit : (caw : Caw) (n : Next) (e : Ending) → NextKeeps track s.drive.volume n → outcome_of (units 1) caw.key (on_next [] n (walk [] caw.key)) ≡ Ended 1 s.storage e
         → slot_in e.drive.volume track ≡ slot_in s.drive.volume track
-    by_unit caw (GoesOn p) e k q = absurd (cc)
-    by_unit caw (EndsIn st f) e k q = let same : f ≡ e = cc in subst (λ e. slot_in e.drive.volume track ≡ slot_in s.drive.volume track) same k
+    by_unit caw n e k q = grind arith
 
-    none : (b : Bool) → (b && false) ≡ false
-    none b = grind arith
+
 
     from : (c : Option Caw) → IsFirstUnit s (RejectedStart drive) (run_from (units 1) s c) → slot_in drive.volume track ≡ slot_in s.drive.volume track
     from None r = let q = r.1 in absurd (cc)
     from (Some caw) r =
         let begun = Between (start_point caw s) in
         ap (λ d. slot_in d.volume track) (sym r.3)
-        ∙ by_unit caw (unit None caw.key begun) r.0 (writes_under_arm s caw [] begun None track refl (none _)).by_unit (sym (run_walk s caw (units 1)) ∙ r.1)
+        ∙ by_unit caw (unit None caw.key begun) r.0 (writes_under_arm s caw [] begun None track refl (and-false _)).by_unit (sym (run_walk s caw (units 1)) ∙ r.1)
 
 program_keeps : (w : World) (p device track : ℕ) (script : Script) (fate : Fate) (y : Option (ℕ × IdleDrive)) → drive_in w p ≡ y → ((p == device) && program_writes w track script y) ≡ false
     → slot track (at device (after_program w p script fate y).drives) ≡ slot track (at device w.drives)

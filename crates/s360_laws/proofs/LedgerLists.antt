@@ -49,18 +49,13 @@ Balance u t m m_two =
 abbrev Fine : Machine → Event → Option FaultAfter → Answer × Machine → Type 0
 Fine m e x r = AreDistinct r.1.devices × Rest r.1 r.1.subchannel × ((u : ℕ) → Balance u (e, x, r.0) m r.1)
 
--- nothing stored, nothing owed more or less
-nothing : {P : Type 0} (c d : ℕ) → (0 + c ≡ c) × (0 + d ≡ d) × (false ≡ true → P)
-nothing c d = (zero-add c, zero-add d, λ h. absurd (cc))
+
 
 -- a status without this end
 silent : (b : Bool) (c : ℕ) → cond (b && false) 1 0 + c ≡ c
 silent b c = grind arith
 
--- what tells nothing leaves all owed
-all_false : {P : Type 0} (r a c d : Bool) (n k : ℕ) → r ≡ false → a ≡ false → c ≡ false → d ≡ false
-    → (cond c 1 0 + n ≡ cond r 0 (cond a 1 n)) × (cond d 1 0 + k ≡ cond r 0 (cond a 1 k)) × (a ≡ true → P)
-all_false r a c d n k hr ha hc hd = rw (hr, ha, hc, hd) (nothing n k)
+
 
 -- a program that ended: its device end, or the motion of its arm
 end_owes : (c motion : Bool) → c ≡ not motion → cond c 1 0 + arm_owes (cond motion InMotion AtRest) ≡ 1
@@ -84,15 +79,10 @@ arrival_owes m a d u v at h = changed_for m (set_arm Arrived) (λ v. refl) a d v
     moves arm h = grind arith
 
 arrival_rest : (m : Machine) (c : Subchannel) (a d : ℕ) (v : Device) → IsAt m a d v → is_in_motion v.arm ≡ true → Rest m c → Rest (with_arm Arrived d m) c
-arrival_rest m c a d v at h r = go c r
+arrival_rest m c a d v at h r = grind (arith, same)
   where
     same : (p : ℕ) → device_owes (device_at (with_arm Arrived d m) p) ≡ device_owes (device_at m p)
     same p = ap device_owes (device_of (with_arm Arrived d m) p) ∙ arrival_owes m a d (address_of m p) v at h ∙ sym (ap device_owes (device_of m p))
-
-    go : (c : Subchannel) → Rest m c → Rest (with_arm Arrived d m) c
-    go Idle r = tt
-    go (Working p s) r = same p ∙ r
-    go (Pending p csw) r = (r.0, ap (λ n. cond (tells csw.unit DEVICE_END) 1 0 + n) (same p) ∙ r.1)
 
 reset_fine : (m w : Machine) (x : Option FaultAfter) (unsaved : _) → AreDistinct w.devices → Fine m Reset x (WasReset unsaved, all_at_rest w)
 reset_fine m w x unsaved ds = (
@@ -224,17 +214,15 @@ lowest_found (v ∷ vs) ds d h = go v.arm refl h (lowest_found vs ds.1 d)
 -- Any event.
 
 fine_by : (m : Machine) (x : Option FaultAfter) {c : Subchannel} {e : Event} {r : Answer × Machine} → Reacts m x c e r → AreDistinct m.devices → Rest m c → Fine (with_subchannel c m) e x r
-fine_by m x (Same c e a h k) ds z = (ds, z, λ u. let n = (unmoved (e, x, a) h).0 u in all_false _ _ _ _ _ _ n.0 n.1 (n.2 CHANNEL_END) (n.2 DEVICE_END))
+fine_by m x (Same c e a h k) ds z = (ds, z, λ u. let n = (unmoved (e, x, a) h).0 u in rw (n.0, n.1, n.2 CHANNEL_END, n.2 DEVICE_END) (zero-add _, zero-add _, λ b. absurd (cc)))
 fine_by m x (Arrives c a d v at k) ds z = (
   distinct m d (set_arm Arrived) (λ v. refl) ds,
   arrival_rest m c a d v at k z,
   λ u. (zero-add _, zero-add _ ∙ ap (λ n. channel_owes DEVICE_END u m c + n) (arrival_owes m a d u v at k), λ b. absurd (cc)),
 )
-fine_by m x (Changed c made k) ds z = (ds, z, λ u. grind arith)
+
 fine_by m x (Clears c k) ds z = reset_fine (with_subchannel c m) m x None ds
-fine_by m x (FreeHalt a) ds z = (ds, tt, λ u. nothing _ _)
-fine_by m x (BusyStart a) ds z = (ds, tt, λ u. (silent (a == u) 0, silent (a == u) _, λ b. absurd (cc)))
-fine_by m x (BusyTest a) ds z = (ds, tt, λ u. (silent (a == u) 0, silent (a == u) _, λ b. absurd (cc)))
+
 fine_by m x (EndAtStart a d v at k) ds z = (distinct m d (set_arm AtRest) (λ v. refl) ds, tt, λ u. (silent (a == u) 0, device_end_told m a d u v at k, λ b. absurd (cc)))
 fine_by m x (EndAtTest a d v at k) ds z = (distinct m d (set_arm AtRest) (λ v. refl) ds, tt, λ u. (silent (a == u) 0, device_end_told m a d u v at k, λ b. absurd (cc)))
 fine_by m x (EndInterrupts d k) ds z =
@@ -252,10 +240,10 @@ fine_by m x (Cuts d s w) ds z =
 fine_by m x (StepEnds d s k w used st e h) ds z =
     let o = over m d s st e w (subst RunGood h (good_run (start_of m w.drive.drive) (s ++ units_with k x))) ds z in
     (o.apart, o.rest, λ u. (o.channel_end u, o.device_end u, λ b. absurd (cc)))
-fine_by m x (StepGoes d s k w seen h) ds z = (ds, z, λ u. nothing _ _)
+
 fine_by m x (Asks d s w csw h) ds z =
     let g : csw.unit ≡ no_unit_status = subst AsksGood h (good_stands m d s w).1 in (ds, z, λ u. rw g (silent (address_of m d == u) _, silent (address_of m d == u) _, λ b. absurd (cc)))
-fine_by m x (Within d s w made) ds z = (ds, z, λ u. grind arith)
+fine_by m x y ds z = (ds, z, λ u. grind arith)
 
 pub sound_parts : (m : Machine) (c : Subchannel) → IsSoundIn m c → Runs m c × Rest m c
 sound_parts m c h = grind arith
@@ -312,16 +300,10 @@ owed_ends b c d n l k = grind arith
 
 owed : (m : Machine) (c : Subchannel) (u : ℕ) → Rest m c
     → (channel_owes CHANNEL_END u m c ≤ channel_owes DEVICE_END u m c + device_owes (device_for m u)) × (channel_owes DEVICE_END u m c + device_owes (device_for m u) ≤ 1)
-owed m c u h = go c h
+owed m c u h = grind (arith, same, arm_most)
   where
-    n : ℕ
-    n = device_owes (device_for m u)
-
-    same : (d : ℕ) → (address_of m d == u) ≡ true → n ≡ device_owes (device_at m d)
+    same : (d : ℕ) → (address_of m d == u) ≡ true → device_owes (device_for m u) ≡ device_owes (device_at m d)
     same d b = ap device_owes (at_device m d u (device_at m d) (eqb-true _ _ b) refl)
-
-    go : (c : Subchannel) → Rest m c → (channel_owes CHANNEL_END u m c ≤ channel_owes DEVICE_END u m c + n) × (channel_owes DEVICE_END u m c + n ≤ 1)
-    go c h = grind (arith, same, arm_most)
 
 owed_most : (m : Machine) (u : ℕ) → IsSound m → (owes_channel_end u m ≤ owes_device_end u m) × (owes_device_end u m ≤ 1)
 owed_most m u h = owed m m.subchannel u (sound_parts m m.subchannel h.1).1
@@ -412,7 +394,7 @@ held_list [] m p csw c = tt
 held_list (e ∷ es) m p csw c = (held_answer m p csw e.0 e.1, λ h. go (react e.0 e.1 (pending m p csw)).1 (held_next m p csw e.1 (reacts m e.1 (Pending p csw) e.0 tt) refl c h) (λ n. held_list es n p csw c))
   where
     go : (after : Machine) → StillHeld m p csw after → ((n : Machine) → HeldAnswers n.channel p csw (exchanges es (pending n p csw))) → HeldAnswers m.channel p csw (exchanges es after)
-    go after n held = subst (λ k. HeldAnswers k p csw (exchanges es after)) n.2 (subst (λ a. HeldAnswers n.0.channel p csw (exchanges es a)) (sym n.1) (held n.0))
+    go after n held = rw (n.1, ← n.2) (held n.0)
 
 pub held_until_stored : HeldUntilStored
 held_until_stored m p csw es sound h =

@@ -23,7 +23,7 @@ use Rattle.s360_laws.specs.Soundness.{IsRunning}
 use Rattle.s360_laws.specs.declared.arm.Arm.{Arm}
 use Rattle.s360_laws.specs.declared.arm.Arm.TheVariants.{AtRest, Arrived}
 use Rattle.s360_laws.proofs.AlikeLists.{unmoved, Alike, arrival_gone}
-use Rattle.s360_laws.proofs.FindDevices.{find_map, idle, working, set_arm, set_both, set_drive, run_at}
+use Rattle.s360_laws.proofs.FindDevices.{found_map, keeps_one, find_map, idle, working, set_arm, set_both, set_drive, run_at}
 use Rattle.s360_laws.proofs.Reactions.{Reacts, Same, Arrives, Changed, Starts, Clears, Halts, Cuts, StepEnds, StepGoes, Asks, Within, reacts, EndAtStart, EndAtTest, EndInterrupts, InterruptTakes, Stands}
 use Rattle.s360_laws.proofs.StepUnits.{step_script, quiet_script, unmet, ended_there}
 
@@ -52,14 +52,11 @@ look_up m device u h = found device m.devices ∙ ap (option_map seen) h
 
 -- a run is that of the drive that is seen, so an arm does not change it
 still_runs : (m : Machine) (c : Subchannel) (arm : Arm) (device : ℕ) → Runs m c → Runs (with_arm arm device m) c
-still_runs m (Working d s) arm device r = subst IsRunning (by_drive m ∙ ap (λ ds. option_map (λ p. run s (start_of m p.1)) (find (λ p. p.0 == d) ds)) (sym (arms arm device m.devices)) ∙ sym (by_drive (with_arm arm device m))) r
+still_runs m (Working d s) arm device r = rw (found_map (λ n. n == d) (λ u. cond (u.device == device) (set_arm arm u) u) (keeps_one device (set_arm arm) (λ u. refl)) m.devices) (same_run (device_at m d) r)
   where
-    by_seen : (m : Machine) (y : Option Device) → option_map (λ u. run s (start_of m u.drive)) y ≡ option_map (λ p. run s (start_of m p.1)) (option_map seen y)
-    by_seen m None = refl
-    by_seen m (Some u) = refl
-
-    by_drive : (m : Machine) → run_of m d s ≡ option_map (λ p. run s (start_of m p.1)) (drive_in (world_of m) d)
-    by_drive m = by_seen m (device_at m d) ∙ ap (option_map (λ p. run s (start_of m p.1))) (sym (found d m.devices))
+    same_run : (y : Option Device) → IsRunning (option_map (λ u. run s (start_of m u.drive)) y)
+        → IsRunning (option_map (λ u. run s (start_of m u.drive)) (option_map (λ u. cond (u.device == device) (set_arm arm u) u) y))
+    same_run y r = grind arith
 still_runs m c arm device r = tt
 
 -- What each event owes.
@@ -117,16 +114,13 @@ begin_good a x m u (RejectedStart d) at h r = record {
       ∙ ap (λ f. does (after_first (world_of m) (a % 256) f) (Changes (status_stored UNIT_CHECK.0 no_channel_status.0))) (sym h)
       ∙ ap (λ y. does (after_rejection (world_of m) (a % 256) y) (Changes (status_stored UNIT_CHECK.0 no_channel_status.0))) (sym (look_up m (a % 256) u at)));
 }
-begin_good a x m u (ImmediateStart e) at h r = record {
+begin_good a x m u (ImmediateStart e) at h r = let at_once : start_acts (a % 256) e.csw.unit ≡ Program (a % 256) (units 1) ByItself ∷ [] = grind arith in record {
   runs = tt;
   follows = λ ahead q. same_after ahead _ _
       (ap (λ w. does w (Changes (status_stored e.csw.unit.0 e.csw.channel.0)))
       (end_world m (a % 256) m.storage e ∙ sym (program_world m (a % 256) (units 1) ByItself u (Ended 1 m.storage e) at r.0)))
-      ∙ ap (λ l. history (world_of m) ((l ++ Changes (status_stored e.csw.unit.0 e.csw.channel.0) ∷ []) ++ acts ahead)) (sym (at_once r.1));
+      ∙ ap (λ l. history (world_of m) ((l ++ Changes (status_stored e.csw.unit.0 e.csw.channel.0) ∷ []) ++ acts ahead)) (sym at_once);
 }
-  where
-    at_once : (e.csw.unit ≡ CHANNEL_END) ⊎ (e.csw.unit ≡ normal_end) → start_acts (a % 256) e.csw.unit ≡ Program (a % 256) (units 1) ByItself ∷ []
-    at_once k = grind arith
 
 -- a program that runs
 module _ (m : Machine) (x : Option FaultAfter) (d : ℕ) (s : Script) (w : Stands m d s) where
@@ -260,11 +254,10 @@ quiet : (es : List Input) (m : Machine) → Runs m m.subchannel → is_working m
 quiet [] m r w = refl
 quiet (e ∷ es) m r w = calm (reacts m e.1 m.subchannel e.0 r) w (exchanges es (react e.0 e.1 m).1) (quiet es (react e.0 e.1 m).1 (good m e.0 e.1 r).runs)
 
-nothing_told : (m : Machine) (c : Subchannel) → is_working c ≡ false → world_of m ≡ history (world_of m) (begun_act c [] ++ [])
-nothing_told m c w = grind arith
+
 
 pub serial : IsSerial
-serial m [] r w = nothing_told m m.subchannel w
+serial m [] r w = grind arith
 serial m (e ∷ es) r w =
     let g = good m e.0 e.1 r in
     serial (react e.0 e.1 m).1 es g.runs w ∙ g.follows (exchanges es (react e.0 e.1 m).1) (quiet es (react e.0 e.1 m).1 g.runs)
