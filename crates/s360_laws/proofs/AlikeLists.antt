@@ -1,16 +1,15 @@
 -- The acts of the serial list are the acts of the list.
-use Rattle.std.proofs.Common.{◌≡◌, ℕ, zero, suc, ◌+◌, ◌*◌, ◌/◌, ◌%◌, refl, sym, ap, subst, ◌∙◌, arith, true, false, Bool, not, ◌&&◌, ◌||◌, ◌==◌, List, [], ◌∷◌, ◌++◌, Option, None, zero-add, append_assoc, append-nil, cond}
+use Rattle.std.proofs.Common.{◌≡◌, ℕ, zero, suc, ◌+◌, ◌*◌, ◌/◌, ◌%◌, refl, sym, ap, subst, ◌∙◌, arith, true, false, Bool, not, ◌&&◌, ◌||◌, ◌==◌, List, [], ◌∷◌, ◌++◌, Option, None, append_assoc, append-nil, cond}
 use Rattle.std.proofs.lemmas.Bool.{and_parts, cond_both, eqb-true, not-false}
 use Rattle.std.specs.Prelude.{replicate, filter}
 use Rattle.s360_words.specs.Storage.{Change}
 use Rattle.s360_words.specs.declared.flags.UnitStatus.{UnitStatus}
 use Rattle.s360_runs.specs.Scripts.{units}
 use Rattle.s360_laws.specs.Arms.{arrives}
-use Rattle.s360_laws.specs.Events.{Exchange, Hio, WithCode, Sio, StepBy, Stepped, Interrupt, Interrupted, Store, WasKept, SetKey, Tio, Tch, HasArrived, Arrive, Show, FaultAfter}
+use Rattle.s360_laws.specs.Events.{Exchange, StepBy, Stepped, FaultAfter}
 use Rattle.s360_laws.specs.History.{units_ahead, script_ahead, fate_ahead, acts, own_change, where_over, Changes, acts_of, turns_of}
 use Rattle.s360_laws.specs.Ledger.{is_reset, is_accepted, stores_end}
 use Rattle.s360_laws.specs.SerialLists.{changes_nothing, is_arrival, arrivals_last, steps_ahead, is_step, is_between, whole_step, steps_of, ArePlain, steps_joined, SameActs}
-use Rattle.s360_laws.specs.declared.condition.ConditionCode.TheVariants.{Two, Zero}
 use Rattle.s360_laws.proofs.StepUnits.{no_units, step_script, same_script, plain_two}
 
 pub record Alike (x y : List Exchange) : Type 0 where
@@ -137,7 +136,7 @@ many (suc q) n x =
 steps_alike : (n : ℕ) (x : List Exchange) → Alike (steps_of n ++ x) (whole_step n ∷ x)
 steps_alike n x =
     let all : n / 65535 * 65535 + n % 65535 ≡ n = omega arith in
-    subst (λ l. Alike l (whole_step n ∷ x)) (sym (append_assoc (replicate (n / 65535) (whole_step 65535)) last x))
+    rw (append_assoc (replicate (n / 65535) (whole_step 65535)) last x)
     (subst (λ k. Alike (replicate (n / 65535) (whole_step 65535) ++ (last ++ x)) (whole_step k ∷ x)) all
     (then (all_behind (replicate (n / 65535) (whole_step 65535)) (last ++ x) (whole_step (n % 65535) ∷ x) last_alike)
     (then (many (n / 65535) 65535 (whole_step (n % 65535) ∷ x)) (two_steps (n / 65535 * 65535) (n % 65535) x))))

@@ -54,6 +54,10 @@ distinct_map g k [] h = tt
 distinct_map g k (v ∷ vs) h =
     (ap (λ d. find (λ w. w.device == d) (map g vs)) (k v) ∙ found_map (λ d. d == v.device) g k vs ∙ ap (option_map g) h.0, distinct_map g k vs h.1)
 
+-- the arm of a device is this one
+abbrev pub HasArm : Arm → Option Device → Type 0
+HasArm arm y = option_map (λ v. v.arm) y ≡ Some arm
+
 abbrev pub set_arm : Arm → Device → Device
 set_arm arm v = record v { arm = arm }
 

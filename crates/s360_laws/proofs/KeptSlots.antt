@@ -1,5 +1,5 @@
 -- A slot that no program of a list may write keeps its bytes.
-use Rattle.std.proofs.Common.{arith, ◌≡◌, ℕ, refl, ap, subst, sym, ◌∙◌, true, false, Bool, cond, ◌&&◌, ◌==◌, List, [], ◌∷◌, map, Option, Some, None}
+use Rattle.std.proofs.Common.{arith, ◌≡◌, ℕ, refl, ap, subst, sym, ◌∙◌, true, false, cond, ◌&&◌, ◌==◌, List, [], ◌∷◌, map, Option, Some, None}
 use Rattle.std.proofs.Math.Bool.{and-false}
 use Rattle.std.proofs.lemmas.Bool.{cond_both, eqb-true, or_parts, eq-eqb}
 use Rattle.std.specs.Prelude.{find, option_map}
@@ -11,7 +11,7 @@ use Rattle.s360_runs.specs.Laws.{IsFirstUnit}
 use Rattle.s360_runs.specs.Runs.{Start, run, start_point, run_from}
 use Rattle.s360_runs.specs.Scripts.{Script, units}
 use Rattle.s360_runs.specs.Starts.{First, RejectedStart, first}
-use Rattle.s360_runs.specs.Units.{Next, GoesOn, EndsIn, Between, unit, walk, outcome_of, on_next}
+use Rattle.s360_runs.specs.Units.{Next, Between, unit, walk, outcome_of, on_next}
 use Rattle.s360_runs.specs.Writes.{OutcomeKeeps, slot_in, NextKeeps}
 use Rattle.s360_runs.proofs.FirstUnits.{first_is_unit}
 use Rattle.s360_runs.proofs.Walks.{run_walk}

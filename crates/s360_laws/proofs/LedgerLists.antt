@@ -1,9 +1,9 @@
 -- The ledger: each event keeps what is stored and what is owed in balance, and so does a list of events.
 use Rattle.std.proofs.Common.{not, ◌≡◌, ℕ, ◌+◌, refl, sym, ap, ◌∙◌, arith, true, false, Bool, cond, ◌&&◌, ◌==◌, Option, Some, None, zero-add, ◌*◌, ◌/◌, ◌%◌, subst, List, [], ◌∷◌, ◌⊎◌, add-zero, ◌++◌, ◌≤◌, ◌||◌}
 use Rattle.std.proofs.Math.Bool.{and-true}
-use Rattle.std.proofs.lemmas.Bool.{cond_both, eqb-true, ne_eqb, eq-eqb, cond-false, cond-true}
-use Rattle.std.specs.Prelude.{option_map, find, filter, nat_lt, fold}
-use Rattle.s360_words.specs.Storage.{Storage, Bytes, KeyOf}
+use Rattle.std.proofs.lemmas.Bool.{eqb-true, eq-eqb, cond-false, cond-true}
+use Rattle.std.specs.Prelude.{option_map, find, filter, fold}
+use Rattle.s360_words.specs.Storage.{Storage}
 use Rattle.s360_words.specs.declared.flags.ChannelStatus.{ChannelStatus}
 use Rattle.s360_words.specs.declared.flags.TheConstants.UnitStatus.{CHANNEL_END, DEVICE_END}
 use Rattle.s360_words.specs.declared.flags.UnitStatus.{UnitStatus}
@@ -20,14 +20,14 @@ use Rattle.s360_runs.proofs.FirstUnits.{first_is_unit}
 use Rattle.s360_laws.specs.Events.{Exchange, Event, FaultAfter, Answer, Reset, WasReset, Sio, StatusStored, WithCode, Input, Tio, CswStored, Tch, Interrupt}
 use Rattle.s360_laws.specs.History.{Runs}
 use Rattle.s360_laws.specs.Ledger.{is_reset, is_accepted, stores_end, Since, SinceBeginning, SinceAcceptance, SinceReset, later, counted, due, EndsPend, AtMostOnce, ExactlyOnce, ChannelEndFirst, NoneAfterReset, NoStartWhileWorking, StartsAfterChannelEnd, HeldAnswer, ends_holding, HeldAnswers, HeldUntilStored}
-use Rattle.s360_laws.specs.Machine.{Machine, Subchannel, Idle, Working, address_of, Pending, device_at, Device, with_arm, is_in_motion, at_rest, all_at_rest, with_device, arm_after, start_of, started, lowest, has_arrived, lower, react, ended, fault_in, units_with, exchanges, after_all, is_working, with_subchannel, unsaved_at, test_io, with_csw, with_change}
+use Rattle.s360_laws.specs.Machine.{Machine, Subchannel, Idle, Working, address_of, Pending, device_at, Device, with_arm, is_in_motion, at_rest, all_at_rest, with_device, arm_after, start_of, started, lowest, has_arrived, react, ended, fault_in, units_with, exchanges, after_all, is_working, with_subchannel, unsaved_at, test_io, with_csw, with_change}
 use Rattle.s360_laws.specs.Soundness.{channel_owes, device_owes, device_for, owes_channel_end, owes_device_end, AreDistinct, arm_owes, IsSound, IsSoundIn, StaysSound, IdleIsSound}
 use Rattle.s360_laws.specs.declared.arm.Arm.{Arm}
 use Rattle.s360_laws.specs.declared.arm.Arm.TheVariants.{AtRest, Arrived, InMotion}
 use Rattle.s360_laws.specs.declared.condition.ConditionCode.TheVariants.{Two, Three}
 use Rattle.s360_laws.proofs.AlikeLists.{unmoved}
-use Rattle.s360_laws.proofs.FindDevices.{set_arm, distinct_map, keeps_one, at_device, device_of, found_map, set_both, set_drive, idle, working, Keeps, changed_device, different, pending}
-use Rattle.s360_laws.proofs.Reactions.{Reacts, Same, Arrives, Changed, Clears, BusyStart, BusyTest, FreeHalt, EndAtStart, EndAtTest, EndInterrupts, Starts, TestTakes, InterruptTakes, Halts, Cuts, StepEnds, StepGoes, Asks, Within, Stands, IsAt, changed_for, reacts}
+use Rattle.s360_laws.proofs.FindDevices.{HasArm, set_arm, distinct_map, keeps_one, at_device, device_of, found_map, set_both, set_drive, idle, working, Keeps, changed_device, different, pending}
+use Rattle.s360_laws.proofs.Reactions.{Reacts, Same, Arrives, Changed, Clears, EndAtStart, EndAtTest, EndInterrupts, Starts, TestTakes, InterruptTakes, Halts, Cuts, StepEnds, Asks, Stands, IsAt, changed_for, reacts}
 use Rattle.s360_laws.proofs.Serial.{good}
 
 -- What each event owes.
@@ -185,31 +185,20 @@ told_csw m p a u csw e = (
 
 -- The lowest device end.
 
-abbrev pub Lowest : ℕ → List Device → Type 0
-Lowest d vs = (v : Device) × (find (λ w. w.device == d) vs ≡ Some v) × (v.arm ≡ Arrived)
 
-pub lowest_found : (vs : List Device) → AreDistinct vs → (d : ℕ) → lowest (filter has_arrived vs) ≡ Some d → Lowest d vs
+
+-- of one device more, which no other device's address has, where it is known of the others by address
+lowest_more : (v : Device) (d : ℕ) (arrived : List Device) (at : ℕ → Option Device) → at v.device ≡ None → (lowest arrived ≡ Some d → HasArm Arrived (at d))
+    → lowest (cond (has_arrived v) (v ∷ arrived) arrived) ≡ Some d → HasArm Arrived (cond (v.device == d) (Some v) (at d))
+lowest_more v d arrived at apart k h = grind arith
+
+pub lowest_found : (vs : List Device) → AreDistinct vs → (d : ℕ) → lowest (filter has_arrived vs) ≡ Some d → HasArm Arrived (find (λ w. w.device == d) vs)
 lowest_found [] ds d h = absurd (cc)
-lowest_found (v ∷ vs) ds d h = go v.arm refl h (lowest_found vs ds.1 d)
-  where
-    here : v.arm ≡ Arrived → Some v.device ≡ Some d → Lowest d (v ∷ vs)
-    here arm h = let e : v.device ≡ d = cc in (v, ap (λ b. cond b (Some v) (find (λ w. w.device == d) vs)) (eq-eqb _ _ e), arm)
+lowest_found (v ∷ vs) ds d h = lowest_more v d (filter has_arrived vs) (λ n. find (λ w. w.device == n) vs) ds.0 (lowest_found vs ds.1 d) h
 
-    -- no two devices have one address
-    there : Lowest d vs → Lowest d (v ∷ vs)
-    there r = (r.0, ap (λ b. cond b (Some v) (find (λ w. w.device == d) vs)) (ne_eqb v.device d apart) ∙ r.1, r.2)
-      where
-        apart : v.device ≡ d → ⊥
-        apart e = let q = sym ds.0 ∙ ap (λ k. find (λ w. w.device == k) vs) e ∙ r.1 in cc
-
-    lower_of : v.arm ≡ Arrived → (l : Option ℕ) → (l ≡ Some d → Lowest d vs) → lower v.device l ≡ Some d → Lowest d (v ∷ vs)
-    lower_of arm None k h = here arm h
-    lower_of arm (Some c) k h = cond_both (nat_lt v.device c) (Some v.device) (Some c) (λ y. y ≡ Some d → Lowest d (v ∷ vs)) (λ e. here arm) (λ e h. there (k h)) h
-
-    go : (arm : Arm) → v.arm ≡ arm → lowest (cond (has_arrived (record v { arm = arm })) (v ∷ filter has_arrived vs) (filter has_arrived vs)) ≡ Some d
-        → (lowest (filter has_arrived vs) ≡ Some d → Lowest d vs) → Lowest d (v ∷ vs)
-    go Arrived a h k = lower_of a (lowest (filter has_arrived vs)) k h
-    go arm a h k = there (k h)
+pub the_arrived : (y : Option Device) → HasArm Arrived y → (v : Device) × (y ≡ Some v) × (v.arm ≡ Arrived)
+the_arrived None h = absurd (cc)
+the_arrived (Some v) h = (v, refl, cc)
 
 -- Any event.
 
@@ -226,7 +215,7 @@ fine_by m x (Clears c k) ds z = reset_fine (with_subchannel c m) m x None ds
 fine_by m x (EndAtStart a d v at k) ds z = (distinct m d (set_arm AtRest) (λ v. refl) ds, tt, λ u. (silent (a == u) 0, device_end_told m a d u v at k, λ b. absurd (cc)))
 fine_by m x (EndAtTest a d v at k) ds z = (distinct m d (set_arm AtRest) (λ v. refl) ds, tt, λ u. (silent (a == u) 0, device_end_told m a d u v at k, λ b. absurd (cc)))
 fine_by m x (EndInterrupts d k) ds z =
-    let l = lowest_found m.devices ds d k in
+    let l = the_arrived (device_at m d) (lowest_found m.devices ds d k) in
     (distinct m d (set_arm AtRest) (λ v. refl) ds, tt, λ u. (silent (address_of m d == u) 0, device_end_told m (address_of m d) d u l.0 (record { address = refl; is_there = l.1 }) l.2, λ b. absurd (cc)))
 fine_by m x (Starts a v at k f h) ds z = begin_fine m x a (a % 256) v f at k (first_good (start_of m v.drive) f h) ds
 fine_by m x (TestTakes p csw a e) ds z = (ds, tt, λ u. let t = told_csw m p a u csw e in (t.0, t.1, λ b. absurd (cc)))

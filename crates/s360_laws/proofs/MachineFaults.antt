@@ -55,11 +55,7 @@ failing_or s script k after f = go (split k after f)
 
     go : Split k after f → MetOr s (script ++ units_failing k after f) (script ++ units k) f (units_in script + suc after)
     go (inl e) = inl (ap (λ l. run (script ++ l) s) e)
-    go (inr (rest, with_fault, without)) =
-        subst (λ l. MetOr s (script ++ l) (script ++ units k) f (units_in script + suc after)) (sym with_fault)
-        (subst (λ l. MetOr s (script ++ (units after ++ OneUnit (Some f) ∷ units rest)) (script ++ l) f (units_in script + suc after)) (sym without)
-        (subst (λ n. MetOr s (script ++ (units after ++ OneUnit (Some f) ∷ units rest)) (script ++ (units after ++ OneUnit None ∷ units rest)) f n) count
-        (simp append_assoc at (by_first rest (run first s) refl))))
+    go (inr (rest, with_fault, without)) = rw (with_fault, without, ← count) (simp append_assoc at (by_first rest (run first s) refl))
 
 -- What a fault does to a program that runs.
 
@@ -99,7 +95,7 @@ module _ (m : Machine) (d : ℕ) (s : Script) (w : Stands m d s) where
 
   halt_faults : (x : FaultAfter) (b : Bool) → FaultOr (λ r. EndedByFault r (WithCode Two)) (cond b (WithCode Two, cut (Some x.fault) d (working m d s) (run_of m d s)) (WithCode Three, working m d s))
       (cond b (WithCode Two, cut None d (working m d s) (run_of m d s)) (WithCode Three, working m d s))
-  halt_faults x true = subst (λ o. FaultOr (λ r. EndedByFault r (WithCode Two)) (WithCode Two, cut (Some x.fault) d (working m d s) o) (WithCode Two, cut None d (working m d s) o)) (sym (run_is m d s w))
+  halt_faults x true = rw (run_is m d s w)
       (cut_faults x.fault (λ e. (WithCode Two, ended d w.seen.storage e m)) (λ r. EndedByFault r (WithCode Two))
       (λ left is h. over_by_fault w.seen.storage (w.seen.cut (Some x.fault)) (WithCode Two) x.fault (w.seen.cut None).drive h))
   halt_faults x false = inl refl
@@ -120,9 +116,7 @@ module _ (m : Machine) (d : ℕ) (s : Script) (w : Stands m d s) where
       }
 
   reset_faults : (x : FaultAfter) → FaultOr (ToldByReset (working m d s)) (react Reset (Some x) (working m d s)) (react Reset None (working m d s))
-  reset_faults x = subst (λ o. FaultOr (ToldByReset (working m d s))
-      (WasReset (unsaved_at (address_of m d) (Some x.fault) o), all_at_rest (cut (Some x.fault) d (working m d s) o)) (WasReset (unsaved_at (address_of m d) None o), all_at_rest (cut None d (working m d s) o)))
-      (sym (run_is m d s w))
+  reset_faults x = rw (run_is m d s w)
       (cut_faults x.fault (λ e. (WasReset (option_map (λ t. (address_of m d, t.0, t.1)) e.unsaved), all_at_rest (ended d w.seen.storage e m))) (ToldByReset (working m d s))
       (λ left is h. told_by_reset x.fault left is h))
 

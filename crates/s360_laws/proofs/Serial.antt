@@ -1,24 +1,24 @@
 -- Event by event, the machine does what its acts do.
-use Rattle.std.proofs.Common.{arith, ◌≡◌, ℕ, refl, sym, ap, ◌∙◌, true, false, Bool, cond, ◌==◌, List, [], ◌∷◌, ◌++◌, map, Option, ◌%◌, subst, Some, None, ◌⊎◌, zero, suc, ◌-◌, append_assoc, append-nil}
+use Rattle.std.proofs.Common.{arith, ◌≡◌, ℕ, refl, sym, ap, ◌∙◌, true, false, cond, ◌==◌, List, [], ◌∷◌, ◌++◌, map, Option, ◌%◌, subst, Some, zero, suc, ◌-◌, append_assoc, append-nil}
 use Rattle.std.proofs.lemmas.Bool.{cond_both}
 use Rattle.std.proofs.lemmas.List.{map-id}
 use Rattle.std.specs.Prelude.{find, option_map}
-use Rattle.s360_words.specs.Storage.{Change, status_stored, Bytes, KeyOf, csw_stored, Storage, changed}
-use Rattle.s360_words.specs.declared.flags.TheConstants.UnitStatus.{DEVICE_END, UNIT_CHECK, CHANNEL_END}
+use Rattle.s360_words.specs.Storage.{Change, status_stored, csw_stored, Storage, changed}
+use Rattle.s360_words.specs.declared.flags.TheConstants.UnitStatus.{DEVICE_END, UNIT_CHECK}
 use Rattle.ckd_command.specs.Drive.{IdleDrive, no_sense, Fault}
 use Rattle.s360_runs.specs.Endings.{Outcome, Ending, Ended, NotEnded, Standing}
 use Rattle.s360_runs.specs.Laws.{IsFirstUnit}
 use Rattle.s360_runs.specs.Runs.{run, Start}
 use Rattle.s360_runs.specs.Scripts.{units, Script, units_in, Outside, TakesInterruption}
 use Rattle.s360_runs.specs.Starts.{First, first, BadStart, AcceptedStart, RejectedStart, ImmediateStart}
-use Rattle.s360_runs.specs.Status.{no_channel_status, normal_end, busy_device_end}
+use Rattle.s360_runs.specs.Status.{no_channel_status, busy_device_end}
 use Rattle.s360_runs.specs.Units.{ProgramPhase, walk, StandsIn, standing_in, Between, phase_past, StandsAt}
 use Rattle.s360_runs.proofs.FirstUnits.{first_is_unit}
 use Rattle.s360_runs.proofs.Standing.{seen_there, goes_by, stands_somewhere}
 use Rattle.s360_laws.specs.Events.{Exchange, Event, FaultAfter, Answer, Arrive, Sio, StepBy, Input, HasArrived, Stepped}
 use Rattle.s360_laws.specs.History.{with_drive, units_ahead, history, world_of, all_acts, acts, Runs, World, does, Changes, own_change, where_over, drive_in, after_first, after_rejection, Program, ByItself, after_run, after_program, start_acts, ClearsSense, Fate, after_end, script_ahead, fate_ahead, IsCut, begun_act, IsSerial}
 use Rattle.s360_laws.specs.Ledger.{later}
-use Rattle.s360_laws.specs.Machine.{Device, at_rest, Machine, is_working, with_csw, csw_of_unit, with_status, device_at, start_of, started, with_ending, arm_after, react, run_of, fault_in, units_with, with_arm, Working, Subchannel, Idle, Pending, exchanges, with_subchannel, ended, goes_on}
+use Rattle.s360_laws.specs.Machine.{Device, at_rest, Machine, is_working, with_csw, csw_of_unit, with_status, device_at, start_of, started, with_ending, arm_after, react, run_of, fault_in, units_with, with_arm, Working, Subchannel, exchanges, with_subchannel, ended, goes_on}
 use Rattle.s360_laws.specs.Soundness.{IsRunning}
 use Rattle.s360_laws.specs.declared.arm.Arm.{Arm}
 use Rattle.s360_laws.specs.declared.arm.Arm.TheVariants.{AtRest, Arrived}
