@@ -1,5 +1,5 @@
 -- What the laws of programs need to know of a drive: how a command ends, and what a fault of the store does to it.
-use Rattle.std.proofs.Common.{◌≡◌, ℕ, zero, suc, refl, ap, ◌∙◌, true, false, Bool, not, List, [], ◌∷◌, Option, Some, None, ◌⊎◌, inl, inr}
+use Rattle.std.proofs.Common.{arith, ◌≡◌, ℕ, zero, suc, refl, ap, ◌∙◌, true, false, Bool, not, List, [], ◌∷◌, Option, Some, None, ◌⊎◌, inl, inr}
 use Rattle.std.specs.Prelude.{◌&&◌, length, slice_get, slice_set, slice_index_or, option_map, ◌==◌}
 use Rattle.std.proofs.lemmas.Nat.{and_or_self, and_or_apart}
 use Rattle.s360_words.specs.declared.flags.TheConstants.UnitStatus.{UNIT_CHECK}
@@ -51,23 +51,18 @@ pub settle_end : (f : Option Fault) (c : Closed) → IsEnd c.unit c.motion → I
 settle_end f c h = elim (left_by f c.state.mark) as (λ x. let d = saving x c.state (λ s. record c { state = s; unit = with_unit_check c.unit }) c in IsEnd d.unit d.motion) [ None ↦ h | Some left ↦ joins_end c.unit c.motion h ]
 
 pub immediate_end : (s : State) (motion : Bool) → IsEnd (immediate s motion).unit motion
-immediate_end s true = record { channel_end = refl; device_end = refl }
-immediate_end s false = record { channel_end = refl; device_end = refl }
+immediate_end s motion = record { channel_end = grind arith; device_end = grind arith }
 
 -- Slots.
 
 pub get_set_other : (xs : List (List ℕ)) (i j : ℕ) (y : List ℕ) → (j ≡ i → ⊥) → slice_get (slice_set xs i y) j ≡ slice_get xs j
-get_set_other [] i j y h = refl
-get_set_other (x ∷ xs) zero zero y h = absurd (h refl)
-get_set_other (x ∷ xs) zero (suc j) y h = refl
-get_set_other (x ∷ xs) (suc i) zero y h = refl
 get_set_other (x ∷ xs) (suc i) (suc j) y h = get_set_other xs i j y (λ e. h (ap suc e))
+get_set_other xs i j y h = grind arith
 
 get_set_size : (xs : List (List ℕ)) (i : ℕ) (left : List ℕ)
     → option_map length (slice_get (slice_set xs i (overwritten (slice_index_or xs i []) 0 left)) i) ≡ option_map length (slice_get xs i)
-get_set_size [] i left = refl
-get_set_size (x ∷ xs) zero left = ap Some (length-overwritten x 0 left)
 get_set_size (x ∷ xs) (suc i) left = get_set_size xs i left
+get_set_size xs i left = grind (arith, length-overwritten)
 
 -- Faults.
 
@@ -100,11 +95,7 @@ load_fails o = record { equipment_check = store_fault_is_told o.state.registers;
 
 -- what a save that fails comes to, where the track is written; and where it is not, nothing is saved
 pub saving_or : {A : Type 0} (left : List ℕ) (s : State) (fails : State → A) (goes : A) → let x = moving_off (Some (SaveFails left)) s fails goes in (is_written s ≡ true → x ≡ fails (lost s left)) × (is_written s ≡ false → x ≡ goes)
-saving_or left s fails goes = go s.mark
-  where
-    go : (m : Mark) → let x = saving (left_by (Some (SaveFails left)) m) s fails goes in (is_written_by m ≡ true → x ≡ fails (lost s left)) × (is_written_by m ≡ false → x ≡ goes)
-    go Written = (λ h. refl, λ h. absurd (cc))
-    go m = (λ h. absurd (cc), λ h. refl)
+saving_or left s fails goes = grind arith
 
 -- what is so of a save alone
 abbrev pub if_save : Fault → Bool → Bool
@@ -134,8 +125,7 @@ close_fails f o b before at e k = go f (closing_of o b) (closing_of o b).moves_o
     go : (f : Fault) (c : Closing) (moves_off : Bool) → (closed None o.state c moves_off).state.volume ≡ before.volume
         → FailsOr (if_save f (moves_off && is_written o.state)) f before at failed (λ f. closed f o.state c moves_off)
     go (SaveFails left) c true e = leaves_or left o.state o.state.registers before at failed (closed_moving o.state c) e k
-    go LoadFails c true e = (λ h. absurd (cc), λ h. refl)
-    go f c moves_off e = (λ h. absurd (cc), λ h. refl)
+    go f c moves_off e = (λ h. absurd (grind arith), λ h. grind arith)
 
 -- a command that leaves its track written leaves the arm there, and at rest
 pub record StaysWritten (at : Registers) (c : Closed) : Type 0 where
@@ -166,24 +156,13 @@ close_none o = rw (empty_stays o, empty_writes o) (refl, refl)
 
 -- where the command failed already by this fault, nothing more is lost as the program ends
 pub settle_again : (f : Fault) (c : Closed) (before : IdleDrive) (at : Registers) → Fails f before at c.state → settled (Some f) c ≡ c
-settle_again LoadFails c before at h = refl
-settle_again (SaveFails left) c before at h = go c.state.mark h.slots.0
-  where
-    go : (m : Mark) → unsaved_by m c.state.registers ≡ Some (c.state.registers.cylinder, c.state.registers.head)
-        → saving (left_by (Some (SaveFails left)) m) c.state (λ s. record c { state = s; unit = with_unit_check c.unit }) c ≡ c
-    go Written k = absurd (cc)
-    go m k = refl
+settle_again f c before at h = grind arith
 
 -- Looks.
 
 -- a load that fails ends a look for an area; one that does not look for any makes none
 pub look_loads : (o : Open) → (looks_for_area o ≡ true → look (Some LoadFails) o ≡ Failed (with_store_fault o.state)) × (looks_for_area o ≡ false → look (Some LoadFails) o ≡ look None o)
-look_loads o = go (aim o.opened.command) _
-  where
-    go : (a : Aim) (s : Sight) → (is_next a ≡ true → look_for (Some LoadFails) o a s ≡ Failed (with_store_fault o.state)) × (is_next a ≡ false → look_for (Some LoadFails) o a s ≡ look_for None o a s)
-    go (Next kind) s = (λ h. refl, λ h. absurd (cc))
-    go a (answer.Found opened) = (λ h. absurd (cc), λ h. refl)
-    go a s = (λ h. absurd (cc), λ h. refl)
+look_loads o = grind arith
 
 -- what an open command sights of the track under the arm
 abbrev pub sighted : Open → Sight
@@ -211,8 +190,7 @@ begin_fails f code s = go f (beginning code s.registers) (beginning_at code s.re
     go : (f : Fault) (b : Beginning) → BeginsAt s.registers b → FailsOr (if_save f (leaves_as_it_begins b && is_written s)) f (drive_of s) s.registers Rejected (λ f. begun f s b)
     go (SaveFails left) (answer.ToCylinderZero r None) k = leaves_or left s r _ _ Rejected _ refl k
     go (SaveFails left) (answer.ToCylinderZero r (Some o)) k = leaves_or left s r _ _ Rejected _ refl k.0
-    go LoadFails (answer.ToCylinderZero r o) k = (λ h. absurd (cc), λ h. refl)
-    go f b k = (λ h. absurd (cc), λ h. refl)
+    go f b k = (λ h. absurd (grind arith), λ h. grind arith)
 
 -- Beginning and looking change no slot: what holds of the volume holds of it behind them.
 
@@ -223,12 +201,7 @@ abbrev pub VolumeIn : (Volume → Type 0) → State → Type 0
 VolumeIn V s = V s.volume
 
 pub begin_keeps : (V : Volume → Type 0) (code : ℕ) (s : State) → V s.volume → BegunIs (VolumeClosed V) (VolumeIn V) (begin None code s)
-begin_keeps V code s h = go (beginning code s.registers)
-  where
-    go : (b : Beginning) → BegunIs (VolumeClosed V) (VolumeIn V) (begun None s b)
-    go (answer.ToCylinderZero r None) = h
-    go (answer.ToCylinderZero r (Some o)) = h
-    go b = h
+begin_keeps V code s h = grind arith
 
 pub look_keeps : (V : Volume → Type 0) (o : Open) → V o.state.volume → LookIs (VolumeClosed V) (VolumeIn V) None (look None o)
 look_keeps V o h = go (sighted o)

@@ -94,8 +94,7 @@ module _ (f : Fault) (key : ℕ) (g : ProgramPhase) where
   call_met false ends fails call finish h failing staying = rw (h.1 refl) staying
 
 unmet : (f : Fault) (key : ℕ) (g : ProgramPhase) (x : Next) → MetOr (if_save f false) f key g (λ f. x)
-unmet LoadFails key g x = (λ w. absurd (cc), λ w. refl)
-unmet (SaveFails left) key g x = (λ w. absurd (cc), λ w. refl)
+unmet f key g x = grind arith
 
 -- a program that ends, and whose track is saved now
 ended_met : (f : Fault) (key : ℕ) (g : ProgramPhase) (s : Storage) (p : Place) (channel : ChannelStatus) (c : Closed) → FitsCheck channel → MayLose key g c
@@ -116,8 +115,7 @@ chosen_met f key g r channel c l m = go (goes_on_chaining r c channel) (record {
     go false q = ended_met f key g r.storage r.place channel c l m
 
 if_save_or : (f : Fault) (a b : Bool) → (if_save f a || if_save f b) ≡ if_save f (a || b)
-if_save_or LoadFails a b = refl
-if_save_or (SaveFails left) a b = refl
+if_save_or f a b = grind arith
 
 -- Units.
 
@@ -153,9 +151,8 @@ look_may : (key : ℕ) (o : Open) (r : Request) → LookMay key o r (look None o
 look_may key o r = go (sighted o) (sight_at o.state.volume.geometry (track_under o.state) o.opened o.state.registers)
   where
     go : (s : Sight) → SightAt o.state.registers o.opened s → LookMay key o r (looked None o s)
-    go (answer.Found opened) k = refl
     go (answer.Missed q) k = failed_may key (Looking o r) (with_registers o.state q) refl k
-    go s k = tt
+    go s k = grind arith
 
 looked_met : (f : Fault) (key : ℕ) (o : Open) (r : Request) → MetOr (look_meets f o || if_save f (ends_written_looked key r (look None o))) f key (Looking o r) (λ x. next_looked x key r (look x o))
 looked_met f key o r =
@@ -173,8 +170,7 @@ looked_met f key o r =
       where
         -- with no byte no command leaves its track
         stays_here : (u : TransferUnit) → (leaves_moved p (first_transfer r) u && is_written p.state) ≡ false
-        stays_here (Moves next) = refl
-        stays_here u = ap (λ b. b && is_written p.state) (empty_stays p)
+        stays_here u = grind (arith, empty_stays)
 
 -- what a command that is over as it begins may lose
 begin_may : (key : ℕ) (p : Point) (code : ℕ) → BegunIs (MayLose key (Between p)) (λ s. Unit {0}) (begin None code p.state)
@@ -184,8 +180,7 @@ begin_may key p code = go (beginning code p.state.registers) (beginning_at code 
     go (answer.Rejected r) k = failed_may key (Between p) (with_registers p.state r) refl k
     go (answer.Immediate r) k = record { slots = refl; ends = immediate_end p.state false; stays = λ w. record { motion = refl; arm = k } }
     go (answer.ToCylinderZero r None) k = record { slots = refl; ends = immediate_end p.state true; stays = λ w. absurd (cc) }
-    go (answer.ToCylinderZero r (Some o)) k = tt
-    go (answer.Started r o) k = tt
+    go b k = tt
 
 fetched_met : (f : Fault) (key : ℕ) (p : Point) (w : Fetched)
     → MetOr (if_save f ((leaves_fetched p w && is_written p.state) || ends_written_fetched p w)) f key (Between p) (λ x. next_fetched x key p w)
@@ -206,16 +201,14 @@ fetched_met f key p (GoodCcw ccw) =
 
 -- a cut leaves the slots of the command closed by the bytes that passed
 cut_slots : (o : Open) (b : List ℕ) → (close None o b).state.volume ≡ (closed_by_cut None o b).state.volume
-cut_slots o [] = (close_none o).0
-cut_slots o (x ∷ b) = refl
+cut_slots o b = grind (arith, close_none)
+
+
 
 unit_met : (f : Fault) (key : ℕ) (g : ProgramPhase) → MetOr (meets f key g) f key g (λ x. unit x key g)
-unit_met LoadFails key (Between p) = fetched_met LoadFails key p (fetch p.storage p.place true)
-unit_met LoadFails key (Looking o r) = rw or-false at (looked_met LoadFails key o r)
-unit_met LoadFails key (Moving o t) = moved_met LoadFails key (Moving o t) o t (transfer_unit key o t) (unit_is key o t) (cut_slots o t.bytes) refl
-unit_met (SaveFails left) key (Between p) = fetched_met (SaveFails left) key p (fetch p.storage p.place true)
-unit_met (SaveFails left) key (Looking o r) = looked_met (SaveFails left) key o r
-unit_met (SaveFails left) key (Moving o t) = moved_met (SaveFails left) key (Moving o t) o t (transfer_unit key o t) (unit_is key o t) (cut_slots o t.bytes) refl
+unit_met f key (Between p) = let h = fetched_met f key p (fetch p.storage p.place true) in (λ w. h.0 (grind arith), λ w. h.1 (grind arith))
+unit_met f key (Looking o r) = let h = looked_met f key o r in (λ w. h.0 (grind arith), λ w. h.1 (grind arith))
+unit_met f key (Moving o t) = let h = moved_met f key (Moving o t) o t (transfer_unit key o t) (unit_is key o t) (cut_slots o t.bytes) refl in (λ w. h.0 (grind arith), λ w. h.1 (grind arith))
 
 pub fault_ends_unit : FaultEndsUnit
 fault_ends_unit f key g = let h = unit_met f key g in record { met = h.0; not_met = h.1 }
@@ -225,8 +218,7 @@ abbrev pub SameOr : Fault → (key : ℕ) → ProgramPhase → (Option Fault →
 SameOr f key g n = (n (Some f) ≡ n None) ⊎ NextByFault f key g (n (Some f))
 
 same_or : (met : Bool) (f : Fault) (key : ℕ) (g : ProgramPhase) (n : Option Fault → Next) → MetOr met f key g n → SameOr f key g n
-same_or true f key g n h = inr (h.0 refl)
-same_or false f key g n h = inl (h.1 refl)
+same_or met f key g n h = grind arith
 
 pub fault_or_not : (f : Fault) (key : ℕ) (g : ProgramPhase) → SameOr f key g (λ x. unit x key g)
 fault_or_not f key g = same_or (meets f key g) f key g (λ x. unit x key g) (unit_met f key g)
@@ -260,8 +252,7 @@ pub cut_or_not : (f : Fault) (key : ℕ) (g : ProgramPhase) → SameOr f key g (
 cut_or_not f key g = same_or _ f key g (cut_next key g) (cut_met f key g)
 
 pub fault_ends_phase : FaultEndsPhase
-fault_ends_phase LoadFails key g = let h = cut_met LoadFails key g in record { met = h.0; not_met = λ w. the_ending _ _ (h.1 w) }
-fault_ends_phase (SaveFails left) key g = let h = cut_met (SaveFails left) key g in record { met = h.0; not_met = λ w. the_ending _ _ (h.1 w) }
+fault_ends_phase f key g = let h = cut_met f key g in record { met = λ w. h.0 (grind arith); not_met = λ w. the_ending _ _ (h.1 (grind arith)) }
 
 -- Runs.
 
@@ -271,8 +262,7 @@ fault_ends_cut s script seen h =
     rw y.3 ((fault_ends_phase LoadFails y.0 y.1).not_met refl, λ left. elim (cut_or_not (SaveFails left) y.0 y.1) [ inl h ↦ inl (the_ending _ _ h) | inr h ↦ inr h.0 ])
 
 pub same_outcome : (a b : Script) (key : ℕ) (w : Walk) → units_in a ≡ units_in b → outcome_of a key w ≡ outcome_of b key w
-same_outcome a b key (StandsIn g) h = refl
-same_outcome a b key (EndsWith rest st e) h = ap (λ n. Ended (n - units_in rest) st e) h
+same_outcome a b key w h = grind arith
 
 -- over a unit with a fault, from where a program stands
 pub run_by_fault : (s : Start) (script rest : Script) (f : Fault) (key : ℕ) (g : ProgramPhase) → StandsAt s script key g

@@ -39,8 +39,7 @@ over : (s : Start) (key : ℕ) (p : Place) (t : State) (motion : Bool) → let e
 over s key p t motion = (told motion p.interruption, (refl, elim motion as (λ motion. ((immediate t motion).unit ≡ CHANNEL_END) ⊎ ((immediate t motion).unit ≡ normal_end)) [ true ↦ inl refl | false ↦ inr refl ]))
   where
     told : (motion asked : Bool) → let e = ending None key (record p { interruption = asked }) (immediate t motion) no_channel_status in ImmediateStart e ≡ first_of (Ended 1 s.storage e)
-    told true = elim [ true ↦ refl | false ↦ refl ]
-    told false = elim [ true ↦ refl | false ↦ refl ]
+    told motion asked = grind arith
 
 -- The first unit.
 

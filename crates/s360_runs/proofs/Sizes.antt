@@ -1,6 +1,6 @@
 -- A channel program keeps the size of storage.
 use Rattle.std.proofs.lemmas.Bool.{cond_both}
-use Rattle.std.proofs.Common.{◌≡◌, ℕ, refl, ap, ◌∙◌, true, length, Option}
+use Rattle.std.proofs.Common.{arith, ◌≡◌, ℕ, refl, ap, ◌∙◌, true, length, Option}
 use Rattle.s360_words.specs.Storage.{Storage, Bytes}
 use Rattle.s360_words.specs.declared.flags.ChannelStatus.{ChannelStatus}
 use Rattle.s360_words.proofs.Overwriting.{length-overwritten}
@@ -55,9 +55,7 @@ turn_sized (Outside (Bytes at bytes)) s = length-overwritten s.bytes at bytes
 turn_sized turn s = refl
 
 past_sized : (turn : Turn) (g : ProgramPhase) → Sized (storage_in g) (storage_in (phase_past turn g))
-past_sized turn (Between p) = turn_sized turn p.storage
-past_sized turn (Looking o r) = turn_sized turn r.storage
-past_sized turn (Moving o t) = turn_sized turn t.storage
+past_sized turn g = grind (arith, turn_sized)
 
 pub keeps_size : KeepsSize
 keeps_size s script = run_holds {P = λ key g. Sized s.storage (storage_in g)} {E = λ st e. Sized s.storage st} (OutcomeKeepsSize s.storage) s script refl seen (λ used st e h. h)

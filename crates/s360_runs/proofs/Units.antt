@@ -1,5 +1,5 @@
 -- What holds of a program from unit to unit: one analysis of a unit for all such properties, and one induction over scripts.
-use Rattle.std.proofs.Common.{◌≡◌, ℕ, refl, true, false, Bool, cond, not, ◌&&◌, [], ◌∷◌, length, Option, Some, None}
+use Rattle.std.proofs.Common.{arith, ◌≡◌, ℕ, refl, true, false, Bool, cond, not, ◌&&◌, [], ◌∷◌, length, Option, Some, None}
 use Rattle.std.specs.Prelude.{is_some, slice_get}
 use Rattle.std.proofs.lemmas.Bool.{cond_both}
 use Rattle.s360_words.specs.Storage.{Storage, admits, key_at}
@@ -33,8 +33,7 @@ WalkIs P E (EndsWith rest s e) = E s e
 
 module _ (P : ProgramPhase → Type 0) (E : Storage → Ending → Type 0) (key : ℕ) (past : (turn : Turn) (g : ProgramPhase) → P g → P (phase_past turn g)) where
   next_holds : (rest : Script) (n : Next) → NextIs P E n → ((g : ProgramPhase) → P g → WalkIs P E (walk rest key g)) → WalkIs P E (on_next rest n (walk rest key))
-  next_holds rest (GoesOn g) h k = k g h
-  next_holds rest (EndsIn s e) h k = h
+  next_holds rest n h k = grind arith
 
   -- what each unit and each other turn keeps, a walk keeps
   pub walk_holds : ((f : Option Fault) (g : ProgramPhase) → P g → NextIs P E (unit f key g)) → (script : Script) (g : ProgramPhase) → P g → WalkIs P E (walk script key g)
@@ -61,8 +60,7 @@ run_holds {P} {E} O s script nothing stands ends h = go (caw_of s.caw) refl
 
 -- a turn that is no unit leaves the drive
 pub past_state : (turn : Turn) (g : ProgramPhase) → state_in (phase_past turn g) ≡ state_in g
-past_state turn (Between p) = refl
-past_state turn g = refl
+past_state turn g = grind arith
 
 -- What a unit of moving bytes comes to.
 
