@@ -1,26 +1,21 @@
 -- What the laws of programs need to know of a drive: how a command ends, and what a fault of the store does to it.
-use Rattle.std.proofs.Common.{arith, ◌≡◌, ℕ, zero, suc, refl, ap, ◌∙◌, true, false, Bool, not, List, [], ◌∷◌, Option, Some, None, ◌⊎◌, inl, inr}
+use Rattle.std.proofs.Common.{arith, ◌≡◌, ℕ, suc, refl, ap, ◌∙◌, true, false, Bool, not, List, [], ◌∷◌, Option, Some, None, ◌⊎◌, inl, inr}
 use Rattle.std.specs.Prelude.{◌&&◌, length, slice_get, slice_set, slice_index_or, option_map, ◌==◌}
 use Rattle.std.proofs.lemmas.Nat.{and_or_self, and_or_apart}
 use Rattle.s360_words.specs.declared.flags.TheConstants.UnitStatus.{UNIT_CHECK}
 use Rattle.s360_words.specs.declared.flags.UnitStatus.{UnitStatus}
 use Rattle.s360_words.specs.Storage.{overwritten}
 use Rattle.s360_words.proofs.Overwriting.{length-overwritten}
-use Rattle.ckd_command.specs.declared.registers.Mark.{Mark}
-use Rattle.ckd_command.specs.declared.registers.Mark.TheVariants.{Written}
 use Rattle.ckd_command.specs.declared.registers.Registers.{Registers}
-use Rattle.ckd_command.specs.declared.tables.Aim.{Aim}
-use Rattle.ckd_command.specs.declared.tables.Aim.TheVariants.{Next}
 use Rattle.ckd_command.specs.Answers.{Beginning, Sight}
 use Rattle.ckd_command.specs.Answers as answer
-use Rattle.ckd_command.specs.Tables.{aim}
 use Rattle.ckd_command.specs.Commands.{Closing, beginning, sight}
-use Rattle.ckd_command.specs.Drive.{IdleDrive, State, Volume, unsaved, tells_equipment_check, is_written, is_written_by, drive_of, number_under, slot_under, track_under, Fault, LoadFails, SaveFails, left_by, lost, saving, moving_off, with_registers, with_store_fault, Open, Rejected, begin, begun, Failed, look, looked, look_for, Closed, failed, close, closed, closed_moving, settled, with_unit_check, unsaved_by}
+use Rattle.ckd_command.specs.Drive.{IdleDrive, State, Volume, unsaved, tells_equipment_check, is_written, drive_of, number_under, slot_under, track_under, Fault, LoadFails, SaveFails, left_by, lost, saving, moving_off, with_registers, with_store_fault, Open, Rejected, begin, begun, Failed, look, looked, Closed, failed, close, closed, closed_moving, settled, with_unit_check}
 use Rattle.ckd_command.proofs.Arms.{AtSameTrack, BeginsAt, beginning_at, closing_at, closing_empty}
 use Rattle.ckd_command.proofs.CommandFacts.{IsClosing, closing_facts, store_fault_is_told}
 use Rattle.s360_runs.specs.Endings.{immediate}
 use Rattle.s360_runs.specs.Status.{tells}
-use Rattle.s360_runs.specs.StoreCalls.{closing_of, goes_to_next_head, is_next, leaves_as_it_begins, leaves_looking, looks_for_area}
+use Rattle.s360_runs.specs.StoreCalls.{closing_of, goes_to_next_head, leaves_as_it_begins, leaves_looking, looks_for_area}
 use Rattle.s360_runs.specs.Faults.{LosesAtMost}
 use Rattle.s360_runs.specs.Laws.{IsEnd}
 use Rattle.s360_runs.proofs.Units.{BegunIs, LookIs}

@@ -1,12 +1,10 @@
 -- Which tracks a program may report as not saved, that it reports none without a fault of the store, and all that a failed load
 -- leaves.
 use Rattle.std.proofs.Common.{arith, ◌≡◌, ℕ, refl, subst, sym, ap, ◌∙◌, true, false, Bool, cond, ◌||◌, List, [], Option, Some, None, inl, inr}
-use Rattle.std.proofs.lemmas.Bool.{or_left, or_right, cond_both}
+use Rattle.std.proofs.lemmas.Bool.{or_left, or_right}
 use Rattle.std.specs.Prelude.{is_some}
-use Rattle.s360_words.specs.Words.{has}
 use Rattle.s360_words.specs.declared.flags.ChannelStatus.{ChannelStatus}
 use Rattle.s360_words.specs.declared.flags.TheConstants.ChannelStatus.{PROGRAM_CHECK}
-use Rattle.s360_words.specs.declared.flags.TheConstants.UnitStatus.{UNIT_CHECK}
 use Rattle.s360_words.specs.declared.words.Caw.{Caw}
 use Rattle.ckd_sense.specs.declared.sense_bytes.TheConstants.Sense.{ZERO, STORE_FAULT}
 use Rattle.ckd_sense.specs.SenseBytes.{joined}
@@ -14,23 +12,22 @@ use Rattle.ckd_sense.specs.declared.sense_bytes.Sense.{Sense}
 use Rattle.ckd_command.specs.Answers.{Beginning, Sight}
 use Rattle.ckd_command.specs.Answers as answer
 use Rattle.ckd_command.specs.Commands.{beginning}
-use Rattle.ckd_command.specs.Drive.{Fault, LoadFails, IdleDrive, Closed, unsaved, close, Open, look, looked, AfterLook, State, Failed, Passed, Ready, AfterBegin, Rejected, Started, begin, begun, begin_program, state_of, is_written, tells_equipment_check, track_under, with_store_fault}
+use Rattle.ckd_command.specs.Drive.{Fault, LoadFails, IdleDrive, Closed, unsaved, close, Open, look, looked, AfterLook, State, Failed, Passed, Ready, AfterBegin, Started, begin, begun, begin_program, state_of, is_written, tells_equipment_check, track_under, with_store_fault}
 use Rattle.ckd_command.specs.Tables.{aim}
 use Rattle.ckd_command.specs.declared.tables.Aim.{Aim}
-use Rattle.ckd_command.specs.declared.tables.Aim.TheVariants.{Next as NextArea}
 use Rattle.ckd_command.proofs.Arms.{BeginsAt, NoSenseFor, SightAt, beginning_at, sight_at}
 use Rattle.ckd_command.proofs.Marks.{anywhere, never_both, LookFinds, look_finds, BegunTraces, begin_traces, LookTraces, look_traces, close_traces, close_writes, settle_traces, Calm, BegunCalm, begin_calm, LookCalm, look_calm, close_calm}
-use Rattle.s360_runs.specs.Commands.{Chains, Choice, Ends, choice, completed, requested}
-use Rattle.s360_runs.specs.Endings.{Ended, NotEnded, Outcome, ending, failed, immediate, untouched}
+use Rattle.s360_runs.specs.Commands.{requested}
+use Rattle.s360_runs.specs.Endings.{Outcome, ending, failed, untouched}
 use Rattle.s360_runs.specs.Laws.{first_of}
 use Rattle.s360_runs.specs.Faults.{FailedLoad, ended_by_load, without_faults}
 use Rattle.s360_runs.specs.Places.{Place, fetch, Fetched, GoodCcw}
 use Rattle.s360_runs.specs.Runs.{Start, start_point, run, first_place}
-use Rattle.s360_runs.specs.Scripts.{Script, TakesInterruption, Turn, units}
-use Rattle.s360_runs.specs.Status.{no_channel_status, tells, with_interruption}
+use Rattle.s360_runs.specs.Scripts.{Script, Turn, units}
+use Rattle.s360_runs.specs.Status.{no_channel_status, with_interruption}
 use Rattle.s360_runs.specs.StoreCalls.{is_next}
-use Rattle.s360_runs.specs.Transfers.{Completes, Request, Transfer, TransferUnit, first_transfer, transfer_unit}
-use Rattle.s360_runs.specs.Units.{unit, Next, EndsIn, Between, Looking, Moving, ProgramPhase, standing_in, walk, GoesOn, StandsIn, Walk, state_in, next_begun, next_chosen, next_fetched, next_looked, next_moved, phase_past}
+use Rattle.s360_runs.specs.Transfers.{Request, Transfer, TransferUnit, first_transfer, transfer_unit}
+use Rattle.s360_runs.specs.Units.{unit, Next, EndsIn, Between, Looking, Moving, ProgramPhase, standing_in, walk, StandsIn, Walk, state_in, next_begun, next_fetched, next_looked, next_moved, phase_past}
 use Rattle.s360_runs.specs.Unsaved.{has_written, WritesByCommands, TellsWritten, NextTellsWritten, UnsavedWasWritten, TellsNoFault, OutcomeTellsNoFault, FirstTellsNoFault, NoFaultNothingTold}
 use Rattle.s360_runs.proofs.DriveFacts.{close_none, look_loads, sighted}
 use Rattle.s360_runs.proofs.FirstUnits.{first_is_unit}

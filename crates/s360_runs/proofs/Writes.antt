@@ -3,9 +3,9 @@ use Rattle.std.proofs.Common.{arith, ◌≡◌, ℕ, refl, ap, sym, ◌∙◌, t
 use Rattle.std.proofs.lemmas.Bool.{and_from, both_ways, eq-eqb, or_parts, or_right}
 use Rattle.std.specs.Prelude.{is_some}
 use Rattle.s360_words.specs.declared.words.Caw.{Caw}
-use Rattle.ckd_track.specs.Track.{Track, slot_of}
+use Rattle.ckd_track.specs.Track.{Track}
 use Rattle.ckd_command.specs.Commands.{beginning}
-use Rattle.ckd_command.specs.Drive.{Volume, State, Fault, LoadFails, SaveFails, number_under, track_number, is_written, Open, state_of, close, closed, begin, begun, look, looked}
+use Rattle.ckd_command.specs.Drive.{Volume, State, Fault, LoadFails, SaveFails, number_under, track_number, is_written, Open, state_of, close, closed, begin, look, looked}
 use Rattle.ckd_command.specs.Answers.{Beginning, Sight}
 use Rattle.s360_runs.specs.Faults.{LosesAtMost, NextByFault, cut_drive}
 use Rattle.s360_runs.specs.Laws.{walked_on}
@@ -16,8 +16,8 @@ use Rattle.s360_runs.specs.Units.{unit, Next, EndsIn, GoesOn, Between, Looking, 
 use Rattle.s360_runs.specs.Unsaved.{has_written, NextTellsWritten}
 use Rattle.s360_runs.specs.Writes.{slot_in, may_write, NextKeeps, UnitKeeps, WritesUnderArm, on_going, walk_writes, run_writes_from, OutcomeKeeps, RunKeeps, writes_moved, written_past, written_since, MarkIsOfScript}
 use Rattle.s360_runs.specs.Commands.{Point, length_status, requested}
-use Rattle.s360_runs.specs.Places.{fetch, Fetched, NoCcw, TransferTo, GoodCcw}
-use Rattle.s360_runs.specs.Transfers.{Transfer, request_of, Stops, TransferUnit, Moves, Completes, transfer_unit}
+use Rattle.s360_runs.specs.Places.{fetch, Fetched, GoodCcw}
+use Rattle.s360_runs.specs.Transfers.{Transfer, request_of, TransferUnit, Completes, transfer_unit}
 use Rattle.s360_runs.proofs.DriveFacts.{VolumeClosed, VolumeIn, begin_keeps, close_none, get_set_other, look_keeps, sighted}
 use Rattle.s360_runs.proofs.FaultsMet.{cut_next, cut_or_not, fault_or_not, unmet_holds}
 use Rattle.s360_runs.proofs.Units.{NextHas, OpenIs, WalkIs, past_state, phase_holds, run_holds, BegunIs, LookIs, begun_holds, choice_holds, looked_holds}
