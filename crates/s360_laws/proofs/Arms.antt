@@ -1,5 +1,5 @@
 -- What events do to arms that owe a device end.
-use Rattle.std.proofs.Common.{◌≡◌, ◌≤◌, ℕ, ◌+◌, ◌*◌, ◌/◌, ◌%◌, refl, sym, ap, subst, ◌∙◌, arith, true, false, Bool, cond, ◌&&◌, ◌==◌, List, [], ◌∷◌, Option, Some, None}
+use Rattle.std.proofs.Common.{◌≡◌, ◌≤◌, ℕ, ◌+◌, ◌*◌, ◌/◌, ◌%◌, refl, ap, subst, ◌∙◌, arith, true, false, Bool, cond, ◌&&◌, ◌==◌, List, [], ◌∷◌, Option, Some, None}
 use Rattle.std.proofs.lemmas.Bool.{cond_both, eq-eqb, eqb-true}
 use Rattle.std.specs.Prelude.{find, option_map, is_some, filter}
 use Rattle.s360_words.specs.Storage.{Storage}
@@ -7,7 +7,7 @@ use Rattle.s360_words.specs.declared.flags.TheConstants.UnitStatus.{DEVICE_END}
 use Rattle.s360_words.specs.declared.words.Csw.{Csw}
 use Rattle.s360_runs.specs.Endings.{Ending}
 use Rattle.s360_runs.specs.Starts.{First, BadStart, RejectedStart, ImmediateStart, AcceptedStart}
-use Rattle.s360_runs.specs.Status.{tells}
+use Rattle.s360_runs.specs.Status.{tells, no_unit_status}
 use Rattle.s360_runs.proofs.EndStatus.{AsksGood}
 use Rattle.s360_laws.specs.Arms.{arm_for, arrives, ends_owing, arm_next, ArmFollows, arm_along, ArmStays, ArrivedInterrupts, HaltOfPendingStays}
 use Rattle.s360_laws.specs.Events.{Answer, Event, Exchange, FaultAfter, Sio, Interrupt, WithCode, Interrupted}
@@ -25,15 +25,9 @@ use Rattle.s360_laws.proofs.Reactions.{Reacts, Same, Arrives, Clears, EndAtStart
 abbrev Keeps_arm : ℕ → Arm → Event → Option FaultAfter → Answer × Machine → Type 0
 Keeps_arm u arm e x r = arm_for r.1 u ≡ Some (arm_next u (e, x, r.0) arm)
 
-
-
 -- a status without device end, where it is for this address
 unended : (b c : Bool) (arm : Arm) → (b ≡ true → c ≡ false) → Some arm ≡ Some (cond (b && c) AtRest (cond false Arrived arm))
 unended b c arm k = grind arith
-
-
-
-
 
 is_there : (y : Option Device) (arm : Arm) → HasArm arm y → is_some y ≡ true
 is_there y arm h = grind arith
@@ -56,7 +50,7 @@ module _ (m : Machine) (u : ℕ) (arm : Arm) (h : arm_for m u ≡ Some arm) (o :
   over_arm d st e v at z = changed_for m (set_both (arm_after e) e.drive) (λ v. refl) (address_of m d) d v (record { address = refl; is_there = at }) u (λ b y z. HasArm arm z → HasArm arm y) (free_away _ d v at z) (λ y k. k) h
 
   begin_arm : (x : Option FaultAfter) (a d : ℕ) (v : Device) (f : First) → IsAt m a d v → v.arm ≡ AtRest → Keeps_arm u arm (Sio a) x (started d (idle m) f)
-  begin_arm x a d v BadStart at free = h ∙ unended (a == u) false arm (λ k. refl)
+  begin_arm x a d v BadStart at free = grind arith
   begin_arm x a d v (RejectedStart w) at free = changed_for m (set_drive w) (λ v. refl) a d v at u (λ b y z. HasArm arm z → HasArm arm y) (λ k. k) (λ y k. k) h ∙ unended (a == u) false arm (λ k. refl)
   begin_arm x a d v (ImmediateStart e) at free =
       changed_for m (set_both (arm_after e) e.drive) (λ v. refl) a d v at u (λ b y z. HasArm arm z → option_map (λ v. v.arm) y ≡ Some (cond (b && tells e.csw.unit DEVICE_END) AtRest (cond false Arrived arm)))
@@ -70,9 +64,7 @@ module _ (m : Machine) (u : ℕ) (arm : Arm) (h : arm_for m u ≡ Some arm) (o :
   arm_by : (x : Option FaultAfter) {c : Subchannel} {e : Event} {r : Answer × Machine} → Reacts m x c e r → AreDistinct m.devices → Rest m c → Keeps_arm u arm e x r
   arm_by x (Same c e a q k) ds z = let n = (unmoved (e, x, a) q).0 u in rw (n.0, n.2 DEVICE_END, n.3) h
   arm_by x (Arrives c a d v at k) ds z = changed_for m (set_arm Arrived) (λ v. refl) a d v at u (λ b y z. HasArm arm z → option_map (λ v. v.arm) y ≡ Some (cond b Arrived arm)) (λ k. refl) (λ y k. k) h
-
   arm_by x (Clears c k) ds z = reset_arm m u (is_there (device_for m u) arm h)
-
   arm_by x (EndAtStart a d v at k) ds z = told_arm a d v at
   arm_by x (EndAtTest a d v at k) ds z = told_arm a d v at
   arm_by x (EndInterrupts d k) ds z = let l = the_arrived (device_at m d) (lowest_found m.devices ds d k) in told_arm (address_of m d) d l.0 (record { address = refl; is_there = l.1 })
@@ -85,9 +77,7 @@ module _ (m : Machine) (u : ℕ) (arm : Arm) (h : arm_for m u ≡ Some arm) (o :
       reset_arm (ended d w.seen.storage e m) u (changed_for m (set_both (arm_after e) e.drive) (λ v. refl) (address_of m d) d w.drive (record { address = refl; is_there = w.is_there }) u
       (λ b y z. is_some z ≡ true → is_some y ≡ true) (λ k. refl) (λ y k. k) (is_there (device_for m u) arm h))
   arm_by x (StepEnds d s k w used st e q) ds z = over_arm d st e w.drive w.is_there z
-  arm_by x (Asks d s w csw q) ds z =
-      h ∙ unended (address_of m d == u) false arm (λ k. refl)
-      ∙ ap (λ k. Some (cond ((address_of m d == u) && tells k DEVICE_END) AtRest (cond false Arrived arm))) (sym (subst AsksGood q (good_stands m d s w).1))
+  arm_by x (Asks d s w csw q) ds z = let silent : csw.unit ≡ no_unit_status = subst AsksGood q (good_stands m d s w).1 in grind arith
   arm_by x y ds z = grind arith
 
 -- Any event, and lists.
@@ -124,9 +114,8 @@ least (v ∷ vs) d h = least_more v d (filter has_arrived vs) (find (λ v. v.dev
 pub arrived_interrupts : ArrivedInterrupts
 arrived_interrupts m x device sound is_idle low = go m.subchannel is_idle (lowest (filter has_arrived m.devices)) refl (least m.devices device low.arrived)
   where
-
-
-    go : (s : Subchannel) → s ≡ Idle → (l : Option ℕ) → lowest (filter has_arrived m.devices) ≡ l → Least l device → (react Interrupt x (record m { subchannel = s })).0 ≡ Interrupted (Some (address_of m device, csw_of_unit DEVICE_END))
+    go : (s : Subchannel) → s ≡ Idle → (l : Option ℕ) → lowest (filter has_arrived m.devices) ≡ l → Least l device
+        → (react Interrupt x (record m { subchannel = s })).0 ≡ Interrupted (Some (address_of m device, csw_of_unit DEVICE_END))
     go Idle e None k n = absurd n
     go Idle e (Some c) k n =
         let low_enough = low.lowest c (lowest_found m.devices sound.0 c k) in

@@ -16,8 +16,6 @@ use Rattle.s360_laws.specs.declared.arm.Arm.{Arm}
 pub different : (a b : ℕ) → (a ≡ b → ⊥) → (a == b) ≡ false
 different a b f = ne_eqb a b f
 
-
-
 -- Finding devices.
 
 abbrev pub Has : (Device → Bool) → Option Device → Type 0

@@ -37,7 +37,6 @@ with_slot : (track device p : ℕ) (drive : IdleDrive) (ds : Drives) (d : ℕ ×
     → slot track (at device (with_drive p drive ds)) ≡ slot track (at device ds)
 with_slot track device p drive ds d is k = ap (slot track) (find_map (λ d. d.0 == device) (λ d. d.0 == device) (λ d. cond (d.0 == p) (d.0, drive) d) (λ d. grind arith) ds) ∙ go (at device ds) refl
   where
-
     go : (y : Option (ℕ × IdleDrive)) → at device ds ≡ y → slot track (option_map (λ d. cond (d.0 == p) (d.0, drive) d) y) ≡ slot track y
     go None e = refl
     go (Some c) e = cond_both (c.0 == p) (c.0, drive) c (λ b. Some (slot_in b.1.volume track) ≡ Some (slot_in c.1.volume track)) here (λ q. refl)
@@ -64,8 +63,6 @@ first_keeps s drive track h = from (caw_of s.caw) (subst (λ f. IsFirstUnit s f 
         → slot_in e.drive.volume track ≡ slot_in s.drive.volume track
     by_unit caw n e k q = grind arith
 
-
-
     from : (c : Option Caw) → IsFirstUnit s (RejectedStart drive) (run_from (units 1) s c) → slot_in drive.volume track ≡ slot_in s.drive.volume track
     from None r = let q = r.1 in absurd (cc)
     from (Some caw) r =
@@ -80,8 +77,7 @@ program_keeps w p device track script fate (Some d) e h =
     go fate (run script (start_in w d.1)) (λ k. run_keeps (start_in w d.1) script track (subst (λ b. (b && program_writes w track script (Some d)) ≡ false) k h))
   where
     go : (fate : Fate) (o : Outcome) → ((p == device) ≡ true → OutcomeKeeps track d.1.volume o) → slot track (at device (after_run w p fate o).drives) ≡ slot track (at device w.drives)
-    go ByItself (Ended used s z) k = with_slot track device p z.drive w.drives d e k
-    go (IsCut fault) (Ended used s z) k = with_slot track device p z.drive w.drives d e k
+    go fate (Ended used s z) k = with_slot track device p z.drive w.drives d e k
     go (IsCut fault) (NotEnded seen) k = with_slot track device p (seen.cut fault).drive w.drives d e (λ l. k l fault)
     go ByItself (NotEnded seen) k = refl
 

@@ -2,7 +2,7 @@
 use Rattle.std.proofs.Common.{not, ◌≡◌, ℕ, ◌+◌, refl, sym, ap, ◌∙◌, arith, true, false, Bool, cond, ◌&&◌, ◌==◌, Option, Some, None, zero-add, ◌*◌, ◌/◌, ◌%◌, subst, List, [], ◌∷◌, ◌⊎◌, add-zero, ◌++◌, ◌≤◌, ◌||◌}
 use Rattle.std.proofs.Math.Bool.{and-true}
 use Rattle.std.proofs.lemmas.Bool.{eqb-true, eq-eqb, cond-false, cond-true}
-use Rattle.std.specs.Prelude.{option_map, find, filter, fold}
+use Rattle.std.specs.Prelude.{find, filter, fold}
 use Rattle.s360_words.specs.Storage.{Storage}
 use Rattle.s360_words.specs.declared.flags.ChannelStatus.{ChannelStatus}
 use Rattle.s360_words.specs.declared.flags.TheConstants.UnitStatus.{CHANNEL_END, DEVICE_END}
@@ -22,7 +22,6 @@ use Rattle.s360_laws.specs.History.{Runs}
 use Rattle.s360_laws.specs.Ledger.{is_reset, is_accepted, stores_end, Since, SinceBeginning, SinceAcceptance, SinceReset, later, counted, due, EndsPend, AtMostOnce, ExactlyOnce, ChannelEndFirst, NoneAfterReset, NoStartWhileWorking, StartsAfterChannelEnd, HeldAnswer, ends_holding, HeldAnswers, HeldUntilStored}
 use Rattle.s360_laws.specs.Machine.{Machine, Subchannel, Idle, Working, address_of, Pending, device_at, Device, with_arm, is_in_motion, at_rest, all_at_rest, with_device, arm_after, start_of, started, lowest, has_arrived, react, ended, fault_in, units_with, exchanges, after_all, is_working, with_subchannel, unsaved_at, test_io, with_csw, with_change}
 use Rattle.s360_laws.specs.Soundness.{channel_owes, device_owes, device_for, owes_channel_end, owes_device_end, AreDistinct, arm_owes, IsSound, IsSoundIn, StaysSound, IdleIsSound}
-use Rattle.s360_laws.specs.declared.arm.Arm.{Arm}
 use Rattle.s360_laws.specs.declared.arm.Arm.TheVariants.{AtRest, Arrived, InMotion}
 use Rattle.s360_laws.specs.declared.condition.ConditionCode.TheVariants.{Two, Three}
 use Rattle.s360_laws.proofs.AlikeLists.{unmoved}
@@ -51,12 +50,6 @@ Fine m e x r = AreDistinct r.1.devices × Rest r.1 r.1.subchannel × ((u : ℕ) 
 
 
 
--- a status without this end
-silent : (b : Bool) (c : ℕ) → cond (b && false) 1 0 + c ≡ c
-silent b c = grind arith
-
-
-
 -- a program that ended: its device end, or the motion of its arm
 end_owes : (c motion : Bool) → c ≡ not motion → cond c 1 0 + arm_owes (cond motion InMotion AtRest) ≡ 1
 end_owes c motion h = grind arith
@@ -73,10 +66,7 @@ device_end_told m a d u v at k =
 
 -- an arrival
 arrival_owes : (m : Machine) (a d u : ℕ) (v : Device) → IsAt m a d v → is_in_motion v.arm ≡ true → device_owes (device_for (with_arm Arrived d m) u) ≡ device_owes (device_for m u)
-arrival_owes m a d u v at h = changed_for m (set_arm Arrived) (λ v. refl) a d v at u (λ b y z. device_owes y ≡ device_owes z) (moves v.arm h) (λ y. refl)
-  where
-    moves : (arm : Arm) → is_in_motion arm ≡ true → 1 ≡ arm_owes arm
-    moves arm h = grind arith
+arrival_owes m a d u v at h = changed_for m (set_arm Arrived) (λ v. refl) a d v at u (λ b y z. device_owes y ≡ device_owes z) (grind arith) (λ y. refl)
 
 arrival_rest : (m : Machine) (c : Subchannel) (a d : ℕ) (v : Device) → IsAt m a d v → is_in_motion v.arm ≡ true → Rest m c → Rest (with_arm Arrived d m) c
 arrival_rest m c a d v at h r = grind (arith, same)
@@ -88,19 +78,10 @@ reset_fine : (m w : Machine) (x : Option FaultAfter) (unsaved : _) → AreDistin
 reset_fine m w x unsaved ds = (
   distinct_map at_rest (λ v. refl) w.devices ds,
   tt,
-  λ u. (
-    zero-add 0,
-    zero-add _ ∙ zero-add _ ∙ ap device_owes (found_map (λ d. 256 * w.channel + d == u) at_rest (λ v. refl) w.devices) ∙ free (device_for w u),
-    λ b. absurd (cc),
-  ),
+  λ u. let free = found_map (λ d. 256 * w.channel + d == u) at_rest (λ v. refl) w.devices in grind arith,
 )
-  where
-    free : (y : Option Device) → device_owes (option_map at_rest y) ≡ 0
-    free y = grind arith
 
 -- Starts.
-
-
 
 -- a device whose arm is at rest owes nothing
 free_due : (m : Machine) (a d u : ℕ) (v : Device) → IsAt m a d v → v.arm ≡ AtRest → (a == u) ≡ true → ◌≡◌ {A = ℕ} 0 0 × (0 + device_owes (device_for m u) ≡ 0)
@@ -124,11 +105,11 @@ at_once : (a u : ℕ) (x : Option FaultAfter) (unit : UnitStatus) (channel : Cha
 at_once a u x unit channel h = grind arith
 
 begin_fine : (m : Machine) (x : Option FaultAfter) (a d : ℕ) (v : Device) (f : First) → IsAt m a d v → v.arm ≡ AtRest → FirstGood (start_of m v.drive) f → AreDistinct m.devices → Fine (idle m) (Sio a) x (started d (idle m) f)
-begin_fine m x a d v BadStart at free g ds = (ds, tt, λ u. (silent (a == u) 0, silent (a == u) _, λ b. absurd (cc)))
+begin_fine m x a d v BadStart at free g ds = (ds, tt, λ u. grind arith)
 begin_fine m x a d v (RejectedStart w) at free g ds = (
   distinct m d (set_drive w) (λ v. refl) ds,
   tt,
-  λ u. (silent (a == u) 0, silent (a == u) _ ∙ ap (λ n. 0 + n) (changed_for m (set_drive w) (λ v. refl) a d v at u (λ b y z. device_owes y ≡ device_owes z) refl (λ y. refl)), λ b. absurd (cc)),
+  λ u. let same = changed_for m (set_drive w) (λ v. refl) a d v at u (λ b y z. device_owes y ≡ device_owes z) refl (λ y. refl) in grind arith,
 )
 begin_fine m x a d v AcceptedStart at free g ds = (
   ds,
@@ -174,20 +155,11 @@ over m d s st e w g ds z = record {
 pub good_stands : (m : Machine) (d : ℕ) (s : Script) (w : Stands m d s) → StandingGood w.seen
 good_stands m d s w = subst RunGood w.stands (good_run (start_of m w.drive.drive) s)
 
--- the CSW that pends is taken
-told_csw : (m : Machine) (p a u : ℕ) (csw : Csw) → address_of m p ≡ a
-    → (cond ((a == u) && tells csw.unit CHANNEL_END) 1 0 + 0 ≡ cond ((address_of m p == u) && tells csw.unit CHANNEL_END) 1 0)
-    × (cond ((a == u) && tells csw.unit DEVICE_END) 1 0 + (0 + device_owes (device_for m u)) ≡ cond ((address_of m p == u) && tells csw.unit DEVICE_END) 1 0 + device_owes (device_for m u))
-told_csw m p a u csw e = (
-  add-zero _ ∙ ap (λ k. cond ((k == u) && tells csw.unit CHANNEL_END) 1 0) (sym e),
-  ap (λ n. cond ((a == u) && tells csw.unit DEVICE_END) 1 0 + n) (zero-add _) ∙ ap (λ k. cond ((k == u) && tells csw.unit DEVICE_END) 1 0 + device_owes (device_for m u)) (sym e),
-)
+
 
 -- The lowest device end.
 
-
-
--- of one device more, which no other device's address has, where it is known of the others by address
+-- of one device more, whose address no other has, where it is known of the others
 lowest_more : (v : Device) (d : ℕ) (arrived : List Device) (at : ℕ → Option Device) → at v.device ≡ None → (lowest arrived ≡ Some d → HasArm Arrived (at d))
     → lowest (cond (has_arrived v) (v ∷ arrived) arrived) ≡ Some d → HasArm Arrived (cond (v.device == d) (Some v) (at d))
 lowest_more v d arrived at apart k h = grind arith
@@ -209,17 +181,15 @@ fine_by m x (Arrives c a d v at k) ds z = (
   arrival_rest m c a d v at k z,
   λ u. (zero-add _, zero-add _ ∙ ap (λ n. channel_owes DEVICE_END u m c + n) (arrival_owes m a d u v at k), λ b. absurd (cc)),
 )
-
 fine_by m x (Clears c k) ds z = reset_fine (with_subchannel c m) m x None ds
-
-fine_by m x (EndAtStart a d v at k) ds z = (distinct m d (set_arm AtRest) (λ v. refl) ds, tt, λ u. (silent (a == u) 0, device_end_told m a d u v at k, λ b. absurd (cc)))
-fine_by m x (EndAtTest a d v at k) ds z = (distinct m d (set_arm AtRest) (λ v. refl) ds, tt, λ u. (silent (a == u) 0, device_end_told m a d u v at k, λ b. absurd (cc)))
+fine_by m x (EndAtStart a d v at k) ds z = (distinct m d (set_arm AtRest) (λ v. refl) ds, tt, λ u. let told = device_end_told m a d u v at k in grind arith)
+fine_by m x (EndAtTest a d v at k) ds z = (distinct m d (set_arm AtRest) (λ v. refl) ds, tt, λ u. let told = device_end_told m a d u v at k in grind arith)
 fine_by m x (EndInterrupts d k) ds z =
     let l = the_arrived (device_at m d) (lowest_found m.devices ds d k) in
-    (distinct m d (set_arm AtRest) (λ v. refl) ds, tt, λ u. (silent (address_of m d == u) 0, device_end_told m (address_of m d) d u l.0 (record { address = refl; is_there = l.1 }) l.2, λ b. absurd (cc)))
+    (distinct m d (set_arm AtRest) (λ v. refl) ds, tt, λ u. let told = device_end_told m (address_of m d) d u l.0 (record { address = refl; is_there = l.1 }) l.2 in grind arith)
 fine_by m x (Starts a v at k f h) ds z = begin_fine m x a (a % 256) v f at k (first_good (start_of m v.drive) f h) ds
-fine_by m x (TestTakes p csw a e) ds z = (ds, tt, λ u. let t = told_csw m p a u csw e in (t.0, t.1, λ b. absurd (cc)))
-fine_by m x (InterruptTakes p csw) ds z = (ds, tt, λ u. let t = told_csw m p (address_of m p) u csw refl in (t.0, t.1, λ b. absurd (cc)))
+fine_by m x (TestTakes p csw a e) ds z = (ds, tt, λ u. grind arith)
+fine_by m x (InterruptTakes p csw) ds z = (ds, tt, λ u. grind arith)
 fine_by m x (Halts d s a w) ds z =
     let o = over m d s w.seen.storage (w.seen.cut (fault_in x)) w ((good_stands m d s w).0 (fault_in x)) ds z in
     (o.apart, o.rest, λ u. (o.channel_end u, o.device_end u, λ b. absurd (cc)))
@@ -229,9 +199,8 @@ fine_by m x (Cuts d s w) ds z =
 fine_by m x (StepEnds d s k w used st e h) ds z =
     let o = over m d s st e w (subst RunGood h (good_run (start_of m w.drive.drive) (s ++ units_with k x))) ds z in
     (o.apart, o.rest, λ u. (o.channel_end u, o.device_end u, λ b. absurd (cc)))
-
 fine_by m x (Asks d s w csw h) ds z =
-    let g : csw.unit ≡ no_unit_status = subst AsksGood h (good_stands m d s w).1 in (ds, z, λ u. rw g (silent (address_of m d == u) _, silent (address_of m d == u) _, λ b. absurd (cc)))
+    let g : csw.unit ≡ no_unit_status = subst AsksGood h (good_stands m d s w).1 in (ds, z, λ u. grind arith)
 fine_by m x y ds z = (ds, z, λ u. grind arith)
 
 pub sound_parts : (m : Machine) (c : Subchannel) → IsSoundIn m c → Runs m c × Rest m c
@@ -278,8 +247,6 @@ ends_pend m es u h = holds_all u (owes_channel_end u m) (owes_device_end u m) es
 
 -- What a sound machine owes.
 
-
-
 arm_most : (y : Option Device) → device_owes y ≤ 1
 arm_most y = grind arith
 
@@ -307,8 +274,6 @@ at_most_once m es u h =
     let few : owes_channel_end u m ≤ 1 = omega arith in
     (most _ _ _ _ few k.0, most _ _ _ _ o.1 k.1)
 
-
-
 pub exactly_once : ExactlyOnce
 exactly_once m es e u h s a =
     let k = rw s at (ends_pend m es u h) in
@@ -329,15 +294,11 @@ idle_sound m h ds = (ds, subst (IsSoundIn m) (sym h) tt)
 
 -- When a start is accepted.
 
-
-
 pub no_start_while_working : NoStartWhileWorking
 no_start_while_working m h a x = go m.subchannel h
   where
     go : (c : Subchannel) → is_working c ≡ true → ◌≡◌ {A = Answer × Machine} (react (Sio a) x (record m { subchannel = c })) (WithCode (cond (a / 256 == m.channel) Two Three), record m { subchannel = c })
     go c h = grind arith
-
-
 
 accepted_idle : (m : Machine) (e : Event) (x : Option FaultAfter) (v : ℕ) → is_accepted v (e, x, (react e x m).0) ≡ true → m.subchannel ≡ Idle
 accepted_idle m e x v h = grind arith

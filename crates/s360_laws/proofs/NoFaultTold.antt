@@ -29,8 +29,6 @@ use Rattle.s360_laws.proofs.StepUnits.{plain_step}
 abbrev Quietly : Option Device → Option Device → Type 0
 Quietly x y = (d e : Device) → x ≡ Some d → y ≡ Some e → GainsNoCheck d.drive e.drive
 
-
-
 same_devices : (x : Option Device) → Quietly x x
 same_devices x d e h k = grind arith
 

@@ -152,17 +152,11 @@ module _ (m : Machine) (x : Option FaultAfter) where
   reacts Idle (Sio a) r = on Idle (Sio a) a _ refl (λ k. at_start a (device_at m (a % 256)) k refl)
   reacts Idle (Tio a) r = on Idle (Tio a) a _ refl (λ k. at_test a (a % 256) (device_at m (a % 256)) k refl)
   reacts Idle (Hio a) r = on Idle (Hio a) a _ refl (λ k. cond_both (is_some (device_at m (a % 256))) _ _ (Reacts m x Idle (Hio a)) (λ k. FreeHalt a) (λ k. Same Idle (Hio a) (WithCode Three) refl tt))
-
   reacts Idle Interrupt r = at_interrupt (lowest (filter has_arrived m.devices)) refl
-
-
   reacts (Pending p csw) (Tio a) r = on (Pending p csw) (Tio a) a _ refl (λ k. cond_both (a % 256 == p) _ _ (Reacts m x (Pending p csw) (Tio a))
       (λ q. TestTakes p csw a (ap (address_of m) (sym (eqb-true _ _ q)) ∙ k)) (λ q. Same (Pending p csw) (Tio a) (WithCode Two) refl tt))
   reacts (Pending p csw) (Hio a) r = on (Pending p csw) (Hio a) a _ refl (λ k. Same (Pending p csw) (Hio a) (WithCode Zero) refl tt)
-
   reacts (Pending p csw) Interrupt r = InterruptTakes p csw
-
-
   reacts (Working d s) (Tio a) r = on (Working d s) (Tio a) a _ refl (λ k. Same (Working d s) (Tio a) (WithCode Two) refl tt)
   reacts (Working d s) (Hio a) r = let w = stands_in m d s r in on (Working d s) (Hio a) a _ refl (λ k. by_run d s (Hio a) w (λ o. (WithCode Two, cut (fault_in x) d (working m d s) o)) (Halts d s a w))
   reacts (Working d s) (StepBy k) r = let w = stands_in m d s r in subst (λ o. Reacts m x (Working d s) (StepBy k) (stepped d s k (working m d s) o)) (sym (run_at m d w.drive (s ++ units_with k x) w.is_there))

@@ -36,8 +36,6 @@ seen_map : (f : Device → Device) (g : ℕ × IdleDrive → ℕ × IdleDrive) �
 seen_map f g h [] = refl
 seen_map f g h (u ∷ us) = ap (λ x. x ∷ map seen (map f us)) (h u) ∙ ap (λ r. g (seen u) ∷ r) (seen_map f g h us)
 
-
-
 arms : (arm : Arm) (device : ℕ) (us : List Device) → map seen (map (λ u. cond (u.device == device) (set_arm arm u) u) us) ≡ map seen us
 arms arm device us = seen_map _ (λ p. p) (λ u. cond_both (u.device == device) (set_arm arm u) u (λ v. seen v ≡ seen u) (λ e. refl) (λ e. refl)) us ∙ map-id (map seen us)
 
@@ -253,8 +251,6 @@ calm r w rest q = q refl
 quiet : (es : List Input) (m : Machine) → Runs m m.subchannel → is_working m.subchannel ≡ false → units_ahead (exchanges es m) ≡ 0
 quiet [] m r w = refl
 quiet (e ∷ es) m r w = calm (reacts m e.1 m.subchannel e.0 r) w (exchanges es (react e.0 e.1 m).1) (quiet es (react e.0 e.1 m).1 (good m e.0 e.1 r).runs)
-
-
 
 pub serial : IsSerial
 serial m [] r w = grind arith

@@ -203,8 +203,6 @@ fetched_met f key p (GoodCcw ccw) =
 cut_slots : (o : Open) (b : List ℕ) → (close None o b).state.volume ≡ (closed_by_cut None o b).state.volume
 cut_slots o b = grind (arith, close_none)
 
-
-
 unit_met : (f : Fault) (key : ℕ) (g : ProgramPhase) → MetOr (meets f key g) f key g (λ x. unit x key g)
 unit_met f key (Between p) = let h = fetched_met f key p (fetch p.storage p.place true) in (λ w. h.0 (grind arith), λ w. h.1 (grind arith))
 unit_met f key (Looking o r) = let h = looked_met f key o r in (λ w. h.0 (grind arith), λ w. h.1 (grind arith))
@@ -292,9 +290,7 @@ goes_unmet : (f : Option Fault) (key : ℕ) (g : ProgramPhase) → NextIs (λ p.
 goes_unmet f key g = elim f as (λ f. NextIs (λ p. unit None key g ≡ GoesOn p) (λ s e. Unit {0}) (unit f key g)) [ None ↦ go LoadFails _ (inl refl) | Some f ↦ go f _ (fault_or_not f key g) ]
   where
     go : (f : Fault) (n : Next) → (n ≡ unit None key g) ⊎ NextByFault f key g n → NextIs (λ p. unit None key g ≡ GoesOn p) (λ s e. Unit {0}) n
-    go f (GoesOn p) (inl e) = sym e
-    go f (GoesOn p) (inr h) = absurd h
-    go f (EndsIn s e) h = tt
+    go f n h = grind arith
 
 -- so what holds where a program goes on without its fault holds where it goes on
 pub unmet_holds : (P : ProgramPhase → Type 0) (f : Option Fault) (key : ℕ) (g : ProgramPhase) → NextIs P (λ s e. Unit {0}) (unit None key g) → NextIs P (λ s e. Unit {0}) (unit f key g)

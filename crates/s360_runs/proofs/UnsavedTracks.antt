@@ -169,8 +169,6 @@ Fresh phase = Unit {0}
 abbrev NextFresh : Next → Type 0
 NextFresh n = NextIs Fresh (λ s e. Unit {0}) n
 
-
-
 moved_fresh : (key : ℕ) (o : Open) (t : Transfer) (u : TransferUnit) → NextFresh (next_moved None key o t u)
 moved_fresh key o t u = grind arith
 
@@ -180,9 +178,7 @@ unit_fresh key (Looking o r) h = go (sighted o) (sight_at o.state.volume.geometr
   where
     go : (s : Sight) → SightAt o.state.registers o.opened s → NextFresh (next_looked None key r (looked None o s))
     go (answer.Found opened) k = let p : Open = record o { opened = opened } in moved_fresh key p (first_transfer r) (transfer_unit key p (first_transfer r))
-    go (answer.IndexPassed q) k = (rw k.1 h.0, h.1)
-    go (answer.NextHead q) k = (rw k h.0, h.1)
-    go (answer.Missed q) k = tt
+    go s k = grind arith
 unit_fresh key (Between p) h = fetched (fetch p.storage p.place true)
   where
     begun_fresh : (r : Request) (b : Beginning) → r.place.residual ≡ r.ccw.count → BeginsAt p.state.registers b → NextFresh (next_begun None key r (begun None p.state b))
