@@ -149,7 +149,7 @@ steps_alike n x =
         (λ h. subst (λ k. Alike x (whole_step k ∷ x)) (sym (eqb-true _ _ h)) (back (no_step x))) (λ h. same (whole_step (n % 65535) ∷ x))
 
 plain_step : (k d : ℕ) (m : Option FaultAfter) (x : List Exchange) → m ≡ None → Alike (whole_step d ∷ x) ((StepBy k, m, Stepped d) ∷ x)
-plain_step k d m x h = subst (λ m. Alike (whole_step d ∷ x) ((StepBy k, m, Stepped d) ∷ x)) (sym h) (record { ahead = refl; script = refl; ends = refl; does = refl })
+plain_step k d m x h = rw h (record { ahead = refl; script = refl; ends = refl; does = refl })
 
 joined : (list : List Exchange) (n : ℕ) → ArePlain list → Alike (steps_joined n list) (whole_step n ∷ list)
 joined [] n h = subst (λ l. Alike l (whole_step n ∷ [])) (append-nil (steps_of n)) (steps_alike n [])

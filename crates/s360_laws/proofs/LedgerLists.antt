@@ -1,7 +1,7 @@
 -- The ledger: each event keeps what is stored and what is owed in balance, and so does a list of events.
 use Rattle.std.proofs.Common.{not, ◌≡◌, ℕ, ◌+◌, refl, sym, ap, ◌∙◌, arith, true, false, Bool, cond, ◌&&◌, ◌==◌, Option, Some, None, zero-add, ◌*◌, ◌/◌, ◌%◌, subst, List, [], ◌∷◌, ◌⊎◌, add-zero, ◌++◌, ◌≤◌, ◌||◌}
 use Rattle.std.proofs.Math.Bool.{and-true}
-use Rattle.std.proofs.lemmas.Bool.{eqb-true, eq-eqb, cond-false, cond-true}
+use Rattle.std.proofs.lemmas.Bool.{eqb-true, eq-eqb}
 use Rattle.std.specs.Prelude.{find, filter, fold}
 use Rattle.s360_words.specs.Storage.{Storage}
 use Rattle.s360_words.specs.declared.flags.ChannelStatus.{ChannelStatus}
@@ -17,10 +17,10 @@ use Rattle.s360_runs.specs.Starts.{first, First, ImmediateStart, BadStart, Rejec
 use Rattle.s360_runs.specs.Status.{tells, normal_end, no_unit_status}
 use Rattle.s360_runs.proofs.EndStatus.{IsGood, RunGood, good_run, AsksGood, StandingGood}
 use Rattle.s360_runs.proofs.FirstUnits.{first_is_unit}
-use Rattle.s360_laws.specs.Events.{Exchange, Event, FaultAfter, Answer, Reset, WasReset, Sio, StatusStored, WithCode, Input, Tio, CswStored, Tch, Interrupt}
+use Rattle.s360_laws.specs.Events.{Exchange, Event, FaultAfter, Answer, Reset, WasReset, Sio, StatusStored, WithCode, Input, Tio, Tch, Interrupt}
 use Rattle.s360_laws.specs.History.{Runs}
 use Rattle.s360_laws.specs.Ledger.{is_reset, is_accepted, stores_end, Since, SinceBeginning, SinceAcceptance, SinceReset, later, counted, due, EndsPend, AtMostOnce, ExactlyOnce, ChannelEndFirst, NoneAfterReset, NoStartWhileWorking, StartsAfterChannelEnd, HeldAnswer, ends_holding, HeldAnswers, HeldUntilStored}
-use Rattle.s360_laws.specs.Machine.{Machine, Subchannel, Idle, Working, address_of, Pending, device_at, Device, with_arm, is_in_motion, at_rest, all_at_rest, with_device, arm_after, start_of, started, lowest, has_arrived, react, ended, fault_in, units_with, exchanges, after_all, is_working, with_subchannel, unsaved_at, test_io, with_csw, with_change}
+use Rattle.s360_laws.specs.Machine.{Machine, Subchannel, Idle, Working, address_of, Pending, device_at, Device, with_arm, is_in_motion, at_rest, all_at_rest, with_device, arm_after, start_of, started, lowest, has_arrived, react, ended, fault_in, units_with, exchanges, after_all, is_working, with_subchannel, unsaved_at, with_change}
 use Rattle.s360_laws.specs.Soundness.{channel_owes, device_owes, device_for, owes_channel_end, owes_device_end, AreDistinct, arm_owes, IsSound, IsSoundIn, StaysSound, IdleIsSound}
 use Rattle.s360_laws.specs.declared.arm.Arm.TheVariants.{AtRest, Arrived, InMotion}
 use Rattle.s360_laws.specs.declared.condition.ConditionCode.TheVariants.{Two, Three}
@@ -314,10 +314,8 @@ starts_after_channel_end m es e u v sound s h =
 
 -- each answer is that of an ending that pends
 held_answer : (m : Machine) (p : ℕ) (csw : Csw) (e : Event) (x : Option FaultAfter) → HeldAnswer m.channel p csw (e, x, (react e x (pending m p csw)).0)
-held_answer m p csw (Sio a) x = λ e. ap (λ (r : Answer × Machine). r.0) (cond-true (a / 256 == m.channel) (WithCode Two, pending m p csw) (WithCode Three, pending m p csw) (eq-eqb _ _ e))
-held_answer m p csw (Tio a) x = λ e other.
-    ap (λ (r : Answer × Machine). r.0) (cond-true (a / 256 == m.channel) (test_io (a % 256) (pending m p csw) (Pending p csw)) (WithCode Three, pending m p csw) (eq-eqb _ _ e)
-    ∙ cond-false (a % 256 == p) (CswStored csw, with_csw csw (idle m)) (WithCode Two, pending m p csw) (different _ _ other))
+held_answer m p csw (Sio a) x = λ e. rw (eq-eqb _ _ e) refl
+held_answer m p csw (Tio a) x = λ e other. rw (eq-eqb _ _ e, different _ _ other) refl
 held_answer m p csw Tch x = refl
 held_answer m p csw Interrupt x = refl
 held_answer m p csw e x = tt

@@ -7,7 +7,6 @@ use Rattle.s360_words.specs.declared.flags.UnitStatus.{UnitStatus}
 use Rattle.s360_words.specs.Storage.{overwritten}
 use Rattle.s360_words.proofs.Overwriting.{length-overwritten}
 use Rattle.ckd_command.specs.declared.registers.Registers.{Registers}
-use Rattle.ckd_command.specs.Answers.{Beginning, Sight}
 use Rattle.ckd_command.specs.Answers as answer
 use Rattle.ckd_command.specs.Commands.{Closing, beginning, sight}
 use Rattle.ckd_command.specs.Drive.{IdleDrive, State, Volume, unsaved, tells_equipment_check, is_written, drive_of, number_under, slot_under, track_under, Fault, LoadFails, SaveFails, left_by, lost, saving, moving_off, with_registers, with_store_fault, Open, Rejected, begin, begun, Failed, look, looked, Closed, failed, close, closed, closed_moving, settled, with_unit_check}
@@ -160,7 +159,7 @@ pub look_loads : (o : Open) → (looks_for_area o ≡ true → look (Some LoadFa
 look_loads o = grind arith
 
 -- what an open command sights of the track under the arm
-abbrev pub sighted : Open → Sight
+abbrev pub sighted : Open → answer.Sight
 sighted o = sight o.state.volume.geometry (track_under o.state) o.opened o.state.registers
 
 -- whether a look meets a fault: it loads, or it saves before the head goes on to the next track
@@ -172,7 +171,7 @@ pub look_fails : (f : Fault) (o : Open) → FailsOr (look_meets f o) f (drive_of
 look_fails LoadFails o = let h = look_loads o in (λ w. (with_store_fault o.state, h.0 w, load_fails o), h.1)
 look_fails (SaveFails left) o = go (sighted o)
   where
-    go : (s : Sight) → FailsOr (goes_to_next_head s && is_written o.state) (SaveFails left) (drive_of o.state) o.state.registers Failed (λ f. looked f o s)
+    go : (s : answer.Sight) → FailsOr (goes_to_next_head s && is_written o.state) (SaveFails left) (drive_of o.state) o.state.registers Failed (λ f. looked f o s)
     go (answer.NextHead r) = leaves_or left o.state o.state.registers _ _ Failed _ refl (same_arm o.state.registers)
     go s = (λ h. absurd (cc), λ h. refl)
 
@@ -182,7 +181,7 @@ look_fails (SaveFails left) o = go (sighted o)
 pub begin_fails : (f : Fault) (code : ℕ) (s : State) → FailsOr (if_save f (leaves_as_it_begins (beginning code s.registers) && is_written s)) f (drive_of s) s.registers Rejected (λ f. begin f code s)
 begin_fails f code s = go f (beginning code s.registers) (beginning_at code s.registers)
   where
-    go : (f : Fault) (b : Beginning) → BeginsAt s.registers b → FailsOr (if_save f (leaves_as_it_begins b && is_written s)) f (drive_of s) s.registers Rejected (λ f. begun f s b)
+    go : (f : Fault) (b : answer.Beginning) → BeginsAt s.registers b → FailsOr (if_save f (leaves_as_it_begins b && is_written s)) f (drive_of s) s.registers Rejected (λ f. begun f s b)
     go (SaveFails left) (answer.ToCylinderZero r None) k = leaves_or left s r _ _ Rejected _ refl k
     go (SaveFails left) (answer.ToCylinderZero r (Some o)) k = leaves_or left s r _ _ Rejected _ refl k.0
     go f b k = (λ h. absurd (grind arith), λ h. grind arith)
@@ -201,6 +200,6 @@ begin_keeps V code s h = grind arith
 pub look_keeps : (V : Volume → Type 0) (o : Open) → V o.state.volume → LookIs (VolumeClosed V) (VolumeIn V) None (look None o)
 look_keeps V o h = go (sighted o)
   where
-    go : (s : Sight) → LookIs (VolumeClosed V) (VolumeIn V) None (looked None o s)
+    go : (s : answer.Sight) → LookIs (VolumeClosed V) (VolumeIn V) None (looked None o s)
     go (answer.Found opened) = (h, rw (close_none (record o { opened = opened })).0 h)
     go s = h

@@ -2,7 +2,7 @@
 use Rattle.std.proofs.Common.{◌≡◌, ◌+◌, ℕ, suc, refl, sym, ap, subst, ◌∙◌, arith, true, false, Bool, cond, not, ◌&&◌, ◌||◌, List, [], ◌∷◌, ◌++◌, Option, Some, None, ◌⊎◌, inl, inr}
 use Rattle.std.specs.Prelude.{◌==◌, bit_and}
 use Rattle.std.proofs.Math.Bool.{and-false}
-use Rattle.std.proofs.lemmas.Bool.{cond_both, eqb-true, not-false}
+use Rattle.std.proofs.lemmas.Bool.{eqb-true, not-false}
 use Rattle.std.proofs.lemmas.Nat.{and_or_apart}
 use Rattle.s360_words.specs.Storage.{Storage}
 use Rattle.s360_words.specs.Words.{has, chains_command}
@@ -10,10 +10,9 @@ use Rattle.s360_words.specs.declared.flags.ChannelStatus.{ChannelStatus}
 use Rattle.s360_words.specs.declared.flags.TheConstants.ChannelStatus.{INCORRECT_LENGTH, PROGRAM_CHECK}
 use Rattle.s360_words.specs.declared.flags.TheConstants.UnitStatus.{UNIT_CHECK}
 use Rattle.s360_words.specs.declared.flags.UnitStatus.{UnitStatus}
-use Rattle.ckd_command.specs.Answers.{Beginning, Sight}
 use Rattle.ckd_command.specs.Answers as answer
 use Rattle.ckd_command.specs.Commands.{beginning}
-use Rattle.ckd_command.specs.Drive.{Fault, Closed, begun, looked, track_under, with_registers, close, Open, look, AfterLook, State, Failed, Passed, Ready, AfterBegin, Rejected, Immediate, Started, begin, is_written, length_of, settled, LoadFails, SaveFails, with_unit_check}
+use Rattle.ckd_command.specs.Drive.{Fault, Closed, begun, looked, track_under, with_registers, close, Open, look, AfterLook, State, Failed, Passed, Ready, AfterBegin, Rejected, Immediate, Started, begin, is_written, settled, LoadFails, SaveFails, with_unit_check}
 use Rattle.ckd_command.proofs.Arms.{AtSameTrack, BeginsAt, SightAt, beginning_at, sight_at}
 use Rattle.s360_runs.specs.Commands.{Ends, choice, past_modifier, Point, Chains, completed, goes_on_chaining, length_status, requested}
 use Rattle.s360_runs.specs.Endings.{Ending, ending, settled_ending, failed, immediate, untouched, closed_by_cut}
@@ -24,7 +23,7 @@ use Rattle.s360_runs.specs.Runs.{Start, run, start_point}
 use Rattle.s360_runs.specs.Scripts.{Script, OneUnit, units_in}
 use Rattle.s360_runs.specs.Status.{tells, beside, with_interruption, no_channel_status}
 use Rattle.s360_runs.specs.StoreCalls.{closing_of, ends_written_begun, ends_written_by, ends_written_fetched, ends_written_looked, ends_written_moved, leaves_fetched, leaves_moved, meets, saves_by_cut}
-use Rattle.s360_runs.specs.Transfers.{Request, Transfer, request_of, Stops, TransferUnit, Moves, Completes, transfer_unit, first_transfer, is_incorrect_length}
+use Rattle.s360_runs.specs.Transfers.{Request, Transfer, request_of, Stops, TransferUnit, Moves, Completes, transfer_unit, first_transfer}
 use Rattle.s360_runs.specs.Units.{unit, Next, EndsIn, next_chosen, next_moved, next_looked, next_begun, next_fetched, Between, Looking, Moving, ProgramPhase, standing_in, state_in, StandsAt, outcome_of, on_next, walk, GoesOn, StandsIn, phase_past, Walk}
 use Rattle.s360_runs.proofs.DriveFacts.{Fails, FailsOr, StaysWritten, begin_fails, close_end, close_fails, close_none, close_stays, empty_stays, if_save, immediate_end, joins_check, joins_end, look_fails, look_meets, lost_fails, same_arm, saving_or, settle_again, sighted}
 use Rattle.s360_runs.proofs.Units.{BegunIs, FitsCheck, NextIs, UnitIs, unit_is}
@@ -42,7 +41,7 @@ no_length unit asked channel u h = go asked (beside unit channel) (ap (λ b. has
 
 -- the status of a command that is complete
 length_fits : (o : Open) (t : Transfer) (c : Closed) → FitsCheck (length_status o t c)
-length_fits o t c = cond_both (not (tells c.unit UNIT_CHECK) && is_incorrect_length (length_of o t.bytes) t) INCORRECT_LENGTH no_channel_status FitsCheck (λ e. refl) (λ e. refl)
+length_fits o t c = grind arith
 
 -- Endings by a fault.
 
@@ -150,7 +149,7 @@ LookMay key o r (Ready p) = p.state ≡ o.state
 look_may : (key : ℕ) (o : Open) (r : Request) → LookMay key o r (look None o)
 look_may key o r = go (sighted o) (sight_at o.state.volume.geometry (track_under o.state) o.opened o.state.registers)
   where
-    go : (s : Sight) → SightAt o.state.registers o.opened s → LookMay key o r (looked None o s)
+    go : (s : answer.Sight) → SightAt o.state.registers o.opened s → LookMay key o r (looked None o s)
     go (answer.Missed q) k = failed_may key (Looking o r) (with_registers o.state q) refl k
     go s k = grind arith
 
@@ -176,7 +175,7 @@ looked_met f key o r =
 begin_may : (key : ℕ) (p : Point) (code : ℕ) → BegunIs (MayLose key (Between p)) (λ s. Unit {0}) (begin None code p.state)
 begin_may key p code = go (beginning code p.state.registers) (beginning_at code p.state.registers)
   where
-    go : (b : Beginning) → BeginsAt p.state.registers b → BegunIs (MayLose key (Between p)) (λ s. Unit {0}) (begun None p.state b)
+    go : (b : answer.Beginning) → BeginsAt p.state.registers b → BegunIs (MayLose key (Between p)) (λ s. Unit {0}) (begun None p.state b)
     go (answer.Rejected r) k = failed_may key (Between p) (with_registers p.state r) refl k
     go (answer.Immediate r) k = record { slots = refl; ends = immediate_end p.state false; stays = λ w. record { motion = refl; arm = k } }
     go (answer.ToCylinderZero r None) k = record { slots = refl; ends = immediate_end p.state true; stays = λ w. absurd (cc) }

@@ -9,7 +9,6 @@ use Rattle.s360_words.specs.declared.words.Caw.{Caw}
 use Rattle.ckd_sense.specs.declared.sense_bytes.TheConstants.Sense.{ZERO, STORE_FAULT}
 use Rattle.ckd_sense.specs.SenseBytes.{joined}
 use Rattle.ckd_sense.specs.declared.sense_bytes.Sense.{Sense}
-use Rattle.ckd_command.specs.Answers.{Beginning, Sight}
 use Rattle.ckd_command.specs.Answers as answer
 use Rattle.ckd_command.specs.Commands.{beginning}
 use Rattle.ckd_command.specs.Drive.{Fault, LoadFails, IdleDrive, Closed, unsaved, close, Open, look, looked, AfterLook, State, Failed, Passed, Ready, AfterBegin, Started, begin, begun, begin_program, state_of, is_written, tells_equipment_check, track_under, with_store_fault}
@@ -176,14 +175,12 @@ unit_fresh : (key : ℕ) (g : ProgramPhase) → Fresh g → NextFresh (unit None
 unit_fresh key (Moving o t) h = moved_fresh key o t (transfer_unit key o t)
 unit_fresh key (Looking o r) h = go (sighted o) (sight_at o.state.volume.geometry (track_under o.state) o.opened o.state.registers)
   where
-    go : (s : Sight) → SightAt o.state.registers o.opened s → NextFresh (next_looked None key r (looked None o s))
+    go : (s : answer.Sight) → SightAt o.state.registers o.opened s → NextFresh (next_looked None key r (looked None o s))
     go (answer.Found opened) k = let p : Open = record o { opened = opened } in moved_fresh key p (first_transfer r) (transfer_unit key p (first_transfer r))
     go s k = grind arith
 unit_fresh key (Between p) h = fetched (fetch p.storage p.place true)
   where
-    begun_fresh : (r : Request) (b : Beginning) → r.place.residual ≡ r.ccw.count → BeginsAt p.state.registers b → NextFresh (next_begun None key r (begun None p.state b))
-    begun_fresh r (answer.Started q o) e k = (k.1, e)
-    begun_fresh r (answer.ToCylinderZero q (Some o)) e k = (k.1, e)
+    begun_fresh : (r : Request) (b : answer.Beginning) → r.place.residual ≡ r.ccw.count → BeginsAt p.state.registers b → NextFresh (next_begun None key r (begun None p.state b))
     begun_fresh r b e k = grind arith
 
     fetched : (w : Fetched) → NextFresh (next_fetched None key p w)

@@ -4,9 +4,9 @@ use Rattle.std.proofs.lemmas.Bool.{and_from, both_ways, eq-eqb, or_parts, or_rig
 use Rattle.std.specs.Prelude.{is_some}
 use Rattle.s360_words.specs.declared.words.Caw.{Caw}
 use Rattle.ckd_track.specs.Track.{Track}
+use Rattle.ckd_command.specs.Answers as answer
 use Rattle.ckd_command.specs.Commands.{beginning}
 use Rattle.ckd_command.specs.Drive.{Volume, State, Fault, LoadFails, SaveFails, number_under, track_number, is_written, Open, state_of, close, closed, begin, look, looked}
-use Rattle.ckd_command.specs.Answers.{Beginning, Sight}
 use Rattle.s360_runs.specs.Faults.{LosesAtMost, NextByFault, cut_drive}
 use Rattle.s360_runs.specs.Laws.{walked_on}
 use Rattle.s360_runs.specs.Runs.{Start, start_point}
@@ -23,7 +23,6 @@ use Rattle.s360_runs.proofs.FaultsMet.{cut_next, cut_or_not, fault_or_not, unmet
 use Rattle.s360_runs.proofs.Units.{NextHas, OpenIs, WalkIs, past_state, phase_holds, run_holds, BegunIs, LookIs, begun_holds, choice_holds, looked_holds}
 use Rattle.s360_runs.proofs.UnsavedTracks.{unsaved_was_written}
 use Rattle.s360_runs.proofs.Walks.{walks_on}
-use Rattle.ckd_command.specs.Answers as answer
 
 -- this track has these bytes still, and the volume its geometry
 abbrev Kept : ℕ → Volume → Volume → Type 0
@@ -149,7 +148,7 @@ moved_marked key o t u = grind arith
 look_marked : (o : Open) → let w = cond (leaves_looking o) false (is_written o.state) in LookIs (λ c. Is w c.state) (Is w) None (look None o)
 look_marked o = go (sighted o)
   where
-    go : (s : Sight) → let w = cond (goes_to_next_head s) false (is_written o.state) in LookIs (λ c. Is w c.state) (Is w) None (looked None o s)
+    go : (s : answer.Sight) → let w = cond (goes_to_next_head s) false (is_written o.state) in LookIs (λ c. Is w c.state) (Is w) None (looked None o s)
     go (answer.Found opened) = (refl, (close_none (record o { opened = opened })).1)
     go s = refl
 
