@@ -1,16 +1,15 @@
 -- The acts of the serial list are the acts of the list.
-use Rattle.std.proofs.Common.{◌≡◌, ℕ, zero, suc, ◌+◌, ◌*◌, ◌/◌, ◌%◌, refl, sym, ap, subst, ◌∙◌, arith, true, false, Bool, not, ◌&&◌, ◌||◌, ◌==◌, List, [], ◌∷◌, ◌++◌, Option, Some, None, zero-add, append_assoc, append-nil, cond}
+use Rattle.std.proofs.Common.{◌≡◌, ℕ, zero, suc, ◌+◌, ◌*◌, ◌/◌, ◌%◌, refl, sym, ap, subst, ◌∙◌, arith, true, false, Bool, not, ◌&&◌, ◌||◌, ◌==◌, List, [], ◌∷◌, ◌++◌, Option, None, append_assoc, append-nil, cond}
 use Rattle.std.proofs.lemmas.Bool.{and_parts, cond_both, eqb-true, not-false}
 use Rattle.std.specs.Prelude.{replicate, filter}
-use Rattle.s360_words.specs.Storage.{Change, csw_stored, Bytes, KeyOf}
+use Rattle.s360_words.specs.Storage.{Change}
 use Rattle.s360_words.specs.declared.flags.UnitStatus.{UnitStatus}
-use Rattle.s360_runs.specs.Scripts.{units, OneUnit}
+use Rattle.s360_runs.specs.Scripts.{units}
 use Rattle.s360_laws.specs.Arms.{arrives}
-use Rattle.s360_laws.specs.Events.{Exchange, Hio, WithCode, Reset, Sio, StepBy, Stepped, Interrupt, Interrupted, Store, WasKept, SetKey, Tio, Tch, HasArrived, Arrive, Show, FaultAfter, CswStored, StatusStored}
-use Rattle.s360_laws.specs.History.{units_ahead, script_ahead, fate_ahead, acts, own_change, where_over, Changes, acts_of, Program, turns_of}
+use Rattle.s360_laws.specs.Events.{Exchange, StepBy, Stepped, FaultAfter}
+use Rattle.s360_laws.specs.History.{units_ahead, script_ahead, fate_ahead, acts, own_change, where_over, Changes, acts_of, turns_of}
 use Rattle.s360_laws.specs.Ledger.{is_reset, is_accepted, stores_end}
 use Rattle.s360_laws.specs.SerialLists.{changes_nothing, is_arrival, arrivals_last, steps_ahead, is_step, is_between, whole_step, steps_of, ArePlain, steps_joined, SameActs}
-use Rattle.s360_laws.specs.declared.condition.ConditionCode.TheVariants.{Two, Zero}
 use Rattle.s360_laws.proofs.StepUnits.{no_units, step_script, same_script, plain_two}
 
 pub record Alike (x y : List Exchange) : Type 0 where
@@ -31,29 +30,16 @@ back p = record { ahead = sym p.ahead; script = sym p.script; ends = sym p.ends;
 -- behind an event.
 
 units_behind : (t : Exchange) (x y : List Exchange) → units_ahead x ≡ units_ahead y → units_ahead (t ∷ x) ≡ units_ahead (t ∷ y)
-units_behind (Hio a, m, WithCode Two) x y h = refl
-units_behind (Reset, m, r) x y h = refl
-units_behind (Sio a, m, WithCode Zero) x y h = refl
-units_behind (StepBy k, m, Stepped d) x y h = ap (λ n. d + n) h
-units_behind t x y h = h
+units_behind t x y h = grind arith
 
 fate_behind : (t : Exchange) (x y : List Exchange) → fate_ahead x ≡ fate_ahead y → fate_ahead (t ∷ x) ≡ fate_ahead (t ∷ y)
-fate_behind (Hio a, m, WithCode Two) x y h = refl
-fate_behind (Reset, m, r) x y h = refl
-fate_behind (Sio a, m, WithCode Zero) x y h = refl
-fate_behind t x y h = h
+fate_behind t x y h = grind arith
 
 owns : (c : Change) (x y : List Exchange) → units_ahead x ≡ units_ahead y → own_change x c ≡ own_change y c
 owns c x y h = ap (λ n. where_over n (Changes c ∷ []) []) h
 
 act_behind : (t : Exchange) (x y : List Exchange) → Alike x y → acts_of t x ≡ acts_of t y
-act_behind (Sio a, m, WithCode Zero) x y h = ap (λ s. Program (a % 256) (OneUnit None ∷ s) (fate_ahead x) ∷ []) h.script ∙ ap (λ f. Program (a % 256) (OneUnit None ∷ script_ahead y) f ∷ []) h.ends
-act_behind (Interrupt, m, Interrupted (Some i)) x y h = owns (csw_stored i.1) x y h.ahead
-act_behind (Store at bytes, m, WasKept true) x y h = owns (Bytes at bytes) x y h.ahead
-act_behind (SetKey at key, m, WasKept true) x y h = owns (KeyOf at key) x y h.ahead
-act_behind (Tio a, m, CswStored csw) x y h = refl
-act_behind (Hio a, m, StatusStored unit channel) x y h = refl
-act_behind t x y h = refl
+act_behind t x y h = grind arith
 
 behind : (t : Exchange) (x y : List Exchange) → Alike x y → Alike (t ∷ x) (t ∷ y)
 behind t x y h = record {
@@ -83,19 +69,7 @@ Unmoved t = ((u : ℕ) → (is_reset t ≡ false) × (is_accepted u t ≡ false)
     × ((x : List Exchange) → Alike (t ∷ x) x)
 
 pub unmoved : (t : Exchange) → changes_nothing t ≡ true → Unmoved t
-unmoved (Sio a, m, WithCode Zero) h = absurd (cc)
-unmoved (Sio a, m, WithCode code) h = (λ u. (refl, refl, λ end. refl, refl), λ x. gone x (Sio a, m, WithCode code) refl refl refl refl)
-unmoved (Tio a, m, WithCode n) h = (λ u. (refl, refl, λ end. refl, refl), λ x. gone x (Tio a, m, WithCode n) refl refl refl refl)
-unmoved (Hio a, m, WithCode Two) h = absurd (cc)
-unmoved (Hio a, m, WithCode code) h = (λ u. (refl, refl, λ end. refl, refl), λ x. gone x (Hio a, m, WithCode code) refl refl refl refl)
-unmoved (Tch, m, r) h = (λ u. (refl, refl, λ end. refl, refl), λ x. gone x (Tch, m, r) refl refl refl refl)
-unmoved (StepBy k, m, Stepped zero) h = (λ u. (refl, refl, λ end. refl, refl), λ x. gone x (StepBy k, m, Stepped zero) (zero-add (units_ahead x)) (no_units 0 m refl) refl refl)
-unmoved (Arrive a, m, HasArrived false) h = (λ u. (refl, refl, λ end. refl, refl), λ x. gone x (Arrive a, m, HasArrived false) refl refl refl refl)
-unmoved (Interrupt, m, Interrupted None) h = (λ u. (refl, refl, λ end. refl, refl), λ x. gone x (Interrupt, m, Interrupted None) refl refl refl refl)
-unmoved (Store at bytes, m, WasKept false) h = (λ u. (refl, refl, λ end. refl, refl), λ x. gone x (Store at bytes, m, WasKept false) refl refl refl refl)
-unmoved (SetKey at key, m, WasKept false) h = (λ u. (refl, refl, λ end. refl, refl), λ x. gone x (SetKey at key, m, WasKept false) refl refl refl refl)
-unmoved (Show at len, m, r) h = (λ u. (refl, refl, λ end. refl, refl), λ x. gone x (Show at len, m, r) refl refl refl refl)
-unmoved t h = absurd (cc)
+unmoved t h = (λ u. (grind arith, grind arith, λ end. grind arith, grind arith), λ x. gone x t (grind arith) (grind (arith, no_units)) (grind arith) (grind arith))
 
 -- alike, and of plain exchanges
 abbrev Plainly : List Exchange → List Exchange → Type 0
@@ -111,8 +85,7 @@ filtered (t ∷ list) h =
 -- Arrivals.
 
 pub arrival_gone : (t : Exchange) (x : List Exchange) → is_arrival t ≡ true → Alike (t ∷ x) x
-arrival_gone (Arrive a, m, r) x h = gone x (Arrive a, m, r) refl refl refl refl
-arrival_gone t x h = absurd (cc)
+arrival_gone t x h = gone x t (grind arith) (grind arith) (grind arith) (grind arith)
 
 -- arrivals that are held back
 abbrev AreArrivals : List Exchange → Type 0
@@ -163,7 +136,7 @@ many (suc q) n x =
 steps_alike : (n : ℕ) (x : List Exchange) → Alike (steps_of n ++ x) (whole_step n ∷ x)
 steps_alike n x =
     let all : n / 65535 * 65535 + n % 65535 ≡ n = omega arith in
-    subst (λ l. Alike l (whole_step n ∷ x)) (sym (append_assoc (replicate (n / 65535) (whole_step 65535)) last x))
+    rw (append_assoc (replicate (n / 65535) (whole_step 65535)) last x)
     (subst (λ k. Alike (replicate (n / 65535) (whole_step 65535) ++ (last ++ x)) (whole_step k ∷ x)) all
     (then (all_behind (replicate (n / 65535) (whole_step 65535)) (last ++ x) (whole_step (n % 65535) ∷ x) last_alike)
     (then (many (n / 65535) 65535 (whole_step (n % 65535) ∷ x)) (two_steps (n / 65535 * 65535) (n % 65535) x))))
@@ -176,7 +149,7 @@ steps_alike n x =
         (λ h. subst (λ k. Alike x (whole_step k ∷ x)) (sym (eqb-true _ _ h)) (back (no_step x))) (λ h. same (whole_step (n % 65535) ∷ x))
 
 plain_step : (k d : ℕ) (m : Option FaultAfter) (x : List Exchange) → m ≡ None → Alike (whole_step d ∷ x) ((StepBy k, m, Stepped d) ∷ x)
-plain_step k d m x h = subst (λ m. Alike (whole_step d ∷ x) ((StepBy k, m, Stepped d) ∷ x)) (sym h) (record { ahead = refl; script = refl; ends = refl; does = refl })
+plain_step k d m x h = rw h (record { ahead = refl; script = refl; ends = refl; does = refl })
 
 joined : (list : List Exchange) (n : ℕ) → ArePlain list → Alike (steps_joined n list) (whole_step n ∷ list)
 joined [] n h = subst (λ l. Alike l (whole_step n ∷ [])) (append-nil (steps_of n)) (steps_alike n [])

@@ -1,6 +1,6 @@
 -- Numbers, tests and devices that are found by their addresses; and a machine in each state of its subchannel.
 use Rattle.std.proofs.Common.{subst, ◌≡◌, ℕ, ◌+◌, ◌*◌, ◌/◌, ◌%◌, refl, sym, ap, ◌∙◌, arith, true, false, Bool, cond, ◌==◌, List, [], ◌∷◌, map, Option, Some, None}
-use Rattle.std.proofs.lemmas.Bool.{ne_eqb, eq-eqb, eqb-true, eqb-false, cond_both}
+use Rattle.std.proofs.lemmas.Bool.{ne_eqb, eqb-true, cond_both}
 use Rattle.std.specs.Prelude.{find, option_map}
 use Rattle.s360_words.specs.declared.words.Csw.{Csw}
 use Rattle.ckd_command.specs.Drive.{IdleDrive}
@@ -16,14 +16,6 @@ use Rattle.s360_laws.specs.declared.arm.Arm.{Arm}
 pub different : (a b : ℕ) → (a ≡ b → ⊥) → (a == b) ≡ false
 different a b f = ne_eqb a b f
 
--- two tests of numbers that hold together
-same_test : (a b c d : ℕ) → (a ≡ b → c ≡ d) → (c ≡ d → a ≡ b) → (a == b) ≡ (c == d)
-same_test a b c d f g = go (c == d) refl
-  where
-    go : (r : Bool) → (c == d) ≡ r → (a == b) ≡ r
-    go true h = eq-eqb _ _ (g (eqb-true c d h))
-    go false h = ne_eqb _ _ (λ e. eqb-false c d h (f e))
-
 -- Finding devices.
 
 abbrev pub Has : (Device → Bool) → Option Device → Type 0
@@ -37,12 +29,11 @@ has_found p (v ∷ vs) = cond_both (p v) (Some v) (find p vs) (Has p) (λ e. e) 
 -- what is found passes the test
 pub found_is : {X : Type 0} (p : X → Bool) (xs : List X) (x : X) → find p xs ≡ Some x → p x ≡ true
 found_is p [] x h = absurd (cc)
-found_is p (y ∷ ys) x h = cond_both (p y) (Some y) (find p ys) (λ o. o ≡ Some x → p x ≡ true)
-    (λ e q. let same : y ≡ x = cc in sym (ap p same) ∙ e) (λ e q. found_is p ys x q) h
+found_is p (y ∷ ys) x h = grind (arith, found_is p ys x)
 
 pub found_same : (n d : ℕ) (vs : List Device) → find (λ v. 256 * n + v.device == 256 * n + d) vs ≡ find (λ v. v.device == d) vs
 found_same n d [] = refl
-found_same n d (v ∷ vs) = ap (λ b. cond b (Some v) (find (λ v. 256 * n + v.device == 256 * n + d) vs)) (same_test (256 * n + v.device) (256 * n + d) v.device d (λ e. omega arith) (ap (λ k. 256 * n + k))) ∙ ap (λ r. cond (v.device == d) (Some v) r) (found_same n d vs)
+found_same n d (v ∷ vs) = let same : (256 * n + v.device == 256 * n + d) ≡ (v.device == d) = grind arith in rw (same, found_same n d vs) refl
 
 -- a change of devices that keeps their addresses
 abbrev pub Keeps : (Device → Device) → Type 0
@@ -51,11 +42,7 @@ Keeps g = (v : Device) → (g v).device ≡ v.device
 -- what is found of a list that was changed element by element
 pub find_map : {X Y : Type 0} (p : Y → Bool) (q : X → Bool) (g : X → Y) → ((x : X) → p (g x) ≡ q x) → (xs : List X) → find p (map g xs) ≡ option_map g (find q xs)
 find_map p q g k [] = refl
-find_map {X} {Y} p q g k (x ∷ xs) = ap (λ b. cond b (Some (g x)) (find p (map g xs))) (k x) ∙ go (q x) (find_map p q g k xs)
-  where
-    go : (b : Bool) {y : Option Y} → y ≡ option_map g (find q xs) → cond b (Some (g x)) y ≡ option_map g (cond b (Some x) (find q xs))
-    go true h = refl
-    go false h = h
+find_map p q g k (x ∷ xs) = let here = k x in let rest = find_map p q g k xs in grind arith
 
 pub found_map : (p : ℕ → Bool) (g : Device → Device) → Keeps g → (vs : List Device) → find (λ w. p w.device) (map g vs) ≡ option_map g (find (λ w. p w.device) vs)
 found_map p g k vs = find_map (λ w. p w.device) (λ w. p w.device) g (λ v. ap p (k v)) vs
@@ -64,6 +51,10 @@ pub distinct_map : (g : Device → Device) → Keeps g → (vs : List Device) �
 distinct_map g k [] h = tt
 distinct_map g k (v ∷ vs) h =
     (ap (λ d. find (λ w. w.device == d) (map g vs)) (k v) ∙ found_map (λ d. d == v.device) g k vs ∙ ap (option_map g) h.0, distinct_map g k vs h.1)
+
+-- the arm of a device is this one
+abbrev pub HasArm : Arm → Option Device → Type 0
+HasArm arm y = option_map (λ v. v.arm) y ≡ Some arm
 
 abbrev pub set_arm : Arm → Device → Device
 set_arm arm v = record v { arm = arm }

@@ -1,5 +1,6 @@
 -- A slot that no program of a list may write keeps its bytes.
-use Rattle.std.proofs.Common.{◌≡◌, ℕ, refl, ap, subst, sym, ◌∙◌, true, false, Bool, cond, ◌&&◌, ◌==◌, List, [], ◌∷◌, map, Option, Some, None}
+use Rattle.std.proofs.Common.{arith, ◌≡◌, ℕ, refl, ap, subst, sym, ◌∙◌, true, false, cond, ◌&&◌, ◌==◌, List, [], ◌∷◌, map, Option, Some, None}
+use Rattle.std.proofs.Math.Bool.{and-false}
 use Rattle.std.proofs.lemmas.Bool.{cond_both, eqb-true, or_parts, eq-eqb}
 use Rattle.std.specs.Prelude.{find, option_map}
 use Rattle.s360_words.specs.Words.{caw_of}
@@ -10,7 +11,7 @@ use Rattle.s360_runs.specs.Laws.{IsFirstUnit}
 use Rattle.s360_runs.specs.Runs.{Start, run, start_point, run_from}
 use Rattle.s360_runs.specs.Scripts.{Script, units}
 use Rattle.s360_runs.specs.Starts.{First, RejectedStart, first}
-use Rattle.s360_runs.specs.Units.{Next, GoesOn, EndsIn, Between, unit, walk, outcome_of, on_next}
+use Rattle.s360_runs.specs.Units.{Next, Between, unit, walk, outcome_of, on_next}
 use Rattle.s360_runs.specs.Writes.{OutcomeKeeps, slot_in, NextKeeps}
 use Rattle.s360_runs.proofs.FirstUnits.{first_is_unit}
 use Rattle.s360_runs.proofs.Walks.{run_walk}
@@ -34,12 +35,8 @@ slot track d = option_map (λ d. slot_in d.1.volume track) d
 
 with_slot : (track device p : ℕ) (drive : IdleDrive) (ds : Drives) (d : ℕ × IdleDrive) → at p ds ≡ Some d → ((p == device) ≡ true → slot_in drive.volume track ≡ slot_in d.1.volume track)
     → slot track (at device (with_drive p drive ds)) ≡ slot track (at device ds)
-with_slot track device p drive ds d is k = ap (slot track) (find_map (λ d. d.0 == device) (λ d. d.0 == device) (λ d. cond (d.0 == p) (d.0, drive) d) (λ d. number d (d.0 == p)) ds) ∙ go (at device ds) refl
+with_slot track device p drive ds d is k = ap (slot track) (find_map (λ d. d.0 == device) (λ d. d.0 == device) (λ d. cond (d.0 == p) (d.0, drive) d) (λ d. grind arith) ds) ∙ go (at device ds) refl
   where
-    number : (d : ℕ × IdleDrive) (b : Bool) → ((cond b (d.0, drive) d).0 == device) ≡ (d.0 == device)
-    number d true = refl
-    number d false = refl
-
     go : (y : Option (ℕ × IdleDrive)) → at device ds ≡ y → slot track (option_map (λ d. cond (d.0 == p) (d.0, drive) d) y) ≡ slot track y
     go None e = refl
     go (Some c) e = cond_both (c.0 == p) (c.0, drive) c (λ b. Some (slot_in b.1.volume track) ≡ Some (slot_in c.1.volume track)) here (λ q. refl)
@@ -53,11 +50,9 @@ with_slot track device p drive ds d is k = ap (slot track) (find_map (λ d. d.0 
 
 -- a change of sense bytes
 cleared : (track device : ℕ) (ds : Drives) → slot track (at device (map (λ d. (d.0, record d.1 { sense = no_sense })) ds)) ≡ slot track (at device ds)
-cleared track device ds = ap (slot track) (find_map (λ d. d.0 == device) (λ d. d.0 == device) (λ d. (d.0, record d.1 { sense = no_sense })) (λ d. refl) ds) ∙ go (at device ds)
-  where
-    go : (y : Option (ℕ × IdleDrive)) → slot track (option_map (λ d. (d.0, record d.1 { sense = no_sense })) y) ≡ slot track y
-    go None = refl
-    go (Some d) = refl
+cleared track device ds =
+    let same = find_map (λ (d : ℕ × IdleDrive). d.0 == device) (λ d. d.0 == device) (λ (d : ℕ × IdleDrive). (d.0, record d.1 { sense = no_sense })) (λ d. refl) ds in
+    grind arith
 
 -- A command that is rejected is over in the first unit, before which nothing is written.
 
@@ -66,19 +61,14 @@ first_keeps s drive track h = from (caw_of s.caw) (subst (λ f. IsFirstUnit s f 
   where
     by_unit : (caw : Caw) (n : Next) (e : Ending) → NextKeeps track s.drive.volume n → outcome_of (units 1) caw.key (on_next [] n (walk [] caw.key)) ≡ Ended 1 s.storage e
         → slot_in e.drive.volume track ≡ slot_in s.drive.volume track
-    by_unit caw (GoesOn p) e k q = absurd (cc)
-    by_unit caw (EndsIn st f) e k q = let same : f ≡ e = cc in subst (λ e. slot_in e.drive.volume track ≡ slot_in s.drive.volume track) same k
-
-    none : (b : Bool) → (b && false) ≡ false
-    none true = refl
-    none false = refl
+    by_unit caw n e k q = grind arith
 
     from : (c : Option Caw) → IsFirstUnit s (RejectedStart drive) (run_from (units 1) s c) → slot_in drive.volume track ≡ slot_in s.drive.volume track
     from None r = let q = r.1 in absurd (cc)
     from (Some caw) r =
         let begun = Between (start_point caw s) in
         ap (λ d. slot_in d.volume track) (sym r.3)
-        ∙ by_unit caw (unit None caw.key begun) r.0 (writes_under_arm s caw [] begun None track refl (none _)).by_unit (sym (run_walk s caw (units 1)) ∙ r.1)
+        ∙ by_unit caw (unit None caw.key begun) r.0 (writes_under_arm s caw [] begun None track refl (and-false _)).by_unit (sym (run_walk s caw (units 1)) ∙ r.1)
 
 program_keeps : (w : World) (p device track : ℕ) (script : Script) (fate : Fate) (y : Option (ℕ × IdleDrive)) → drive_in w p ≡ y → ((p == device) && program_writes w track script y) ≡ false
     → slot track (at device (after_program w p script fate y).drives) ≡ slot track (at device w.drives)
@@ -87,8 +77,7 @@ program_keeps w p device track script fate (Some d) e h =
     go fate (run script (start_in w d.1)) (λ k. run_keeps (start_in w d.1) script track (subst (λ b. (b && program_writes w track script (Some d)) ≡ false) k h))
   where
     go : (fate : Fate) (o : Outcome) → ((p == device) ≡ true → OutcomeKeeps track d.1.volume o) → slot track (at device (after_run w p fate o).drives) ≡ slot track (at device w.drives)
-    go ByItself (Ended used s z) k = with_slot track device p z.drive w.drives d e k
-    go (IsCut fault) (Ended used s z) k = with_slot track device p z.drive w.drives d e k
+    go fate (Ended used s z) k = with_slot track device p z.drive w.drives d e k
     go (IsCut fault) (NotEnded seen) k = with_slot track device p (seen.cut fault).drive w.drives d e (λ l. k l fault)
     go ByItself (NotEnded seen) k = refl
 

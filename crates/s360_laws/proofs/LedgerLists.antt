@@ -1,9 +1,9 @@
 -- The ledger: each event keeps what is stored and what is owed in balance, and so does a list of events.
-use Rattle.std.proofs.Common.{not, ◌≡◌, ℕ, ◌+◌, refl, sym, ap, ◌∙◌, arith, true, false, Bool, cond, ◌&&◌, ◌==◌, Option, Some, None, zero-add, ◌*◌, ◌/◌, ◌%◌, subst, List, [], ◌∷◌, ◌⊎◌, inl, inr, add-zero, ◌++◌, ◌≤◌, ◌||◌}
+use Rattle.std.proofs.Common.{not, ◌≡◌, ℕ, ◌+◌, refl, sym, ap, ◌∙◌, arith, true, false, Bool, cond, ◌&&◌, ◌==◌, Option, Some, None, zero-add, ◌*◌, ◌/◌, ◌%◌, subst, List, [], ◌∷◌, ◌⊎◌, add-zero, ◌++◌, ◌≤◌, ◌||◌}
 use Rattle.std.proofs.Math.Bool.{and-true}
-use Rattle.std.proofs.lemmas.Bool.{cond_both, eqb-true, ne_eqb, eq-eqb, false≢true, and_from, cond-false, cond-true}
-use Rattle.std.specs.Prelude.{option_map, find, filter, nat_lt, fold}
-use Rattle.s360_words.specs.Storage.{Storage, Bytes, KeyOf}
+use Rattle.std.proofs.lemmas.Bool.{eqb-true, eq-eqb}
+use Rattle.std.specs.Prelude.{find, filter, fold}
+use Rattle.s360_words.specs.Storage.{Storage}
 use Rattle.s360_words.specs.declared.flags.ChannelStatus.{ChannelStatus}
 use Rattle.s360_words.specs.declared.flags.TheConstants.UnitStatus.{CHANNEL_END, DEVICE_END}
 use Rattle.s360_words.specs.declared.flags.UnitStatus.{UnitStatus}
@@ -17,17 +17,16 @@ use Rattle.s360_runs.specs.Starts.{first, First, ImmediateStart, BadStart, Rejec
 use Rattle.s360_runs.specs.Status.{tells, normal_end, no_unit_status}
 use Rattle.s360_runs.proofs.EndStatus.{IsGood, RunGood, good_run, AsksGood, StandingGood}
 use Rattle.s360_runs.proofs.FirstUnits.{first_is_unit}
-use Rattle.s360_laws.specs.Events.{Exchange, Event, FaultAfter, Answer, Reset, WasReset, Sio, StatusStored, WithCode, Input, Tio, CswStored, Tch, Interrupt}
+use Rattle.s360_laws.specs.Events.{Exchange, Event, FaultAfter, Answer, Reset, WasReset, Sio, StatusStored, WithCode, Input, Tio, Tch, Interrupt}
 use Rattle.s360_laws.specs.History.{Runs}
-use Rattle.s360_laws.specs.Ledger.{is_reset, is_accepted, stores_end, Since, SinceBeginning, SinceAcceptance, SinceReset, later, counted, due, EndsPend, AtMostOnce, ExactlyOnce, ChannelEndFirst, NoneAfterReset, NoStartWhileWorking, StartsAfterChannelEnd, since, times_stored, HeldAnswer, ends_holding, HeldAnswers, HeldUntilStored}
-use Rattle.s360_laws.specs.Machine.{Machine, Subchannel, Idle, Working, address_of, Pending, device_at, Device, with_arm, is_in_motion, at_rest, all_at_rest, with_device, arm_after, start_of, started, lowest, has_arrived, lower, react, ended, fault_in, units_with, exchanges, after_all, is_working, with_subchannel, unsaved_at, test_io, with_csw, with_change}
+use Rattle.s360_laws.specs.Ledger.{is_reset, is_accepted, stores_end, Since, SinceBeginning, SinceAcceptance, SinceReset, later, counted, due, EndsPend, AtMostOnce, ExactlyOnce, ChannelEndFirst, NoneAfterReset, NoStartWhileWorking, StartsAfterChannelEnd, HeldAnswer, ends_holding, HeldAnswers, HeldUntilStored}
+use Rattle.s360_laws.specs.Machine.{Machine, Subchannel, Idle, Working, address_of, Pending, device_at, Device, with_arm, is_in_motion, at_rest, all_at_rest, with_device, arm_after, start_of, started, lowest, has_arrived, react, ended, fault_in, units_with, exchanges, after_all, is_working, with_subchannel, unsaved_at, with_change}
 use Rattle.s360_laws.specs.Soundness.{channel_owes, device_owes, device_for, owes_channel_end, owes_device_end, AreDistinct, arm_owes, IsSound, IsSoundIn, StaysSound, IdleIsSound}
-use Rattle.s360_laws.specs.declared.arm.Arm.{Arm}
 use Rattle.s360_laws.specs.declared.arm.Arm.TheVariants.{AtRest, Arrived, InMotion}
 use Rattle.s360_laws.specs.declared.condition.ConditionCode.TheVariants.{Two, Three}
 use Rattle.s360_laws.proofs.AlikeLists.{unmoved}
-use Rattle.s360_laws.proofs.FindDevices.{set_arm, distinct_map, keeps_one, at_device, device_of, found_map, set_both, set_drive, idle, working, Keeps, changed_device, different, pending}
-use Rattle.s360_laws.proofs.Reactions.{Reacts, Same, Arrives, Changed, Clears, BusyStart, BusyTest, FreeHalt, EndAtStart, EndAtTest, EndInterrupts, Starts, TestTakes, InterruptTakes, Halts, Cuts, StepEnds, StepGoes, Asks, Within, Stands, IsAt, changed_for, reacts}
+use Rattle.s360_laws.proofs.FindDevices.{HasArm, set_arm, distinct_map, keeps_one, at_device, device_of, found_map, set_both, set_drive, idle, working, Keeps, changed_device, different, pending}
+use Rattle.s360_laws.proofs.Reactions.{Reacts, Same, Arrives, Changed, Clears, EndAtStart, EndAtTest, EndInterrupts, Starts, TestTakes, InterruptTakes, Halts, Cuts, StepEnds, Asks, Stands, IsAt, changed_for, reacts}
 use Rattle.s360_laws.proofs.Serial.{good}
 
 -- What each event owes.
@@ -49,25 +48,11 @@ Balance u t m m_two =
 abbrev Fine : Machine → Event → Option FaultAfter → Answer × Machine → Type 0
 Fine m e x r = AreDistinct r.1.devices × Rest r.1 r.1.subchannel × ((u : ℕ) → Balance u (e, x, r.0) m r.1)
 
--- nothing stored, nothing owed more or less
-nothing : {P : Type 0} (c d : ℕ) → (0 + c ≡ c) × (0 + d ≡ d) × (false ≡ true → P)
-nothing c d = (zero-add c, zero-add d, λ h. absurd (cc))
 
--- a status without this end
-silent : (b : Bool) (c : ℕ) → cond (b && false) 1 0 + c ≡ c
-silent true c = zero-add c
-silent false c = zero-add c
-
--- what tells nothing leaves all owed
-all_false : {P : Type 0} (r a c d : Bool) (n k : ℕ) → r ≡ false → a ≡ false → c ≡ false → d ≡ false
-    → (cond c 1 0 + n ≡ cond r 0 (cond a 1 n)) × (cond d 1 0 + k ≡ cond r 0 (cond a 1 k)) × (a ≡ true → P)
-all_false false false false false n k hr ha hc hd = nothing n k
-all_false r a c d n k hr ha hc hd = absurd (cc)
 
 -- a program that ended: its device end, or the motion of its arm
 end_owes : (c motion : Bool) → c ≡ not motion → cond c 1 0 + arm_owes (cond motion InMotion AtRest) ≡ 1
-end_owes c true h = ap (λ c. cond c 1 0 + 1) h
-end_owes c false h = ap (λ c. cond c 1 0 + 0) h
+end_owes c motion h = grind arith
 
 -- a change of one device keeps addresses apart
 distinct : (m : Machine) (d : ℕ) (f : Device → Device) → Keeps f → AreDistinct m.devices → AreDistinct (with_device d f m).devices
@@ -81,43 +66,22 @@ device_end_told m a d u v at k =
 
 -- an arrival
 arrival_owes : (m : Machine) (a d u : ℕ) (v : Device) → IsAt m a d v → is_in_motion v.arm ≡ true → device_owes (device_for (with_arm Arrived d m) u) ≡ device_owes (device_for m u)
-arrival_owes m a d u v at h = changed_for m (set_arm Arrived) (λ v. refl) a d v at u (λ b y z. device_owes y ≡ device_owes z) (moves v.arm h) (λ y. refl)
-  where
-    moves : (arm : Arm) → is_in_motion arm ≡ true → 1 ≡ arm_owes arm
-    moves InMotion h = refl
-    moves arm h = absurd (cc)
+arrival_owes m a d u v at h = changed_for m (set_arm Arrived) (λ v. refl) a d v at u (λ b y z. device_owes y ≡ device_owes z) (grind arith) (λ y. refl)
 
 arrival_rest : (m : Machine) (c : Subchannel) (a d : ℕ) (v : Device) → IsAt m a d v → is_in_motion v.arm ≡ true → Rest m c → Rest (with_arm Arrived d m) c
-arrival_rest m c a d v at h r = go c r
+arrival_rest m c a d v at h r = grind (arith, same)
   where
     same : (p : ℕ) → device_owes (device_at (with_arm Arrived d m) p) ≡ device_owes (device_at m p)
     same p = ap device_owes (device_of (with_arm Arrived d m) p) ∙ arrival_owes m a d (address_of m p) v at h ∙ sym (ap device_owes (device_of m p))
-
-    go : (c : Subchannel) → Rest m c → Rest (with_arm Arrived d m) c
-    go Idle r = tt
-    go (Working p s) r = same p ∙ r
-    go (Pending p csw) r = (r.0, ap (λ n. cond (tells csw.unit DEVICE_END) 1 0 + n) (same p) ∙ r.1)
 
 reset_fine : (m w : Machine) (x : Option FaultAfter) (unsaved : _) → AreDistinct w.devices → Fine m Reset x (WasReset unsaved, all_at_rest w)
 reset_fine m w x unsaved ds = (
   distinct_map at_rest (λ v. refl) w.devices ds,
   tt,
-  λ u. (
-    zero-add 0,
-    zero-add _ ∙ zero-add _ ∙ ap device_owes (found_map (λ d. 256 * w.channel + d == u) at_rest (λ v. refl) w.devices) ∙ free (device_for w u),
-    λ b. absurd (cc),
-  ),
+  λ u. let free = found_map (λ d. 256 * w.channel + d == u) at_rest (λ v. refl) w.devices in grind arith,
 )
-  where
-    free : (y : Option Device) → device_owes (option_map at_rest y) ≡ 0
-    free None = refl
-    free (Some v) = refl
 
 -- Starts.
-
-due_one : (b : Bool) → cond (b && true) 1 0 + 0 ≡ cond b 1 0
-due_one true = refl
-due_one false = refl
 
 -- a device whose arm is at rest owes nothing
 free_due : (m : Machine) (a d u : ℕ) (v : Device) → IsAt m a d v → v.arm ≡ AtRest → (a == u) ≡ true → ◌≡◌ {A = ℕ} 0 0 × (0 + device_owes (device_for m u) ≡ 0)
@@ -138,15 +102,14 @@ first_good s f h = go f (subst (λ f. IsFirstUnit s f (run (units 1) s)) h (firs
 -- an immediate command is accepted and over at once
 at_once : (a u : ℕ) (x : Option FaultAfter) (unit : UnitStatus) (channel : ChannelStatus) → (unit ≡ CHANNEL_END) ⊎ (unit ≡ normal_end)
     → (is_accepted u (Sio a, x, StatusStored unit channel) ≡ (a == u)) × (tells unit CHANNEL_END ≡ true)
-at_once a u x unit channel (inl k) = subst (λ unit. (is_accepted u (Sio a, x, StatusStored unit channel) ≡ (a == u)) × (tells unit CHANNEL_END ≡ true)) (sym k) (refl, refl)
-at_once a u x unit channel (inr k) = subst (λ unit. (is_accepted u (Sio a, x, StatusStored unit channel) ≡ (a == u)) × (tells unit CHANNEL_END ≡ true)) (sym k) (refl, refl)
+at_once a u x unit channel h = grind arith
 
 begin_fine : (m : Machine) (x : Option FaultAfter) (a d : ℕ) (v : Device) (f : First) → IsAt m a d v → v.arm ≡ AtRest → FirstGood (start_of m v.drive) f → AreDistinct m.devices → Fine (idle m) (Sio a) x (started d (idle m) f)
-begin_fine m x a d v BadStart at free g ds = (ds, tt, λ u. (silent (a == u) 0, silent (a == u) _, λ b. absurd (cc)))
+begin_fine m x a d v BadStart at free g ds = (ds, tt, λ u. grind arith)
 begin_fine m x a d v (RejectedStart w) at free g ds = (
   distinct m d (set_drive w) (λ v. refl) ds,
   tt,
-  λ u. (silent (a == u) 0, silent (a == u) _ ∙ ap (λ n. 0 + n) (changed_for m (set_drive w) (λ v. refl) a d v at u (λ b y z. device_owes y ≡ device_owes z) refl (λ y. refl)), λ b. absurd (cc)),
+  λ u. let same = changed_for m (set_drive w) (λ v. refl) a d v at u (λ b y z. device_owes y ≡ device_owes z) refl (λ y. refl) in grind arith,
 )
 begin_fine m x a d v AcceptedStart at free g ds = (
   ds,
@@ -162,7 +125,7 @@ begin_fine m x a d v (ImmediateStart z) at free g ds = (
   distinct m d (set_both (arm_after z) z.drive) (λ v. refl) ds,
   tt,
   λ u. let k = at_once a u x z.csw.unit z.csw.channel g.1 in (
-    ap (λ c. cond ((a == u) && c) 1 0 + 0) k.1 ∙ due_one (a == u) ∙ ap (λ b. cond b 1 0) (sym k.0),
+    ap (λ c. cond ((a == u) && c) 1 0 + 0) k.1 ∙ add-zero _ ∙ ap (λ b. cond b 1 0) (and-true (a == u) ∙ sym k.0),
     changed_for m (set_both (arm_after z) z.drive) (λ v. refl) a d v at u (λ b y z_two. cond (b && tells z.csw.unit DEVICE_END) 1 0 + (0 + device_owes y) ≡ cond b 1 (0 + device_owes z_two))
         (ap (λ n. cond (tells z.csw.unit DEVICE_END) 1 0 + n) (zero-add _) ∙ end_owes (tells z.csw.unit DEVICE_END) z.motion g.0.device_end) (λ y. zero-add _)
         ∙ ap (λ b. cond b 1 (0 + device_owes (device_for m u))) (sym k.0),
@@ -192,66 +155,41 @@ over m d s st e w g ds z = record {
 pub good_stands : (m : Machine) (d : ℕ) (s : Script) (w : Stands m d s) → StandingGood w.seen
 good_stands m d s w = subst RunGood w.stands (good_run (start_of m w.drive.drive) s)
 
--- the CSW that pends is taken
-told_csw : (m : Machine) (p a u : ℕ) (csw : Csw) → address_of m p ≡ a
-    → (cond ((a == u) && tells csw.unit CHANNEL_END) 1 0 + 0 ≡ cond ((address_of m p == u) && tells csw.unit CHANNEL_END) 1 0)
-    × (cond ((a == u) && tells csw.unit DEVICE_END) 1 0 + (0 + device_owes (device_for m u)) ≡ cond ((address_of m p == u) && tells csw.unit DEVICE_END) 1 0 + device_owes (device_for m u))
-told_csw m p a u csw e = (
-  add-zero _ ∙ ap (λ k. cond ((k == u) && tells csw.unit CHANNEL_END) 1 0) (sym e),
-  ap (λ n. cond ((a == u) && tells csw.unit DEVICE_END) 1 0 + n) (zero-add _) ∙ ap (λ k. cond ((k == u) && tells csw.unit DEVICE_END) 1 0 + device_owes (device_for m u)) (sym e),
-)
+
 
 -- The lowest device end.
 
-abbrev pub Lowest : ℕ → List Device → Type 0
-Lowest d vs = (v : Device) × (find (λ w. w.device == d) vs ≡ Some v) × (v.arm ≡ Arrived)
+-- of one device more, whose address no other has, where it is known of the others
+lowest_more : (v : Device) (d : ℕ) (arrived : List Device) (at : ℕ → Option Device) → at v.device ≡ None → (lowest arrived ≡ Some d → HasArm Arrived (at d))
+    → lowest (cond (has_arrived v) (v ∷ arrived) arrived) ≡ Some d → HasArm Arrived (cond (v.device == d) (Some v) (at d))
+lowest_more v d arrived at apart k h = grind arith
 
-pub lowest_found : (vs : List Device) → AreDistinct vs → (d : ℕ) → lowest (filter has_arrived vs) ≡ Some d → Lowest d vs
+pub lowest_found : (vs : List Device) → AreDistinct vs → (d : ℕ) → lowest (filter has_arrived vs) ≡ Some d → HasArm Arrived (find (λ w. w.device == d) vs)
 lowest_found [] ds d h = absurd (cc)
-lowest_found (v ∷ vs) ds d h = go v.arm refl h (lowest_found vs ds.1 d)
-  where
-    here : v.arm ≡ Arrived → Some v.device ≡ Some d → Lowest d (v ∷ vs)
-    here arm h = let e : v.device ≡ d = cc in (v, ap (λ b. cond b (Some v) (find (λ w. w.device == d) vs)) (eq-eqb _ _ e), arm)
+lowest_found (v ∷ vs) ds d h = lowest_more v d (filter has_arrived vs) (λ n. find (λ w. w.device == n) vs) ds.0 (lowest_found vs ds.1 d) h
 
-    -- no two devices have one address
-    there : Lowest d vs → Lowest d (v ∷ vs)
-    there r = (r.0, ap (λ b. cond b (Some v) (find (λ w. w.device == d) vs)) (ne_eqb v.device d apart) ∙ r.1, r.2)
-      where
-        apart : v.device ≡ d → ⊥
-        apart e = let q = sym ds.0 ∙ ap (λ k. find (λ w. w.device == k) vs) e ∙ r.1 in cc
-
-    lower_of : v.arm ≡ Arrived → (l : Option ℕ) → (l ≡ Some d → Lowest d vs) → lower v.device l ≡ Some d → Lowest d (v ∷ vs)
-    lower_of arm None k h = here arm h
-    lower_of arm (Some c) k h = cond_both (nat_lt v.device c) (Some v.device) (Some c) (λ y. y ≡ Some d → Lowest d (v ∷ vs)) (λ e. here arm) (λ e h. there (k h)) h
-
-    go : (arm : Arm) → v.arm ≡ arm → lowest (cond (has_arrived (record v { arm = arm })) (v ∷ filter has_arrived vs) (filter has_arrived vs)) ≡ Some d
-        → (lowest (filter has_arrived vs) ≡ Some d → Lowest d vs) → Lowest d (v ∷ vs)
-    go Arrived a h k = lower_of a (lowest (filter has_arrived vs)) k h
-    go arm a h k = there (k h)
+pub the_arrived : (y : Option Device) → HasArm Arrived y → (v : Device) × (y ≡ Some v) × (v.arm ≡ Arrived)
+the_arrived None h = absurd (cc)
+the_arrived (Some v) h = (v, refl, cc)
 
 -- Any event.
 
 fine_by : (m : Machine) (x : Option FaultAfter) {c : Subchannel} {e : Event} {r : Answer × Machine} → Reacts m x c e r → AreDistinct m.devices → Rest m c → Fine (with_subchannel c m) e x r
-fine_by m x (Same c e a h k) ds z = (ds, z, λ u. let n = (unmoved (e, x, a) h).0 u in all_false _ _ _ _ _ _ n.0 n.1 (n.2 CHANNEL_END) (n.2 DEVICE_END))
+fine_by m x (Same c e a h k) ds z = (ds, z, λ u. let n = (unmoved (e, x, a) h).0 u in rw (n.0, n.1, n.2 CHANNEL_END, n.2 DEVICE_END) (zero-add _, zero-add _, λ b. absurd (cc)))
 fine_by m x (Arrives c a d v at k) ds z = (
   distinct m d (set_arm Arrived) (λ v. refl) ds,
   arrival_rest m c a d v at k z,
   λ u. (zero-add _, zero-add _ ∙ ap (λ n. channel_owes DEVICE_END u m c + n) (arrival_owes m a d u v at k), λ b. absurd (cc)),
 )
-fine_by m x (Changed c (Bytes at bytes) k) ds z = (ds, z, λ u. nothing _ _)
-fine_by m x (Changed c (KeyOf at key) k) ds z = (ds, z, λ u. nothing _ _)
 fine_by m x (Clears c k) ds z = reset_fine (with_subchannel c m) m x None ds
-fine_by m x (FreeHalt a) ds z = (ds, tt, λ u. nothing _ _)
-fine_by m x (BusyStart a) ds z = (ds, tt, λ u. (silent (a == u) 0, silent (a == u) _, λ b. absurd (cc)))
-fine_by m x (BusyTest a) ds z = (ds, tt, λ u. (silent (a == u) 0, silent (a == u) _, λ b. absurd (cc)))
-fine_by m x (EndAtStart a d v at k) ds z = (distinct m d (set_arm AtRest) (λ v. refl) ds, tt, λ u. (silent (a == u) 0, device_end_told m a d u v at k, λ b. absurd (cc)))
-fine_by m x (EndAtTest a d v at k) ds z = (distinct m d (set_arm AtRest) (λ v. refl) ds, tt, λ u. (silent (a == u) 0, device_end_told m a d u v at k, λ b. absurd (cc)))
+fine_by m x (EndAtStart a d v at k) ds z = (distinct m d (set_arm AtRest) (λ v. refl) ds, tt, λ u. let told = device_end_told m a d u v at k in grind arith)
+fine_by m x (EndAtTest a d v at k) ds z = (distinct m d (set_arm AtRest) (λ v. refl) ds, tt, λ u. let told = device_end_told m a d u v at k in grind arith)
 fine_by m x (EndInterrupts d k) ds z =
-    let l = lowest_found m.devices ds d k in
-    (distinct m d (set_arm AtRest) (λ v. refl) ds, tt, λ u. (silent (address_of m d == u) 0, device_end_told m (address_of m d) d u l.0 (record { address = refl; is_there = l.1 }) l.2, λ b. absurd (cc)))
+    let l = the_arrived (device_at m d) (lowest_found m.devices ds d k) in
+    (distinct m d (set_arm AtRest) (λ v. refl) ds, tt, λ u. let told = device_end_told m (address_of m d) d u l.0 (record { address = refl; is_there = l.1 }) l.2 in grind arith)
 fine_by m x (Starts a v at k f h) ds z = begin_fine m x a (a % 256) v f at k (first_good (start_of m v.drive) f h) ds
-fine_by m x (TestTakes p csw a e) ds z = (ds, tt, λ u. let t = told_csw m p a u csw e in (t.0, t.1, λ b. absurd (cc)))
-fine_by m x (InterruptTakes p csw) ds z = (ds, tt, λ u. let t = told_csw m p (address_of m p) u csw refl in (t.0, t.1, λ b. absurd (cc)))
+fine_by m x (TestTakes p csw a e) ds z = (ds, tt, λ u. grind arith)
+fine_by m x (InterruptTakes p csw) ds z = (ds, tt, λ u. grind arith)
 fine_by m x (Halts d s a w) ds z =
     let o = over m d s w.seen.storage (w.seen.cut (fault_in x)) w ((good_stands m d s w).0 (fault_in x)) ds z in
     (o.apart, o.rest, λ u. (o.channel_end u, o.device_end u, λ b. absurd (cc)))
@@ -261,29 +199,15 @@ fine_by m x (Cuts d s w) ds z =
 fine_by m x (StepEnds d s k w used st e h) ds z =
     let o = over m d s st e w (subst RunGood h (good_run (start_of m w.drive.drive) (s ++ units_with k x))) ds z in
     (o.apart, o.rest, λ u. (o.channel_end u, o.device_end u, λ b. absurd (cc)))
-fine_by m x (StepGoes d s k w seen h) ds z = (ds, z, λ u. nothing _ _)
 fine_by m x (Asks d s w csw h) ds z =
-    let g : csw.unit ≡ no_unit_status = subst AsksGood h (good_stands m d s w).1 in (
-      ds,
-      z,
-      λ u. (
-        ap (λ k. cond ((address_of m d == u) && tells k CHANNEL_END) 1 0 + owes_channel_end u (working m d s)) g ∙ silent (address_of m d == u) _,
-        ap (λ k. cond ((address_of m d == u) && tells k DEVICE_END) 1 0 + owes_device_end u (working m d s)) g ∙ silent (address_of m d == u) _,
-        λ b. absurd (cc),
-      ),
-    )
-fine_by m x (Within d s w (Bytes at bytes)) ds z = (ds, z, λ u. nothing _ _)
-fine_by m x (Within d s w (KeyOf at key)) ds z = (ds, z, λ u. nothing _ _)
+    let g : csw.unit ≡ no_unit_status = subst AsksGood h (good_stands m d s w).1 in (ds, z, λ u. grind arith)
+fine_by m x y ds z = (ds, z, λ u. grind arith)
 
 pub sound_parts : (m : Machine) (c : Subchannel) → IsSoundIn m c → Runs m c × Rest m c
-sound_parts m Idle h = (tt, tt)
-sound_parts m (Working d s) h = h
-sound_parts m (Pending p csw) h = (tt, h)
+sound_parts m c h = grind arith
 
 sound_whole : (m : Machine) (c : Subchannel) → Runs m c → Rest m c → IsSoundIn m c
-sound_whole m Idle r h = tt
-sound_whole m (Working d s) r h = (r, h)
-sound_whole m (Pending p csw) r h = h
+sound_whole m c r h = grind arith
 
 fine : (m : Machine) (e : Event) (x : Option FaultAfter) → IsSound m → Fine m e x (react e x m)
 fine m e x h = let p = sound_parts m m.subchannel h.1 in fine_by m x (reacts m x m.subchannel e p.0) h.0 p.1
@@ -306,9 +230,7 @@ Holds b s n o = n + o ≡ due b s
 
 holds_next : (b : ℕ) (s : Since) (r a : Bool) (n t o o_two : ℕ) → Holds b s n o → t + o_two ≡ cond r 0 (cond a 1 o)
     → Holds b (cond r SinceReset (cond a SinceAcceptance s)) (cond (r || a) 0 n + t) o_two
-holds_next b s true a n t o o_two h e = omega arith
-holds_next b s false true n t o o_two h e = omega arith
-holds_next b s false false n t o o_two h e = omega arith
+holds_next b s r a n t o o_two h e = grind arith
 
 holds_all : (u b q : ℕ) (es : List Input) (m : Machine) (s : Since) (c d : ℕ) → IsSound m → Holds b s c (owes_channel_end u m) → Holds q s d (owes_device_end u m)
     → Holds b (fold (later u) s (exchanges es m)) (fold (counted CHANNEL_END u) c (exchanges es m)) (owes_channel_end u (after_all es m))
@@ -325,46 +247,25 @@ ends_pend m es u h = holds_all u (owes_channel_end u m) (owes_device_end u m) es
 
 -- What a sound machine owes.
 
-one_at_most : (b : Bool) → cond b 1 0 ≤ 1
-one_at_most true = omega arith
-one_at_most false = omega arith
-
 arm_most : (y : Option Device) → device_owes y ≤ 1
-arm_most None = omega arith
-arm_most (Some v) = go v.arm
-  where
-    go : (arm : Arm) → arm_owes arm ≤ 1
-    go AtRest = omega arith
-    go arm = omega arith
+arm_most y = grind arith
 
 -- the owed channel end and device end of a device, where either the device end or the arm is owed
 owed_ends : (b c d : Bool) (n : ℕ) → n ≤ 1 → (b ≡ true → cond d 1 0 + n ≡ 1) → (cond (b && c) 1 0 ≤ cond (b && d) 1 0 + n) × (cond (b && d) 1 0 + n ≤ 1)
-owed_ends true c d n l k = let e = k refl in let f = one_at_most c in (omega arith, omega arith)
-owed_ends false c d n l k = (omega arith, omega arith)
+owed_ends b c d n l k = grind arith
 
 owed : (m : Machine) (c : Subchannel) (u : ℕ) → Rest m c
     → (channel_owes CHANNEL_END u m c ≤ channel_owes DEVICE_END u m c + device_owes (device_for m u)) × (channel_owes DEVICE_END u m c + device_owes (device_for m u) ≤ 1)
-owed m c u h = go c h
+owed m c u h = grind (arith, same, arm_most)
   where
-    n : ℕ
-    n = device_owes (device_for m u)
-
-    same : (d : ℕ) → (address_of m d == u) ≡ true → n ≡ device_owes (device_at m d)
+    same : (d : ℕ) → (address_of m d == u) ≡ true → device_owes (device_for m u) ≡ device_owes (device_at m d)
     same d b = ap device_owes (at_device m d u (device_at m d) (eqb-true _ _ b) refl)
-
-    go : (c : Subchannel) → Rest m c → (channel_owes CHANNEL_END u m c ≤ channel_owes DEVICE_END u m c + n) × (channel_owes DEVICE_END u m c + n ≤ 1)
-    go Idle h = owed_ends false false false n (arm_most (device_for m u)) (λ b. absurd (cc))
-    go (Working d s) h = subst (λ b. (cond b 1 0 ≤ cond b 1 0 + n) × (cond b 1 0 + n ≤ 1)) (and-true (address_of m d == u))
-        (owed_ends (address_of m d == u) true true n (arm_most (device_for m u)) (λ b. ap (λ n. 1 + n) (same d b ∙ h)))
-    go (Pending d csw) h = owed_ends (address_of m d == u) (tells csw.unit CHANNEL_END) (tells csw.unit DEVICE_END) n (arm_most (device_for m u)) (λ b. ap (λ n. cond (tells csw.unit DEVICE_END) 1 0 + n) (same d b) ∙ h.1)
 
 owed_most : (m : Machine) (u : ℕ) → IsSound m → (owes_channel_end u m ≤ owes_device_end u m) × (owes_device_end u m ≤ 1)
 owed_most m u h = owed m m.subchannel u (sound_parts m m.subchannel h.1).1
 
 most : (b : ℕ) (s : Since) (n o : ℕ) → b ≤ 1 → Holds b s n o → n ≤ 1
-most b SinceBeginning n o l h = omega arith
-most b SinceAcceptance n o l h = omega arith
-most b SinceReset n o l h = omega arith
+most b s n o l h = grind arith
 
 pub at_most_once : AtMostOnce
 at_most_once m es u h =
@@ -373,58 +274,38 @@ at_most_once m es u h =
     let few : owes_channel_end u m ≤ 1 = omega arith in
     (most _ _ _ _ few k.0, most _ _ _ _ o.1 k.1)
 
--- what is stored and owed together once it is known what came last
-pends_since : (m : Machine) (es : List Input) (u : ℕ) (s : Since) → IsSound m → since u (exchanges es m) ≡ s
-    → (times_stored CHANNEL_END u (exchanges es m) + owes_channel_end u (after_all es m) ≡ due (owes_channel_end u m) s)
-    × (times_stored DEVICE_END u (exchanges es m) + owes_device_end u (after_all es m) ≡ due (owes_device_end u m) s)
-pends_since m es u s h e = let k = ends_pend m es u h in (k.0 ∙ ap (due (owes_channel_end u m)) e, k.1 ∙ ap (due (owes_device_end u m)) e)
-
 pub exactly_once : ExactlyOnce
 exactly_once m es e u h s a =
-    let k = pends_since m es u SinceAcceptance h s in
+    let k = rw s at (ends_pend m es u h) in
     let z = ((fine (after_all es m) e.0 e.1 (stays_sound m es h)).2 u).2 a in
     (omega arith, omega arith)
 
 pub channel_end_first : ChannelEndFirst
 channel_end_first m es u h s =
-    let k = pends_since m es u SinceAcceptance h s in
+    let k = rw s at (ends_pend m es u h) in
     let owes = owed_most (after_all es m) u (stays_sound m es h) in
     omega arith
 
 pub none_after_reset : NoneAfterReset
-none_after_reset m es u h s = let k = pends_since m es u SinceReset h s in (omega arith, omega arith)
+none_after_reset m es u h s = let k = rw s at (ends_pend m es u h) in (omega arith, omega arith)
 
 pub idle_sound : IdleIsSound
 idle_sound m h ds = (ds, subst (IsSoundIn m) (sym h) tt)
 
 -- When a start is accepted.
 
-no_start : (b : Bool) (m : Machine) → ◌≡◌ {A = Answer × Machine} (cond b (WithCode Two, m) (WithCode Three, m)) (WithCode (cond b Two Three), m)
-no_start true m = refl
-no_start false m = refl
-
 pub no_start_while_working : NoStartWhileWorking
 no_start_while_working m h a x = go m.subchannel h
   where
     go : (c : Subchannel) → is_working c ≡ true → ◌≡◌ {A = Answer × Machine} (react (Sio a) x (record m { subchannel = c })) (WithCode (cond (a / 256 == m.channel) Two Three), record m { subchannel = c })
-    go (Working d s) h = no_start (a / 256 == m.channel) (working m d s)
-    go c h = absurd (cc)
-
--- where the channel is not idle, no start is accepted
-not_accepted : (a v : ℕ) (x : Option FaultAfter) (b : Bool) (m : Machine) → is_accepted v (Sio a, x, (cond {A = Answer × Machine} b (WithCode Two, m) (WithCode Three, m)).0) ≡ false
-not_accepted a v x b m = cond_both {A = Answer × Machine} b (WithCode Two, m) (WithCode Three, m) (λ r. is_accepted v (Sio a, x, r.0) ≡ false) (λ e. refl) (λ e. refl)
+    go c h = grind arith
 
 accepted_idle : (m : Machine) (e : Event) (x : Option FaultAfter) (v : ℕ) → is_accepted v (e, x, (react e x m).0) ≡ true → m.subchannel ≡ Idle
-accepted_idle m (Sio a) x v h = go m.subchannel h
-  where
-    go : (c : Subchannel) → is_accepted v (Sio a, x, (react (Sio a) x (with_subchannel c m)).0) ≡ true → c ≡ Idle
-    go Idle h = refl
-    go c h = absurd (false≢true (sym (not_accepted a v x (a / 256 == m.channel) (with_subchannel c m)) ∙ h))
-accepted_idle m e x v h = absurd (cc)
+accepted_idle m e x v h = grind arith
 
 pub starts_after_channel_end : StartsAfterChannelEnd
 starts_after_channel_end m es e u v sound s h =
-    let k = pends_since m es u SinceAcceptance sound s in
+    let k = rw s at (ends_pend m es u sound) in
     let idle = accepted_idle (after_all es m) e.0 e.1 v h in
     let none = ap (channel_owes CHANNEL_END u (after_all es m)) idle in
     omega arith
@@ -433,20 +314,15 @@ starts_after_channel_end m es e u v sound s h =
 
 -- each answer is that of an ending that pends
 held_answer : (m : Machine) (p : ℕ) (csw : Csw) (e : Event) (x : Option FaultAfter) → HeldAnswer m.channel p csw (e, x, (react e x (pending m p csw)).0)
-held_answer m p csw (Sio a) x = λ e. ap (λ (r : Answer × Machine). r.0) (cond-true (a / 256 == m.channel) (WithCode Two, pending m p csw) (WithCode Three, pending m p csw) (eq-eqb _ _ e))
-held_answer m p csw (Tio a) x = λ e other.
-    ap (λ (r : Answer × Machine). r.0) (cond-true (a / 256 == m.channel) (test_io (a % 256) (pending m p csw) (Pending p csw)) (WithCode Three, pending m p csw) (eq-eqb _ _ e)
-    ∙ cond-false (a % 256 == p) (CswStored csw, with_csw csw (idle m)) (WithCode Two, pending m p csw) (different _ _ other))
+held_answer m p csw (Sio a) x = λ e. rw (eq-eqb _ _ e) refl
+held_answer m p csw (Tio a) x = λ e other. rw (eq-eqb _ _ e, different _ _ other) refl
 held_answer m p csw Tch x = refl
 held_answer m p csw Interrupt x = refl
 held_answer m p csw e x = tt
 
 -- its CSW was taken
 taken : (m : Machine) (p q a : ℕ) (csw other : Csw) → address_of m q ≡ a → Pending q other ≡ Pending p csw → tells csw.unit CHANNEL_END ≡ true → ((a == address_of m p) && tells other.unit CHANNEL_END) ≡ false → ⊥
-taken m p q a csw other e is t h =
-    let device : q ≡ p = cc in
-    let same : other ≡ csw = cc in
-    false≢true (sym h ∙ and_from _ _ (eq-eqb _ _ (sym e ∙ ap (address_of m) device)) (ap (λ csw. tells csw.unit CHANNEL_END) same ∙ t))
+taken m p q a csw other e is t h = grind arith
 
 -- the machine that follows has it still, unless it was stored or reset
 abbrev StillHeld : Machine → ℕ → Csw → Machine → Type 0
@@ -466,7 +342,7 @@ held_list [] m p csw c = tt
 held_list (e ∷ es) m p csw c = (held_answer m p csw e.0 e.1, λ h. go (react e.0 e.1 (pending m p csw)).1 (held_next m p csw e.1 (reacts m e.1 (Pending p csw) e.0 tt) refl c h) (λ n. held_list es n p csw c))
   where
     go : (after : Machine) → StillHeld m p csw after → ((n : Machine) → HeldAnswers n.channel p csw (exchanges es (pending n p csw))) → HeldAnswers m.channel p csw (exchanges es after)
-    go after n held = subst (λ k. HeldAnswers k p csw (exchanges es after)) n.2 (subst (λ a. HeldAnswers n.0.channel p csw (exchanges es a)) (sym n.1) (held n.0))
+    go after n held = rw (n.1, ← n.2) (held n.0)
 
 pub held_until_stored : HeldUntilStored
 held_until_stored m p csw es sound h =

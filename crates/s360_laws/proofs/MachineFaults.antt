@@ -7,7 +7,6 @@ use Rattle.s360_runs.specs.Endings.{Outcome, Ended, Ending, NotEnded}
 use Rattle.s360_runs.specs.Faults.{cut_drive, OutcomeByFault, EndsByFault}
 use Rattle.s360_runs.specs.Runs.{Start, run}
 use Rattle.s360_runs.specs.Scripts.{Script, OneUnit, units, units_in}
-use Rattle.s360_runs.specs.Units.{ProgramPhase}
 use Rattle.s360_runs.proofs.FaultsMet.{fault_ends_cut, run_by_fault}
 use Rattle.s360_runs.proofs.Standing.{stands_somewhere}
 use Rattle.s360_runs.proofs.Walks.{units_in_two, ended_stays}
@@ -30,11 +29,8 @@ Split k after f = (units_failing k after f ≡ units k)
 split : (k after : ℕ) (f : Fault) → Split k after f
 split zero after f = inl refl
 split (suc k) zero f = inr (k, refl, refl)
-split (suc k) (suc after) f = go (split k after f)
-  where
-    go : Split k after f → Split (suc k) (suc after) f
-    go (inl e) = inl (ap (λ l. OneUnit None ∷ l) e)
-    go (inr e) = inr (e.0, ap (λ l. OneUnit None ∷ l) e.1, ap (λ l. OneUnit None ∷ l) e.2)
+split (suc k) (suc after) f = elim (split k after f)
+    [ inl e ↦ inl (ap (λ l. OneUnit None ∷ l) e) | inr e ↦ inr (e.0, ap (λ l. OneUnit None ∷ l) e.1, ap (λ l. OneUnit None ∷ l) e.2) ]
 
 -- the run with the fault is the run without it; or it ended in the unit with the fault
 abbrev MetAt : Fault → ℕ → Outcome → Type 0
@@ -55,20 +51,11 @@ failing_or s script k after f = go (split k after f)
     -- the program is over before the fault, or stands before it
     by_first : (rest : ℕ) (o : Outcome) → run first s ≡ o → MetOr s (first ++ OneUnit (Some f) ∷ units rest) (first ++ OneUnit None ∷ units rest) f (suc (units_in first))
     by_first rest (Ended used st e) h = inl (ended_stays s first (OneUnit (Some f) ∷ units rest) used st e h ∙ sym (ended_stays s first (OneUnit None ∷ units rest) used st e h))
-    by_first rest (NotEnded seen) h = let y = stands_somewhere s first seen h in met y.0 y.1 (run_by_fault s first (units rest) f y.0 y.1 y.2)
-      where
-        met : (key : ℕ) (g : ProgramPhase) → (run (first ++ OneUnit (Some f) ∷ units rest) s ≡ run (first ++ OneUnit None ∷ units rest) s) ⊎ OutcomeByFault f (suc (units_in first)) (cut_drive key g) (run (first ++ OneUnit (Some f) ∷ units rest) s)
-            → MetOr s (first ++ OneUnit (Some f) ∷ units rest) (first ++ OneUnit None ∷ units rest) f (suc (units_in first))
-        met key g (inl same) = inl same
-        met key g (inr o) = inr (cut_drive key g, o)
+    by_first rest (NotEnded seen) h = let y = stands_somewhere s first seen h in elim (run_by_fault s first (units rest) f y.0 y.1 y.2) [ inl same ↦ inl same | inr o ↦ inr (cut_drive y.0 y.1, o) ]
 
     go : Split k after f → MetOr s (script ++ units_failing k after f) (script ++ units k) f (units_in script + suc after)
     go (inl e) = inl (ap (λ l. run (script ++ l) s) e)
-    go (inr (rest, with_fault, without)) =
-        subst (λ l. MetOr s (script ++ l) (script ++ units k) f (units_in script + suc after)) (sym with_fault)
-        (subst (λ l. MetOr s (script ++ (units after ++ OneUnit (Some f) ∷ units rest)) (script ++ l) f (units_in script + suc after)) (sym without)
-        (subst (λ n. MetOr s (script ++ (units after ++ OneUnit (Some f) ∷ units rest)) (script ++ (units after ++ OneUnit None ∷ units rest)) f n) count
-        (simp append_assoc at (by_first rest (run first s) refl))))
+    go (inr (rest, with_fault, without)) = rw (with_fault, without, ← count) (simp append_assoc at (by_first rest (run first s) refl))
 
 -- What a fault does to a program that runs.
 
@@ -90,35 +77,25 @@ module _ (m : Machine) (d : ℕ) (s : Script) (w : Stands m d s) where
 
   step_met : (k : ℕ) (x : FaultAfter) (o : Outcome) → MetAt x.fault (units_in s + suc x.units) o → EndedByFault (stepped d s k (working m d s) (Some o)) (Stepped (suc x.units))
   step_met k x (NotEnded seen) h = absurd h.1
-  step_met k x (Ended used st e) h = subst (λ n. EndedByFault (Stepped n, ended d st e m) (Stepped (suc x.units))) (sym (count used (units_in s) x.units h.1.0)) (over_by_fault st e (Stepped (suc x.units)) x.fault h.0 h.1.1)
-    where
-      count : (u n a : ℕ) → u ≡ n + suc a → u - n ≡ suc a
-      count u n a h = omega arith
+  step_met k x (Ended used st e) h = let count : used - units_in s ≡ suc x.units = omega arith in rw count (over_by_fault st e (Stepped (suc x.units)) x.fault h.0 h.1.1)
 
   step_faults : (k : ℕ) (x : FaultAfter) → FaultOr (λ r. EndedByFault r (Stepped (suc x.units))) (react (StepBy k) (Some x) (working m d s)) (react (StepBy k) None (working m d s))
-  step_faults k x = go (failing_or (start_of m w.drive.drive) s k x.units x.fault)
-    where
-      go : MetOr (start_of m w.drive.drive) (s ++ units_failing k x.units x.fault) (s ++ units k) x.fault (units_in s + suc x.units)
-          → FaultOr (λ r. EndedByFault r (Stepped (suc x.units))) (react (StepBy k) (Some x) (working m d s)) (react (StepBy k) None (working m d s))
-      go (inl same) = inl (ap (stepped d s k (working m d s)) (run_at m d w.drive (s ++ units_failing k x.units x.fault) w.is_there ∙ ap Some same ∙ sym (run_at m d w.drive (s ++ units k) w.is_there)))
-      go (inr met) = inr (by_device m d (s ++ units_failing k x.units x.fault) w.drive (λ o. EndedByFault (stepped d s k (working m d s) o) (Stepped (suc x.units))) w.is_there
-          (step_met k x (run (s ++ units_failing k x.units x.fault) (start_of m w.drive.drive)) met))
+  step_faults k x = elim (failing_or (start_of m w.drive.drive) s k x.units x.fault) [
+    | inl same ↦ inl (ap (stepped d s k (working m d s)) (run_at m d w.drive (s ++ units_failing k x.units x.fault) w.is_there ∙ ap Some same ∙ sym (run_at m d w.drive (s ++ units k) w.is_there)))
+    | inr met ↦ inr (by_device m d (s ++ units_failing k x.units x.fault) w.drive (λ o. EndedByFault (stepped d s k (working m d s) o) (Stepped (suc x.units))) w.is_there
+        (step_met k x (run (s ++ units_failing k x.units x.fault) (start_of m w.drive.drive)) met))
+  ]
 
   -- a cut loads nothing, and where its save fails, the program ends so
   cut_faults : (f : Fault) (of_end : Ending → Answer × Machine) (A : Answer × Machine → Type 0)
       → ((left : List ℕ) → f ≡ SaveFails left → EndsByFault f (w.seen.cut None).drive (w.seen.cut (Some f)) → A (of_end (w.seen.cut (Some f))))
       → FaultOr A (of_end (w.seen.cut (Some f))) (of_end (w.seen.cut None))
   cut_faults LoadFails of_end A met = inl (ap of_end (fault_ends_cut (start_of m w.drive.drive) s w.seen w.stands).0)
-  cut_faults (SaveFails left) of_end A met = go ((fault_ends_cut (start_of m w.drive.drive) s w.seen w.stands).1 left)
-    where
-      go : (w.seen.cut (Some (SaveFails left)) ≡ w.seen.cut None) ⊎ EndsByFault (SaveFails left) (w.seen.cut None).drive (w.seen.cut (Some (SaveFails left)))
-          → FaultOr A (of_end (w.seen.cut (Some (SaveFails left)))) (of_end (w.seen.cut None))
-      go (inl same) = inl (ap of_end same)
-      go (inr h) = inr (met left refl h)
+  cut_faults (SaveFails left) of_end A met = elim ((fault_ends_cut (start_of m w.drive.drive) s w.seen w.stands).1 left) [ inl same ↦ inl (ap of_end same) | inr h ↦ inr (met left refl h) ]
 
   halt_faults : (x : FaultAfter) (b : Bool) → FaultOr (λ r. EndedByFault r (WithCode Two)) (cond b (WithCode Two, cut (Some x.fault) d (working m d s) (run_of m d s)) (WithCode Three, working m d s))
       (cond b (WithCode Two, cut None d (working m d s) (run_of m d s)) (WithCode Three, working m d s))
-  halt_faults x true = subst (λ o. FaultOr (λ r. EndedByFault r (WithCode Two)) (WithCode Two, cut (Some x.fault) d (working m d s) o) (WithCode Two, cut None d (working m d s) o)) (sym (run_is m d s w))
+  halt_faults x true = rw (run_is m d s w)
       (cut_faults x.fault (λ e. (WithCode Two, ended d w.seen.storage e m)) (λ r. EndedByFault r (WithCode Two))
       (λ left is h. over_by_fault w.seen.storage (w.seen.cut (Some x.fault)) (WithCode Two) x.fault (w.seen.cut None).drive h))
   halt_faults x false = inl refl
@@ -139,9 +116,7 @@ module _ (m : Machine) (d : ℕ) (s : Script) (w : Stands m d s) where
       }
 
   reset_faults : (x : FaultAfter) → FaultOr (ToldByReset (working m d s)) (react Reset (Some x) (working m d s)) (react Reset None (working m d s))
-  reset_faults x = subst (λ o. FaultOr (ToldByReset (working m d s))
-      (WasReset (unsaved_at (address_of m d) (Some x.fault) o), all_at_rest (cut (Some x.fault) d (working m d s) o)) (WasReset (unsaved_at (address_of m d) None o), all_at_rest (cut None d (working m d s) o)))
-      (sym (run_is m d s w))
+  reset_faults x = rw (run_is m d s w)
       (cut_faults x.fault (λ e. (WasReset (option_map (λ t. (address_of m d, t.0, t.1)) e.unsaved), all_at_rest (ended d w.seen.storage e m))) (ToldByReset (working m d s))
       (λ left is h. told_by_reset x.fault left is h))
 
@@ -169,7 +144,4 @@ pub fault_told_by_reset : FaultToldByReset
 fault_told_by_reset m x = fault_does m Reset x
 
 pub others_meet_none : OthersMeetNone
-others_meet_none m (Hio a) x h = absurd (cc)
-others_meet_none m (StepBy k) x h = absurd (cc)
-others_meet_none m Reset x h = absurd (cc)
-others_meet_none m e x h = refl
+others_meet_none m e x h = grind arith

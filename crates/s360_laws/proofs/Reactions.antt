@@ -17,7 +17,6 @@ use Rattle.s360_laws.specs.Machine.{with_device, Device, Machine, Subchannel, Id
 use Rattle.s360_laws.specs.NothingTold.{TellsNoTrack}
 use Rattle.s360_laws.specs.SerialLists.{changes_nothing}
 use Rattle.s360_laws.specs.Soundness.{device_for, IsRunning}
-use Rattle.s360_laws.specs.declared.arm.Arm.{Arm}
 use Rattle.s360_laws.specs.declared.arm.Arm.TheVariants.{AtRest, InMotion, Arrived}
 use Rattle.s360_laws.specs.declared.condition.ConditionCode.TheVariants.{Zero, Two, Three}
 use Rattle.s360_laws.proofs.FindDevices.{Keeps, at_device, idle, run_at, whole, working, working_device, found_map, keeps_one, found_is}
@@ -30,11 +29,10 @@ pub record Stands (m : Machine) (d : ℕ) (s : Script) : Type 0 where
   pub stands : run s (start_of m drive.drive) ≡ NotEnded seen
 
 pub stands_in : (m : Machine) (d : ℕ) (s : Script) → IsRunning (run_of m d s) → Stands m d s
-stands_in m d s r = let v = working_device m d s (device_at m d) refl r in go v.0 v.1 (run s (start_of m v.0.drive)) refl v.2
-  where
-    go : (v : Device) → device_at m d ≡ Some v → (o : Outcome) → run s (start_of m v.drive) ≡ o → IsRunning (Some o) → Stands m d s
-    go v at (Ended used st e) h r = absurd r
-    go v at (NotEnded seen) h r = record { drive = v; is_there = at; seen = seen; stands = h }
+stands_in m d s r =
+    let v = working_device m d s (device_at m d) refl r in
+    (elim (run s (start_of m v.0.drive)) as (λ o. run s (start_of m v.0.drive) ≡ o → IsRunning (Some o) → Stands m d s)
+    [ Ended used st e ↦ λ h r. absurd r | NotEnded seen ↦ λ h r. record { drive = v.0; is_there = v.1; seen = seen; stands = h } ]) refl v.2
 
 pub run_is : (m : Machine) (d : ℕ) (s : Script) (w : Stands m d s) → run_of m d s ≡ Some (NotEnded w.seen)
 run_is m d s w = run_at m d w.drive s w.is_there ∙ ap Some w.stands
@@ -103,21 +101,19 @@ module _ (m : Machine) (x : Option FaultAfter) where
 
   at_start : (a : ℕ) (y : Option Device) → address_of m (a % 256) ≡ a → device_at m (a % 256) ≡ y → Reacts m x Idle (Sio a) (start_device (a % 256) (idle m) y)
   at_start a None e at = Same Idle (Sio a) (WithCode Three) refl tt
-  at_start a (Some v) e at = go v.arm refl
-    where
-      go : (arm : Arm) → v.arm ≡ arm → Reacts m x Idle (Sio a) (start_device (a % 256) (idle m) (Some (record v { arm = arm })))
-      go InMotion k = BusyStart a
-      go Arrived k = EndAtStart a (a % 256) v (record { address = e; is_there = at }) k
-      go AtRest k = Starts a v (record { address = e; is_there = at }) k (first (start_of m v.drive)) refl
+  at_start a (Some v) e at = (elim v.arm as (λ arm. v.arm ≡ arm → Reacts m x Idle (Sio a) (start_device (a % 256) (idle m) (Some (record v { arm = arm })))) [
+    | InMotion ↦ λ k. BusyStart a
+    | Arrived ↦ λ k. EndAtStart a (a % 256) v (record { address = e; is_there = at }) k
+    | AtRest ↦ λ k. Starts a v (record { address = e; is_there = at }) k (first (start_of m v.drive)) refl
+  ]) refl
 
   at_test : (a d : ℕ) (y : Option Device) → address_of m d ≡ a → device_at m d ≡ y → Reacts m x Idle (Tio a) (test_device d (idle m) y)
   at_test a d None e at = Same Idle (Tio a) (WithCode Three) refl tt
-  at_test a d (Some v) e at = go v.arm refl
-    where
-      go : (arm : Arm) → v.arm ≡ arm → Reacts m x Idle (Tio a) (test_device d (idle m) (Some (record v { arm = arm })))
-      go InMotion k = BusyTest a
-      go Arrived k = EndAtTest a d v (record { address = e; is_there = at }) k
-      go AtRest k = Same Idle (Tio a) (WithCode Zero) refl tt
+  at_test a d (Some v) e at = (elim v.arm as (λ arm. v.arm ≡ arm → Reacts m x Idle (Tio a) (test_device d (idle m) (Some (record v { arm = arm })))) [
+    | InMotion ↦ λ k. BusyTest a
+    | Arrived ↦ λ k. EndAtTest a d v (record { address = e; is_there = at }) k
+    | AtRest ↦ λ k. Same Idle (Tio a) (WithCode Zero) refl tt
+  ]) refl
 
   at_interrupt : (l : Option ℕ) → lowest (filter has_arrived m.devices) ≡ l → Reacts m x Idle Interrupt (interrupt_device (idle m) l)
   at_interrupt None k = Same Idle Interrupt (Interrupted None) refl tt
@@ -156,20 +152,17 @@ module _ (m : Machine) (x : Option FaultAfter) where
   reacts Idle (Sio a) r = on Idle (Sio a) a _ refl (λ k. at_start a (device_at m (a % 256)) k refl)
   reacts Idle (Tio a) r = on Idle (Tio a) a _ refl (λ k. at_test a (a % 256) (device_at m (a % 256)) k refl)
   reacts Idle (Hio a) r = on Idle (Hio a) a _ refl (λ k. cond_both (is_some (device_at m (a % 256))) _ _ (Reacts m x Idle (Hio a)) (λ k. FreeHalt a) (λ k. Same Idle (Hio a) (WithCode Three) refl tt))
-  reacts Idle (StepBy k) r = Same Idle (StepBy k) (Stepped 0) refl tt
   reacts Idle Interrupt r = at_interrupt (lowest (filter has_arrived m.devices)) refl
-  reacts Idle Reset r = Clears Idle refl
-  reacts (Pending p csw) (Sio a) r = on (Pending p csw) (Sio a) a _ refl (λ k. Same (Pending p csw) (Sio a) (WithCode Two) refl tt)
   reacts (Pending p csw) (Tio a) r = on (Pending p csw) (Tio a) a _ refl (λ k. cond_both (a % 256 == p) _ _ (Reacts m x (Pending p csw) (Tio a))
       (λ q. TestTakes p csw a (ap (address_of m) (sym (eqb-true _ _ q)) ∙ k)) (λ q. Same (Pending p csw) (Tio a) (WithCode Two) refl tt))
   reacts (Pending p csw) (Hio a) r = on (Pending p csw) (Hio a) a _ refl (λ k. Same (Pending p csw) (Hio a) (WithCode Zero) refl tt)
-  reacts (Pending p csw) (StepBy k) r = Same (Pending p csw) (StepBy k) (Stepped 0) refl tt
   reacts (Pending p csw) Interrupt r = InterruptTakes p csw
-  reacts (Pending p csw) Reset r = Clears (Pending p csw) refl
-  reacts (Working d s) (Sio a) r = on (Working d s) (Sio a) a _ refl (λ k. Same (Working d s) (Sio a) (WithCode Two) refl tt)
   reacts (Working d s) (Tio a) r = on (Working d s) (Tio a) a _ refl (λ k. Same (Working d s) (Tio a) (WithCode Two) refl tt)
   reacts (Working d s) (Hio a) r = let w = stands_in m d s r in on (Working d s) (Hio a) a _ refl (λ k. by_run d s (Hio a) w (λ o. (WithCode Two, cut (fault_in x) d (working m d s) o)) (Halts d s a w))
   reacts (Working d s) (StepBy k) r = let w = stands_in m d s r in subst (λ o. Reacts m x (Working d s) (StepBy k) (stepped d s k (working m d s) o)) (sym (run_at m d w.drive (s ++ units_with k x) w.is_there))
       (at_step d s k w (run (s ++ units_with k x) (start_of m w.drive.drive)) refl)
   reacts (Working d s) Interrupt r = let w = stands_in m d s r in by_run d s Interrupt w (λ o. interrupt_program d s (working m d s) (asked_by o)) (at_request d s w w.seen.interruption refl)
   reacts (Working d s) Reset r = let w = stands_in m d s r in by_run d s Reset w (λ o. (WasReset (unsaved_at (address_of m d) (fault_in x) o), all_at_rest (cut (fault_in x) d (working m d s) o))) (Cuts d s w)
+  reacts c (Sio a) r = on c (Sio a) a _ refl (λ k. Same c (Sio a) (WithCode Two) refl tt)
+  reacts c (StepBy k) r = Same c (StepBy k) (Stepped 0) refl tt
+  reacts c Reset r = Clears c refl

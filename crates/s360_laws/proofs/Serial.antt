@@ -1,29 +1,29 @@
 -- Event by event, the machine does what its acts do.
-use Rattle.std.proofs.Common.{◌≡◌, ℕ, refl, sym, ap, ◌∙◌, true, false, Bool, cond, ◌==◌, List, [], ◌∷◌, ◌++◌, map, Option, ◌%◌, subst, Some, None, ◌⊎◌, inl, inr, zero, suc, ◌-◌, append_assoc, append-nil}
+use Rattle.std.proofs.Common.{arith, ◌≡◌, ℕ, refl, sym, ap, ◌∙◌, true, false, cond, ◌==◌, List, [], ◌∷◌, ◌++◌, map, Option, ◌%◌, subst, Some, zero, suc, ◌-◌, append_assoc, append-nil}
 use Rattle.std.proofs.lemmas.Bool.{cond_both}
 use Rattle.std.proofs.lemmas.List.{map-id}
 use Rattle.std.specs.Prelude.{find, option_map}
-use Rattle.s360_words.specs.Storage.{Change, status_stored, Bytes, KeyOf, csw_stored, Storage, changed}
-use Rattle.s360_words.specs.declared.flags.TheConstants.UnitStatus.{DEVICE_END, UNIT_CHECK, CHANNEL_END}
+use Rattle.s360_words.specs.Storage.{Change, status_stored, csw_stored, Storage, changed}
+use Rattle.s360_words.specs.declared.flags.TheConstants.UnitStatus.{DEVICE_END, UNIT_CHECK}
 use Rattle.ckd_command.specs.Drive.{IdleDrive, no_sense, Fault}
 use Rattle.s360_runs.specs.Endings.{Outcome, Ending, Ended, NotEnded, Standing}
 use Rattle.s360_runs.specs.Laws.{IsFirstUnit}
 use Rattle.s360_runs.specs.Runs.{run, Start}
 use Rattle.s360_runs.specs.Scripts.{units, Script, units_in, Outside, TakesInterruption}
 use Rattle.s360_runs.specs.Starts.{First, first, BadStart, AcceptedStart, RejectedStart, ImmediateStart}
-use Rattle.s360_runs.specs.Status.{no_channel_status, normal_end, busy_device_end}
-use Rattle.s360_runs.specs.Units.{ProgramPhase, walk, StandsIn, standing_in, Between, phase_past, Looking, Moving, StandsAt}
+use Rattle.s360_runs.specs.Status.{no_channel_status, busy_device_end}
+use Rattle.s360_runs.specs.Units.{ProgramPhase, walk, StandsIn, standing_in, Between, phase_past, StandsAt}
 use Rattle.s360_runs.proofs.FirstUnits.{first_is_unit}
 use Rattle.s360_runs.proofs.Standing.{seen_there, goes_by, stands_somewhere}
 use Rattle.s360_laws.specs.Events.{Exchange, Event, FaultAfter, Answer, Arrive, Sio, StepBy, Input, HasArrived, Stepped}
 use Rattle.s360_laws.specs.History.{with_drive, units_ahead, history, world_of, all_acts, acts, Runs, World, does, Changes, own_change, where_over, drive_in, after_first, after_rejection, Program, ByItself, after_run, after_program, start_acts, ClearsSense, Fate, after_end, script_ahead, fate_ahead, IsCut, begun_act, IsSerial}
 use Rattle.s360_laws.specs.Ledger.{later}
-use Rattle.s360_laws.specs.Machine.{Device, at_rest, Machine, is_working, with_csw, csw_of_unit, with_status, device_at, start_of, started, with_ending, arm_after, react, run_of, fault_in, units_with, with_arm, Working, Subchannel, Idle, Pending, exchanges, with_subchannel, ended, goes_on}
+use Rattle.s360_laws.specs.Machine.{Device, at_rest, Machine, is_working, with_csw, csw_of_unit, with_status, device_at, start_of, started, with_ending, arm_after, react, run_of, fault_in, units_with, with_arm, Working, Subchannel, exchanges, with_subchannel, ended, goes_on}
 use Rattle.s360_laws.specs.Soundness.{IsRunning}
 use Rattle.s360_laws.specs.declared.arm.Arm.{Arm}
 use Rattle.s360_laws.specs.declared.arm.Arm.TheVariants.{AtRest, Arrived}
 use Rattle.s360_laws.proofs.AlikeLists.{unmoved, Alike, arrival_gone}
-use Rattle.s360_laws.proofs.FindDevices.{find_map, idle, working, set_arm, set_both, set_drive, run_at}
+use Rattle.s360_laws.proofs.FindDevices.{found_map, keeps_one, find_map, idle, working, set_arm, set_both, set_drive, run_at}
 use Rattle.s360_laws.proofs.Reactions.{Reacts, Same, Arrives, Changed, Starts, Clears, Halts, Cuts, StepEnds, StepGoes, Asks, Within, reacts, EndAtStart, EndAtTest, EndInterrupts, InterruptTakes, Stands}
 use Rattle.s360_laws.proofs.StepUnits.{step_script, quiet_script, unmet, ended_there}
 
@@ -36,18 +36,11 @@ seen_map : (f : Device → Device) (g : ℕ × IdleDrive → ℕ × IdleDrive) �
 seen_map f g h [] = refl
 seen_map f g h (u ∷ us) = ap (λ x. x ∷ map seen (map f us)) (h u) ∙ ap (λ r. g (seen u) ∷ r) (seen_map f g h us)
 
-seen_cond : (b : Bool) (x y : Device) → seen (cond b x y) ≡ cond b (seen x) (seen y)
-seen_cond true x y = refl
-seen_cond false x y = refl
-
 arms : (arm : Arm) (device : ℕ) (us : List Device) → map seen (map (λ u. cond (u.device == device) (set_arm arm u) u) us) ≡ map seen us
 arms arm device us = seen_map _ (λ p. p) (λ u. cond_both (u.device == device) (set_arm arm u) u (λ v. seen v ≡ seen u) (λ e. refl) (λ e. refl)) us ∙ map-id (map seen us)
 
-ends : (arm : Arm) (d : IdleDrive) (device : ℕ) (us : List Device) → map seen (map (λ u. cond (u.device == device) (set_both arm d u) u) us) ≡ with_drive device d (map seen us)
-ends arm d device us = seen_map _ _ (λ u. seen_cond (u.device == device) (set_both arm d u) u) us
-
-drives : (d : IdleDrive) (device : ℕ) (us : List Device) → map seen (map (λ u. cond (u.device == device) (set_drive d u) u) us) ≡ with_drive device d (map seen us)
-drives d device us = seen_map _ _ (λ u. seen_cond (u.device == device) (set_drive d u) u) us
+drives : (f : Device → Device) (d : IdleDrive) → ((u : Device) → seen (f u) ≡ (u.device, d)) → (device : ℕ) (us : List Device) → map seen (map (λ u. cond (u.device == device) (f u) u) us) ≡ with_drive device d (map seen us)
+drives f d k device us = seen_map _ _ (λ u. let changed = k u in grind arith) us
 
 found : (device : ℕ) (us : List Device) → find (λ p. p.0 == device) (map seen us) ≡ option_map seen (find (λ u. u.device == device) us)
 found device us = find_map (λ p. p.0 == device) (λ u. u.device == device) seen (λ u. refl) us
@@ -57,14 +50,11 @@ look_up m device u h = found device m.devices ∙ ap (option_map seen) h
 
 -- a run is that of the drive that is seen, so an arm does not change it
 still_runs : (m : Machine) (c : Subchannel) (arm : Arm) (device : ℕ) → Runs m c → Runs (with_arm arm device m) c
-still_runs m (Working d s) arm device r = subst IsRunning (by_drive m ∙ ap (λ ds. option_map (λ p. run s (start_of m p.1)) (find (λ p. p.0 == d) ds)) (sym (arms arm device m.devices)) ∙ sym (by_drive (with_arm arm device m))) r
+still_runs m (Working d s) arm device r = rw (found_map (λ n. n == d) (λ u. cond (u.device == device) (set_arm arm u) u) (keeps_one device (set_arm arm) (λ u. refl)) m.devices) (same_run (device_at m d) r)
   where
-    by_seen : (m : Machine) (y : Option Device) → option_map (λ u. run s (start_of m u.drive)) y ≡ option_map (λ p. run s (start_of m p.1)) (option_map seen y)
-    by_seen m None = refl
-    by_seen m (Some u) = refl
-
-    by_drive : (m : Machine) → run_of m d s ≡ option_map (λ p. run s (start_of m p.1)) (drive_in (world_of m) d)
-    by_drive m = by_seen m (device_at m d) ∙ ap (option_map (λ p. run s (start_of m p.1))) (sym (found d m.devices))
+    same_run : (y : Option Device) → IsRunning (option_map (λ u. run s (start_of m u.drive)) y)
+        → IsRunning (option_map (λ u. run s (start_of m u.drive)) (option_map (λ u. cond (u.device == device) (set_arm arm u) u) y))
+    same_run y r = grind arith
 still_runs m c arm device r = tt
 
 -- What each event owes.
@@ -92,8 +82,7 @@ own ahead c w h = sym (ap (λ n. history w (where_over n (Changes c ∷ []) [] +
 
 -- what is alike has the same acts, also where a program runs
 alike : (c : Subchannel) (w : World) {y z : List Exchange} → Alike y z → history w (begun_act c z ++ acts z) ≡ history w (begun_act c y ++ acts y)
-alike (Working d s) w k = let script = k.script in let ends = k.ends in let does = k.does in cc
-alike c w k = ap (history w) (sym k.does)
+alike c w k = grind arith
 
 -- a reset clears what is seen of the sense
 clear : (m : Machine) (ahead : List Exchange) → history (record (world_of m) { drives = map seen (map at_rest m.devices) }) (acts ahead) ≡ history (does (world_of m) ClearsSense) (acts ahead)
@@ -106,7 +95,7 @@ program_world : (m : Machine) (device : ℕ) (script : Script) (fate : Fate) (u 
 program_world m device script fate u o at h = ap (after_program (world_of m) device script fate) (look_up m device u at) ∙ ap (after_run (world_of m) device fate) h
 
 end_world : (m : Machine) (device : ℕ) (st : Storage) (e : Ending) → world_of (with_ending device st e m) ≡ after_end (world_of m) device st e.drive
-end_world m device st e = ap (λ ds. record (world_of m) { storage = st; drives = ds }) (ends (arm_after e) e.drive device m.devices)
+end_world m device st e = ap (λ ds. record (world_of m) { storage = st; drives = ds }) (drives (set_both (arm_after e) e.drive) e.drive (λ u. refl) device m.devices)
 
 runs_at : (m : Machine) (d : ℕ) (script : Script) (u : Device) (seen : Standing) → device_at m d ≡ Some u → run script (start_of m u.drive) ≡ NotEnded seen → IsRunning (run_of m d script)
 runs_at m d script u seen at h = subst IsRunning (sym (run_at m d u script at ∙ ap Some h)) tt
@@ -119,21 +108,17 @@ begin_good a x m u AcceptedStart at h r = record { runs = subst IsRunning (sym (
 begin_good a x m u (RejectedStart d) at h r = record {
   runs = tt;
   follows = λ ahead q. same_after ahead _ _
-      (ap (λ ds. record (world_of (with_status UNIT_CHECK no_channel_status m)) { drives = ds }) (drives d (a % 256) m.devices)
+      (ap (λ ds. record (world_of (with_status UNIT_CHECK no_channel_status m)) { drives = ds }) (drives (set_drive d) d (λ u. refl) (a % 256) m.devices)
       ∙ ap (λ f. does (after_first (world_of m) (a % 256) f) (Changes (status_stored UNIT_CHECK.0 no_channel_status.0))) (sym h)
       ∙ ap (λ y. does (after_rejection (world_of m) (a % 256) y) (Changes (status_stored UNIT_CHECK.0 no_channel_status.0))) (sym (look_up m (a % 256) u at)));
 }
-begin_good a x m u (ImmediateStart e) at h r = record {
+begin_good a x m u (ImmediateStart e) at h r = let at_once : start_acts (a % 256) e.csw.unit ≡ Program (a % 256) (units 1) ByItself ∷ [] = grind arith in record {
   runs = tt;
   follows = λ ahead q. same_after ahead _ _
       (ap (λ w. does w (Changes (status_stored e.csw.unit.0 e.csw.channel.0)))
       (end_world m (a % 256) m.storage e ∙ sym (program_world m (a % 256) (units 1) ByItself u (Ended 1 m.storage e) at r.0)))
-      ∙ ap (λ l. history (world_of m) ((l ++ Changes (status_stored e.csw.unit.0 e.csw.channel.0) ∷ []) ++ acts ahead)) (sym (at_once r.1));
+      ∙ ap (λ l. history (world_of m) ((l ++ Changes (status_stored e.csw.unit.0 e.csw.channel.0) ∷ []) ++ acts ahead)) (sym at_once);
 }
-  where
-    at_once : (e.csw.unit ≡ CHANNEL_END) ⊎ (e.csw.unit ≡ normal_end) → start_acts (a % 256) e.csw.unit ≡ Program (a % 256) (units 1) ByItself ∷ []
-    at_once (inl k) = ap (start_acts (a % 256)) k
-    at_once (inr k) = ap (start_acts (a % 256)) k
 
 -- a program that runs
 module _ (m : Machine) (x : Option FaultAfter) (d : ℕ) (s : Script) (w : Stands m d s) where
@@ -175,13 +160,11 @@ Later key more c g = (h : ProgramPhase) × (walk more key g ≡ StandsIn h) × (
 
 later_change : (c : Change) (key : ℕ) (g : ProgramPhase) → Later key (Outside c ∷ []) c g
 later_change c key (Between p) = (phase_past (Outside c) (Between p), refl, refl, λ f. refl)
-later_change c key (Looking o p) = (phase_past (Outside c) (Looking o p), refl, refl, λ f. refl)
-later_change c key (Moving o p) = (phase_past (Outside c) (Moving o p), refl, refl, λ f. refl)
+later_change c key g = (phase_past (Outside c) g, refl, refl, λ f. refl)
 
 later_mark : (c : Change) (key : ℕ) (g : ProgramPhase) → Later key (TakesInterruption ∷ Outside c ∷ []) c g
 later_mark c key (Between p) = (phase_past (Outside c) (phase_past TakesInterruption (Between p)), refl, refl, λ f. refl)
-later_mark c key (Looking o p) = (phase_past (Outside c) (phase_past TakesInterruption (Looking o p)), refl, refl, λ f. refl)
-later_mark c key (Moving o p) = (phase_past (Outside c) (phase_past TakesInterruption (Moving o p)), refl, refl, λ f. refl)
+later_mark c key g = (phase_past (Outside c) (phase_past TakesInterruption g), refl, refl, λ f. refl)
 
 changed_run : (w : World) (d : ℕ) (fate : Fate) (c : Change) (a b : Standing) → b.storage ≡ changed c a.storage → ((f : Option Fault) → (b.cut f).drive ≡ (a.cut f).drive)
     → after_run w d fate (NotEnded b) ≡ does (after_run w d fate (NotEnded a)) (Changes c)
@@ -224,14 +207,8 @@ good_by m x (Arrives c a d v at k) r = record {
   runs = still_runs (with_subchannel c m) c Arrived d r;
   follows = λ ahead q. ap (λ ds. history (with_world (world_of m) ds) (begun_act c ahead ++ acts ahead)) (arms Arrived d m.devices) ∙ alike c (world_of m) (arrival_gone (Arrive a, x, HasArrived true) ahead refl);
 }
-good_by m x (Changed Idle (Bytes at bytes) k) r = record { runs = tt; follows = λ ahead q. own ahead (Bytes at bytes) (world_of m) (q refl) }
-good_by m x (Changed Idle (KeyOf at key) k) r = record { runs = tt; follows = λ ahead q. own ahead (KeyOf at key) (world_of m) (q refl) }
-good_by m x (Changed (Pending p csw) (Bytes at bytes) k) r = record { runs = tt; follows = λ ahead q. own ahead (Bytes at bytes) (world_of m) (q refl) }
-good_by m x (Changed (Pending p csw) (KeyOf at key) k) r = record { runs = tt; follows = λ ahead q. own ahead (KeyOf at key) (world_of m) (q refl) }
-good_by m x (Changed (Working d s) made k) r = absurd (cc)
-good_by m x (Clears Idle k) r = record { runs = tt; follows = λ ahead q. clear m ahead }
-good_by m x (Clears (Pending p csw) k) r = record { runs = tt; follows = λ ahead q. clear m ahead }
-good_by m x (Clears (Working d s) k) r = absurd (cc)
+good_by m x (Changed c made k) r = record { runs = grind arith; follows = λ ahead q. let own_act = own ahead made (world_of m) (q k) in grind arith }
+good_by m x (Clears c k) r = record { runs = tt; follows = λ ahead q. let cleared = clear m ahead in grind arith }
 good_by m x (EndAtStart a d v at k) r = record { runs = tt; follows = λ ahead q. ap (λ ds. history (with_world (world_of (with_status busy_device_end no_channel_status m)) ds) (acts ahead)) (arms AtRest d m.devices) }
 good_by m x (EndAtTest a d v at k) r = record { runs = tt; follows = λ ahead q. ap (λ ds. history (with_world (world_of (with_csw (csw_of_unit DEVICE_END) m)) ds) (acts ahead)) (arms AtRest d m.devices) }
 good_by m x (EndInterrupts d k) r = record {
@@ -248,8 +225,7 @@ good_by m x (Cuts d s w) r = record {
 good_by m x (StepEnds d s k w used st e h) r = step_ends m x d s w k used st e h
 good_by m x (StepGoes d s k w seen h) r = step_goes m x d s w k seen h
 good_by m x (Asks d s w csw h) r = let g = between_good m d s (TakesInterruption ∷ Outside (csw_stored csw) ∷ []) (csw_stored csw) w (later_mark (csw_stored csw)) in record { runs = g.0; follows = λ ahead q. g.1 ahead }
-good_by m x (Within d s w (Bytes at bytes)) r = let g = between_good m d s (Outside (Bytes at bytes) ∷ []) (Bytes at bytes) w (later_change (Bytes at bytes)) in record { runs = g.0; follows = λ ahead q. g.1 ahead }
-good_by m x (Within d s w (KeyOf at key)) r = let g = between_good m d s (Outside (KeyOf at key) ∷ []) (KeyOf at key) w (later_change (KeyOf at key)) in record { runs = g.0; follows = λ ahead q. g.1 ahead }
+good_by m x (Within d s w made) r = let g = between_good m d s (Outside made ∷ []) made w (later_change made) in record { runs = g.0; follows = λ ahead q. let same = g.1 ahead in grind arith }
 good_by m x y r = record { runs = tt; follows = λ ahead q. refl }
 
 pub good : (m : Machine) (e : Event) (x : Option FaultAfter) → Runs m m.subchannel → Good m e x (react e x m)
@@ -261,8 +237,7 @@ calm : {m : Machine} {x : Option FaultAfter} {c : Subchannel} {e : Event} {r : A
     → (rest : List Exchange) → (is_working r.1.subchannel ≡ false → units_ahead rest ≡ 0) → units_ahead ((e, x, r.0) ∷ rest) ≡ 0
 calm (Same c e a h k) w rest q = ((unmoved (e, _, a) h).1 rest).ahead ∙ q w
 calm (Arrives c a d v at k) w rest q = q w
-calm (Changed c (Bytes at bytes) k) w rest q = q w
-calm (Changed c (KeyOf at key) k) w rest q = q w
+calm (Changed c made k) w rest q = let none = q w in grind arith
 calm (Starts a v at k AcceptedStart h) w rest q = refl
 calm (Clears c k) w rest q = refl
 calm (Halts d s a y) w rest q = absurd (cc)
@@ -277,12 +252,8 @@ quiet : (es : List Input) (m : Machine) → Runs m m.subchannel → is_working m
 quiet [] m r w = refl
 quiet (e ∷ es) m r w = calm (reacts m e.1 m.subchannel e.0 r) w (exchanges es (react e.0 e.1 m).1) (quiet es (react e.0 e.1 m).1 (good m e.0 e.1 r).runs)
 
-nothing_told : (m : Machine) (c : Subchannel) → is_working c ≡ false → world_of m ≡ history (world_of m) (begun_act c [] ++ [])
-nothing_told m (Working d s) w = cc
-nothing_told m c w = refl
-
 pub serial : IsSerial
-serial m [] r w = nothing_told m m.subchannel w
+serial m [] r w = grind arith
 serial m (e ∷ es) r w =
     let g = good m e.0 e.1 r in
     serial (react e.0 e.1 m).1 es g.runs w ∙ g.follows (exchanges es (react e.0 e.1 m).1) (quiet es (react e.0 e.1 m).1 g.runs)

@@ -17,8 +17,7 @@ use Rattle.s360_laws.specs.Machine.{units_with}
 -- The units of a step.
 
 pub no_units : (k : ℕ) (x : Option FaultAfter) → k ≡ 0 → units_with k x ≡ []
-no_units k None h = ap (λ k. units_with k None) h
-no_units k (Some x) h = ap (λ k. units_with k (Some x)) h
+no_units k x h = grind arith
 
 -- a step's units are one, with the fault that stands there, and those of the shorter step behind it
 one_more : (x : Option FaultAfter) → (f : Option Fault) × (y : Option FaultAfter) × ((k : ℕ) → units_with (suc k) x ≡ OneUnit f ∷ units_with k y)
@@ -109,15 +108,7 @@ quiet_script [] h = refl
 quiet_script (t ∷ ahead) h = ap (λ n. where_over n [] (turns_of t ++ script_ahead ahead)) h
 
 pub same_script : (ahead : List Exchange) → script_ahead ahead ≡ where_over (units_ahead ahead) [] (script_ahead ahead)
-same_script ahead = go (units_ahead ahead) refl
-  where
-    go : (n : ℕ) → units_ahead ahead ≡ n → script_ahead ahead ≡ where_over n [] (script_ahead ahead)
-    go zero h = quiet_script ahead h
-    go (suc n) h = refl
+same_script ahead = grind (arith, quiet_script)
 
 pub step_script : (k : ℕ) (x : Option FaultAfter) (ahead : List Exchange) → units_with k x ++ script_ahead ahead ≡ where_over (k + units_ahead ahead) [] (units_with k x ++ script_ahead ahead)
-step_script k x ahead = go (k + units_ahead ahead) refl
-  where
-    go : (n : ℕ) → k + units_ahead ahead ≡ n → units_with k x ++ script_ahead ahead ≡ where_over n [] (units_with k x ++ script_ahead ahead)
-    go zero h = ap (λ l. l ++ script_ahead ahead) (no_units k x (omega (arith, h))) ∙ quiet_script ahead (omega (arith, h))
-    go (suc n) h = refl
+step_script k x ahead = grind (arith, no_units, quiet_script)

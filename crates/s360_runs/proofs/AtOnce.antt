@@ -1,5 +1,5 @@
 -- Bytes that may move one after another move at once.
-use Rattle.std.proofs.Common.{◌≡◌, ℕ, zero, suc, ◌+◌, ◌-◌, refl, sym, ap, ◌∙◌, arith, true, false, Bool, cond, not, ◌&&◌, List, [], ◌∷◌, ◌++◌, length, take, drop}
+use Rattle.std.proofs.Common.{add-one, ◌≡◌, ℕ, zero, suc, ◌+◌, ◌-◌, refl, sym, ap, ◌∙◌, arith, true, false, Bool, cond, not, ◌&&◌, List, [], ◌∷◌, ◌++◌, length, take, drop}
 use Rattle.std.proofs.Math.Seq.{take-add}
 use Rattle.std.proofs.lemmas.Bool.{cond_both}
 use Rattle.std.proofs.lemmas.List.{drop-drop, append_assoc, append-nil, length-append}
@@ -35,36 +35,33 @@ taken_in_two m i l =
 one_longer : (bytes new : List ℕ) → 1 ≡ length new → length bytes + 1 ≡ length (bytes ++ new)
 one_longer bytes new h = ap (λ n. length bytes + n) h ∙ sym (length-append bytes new)
 
--- the bytes of suc m are the first and the m behind it
-nexts_in_two : (g k : Bool) (m : ℕ) (given bytes : List ℕ) (a : ℕ) (s : Storage) (new : List ℕ) → new ≡ nexts g 1 given bytes a s.bytes → 1 ≡ length new
-    → nexts g (suc m) given bytes a s.bytes ≡ new ++ nexts g m given (bytes ++ new) (a + 1) (after (g && k) s a new).bytes
-nexts_in_two true k m given bytes a s new e h =
-    taken_in_two m (length bytes) given ∙ ap (λ r. r ++ take m (drop (length bytes + 1) given)) (sym e)
-    ∙ ap (λ n. new ++ take m (drop n given)) (one_longer bytes new h)
-nexts_in_two false k m given bytes a s new e h = taken_in_two m a s.bytes ∙ ap (λ r. r ++ take m (drop (a + 1) s.bytes)) (sym e)
+-- one byte that moves from or to an address of storage
+module _ (s : Storage) (a : ℕ) (new : List ℕ) (one : 1 ≡ length new) where
+  -- the bytes of suc m are the first and the m behind it
+  nexts_in_two : (g k : Bool) (m : ℕ) (given bytes : List ℕ) → new ≡ nexts g 1 given bytes a s.bytes
+      → nexts g (suc m) given bytes a s.bytes ≡ new ++ nexts g m given (bytes ++ new) (a + 1) (after (g && k) s a new).bytes
+  nexts_in_two true k m given bytes e =
+      taken_in_two m (length bytes) given ∙ ap (λ r. r ++ take m (drop (length bytes + 1) given)) (sym e)
+      ∙ ap (λ n. new ++ take m (drop n given)) (one_longer bytes new one)
+  nexts_in_two false k m given bytes e = taken_in_two m a s.bytes ∙ ap (λ r. r ++ take m (drop (a + 1) s.bytes)) (sym e)
 
-stored_in_two : (w : Bool) (s : Storage) (a : ℕ) (new more : List ℕ) → 1 ≡ length new → after w (after w s a new) (a + 1) more ≡ after w s a (new ++ more)
-stored_in_two false s a new more h = refl
-stored_in_two true s a (x ∷ []) more h =
-    let e : a + 1 ≡ suc a = omega arith in
-    ap (λ b. record s { bytes = b }) (ap (λ n. overwritten (overwritten s.bytes a (x ∷ [])) n more) e ∙ written_in_two s.bytes a x more)
-stored_in_two true s a [] more h = absurd (omega arith)
-stored_in_two true s a (x ∷ y ∷ new) more h = absurd (omega arith)
-
-abbrev made : Transfer → Storage → ℕ → ℕ → List ℕ → Transfer
-made p s left a bytes = record { storage = s; ccw = p.ccw; place = record p.place { residual = left }; address = a; bytes = bytes }
-
-same_move : (p : Transfer) (s s_two : Storage) (left left_two a a_two : ℕ) (b b_two : List ℕ) → s ≡ s_two → left ≡ left_two → a ≡ a_two → b ≡ b_two → made p s left a b ≡ made p s_two left_two a_two b_two
-same_move p s s_two left left_two a a_two b b_two es el ea eb = cc
+  stored_in_two : (w : Bool) (more : List ℕ) → after w (after w s a new) (a + 1) more ≡ after w s a (new ++ more)
+  stored_in_two w more = go w new one
+    where
+      go : (w : Bool) (new : List ℕ) → 1 ≡ length new → after w (after w s a new) (a + 1) more ≡ after w s a (new ++ more)
+      go true (x ∷ []) h = rw add-one (ap (λ b. record s { bytes = b }) (written_in_two s.bytes a x more))
+      go w new h = grind arith
 
 moved_in_two : (m : ℕ) (o : Open) (p : Transfer) → 1 ≡ length (next_bytes 1 o p) → after_bytes m o (after_bytes 1 o p) ≡ after_bytes (suc m) o p
 moved_in_two m o p h =
     let w = gives o && not (skips p.ccw) in
     let new = next_bytes 1 o p in
-    let two = nexts_in_two (gives o) (not (skips p.ccw)) m (given o) p.bytes p.address p.storage new refl h in
+    let two = nexts_in_two p.storage p.address new h (gives o) (not (skips p.ccw)) m (given o) p.bytes refl in
     let less : p.place.residual - 1 - m ≡ p.place.residual - suc m = omega arith in
     let more : p.address + 1 + m ≡ p.address + suc m = omega arith in
-    same_move p _ _ _ _ _ _ _ _ (stored_in_two w p.storage p.address new _ h ∙ ap (after w p.storage p.address) (sym two)) less more (append_assoc p.bytes new _ ∙ ap (λ r. p.bytes ++ r) (sym two))
+    let storage = stored_in_two p.storage p.address new h w (next_bytes m o (after_bytes 1 o p)) in
+    let bytes = append_assoc p.bytes new (next_bytes m o (after_bytes 1 o p)) in
+    cc
 
 moved_none : (o : Open) (p : Transfer) → after_bytes 0 o p ≡ p
 moved_none o p =
@@ -74,7 +71,9 @@ moved_none o p =
     cond_both w _ _ (λ s. s ≡ p.storage) (λ e. ap (λ b. record p.storage { bytes = b }) (overwritten-none p.storage.bytes p.address [] refl)) (λ e. refl) in
     let less : p.place.residual - 0 ≡ p.place.residual = omega arith in
     let more : p.address + 0 ≡ p.address = omega arith in
-    same_move p _ _ _ _ _ _ _ _ (ap (after w p.storage p.address) none ∙ same) less more (ap (λ r. p.bytes ++ r) none ∙ append-nil p.bytes)
+    let bytes = append-nil p.bytes in
+    let moved : after_bytes 0 o p ≡ record { storage = p.storage; ccw = p.ccw; place = record p.place { residual = p.place.residual }; address = p.address; bytes = p.bytes } = cc in
+    moved
 
 -- m bytes that may move one after another move at once
 pub at_once : MoveAtOnce

@@ -1,26 +1,20 @@
 -- What the laws of programs need to know of a drive: how a command ends, and what a fault of the store does to it.
-use Rattle.std.proofs.Common.{◌≡◌, ℕ, zero, suc, refl, ap, ◌∙◌, true, false, Bool, not, List, [], ◌∷◌, Option, Some, None, ◌⊎◌, inl, inr}
+use Rattle.std.proofs.Common.{arith, ◌≡◌, ℕ, suc, refl, ap, ◌∙◌, true, false, Bool, not, List, [], ◌∷◌, Option, Some, None, ◌⊎◌, inl, inr}
 use Rattle.std.specs.Prelude.{◌&&◌, length, slice_get, slice_set, slice_index_or, option_map, ◌==◌}
 use Rattle.std.proofs.lemmas.Nat.{and_or_self, and_or_apart}
 use Rattle.s360_words.specs.declared.flags.TheConstants.UnitStatus.{UNIT_CHECK}
 use Rattle.s360_words.specs.declared.flags.UnitStatus.{UnitStatus}
 use Rattle.s360_words.specs.Storage.{overwritten}
 use Rattle.s360_words.proofs.Overwriting.{length-overwritten}
-use Rattle.ckd_command.specs.declared.registers.Mark.{Mark}
-use Rattle.ckd_command.specs.declared.registers.Mark.TheVariants.{Written}
 use Rattle.ckd_command.specs.declared.registers.Registers.{Registers}
-use Rattle.ckd_command.specs.declared.tables.Aim.{Aim}
-use Rattle.ckd_command.specs.declared.tables.Aim.TheVariants.{Next}
-use Rattle.ckd_command.specs.Answers.{Beginning, Sight}
 use Rattle.ckd_command.specs.Answers as answer
-use Rattle.ckd_command.specs.Tables.{aim}
 use Rattle.ckd_command.specs.Commands.{Closing, beginning, sight}
-use Rattle.ckd_command.specs.Drive.{IdleDrive, State, Volume, unsaved, tells_equipment_check, is_written, is_written_by, drive_of, number_under, slot_under, track_under, Fault, LoadFails, SaveFails, left_by, lost, saving, moving_off, with_registers, with_store_fault, Open, Rejected, begin, begun, Failed, look, looked, look_for, Closed, failed, close, closed, closed_moving, settled, with_unit_check, unsaved_by}
+use Rattle.ckd_command.specs.Drive.{IdleDrive, State, Volume, unsaved, tells_equipment_check, is_written, drive_of, number_under, slot_under, track_under, Fault, LoadFails, SaveFails, left_by, lost, saving, moving_off, with_registers, with_store_fault, Open, Rejected, begin, begun, Failed, look, looked, Closed, failed, close, closed, closed_moving, settled, with_unit_check}
 use Rattle.ckd_command.proofs.Arms.{AtSameTrack, BeginsAt, beginning_at, closing_at, closing_empty}
 use Rattle.ckd_command.proofs.CommandFacts.{IsClosing, closing_facts, store_fault_is_told}
 use Rattle.s360_runs.specs.Endings.{immediate}
 use Rattle.s360_runs.specs.Status.{tells}
-use Rattle.s360_runs.specs.StoreCalls.{closing_of, goes_to_next_head, is_next, leaves_as_it_begins, leaves_looking, looks_for_area}
+use Rattle.s360_runs.specs.StoreCalls.{closing_of, goes_to_next_head, leaves_as_it_begins, leaves_looking, looks_for_area}
 use Rattle.s360_runs.specs.Faults.{LosesAtMost}
 use Rattle.s360_runs.specs.Laws.{IsEnd}
 use Rattle.s360_runs.proofs.Units.{BegunIs, LookIs}
@@ -51,23 +45,18 @@ pub settle_end : (f : Option Fault) (c : Closed) → IsEnd c.unit c.motion → I
 settle_end f c h = elim (left_by f c.state.mark) as (λ x. let d = saving x c.state (λ s. record c { state = s; unit = with_unit_check c.unit }) c in IsEnd d.unit d.motion) [ None ↦ h | Some left ↦ joins_end c.unit c.motion h ]
 
 pub immediate_end : (s : State) (motion : Bool) → IsEnd (immediate s motion).unit motion
-immediate_end s true = record { channel_end = refl; device_end = refl }
-immediate_end s false = record { channel_end = refl; device_end = refl }
+immediate_end s motion = record { channel_end = grind arith; device_end = grind arith }
 
 -- Slots.
 
 pub get_set_other : (xs : List (List ℕ)) (i j : ℕ) (y : List ℕ) → (j ≡ i → ⊥) → slice_get (slice_set xs i y) j ≡ slice_get xs j
-get_set_other [] i j y h = refl
-get_set_other (x ∷ xs) zero zero y h = absurd (h refl)
-get_set_other (x ∷ xs) zero (suc j) y h = refl
-get_set_other (x ∷ xs) (suc i) zero y h = refl
 get_set_other (x ∷ xs) (suc i) (suc j) y h = get_set_other xs i j y (λ e. h (ap suc e))
+get_set_other xs i j y h = grind arith
 
 get_set_size : (xs : List (List ℕ)) (i : ℕ) (left : List ℕ)
     → option_map length (slice_get (slice_set xs i (overwritten (slice_index_or xs i []) 0 left)) i) ≡ option_map length (slice_get xs i)
-get_set_size [] i left = refl
-get_set_size (x ∷ xs) zero left = ap Some (length-overwritten x 0 left)
 get_set_size (x ∷ xs) (suc i) left = get_set_size xs i left
+get_set_size xs i left = grind (arith, length-overwritten)
 
 -- Faults.
 
@@ -100,11 +89,7 @@ load_fails o = record { equipment_check = store_fault_is_told o.state.registers;
 
 -- what a save that fails comes to, where the track is written; and where it is not, nothing is saved
 pub saving_or : {A : Type 0} (left : List ℕ) (s : State) (fails : State → A) (goes : A) → let x = moving_off (Some (SaveFails left)) s fails goes in (is_written s ≡ true → x ≡ fails (lost s left)) × (is_written s ≡ false → x ≡ goes)
-saving_or left s fails goes = go s.mark
-  where
-    go : (m : Mark) → let x = saving (left_by (Some (SaveFails left)) m) s fails goes in (is_written_by m ≡ true → x ≡ fails (lost s left)) × (is_written_by m ≡ false → x ≡ goes)
-    go Written = (λ h. refl, λ h. absurd (cc))
-    go m = (λ h. absurd (cc), λ h. refl)
+saving_or left s fails goes = grind arith
 
 -- what is so of a save alone
 abbrev pub if_save : Fault → Bool → Bool
@@ -134,8 +119,7 @@ close_fails f o b before at e k = go f (closing_of o b) (closing_of o b).moves_o
     go : (f : Fault) (c : Closing) (moves_off : Bool) → (closed None o.state c moves_off).state.volume ≡ before.volume
         → FailsOr (if_save f (moves_off && is_written o.state)) f before at failed (λ f. closed f o.state c moves_off)
     go (SaveFails left) c true e = leaves_or left o.state o.state.registers before at failed (closed_moving o.state c) e k
-    go LoadFails c true e = (λ h. absurd (cc), λ h. refl)
-    go f c moves_off e = (λ h. absurd (cc), λ h. refl)
+    go f c moves_off e = (λ h. absurd (grind arith), λ h. grind arith)
 
 -- a command that leaves its track written leaves the arm there, and at rest
 pub record StaysWritten (at : Registers) (c : Closed) : Type 0 where
@@ -166,27 +150,16 @@ close_none o = rw (empty_stays o, empty_writes o) (refl, refl)
 
 -- where the command failed already by this fault, nothing more is lost as the program ends
 pub settle_again : (f : Fault) (c : Closed) (before : IdleDrive) (at : Registers) → Fails f before at c.state → settled (Some f) c ≡ c
-settle_again LoadFails c before at h = refl
-settle_again (SaveFails left) c before at h = go c.state.mark h.slots.0
-  where
-    go : (m : Mark) → unsaved_by m c.state.registers ≡ Some (c.state.registers.cylinder, c.state.registers.head)
-        → saving (left_by (Some (SaveFails left)) m) c.state (λ s. record c { state = s; unit = with_unit_check c.unit }) c ≡ c
-    go Written k = absurd (cc)
-    go m k = refl
+settle_again f c before at h = grind arith
 
 -- Looks.
 
 -- a load that fails ends a look for an area; one that does not look for any makes none
 pub look_loads : (o : Open) → (looks_for_area o ≡ true → look (Some LoadFails) o ≡ Failed (with_store_fault o.state)) × (looks_for_area o ≡ false → look (Some LoadFails) o ≡ look None o)
-look_loads o = go (aim o.opened.command) _
-  where
-    go : (a : Aim) (s : Sight) → (is_next a ≡ true → look_for (Some LoadFails) o a s ≡ Failed (with_store_fault o.state)) × (is_next a ≡ false → look_for (Some LoadFails) o a s ≡ look_for None o a s)
-    go (Next kind) s = (λ h. refl, λ h. absurd (cc))
-    go a (answer.Found opened) = (λ h. absurd (cc), λ h. refl)
-    go a s = (λ h. absurd (cc), λ h. refl)
+look_loads o = grind arith
 
 -- what an open command sights of the track under the arm
-abbrev pub sighted : Open → Sight
+abbrev pub sighted : Open → answer.Sight
 sighted o = sight o.state.volume.geometry (track_under o.state) o.opened o.state.registers
 
 -- whether a look meets a fault: it loads, or it saves before the head goes on to the next track
@@ -198,7 +171,7 @@ pub look_fails : (f : Fault) (o : Open) → FailsOr (look_meets f o) f (drive_of
 look_fails LoadFails o = let h = look_loads o in (λ w. (with_store_fault o.state, h.0 w, load_fails o), h.1)
 look_fails (SaveFails left) o = go (sighted o)
   where
-    go : (s : Sight) → FailsOr (goes_to_next_head s && is_written o.state) (SaveFails left) (drive_of o.state) o.state.registers Failed (λ f. looked f o s)
+    go : (s : answer.Sight) → FailsOr (goes_to_next_head s && is_written o.state) (SaveFails left) (drive_of o.state) o.state.registers Failed (λ f. looked f o s)
     go (answer.NextHead r) = leaves_or left o.state o.state.registers _ _ Failed _ refl (same_arm o.state.registers)
     go s = (λ h. absurd (cc), λ h. refl)
 
@@ -208,11 +181,10 @@ look_fails (SaveFails left) o = go (sighted o)
 pub begin_fails : (f : Fault) (code : ℕ) (s : State) → FailsOr (if_save f (leaves_as_it_begins (beginning code s.registers) && is_written s)) f (drive_of s) s.registers Rejected (λ f. begin f code s)
 begin_fails f code s = go f (beginning code s.registers) (beginning_at code s.registers)
   where
-    go : (f : Fault) (b : Beginning) → BeginsAt s.registers b → FailsOr (if_save f (leaves_as_it_begins b && is_written s)) f (drive_of s) s.registers Rejected (λ f. begun f s b)
+    go : (f : Fault) (b : answer.Beginning) → BeginsAt s.registers b → FailsOr (if_save f (leaves_as_it_begins b && is_written s)) f (drive_of s) s.registers Rejected (λ f. begun f s b)
     go (SaveFails left) (answer.ToCylinderZero r None) k = leaves_or left s r _ _ Rejected _ refl k
     go (SaveFails left) (answer.ToCylinderZero r (Some o)) k = leaves_or left s r _ _ Rejected _ refl k.0
-    go LoadFails (answer.ToCylinderZero r o) k = (λ h. absurd (cc), λ h. refl)
-    go f b k = (λ h. absurd (cc), λ h. refl)
+    go f b k = (λ h. absurd (grind arith), λ h. grind arith)
 
 -- Beginning and looking change no slot: what holds of the volume holds of it behind them.
 
@@ -223,16 +195,11 @@ abbrev pub VolumeIn : (Volume → Type 0) → State → Type 0
 VolumeIn V s = V s.volume
 
 pub begin_keeps : (V : Volume → Type 0) (code : ℕ) (s : State) → V s.volume → BegunIs (VolumeClosed V) (VolumeIn V) (begin None code s)
-begin_keeps V code s h = go (beginning code s.registers)
-  where
-    go : (b : Beginning) → BegunIs (VolumeClosed V) (VolumeIn V) (begun None s b)
-    go (answer.ToCylinderZero r None) = h
-    go (answer.ToCylinderZero r (Some o)) = h
-    go b = h
+begin_keeps V code s h = grind arith
 
 pub look_keeps : (V : Volume → Type 0) (o : Open) → V o.state.volume → LookIs (VolumeClosed V) (VolumeIn V) None (look None o)
 look_keeps V o h = go (sighted o)
   where
-    go : (s : Sight) → LookIs (VolumeClosed V) (VolumeIn V) None (looked None o s)
+    go : (s : answer.Sight) → LookIs (VolumeClosed V) (VolumeIn V) None (looked None o s)
     go (answer.Found opened) = (h, rw (close_none (record o { opened = opened })).0 h)
     go s = h

@@ -1,11 +1,10 @@
 -- Each ending has channel end, and device end unless the arm still moves.
-use Rattle.std.proofs.Common.{◌≡◌, ℕ, refl, subst, cond, [], Option, Some, None}
-use Rattle.std.proofs.lemmas.Bool.{cond_both}
+use Rattle.std.proofs.Common.{arith, ◌≡◌, ℕ, refl, subst, [], Option, Some, None}
 use Rattle.s360_words.specs.declared.flags.ChannelStatus.{ChannelStatus}
-use Rattle.s360_words.specs.declared.flags.TheConstants.ChannelStatus.{PROGRAM_CHECK, PROGRAM_CONTROLLED_INTERRUPTION}
+use Rattle.s360_words.specs.declared.flags.TheConstants.ChannelStatus.{PROGRAM_CHECK}
 use Rattle.s360_words.specs.declared.words.Csw.{Csw}
 use Rattle.ckd_command.specs.Drive.{Closed, Fault, Rejected, Immediate, Started, begin, look, Failed, Passed, Ready, begin_program}
-use Rattle.s360_runs.specs.Endings.{untouched, Ending, ending, Standing, Outcome, Ended, NotEnded, csw_at}
+use Rattle.s360_runs.specs.Endings.{untouched, Ending, ending, Standing, Outcome, Ended, NotEnded}
 use Rattle.s360_runs.specs.Laws.{IsEnd, EndingIsEnd, CutIsEnd}
 use Rattle.s360_runs.specs.Places.{Place}
 use Rattle.s360_runs.specs.Runs.{Start, run, first_place, start_point}
@@ -46,13 +45,8 @@ RunGood (Ended used s e) = IsGood e
 RunGood (NotEnded s) = StandingGood s
 
 -- the CSW of an interruption that is asked for has no unit status
-asked_at : (key : ℕ) (p : Place) → AsksGood (cond p.interruption (Some (csw_at key p no_unit_status PROGRAM_CONTROLLED_INTERRUPTION)) None)
-asked_at key p = cond_both p.interruption (Some (csw_at key p no_unit_status PROGRAM_CONTROLLED_INTERRUPTION)) None AsksGood (λ e. refl) (λ e. tt)
-
 asks_good : (key : ℕ) (g : ProgramPhase) → AsksGood (standing_in key g).interruption
-asks_good key (Between p) = asked_at key p.place
-asks_good key (Looking o r) = asked_at key r.place
-asks_good key (Moving o t) = asked_at key t.place
+asks_good key g = grind arith
 
 -- of a unit, and of a cut in its place
 good_phase : (f : Option Fault) (key : ℕ) (g : ProgramPhase) → NextHas (λ s. Unit {0}) IsGood (unit f key g) × IsGood ((standing_in key g).cut f)

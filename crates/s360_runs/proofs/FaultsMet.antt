@@ -1,8 +1,8 @@
 -- A fault that is met ends the program, and is reported; at most one slot is lost; and it is met exactly where the call is made.
-use Rattle.std.proofs.Common.{◌≡◌, ◌+◌, ◌-◌, ℕ, suc, refl, sym, ap, subst, ◌∙◌, arith, true, false, Bool, cond, not, ◌&&◌, ◌||◌, List, [], ◌∷◌, ◌++◌, Option, Some, None, ◌⊎◌, inl, inr}
+use Rattle.std.proofs.Common.{◌≡◌, ◌+◌, ℕ, suc, refl, sym, ap, subst, ◌∙◌, arith, true, false, Bool, cond, not, ◌&&◌, ◌||◌, List, [], ◌∷◌, ◌++◌, Option, Some, None, ◌⊎◌, inl, inr}
 use Rattle.std.specs.Prelude.{◌==◌, bit_and}
-use Rattle.std.proofs.Math.Bool.{and-false, or-false}
-use Rattle.std.proofs.lemmas.Bool.{cond_both, eqb-true, not-false}
+use Rattle.std.proofs.Math.Bool.{and-false}
+use Rattle.std.proofs.lemmas.Bool.{eqb-true, not-false}
 use Rattle.std.proofs.lemmas.Nat.{and_or_apart}
 use Rattle.s360_words.specs.Storage.{Storage}
 use Rattle.s360_words.specs.Words.{has, chains_command}
@@ -10,13 +10,12 @@ use Rattle.s360_words.specs.declared.flags.ChannelStatus.{ChannelStatus}
 use Rattle.s360_words.specs.declared.flags.TheConstants.ChannelStatus.{INCORRECT_LENGTH, PROGRAM_CHECK}
 use Rattle.s360_words.specs.declared.flags.TheConstants.UnitStatus.{UNIT_CHECK}
 use Rattle.s360_words.specs.declared.flags.UnitStatus.{UnitStatus}
-use Rattle.ckd_command.specs.Answers.{Beginning, Sight}
 use Rattle.ckd_command.specs.Answers as answer
 use Rattle.ckd_command.specs.Commands.{beginning}
-use Rattle.ckd_command.specs.Drive.{Fault, Closed, begun, looked, track_under, with_registers, close, Open, look, AfterLook, State, Failed, Passed, Ready, AfterBegin, Rejected, Immediate, Started, begin, is_written, length_of, settled, LoadFails, SaveFails, with_unit_check}
+use Rattle.ckd_command.specs.Drive.{Fault, Closed, begun, looked, track_under, with_registers, close, Open, look, AfterLook, State, Failed, Passed, Ready, AfterBegin, Rejected, Immediate, Started, begin, is_written, settled, LoadFails, SaveFails, with_unit_check}
 use Rattle.ckd_command.proofs.Arms.{AtSameTrack, BeginsAt, SightAt, beginning_at, sight_at}
 use Rattle.s360_runs.specs.Commands.{Ends, choice, past_modifier, Point, Chains, completed, goes_on_chaining, length_status, requested}
-use Rattle.s360_runs.specs.Endings.{Ending, ending, settled_ending, failed, immediate, untouched, closed_by_cut, Ended}
+use Rattle.s360_runs.specs.Endings.{Ending, ending, settled_ending, failed, immediate, untouched, closed_by_cut}
 use Rattle.s360_runs.specs.Faults.{NextByFault, FaultEndsUnit, FaultEndsPhase, FaultEndsCut, FaultEndsProgram, OutcomeByFault, cut_drive, without_faults, GoesOnWithoutFaults}
 use Rattle.s360_runs.specs.Laws.{IsEnd}
 use Rattle.s360_runs.specs.Places.{Place, fetch, Fetched, NoCcw, TransferTo, GoodCcw, past_no_ccw}
@@ -24,8 +23,8 @@ use Rattle.s360_runs.specs.Runs.{Start, run, start_point}
 use Rattle.s360_runs.specs.Scripts.{Script, OneUnit, units_in}
 use Rattle.s360_runs.specs.Status.{tells, beside, with_interruption, no_channel_status}
 use Rattle.s360_runs.specs.StoreCalls.{closing_of, ends_written_begun, ends_written_by, ends_written_fetched, ends_written_looked, ends_written_moved, leaves_fetched, leaves_moved, meets, saves_by_cut}
-use Rattle.s360_runs.specs.Transfers.{Request, Transfer, request_of, Stops, TransferUnit, Moves, Completes, transfer_unit, first_transfer, is_incorrect_length}
-use Rattle.s360_runs.specs.Units.{unit, Next, EndsIn, next_chosen, next_moved, next_looked, next_begun, next_fetched, Between, Looking, Moving, ProgramPhase, standing_in, state_in, StandsAt, outcome_of, on_next, walk, GoesOn, EndsWith, StandsIn, phase_past, Walk}
+use Rattle.s360_runs.specs.Transfers.{Request, Transfer, request_of, Stops, TransferUnit, Moves, Completes, transfer_unit, first_transfer}
+use Rattle.s360_runs.specs.Units.{unit, Next, EndsIn, next_chosen, next_moved, next_looked, next_begun, next_fetched, Between, Looking, Moving, ProgramPhase, standing_in, state_in, StandsAt, outcome_of, on_next, walk, GoesOn, StandsIn, phase_past, Walk}
 use Rattle.s360_runs.proofs.DriveFacts.{Fails, FailsOr, StaysWritten, begin_fails, close_end, close_fails, close_none, close_stays, empty_stays, if_save, immediate_end, joins_check, joins_end, look_fails, look_meets, lost_fails, same_arm, saving_or, settle_again, sighted}
 use Rattle.s360_runs.proofs.Units.{BegunIs, FitsCheck, NextIs, UnitIs, unit_is}
 use Rattle.s360_runs.proofs.Standing.{stands_by_walk, stands_somewhere, goes_by, begins}
@@ -42,7 +41,7 @@ no_length unit asked channel u h = go asked (beside unit channel) (ap (λ b. has
 
 -- the status of a command that is complete
 length_fits : (o : Open) (t : Transfer) (c : Closed) → FitsCheck (length_status o t c)
-length_fits o t c = cond_both (not (tells c.unit UNIT_CHECK) && is_incorrect_length (length_of o t.bytes) t) INCORRECT_LENGTH no_channel_status FitsCheck (λ e. refl) (λ e. refl)
+length_fits o t c = grind arith
 
 -- Endings by a fault.
 
@@ -94,8 +93,7 @@ module _ (f : Fault) (key : ℕ) (g : ProgramPhase) where
   call_met false ends fails call finish h failing staying = rw (h.1 refl) staying
 
 unmet : (f : Fault) (key : ℕ) (g : ProgramPhase) (x : Next) → MetOr (if_save f false) f key g (λ f. x)
-unmet LoadFails key g x = (λ w. absurd (cc), λ w. refl)
-unmet (SaveFails left) key g x = (λ w. absurd (cc), λ w. refl)
+unmet f key g x = grind arith
 
 -- a program that ends, and whose track is saved now
 ended_met : (f : Fault) (key : ℕ) (g : ProgramPhase) (s : Storage) (p : Place) (channel : ChannelStatus) (c : Closed) → FitsCheck channel → MayLose key g c
@@ -116,8 +114,7 @@ chosen_met f key g r channel c l m = go (goes_on_chaining r c channel) (record {
     go false q = ended_met f key g r.storage r.place channel c l m
 
 if_save_or : (f : Fault) (a b : Bool) → (if_save f a || if_save f b) ≡ if_save f (a || b)
-if_save_or LoadFails a b = refl
-if_save_or (SaveFails left) a b = refl
+if_save_or f a b = grind arith
 
 -- Units.
 
@@ -152,10 +149,9 @@ LookMay key o r (Ready p) = p.state ≡ o.state
 look_may : (key : ℕ) (o : Open) (r : Request) → LookMay key o r (look None o)
 look_may key o r = go (sighted o) (sight_at o.state.volume.geometry (track_under o.state) o.opened o.state.registers)
   where
-    go : (s : Sight) → SightAt o.state.registers o.opened s → LookMay key o r (looked None o s)
-    go (answer.Found opened) k = refl
+    go : (s : answer.Sight) → SightAt o.state.registers o.opened s → LookMay key o r (looked None o s)
     go (answer.Missed q) k = failed_may key (Looking o r) (with_registers o.state q) refl k
-    go s k = tt
+    go s k = grind arith
 
 looked_met : (f : Fault) (key : ℕ) (o : Open) (r : Request) → MetOr (look_meets f o || if_save f (ends_written_looked key r (look None o))) f key (Looking o r) (λ x. next_looked x key r (look x o))
 looked_met f key o r =
@@ -173,19 +169,17 @@ looked_met f key o r =
       where
         -- with no byte no command leaves its track
         stays_here : (u : TransferUnit) → (leaves_moved p (first_transfer r) u && is_written p.state) ≡ false
-        stays_here (Moves next) = refl
-        stays_here u = ap (λ b. b && is_written p.state) (empty_stays p)
+        stays_here u = grind (arith, empty_stays)
 
 -- what a command that is over as it begins may lose
 begin_may : (key : ℕ) (p : Point) (code : ℕ) → BegunIs (MayLose key (Between p)) (λ s. Unit {0}) (begin None code p.state)
 begin_may key p code = go (beginning code p.state.registers) (beginning_at code p.state.registers)
   where
-    go : (b : Beginning) → BeginsAt p.state.registers b → BegunIs (MayLose key (Between p)) (λ s. Unit {0}) (begun None p.state b)
+    go : (b : answer.Beginning) → BeginsAt p.state.registers b → BegunIs (MayLose key (Between p)) (λ s. Unit {0}) (begun None p.state b)
     go (answer.Rejected r) k = failed_may key (Between p) (with_registers p.state r) refl k
     go (answer.Immediate r) k = record { slots = refl; ends = immediate_end p.state false; stays = λ w. record { motion = refl; arm = k } }
     go (answer.ToCylinderZero r None) k = record { slots = refl; ends = immediate_end p.state true; stays = λ w. absurd (cc) }
-    go (answer.ToCylinderZero r (Some o)) k = tt
-    go (answer.Started r o) k = tt
+    go b k = tt
 
 fetched_met : (f : Fault) (key : ℕ) (p : Point) (w : Fetched)
     → MetOr (if_save f ((leaves_fetched p w && is_written p.state) || ends_written_fetched p w)) f key (Between p) (λ x. next_fetched x key p w)
@@ -206,16 +200,12 @@ fetched_met f key p (GoodCcw ccw) =
 
 -- a cut leaves the slots of the command closed by the bytes that passed
 cut_slots : (o : Open) (b : List ℕ) → (close None o b).state.volume ≡ (closed_by_cut None o b).state.volume
-cut_slots o [] = (close_none o).0
-cut_slots o (x ∷ b) = refl
+cut_slots o b = grind (arith, close_none)
 
 unit_met : (f : Fault) (key : ℕ) (g : ProgramPhase) → MetOr (meets f key g) f key g (λ x. unit x key g)
-unit_met LoadFails key (Between p) = fetched_met LoadFails key p (fetch p.storage p.place true)
-unit_met LoadFails key (Looking o r) = rw or-false at (looked_met LoadFails key o r)
-unit_met LoadFails key (Moving o t) = moved_met LoadFails key (Moving o t) o t (transfer_unit key o t) (unit_is key o t) (cut_slots o t.bytes) refl
-unit_met (SaveFails left) key (Between p) = fetched_met (SaveFails left) key p (fetch p.storage p.place true)
-unit_met (SaveFails left) key (Looking o r) = looked_met (SaveFails left) key o r
-unit_met (SaveFails left) key (Moving o t) = moved_met (SaveFails left) key (Moving o t) o t (transfer_unit key o t) (unit_is key o t) (cut_slots o t.bytes) refl
+unit_met f key (Between p) = let h = fetched_met f key p (fetch p.storage p.place true) in (λ w. h.0 (grind arith), λ w. h.1 (grind arith))
+unit_met f key (Looking o r) = let h = looked_met f key o r in (λ w. h.0 (grind arith), λ w. h.1 (grind arith))
+unit_met f key (Moving o t) = let h = moved_met f key (Moving o t) o t (transfer_unit key o t) (unit_is key o t) (cut_slots o t.bytes) refl in (λ w. h.0 (grind arith), λ w. h.1 (grind arith))
 
 pub fault_ends_unit : FaultEndsUnit
 fault_ends_unit f key g = let h = unit_met f key g in record { met = h.0; not_met = h.1 }
@@ -225,8 +215,7 @@ abbrev pub SameOr : Fault → (key : ℕ) → ProgramPhase → (Option Fault →
 SameOr f key g n = (n (Some f) ≡ n None) ⊎ NextByFault f key g (n (Some f))
 
 same_or : (met : Bool) (f : Fault) (key : ℕ) (g : ProgramPhase) (n : Option Fault → Next) → MetOr met f key g n → SameOr f key g n
-same_or true f key g n h = inr (h.0 refl)
-same_or false f key g n h = inl (h.1 refl)
+same_or met f key g n h = grind arith
 
 pub fault_or_not : (f : Fault) (key : ℕ) (g : ProgramPhase) → SameOr f key g (λ x. unit x key g)
 fault_or_not f key g = same_or (meets f key g) f key g (λ x. unit x key g) (unit_met f key g)
@@ -260,8 +249,7 @@ pub cut_or_not : (f : Fault) (key : ℕ) (g : ProgramPhase) → SameOr f key g (
 cut_or_not f key g = same_or _ f key g (cut_next key g) (cut_met f key g)
 
 pub fault_ends_phase : FaultEndsPhase
-fault_ends_phase LoadFails key g = let h = cut_met LoadFails key g in record { met = h.0; not_met = λ w. the_ending _ _ (h.1 w) }
-fault_ends_phase (SaveFails left) key g = let h = cut_met (SaveFails left) key g in record { met = h.0; not_met = λ w. the_ending _ _ (h.1 w) }
+fault_ends_phase f key g = let h = cut_met f key g in record { met = λ w. h.0 (grind arith); not_met = λ w. the_ending _ _ (h.1 (grind arith)) }
 
 -- Runs.
 
@@ -271,8 +259,7 @@ fault_ends_cut s script seen h =
     rw y.3 ((fault_ends_phase LoadFails y.0 y.1).not_met refl, λ left. elim (cut_or_not (SaveFails left) y.0 y.1) [ inl h ↦ inl (the_ending _ _ h) | inr h ↦ inr h.0 ])
 
 pub same_outcome : (a b : Script) (key : ℕ) (w : Walk) → units_in a ≡ units_in b → outcome_of a key w ≡ outcome_of b key w
-same_outcome a b key (StandsIn g) h = refl
-same_outcome a b key (EndsWith rest st e) h = ap (λ n. Ended (n - units_in rest) st e) h
+same_outcome a b key w h = grind arith
 
 -- over a unit with a fault, from where a program stands
 pub run_by_fault : (s : Start) (script rest : Script) (f : Fault) (key : ℕ) (g : ProgramPhase) → StandsAt s script key g
@@ -302,9 +289,7 @@ goes_unmet : (f : Option Fault) (key : ℕ) (g : ProgramPhase) → NextIs (λ p.
 goes_unmet f key g = elim f as (λ f. NextIs (λ p. unit None key g ≡ GoesOn p) (λ s e. Unit {0}) (unit f key g)) [ None ↦ go LoadFails _ (inl refl) | Some f ↦ go f _ (fault_or_not f key g) ]
   where
     go : (f : Fault) (n : Next) → (n ≡ unit None key g) ⊎ NextByFault f key g n → NextIs (λ p. unit None key g ≡ GoesOn p) (λ s e. Unit {0}) n
-    go f (GoesOn p) (inl e) = sym e
-    go f (GoesOn p) (inr h) = absurd h
-    go f (EndsIn s e) h = tt
+    go f n h = grind arith
 
 -- so what holds where a program goes on without its fault holds where it goes on
 pub unmet_holds : (P : ProgramPhase → Type 0) (f : Option Fault) (key : ℕ) (g : ProgramPhase) → NextIs P (λ s e. Unit {0}) (unit None key g) → NextIs P (λ s e. Unit {0}) (unit f key g)

@@ -1,8 +1,7 @@
 -- The first unit of a program, as Start I/O and as the run has it.
-use Rattle.std.proofs.Common.{◌≡◌, ◌≤◌, ℕ, refl, arith, true, false, Bool, cond, not, ◌&&◌, [], Option, Some, None, inl, inr, ◌⊎◌}
+use Rattle.std.proofs.Common.{◌≡◌, ◌≤◌, ℕ, refl, arith, true, false, Bool, cond, not, ◌&&◌, [], Option, Some, None}
 use Rattle.s360_words.specs.Words.{chains_command, caw_of}
 use Rattle.s360_words.specs.declared.flags.TheConstants.ChannelStatus.{PROGRAM_CHECK}
-use Rattle.s360_words.specs.declared.flags.TheConstants.UnitStatus.{CHANNEL_END}
 use Rattle.s360_words.specs.declared.words.Caw.{Caw}
 use Rattle.s360_words.specs.declared.words.Ccw.{Ccw}
 use Rattle.ckd_command.specs.Drive.{State, Immediate, begin, begin_program, drive_of, AfterBegin, Rejected, Started}
@@ -13,7 +12,7 @@ use Rattle.s360_runs.specs.Places.{Place, Fetched, GoodCcw, past_ccw, past_no_cc
 use Rattle.s360_runs.specs.Runs.{Start, outcome, commands, first_place, run_from, start_point}
 use Rattle.s360_runs.specs.Scripts.{units}
 use Rattle.s360_runs.specs.Starts.{AcceptedStart, BadStart, First, ImmediateStart, RejectedStart, first_begun, first_fetched, first_from}
-use Rattle.s360_runs.specs.Status.{no_channel_status, normal_end, stops_chaining, is_clear}
+use Rattle.s360_runs.specs.Status.{no_channel_status, stops_chaining, is_clear}
 use Rattle.s360_runs.specs.Transfers.{Request}
 
 -- what is said of a start and the outcome of its first unit
@@ -24,23 +23,19 @@ Is s f o = (f ≡ first_of o) × IsFirstUnit s f o
 
 bad : (s : Start) (used key : ℕ) (p : Place) → used ≤ 1 → Is s BadStart (Ended used s.storage (ending None key p (untouched (begin_program s.drive)) PROGRAM_CHECK))
 bad s used key p few = (
-  elim p.interruption as (λ asked. BadStart ≡ first_of (Ended used s.storage (ending None key (record p { interruption = asked }) (untouched (begin_program s.drive)) PROGRAM_CHECK))) [ true ↦ refl | false ↦ refl ],
+  grind arith,
   (used, ending None key p (untouched (begin_program s.drive)) PROGRAM_CHECK, refl, few, refl),
 )
 
 rejected : (s : Start) (key : ℕ) (p : Place) (t : State) → Is s (RejectedStart (drive_of t)) (Ended 1 s.storage (ending None key p (failed t) no_channel_status))
 rejected s key p t = (
-  elim p.interruption as (λ asked. RejectedStart (drive_of t) ≡ first_of (Ended 1 s.storage (ending None key (record p { interruption = asked }) (failed t) no_channel_status))) [ true ↦ refl | false ↦ refl ],
+  grind arith,
   (ending None key p (failed t) no_channel_status, refl, refl, refl),
 )
 
 -- a start that is over at once
 over : (s : Start) (key : ℕ) (p : Place) (t : State) (motion : Bool) → let e = ending None key p (immediate t motion) no_channel_status in Is s (ImmediateStart e) (Ended 1 s.storage e)
-over s key p t motion = (told motion p.interruption, (refl, elim motion as (λ motion. ((immediate t motion).unit ≡ CHANNEL_END) ⊎ ((immediate t motion).unit ≡ normal_end)) [ true ↦ inl refl | false ↦ inr refl ]))
-  where
-    told : (motion asked : Bool) → let e = ending None key (record p { interruption = asked }) (immediate t motion) no_channel_status in ImmediateStart e ≡ first_of (Ended 1 s.storage e)
-    told true = elim [ true ↦ refl | false ↦ refl ]
-    told false = elim [ true ↦ refl | false ↦ refl ]
+over s key p t motion = (grind arith, (refl, grind arith))
 
 -- The first unit.
 

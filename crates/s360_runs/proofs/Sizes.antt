@@ -1,16 +1,14 @@
 -- A channel program keeps the size of storage.
-use Rattle.std.proofs.lemmas.Bool.{cond_both}
-use Rattle.std.proofs.Common.{◌≡◌, ℕ, refl, ap, ◌∙◌, true, length, Option}
+use Rattle.std.proofs.Common.{arith, ◌≡◌, ℕ, refl, ap, ◌∙◌, true, length, Option}
 use Rattle.s360_words.specs.Storage.{Storage, Bytes}
 use Rattle.s360_words.specs.declared.flags.ChannelStatus.{ChannelStatus}
 use Rattle.s360_words.proofs.Overwriting.{length-overwritten}
-use Rattle.ckd_command.specs.Drive.{Fault, Open, AfterBegin, Immediate, begin, Failed, Passed, Ready, look, Closed, close}
-use Rattle.s360_runs.specs.Commands.{goes_on_chaining, choice, length_status, requested}
-use Rattle.s360_runs.specs.Endings.{NotEnded, immediate}
+use Rattle.ckd_command.specs.Drive.{Fault, Open, AfterBegin, begin, Failed, Passed, Ready, look, Closed, close}
+use Rattle.s360_runs.specs.Commands.{choice, length_status, requested}
+use Rattle.s360_runs.specs.Endings.{NotEnded}
 use Rattle.s360_runs.specs.Places.{fetch, GoodCcw, NoCcw, TransferTo}
 use Rattle.s360_runs.specs.Runs.{start_point}
 use Rattle.s360_runs.specs.Scripts.{Outside, Turn, storage_past}
-use Rattle.s360_runs.specs.Status.{no_channel_status}
 use Rattle.s360_runs.specs.Transfers.{Request, Transfer, request_of, Stops, TransferUnit, Moves, Completes, transfer_unit, first_transfer}
 use Rattle.s360_runs.specs.Units.{standing_in, unit, Next, next_chosen, next_moved, next_looked, next_begun, next_fetched, Between, Looking, Moving, ProgramPhase, phase_past}
 use Rattle.s360_runs.specs.Writes.{KeepsSize, OutcomeKeepsSize}
@@ -29,8 +27,7 @@ NextSized before n = NextIs (λ g. Sized before (storage_in g)) (λ s e. Sized b
 
 module _ (before : Storage) (f : Option Fault) (key : ℕ) where
   chosen_sized : (r : Request) (c : Closed) (channel : ChannelStatus) → Sized before r.storage → NextSized before (next_chosen (choice f key r c channel))
-  chosen_sized r c channel h =
-      cond_both (goes_on_chaining r c channel) _ _ (λ x. NextSized before (next_chosen x)) (λ e. h) (λ e. h)
+  chosen_sized r c channel h = grind arith
 
   moved_sized : (o : Open) (t : Transfer) → Sized before t.storage → NextSized before (next_moved f key o t (transfer_unit key o t))
   moved_sized o t h = go (transfer_unit key o t) (unit_is key o t)
@@ -41,8 +38,7 @@ module _ (before : Storage) (f : Option Fault) (key : ℕ) where
       go Completes k = chosen_sized (request_of t) (close f o t.bytes) (length_status o t (close f o t.bytes)) h
 
   begun_sized : (r : Request) (b : AfterBegin) → Sized before r.storage → NextSized before (next_begun f key r b)
-  begun_sized r (Immediate s motion) h = chosen_sized r (immediate s motion) no_channel_status h
-  begun_sized r b h = h
+  begun_sized r b h = grind arith
 
   next_sized : (g : ProgramPhase) → Sized before (storage_in g) → NextSized before (unit f key g)
   next_sized (Moving o t) h = moved_sized o t h
@@ -55,9 +51,7 @@ turn_sized (Outside (Bytes at bytes)) s = length-overwritten s.bytes at bytes
 turn_sized turn s = refl
 
 past_sized : (turn : Turn) (g : ProgramPhase) → Sized (storage_in g) (storage_in (phase_past turn g))
-past_sized turn (Between p) = turn_sized turn p.storage
-past_sized turn (Looking o r) = turn_sized turn r.storage
-past_sized turn (Moving o t) = turn_sized turn t.storage
+past_sized turn g = grind (arith, turn_sized)
 
 pub keeps_size : KeepsSize
 keeps_size s script = run_holds {P = λ key g. Sized s.storage (storage_in g)} {E = λ st e. Sized s.storage st} (OutcomeKeepsSize s.storage) s script refl seen (λ used st e h. h)

@@ -1,15 +1,14 @@
 -- What holds of a program from unit to unit: one analysis of a unit for all such properties, and one induction over scripts.
-use Rattle.std.proofs.Common.{◌≡◌, ℕ, refl, true, false, Bool, cond, not, ◌&&◌, [], ◌∷◌, length, Option, Some, None}
-use Rattle.std.specs.Prelude.{is_some, slice_get}
+use Rattle.std.proofs.Common.{arith, ◌≡◌, ℕ, refl, true, false, Bool, cond, not, ◌&&◌, [], ◌∷◌, length, Option, Some, None}
 use Rattle.std.proofs.lemmas.Bool.{cond_both}
-use Rattle.s360_words.specs.Storage.{Storage, admits, key_at}
+use Rattle.s360_words.specs.Storage.{Storage}
 use Rattle.s360_words.specs.Words.{caw_of, has, skips}
 use Rattle.s360_words.specs.declared.flags.ChannelStatus.{ChannelStatus}
 use Rattle.s360_words.specs.declared.flags.TheConstants.ChannelStatus.{PROGRAM_CHECK}
 use Rattle.s360_words.specs.declared.words.Caw.{Caw}
 use Rattle.s360_words.proofs.Overwriting.{length-overwritten}
 use Rattle.ckd_command.specs.Drive.{AfterBegin, AfterLook, Closed, Failed, Fault, Immediate, Open, Passed, Ready, Rejected, Started, State, begin, close, gives, look, state_of}
-use Rattle.s360_runs.specs.Commands.{choice, goes_on_chaining, length_status, requested}
+use Rattle.s360_runs.specs.Commands.{choice, length_status, requested}
 use Rattle.s360_runs.specs.Endings.{Ended, Ending, NotEnded, Outcome, closed_by_cut, ending, failed, immediate, untouched}
 use Rattle.s360_runs.specs.Faults.{without_faults}
 use Rattle.s360_runs.specs.Places.{Fetched, GoodCcw, NoCcw, Place, TransferTo, fetch, past_no_ccw}
@@ -33,8 +32,7 @@ WalkIs P E (EndsWith rest s e) = E s e
 
 module _ (P : ProgramPhase → Type 0) (E : Storage → Ending → Type 0) (key : ℕ) (past : (turn : Turn) (g : ProgramPhase) → P g → P (phase_past turn g)) where
   next_holds : (rest : Script) (n : Next) → NextIs P E n → ((g : ProgramPhase) → P g → WalkIs P E (walk rest key g)) → WalkIs P E (on_next rest n (walk rest key))
-  next_holds rest (GoesOn g) h k = k g h
-  next_holds rest (EndsIn s e) h k = h
+  next_holds rest n h k = grind arith
 
   -- what each unit and each other turn keeps, a walk keeps
   pub walk_holds : ((f : Option Fault) (g : ProgramPhase) → P g → NextIs P E (unit f key g)) → (script : Script) (g : ProgramPhase) → P g → WalkIs P E (walk script key g)
@@ -61,8 +59,7 @@ run_holds {P} {E} O s script nothing stands ends h = go (caw_of s.caw) refl
 
 -- a turn that is no unit leaves the drive
 pub past_state : (turn : Turn) (g : ProgramPhase) → state_in (phase_past turn g) ≡ state_in g
-past_state turn (Between p) = refl
-past_state turn g = refl
+past_state turn g = grind arith
 
 -- What a unit of moving bytes comes to.
 
@@ -86,8 +83,7 @@ pub unit_is : (key : ℕ) (o : Open) (t : Transfer) → UnitIs t (transfer_unit 
 unit_is key o t = go (needs_ccw t) (needs_byte o t) (is_clear (check_of key o t)) (fetch t.storage t.place false)
   where
     fits : FitsCheck (check_of key o t)
-    fits = cond_both (gives o && skips t.ccw) _ _ FitsCheck (λ e. refl) (λ e. cond_both (not (is_some (slice_get t.storage.bytes t.address))) _ _ FitsCheck (λ e. refl)
-        (λ e. cond_both (gives o && not (admits (key_at t.storage t.address) key)) _ _ FitsCheck (λ e. refl) (λ e. refl)))
+    fits = grind arith
 
     go : (a b c : Bool) (w : Fetched) → UnitIs t (cond a (chained_data t w) (cond b (cond c (Moves (after_bytes 1 o t)) (Stops t (check_of key o t))) Completes))
     go true b c NoCcw = record { bytes = refl; storage = refl; fits = refl }
@@ -121,8 +117,7 @@ NextHas Q E n = NextIs (λ g. Q (state_in g)) (λ s e. E e) n
 module _ (C : Closed → Type 0) (Q : State → Type 0) (E : Ending → Type 0) (f : Option Fault) (key : ℕ) (goes : (c : Closed) → C c → Q c.state)
     (ends : (p : Place) (c : Closed) (channel : ChannelStatus) → C c → E (ending f key p c channel)) where
   pub choice_holds : (r : Request) (c : Closed) (channel : ChannelStatus) → C c → NextHas Q E (next_chosen (choice f key r c channel))
-  choice_holds r c channel h =
-      cond_both (goes_on_chaining r c channel) _ _ (λ x. NextHas Q E (next_chosen x)) (λ e. goes c h) (λ e. ends r.place c channel h)
+  choice_holds r c channel h = let next = goes c h in let end = ends r.place c channel h in grind arith
 
   pub begun_holds : (r : Request) (b : AfterBegin) → BegunIs C Q b → NextHas Q E (next_begun f key r b)
   begun_holds r (Rejected s) h = ends r.place (failed s) no_channel_status h

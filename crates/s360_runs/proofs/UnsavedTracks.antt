@@ -1,36 +1,32 @@
 -- Which tracks a program may report as not saved, that it reports none without a fault of the store, and all that a failed load
 -- leaves.
-use Rattle.std.proofs.Common.{◌≡◌, ℕ, refl, subst, sym, ap, ◌∙◌, true, false, Bool, cond, ◌||◌, List, [], Option, Some, None, inl, inr}
-use Rattle.std.proofs.lemmas.Bool.{or_left, or_right, cond_both}
+use Rattle.std.proofs.Common.{arith, ◌≡◌, ℕ, refl, subst, sym, ap, ◌∙◌, true, false, Bool, cond, ◌||◌, List, [], Option, Some, None, inl, inr}
+use Rattle.std.proofs.lemmas.Bool.{or_left, or_right}
 use Rattle.std.specs.Prelude.{is_some}
-use Rattle.s360_words.specs.Words.{has}
 use Rattle.s360_words.specs.declared.flags.ChannelStatus.{ChannelStatus}
 use Rattle.s360_words.specs.declared.flags.TheConstants.ChannelStatus.{PROGRAM_CHECK}
-use Rattle.s360_words.specs.declared.flags.TheConstants.UnitStatus.{UNIT_CHECK}
 use Rattle.s360_words.specs.declared.words.Caw.{Caw}
 use Rattle.ckd_sense.specs.declared.sense_bytes.TheConstants.Sense.{ZERO, STORE_FAULT}
 use Rattle.ckd_sense.specs.SenseBytes.{joined}
 use Rattle.ckd_sense.specs.declared.sense_bytes.Sense.{Sense}
-use Rattle.ckd_command.specs.Answers.{Beginning, Sight}
 use Rattle.ckd_command.specs.Answers as answer
 use Rattle.ckd_command.specs.Commands.{beginning}
-use Rattle.ckd_command.specs.Drive.{Fault, LoadFails, IdleDrive, Closed, unsaved, close, Open, look, looked, AfterLook, State, Failed, Passed, Ready, AfterBegin, Rejected, Started, begin, begun, begin_program, state_of, is_written, tells_equipment_check, track_under, with_store_fault}
+use Rattle.ckd_command.specs.Drive.{Fault, LoadFails, IdleDrive, Closed, unsaved, close, Open, look, looked, AfterLook, State, Failed, Passed, Ready, AfterBegin, Started, begin, begun, begin_program, state_of, is_written, tells_equipment_check, track_under, with_store_fault}
 use Rattle.ckd_command.specs.Tables.{aim}
 use Rattle.ckd_command.specs.declared.tables.Aim.{Aim}
-use Rattle.ckd_command.specs.declared.tables.Aim.TheVariants.{Next as NextArea}
 use Rattle.ckd_command.proofs.Arms.{BeginsAt, NoSenseFor, SightAt, beginning_at, sight_at}
 use Rattle.ckd_command.proofs.Marks.{anywhere, never_both, LookFinds, look_finds, BegunTraces, begin_traces, LookTraces, look_traces, close_traces, close_writes, settle_traces, Calm, BegunCalm, begin_calm, LookCalm, look_calm, close_calm}
-use Rattle.s360_runs.specs.Commands.{Chains, Choice, Ends, choice, completed, requested}
-use Rattle.s360_runs.specs.Endings.{Ended, NotEnded, Outcome, ending, failed, immediate, untouched}
+use Rattle.s360_runs.specs.Commands.{requested}
+use Rattle.s360_runs.specs.Endings.{Outcome, ending, failed, untouched}
 use Rattle.s360_runs.specs.Laws.{first_of}
 use Rattle.s360_runs.specs.Faults.{FailedLoad, ended_by_load, without_faults}
 use Rattle.s360_runs.specs.Places.{Place, fetch, Fetched, GoodCcw}
 use Rattle.s360_runs.specs.Runs.{Start, start_point, run, first_place}
-use Rattle.s360_runs.specs.Scripts.{Script, TakesInterruption, Turn, units}
-use Rattle.s360_runs.specs.Status.{no_channel_status, tells, with_interruption}
+use Rattle.s360_runs.specs.Scripts.{Script, Turn, units}
+use Rattle.s360_runs.specs.Status.{no_channel_status, with_interruption}
 use Rattle.s360_runs.specs.StoreCalls.{is_next}
-use Rattle.s360_runs.specs.Transfers.{Completes, Request, Transfer, TransferUnit, first_transfer, transfer_unit}
-use Rattle.s360_runs.specs.Units.{unit, Next, EndsIn, Between, Looking, Moving, ProgramPhase, standing_in, walk, GoesOn, StandsIn, Walk, state_in, next_begun, next_chosen, next_fetched, next_looked, next_moved, phase_past}
+use Rattle.s360_runs.specs.Transfers.{Request, Transfer, TransferUnit, first_transfer, transfer_unit}
+use Rattle.s360_runs.specs.Units.{unit, Next, EndsIn, Between, Looking, Moving, ProgramPhase, standing_in, walk, StandsIn, Walk, state_in, next_begun, next_fetched, next_looked, next_moved, phase_past}
 use Rattle.s360_runs.specs.Unsaved.{has_written, WritesByCommands, TellsWritten, NextTellsWritten, UnsavedWasWritten, TellsNoFault, OutcomeTellsNoFault, FirstTellsNoFault, NoFaultNothingTold}
 use Rattle.s360_runs.proofs.DriveFacts.{close_none, look_loads, sighted}
 use Rattle.s360_runs.proofs.FirstUnits.{first_is_unit}
@@ -51,8 +47,7 @@ calm_ending : (before : IdleDrive) (key : ℕ) (p : Place) (c : Closed) (channel
 calm_ending before key p c channel h = record { saved = h.saved; no_check = h.quiet }
 
 calm_begun : (before : IdleDrive) (b : AfterBegin) → BegunCalm (Quiet before) b → BegunIs (CalmClosed before) (Calm (Quiet before)) b
-calm_begun before (Rejected s) h = h
-calm_begun before b h = h
+calm_begun before b h = grind arith
 
 calm_open : (before : IdleDrive) (g : ProgramPhase) → Calm (Quiet before) (state_in g) → OpenIs (CalmClosed before) (Calm (Quiet before)) None g
 calm_open before (Between p) h = λ code. calm_begun before (begin None code p.state) (begin_calm (Quiet before) code p.state h)
@@ -81,8 +76,7 @@ calm_start caw s = record { saved = refl; quiet = λ q. q }
 
 -- what a start tells is what the first unit of its run tells
 calm_first : (before : IdleDrive) (o : Outcome) → OutcomeTellsNoFault before o → FirstTellsNoFault before (first_of o)
-calm_first before (NotEnded seen) h = tt
-calm_first before (Ended used s e) h = cond_both (has e.csw.channel.0 0x20) _ _ (FirstTellsNoFault before) (λ k. tt) (λ k. cond_both (tells e.csw.unit UNIT_CHECK) _ _ (FirstTellsNoFault before) (λ k. h.no_check) (λ k. h))
+calm_first before o h = grind arith
 
 pub no_fault_nothing_told : NoFaultNothingTold
 no_fault_nothing_told s script = (told script, rw (first_is_unit s).first_is (calm_first s.drive (run (units 1) s) (told (units 1))))
@@ -119,8 +113,7 @@ told_closed f o b e =
     record { lost = λ l. or_left (is_written (state_of o)) (is_written (close None o b).state) (h.lost l); still = λ l. or_right (is_written (state_of o)) (is_written (close None o b).state) (h.written l) }
 
 wrote_before : (g : ProgramPhase) → is_written (state_in g) ≡ true → has_written g ≡ true
-wrote_before (Moving o t) h = or_left (is_written (state_of o)) _ h
-wrote_before g h = h
+wrote_before g h = grind arith
 
 -- the drive as the unit finds it
 told_here : (g : ProgramPhase) → unsaved (state_in g) ≡ None → ToldOf (has_written g) (state_in g)
@@ -152,8 +145,7 @@ told_phase f key g e =
     phase_holds (λ c. ToldOf (has_written g) c.state) (Still (has_written g)) (TellsWritten g) f key (λ c h. h.still) (told_ending (has_written g) f key) g (told_here g e) (wrote_before g) (told_open f g e)
 
 next_tells : (g : ProgramPhase) (n : Next) → NextHas (Still (has_written g)) (TellsWritten g) n → NextTellsWritten g n
-next_tells g (GoesOn next) h = tt
-next_tells g (EndsIn s e) h = h
+next_tells g n h = grind arith
 
 pub unsaved_was_written : UnsavedWasWritten
 unsaved_was_written s caw script phase f h =
@@ -176,48 +168,34 @@ Fresh phase = Unit {0}
 abbrev NextFresh : Next → Type 0
 NextFresh n = NextIs Fresh (λ s e. Unit {0}) n
 
-chosen_fresh : (c : Choice) → NextFresh (next_chosen c)
-chosen_fresh (Chains p) = tt
-chosen_fresh (Ends s e) = tt
-
 moved_fresh : (key : ℕ) (o : Open) (t : Transfer) (u : TransferUnit) → NextFresh (next_moved None key o t u)
-moved_fresh key o t Completes = chosen_fresh (completed None key t o (close None o t.bytes))
-moved_fresh key o t u = tt
+moved_fresh key o t u = grind arith
 
 unit_fresh : (key : ℕ) (g : ProgramPhase) → Fresh g → NextFresh (unit None key g)
 unit_fresh key (Moving o t) h = moved_fresh key o t (transfer_unit key o t)
 unit_fresh key (Looking o r) h = go (sighted o) (sight_at o.state.volume.geometry (track_under o.state) o.opened o.state.registers)
   where
-    go : (s : Sight) → SightAt o.state.registers o.opened s → NextFresh (next_looked None key r (looked None o s))
+    go : (s : answer.Sight) → SightAt o.state.registers o.opened s → NextFresh (next_looked None key r (looked None o s))
     go (answer.Found opened) k = let p : Open = record o { opened = opened } in moved_fresh key p (first_transfer r) (transfer_unit key p (first_transfer r))
-    go (answer.IndexPassed q) k = (rw k.1 h.0, h.1)
-    go (answer.NextHead q) k = (rw k h.0, h.1)
-    go (answer.Missed q) k = tt
+    go s k = grind arith
 unit_fresh key (Between p) h = fetched (fetch p.storage p.place true)
   where
-    begun_fresh : (r : Request) (b : Beginning) → r.place.residual ≡ r.ccw.count → BeginsAt p.state.registers b → NextFresh (next_begun None key r (begun None p.state b))
-    begun_fresh r (answer.Started q o) e k = (k.1, e)
-    begun_fresh r (answer.ToCylinderZero q (Some o)) e k = (k.1, e)
-    begun_fresh r (answer.ToCylinderZero q None) e k = chosen_fresh (choice None key r (immediate _ true) no_channel_status)
-    begun_fresh r (answer.Immediate q) e k = chosen_fresh (choice None key r (immediate _ false) no_channel_status)
-    begun_fresh r (answer.Rejected q) e k = tt
+    begun_fresh : (r : Request) (b : answer.Beginning) → r.place.residual ≡ r.ccw.count → BeginsAt p.state.registers b → NextFresh (next_begun None key r (begun None p.state b))
+    begun_fresh r b e k = grind arith
 
     fetched : (w : Fetched) → NextFresh (next_fetched None key p w)
     fetched (GoodCcw ccw) = begun_fresh (requested p ccw) (beginning ccw.code p.state.registers) refl (beginning_at ccw.code p.state.registers)
     fetched w = tt
 
 past_fresh : (turn : Turn) (g : ProgramPhase) → Fresh g → Fresh (phase_past turn g)
-past_fresh TakesInterruption (Looking o r) h = h
-past_fresh turn (Looking o r) h = h
-past_fresh turn g h = tt
+past_fresh turn g h = grind arith
 
 stands_fresh : (s : Start) (caw : Caw) (script : Script) (g : ProgramPhase) → walk script caw.key (Between (start_point caw s)) ≡ StandsIn g → Fresh g
 stands_fresh s caw script g h =
     rw h at (walk_holds Fresh (λ s e. Unit {0}) caw.key past_fresh (λ f g k. unmet_holds Fresh f caw.key g (unit_fresh caw.key g k)) script (Between (start_point caw s)) tt)
 
 no_sense_before : (a : Aim) (sense : Sense) → is_next a ≡ true → NoSenseFor a sense → sense ≡ ZERO
-no_sense_before (NextArea kind) sense h n = n
-no_sense_before a sense h n = absurd (cc)
+no_sense_before a sense h n = grind arith
 
 whole : (key : ℕ) (o : Open) (r : Request) → o.state.registers.sense ≡ ZERO → r.place.residual ≡ r.ccw.count → unsaved o.state ≡ None
     → ending (Some LoadFails) key r.place (failed (with_store_fault o.state)) no_channel_status ≡ ended_by_load key o r

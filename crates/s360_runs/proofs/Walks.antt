@@ -30,9 +30,7 @@ abbrev Same : Script → ℕ → Type 0
 Same script key = (most : ℕ) (f : ProgramPhase) → length script ≤ most → commands most key (resume script key f) ≡ step_of key (walk script key f)
 
 step_stays : (most key : ℕ) (w : Walk) → commands most key (step_of key w) ≡ step_of key w
-step_stays zero key w = refl
-step_stays (suc most) key (StandsIn f) = refl
-step_stays (suc most) key (EndsWith rest s e) = refl
+step_stays most key w = grind arith
 
 module _ (rest : Script) (key most : ℕ) (same : Same rest key) (h : length rest < most) where
   goes_on : (p : Point) → commands most key (Goes rest p) ≡ step_of key (walk rest key (Between p))

@@ -1,12 +1,12 @@
 -- Which tracks a program writes: it keeps all others, and what it has written and not saved is read off its script.
-use Rattle.std.proofs.Common.{◌≡◌, ℕ, refl, ap, sym, ◌∙◌, true, false, Bool, ◌==◌, List, [], ◌∷◌, ◌++◌, Option, Some, None, ◌⊎◌, inl, inr, cond}
+use Rattle.std.proofs.Common.{arith, ◌≡◌, ℕ, refl, ap, sym, ◌∙◌, true, false, Bool, ◌==◌, List, [], ◌∷◌, ◌++◌, Option, Some, None, ◌⊎◌, inl, inr, cond}
 use Rattle.std.proofs.lemmas.Bool.{and_from, both_ways, eq-eqb, or_parts, or_right}
 use Rattle.std.specs.Prelude.{is_some}
 use Rattle.s360_words.specs.declared.words.Caw.{Caw}
-use Rattle.ckd_track.specs.Track.{Track, slot_of}
+use Rattle.ckd_track.specs.Track.{Track}
+use Rattle.ckd_command.specs.Answers as answer
 use Rattle.ckd_command.specs.Commands.{beginning}
-use Rattle.ckd_command.specs.Drive.{Volume, State, Fault, LoadFails, SaveFails, number_under, track_number, is_written, Open, state_of, close, closed, begin, begun, look, looked}
-use Rattle.ckd_command.specs.Answers.{Beginning, Sight}
+use Rattle.ckd_command.specs.Drive.{Volume, State, Fault, LoadFails, SaveFails, number_under, track_number, is_written, Open, state_of, close, closed, begin, look, looked}
 use Rattle.s360_runs.specs.Faults.{LosesAtMost, NextByFault, cut_drive}
 use Rattle.s360_runs.specs.Laws.{walked_on}
 use Rattle.s360_runs.specs.Runs.{Start, start_point}
@@ -16,14 +16,13 @@ use Rattle.s360_runs.specs.Units.{unit, Next, EndsIn, GoesOn, Between, Looking, 
 use Rattle.s360_runs.specs.Unsaved.{has_written, NextTellsWritten}
 use Rattle.s360_runs.specs.Writes.{slot_in, may_write, NextKeeps, UnitKeeps, WritesUnderArm, on_going, walk_writes, run_writes_from, OutcomeKeeps, RunKeeps, writes_moved, written_past, written_since, MarkIsOfScript}
 use Rattle.s360_runs.specs.Commands.{Point, length_status, requested}
-use Rattle.s360_runs.specs.Places.{fetch, Fetched, NoCcw, TransferTo, GoodCcw}
-use Rattle.s360_runs.specs.Transfers.{Transfer, request_of, Stops, TransferUnit, Moves, Completes, transfer_unit}
+use Rattle.s360_runs.specs.Places.{fetch, Fetched, GoodCcw}
+use Rattle.s360_runs.specs.Transfers.{Transfer, request_of, TransferUnit, Completes, transfer_unit}
 use Rattle.s360_runs.proofs.DriveFacts.{VolumeClosed, VolumeIn, begin_keeps, close_none, get_set_other, look_keeps, sighted}
 use Rattle.s360_runs.proofs.FaultsMet.{cut_next, cut_or_not, fault_or_not, unmet_holds}
 use Rattle.s360_runs.proofs.Units.{NextHas, OpenIs, WalkIs, past_state, phase_holds, run_holds, BegunIs, LookIs, begun_holds, choice_holds, looked_holds}
 use Rattle.s360_runs.proofs.UnsavedTracks.{unsaved_was_written}
 use Rattle.s360_runs.proofs.Walks.{walks_on}
-use Rattle.ckd_command.specs.Answers as answer
 
 -- this track has these bytes still, and the volume its geometry
 abbrev Kept : ℕ → Volume → Volume → Type 0
@@ -34,9 +33,7 @@ close_keeps : (n : ℕ) (o : Open) (b : List ℕ) → (n ≡ number_under (state
 close_keeps n o b h = go (closing_of o b).moves_off (closing_of o b).written h
   where
     go : (m : Bool) (t : Option Track) → let s = (closed None o.state (record (closing_of o b) { written = t }) m).state in (n ≡ number_under o.state → is_written s ≡ true → ⊥) → Kept n o.state.volume s.volume
-    go true t h = (refl, refl)
-    go false None h = (refl, refl)
-    go false (Some t) h = (get_set_other o.state.volume.slots (number_under o.state) n (slot_of o.state.volume.geometry.track_size t) (λ e. h e refl), refl)
+    go m t h = grind (arith, get_set_other)
 
 -- Units without faults.
 
@@ -55,8 +52,7 @@ kept_phase n key g a =
     let V = Kept n (state_in g).volume in phase_holds (VolumeClosed V) (VolumeIn V) (λ e. V e.drive.volume) None key (λ c h. h) (λ p c channel h. h) g (refl, refl) (refl, refl) (kept_open n g a)
 
 next_keeps : (n : ℕ) (v : Volume) (x : Next) → NextHas (VolumeIn (Kept n v)) (λ e. Kept n v e.drive.volume) x → NextKeeps n v x
-next_keeps n v (GoesOn g) h = h.0
-next_keeps n v (EndsIn s e) h = h.0
+next_keeps n v x h = grind arith
 
 -- Faults.
 
@@ -110,21 +106,23 @@ WalkKeeps n key v w = WalkIs (CutKeeps n v key) (λ s e. slot_in e.drive.volume 
 walk_behind : (done more : Script) (key : ℕ) (first g : ProgramPhase) → walk done key first ≡ StandsIn g → walk (done ++ more) key first ≡ walk more key g
 walk_behind done more key first g at = walks_on done more key first ∙ ap (λ w. walked_on w key more) at
 
-keeps_on : (n : ℕ) (s : Start) (caw : Caw) (done script : Script) (g : ProgramPhase) (v : Volume) → walk done caw.key (Between (start_point caw s)) ≡ StandsIn g
-    → walk_writes n script caw.key g ≡ false → slot_in (state_in g).volume n ≡ slot_in v n → WalkKeeps n caw.key v (walk script caw.key g)
-keeps_on n s caw done [] g v at h k = λ fault. (writes_under_arm s caw done g fault n at h).by_cut ∙ k
-keeps_on n s caw done (OneUnit fault ∷ rest) g v at h k =
-    let w = or_parts (may_write n g) (on_going (unit fault caw.key g) (walk_writes n rest caw.key)) h in
-    let behind = walk_behind done (OneUnit fault ∷ []) caw.key (Between (start_point caw s)) g at in
-    (elim (unit fault caw.key g) as (λ x. unit fault caw.key g ≡ x → on_going x (walk_writes n rest caw.key) ≡ false → NextKeeps n (state_in g).volume x → WalkKeeps n caw.key v (on_next rest x (walk rest caw.key)))
-    [ GoesOn p ↦ λ e h' k'. keeps_on n s caw (done ++ OneUnit fault ∷ []) rest p v (behind ∙ ap (λ x. on_next [] x (walk [] caw.key)) e) h' (k' ∙ k) | EndsIn t x ↦ λ e h' k'. k' ∙ k ])
-    refl w.1 ((writes_under_arm s caw done g fault n at w.0).by_unit)
-keeps_on n s caw done (turn ∷ rest) g v at h k =
-    keeps_on n s caw (done ++ turn ∷ []) rest (phase_past turn g) v (walk_behind done (turn ∷ []) caw.key (Between (start_point caw s)) g at) h (ap (λ x. slot_in x.volume n) (past_state turn g) ∙ k)
+-- a track of the volume that a program began with
+module _ (n : ℕ) (v : Volume) (s : Start) (caw : Caw) where
+  keeps_on : (done script : Script) (g : ProgramPhase) → walk done caw.key (Between (start_point caw s)) ≡ StandsIn g
+      → walk_writes n script caw.key g ≡ false → slot_in (state_in g).volume n ≡ slot_in v n → WalkKeeps n caw.key v (walk script caw.key g)
+  keeps_on done [] g at h k = λ fault. (writes_under_arm s caw done g fault n at h).by_cut ∙ k
+  keeps_on done (OneUnit fault ∷ rest) g at h k =
+      let w = or_parts (may_write n g) (on_going (unit fault caw.key g) (walk_writes n rest caw.key)) h in
+      let behind = walk_behind done (OneUnit fault ∷ []) caw.key (Between (start_point caw s)) g at in
+      (elim (unit fault caw.key g) as (λ x. unit fault caw.key g ≡ x → on_going x (walk_writes n rest caw.key) ≡ false → NextKeeps n (state_in g).volume x → WalkKeeps n caw.key v (on_next rest x (walk rest caw.key)))
+      [ GoesOn p ↦ λ e h' k'. keeps_on (done ++ OneUnit fault ∷ []) rest p (behind ∙ ap (λ x. on_next [] x (walk [] caw.key)) e) h' (k' ∙ k) | EndsIn t x ↦ λ e h' k'. k' ∙ k ])
+      refl w.1 ((writes_under_arm s caw done g fault n at w.0).by_unit)
+  keeps_on done (turn ∷ rest) g at h k =
+      keeps_on (done ++ turn ∷ []) rest (phase_past turn g) (walk_behind done (turn ∷ []) caw.key (Between (start_point caw s)) g at) h (ap (λ x. slot_in x.volume n) (past_state turn g) ∙ k)
 
 pub run_keeps : RunKeeps
 run_keeps s script n h = run_holds {P = CutKeeps n s.drive.volume} {E = λ st e. slot_in e.drive.volume n ≡ slot_in s.drive.volume n} (OutcomeKeeps n s.drive.volume) s script refl (λ key g k. k) (λ used st e k. k)
-    (λ caw at. keeps_on n s caw [] script (Between (start_point caw s)) s.drive.volume refl (ap (run_writes_from n script s) (sym at) ∙ h) refl)
+    (λ caw at. keeps_on n s.drive.volume s caw [] script (Between (start_point caw s)) refl (ap (run_writes_from n script s) (sym at) ∙ h) refl)
 
 -- The mark of the track under the arm is read off the units of a script.
 
@@ -137,42 +135,31 @@ Marked w n = NextHas (Is w) (λ e. Unit {0}) n
 
 -- a command that is closed
 close_marked : (o : Open) (b : List ℕ) → is_written (close None o b).state ≡ cond (closing_of o b).moves_off false (cond (is_some (closing_of o b).written) true (is_written o.state))
-close_marked o b = go (closing_of o b).moves_off (closing_of o b).written
-  where
-    go : (m : Bool) (t : Option Track) → is_written (closed None o.state (record (closing_of o b) { written = t }) m).state ≡ cond m false (cond (is_some t) true (is_written o.state))
-    go true t = refl
-    go false None = refl
-    go false (Some t) = refl
+close_marked o b = grind arith
 
 moved_marked : (key : ℕ) (o : Open) (t : Transfer) (u : TransferUnit) → Marked (cond (leaves_moved o t u) false (cond (writes_moved o t u) true (is_written o.state))) (next_moved None key o t u)
-moved_marked key o t (Moves next) = refl
-moved_marked key o t (Stops next check) = tt
+
 moved_marked key o t Completes =
     let c = close None o t.bytes in
     let w = cond (closing_of o t.bytes).moves_off false (cond (is_some (closing_of o t.bytes).written) true (is_written o.state)) in
     choice_holds (λ c. Is w c.state) (Is w) (λ e. Unit {0}) None key (λ c h. h) (λ p c channel h. tt) (request_of t) c (length_status o t c) (close_marked o t.bytes)
+moved_marked key o t u = grind arith
 
 look_marked : (o : Open) → let w = cond (leaves_looking o) false (is_written o.state) in LookIs (λ c. Is w c.state) (Is w) None (look None o)
 look_marked o = go (sighted o)
   where
-    go : (s : Sight) → let w = cond (goes_to_next_head s) false (is_written o.state) in LookIs (λ c. Is w c.state) (Is w) None (looked None o s)
+    go : (s : answer.Sight) → let w = cond (goes_to_next_head s) false (is_written o.state) in LookIs (λ c. Is w c.state) (Is w) None (looked None o s)
     go (answer.Found opened) = (refl, (close_none (record o { opened = opened })).1)
     go s = refl
 
 begin_marked : (code : ℕ) (s : State) → let w = cond (leaves_as_it_begins (beginning code s.registers)) false (is_written s) in BegunIs (λ c. Is w c.state) (Is w) (begin None code s)
-begin_marked code s = go (beginning code s.registers)
-  where
-    go : (b : Beginning) → let w = cond (leaves_as_it_begins b) false (is_written s) in BegunIs (λ c. Is w c.state) (Is w) (begun None s b)
-    go (answer.ToCylinderZero r None) = refl
-    go (answer.ToCylinderZero r (Some o)) = refl
-    go b = refl
+begin_marked code s = grind arith
 
 fetched_marked : (key : ℕ) (p : Point) (w : Fetched) → Marked (cond (leaves_fetched p w) false (is_written p.state)) (next_fetched None key p w)
-fetched_marked key p NoCcw = tt
-fetched_marked key p (TransferTo address) = refl
 fetched_marked key p (GoodCcw ccw) =
     let w = cond (leaves_fetched p (GoodCcw ccw)) false (is_written p.state) in
     begun_holds (λ c. Is w c.state) (Is w) (λ e. Unit {0}) None key (λ c h. h) (λ p c channel h. tt) (requested p ccw) (begin None ccw.code p.state) (begin_marked ccw.code p.state)
+fetched_marked key p w = grind arith
 
 unit_marked : (key : ℕ) (g : ProgramPhase) → Marked (written_past key g (is_written (state_in g))) (unit None key g)
 unit_marked key (Between p) = fetched_marked key p (fetch p.storage p.place true)
