@@ -1,5 +1,5 @@
 -- What writes leave of the slot and of the table.
-use Rattle.std.proofs.Common.{◌≡◌, ◌∙◌, ap, sym, subst, refl, ℕ, zero, suc, ◌+◌, ◌-◌, ◌/◌, ◌^◌, ◌≤◌, ◌<◌, min, List, [], ◌∷◌, ◌++◌, Bool, true, false, length, take, drop, set, flat_map, replicate, slice_index, bytes_eq, length-append, length-take, length-set, append-nil, Option, Some, None, Ok, unwrap_or, All, sum_by, arith}
+use Rattle.std.proofs.Common.{◌≡◌, ◌∙◌, ap, sym, subst, refl, ℕ, zero, suc, ◌+◌, ◌-◌, ◌*◌, ◌/◌, ◌^◌, ◌≤◌, ◌<◌, min, List, [], ◌∷◌, ◌++◌, Bool, true, false, length, take, drop, set, flat_map, replicate, slice_index, bytes_eq, length-append, length-take, length-set, append-nil, Option, Some, None, Ok, unwrap_or, All, sum_by, arith}
 use Rattle.std.specs.Option.{ForSome}
 use Rattle.std.proofs.lemmas.List.{length-replicate, take_min, take_at, take-take, take_more_set, get_or_at}
 use Rattle.std.proofs.Math.Seq.{map-set_same}
@@ -21,13 +21,14 @@ use Rattle.ckd_position.specs.declared.areas.Area.TheVariants.{HomeAddress, Of}
 use Rattle.ckd_position.specs.declared.areas.Part.{Part}
 use Rattle.ckd_position.specs.declared.areas.Part.TheVariants as part
 use Rattle.ckd_position.specs.Contents.{Sighted, is_readable, padded, new_record, record_before, formatted, kept, replaced, with_record_changed}
-use Rattle.ckd_slot.specs.Buffer.{IsIndexed, IsBuffer, StandsThere, number_up_to, FitsSlot, IsUpdate, IsRecordOf, IsPlaceOf, end_of_records, record_place, lengths_on, fits_track, area_before, made_on}
+use Rattle.ckd_slot.specs.Buffer.{IsIndexed, IsBuffer, StandsThere, number_up_to, FitsSlot, CanMake, IsUpdate, IsUpdateAt, IsPlaceOf, end_of_records, record_place, lengths_on, fits_track, area_before, made_on}
 use Rattle.ckd_slot.specs.declared.charges.Charged.{Charged}
 use Rattle.ckd_position.specs.declared.extents.Extent.{Extent}
 use Rattle.ckd_position.specs.declared.extents.Extent.TheVariants as extent
 use Rattle.ckd_slot.specs.declared.windows.Window.{Window}
 use Rattle.ckd_slot.proofs.AreaPlaces.{Reads, reads, parts_there, how_many}
 use Rattle.ckd_slot.proofs.Lengths.{lengths_of}
+use Rattle.ckd_slot.proofs.Begun.{zeros_first}
 
 -- The table.
 
@@ -234,12 +235,15 @@ module _ {slot : List ℕ} {before : Option ℕ} {after : Option Area} {count : 
       p last ∙ sym (format_place n (end_of_records (track_in slot) (number_up_to before)) same refl last)
 
   -- the record that begins with these bytes
-  pub written_slot : (w : Window) (bytes : List ℕ) → w ≡ record { start = end_of_records (track_in slot) (number_up_to before) + 8; len = body_length count }
-      → overwritten (ended_at (overwritten (overwritten slot (w.start - 8) count) w.start (replicate w.len 0)) (w.start + w.len)) w.start bytes ≡ overwritten (slot_of (length slot) made) w.start bytes
-  written_slot w bytes is =
+  pub written_slot : (w : Window) (bytes : List ℕ) → w ≡ record { start = end_of_records (track_in slot) (number_up_to before) + 8; len = body_length count } → length bytes ≤ w.len
+      → ended_at (overwritten (overwritten slot (w.start - 8) count) w.start (padded bytes w.len)) (w.start + w.len) ≡ overwritten (slot_of (length slot) made) w.start bytes
+  written_slot w bytes is le =
       let at = end_of_records (track_in slot) (number_up_to before) in
+      let n = body_length count in
       let e : at + 8 - 8 ≡ at = omega arith in
-      rw (is, e) (ap (λ (x : List ℕ). overwritten x (at + 8) bytes) format_slot)
+      let short : length bytes ≤ n = rw is at le in
+      let long = length-overwritten slot at count (omega (arith, k.eight, format_room)) in
+      rw (is, e) (sym (zeros_first (overwritten slot at count) (at + 8) n bytes (at + 8 + n) short (omega arith) (omega (arith, long, format_room))) ∙ ap (λ (x : List ℕ). overwritten x (at + 8) bytes) format_slot)
 
 -- Other bytes in a record's areas.
 
@@ -278,7 +282,10 @@ abbrev pub update_length : Extent → Record → ℕ
 update_length extent.KeyAndData r = length r.key_area + length r.data_area
 update_length _ r = length r.data_area
 
-padded_whole : (b : List ℕ) (n : ℕ) → length b ≡ n → padded b n ≡ b
+pub length-padded : (b : List ℕ) (n : ℕ) → length b ≤ n → length (padded b n) ≡ n
+length-padded b n le = omega (arith, length-append b (replicate (n - length b) 0), length-replicate {A = ℕ} (n - length b) 0, le)
+
+pub padded_whole : (b : List ℕ) (n : ℕ) → length b ≡ n → padded b n ≡ b
 padded_whole b n e = (let z : n - length b ≡ 0 = omega (arith, e) in rw z (append-nil b))
 
 -- a record that gets all the bytes of its area
@@ -298,37 +305,48 @@ update_place extent.Data t part i w u lt p = (let e = p lt in (rw e (omega arith
 update_place extent.KeyAndData t part i w u lt p = (let e = p lt in (rw e refl, rw e refl))
 update_place e t part i w u lt p = absurd u
 
--- no bytes, and bytes that are all zero, are the same
-padded_zeros : (n : ℕ) → padded (replicate n 0) n ≡ padded [] n
-padded_zeros n = padded_whole (replicate n 0) n (length-replicate {A = ℕ} n 0) ∙ (let e : n - 0 ≡ n = omega arith in rw e refl)
+-- bytes with the zeros behind them replace as the bytes alone do
+padded_replaces : (e : Extent) (r : Record) (b : List ℕ) → IsUpdate e → length b ≤ update_length e r → replaced e (padded b (update_length e r)) r ≡ replaced e b r
+padded_replaces extent.Data r b u le = (let n = length r.data_area in rw (padded_whole (padded b n) n (length-padded b n le)) refl)
+padded_replaces extent.KeyAndData r b u le = (let n = length r.key_area + length r.data_area in rw (padded_whole (padded b n) n (length-padded b n le)) refl)
+padded_replaces e r b u le = absurd u
 
-pub zeros_replace : (e : Extent) (r : Record) → IsUpdate e → replaced e (replicate (update_length e r) 0) r ≡ replaced e [] r
-zeros_replace extent.Data r u = rw (padded_zeros (length r.data_area)) refl
-zeros_replace extent.KeyAndData r u = rw (padded_zeros (length r.key_area + length r.data_area)) refl
-zeros_replace e r u = absurd u
+pub padded_changes : (e : Extent) (part : Part) (i : ℕ) (t : Track) (b : List ℕ) → IsUpdate e → length b ≤ update_length e (record_in t i)
+    → with_record_changed (replaced e (padded b (update_length e (record_in t i)))) (Of part i) t ≡ with_record_changed (replaced e b) (Of part i) t
+padded_changes e part i t b u le = ap (λ (x : Record). let y : Track = record t { records = set t.records i x } in y) (padded_replaces e (record_in t i) b u le)
 
--- what is left where the bytes of a record's area are cleared, and where that is
-pub record Clears (e : Extent) (slot : List ℕ) (area : Area) (w : Window) (end : ℕ) : Type 0 where
-  pub law : ended_at (overwritten slot w.start (replicate w.len 0)) end ≡ slot_of (length slot) (with_record_changed (replaced e []) area (track_in slot))
-  pub fits : FitsSlot (length slot) (with_record_changed (replaced e []) area (track_in slot))
-  pub lengths : lengths_on (with_record_changed (replaced e []) area (track_in slot)) ≡ lengths_on (track_in slot)
+-- a track fits the slot that spells it
+pub spelled_fits : (slot : List ℕ) (t : Track) → Spells slot t → FitsSlot (length slot) t
+spelled_fits slot t s = record {
+  home_address = s.home_address;
+  records = s.records;
+  room = omega (arith, length-append t.home_address (flat_map record_bytes t.records ++ end_mark), length-append (flat_map record_bytes t.records) end_mark, place-le slot t s (length t.records), end_is t);
+}
+
+-- what is left where bytes of a record are replaced by these, and zeros behind them
+pub record Replaces (slot : List ℕ) (e : Extent) (area : Area) (w : Window) (end : ℕ) (bytes : List ℕ) : Type 0 where
   pub within : w.start + w.len ≤ end
+  pub law : ended_at (overwritten slot w.start (padded bytes w.len)) end ≡ slot_of (length slot) (with_record_changed (replaced e bytes) area (track_in slot))
+  pub fits : FitsSlot (length slot) (with_record_changed (replaced e bytes) area (track_in slot))
+  pub lengths : lengths_on (with_record_changed (replaced e bytes) area (track_in slot)) ≡ lengths_on (track_in slot)
 
-pub clear_is : (e : Extent) (slot : List ℕ) (area : Area) (w : Window) (end : ℕ) → (let t = track_in slot in IsUpdate e → Spells slot t → IsRecordOf t area → IsPlaceOf e t area w → end ≡ end_of_records t (length t.records) → Clears e slot area w end)
-clear_is e slot HomeAddress w end u s there p last = absurd there
-clear_is e slot (Of part i) w end u s there p last =
+pub replaces : (slot : List ℕ) (e : Extent) (area : Area) (w : Window) (end : ℕ) (bytes : List ℕ)
+    → (let t = track_in slot in Spells slot t → IsUpdateAt t e area w → length bytes ≤ w.len → end ≡ end_of_records t (length t.records) → Replaces slot e area w end bytes)
+replaces slot e HomeAddress w end bytes s at le last = absurd at.there
+replaces slot e (Of part i) w end bytes s at le last =
     let t = track_in slot in
-    let r = record_in t i in
-    let n = update_length e r in
-    let place = update_place e t part i w u there p in
-    let k = update_is e slot t part i (replicate n 0) u s there (length-replicate {A = ℕ} n 0) in
-    let same : with_record_changed (replaced e (replicate n 0)) (Of part i) t ≡ with_record_changed (replaced e []) (Of part i) t = ap (λ (x : Record). let y : Track = record t { records = set t.records i x } in y) (zeros_replace e r u) in
+    let n = update_length e (record_in t i) in
+    let place = update_place e t part i w at.update at.there at.place in
+    let short : length bytes ≤ n = omega (arith, le, place.1) in
+    let long = length-padded bytes n short in
+    let k = update_is e slot t part i (padded bytes n) at.update s at.there long in
+    let same = padded_changes e part i t bytes at.update short in
     let F : Track → Type 0 = λ x. FitsSlot (length slot) x in
     record {
+      within = omega (arith, place.0, place.1, last, end_is t, k.within, long);
       law = rw (place.0, place.1, last, end_is t) (k.law ∙ ap (slot_of (length slot)) same);
       fits = subst F same k.fits;
       lengths = ap lengths_on (sym same) ∙ k.lengths;
-      within = omega (arith, place.0, place.1, last, end_is t, k.within, length-replicate {A = ℕ} n 0);
     }
 
 -- A record by its number.
@@ -352,6 +370,25 @@ kept_by (suc k) i t e = (let s : k + 1 ≡ min (i + 1) (length t.records) = omeg
 kept_before_by : (b : Option ℕ) (t : Track) → kept_records (record_before (area_before (length (kept_records b t)))) t ≡ kept_records b t
 kept_before_by None t = refl
 kept_before_by (Some i) t = kept_by (length (take (i + 1) t.records)) i t refl
+
+-- what is known of a record that can be made by its number, and of its place
+pub record Made (slot : List ℕ) (number : ℕ) (count : List ℕ) (w : Window) : Type 0 where
+  pub fitting : Fitting slot (record_before (area_before number)) (area_before number) count
+  pub place : w ≡ record { start = end_of_records (track_in slot) (number_up_to (record_before (area_before number))) + 8; len = body_length count }
+  pub start : w.start ≡ end_of_records (track_in slot) (number_up_to (record_before (area_before number))) + 8
+  pub len : w.len ≡ body_length count
+  pub room : w.start + w.len + 8 ≤ length slot
+  pub few : 13 + 8 * number ≤ length slot
+
+pub made_by : {slot offsets : List ℕ} {records : Option ℕ} {zeros_from : ℕ} {charged : Charged} {bytes : List ℕ} (number : ℕ) (count : List ℕ) (w : Window) → IsBuffer slot offsets records zeros_from charged → is_readable (track_of slot) ≡ true
+    → AreBytes count → length count ≡ 8 → CanMake (length slot) (track_of slot) number count w bytes → Made slot number count w
+made_by {slot} number count w x r bytes eight can =
+    let k = formatting (record_before (area_before number)) (area_before number) count x r bytes eight can.no_end_mark refl (before_there number _ can.there) can.fits in
+    let is = place_is k number w (sym (up_to_is number)) can.place in
+    let start = ap (λ (w : Window). w.start) is in
+    let len = ap (λ (w : Window). w.len) is in
+    let few = few_records slot (track_in slot) k.spells in
+    record { fitting = k; place = is; start = start; len = len; room = omega (arith, start, len, format_room k); few = omega (arith, can.there, few) }
 
 -- the record behind an area is that of its number
 pub made_formatted : (t : Sighted) (after : Option Area) (number : ℕ) (count : List ℕ) → number ≡ length (kept t after) → made_on t number count ≡ formatted t after count
