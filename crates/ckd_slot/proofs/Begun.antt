@@ -1,6 +1,6 @@
 -- Areas that begin with the bytes that came, and have zeros behind them.
 use Rattle.std.proofs.Common.{◌≡◌, ◌∙◌, ap, sym, refl, ℕ, ◌+◌, ◌-◌, ◌≤◌, List, [], ◌++◌, length, take, drop, replicate, length-append, length-take, length-drop, append_assoc, arith}
-use Rattle.std.proofs.lemmas.List.{length-replicate, replicate-append-replicate, length-take-le, take-append-drop}
+use Rattle.std.proofs.lemmas.List.{length-replicate, replicate-append-replicate, length-take-le}
 use Rattle.std.proofs.Math.Seq.{take-add}
 use Rattle.ckd_track.specs.Track.{end_mark}
 use Rattle.ckd_track.specs.Changes.{overwritten, ended_at, IsZeroFrom}
@@ -12,12 +12,8 @@ use Rattle.ckd_position.specs.Contents.{padded}
 pub zero_later : (s : List ℕ) (z k : ℕ) → IsZeroFrom s z → z ≤ k → k ≤ length s → IsZeroFrom s k
 zero_later s z k is le room = zero_front s s [] z k refl is le (omega arith) room
 
--- no zeros change nothing
-pub none_over : (s : List ℕ) (at n : ℕ) → n ≡ 0 → overwritten s at (replicate n 0) ≡ s
-none_over s at n e = rw (e, (let same : at + 0 ≡ at = omega arith in same)) (take-append-drop at s)
-
 -- bytes before the end mark may be written first or last
-written_last : (x : List ℕ) (at : ℕ) (b : List ℕ) (e : ℕ) → at + length b ≤ e → e + 8 ≤ length x → overwritten (ended_at x e) at b ≡ ended_at (overwritten x at b) e
+pub written_last : (x : List ℕ) (at : ℕ) (b : List ℕ) (e : ℕ) → at + length b ≤ e → e + 8 ≤ length x → overwritten (ended_at x e) at b ≡ ended_at (overwritten x at b) e
 written_last x at b e within room =
     let k : ℕ = length b in
     let m : ℕ = e - (at + k) in
@@ -70,10 +66,3 @@ zeros_behind s at n b e le within room =
     let last : at + length (d ++ z) ≡ at + k + length z = omega (arith, length-append d z, same) in
     let there : overwritten s (at + k) z ≡ overwritten s at (d ++ z) = rw (take-add at k s, last) (simp append_assoc) in
     ap (λ (x : List ℕ). overwritten (ended_at x e) at b) there ∙ first_last s at d b z e same (omega (arith, length-append b z, zeros, le, within)) room
-
--- the same where the bytes are whole
-pub whole_behind : (s : List ℕ) (at n : ℕ) (b : List ℕ) (e : ℕ) → length b ≡ n → at + n ≤ e → e + 8 ≤ length s
-    → overwritten (ended_at s e) at b ≡ ended_at (overwritten s at (padded b n)) e
-whole_behind s at n b e whole within room =
-    let none : n - length b ≡ 0 = omega (arith, whole) in
-    ap (λ (x : List ℕ). overwritten (ended_at x e) at b) (sym (none_over s (at + length b) (n - length b) none)) ∙ zeros_behind s at n b e (omega (arith, whole)) within room

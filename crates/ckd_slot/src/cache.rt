@@ -149,8 +149,8 @@ impl<S: ImageStore> TrackCache<S> {
     {
         // the geometry is that of an image, so that a slot has room for a home address and the end mark
         let _geometry = self.image.geometry();
-        self.buffer.write_home_address(home_address);
         self.changed = true;
+        self.buffer.write_home_address(home_address);
     }
 
     /// The number that a record of these count bytes would have in the slot at hand behind the kept ones, and where its key and
