@@ -175,9 +175,6 @@ module _ {slot : List ℕ} {number : ℕ} {after : Option Area} {count : List �
       let first = kept_are before (track_in slot) k.spells.records in
       rw (← made_is) (record { home_address = k.spells.home_address; records = All-push IsRecord (kept_records before (track_in slot)) (record_at (count ++ zeros)) first makes_new.is_record; room = made_room })
 
-  spells_made : Spells (slot_of (length slot) made) made
-  spells_made = slot_of_spells (length slot) made format_fits.home_address format_fits.records
-
   format_table : (offsets : List ℕ) (n at : ℕ) → take n offsets ≡ record_offsets (track_in slot) → number ≤ n → number < length offsets → at ≡ end_of_records (track_in slot) number
       → take (number + 1) (set offsets number at) ≡ record_offsets made
   format_table offsets n at table le lt e =
@@ -210,7 +207,8 @@ module _ {slot : List ℕ} {number : ℕ} {after : Option Area} {count : List �
   format_place at at_is = λ last.
       (let t = track_in slot in
       let offset : slice_index (record_offsets made) number ≡ at =
-      offset_is (slot_of (length slot) made) made spells_made number last ∙ ap (λ (rs : List Record). length t.home_address + length (flat_map record_bytes rs)) kept_made ∙ sym at_is in
+      offset_is (slot_of (length slot) made) made (slot_of_spells (length slot) made format_fits.home_address format_fits.records) number last
+      ∙ ap (λ (rs : List Record). length t.home_address + length (flat_map record_bytes rs)) kept_made ∙ sym at_is in
       let there : record_in made number ≡ record_at (count ++ zeros) =
       get_or_at (kept (track_of slot) after) (new_record count) [] no_record number (sym is_last) ∙ ap record_at (zeros_behind count (body_length count) k.eight) in
       let all : length (count ++ zeros) ≡ 8 + body_length count = omega (arith, length-append count zeros, k.eight, length-replicate {A = ℕ} (body_length count) 0) in

@@ -141,8 +141,8 @@ fn record_part(slot: &[u8], at: usize, extent: Extent) -> (Window, bool)
     )
 }
 
-// Writes so many zeros from an offset on, which are often none, and behind all records the end mark and zeros; from `zeros_from`
-// on, or from that offset on where that is later, all bytes of the slot are zero before.
+// Writes so many zeros from an offset on, which are often none, and behind all records the end mark and zeros; from
+// `zeros_from` on, or from that offset on where that is later, all bytes of the slot are zero before.
 fn end_with_zeros(slot: &mut [u8], at: usize, n: usize, end: usize, zeros_from: usize)
     requires area { at + n ≤ end }
     requires room { end + 8 ≤ length slot.old }
@@ -156,8 +156,9 @@ fn end_with_zeros(slot: &mut [u8], at: usize, n: usize, end: usize, zeros_from: 
     clear_area(slot, at, n, end, zeros_from.max(at));
 }
 
-// Writes these bytes at a place and zeros behind them, as many as the place has room for, and behind all records the end mark
-// and zeros; from `zeros_from` on, or from the place on where that is later, all bytes of the slot are zero before.
+// Writes these bytes at a place and zeros behind them, as many as the place has room for, and behind all records the
+// end mark and zeros; from `zeros_from` on, or from the place on where that is later, all bytes of the slot are zero
+// before.
 #[inline(always)]
 fn write_area(slot: &mut [u8], place: Window, bytes: &[u8], end: usize, zeros_from: usize)
     requires area { place.start + place.len ≤ end }
@@ -417,8 +418,8 @@ impl TrackBuffer {
         write_record(&mut self.slot, &count, place, bytes, zeros_from);
     }
 
-    /// Puts these bytes, and zeros behind them, in the place of the bytes that an update changes in a record, and zeros behind
-    /// the end mark. They stand at this place. The track fits the slot, as it did.
+    /// Puts these bytes, and zeros behind them, in the place of the bytes that an update changes in a record, and zeros
+    /// behind the end mark. They stand at this place. The track fits the slot, as it did.
     pub fn replace(&mut self, place: Window, bytes: &[u8])
         requires readable { is_readable (track_of self.old) ≡ true }
         requires there { HasUpdateAt (track_in self.old) place }

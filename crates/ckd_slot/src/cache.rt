@@ -182,8 +182,8 @@ impl<S: ImageStore> TrackCache<S> {
         self.buffer.format(number, count, place, bytes);
     }
 
-    /// Puts these bytes, and zeros behind them, in the place of the bytes that an update changes in a record of the slot at hand,
-    /// and zeros behind the end mark. They stand at this place.
+    /// Puts these bytes, and zeros behind them, in the place of the bytes that an update changes in a record of the
+    /// slot at hand, and zeros behind the end mark. They stand at this place.
     pub fn replace(&mut self, place: Window, bytes: &[u8])
         requires held { IsSome self.old.held }
         requires readable { is_readable (track_of (slot_held self.old)) ≡ true }
