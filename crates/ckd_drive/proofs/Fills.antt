@@ -1,5 +1,5 @@
 -- Tracks that are being written.
-use Rattle.std.proofs.Common.{◌≡◌, ◌∙◌, ap, sym, refl, ℕ, ◌+◌, ◌-◌, ◌<◌, ◌≤◌, ◌^◌, List, [], ◌++◌, true, Some, Ok, Err, unwrap_or, length, take, drop, append-nil, set-set, get_or-set_same, slice_set, replicate, length-append, length-drop, length-take, length-set, append_assoc, arith}
+use Rattle.std.proofs.Common.{◌≡◌, ◌∙◌, ap, sym, refl, ℕ, ◌+◌, ◌-◌, ◌<◌, ◌≤◌, ◌^◌, List, [], ◌++◌, true, Some, Ok, Err, unwrap_or, length, take, drop, set-set, get_or-set_same, slice_set, replicate, length-append, length-drop, length-take, length-set, append_assoc, arith}
 use Rattle.std.proofs.Math.Bool.{or-true}
 use Rattle.std.proofs.lemmas.List.{length-replicate, drop-append-le}
 use Rattle.std.proofs.lemmas.List.Elements.{All-set}
@@ -18,15 +18,9 @@ use Rattle.ckd_slot.specs.Buffer.{FitsSlot, IsUpdate, SameRecords, lengths_on}
 use Rattle.ckd_slot.specs.Cache.{CacheState, slot_held, with_held}
 use Rattle.ckd_drive.specs.declared.transfer.Written.{Written}
 use Rattle.ckd_drive.specs.Invariant.{HalfDone, Works, MayTake, Absorbs, own_track, seen_with, with_taken, HasFilled, IsFilled, slot_at, track_under, AtWork, geometry_in, slot_in, at_work, closes_by}
-use Rattle.ckd_slot.proofs.Writes.{update_offset, update_length}
+use Rattle.ckd_slot.proofs.Writes.{update_offset, update_length, length-padded}
 use Rattle.ckd_slot.proofs.Updates.{form_of, padded_on, same_records}
 use Rattle.ckd_drive.proofs.Standing.{slot_is, number_below}
-
-pub length-padded : (b : List ℕ) (n : ℕ) → length b ≤ n → length (padded b n) ≡ n
-length-padded b n le = omega (arith, length-append b (replicate (n - length b) 0), length-replicate {A = ℕ} (n - length b) 0, le)
-
-pub padded_whole : (b : List ℕ) (n : ℕ) → length b ≤ n → padded (padded b n) n ≡ padded b n
-padded_whole b n le = (let none : n - length (padded b n) ≡ 0 = omega (arith, length-padded b n le) in rw none (append-nil (padded b n)))
 
 pub there : (half : HalfDone) → Works half → own_track half < length half.cache.slots
 there half x =

@@ -21,9 +21,9 @@ use Rattle.ckd_slot.specs.Buffer.{HasFormatted, CanMake, FitsSlot, IsPlaceOf, Sa
 use Rattle.ckd_slot.specs.Cache.{CacheState, with_held, slot_held, after_format}
 use Rattle.ckd_drive.specs.declared.transfer.Written.TheVariants as written
 use Rattle.ckd_drive.specs.Invariant.{HalfDone, Works, MayTake, Absorbs, HasDue, HasFilled, IsFound, at_work, own_slot, with_taken, own_track, action_now, IsFilled, AtHand, slot_at, track_under, whole_of, AtWork, geometry_in, action_in}
-use Rattle.ckd_slot.proofs.Writes.{update_length, update_place, made_formatted, kept_le}
+use Rattle.ckd_slot.proofs.Writes.{update_length, update_place, made_formatted, kept_le, length-padded, padded_whole}
 use Rattle.ckd_track.proofs.ChargeLaws.{no_end_mark}
-use Rattle.ckd_drive.proofs.Fills.{there, new_slot_at, reads_new, Filling, room_of, ClosesFilled, form_filled, filled_absorbs, length-padded, padded_whole}
+use Rattle.ckd_drive.proofs.Fills.{there, new_slot_at, reads_new, Filling, room_of, ClosesFilled, form_filled, filled_absorbs}
 use Rattle.ckd_command.proofs.Closings.{formats_on}
 use Rattle.ckd_command.proofs.Lengths.{same_count}
 use Rattle.ckd_drive.proofs.Takes.{field_goes, field_absorbs}
@@ -81,7 +81,7 @@ format_written t after b m part i eight e le =
     let new : new_record b ≡ record_with b (padded [] n) = ap new_record (sym (append-nil b)) ∙ new_with b [] eight (omega arith) in
     let sum : length (take k (padded [] n)) + length (drop k (padded [] n)) ≡ n = length-record b [] (omega arith) in
     let key : length (take k (padded [] n)) ≡ k = omega (arith, length-take k (padded [] n), length-padded [] n (omega arith)) in
-    rw (drop_at b m 8 eight, record_last t after b i e ∙ new, sum, key, padded_whole m n le, new_with b m eight le, e, set-append_seam (kept t after) (new_record b) [] (record_with b (padded m n))) refl
+    rw (drop_at b m 8 eight, record_last t after b i e ∙ new, sum, key, padded_whole (padded m n) n (length-padded m n le), new_with b m eight le, e, set-append_seam (kept t after) (new_record b) [] (record_with b (padded m n))) refl
 
 -- the record that a formatting write fills, behind its count bytes
 abbrev format_filling : AtWork → Part → ℕ → Filling

@@ -240,14 +240,10 @@ impl<S: ImageStore> Job<S> {
             self.progress.place = Transfer::Fill(window, no_data);
             return;
         }
-        let Some(area) = self.opened.area else {
-            self.progress.place = Transfer::Fill(window, no_data);
-            return;
-        };
+        // noted first, so that the copy is the last that is done
         self.before = Trace::of(self.cache.buffer().bytes());
-        self.cache.clear(tables::extent(self.opened.command), area);
-        self.cache.put(window.start, bytes);
         self.progress.place = Transfer::Filled(behind(window, bytes.len()), Written::Area(no_data));
+        self.cache.replace(window, bytes);
     }
 
     /// A new record that is due is made with the first bytes of its key and data, however many.

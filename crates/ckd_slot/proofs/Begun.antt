@@ -1,56 +1,68 @@
--- A new record that begins with the bytes that came, and has zeros behind them.
-use Rattle.std.proofs.Common.{◌≡◌, ◌∙◌, ap, sym, refl, ℕ, ◌+◌, ◌-◌, ◌≤◌, List, [], ◌++◌, length, take, drop, replicate, length-take, length-drop, append_assoc, arith}
-use Rattle.std.proofs.lemmas.List.{length-replicate, replicate-append-replicate, length-take-le, take-append-drop}
+-- Areas that begin with the bytes that came, and have zeros behind them.
+use Rattle.std.proofs.Common.{◌≡◌, ◌∙◌, ap, sym, refl, ℕ, ◌+◌, ◌-◌, ◌≤◌, List, [], ◌++◌, length, take, drop, replicate, length-append, length-take, length-drop, append_assoc, arith}
+use Rattle.std.proofs.lemmas.List.{length-replicate, replicate-append-replicate, length-take-le}
 use Rattle.std.proofs.Math.Seq.{take-add}
 use Rattle.ckd_track.specs.Track.{end_mark}
 use Rattle.ckd_track.specs.Changes.{overwritten, ended_at, IsZeroFrom}
-use Rattle.ckd_track.proofs.Rewritten.{length-overwritten, take-overwritten, overwritten-middle}
+use Rattle.ckd_track.proofs.Rewritten.{length-overwritten, take-overwritten, drop_over, overwritten-middle}
 use Rattle.ckd_track.proofs.Zeros.{zero_front}
+use Rattle.ckd_position.specs.Contents.{padded}
 
 -- zeros from there on are zeros from a later place on
 pub zero_later : (s : List ℕ) (z k : ℕ) → IsZeroFrom s z → z ≤ k → k ≤ length s → IsZeroFrom s k
 zero_later s z k is le room = zero_front s s [] z k refl is le (omega arith) room
 
--- no zeros change nothing
-pub none_over : (s : List ℕ) (at n : ℕ) → n ≡ 0 → overwritten s at (replicate n 0) ≡ s
-none_over s at n e = rw (e, (let same : at + 0 ≡ at = omega arith in same)) (take-append-drop at s)
+-- bytes before the end mark may be written first or last
+pub written_last : (x : List ℕ) (at : ℕ) (b : List ℕ) (e : ℕ) → at + length b ≤ e → e + 8 ≤ length x → overwritten (ended_at x e) at b ≡ ended_at (overwritten x at b) e
+written_last x at b e within room =
+    let k : ℕ = length b in
+    let m : ℕ = e - (at + k) in
+    let last : at + k + m ≡ e = omega (arith, within) in
+    let p : List ℕ = take at x in
+    let d : List ℕ = take k (drop at x) in
+    let y : List ℕ = take m (drop (at + k) x) in
+    let t : List ℕ = end_mark ++ replicate (length x - (e + 8)) 0 in
+    let new : List ℕ = overwritten x at b in
+    let same : length b ≡ length d = omega (arith, length-take k (drop at x), length-drop at x, within, room) in
+    let before : take e x ≡ p ++ (d ++ y) = ap (λ (n : ℕ). take n x) (sym last) ∙ take-add (at + k) m x ∙ ap (λ (z : List ℕ). z ++ y) (take-add at k x) ∙ append_assoc p d y in
+    let after : take e new ≡ p ++ (b ++ y) =
+    ap (λ (n : ℕ). take n new) (sym last) ∙ take-add (at + k) m new ∙ rw (take-overwritten x at b (omega (arith, within, room)), drop_over x at (at + k) b (omega arith) (omega (arith, within, room))) (append_assoc p b y) in
+    let long : length new ≡ length x = length-overwritten x at b (omega (arith, within, room)) in
+    let old_is : take e x ++ t ≡ p ++ (d ++ (y ++ t)) = ap (λ (z : List ℕ). z ++ t) before ∙ simp append_assoc in
+    let new_is : ended_at new e ≡ p ++ (b ++ (y ++ t)) = rw (long, after) (simp append_assoc) in
+    ap (λ (z : List ℕ). overwritten z at b) old_is ∙ overwritten-middle p d (y ++ t) b at (length-take-le at x (omega (arith, within, room))) same ∙ sym new_is
 
--- what ends behind the bytes that were written
-ended_parts : (s : List ℕ) (at : ℕ) (b : List ℕ) (e : ℕ) → at + length b ≡ e → e + 8 ≤ length s
-    → ended_at (overwritten s at b) e ≡ take at s ++ (b ++ (end_mark ++ replicate (length s - (e + 8)) 0))
-ended_parts s at b e is room =
-    let whole : take e (overwritten s at b) ≡ take at s ++ b = ap (λ (n : ℕ). take n (overwritten s at b)) (sym is) ∙ take-overwritten s at b (omega (arith, is, room)) in
-    rw (length-overwritten s at b (omega (arith, is, room)), whole) (append_assoc (take at s) b (end_mark ++ replicate (length s - (e + 8)) 0))
+-- the first bytes of an area are written last
+first_last : (s : List ℕ) (at : ℕ) (d b z : List ℕ) (e : ℕ) → length b ≡ length d → at + length (b ++ z) ≤ e → e + 8 ≤ length s
+    → overwritten (ended_at (overwritten s at (d ++ z)) e) at b ≡ ended_at (overwritten s at (b ++ z)) e
+first_last s at d b z e same within room =
+    let far : length (d ++ z) ≡ length (b ++ z) = omega (arith, length-append d z, length-append b z, same) in
+    let long = length-overwritten s at (d ++ z) (omega (arith, far, within, room)) in
+    let r : List ℕ = drop (at + length (d ++ z)) s in
+    let over : overwritten (overwritten s at (d ++ z)) at b ≡ take at s ++ (b ++ (z ++ r)) =
+    ap (λ (x : List ℕ). overwritten (take at s ++ x) at b) (append_assoc d z r) ∙ overwritten-middle (take at s) d (z ++ r) b at (length-take-le at s (omega (arith, within, room))) same in
+    let over_is : take at s ++ (b ++ (z ++ r)) ≡ overwritten s at (b ++ z) = rw far (simp append_assoc) in
+    written_last (overwritten s at (d ++ z)) at b e (omega (arith, length-append b z, within)) (omega (arith, long, room)) ∙ ap (λ (x : List ℕ). ended_at x e) (over ∙ over_is)
 
--- zeros behind the bytes alone, and zeros in the whole area before them, are the same
-pub begun_slot : (c : List ℕ) (p n : ℕ) (bytes : List ℕ) → length bytes ≤ n → p + n + 8 ≤ length c
-    → overwritten (ended_at (overwritten c (p + length bytes) (replicate (n - length bytes) 0)) (p + length bytes + (n - length bytes))) p bytes ≡ overwritten (ended_at (overwritten c p (replicate n 0)) (p + n)) p bytes
-begun_slot c p n bytes le room =
-    let k : ℕ = length bytes in
-    let m : ℕ = n - k in
-    let last : p + k + m ≡ p + n = omega (arith, le) in
-    let tail : List ℕ = end_mark ++ replicate (length c - (p + n + 8)) 0 in
-    let y : List ℕ = replicate m 0 ++ tail in
-    let front : length (take p c) ≡ p = length-take-le p c (omega (arith, room)) in
-    let all : n ≡ k + m = omega (arith, le) in
-    let split : replicate {A = ℕ} n 0 ≡ replicate k 0 ++ replicate m 0 = ap (λ (i : ℕ). replicate {A = ℕ} i 0) all ∙ sym (replicate-append-replicate {A = ℕ} k m 0) in
-    let cleared : ended_at (overwritten c p (replicate n 0)) (p + n) ≡ take p c ++ (replicate k 0 ++ y) =
-    ended_parts c p (replicate n 0) (p + n) (omega (arith, length-replicate {A = ℕ} n 0)) room
-    ∙ ap (λ (z : List ℕ). take p c ++ (z ++ tail)) split ∙ ap (λ (z : List ℕ). take p c ++ z) (append_assoc (replicate k 0) (replicate m 0) tail) in
-    let begun : ended_at (overwritten c (p + k) (replicate m 0)) (p + n) ≡ take p c ++ (take k (drop p c) ++ y) =
-    ended_parts c (p + k) (replicate m 0) (p + n) (omega (arith, length-replicate {A = ℕ} m 0, le)) room
-    ∙ ap (λ (z : List ℕ). z ++ y) (take-add p k c) ∙ append_assoc (take p c) (take k (drop p c)) y in
-    let there : length bytes ≡ length (take k (drop p c)) = omega (arith, length-take k (drop p c), length-drop p c, le, room) in
-    ap (λ (e : ℕ). overwritten (ended_at (overwritten c (p + k) (replicate m 0)) e) p bytes) last ∙ ap (λ (x : List ℕ). overwritten x p bytes) begun
-    ∙ overwritten-middle (take p c) (take k (drop p c)) y bytes p front there
-    ∙ sym (overwritten-middle (take p c) (replicate k 0) y bytes p front (sym (length-replicate {A = ℕ} k 0))) ∙ ap (λ (x : List ℕ). overwritten x p bytes) (sym cleared)
+-- zeros in all of the area, and then the bytes
+pub zeros_first : (s : List ℕ) (at n : ℕ) (b : List ℕ) (e : ℕ) → length b ≤ n → at + n ≤ e → e + 8 ≤ length s
+    → overwritten (ended_at (overwritten s at (replicate n 0)) e) at b ≡ ended_at (overwritten s at (padded b n)) e
+zeros_first s at n b e le within room =
+    let k : ℕ = length b in
+    let all : n ≡ k + (n - k) = omega (arith, le) in
+    let split : replicate {A = ℕ} n 0 ≡ replicate k 0 ++ replicate (n - k) 0 = ap (λ (i : ℕ). replicate {A = ℕ} i 0) all ∙ sym (replicate-append-replicate {A = ℕ} k (n - k) 0) in
+    ap (λ (z : List ℕ). overwritten (ended_at (overwritten s at z) e) at b) split
+    ∙ first_last s at (replicate k 0) b (replicate (n - k) 0) e (sym (length-replicate {A = ℕ} k 0)) (omega (arith, length-append b (replicate (n - k) 0), length-replicate {A = ℕ} (n - k) 0, le, within)) room
 
--- the same where the bytes are whole
-pub whole_slot : (c : List ℕ) (p n : ℕ) (bytes : List ℕ) → length bytes ≡ n → p + n + 8 ≤ length c
-    → overwritten (ended_at c (p + n)) p bytes ≡ overwritten (ended_at (overwritten c p (replicate n 0)) (p + n)) p bytes
-whole_slot c p n bytes whole room =
-    let none : n - length bytes ≡ 0 = omega (arith, whole) in
-    let last : p + length bytes + (n - length bytes) ≡ p + n = omega (arith, whole) in
-    ap (λ (x : List ℕ). overwritten (ended_at x (p + n)) p bytes) (sym (none_over c (p + length bytes) (n - length bytes) none))
-    ∙ ap (λ (e : ℕ). overwritten (ended_at (overwritten c (p + length bytes) (replicate (n - length bytes) 0)) e) p bytes) (sym last)
-    ∙ begun_slot c p n bytes (omega (arith, whole)) room
+-- zeros behind the bytes alone, and then the bytes
+pub zeros_behind : (s : List ℕ) (at n : ℕ) (b : List ℕ) (e : ℕ) → length b ≤ n → at + n ≤ e → e + 8 ≤ length s
+    → overwritten (ended_at (overwritten s (at + length b) (replicate (n - length b) 0)) e) at b ≡ ended_at (overwritten s at (padded b n)) e
+zeros_behind s at n b e le within room =
+    let k : ℕ = length b in
+    let z : List ℕ = replicate (n - k) 0 in
+    let d : List ℕ = take k (drop at s) in
+    let zeros = length-replicate {A = ℕ} (n - k) 0 in
+    let same : k ≡ length d = omega (arith, length-take k (drop at s), length-drop at s, le, within, room) in
+    let last : at + length (d ++ z) ≡ at + k + length z = omega (arith, length-append d z, same) in
+    let there : overwritten s (at + k) z ≡ overwritten s at (d ++ z) = rw (take-add at k s, last) (simp append_assoc) in
+    ap (λ (x : List ℕ). overwritten (ended_at x e) at b) there ∙ first_last s at d b z e same (omega (arith, length-append b z, zeros, le, within)) room

@@ -1,5 +1,5 @@
 -- The slot at hand and the image's slots.
-use Rattle.std.proofs.Common.{◌≡◌, ◌∙◌, refl, ℕ, ◌+◌, ◌<◌, List, [], Bool, true, false, Option, Some, None, IsSome, length, get_or-set_same, slice_set, set-set}
+use Rattle.std.proofs.Common.{◌≡◌, refl, ℕ, ◌+◌, ◌<◌, List, [], Bool, true, false, Option, Some, None, IsSome, length, get_or-set_same, slice_set, set-set}
 use Rattle.ckd_image.specs.Image.{ImageState}
 use Rattle.ckd_slot.specs.Cache.{CacheState, Holds, with_held, slot_held, held_over, after_failed_save}
 
@@ -21,6 +21,3 @@ pub write_is : {i : ImageState} {held : Option ℕ} {changed : Bool} {s new : Li
     → seen i held true new ≡ with_held (seen i held changed s) (f (slot_held (seen i held changed s)))
 write_is {held = None} f h some e = cc
 write_is {i} {held = Some t} {changed} {s} f h some e = rw (held_is h some, e, set-set) refl
-
-pub write_holds : {i : ImageState} {held : Option ℕ} {changed : Bool} {s new : List ℕ} → Holds i held changed s → IsSome held → length new ≡ length s → Holds i held true new
-write_holds h some e = record { image = h.image; size = e ∙ h.size; there = h.there; clean = λ x. absurd cc; anchored = λ _. some }

@@ -13,8 +13,9 @@ use Rattle.ckd_position.specs.Contents.{is_readable, padded, replaced, with_reco
 use Rattle.ckd_slot.specs.Buffer.{FitsSlot, IsUpdate, SameRecords, IsIndexed, IsBuffer, lengths_on}
 use Rattle.ckd_slot.specs.declared.charges.Charged.{Charged}
 use Rattle.ckd_slot.proofs.Lengths.{same_offsets, same_left}
-use Rattle.ckd_track.proofs.Zeros.{drop_over, zero_over}
-use Rattle.ckd_slot.proofs.Writes.{update_is, update_offset, update_length}
+use Rattle.ckd_track.proofs.Zeros.{drop_over, zero_over, ended_zeros}
+use Rattle.ckd_slot.proofs.AreaPlaces.{Reads}
+use Rattle.ckd_slot.proofs.Writes.{IsUpdated, update_is, update_offset, update_length}
 
 -- A write before the end mark leaves the end mark and the zeros behind it.
 ended_same : (s : List ℕ) (t : Track) (off : ℕ) (b : List ℕ) → Spells s t → s ≡ slot_of (length s) t → off + length b ≤ end_offset t → ended_at (overwritten s off b) (end_offset t) ≡ overwritten s off b
@@ -94,3 +95,10 @@ pub put_buffer : {old offsets : List ℕ} {records : Option ℕ} {zeros_from : �
     → IsBuffer (overwritten old at b) offsets records (max zeros_from (at + length b)) charged
 put_buffer {old} {zeros_from} at b x room s =
     kept_buffer x s (length-overwritten old at b room) (zero_over old at b zeros_from (max zeros_from (at + length b)) x.cleared (omega arith) (omega arith) (omega (arith, x.cleared.within, room)))
+
+pub updated_buffer : {old offsets body : List ℕ} {records : Option ℕ} {zeros_from off : ℕ} {charged : Charged} {t : Track} → IsBuffer old offsets records zeros_from charged → Reads old → IsUpdated old (track_in old) off body t
+    → IsBuffer (slot_of (length old) t) offsets records (end_offset (track_in old) + 8) charged
+updated_buffer {old} {body} {off} {t} x r k =
+    let room : end_offset (track_in old) + 8 ≤ length old = omega (arith, place-le old (track_in old) r.spells (length (track_in old).records), end_is (track_in old)) in
+    kept_buffer x (same_records (length old) old (slot_of (length old) t) t r.read k.fits refl k.lengths) (length-slot_of (length old) t k.fits.room)
+    (ended_zeros old off body (end_offset (track_in old)) (slot_of (length old) t) (omega (arith, k.within, room)) room (sym k.law))

@@ -1,5 +1,5 @@
 -- What writes leave of the slot and of the table.
-use Rattle.std.proofs.Common.{◌≡◌, ◌∙◌, ap, sym, subst, refl, ℕ, zero, suc, ◌+◌, ◌-◌, ◌/◌, ◌^◌, ◌≤◌, ◌<◌, min, List, [], ◌∷◌, ◌++◌, Bool, true, false, length, take, drop, set, flat_map, replicate, slice_index, bytes_eq, length-append, length-take, length-set, append-nil, Option, Some, None, Ok, unwrap_or, All, sum_by, arith}
+use Rattle.std.proofs.Common.{◌≡◌, ◌∙◌, ap, sym, subst, refl, ℕ, zero, suc, ◌+◌, ◌-◌, ◌*◌, ◌/◌, ◌^◌, ◌≤◌, ◌<◌, min, List, [], ◌∷◌, ◌++◌, Bool, true, false, length, take, drop, set, flat_map, replicate, slice_index, bytes_eq, length-append, length-take, length-set, append-nil, Option, Some, None, Ok, unwrap_or, All, sum_by, arith}
 use Rattle.std.specs.Option.{ForSome}
 use Rattle.std.proofs.lemmas.List.{length-replicate, take_min, take_at, take-take, take_more_set, get_or_at}
 use Rattle.std.proofs.Math.Seq.{map-set_same}
@@ -9,8 +9,8 @@ use Rattle.ckd_track.specs.Changes.{bare_track, kept_records, with_record, with_
 use Rattle.ckd_track.proofs.Laws.{AreBytes}
 use Rattle.ckd_track.proofs.Places.{length-record_bytes, place, place-one, offset_is, place-le, end_is}
 use Rattle.ckd_track.proofs.Offsets.{few_records}
-use Rattle.ckd_track.proofs.Slots.{slot_of_spells, slot_of_reads, length-slot_of, length-spelling, offsets-append, offsets-take}
-use Rattle.ckd_track.proofs.Rewritten.{length-overwritten, data_is_record, body_is_record, body_lengths}
+use Rattle.ckd_track.proofs.Slots.{kept_are, slot_of_spells, slot_of_reads, length-slot_of, length-spelling, offsets-append, offsets-take}
+use Rattle.ckd_track.proofs.Rewritten.{length-overwritten, changed_end, data_is_record, body_is_record, body_lengths}
 use Rattle.ckd_track.proofs.Writing.{record-before, Makes, makes, new_slot, new_room, data_slot, key_data_slot}
 use Rattle.ckd_track.specs.declared.model.DriveModel.{DriveModel}
 use Rattle.ckd_track.specs.Model.{capacity_of}
@@ -21,13 +21,14 @@ use Rattle.ckd_position.specs.declared.areas.Area.TheVariants.{HomeAddress, Of}
 use Rattle.ckd_position.specs.declared.areas.Part.{Part}
 use Rattle.ckd_position.specs.declared.areas.Part.TheVariants as part
 use Rattle.ckd_position.specs.Contents.{Sighted, is_readable, padded, new_record, record_before, formatted, kept, replaced, with_record_changed}
-use Rattle.ckd_slot.specs.Buffer.{IsIndexed, IsBuffer, StandsThere, number_up_to, FitsSlot, IsUpdate, IsRecordOf, IsPlaceOf, end_of_records, record_place, lengths_on, fits_track, area_before, made_on}
+use Rattle.ckd_slot.specs.Buffer.{IsIndexed, IsBuffer, StandsThere, number_up_to, FitsSlot, CanMake, IsUpdate, IsUpdateAt, IsPlaceOf, end_of_records, record_place, lengths_on, fits_track, area_before, made_on}
 use Rattle.ckd_slot.specs.declared.charges.Charged.{Charged}
 use Rattle.ckd_position.specs.declared.extents.Extent.{Extent}
 use Rattle.ckd_position.specs.declared.extents.Extent.TheVariants as extent
 use Rattle.ckd_slot.specs.declared.windows.Window.{Window}
 use Rattle.ckd_slot.proofs.AreaPlaces.{Reads, reads, parts_there, how_many}
 use Rattle.ckd_slot.proofs.Lengths.{lengths_of}
+use Rattle.ckd_slot.proofs.Begun.{zeros_first}
 
 -- The table.
 
@@ -90,35 +91,33 @@ formatted_is : (slot : List ℕ) (before : Option ℕ) (after : Option Area) (co
     → with_record before (record_at (count ++ replicate (body_length count) 0)) (track_in slot) ≡ formatted (track_of slot) after count
 formatted_is slot before after count eight same = (let new : new_record count ≡ record_at (count ++ replicate (body_length count) 0) = ap record_at (zeros_behind count (body_length count) eight) in rw (same, new) refl)
 
-offset_up_to : (t : Track) (before : Option ℕ) → offset_behind t before ≡ end_of_records t (number_up_to before)
-offset_up_to t None = refl
-offset_up_to t (Some i) = refl
-
+-- the records that a new one leaves before it, by how many they are, and by its number
 kept_take : (t : Track) (before : Option ℕ) → kept_records before t ≡ take (number_up_to before) t.records
 kept_take t None = refl
 kept_take t (Some i) = refl
 
-pub up_to_le : (t : Track) (before : Option ℕ) → ForSome before (λ i. i < length t.records) → number_up_to before ≤ length t.records
+kept_number : (n : ℕ) (t : Track) → kept_records (record_before (area_before n)) t ≡ take n t.records
+kept_number zero t = refl
+kept_number (suc i) t = (let e : i + 1 ≡ suc i = omega arith in rw e refl)
+
+up_to_le : (t : Track) (before : Option ℕ) → ForSome before (λ i. i < length t.records) → number_up_to before ≤ length t.records
 up_to_le t None lt = omega arith
 up_to_le t (Some i) lt = omega (arith, lt i refl)
 
-pub length-kept : (t : Track) (before : Option ℕ) → ForSome before (λ i. i < length t.records) → length (kept_records before t) ≡ number_up_to before
-length-kept t before lt = ap length (kept_take t before) ∙ omega (arith, length-take (number_up_to before) t.records, up_to_le t before lt)
-
--- what is known of a new record that fits
-pub record Fitting (slot : List ℕ) (before : Option ℕ) (after : Option Area) (count : List ℕ) : Type 0 where
+-- what is known of a new record of this number that fits
+pub record Fitting (slot : List ℕ) (number : ℕ) (after : Option Area) (count : List ℕ) : Type 0 where
   pub spells : Spells slot (track_in slot)
   pub bytes : AreBytes count
   pub eight : length count ≡ 8
   pub no_mark : bytes_eq count end_mark ≡ false
-  pub same : kept_records before (track_in slot) ≡ kept (track_of slot) after
-  pub there : ForSome before (λ i. i < length (track_in slot).records)
+  pub same : take number (track_in slot).records ≡ kept (track_of slot) after
+  pub there : number ≤ length (track_in slot).records
   pub room : length (spelling (formatted (track_of slot) after count)) ≤ length slot
 
 -- by what the code asked of the track as it sees it, and by the answer
 pub fitting : (slot : List ℕ) (model : DriveModel) (before : Option ℕ) (after : Option Area) (count : List ℕ) (seen : Track) (n : ℕ) (answer : Bool) → Spells slot (track_in slot) → AreBytes count → length count ≡ 8
     → kept_records before (track_in slot) ≡ kept (track_of slot) after → ForSome before (λ i. i < length (track_in slot).records) → track_of slot ≡ Ok seen → n ≡ number_up_to before
-    → answer ≡ has_room model (take n seen.records) (key_length count) (data_length count) → answer ≡ true → capacity_of model + 37 ≤ length slot → Fitting slot before after count × (fits_track model after count (track_of slot) ≡ true)
+    → answer ≡ has_room model (take n seen.records) (key_length count) (data_length count) → answer ≡ true → capacity_of model + 37 ≤ length slot → Fitting slot n after count × (fits_track model after count (track_of slot) ≡ true)
 fitting slot model before after count seen n answer s b eight same there read is by_sum holds size =
     let same_track : track_in slot ≡ seen = ap track_or_none read in
     let has : has_room model (kept_records before (track_in slot)) (key_length count) (data_length count) ≡ true = rw (kept_take (track_in slot) before, same_track, ← is) (sym by_sum ∙ holds) in
@@ -129,29 +128,32 @@ fitting slot model before after count seen n answer s b eight same there read is
         bytes = b;
         eight = eight;
         no_mark = no_end_mark model (kept_records before (track_in slot)) count has;
-        same = same;
-        there = there;
+        same = rw is (sym (kept_take (track_in slot) before) ∙ same);
+        there = rw is (up_to_le (track_in slot) before there);
         room = omega (arith, le, size);
       },
       ap (λ (rs : List Record). has_room model rs (key_length count) (data_length count)) (sym same) ∙ has,
     )
 
--- by what a caller knows of it
-pub formatting : {slot offsets : List ℕ} {records : Option ℕ} {zeros_from : ℕ} {charged : Charged} (before : Option ℕ) (after : Option Area) (count : List ℕ) → IsBuffer slot offsets records zeros_from charged → is_readable (track_of slot) ≡ true
-    → AreBytes count → length count ≡ 8 → bytes_eq count end_mark ≡ false → kept_records before (track_in slot) ≡ kept (track_of slot) after → ForSome before (λ i. i < length (track_in slot).records)
-    → FitsSlot (length slot) (formatted (track_of slot) after count) → Fitting slot before after count
-formatting before after count x r bytes eight no_mark same there f = record { spells = (reads x r).spells; bytes = bytes; eight = eight; no_mark = no_mark; same = same; there = there; room = f.room }
-
-module _ {slot : List ℕ} {before : Option ℕ} {after : Option Area} {count : List ℕ} (k : Fitting slot before after count) where
-  -- the new record, and the track with it
+module _ {slot : List ℕ} {number : ℕ} {after : Option Area} {count : List ℕ} (k : Fitting slot number after count) where
+  -- the new record, the track with it, and the record before it
   abbrev zeros : List ℕ
   zeros = replicate (body_length count) 0
 
   abbrev made : Track
   made = formatted (track_of slot) after count
 
+  abbrev before : Option ℕ
+  before = record_before (area_before number)
+
+  pub is_last : number ≡ length (kept (track_of slot) after)
+  is_last = omega (arith, ap length k.same, length-take number (track_in slot).records, k.there)
+
   made_is : with_record before (record_at (count ++ zeros)) (track_in slot) ≡ made
-  made_is = formatted_is slot before after count k.eight k.same
+  made_is = formatted_is slot before after count k.eight (kept_number number (track_in slot) ∙ k.same)
+
+  begins_there : offset_behind (track_in slot) before ≡ end_of_records (track_in slot) number
+  begins_there = ap (λ (rs : List Record). length (track_in slot).home_address + length (flat_map record_bytes rs)) (kept_number number (track_in slot))
 
   makes_new : Makes count zeros
   makes_new = makes count zeros k.bytes (All-replicate (λ b. b < 256) (body_length count) 0 (omega arith)) k.eight k.no_mark (length-replicate (body_length count) 0)
@@ -159,67 +161,56 @@ module _ {slot : List ℕ} {before : Option ℕ} {after : Option Area} {count : 
   made_room : length (spelling (with_record before (record_at (count ++ zeros)) (track_in slot))) ≤ length slot
   made_room = (let S : Track → Type 0 = λ x. length (spelling x) ≤ length slot in subst S (sym made_is) k.room)
 
-  pub format_room : end_of_records (track_in slot) (number_up_to before) + 8 + body_length count + 8 ≤ length slot
+  pub format_room : end_of_records (track_in slot) number + 8 + body_length count + 8 ≤ length slot
   format_room =
-      omega (arith, new_room slot (track_in slot) k.spells before count zeros k.eight makes_new made_room, offset_up_to (track_in slot) before, length-replicate {A = ℕ} (body_length count) 0)
+      omega (arith, new_room slot (track_in slot) k.spells before count zeros k.eight makes_new made_room, begins_there, length-replicate {A = ℕ} (body_length count) 0)
 
-  pub format_slot : (let at = end_of_records (track_in slot) (number_up_to before) in ended_at (overwritten (overwritten slot at count) (at + 8) zeros) (at + 8 + body_length count)) ≡ slot_of (length slot) made
+  pub format_slot : (let at = end_of_records (track_in slot) number in ended_at (overwritten (overwritten slot at count) (at + 8) zeros) (at + 8 + body_length count)) ≡ slot_of (length slot) made
   format_slot =
-      let t = track_in slot in
-      let N : ℕ → ℕ → Type 0 = λ at n. ended_at (overwritten (overwritten slot at count) (at + 8) zeros) (at + 8 + n) ≡ slot_of (length slot) (with_record before (record_at (count ++ zeros)) t) in
-      let M : ℕ → Type 0 = λ at. N at (body_length count) in
-      let L : ℕ → Type 0 = λ m. N (offset_behind t before) m in
       let long : length zeros ≡ body_length count = length-replicate {A = ℕ} (body_length count) 0 in
-      subst M (offset_up_to t before) (subst L long (new_slot slot t k.spells before count zeros k.eight makes_new made_room)) ∙ ap (slot_of (length slot)) made_is
+      rw (← begins_there, long) (rw long at (new_slot slot (track_in slot) k.spells before count zeros k.eight makes_new made_room) ∙ ap (slot_of (length slot)) made_is)
 
   pub format_fits : FitsSlot (length slot) made
   format_fits =
-      rw (← made_is) (record { home_address = k.spells.home_address; records = All-push IsRecord (kept_records before (track_in slot)) (record_at (count ++ zeros)) kept_are makes_new.is_record; room = made_room })
-    where
-      kept_are : All IsRecord (kept_records before (track_in slot))
-      kept_are = rw kept_take (All-take IsRecord (number_up_to before) (track_in slot).records k.spells.records)
+      let first = kept_are before (track_in slot) k.spells.records in
+      rw (← made_is) (record { home_address = k.spells.home_address; records = All-push IsRecord (kept_records before (track_in slot)) (record_at (count ++ zeros)) first makes_new.is_record; room = made_room })
 
-  spells_made : Spells (slot_of (length slot) made) made
-  spells_made = slot_of_spells (length slot) made format_fits.home_address format_fits.records
-
-  format_table : (offsets : List ℕ) (n at : ℕ) → take n offsets ≡ record_offsets (track_in slot) → number_up_to before ≤ n → number_up_to before < length offsets → at ≡ end_of_records (track_in slot) (number_up_to before)
-      → take (number_up_to before + 1) (set offsets (number_up_to before) at) ≡ record_offsets made
+  format_table : (offsets : List ℕ) (n at : ℕ) → take n offsets ≡ record_offsets (track_in slot) → number ≤ n → number < length offsets → at ≡ end_of_records (track_in slot) number
+      → take (number + 1) (set offsets number at) ≡ record_offsets made
   format_table offsets n at table le lt e =
       let t = track_in slot in
-      let m = number_up_to before in
-      let first : take m offsets ≡ offsets_from 5 (take m t.records) = sym (take-take m n offsets le) ∙ ap (λ (xs : List ℕ). take m xs) table ∙ offsets-take m 5 t.records in
-      let front : Track = record t { records = take m t.records } in
-      let spelled = length-spelling front k.spells.home_address (All-take IsRecord m t.records k.spells.records) in
-      let sum : 5 + sum_by record_size (take m t.records) ≡ at =
-      omega (arith, e, spelled, length-append t.home_address (flat_map record_bytes (take m t.records) ++ end_mark), length-append (flat_map record_bytes (take m t.records)) end_mark) in
-      take_more_set offsets m at lt ∙ ap (λ (xs : List ℕ). xs ++ at ∷ []) first ∙ rw (← sum) (sym (offsets-append 5 (take m t.records) (record_at (count ++ zeros) ∷ [])))
-      ∙ ap (λ (rs : List Record). offsets_from 5 (rs ++ record_at (count ++ zeros) ∷ [])) (sym (kept_take t before)) ∙ ap record_offsets made_is
+      let first : take number offsets ≡ offsets_from 5 (take number t.records) = sym (take-take number n offsets le) ∙ ap (λ (xs : List ℕ). take number xs) table ∙ offsets-take number 5 t.records in
+      let front : Track = record t { records = take number t.records } in
+      let spelled = length-spelling front k.spells.home_address (All-take IsRecord number t.records k.spells.records) in
+      let sum : 5 + sum_by record_size (take number t.records) ≡ at =
+      omega (arith, e, spelled, length-append t.home_address (flat_map record_bytes (take number t.records) ++ end_mark), length-append (flat_map record_bytes (take number t.records)) end_mark) in
+      take_more_set offsets number at lt ∙ ap (λ (xs : List ℕ). xs ++ at ∷ []) first ∙ rw (← sum) (sym (offsets-append 5 (take number t.records) (record_at (count ++ zeros) ∷ [])))
+      ∙ ap (λ (rs : List Record). offsets_from 5 (rs ++ record_at (count ++ zeros) ∷ [])) (sym (kept_number number t)) ∙ ap record_offsets made_is
 
-  pub format_indexed : (offsets : List ℕ) (records : Option ℕ) (at : ℕ) → IsIndexed slot offsets records → is_readable (track_of slot) ≡ true → at ≡ end_of_records (track_in slot) (number_up_to before)
-      → IsIndexed (slot_of (length slot) made) (set offsets (number_up_to before) at) (Some (number_up_to before + 1))
+  pub format_indexed : (offsets : List ℕ) (records : Option ℕ) (at : ℕ) → IsIndexed slot offsets records → is_readable (track_of slot) ≡ true → at ≡ end_of_records (track_in slot) number
+      → IsIndexed (slot_of (length slot) made) (set offsets number at) (Some (number + 1))
   format_indexed offsets None at x r e = absurd (let no : is_readable (track_of slot) ≡ false = x.read in cc)
   format_indexed offsets (Some n) at x r e =
-      let room : number_up_to before + 1 ≤ length offsets = omega (arith, few_records slot (track_in slot) k.spells, up_to_le (track_in slot) before k.there, x.room) in
-      let size = length-set offsets (number_up_to before) at in
-      indexed_slot (length slot) made (set offsets (number_up_to before) at) (number_up_to before + 1) format_fits (omega (arith, x.room, size)) x.size (omega (arith, room, size))
-      (format_table offsets n at x.read.table (omega (arith, up_to_le (track_in slot) before k.there, how_many x.read)) (omega (arith, room)) e)
+      let room : number + 1 ≤ length offsets = omega (arith, few_records slot (track_in slot) k.spells, k.there, x.room) in
+      let size = length-set offsets number at in
+      indexed_slot (length slot) made (set offsets number at) (number + 1) format_fits (omega (arith, x.room, size)) x.size (omega (arith, room, size))
+      (format_table offsets n at x.read.table (omega (arith, k.there, how_many x.read)) (omega (arith, room)) e)
 
   -- the kept records stay, and the new one stands where they end
-  kept_made : take (number_up_to before) made.records ≡ take (number_up_to before) (track_in slot).records
-  kept_made =
-      ap (λ (x : Track). take (number_up_to before) x.records) (sym made_is)
-      ∙ take_at (kept_records before (track_in slot)) (record_at (count ++ zeros) ∷ []) (number_up_to before) (length-kept (track_in slot) before k.there) ∙ kept_take (track_in slot) before
+  kept_made : take number made.records ≡ take number (track_in slot).records
+  kept_made = take_at (kept (track_of slot) after) (new_record count ∷ []) number (sym is_last) ∙ sym k.same
 
-  pub format_keeps : take (number_up_to before) (track_in (slot_of (length slot) made)).records ≡ take (number_up_to before) (track_in slot).records
-  format_keeps = ap (λ (x : Track). take (number_up_to before) x.records) (ap track_or_none (slot_of_reads (length slot) made format_fits.home_address format_fits.records)) ∙ kept_made
+  pub format_keeps : take number (track_in (slot_of (length slot) made)).records ≡ take number (track_in slot).records
+  format_keeps = ap (λ (x : Track). take number x.records) (ap track_or_none (slot_of_reads (length slot) made format_fits.home_address format_fits.records)) ∙ kept_made
 
-  pub format_place : (number at : ℕ) → number ≡ number_up_to before → at ≡ end_of_records (track_in slot) (number_up_to before) → IsPlaceOf extent.KeyAndData made (Of part.Data number) (record { start = at + 8; len = body_length count })
-  format_place number at is at_is = λ last.
+  pub format_place : (at : ℕ) → at ≡ end_of_records (track_in slot) number → IsPlaceOf extent.KeyAndData made (Of part.Data number) (record { start = at + 8; len = body_length count })
+  format_place at at_is = λ last.
       (let t = track_in slot in
       let offset : slice_index (record_offsets made) number ≡ at =
-      offset_is (slot_of (length slot) made) made spells_made number last ∙ ap (end_of_records made) is ∙ ap (λ (rs : List Record). length t.home_address + length (flat_map record_bytes rs)) kept_made ∙ sym at_is in
+      offset_is (slot_of (length slot) made) made (slot_of_spells (length slot) made format_fits.home_address format_fits.records) number last
+      ∙ ap (λ (rs : List Record). length t.home_address + length (flat_map record_bytes rs)) kept_made ∙ sym at_is in
       let there : record_in made number ≡ record_at (count ++ zeros) =
-      ap (λ (x : Track). record_in x number) (sym made_is) ∙ get_or_at (kept_records before t) (record_at (count ++ zeros)) [] no_record number (length-kept t before k.there ∙ sym is) in
+      get_or_at (kept (track_of slot) after) (new_record count) [] no_record number (sym is_last) ∙ ap record_at (zeros_behind count (body_length count) k.eight) in
       let all : length (count ++ zeros) ≡ 8 + body_length count = omega (arith, length-append count zeros, k.eight, length-replicate {A = ℕ} (body_length count) 0) in
       let size : 8 + (length (record_in made number).key_area + length (record_in made number).data_area) ≡ 8 + body_length count =
       ap record_size there ∙ sym (length-record_bytes (record_at (count ++ zeros)) makes_new.is_record) ∙ ap length makes_new.all ∙ all in
@@ -227,28 +218,35 @@ module _ {slot : List ℕ} {before : Option ℕ} {after : Option Area} {count : 
       rw (offset, long) refl)
 
   -- the place that the new record has
-  pub place_is : (n : ℕ) (w : Window) → n ≡ number_up_to before → IsPlaceOf extent.KeyAndData made (Of part.Data n) w → w ≡ record { start = end_of_records (track_in slot) (number_up_to before) + 8; len = body_length count }
-  place_is n w same p =
-      let many : length (kept (track_of slot) after) ≡ number_up_to before = ap (λ (rs : List Record). length rs) (sym k.same) ∙ length-kept (track_in slot) before k.there in
-      let last : n < length made.records = omega (arith, same, many, length-append (kept (track_of slot) after) (new_record count ∷ [])) in
-      p last ∙ sym (format_place n (end_of_records (track_in slot) (number_up_to before)) same refl last)
+  pub place_is : (w : Window) → IsPlaceOf extent.KeyAndData made (Of part.Data number) w → w ≡ record { start = end_of_records (track_in slot) number + 8; len = body_length count }
+  place_is w p =
+      let last : number < length made.records = omega (arith, is_last, length-append (kept (track_of slot) after) (new_record count ∷ [])) in
+      p last ∙ sym (format_place (end_of_records (track_in slot) number) refl last)
 
   -- the record that begins with these bytes
-  pub written_slot : (w : Window) (bytes : List ℕ) → w ≡ record { start = end_of_records (track_in slot) (number_up_to before) + 8; len = body_length count }
-      → overwritten (ended_at (overwritten (overwritten slot (w.start - 8) count) w.start (replicate w.len 0)) (w.start + w.len)) w.start bytes ≡ overwritten (slot_of (length slot) made) w.start bytes
-  written_slot w bytes is =
-      let at = end_of_records (track_in slot) (number_up_to before) in
+  pub written_slot : (w : Window) (bytes : List ℕ) → w ≡ record { start = end_of_records (track_in slot) number + 8; len = body_length count } → length bytes ≤ w.len
+      → ended_at (overwritten (overwritten slot (w.start - 8) count) w.start (padded bytes w.len)) (w.start + w.len) ≡ overwritten (slot_of (length slot) made) w.start bytes
+  written_slot w bytes is le =
+      let at = end_of_records (track_in slot) number in
+      let n = body_length count in
       let e : at + 8 - 8 ≡ at = omega arith in
-      rw (is, e) (ap (λ (x : List ℕ). overwritten x (at + 8) bytes) format_slot)
+      let short : length bytes ≤ n = rw is at le in
+      let long = length-overwritten slot at count (omega (arith, k.eight, format_room)) in
+      rw (is, e) (sym (zeros_first (overwritten slot at count) (at + 8) n bytes (at + 8 + n) short (omega arith) (omega (arith, long, format_room))) ∙ ap (λ (x : List ℕ). overwritten x (at + 8) bytes) format_slot)
 
 -- Other bytes in a record's areas.
 
-length-ended : (x : List ℕ) (e : ℕ) → e + 8 ≤ length x → length (ended_at x e) ≡ length x
-length-ended x e room = omega (arith, length-append (take e x) (end_mark ++ replicate (length x - (e + 8)) 0), length-take e x, length-append end_mark (replicate (length x - (e + 8)) 0), length-replicate {A = ℕ} (length x - (e + 8)) 0)
+-- a track fits a slot that has room up to its end mark
+fits_by : (size : ℕ) (t : Track) → length t.home_address ≡ 5 → All IsRecord t.records → end_offset t + 8 ≤ size → FitsSlot size t
+fits_by size t ha are le = record {
+  home_address = ha;
+  records = are;
+  room = omega (arith, le, length-append t.home_address (flat_map record_bytes t.records ++ end_mark), length-append (flat_map record_bytes t.records) end_mark);
+}
 
-spelled_room : (size : ℕ) (t : Track) → length (slot_of size t) ≡ size → length (spelling t) ≤ size
-unfolding slot_of
-spelled_room size t e = omega (arith, e, length-append (spelling t) (replicate (size - length (spelling t)) 0), length-replicate {A = ℕ} (size - length (spelling t)) 0)
+-- and the slot that spells it
+pub spelled_fits : (slot : List ℕ) (t : Track) → Spells slot t → FitsSlot (length slot) t
+spelled_fits slot t s = fits_by (length slot) t s.home_address s.records (omega (arith, place-le slot t s (length t.records), end_is t))
 
 pub record IsUpdated (slot : List ℕ) (t : Track) (off : ℕ) (body : List ℕ) (t' : Track) : Type 0 where
   pub within : off + length body ≤ end_offset t
@@ -259,13 +257,12 @@ pub record IsUpdated (slot : List ℕ) (t : Track) (off : ℕ) (body : List ℕ)
 updated_by : (slot : List ℕ) (t : Track) (i off : ℕ) (body : List ℕ) (r : Record) → Spells slot t → i < length t.records → off + length body ≤ end_offset t → IsRecord r → lengths_of r ≡ lengths_of (record_in t i)
     → ended_at (overwritten slot off body) (end_offset t) ≡ slot_of (length slot) (record t { records = set t.records i r }) → IsUpdated slot t off body (record t { records = set t.records i r })
 updated_by slot t i off body r s lt within is same law =
-    let last : end_offset t + 8 ≤ length slot = omega (arith, place-le slot t s (length t.records), end_is t) in
-    let long : length (overwritten slot off body) ≡ length slot = length-overwritten slot off body (omega (arith, within, last)) in
-    let whole : length (slot_of (length slot) (record t { records = set t.records i r })) ≡ length slot = sym (ap length law) ∙ length-ended (overwritten slot off body) (end_offset t) (omega (arith, long, last)) ∙ long in
+    let size : record_size r ≡ record_size (record_in t i) = ap (λ (l : ℕ × ℕ). 8 + (l.0 + l.1)) same in
+    let last = changed_end slot t s i lt r is size in
     record {
       within = within;
       law = law;
-      fits = record { home_address = s.home_address; records = All-set IsRecord t.records i r is s.records; room = spelled_room (length slot) (record t { records = set t.records i r }) whole };
+      fits = fits_by (length slot) (record t { records = set t.records i r }) s.home_address (All-set IsRecord t.records i r is s.records) (omega (arith, last, place-le slot t s (length t.records), end_is t));
       lengths = map-set_same lengths_of t.records i r no_record same;
     }
 
@@ -278,7 +275,11 @@ abbrev pub update_length : Extent → Record → ℕ
 update_length extent.KeyAndData r = length r.key_area + length r.data_area
 update_length _ r = length r.data_area
 
-padded_whole : (b : List ℕ) (n : ℕ) → length b ≡ n → padded b n ≡ b
+-- how long bytes are with zeros behind them, and where there are none
+pub length-padded : (b : List ℕ) (n : ℕ) → length b ≤ n → length (padded b n) ≡ n
+length-padded b n le = omega (arith, length-append b (replicate (n - length b) 0), length-replicate {A = ℕ} (n - length b) 0, le)
+
+pub padded_whole : (b : List ℕ) (n : ℕ) → length b ≡ n → padded b n ≡ b
 padded_whole b n e = (let z : n - length b ≡ 0 = omega (arith, e) in rw z (append-nil b))
 
 -- a record that gets all the bytes of its area
@@ -298,69 +299,67 @@ update_place extent.Data t part i w u lt p = (let e = p lt in (rw e (omega arith
 update_place extent.KeyAndData t part i w u lt p = (let e = p lt in (rw e refl, rw e refl))
 update_place e t part i w u lt p = absurd u
 
--- no bytes, and bytes that are all zero, are the same
-padded_zeros : (n : ℕ) → padded (replicate n 0) n ≡ padded [] n
-padded_zeros n = padded_whole (replicate n 0) n (length-replicate {A = ℕ} n 0) ∙ (let e : n - 0 ≡ n = omega arith in rw e refl)
+-- bytes with the zeros behind them replace as the bytes alone do
+padded_replaces : (e : Extent) (r : Record) (b : List ℕ) → IsUpdate e → length b ≤ update_length e r → replaced e (padded b (update_length e r)) r ≡ replaced e b r
+padded_replaces extent.Data r b u le = (let n = length r.data_area in rw (padded_whole (padded b n) n (length-padded b n le)) refl)
+padded_replaces extent.KeyAndData r b u le = (let n = length r.key_area + length r.data_area in rw (padded_whole (padded b n) n (length-padded b n le)) refl)
+padded_replaces e r b u le = absurd u
 
-pub zeros_replace : (e : Extent) (r : Record) → IsUpdate e → replaced e (replicate (update_length e r) 0) r ≡ replaced e [] r
-zeros_replace extent.Data r u = rw (padded_zeros (length r.data_area)) refl
-zeros_replace extent.KeyAndData r u = rw (padded_zeros (length r.key_area + length r.data_area)) refl
-zeros_replace e r u = absurd u
+pub padded_changes : (e : Extent) (part : Part) (i : ℕ) (t : Track) (b : List ℕ) → IsUpdate e → length b ≤ update_length e (record_in t i)
+    → with_record_changed (replaced e (padded b (update_length e (record_in t i)))) (Of part i) t ≡ with_record_changed (replaced e b) (Of part i) t
+padded_changes e part i t b u le = ap (λ (x : Record). let y : Track = record t { records = set t.records i x } in y) (padded_replaces e (record_in t i) b u le)
 
--- what is left where the bytes of a record's area are cleared, and where that is
-pub record Clears (e : Extent) (slot : List ℕ) (area : Area) (w : Window) (end : ℕ) : Type 0 where
-  pub law : ended_at (overwritten slot w.start (replicate w.len 0)) end ≡ slot_of (length slot) (with_record_changed (replaced e []) area (track_in slot))
-  pub fits : FitsSlot (length slot) (with_record_changed (replaced e []) area (track_in slot))
-  pub lengths : lengths_on (with_record_changed (replaced e []) area (track_in slot)) ≡ lengths_on (track_in slot)
-  pub within : w.start + w.len ≤ end
-
-pub clear_is : (e : Extent) (slot : List ℕ) (area : Area) (w : Window) (end : ℕ) → (let t = track_in slot in IsUpdate e → Spells slot t → IsRecordOf t area → IsPlaceOf e t area w → end ≡ end_of_records t (length t.records) → Clears e slot area w end)
-clear_is e slot HomeAddress w end u s there p last = absurd there
-clear_is e slot (Of part i) w end u s there p last =
-    let t = track_in slot in
-    let r = record_in t i in
-    let n = update_length e r in
-    let place = update_place e t part i w u there p in
-    let k = update_is e slot t part i (replicate n 0) u s there (length-replicate {A = ℕ} n 0) in
-    let same : with_record_changed (replaced e (replicate n 0)) (Of part i) t ≡ with_record_changed (replaced e []) (Of part i) t = ap (λ (x : Record). let y : Track = record t { records = set t.records i x } in y) (zeros_replace e r u) in
-    let F : Track → Type 0 = λ x. FitsSlot (length slot) x in
-    record {
-      law = rw (place.0, place.1, last, end_is t) (k.law ∙ ap (slot_of (length slot)) same);
-      fits = subst F same k.fits;
-      lengths = ap lengths_on (sym same) ∙ k.lengths;
-      within = omega (arith, place.0, place.1, last, end_is t, k.within, length-replicate {A = ℕ} n 0);
-    }
+-- a record whose bytes are replaced by these, and zeros behind them
+pub replaces : (slot : List ℕ) (t : Track) (e : Extent) (a : Area) (w : Window) (bytes : List ℕ) → Spells slot t → IsUpdateAt t e a w → length bytes ≤ w.len
+    → IsUpdated slot t w.start (padded bytes w.len) (with_record_changed (replaced e bytes) a t)
+replaces slot t e HomeAddress w bytes s at le = absurd at.there
+replaces slot t e (Of part i) w bytes s at le =
+    let n = update_length e (record_in t i) in
+    let place = update_place e t part i w at.update at.there at.place in
+    let short : length bytes ≤ n = omega (arith, le, place.1) in
+    let U : Track → Type 0 = λ x. IsUpdated slot t (update_offset e t i) (padded bytes n) x in
+    rw (place.0, place.1) (subst U (padded_changes e part i t bytes at.update short) (update_is e slot t part i (padded bytes n) at.update s at.there (length-padded bytes n short)))
 
 -- A record by its number.
 
-pub before_there : (n m : ℕ) → n ≤ m → ForSome (record_before (area_before n)) (λ i. i < m)
-before_there zero m le = λ k e. absurd cc
-before_there (suc i) m le = λ k e. (let same : i ≡ k = cc in omega (arith, same, le))
+-- what is known of a record that can be made by its number, and of its place
+pub record Made (slot : List ℕ) (number : ℕ) (count : List ℕ) (w : Window) : Type 0 where
+  pub fitting : Fitting slot number (area_before number) count
+  pub place : w ≡ record { start = end_of_records (track_in slot) number + 8; len = body_length count }
+  pub start : w.start ≡ end_of_records (track_in slot) number + 8
+  pub len : w.len ≡ body_length count
+  pub room : w.start + w.len + 8 ≤ length slot
+  pub few : 13 + 8 * number ≤ length slot
+  pub size : length slot < 2 ^ 32
 
-pub up_to_is : (n : ℕ) → number_up_to (record_before (area_before n)) ≡ n
-up_to_is zero = refl
-up_to_is (suc i) = omega arith
+pub made_by : {slot offsets : List ℕ} {records : Option ℕ} {zeros_from : ℕ} {charged : Charged} {bytes : List ℕ} (number : ℕ) (count : List ℕ) (w : Window)
+    → IsBuffer slot offsets records zeros_from charged → is_readable (track_of slot) ≡ true → AreBytes count → length count ≡ 8 → CanMake (length slot) (track_of slot) number count w bytes → Made slot number count w
+made_by {slot} number count w x r bytes eight can =
+    let k : Fitting slot number (area_before number) count = record {
+      spells = (reads x r).spells;
+      bytes = bytes;
+      eight = eight;
+      no_mark = can.no_end_mark;
+      same = sym (kept_number number (track_in slot));
+      there = can.there;
+      room = can.fits.room;
+    } in
+    let is = place_is k w can.place in
+    let start = ap (λ (w : Window). w.start) is in
+    let len = ap (λ (w : Window). w.len) is in
+    let few = few_records slot (track_in slot) k.spells in
+    record { fitting = k; place = is; start = start; len = len; room = omega (arith, start, len, format_room k); few = omega (arith, can.there, few); size = x.indexed.size }
 
-no_records : (rs : List Record) → length rs ≡ 0 → [] ≡ rs
-no_records [] e = refl
-no_records (r ∷ rs) e = absurd (omega (arith, e))
-
-kept_by : (m i : ℕ) (t : Track) → length (take (i + 1) t.records) ≡ m → kept_records (record_before (area_before m)) t ≡ take (i + 1) t.records
-kept_by zero i t e = no_records (take (i + 1) t.records) e
-kept_by (suc k) i t e = (let s : k + 1 ≡ min (i + 1) (length t.records) = omega (arith, e, length-take (i + 1) t.records) in rw s (take_min (i + 1) t.records))
-
-kept_before_by : (b : Option ℕ) (t : Track) → kept_records (record_before (area_before (length (kept_records b t)))) t ≡ kept_records b t
-kept_before_by None t = refl
-kept_before_by (Some i) t = kept_by (length (take (i + 1) t.records)) i t refl
+-- the records that are kept are the first ones, so many of them
+kept_first : (b : Option ℕ) (t : Track) → take (length (kept_records b t)) t.records ≡ kept_records b t
+kept_first None t = refl
+kept_first (Some i) t = (let m : length (take (i + 1) t.records) ≡ min (i + 1) (length t.records) = omega (arith, length-take (i + 1) t.records) in rw m (take_min (i + 1) t.records))
 
 -- the record behind an area is that of its number
 pub made_formatted : (t : Sighted) (after : Option Area) (number : ℕ) (count : List ℕ) → number ≡ length (kept t after) → made_on t number count ≡ formatted t after count
 made_formatted t after number count e =
-    rw e (ap (λ (rs : List Record). let y : Track = record (track_or_none t) { records = rs ++ new_record count ∷ [] } in y) (kept_before_by (record_before after) (track_or_none t)))
+    let same : kept_records (record_before (area_before number)) (track_or_none t) ≡ kept t after = kept_number number (track_or_none t) ∙ rw e (kept_first (record_before after) (track_or_none t)) in
+    ap (λ (rs : List Record). let y : Track = record (track_or_none t) { records = rs ++ new_record count ∷ [] } in y) same
 
 pub kept_le : (t : Sighted) (after : Option Area) → length (kept t after) ≤ length (track_or_none t).records
-kept_le t after = by (record_before after) (track_or_none t)
-  where
-    by : (b : Option ℕ) (t : Track) → length (kept_records b t) ≤ length t.records
-    by None t = omega arith
-    by (Some i) t = omega (arith, length-take (i + 1) t.records)
+kept_le t after = omega (arith, ap length (kept_first (record_before after) (track_or_none t)), length-take (length (kept t after)) (track_or_none t).records)

@@ -113,6 +113,18 @@ abbrev pub IsRecordOf : Track → Area → Type 0
 IsRecordOf t (Of part i) = i < length t.records
 IsRecordOf t HomeAddress = ⊥
 
+-- what an update changes of this record of the track stands there
+pub record IsUpdateAt (t : Track) (e : Extent) (a : Area) (w : Window) : Type 0 where
+  pub update : IsUpdate e
+  pub there : IsRecordOf t a
+  pub place : IsPlaceOf e t a w
+
+-- what some update changes of some record of the track stands there
+pub record HasUpdateAt (t : Track) (w : Window) : Type 0 where
+  pub extent : Extent
+  pub area : Area
+  pub is : IsUpdateAt t extent area w
+
 -- how many records stand before one that is made behind this one
 abbrev pub number_up_to : Option ℕ → ℕ
 number_up_to None = 0

@@ -7,8 +7,10 @@ ghost use Rattle.ckd_position.specs.Areas.{next_of_kind, IsOnTrack, IfFound};
 ghost use Rattle.ckd_track.specs.Changes.{overwritten, bare_track, kept_records, ended_at, IsZeroFrom};
 ghost use Rattle.ckd_track.specs.Model.{capacity_of};
 ghost use Rattle.std.specs.Option.{ForSome};
-ghost use Rattle.ckd_position.specs.Contents.{bytes_of, is_readable, has_no_data, with_record_changed, replaced, kept, record_before};
-ghost use Rattle.ckd_slot.specs.Buffer.{Lies, HasBytes, IsPlaceOf, StandsThere, home_address_place, record_place, IsRead, end_of_records, number_up_to, IsRecordOf, SameRecords, FitsSlot, IsUpdate, Places, CanMake, made_on};
+ghost use Rattle.ckd_position.specs.Contents.{bytes_of, is_readable, has_no_data, padded, with_record_changed, replaced, kept, record_before};
+ghost use Rattle.ckd_position.specs.declared.areas.Area.{Area};
+ghost use Rattle.ckd_position.specs.declared.extents.Extent.{Extent};
+ghost use Rattle.ckd_slot.specs.Buffer.{Lies, HasBytes, IsPlaceOf, StandsThere, home_address_place, record_place, IsRead, end_of_records, number_up_to, SameRecords, FitsSlot, IsUpdateAt, HasUpdateAt, Places, CanMake, made_on};
 
 use crate::charges::Charged;
 use crate::windows::Window;
@@ -139,18 +141,35 @@ fn record_part(slot: &[u8], at: usize, extent: Extent) -> (Window, bool)
     )
 }
 
-// Writes so many zeros from an offset on, which are often none, and behind them the end mark and zeros; from `zeros_from` on,
-// or from that offset on where that is later, all bytes of the slot are zero before.
-fn end_with_zeros(slot: &mut [u8], at: usize, n: usize, zeros_from: usize)
-    requires room { at + n + 8 ≤ length slot.old }
+// Writes so many zeros from an offset on, which are often none, and behind all records the end mark and zeros; from
+// `zeros_from` on, or from that offset on where that is later, all bytes of the slot are zero before.
+fn end_with_zeros(slot: &mut [u8], at: usize, n: usize, end: usize, zeros_from: usize)
+    requires area { at + n ≤ end }
+    requires room { end + 8 ≤ length slot.old }
     requires zeros { IsZeroFrom slot.old (max zeros_from at) }
-    ensures { slot.new ≡ ended_at (overwritten slot.old at (replicate n 0)) (at + n) }
+    ensures { slot.new ≡ ended_at (overwritten slot.old at (replicate n 0)) end }
 {
     if n == 0 {
-        put_end_mark(slot, at, zeros_from);
+        put_end_mark(slot, end, zeros_from);
         return;
     }
-    clear_area(slot, at, n, at + n, zeros_from.max(at));
+    clear_area(slot, at, n, end, zeros_from.max(at));
+}
+
+// Writes these bytes at a place and zeros behind them, as many as the place has room for, and behind all records the
+// end mark and zeros; from `zeros_from` on, or from the place on where that is later, all bytes of the slot are zero
+// before.
+#[inline(always)]
+fn write_area(slot: &mut [u8], place: Window, bytes: &[u8], end: usize, zeros_from: usize)
+    requires area { place.start + place.len ≤ end }
+    requires room { end + 8 ≤ length slot.old }
+    requires first { length bytes.now ≤ place.len }
+    requires zeros { IsZeroFrom slot.old (max zeros_from place.start) }
+    ensures { slot.new ≡ ended_at (overwritten slot.old place.start (padded bytes.now place.len)) end }
+{
+    let rest = place.len - bytes.len();
+    end_with_zeros(slot, place.start + bytes.len(), rest, end, zeros_from);
+    overwrite(slot, place.start, bytes);
 }
 
 // Writes these count bytes before a place, at the place these bytes and zeros behind them, and behind the place the end mark and
@@ -162,13 +181,11 @@ fn clear_and_write(slot: &mut [u8], count: &[u8; 8], place: Window, bytes: &[u8]
     requires room { place.start + place.len + 8 ≤ length slot.old }
     requires first { length bytes.now ≤ place.len }
     requires zeros { IsZeroFrom slot.old zeros_from }
-    ensures { slot.new ≡ overwritten (ended_at (overwritten (overwritten slot.old (place.start - 8) count.now) place.start
-        (replicate place.len 0)) (place.start + place.len)) place.start bytes.now }
+    ensures { slot.new ≡ ended_at (overwritten (overwritten slot.old (place.start - 8) count.now) place.start
+        (padded bytes.now place.len)) (place.start + place.len) }
 {
     overwrite(slot, place.start - COUNT_LENGTH, count);
-    let rest = place.len - bytes.len();
-    end_with_zeros(slot, place.start + bytes.len(), rest, zeros_from);
-    overwrite(slot, place.start, bytes);
+    write_area(slot, place, bytes, place.start + place.len, zeros_from);
 }
 
 // The same, also where nothing is to be cleared.
@@ -178,8 +195,8 @@ fn write_record(slot: &mut [u8], count: &[u8; 8], place: Window, bytes: &[u8], z
     requires room { place.start + place.len + 8 ≤ length slot.old }
     requires first { length bytes.now ≤ place.len }
     requires zeros { IsZeroFrom slot.old zeros_from }
-    ensures { slot.new ≡ overwritten (ended_at (overwritten (overwritten slot.old (place.start - 8) count.now) place.start
-        (replicate place.len 0)) (place.start + place.len)) place.start bytes.now }
+    ensures { slot.new ≡ ended_at (overwritten (overwritten slot.old (place.start - 8) count.now) place.start
+        (padded bytes.now place.len)) (place.start + place.len) }
 {
     let end = place.start + place.len;
     if bytes.len() < place.len || end + COUNT_LENGTH < zeros_from {
@@ -266,16 +283,6 @@ impl TrackBuffer {
             Some(n) => next_area(&view_at(&self.slot, &self.offsets[..n]), position, kind),
             None => only_home_address(position, kind),
         }
-    }
-
-    // Where these bytes of an area stand; an empty part where there are none.
-    fn window(&self, extent: Extent, area: Area) -> Window
-        requires readable { is_readable (track_of self.now) ≡ true }
-        requires on_track { HasBytes extent (track_of self.now) area }
-        ensures lies { Lies self.now result (bytes_of extent (track_of self.now) area) }
-        ensures place { IsPlaceOf extent (track_in self.now) area result }
-    {
-        self.part(extent, area).0
     }
 
     /// Where these bytes of an area stand, an empty part where there are none; and whether its record has no data, or is
@@ -411,26 +418,24 @@ impl TrackBuffer {
         write_record(&mut self.slot, &count, place, bytes, zeros_from);
     }
 
-    /// Puts zeros in the place of the bytes of a record's area, and behind the end mark.
-    pub fn clear(&mut self, extent: Extent, area: Area)
+    /// Puts these bytes, and zeros behind them, in the place of the bytes that an update changes in a record, and zeros
+    /// behind the end mark. They stand at this place. The track fits the slot, as it did.
+    pub fn replace(&mut self, place: Window, bytes: &[u8])
         requires readable { is_readable (track_of self.old) ≡ true }
-        requires update { IsUpdate extent }
-        requires there { IsRecordOf (track_in self.old) area }
-        ensures slot { self.new ≡ slot_of (length self.old)
-            (with_record_changed (replaced extent []) area (track_in self.old)) }
-        ensures fits { FitsSlot (length self.old) (with_record_changed (replaced extent []) area (track_in self.old)) }
+        requires there { HasUpdateAt (track_in self.old) place }
+        requires first { length bytes.now ≤ place.len }
+        ensures slot { (e : Extent) (a : Area) → IsUpdateAt (track_in self.old) e a place → self.new ≡
+            slot_of (length self.old) (with_record_changed (replaced e bytes.now) a (track_in self.old)) }
+        ensures fits { (e : Extent) (a : Area) → IsUpdateAt (track_in self.old) e a place →
+            FitsSlot (length self.old) (with_record_changed (replaced e bytes.now) a (track_in self.old)) }
+        ensures fitted { FitsSlot (length self.old) (track_in self.old) }
         ensures size { length self.new ≡ length self.old }
     {
-        let window = self.window(extent, area);
         let end = self.end_of(self.count());
-        clear_area(
-            &mut self.slot,
-            window.start,
-            window.len,
-            end,
-            self.zeros_from,
-        );
+        let zeros_from = self.zeros_from;
+        // noted first, so that the copy is the last that is done
         self.zeros_from = end + COUNT_LENGTH;
+        write_area(&mut self.slot, place, bytes, end, zeros_from);
     }
 
     /// Puts other bytes into the slot, where its records keep their lengths, and so their places.

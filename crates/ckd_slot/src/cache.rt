@@ -5,13 +5,15 @@ ghost use Rattle.ckd_track.specs.Geometry.{tracks_of};
 ghost use Rattle.ckd_track.specs.Track.{track_of, track_in, slot_of};
 ghost use Rattle.ckd_track.specs.Changes.{overwritten, bare_track};
 ghost use Rattle.ckd_position.specs.Contents.{is_readable, with_record_changed, replaced};
-ghost use Rattle.ckd_slot.specs.Buffer.{SameRecords, FitsSlot, IsUpdate, IsRecordOf, Places, CanMake, made_on};
+ghost use Rattle.ckd_position.specs.declared.areas.Area.{Area};
+ghost use Rattle.ckd_position.specs.declared.extents.Extent.{Extent};
+ghost use Rattle.ckd_slot.specs.Buffer.{SameRecords, FitsSlot, IsUpdateAt, HasUpdateAt, Places, CanMake, made_on};
 ghost use Rattle.ckd_slot.specs.Cache.{slot_held, slot_at_hand, with_held, holds, after_hold, after_failed_hold, after_save, after_failed_save, IsVolume};
 
 use crate::buffer::TrackBuffer;
 use crate::windows::Window;
 use ckd_image::{Image, ImageStore, StoreFault};
-use ckd_position::{Area, Extent};
+use ckd_position::Area;
 use ckd_track::Geometry;
 use std::alloc::{AllocError, Global};
 use std::marker::Model;
@@ -147,8 +149,8 @@ impl<S: ImageStore> TrackCache<S> {
     {
         // the geometry is that of an image, so that a slot has room for a home address and the end mark
         let _geometry = self.image.geometry();
-        self.buffer.write_home_address(home_address);
         self.changed = true;
+        self.buffer.write_home_address(home_address);
     }
 
     /// The number that a record of these count bytes would have in the slot at hand behind the kept ones, and where its key and
@@ -180,19 +182,24 @@ impl<S: ImageStore> TrackCache<S> {
         self.buffer.format(number, count, place, bytes);
     }
 
-    /// Puts zeros in the place of the bytes of a record's area in the slot at hand, and behind the end mark.
-    pub fn clear(&mut self, extent: Extent, area: Area)
+    /// Puts these bytes, and zeros behind them, in the place of the bytes that an update changes in a record of the
+    /// slot at hand, and zeros behind the end mark. They stand at this place.
+    pub fn replace(&mut self, place: Window, bytes: &[u8])
         requires held { IsSome self.old.held }
         requires readable { is_readable (track_of (slot_held self.old)) ≡ true }
-        requires update { IsUpdate extent }
-        requires there { IsRecordOf (track_in (slot_held self.old)) area }
-        ensures slot { self.new ≡ with_held self.old (slot_of self.old.image.geometry.track_size
-            (with_record_changed (replaced extent []) area (track_in (slot_held self.old)))) }
-        ensures fits { FitsSlot self.old.image.geometry.track_size
-            (with_record_changed (replaced extent []) area (track_in (slot_held self.old))) }
+        requires there { HasUpdateAt (track_in (slot_held self.old)) place }
+        requires first { length bytes.now ≤ place.len }
+        ensures slot { (e : Extent) (a : Area) → IsUpdateAt (track_in (slot_held self.old)) e a place → self.new ≡
+            with_held self.old (slot_of self.old.image.geometry.track_size
+            (with_record_changed (replaced e bytes.now) a (track_in (slot_held self.old)))) }
+        ensures fits { (e : Extent) (a : Area) → IsUpdateAt (track_in (slot_held self.old)) e a place →
+            FitsSlot self.old.image.geometry.track_size
+            (with_record_changed (replaced e bytes.now) a (track_in (slot_held self.old))) }
+        ensures fitted { FitsSlot self.old.image.geometry.track_size (track_in (slot_held self.old)) }
     {
-        self.buffer.clear(extent, area);
+        // noted first, so that the copy is the last that is done
         self.changed = true;
+        self.buffer.replace(place, bytes);
     }
 
     /// Puts other bytes into the slot at hand, where its records keep their lengths, and so their places.

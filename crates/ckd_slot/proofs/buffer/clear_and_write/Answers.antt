@@ -1,19 +1,9 @@
 use Rattle.std.proofs.Common.{◌≡◌, ◌-◌, length, arith, rules}
-use Rattle.ckd_track.specs.Changes.{overwritten}
-use Rattle.ckd_track.proofs.Rewritten.{length-overwritten}
 use Rattle.ckd_track.proofs.Zeros.{zero_over}
-use Rattle.ckd_slot.proofs.Begun.{begun_slot}
 use Rattle.ckd_slot.proofs.buffer.clear_and_write.Goals as goal
 
-pub end_with_zeros-requires-clause-zeros : goal.end_with_zeros-requires-clause-zeros
-end_with_zeros-requires-clause-zeros c =
+pub write_area-requires-clause-zeros : goal.write_area-requires-clause-zeros
+write_area-requires-clause-zeros c =
     let eight : length c.args.count.now ≡ 8 = search rules in
-    rw c.overwrite.ensures (zero_over c.args.slot.now (c.args.place.start - 8) c.args.count.now c.args.zeros_from _ c.requires.zeros (omega arith) (omega (arith, eight, c.requires.before)) (omega (arith, c.requires.zeros.within, c.requires.room, c.requires.first)))
-
-pub returns : goal.returns
-returns c =
-    let eight : length c.args.count.now ≡ 8 = search rules in
-    let s = c.args.slot.now in
-    let long = length-overwritten s (c.args.place.start - 8) c.args.count.now (omega (arith, eight, c.requires.before, c.requires.room)) in
-    rw (c.overwrite-2.ensures, c.end_with_zeros.ensures, c.overwrite.ensures)
-    (begun_slot (overwritten s (c.args.place.start - 8) c.args.count.now) c.args.place.start c.args.place.len c.args.bytes.now c.requires.first (omega (arith, long, c.requires.room)))
+    rw c.overwrite.ensures
+    (zero_over c.args.slot.now (c.args.place.start - 8) c.args.count.now c.args.zeros_from _ c.requires.zeros (omega arith) (omega (arith, eight, c.requires.before)) (omega (arith, c.requires.zeros.within, c.requires.room)))

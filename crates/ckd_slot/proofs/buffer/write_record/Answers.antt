@@ -1,7 +1,8 @@
-use Rattle.std.proofs.Common.{◌≡◌, ◌-◌, length, arith, rules}
+use Rattle.std.proofs.Common.{◌≡◌, ◌+◌, ◌-◌, length, arith, rules}
 use Rattle.ckd_track.proofs.Rewritten.{length-overwritten}
 use Rattle.ckd_track.proofs.Zeros.{zero_over}
-use Rattle.ckd_slot.proofs.Begun.{whole_slot}
+use Rattle.ckd_slot.proofs.Begun.{written_last}
+use Rattle.ckd_slot.proofs.Writes.{padded_whole}
 use Rattle.ckd_slot.proofs.buffer.write_record.Goals as goal
 
 pub put_end_mark-requires-clause-zeros : goal.put_end_mark-requires-clause-zeros
@@ -12,7 +13,7 @@ put_end_mark-requires-clause-zeros c =
 pub returns : goal.returns
 returns c =
     let eight : length c.args.count.now ≡ 8 = search rules in
-    let s = c.args.slot.now in
-    let long = length-overwritten s (c.args.place.start - 8) c.args.count.now (omega (arith, eight, c.requires.before, c.requires.room)) in
-    rw (c.overwrite-2.ensures, c.put_end_mark.ensures, c.overwrite.ensures)
-    (whole_slot _ c.args.place.start c.args.place.len c.args.bytes.now (search rules) (omega (arith, long, c.requires.room)))
+    let w = c.args.place in
+    let long = length-overwritten c.args.slot.now (w.start - 8) c.args.count.now (omega (arith, eight, c.requires.before, c.requires.room)) in
+    rw (c.overwrite-2.ensures, c.put_end_mark.ensures, c.overwrite.ensures, padded_whole c.args.bytes.now w.len (search rules))
+    (written_last _ w.start c.args.bytes.now (w.start + w.len) (omega (arith, c.requires.first)) (omega (arith, long, c.requires.room)))

@@ -1,27 +1,21 @@
 use Rattle.std.proofs.Common.{◌∙◌, sym, refl}
+use Rattle.ckd_command.specs.Tables.{extent_of}
 use Rattle.ckd_drive.specs.Jobs.{half_done}
-use Rattle.ckd_drive.proofs.Replaces.{no_area, fill_there, fills_cleared}
+use Rattle.ckd_drive.proofs.Replaces.{fills}
 use Rattle.ckd_drive.proofs.job.Job.fill.Goals as goal
 
-pub returns-in_default : goal.returns-in_default
-returns-in_default g c =
+pub replace-requires-clause-there : goal.replace-requires-clause-there
+replace-requires-clause-there g c =
     let half = half_done c.args.self.now in
-    absurd (no_area half c.args.bytes.now c.args.window c.args.no_data c.requires.may c.requires.at c.in_default.is (sym c.is_empty.ensures ∙ c.if-is_empty.false))
+    let k = fills half c.args.bytes.now c.args.window c.args.no_data c.requires.may c.requires.at (sym c.is_empty.ensures ∙ c.if-is_empty.false) in
+    record { extent = extent_of half.opened.command; area = k.area; is = k.at }
 
-pub clear-requires-clause-there : goal.clear-requires-clause-there
-clear-requires-clause-there g c =
-    let half = half_done c.args.self.now in
-    fill_there half c.args.bytes.now c.in-Some.area c.args.window c.args.no_data c.requires.may c.requires.at c.in-Some.is (sym c.is_empty.ensures ∙ c.if-is_empty.false)
-
-pub put-requires-clause-records : goal.put-requires-clause-records
-put-requires-clause-records g c =
-    let half = half_done c.args.self.now in
-    (fills_cleared half c.args.bytes.now c.in-Some.area c.args.window c.args.no_data c.clear.new.self c.requires.may c.requires.at c.in-Some.is (sym c.is_empty.ensures ∙ c.if-is_empty.false)
-    (rw c.extent.ensures at c.clear.ensures.slot) (rw c.extent.ensures at c.clear.ensures.fits)).records
+pub replace-requires-clause-first : goal.replace-requires-clause-first
+replace-requires-clause-first g c =
+    (fills (half_done c.args.self.now) c.args.bytes.now c.args.window c.args.no_data c.requires.may c.requires.at (sym c.is_empty.ensures ∙ c.if-is_empty.false)).le
 
 pub returns : goal.returns
 returns g c =
     let half = half_done c.args.self.now in
-    let k = fills_cleared half c.args.bytes.now c.in-Some.area c.args.window c.args.no_data c.clear.new.self c.requires.may c.requires.at c.in-Some.is (sym c.is_empty.ensures ∙ c.if-is_empty.false)
-    (rw c.extent.ensures at c.clear.ensures.slot) (rw c.extent.ensures at c.clear.ensures.fits) in
-    rw (c.of-self.ensures, c.bytes.ensures, c.buffer.ensures.slot, c.behind.ensures, c.put.ensures) record { absorbs = k.absorbs; stays = refl }
+    let k = fills half c.args.bytes.now c.args.window c.args.no_data c.requires.may c.requires.at (sym c.is_empty.ensures ∙ c.if-is_empty.false) in
+    rw (c.of-self.ensures, c.bytes.ensures, c.buffer.ensures.slot, c.behind.ensures, c.replace.ensures.slot (extent_of half.opened.command) k.area k.at) record { absorbs = k.absorbs c.replace.ensures.fitted; stays = refl }

@@ -1,9 +1,8 @@
-use Rattle.std.proofs.Common.{◌≡◌, ◌∙◌, List, ap, sym, length, arith, rules}
-use Rattle.ckd_track.specs.Track.{Record, track_in, track_of}
+use Rattle.std.proofs.Common.{◌∙◌, ap, sym, arith, rules}
+use Rattle.ckd_track.specs.Track.{track_in, track_of}
 use Rattle.ckd_track.proofs.Offsets.{are_bytes, few_records}
-use Rattle.ckd_slot.specs.Buffer.{end_of_records, number_up_to}
 use Rattle.ckd_slot.proofs.AreaPlaces.{reads}
-use Rattle.ckd_slot.proofs.Writes.{fitting, format_fits, format_place, length-kept}
+use Rattle.ckd_slot.proofs.Writes.{fitting, format_fits, format_place, is_last}
 use Rattle.ckd_slot.proofs.buffer.TrackBuffer.place_for.Goals as goal
 
 pub records_up_to-kept-requires : goal.records_up_to-kept-requires
@@ -20,11 +19,9 @@ returns-clause-places c =
     let r = reads (rw c.self.view_is at c.self.invariant) c.requires.readable in
     let seen = ap track_of (sym (c.deref.ensures.value ∙ c.self.view_is)) ∙ c.view_at-view.ensures.track in
     let k = fitting s c.args.model b c.args.after c.args.count c.view_at-view.result c.records_up_to-kept.result c.fits.result r.spells (are_bytes c.args.count (search rules)) (search rules) c.before-2.ensures.kept c.before-2.ensures.there seen c.records_up_to-kept.ensures c.fits.ensures.fits c.if-not-fits.false c.requires.size in
-    let at : c.end_of-at.result ≡ end_of_records (track_in s) (number_up_to b) = rw c.records_up_to-kept.ensures at c.end_of-at.ensures.place in
-    let number = c.records_up_to-kept.ensures in
     record {
       fits = k.1;
-      is_last = number ∙ sym (length-kept (track_in s) b k.0.there) ∙ ap (λ (rs : List Record). length rs) k.0.same;
+      is_last = is_last k.0;
       spelled = format_fits k.0;
-      place = rw c.body_length-len.ensures (format_place k.0 c.records_up_to-kept.result c.end_of-at.result number at);
+      place = rw c.body_length-len.ensures (format_place k.0 c.end_of-at.result c.end_of-at.ensures.place);
     }

@@ -1,11 +1,8 @@
 use Rattle.std.proofs.Common.{ℕ, List}
 use Rattle.ckd_track.specs.Track.{slot_of}
 use Rattle.ckd_track.specs.Changes.{bare_track}
-use Rattle.ckd_slot.proofs.Caches.{write_is, write_holds}
+use Rattle.ckd_slot.proofs.Caches.{write_is}
 use Rattle.ckd_slot.proofs.cache.TrackCache.write_home_address.Goals as goal
-
-pub invariant_of-self : goal.invariant_of-self
-invariant_of-self g c = write_holds c.self.invariant (rw (← c.self.view_is) at c.requires.held) c.write_home_address.ensures.size
 
 pub returns : goal.returns
 returns g c =
