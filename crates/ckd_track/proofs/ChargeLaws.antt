@@ -28,16 +28,14 @@ covers : (model : DriveModel) (kl dl : ℕ) → Covers model kl dl
 covers D2311 kl dl = record { kept = omega arith; first = omega arith; last = omega arith; most = omega arith }
 covers D2314 kl dl = record { kept = omega arith; first = omega arith; last = omega arith; most = omega arith }
 
-others-le : (model : DriveModel) (rs : List Record) → All IsRecord rs → length (flat_map record_bytes rs) ≤ sum_by (record_charge model) rs
-others-le model rs are = omega (arith, length-records rs are, sum_by-le-sum_by record_size (record_charge model) rs (λ r. (covers model (length r.key_area) (length r.data_area)).kept))
-
 kept_and_new-le : (model : DriveModel) (kept : List Record) (kl dl : ℕ) → All IsRecord kept
     → length (flat_map record_bytes kept) + (kl + dl) ≤ 16 + (kept_charges model kept + new_charge model kept kl dl)
 kept_and_new-le model [] kl dl are = omega (arith, (covers model kl dl).first)
 kept_and_new-le model (r ∷ rs) kl dl are =
-    let others = others-le model rs (All-tail IsRecord r rs are) in
+    let others = length-records rs (All-tail IsRecord r rs are) in
+    let charged = sum_by-le-sum_by record_size (record_charge model) rs (λ r. (covers model (length r.key_area) (length r.data_area)).kept) in
     let own = length-record_bytes r (All-head IsRecord r rs are) in
-    omega (arith, others, own, (covers model (length r.key_area) (length r.data_area)).first, (covers model kl dl).last, length-append (record_bytes r) (flat_map record_bytes rs))
+    omega (arith, others, charged, own, (covers model (length r.key_area) (length r.data_area)).first, (covers model kl dl).last, length-append (record_bytes r) (flat_map record_bytes rs))
 
 -- What fits has room.
 
