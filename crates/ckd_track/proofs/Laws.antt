@@ -39,7 +39,6 @@ begins_with_record bytes size small is =
     let fits : 8 + body_length bytes ≤ length bytes = omega (arith, is.is, is.fits) in
     let key : length r.key_area ≡ key_length bytes = omega (arith, length-take {A = ℕ}, length-drop {A = ℕ}) in
     let body : length r.data_area ≡ data_length bytes = omega (arith, length-take {A = ℕ}, length-drop {A = ℕ}) in
-    let f : slice_index bytes 5 < 256 = small 5 0 (omega arith) in
     let g : slice_index bytes 6 < 256 = small 6 0 (omega arith) in
     let h : slice_index bytes 7 < 256 = small 7 0 (omega arith) in
     let count : count_area r ≡ take 8 bytes = rw (key, body) (first_eight bytes (omega arith) h) in
@@ -48,7 +47,7 @@ begins_with_record bytes size small is =
     record {
       is_record = record {
         id = omega (arith, length-take {A = ℕ});
-        key_area = rw key f;
+        key_area = rw key (small 5 0 (omega arith));
         data_area = rw body (omega arith);
         no_end_mark = rw count is.no_end_mark;
       };
@@ -215,15 +214,12 @@ stops_at slot p offset long is =
 fault_by : (slot : List ℕ) (p : Parsed 5 (drop 5 slot)) (fault : SlotFault) → 5 ≤ length slot → p.stop ≡ Some fault → HasFault slot fault
 fault_by slot p (NoEnd offset) long is =
     let told = size_tells _ p.rest (Err (NoEnd offset)) (p.stops ∙ ap stopped is) in
-    let short : length p.rest < 8 = told.1 in
     let s = stops_at slot p offset long told.0 in
-    inr (s.up_to, omega (arith, s.size, short))
+    inr (s.up_to, omega (arith, s.size, told.1))
 fault_by slot p (RecordPastEnd offset) long is =
     let told = size_tells _ p.rest (Err (RecordPastEnd offset)) (p.stops ∙ ap stopped is) in
-    let room : 8 ≤ length p.rest = told.1 in
-    let past : length p.rest < 8 + body_length p.rest = told.3 in
     let s = stops_at slot p offset long told.0 in
-    (s.up_to, omega (arith, s.size, room), rw s.rest told.2, rw s.rest (omega (arith, s.size, past)))
+    (s.up_to, omega (arith, s.size, told.1), rw s.rest told.2, rw s.rest (omega (arith, s.size, told.3)))
 
 fault_read : (ha : List ℕ) (rs : List Record) (stop : Option SlotFault) (fault : SlotFault) → behind_home_address ha (outcome rs stop) ≡ Err fault → stop ≡ Some fault
 fault_read ha rs None fault e = absurd cc
@@ -249,12 +245,9 @@ read_up_to slot offset fault up there =
 pub fault_is_read : (slot : List ℕ) (fault : SlotFault) → HasFault slot fault → track_of slot ≡ Err fault
 fault_is_read slot (NoEnd offset) (inl short) = short_slot slot short.0 ∙ (let e : offset ≡ 0 = short.1 in rw e refl)
 fault_is_read slot (NoEnd offset) (inr end) =
-    let short : length slot < offset + 8 = end.1 in
-    read_up_to slot offset (NoEnd offset) end.0 (told_size offset (drop offset slot) (Err (NoEnd offset)) (refl, omega (arith, length-drop offset slot)))
+    read_up_to slot offset (NoEnd offset) end.0 (told_size offset (drop offset slot) (Err (NoEnd offset)) (refl, omega (arith, end.1, length-drop offset slot)))
 fault_is_read slot (RecordPastEnd offset) past =
-    let room : offset + 8 ≤ length slot = past.1 in
-    let runs_over : length slot < offset + 8 + body_length (drop offset slot) = past.3 in
-    read_up_to slot offset (RecordPastEnd offset) past.0 (told_size offset (drop offset slot) (Err (RecordPastEnd offset)) (refl, omega (arith, length-drop offset slot), past.2, omega (arith, length-drop offset slot)))
+    read_up_to slot offset (RecordPastEnd offset) past.0 (told_size offset (drop offset slot) (Err (RecordPastEnd offset)) (refl, omega (arith, past.1, length-drop offset slot), past.2, omega (arith, past.3, length-drop offset slot)))
 
 -- what a reader that gives the slot's one track answers
 pub tells : (slot : List ℕ) → AreBytes slot → (r : Result Track SlotFault) → r ≡ track_of slot

@@ -109,7 +109,8 @@ pub bytes_within : (slot : List ℕ) (i at : ℕ) → ((i : ℕ) → Fits w8 (ge
 bytes_within slot i at fit e lt = let parts = parts_in slot i at fit e lt in omega (arith, parts.within, parts.key_size, parts.data_size)
 
 -- its key length, as the bytes there give it
-pub key_at : (slot : List ℕ) (i at : ℕ) → ((i : ℕ) → Fits w8 (get_or slot i 0)) → at ≡ slice_index (record_offsets (track_in slot)) i → i < length (track_in slot).records → length (record_in (track_in slot) i).key_area ≡ slice_index (take (length slot - at) (drop at slot)) 5
+pub key_at : (slot : List ℕ) (i at : ℕ) → ((i : ℕ) → Fits w8 (get_or slot i 0)) → at ≡ slice_index (record_offsets (track_in slot)) i → i < length (track_in slot).records
+    → length (record_in (track_in slot) i).key_area ≡ slice_index (take (length slot - at) (drop at slot)) 5
 key_at slot i at fit e lt = rw (take_rest slot at) (sym (parts_in slot i at fit e lt).key_size)
 
 -- the next record's offset

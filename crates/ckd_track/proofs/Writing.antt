@@ -1,5 +1,6 @@
 -- What the writes leave of a slot that spells a whole track.
-use Rattle.std.proofs.Common.{◌≡◌, ◌∙◌, ap, sym, refl, inl, inr, ℕ, ◌+◌, ◌≤◌, ◌<◌, ◌⊎◌, false, List, [], ◌∷◌, ◌++◌, length, length-append, append_assoc, take, drop, flat_map, slice_index, get_or, set, bytes_eq, Ok, Option, None, Some, Fits, w8, arith}
+use Rattle.std.proofs.Common.{◌≡◌, ◌∙◌, ap, sym, refl, inl, inr, ℕ, ◌+◌, ◌≤◌, ◌<◌, ◌⊎◌, false, List, [], ◌∷◌, ◌++◌, length, length-append, append_assoc, take, drop, flat_map, set, Ok, Option, None, Some, Fits, w8, arith}
+use Rattle.std.specs.Prelude.{slice_index, bytes_eq}
 use Rattle.std.specs.Result.{result_unwrap_or}
 use Rattle.std.proofs.lemmas.Bool.{cases_lt}
 use Rattle.std.proofs.lemmas.Grind.{flat_map-append}
@@ -60,7 +61,8 @@ module _ (s : List ℕ) (t : Track) (spells : Spells s t) where
   record-before i lt = omega (arith, end_at-record i lt, place-before s t spells (i + 1))
 
 -- and so in a slot of bytes
-pub areas_before : (s : List ℕ) (i : ℕ) → ((i : ℕ) → Fits w8 (get_or s i 0)) → i < length (track_in s).records → slice_index (record_offsets (track_in s)) i + record_size (record_in (track_in s) i) ≤ end_offset (track_in s)
+pub areas_before : (s : List ℕ) (i : ℕ) → ((i : ℕ) → Fits w8 (slice_index s i)) → i < length (track_in s).records
+    → slice_index (record_offsets (track_in s)) i + record_size (record_in (track_in s) i) ≤ end_offset (track_in s)
 areas_before s i fit lt = record-before s (track_in s) (with_record_in s fit i lt) i lt
 
 -- A home address alone.
@@ -126,12 +128,11 @@ pub record Makes (count body : List ℕ) : Type 0 where
 pub makes : (count body : List ℕ) → AreBytes count → AreBytes body → length count ≡ 8 → bytes_eq count end_mark ≡ false → length body ≡ body_length count → Makes count body
 makes count body c b eight no_mark long =
     let bytes = count ++ body in
-    let first : take 8 bytes ≡ count = take_at count body 8 eight in
     let key : slice_index bytes 5 ≡ slice_index count 5 = get_or_append_left count body 0 5 (omega arith) in
     let high : slice_index bytes 6 ≡ slice_index count 6 = get_or_append_left count body 0 6 (omega arith) in
     let low : slice_index bytes 7 ≡ slice_index count 7 = get_or_append_left count body 0 7 (omega arith) in
     let total : length bytes ≡ 8 + body_length bytes = omega (arith, key, high, low, length-append count body) in
-    let begins = begins_with_record bytes (8 + body_length bytes) (All-append (λ b. b < 256) count body c b) (record { is = refl; fits = omega (arith, total); no_end_mark = rw first no_mark }) in
+    let begins = begins_with_record bytes (8 + body_length bytes) (All-append (λ b. b < 256) count body c b) (record { is = refl; fits = omega (arith, total); no_end_mark = rw (take_at count body 8 eight) no_mark }) in
     let none : drop (8 + body_length bytes) bytes ≡ [] = drop_all (8 + body_length bytes) bytes (omega (arith, total)) in
     record { is_record = begins.is_record; all = sym (begins.bytes_are ∙ rw none (append-nil (record_bytes (record_at bytes)))) }
 
