@@ -1,5 +1,5 @@
 -- An image and its files.
-use Rattle.std.proofs.Common.{◌≡◌, ℕ, ◌+◌, ◌-◌, ◌*◌, ◌<◌, ◌≤◌, List, [], ◌∷◌, length, take, drop, map, get_or, set, slice_range, Option, Result, Ok, Err, OnOk, OnErr, refl, sym, ap, ◌∙◌, arith, length-append}
+use Rattle.std.proofs.Common.{◌≡◌, ℕ, ◌+◌, ◌*◌, ◌<◌, ◌≤◌, List, [], ◌∷◌, length, take, drop, map, get_or, set, slice_range, Option, Result, Ok, Err, OnOk, OnErr, refl, sym, ap, ◌∙◌, arith, length-append}
 use Rattle.std.proofs.lemmas.List.Edits.{length-between}
 use Rattle.std.proofs.Math.Nat.{add-mul, zero-mul, eq_of_mul-eq-mul_right}
 use Rattle.std.specs.List.{concat, sum}

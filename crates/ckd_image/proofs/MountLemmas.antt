@@ -106,7 +106,8 @@ record Joined (model : DriveModel) (size before total : ℕ) (files : List (List
   pub bytes : before * (heads_of model * size) + length (slot_bytes files) ≡ total * (heads_of model * size)
 
 -- one more file, which holds c cylinders of so many bytes, before those that hold the others
-more_bytes : (bytes before c total : ℕ) (file : List ℕ) (files : List (List ℕ)) → length file ≡ 512 + c * bytes → (before + c) * bytes + length (slot_bytes files) ≡ total * bytes → before * bytes + length (slot_bytes (file ∷ files)) ≡ total * bytes
+more_bytes : (bytes before c total : ℕ) (file : List ℕ) (files : List (List ℕ)) → length file ≡ 512 + c * bytes → (before + c) * bytes + length (slot_bytes files) ≡ total * bytes
+    → before * bytes + length (slot_bytes (file ∷ files)) ≡ total * bytes
 more_bytes bytes before c total file files long all = simp (length-append, length-drop) (omega (arith, add-mul before c bytes, long, all))
 
 joined_last : (model : DriveModel) (size before total : ℕ) (h : FileHeader) (file : List ℕ) → h.len ≡ length file → cylinders_of (heads_of model * size) before h.len ≡ Some total → Joined model size before total (file ∷ [])

@@ -10,7 +10,8 @@ module _ {S : Type 0} where
   taken files (suc k) = set (taken files k) k None
 
   -- A list of eight is its elements, taken one after another.
-  pub eight : (files : List (Option S)) → length files ≡ 8 → file_at files 0 ∷ file_at (taken files 1) 1 ∷ file_at (taken files 2) 2 ∷ file_at (taken files 3) 3 ∷ file_at (taken files 4) 4 ∷ file_at (taken files 5) 5 ∷ file_at (taken files 6) 6 ∷ file_at (taken files 7) 7 ∷ [] ≡ files
+  pub eight : (files : List (Option S)) → length files ≡ 8
+      → file_at files 0 ∷ file_at (taken files 1) 1 ∷ file_at (taken files 2) 2 ∷ file_at (taken files 3) 3 ∷ file_at (taken files 4) 4 ∷ file_at (taken files 5) 5 ∷ file_at (taken files 6) 6 ∷ file_at (taken files 7) 7 ∷ [] ≡ files
   eight (a ∷ b ∷ c ∷ d ∷ e ∷ f ∷ g ∷ h ∷ []) long = refl
   eight files long = absurd (omega (arith, long))
 
