@@ -21,13 +21,10 @@ module _ {S : Type 0} where
   holds_more content size (Some s) n files tracks one rest = (one.0, rest)
 
   -- Each of several files is whole.
-  pub first_whole : (content : S → List ℕ) (size : ℕ) (f : Option S) (files : List (Option S)) → AllByRecursion (HoldsWhole size) (each content (f ∷ files)) → AllByRecursion (HoldsWhole size) (each content (f ∷ []))
-  first_whole content size None files whole = tt
-  first_whole content size (Some s) files whole = (whole.0, tt)
-
-  pub others_whole : (content : S → List ℕ) (size : ℕ) (f : Option S) (files : List (Option S)) → AllByRecursion (HoldsWhole size) (each content (f ∷ files)) → AllByRecursion (HoldsWhole size) (each content files)
-  others_whole content size None files whole = whole
-  others_whole content size (Some s) files whole = whole.1
+  pub each_whole : (content : S → List ℕ) (size : ℕ) (f : Option S) (files : List (Option S)) → AllByRecursion (HoldsWhole size) (each content (f ∷ files))
+      → AllByRecursion (HoldsWhole size) (each content (f ∷ [])) × AllByRecursion (HoldsWhole size) (each content files)
+  each_whole content size None files whole = (tt, whole)
+  each_whole content size (Some s) files whole = ((whole.0, tt), whole.1)
 
 -- what counting the tracks of each file asks
-pub ruleset counting = (holds_more, first_whole, others_whole)
+pub ruleset counting = (holds_more, each_whole)
