@@ -1,5 +1,5 @@
 -- How many bytes pass in a command: it gives all those of its area, and no command gets shorter by bytes that pass.
-use Rattle.std.proofs.Common.{◌≡◌, ◌⊎◌, inl, inr, ℕ, ◌+◌, ◌≤◌, refl, sym, ap, subst, ◌∙◌, arith, true, false, Bool, not, ◌||◌, List, ◌++◌, nat_lt, length, length-append}
+use Rattle.std.proofs.Common.{◌≡◌, ◌⊎◌, inl, inr, ℕ, ◌+◌, ◌≤◌, refl, sym, ap, ◌∙◌, arith, true, false, Bool, not, ◌||◌, List, ◌++◌, nat_lt, length, length-append}
 use Rattle.std.specs.Prelude.{if◌then◌else◌, slice_index}
 use Rattle.std.proofs.lemmas.Bool.Decides.{nat_tests}
 use Rattle.std.proofs.lemmas.List.{get_or_append_left}
@@ -25,13 +25,10 @@ length_in a o b is = length_by a o.state.volume.geometry (track_under o.state) o
 pub gives_length : (o : Open) (b : List ℕ) → gives o ≡ true → length_of o b ≡ length (given o)
 gives_length o b g = go (action_of o.opened.command) refl g
   where
-    never : ◌≡◌ {A = Bool} false true → ⊥
-    never h = cc
-
     go : (a : Action) → action_of o.opened.command ≡ a → is_giving a ≡ true → length_of o b ≡ length (given o)
     go action.GiveSense e h = length_in action.GiveSense o b e
     go action.Read e h = length_in action.Read o b e
-    go _ e h = absurd (never h)
+    go _ e h = cc
 
 eight_least : (c : Bool) (n : ℕ) → 8 ≤ (if c then 8 else 8 + n)
 eight_least true n = omega arith
@@ -60,16 +57,9 @@ format_eight : (g : Geometry) (t : Sighted) (o : Opened) (b : List ℕ) → nat_
 format_eight g t o b k = ap (λ s. if s || not (new_record_fits g t o b) then 8 else 8 + body_length b) k
 
 -- with more bytes the length is the same; or it was 8, and is no less than that
-abbrev Changes : ℕ → ℕ → Type 0
-Changes before after = (before ≡ after) ⊎ ((before ≡ 8) × (8 ≤ after))
-
-grows : (x y : ℕ) → Changes x y → x ≤ y
-grows x y (inl e) = omega arith
-grows x y (inr h) = omega arith
-
-stays : (x y : ℕ) → Changes x y → (x ≡ 8) ⊎ (x ≡ y)
-stays x y (inl e) = inr e
-stays x y (inr h) = inl h.0
+record Changes (before after : ℕ) : Type 0 where
+  grows : before ≤ after
+  stays : (before ≡ 8) ⊎ (before ≡ after)
 
 length_changes : (o : Open) (b more : List ℕ) → Changes (length_of o b) (length_of o (b ++ more))
 length_changes o b more = go (action_of o.opened.command) refl
@@ -82,13 +72,13 @@ length_changes o b more = go (action_of o.opened.command) refl
 
     same : (a : Action) → action_of o.opened.command ≡ a → length_for a G T o.opened o.state.registers b ≡ length_for a G T o.opened o.state.registers (b ++ more)
         → Changes (length_of o b) (length_of o (b ++ more))
-    same a e h = inl (length_in a o b e ∙ h ∙ sym (length_in a o (b ++ more) e))
+    same a e h = let is = length_in a o b e ∙ h ∙ sym (length_in a o (b ++ more) e) in record { grows = omega (arith, is); stays = inr is }
 
     formats : action_of o.opened.command ≡ action.Format → (short : Bool) → nat_lt (length b) 8 ≡ short → Changes (length_of o b) (length_of o (b ++ more))
-    formats e true k = inr (
-      length_in action.Format o b e ∙ format_eight G T o.opened b k,
-      subst (λ n. 8 ≤ n) (sym (length_in action.Format o (b ++ more) e)) (eight_least (nat_lt (length (b ++ more)) 8 || not (new_record_fits G T o.opened (b ++ more))) (body_length (b ++ more))),
-    )
+    formats e true k =
+        let eight = length_in action.Format o b e ∙ format_eight G T o.opened b k in
+        let least = eight_least (nat_lt (length (b ++ more)) 8 || not (new_record_fits G T o.opened (b ++ more))) (body_length (b ++ more)) in
+        record { grows = rw (eight, length_in action.Format o (b ++ more) e) least; stays = inl eight }
     formats e false k = same action.Format e (format_stays G T o.opened b more k)
 
     go : (a : Action) → action_of o.opened.command ≡ a → Changes (length_of o b) (length_of o (b ++ more))
@@ -96,8 +86,8 @@ length_changes o b more = go (action_of o.opened.command) refl
     go _ e = same _ e refl
 
 pub length_grows : (o : Open) (b more : List ℕ) → length_of o b ≤ length_of o (b ++ more)
-length_grows o b more = grows _ _ (length_changes o b more)
+length_grows o b more = (length_changes o b more).grows
 
 -- a length that bytes change is that of a count area
 pub length_stays : (o : Open) (b more : List ℕ) → (length_of o b ≡ 8) ⊎ (length_of o b ≡ length_of o (b ++ more))
-length_stays o b more = stays _ _ (length_changes o b more)
+length_stays o b more = (length_changes o b more).stays

@@ -3,7 +3,7 @@
 use Rattle.std.proofs.Common.{◌≡◌, ℕ, refl, ap, sym, ◌∙◌, true, false, Bool, List, [], Option, Some, None, ◌⊎◌, inl, inr}
 use Rattle.std.specs.Prelude.{is_some}
 use Rattle.ckd_command.specs.declared.registers.Mark.{Mark}
-use Rattle.ckd_command.specs.declared.registers.Mark.TheVariants.{Saved, Written, Lost}
+use Rattle.ckd_command.specs.declared.registers.Mark.TheVariants.{Written, Lost}
 use Rattle.ckd_command.specs.declared.registers.Registers.{Registers}
 use Rattle.ckd_command.specs.declared.tables.Aim.{Aim}
 use Rattle.ckd_command.specs.declared.tables.Aim.TheVariants.{Next}
@@ -19,17 +19,15 @@ use Rattle.ckd_command.proofs.CommandFacts.{NotTold, BeginsSilent, SightSilent, 
 -- Marks.
 
 pub never_both : {P : Type 0} (x : Option (ℕ × ℕ)) → x ≡ None → is_some x ≡ true → P
-never_both None e h = absurd (cc)
-never_both (Some t) e h = absurd (cc)
+never_both x e h = let none = rw e at h in cc
 
 pub untrue : {P : Type 0} → false ≡ true → P
 untrue h = absurd (cc)
 
 -- whether a track is lost does not hang on where the arm is
 pub anywhere : (m : Mark) (r q : Registers) → unsaved_by m r ≡ None → unsaved_by m q ≡ None
-anywhere Saved r q e = refl
-anywhere Written r q e = refl
 anywhere Lost r q e = absurd (cc)
+anywhere _ r q e = refl
 
 -- what holds where a save goes, and where a track that was written is lost, holds of a save
 pub by_save : {A : Type 0} (P : A → Type 0) (f : Option Fault) (s : State) (fails : State → A) (goes : A) → P goes → ((left : List ℕ) → s.mark ≡ Written → P (fails (lost s left))) → P (moving_off f s fails goes)
@@ -80,8 +78,7 @@ LookTraces before (Failed s) = Traces before s
 -- nothing is lost where the area is found
 abbrev pub LookFinds : AfterLook → Type 0
 LookFinds (Ready o) = unsaved (state_of o) ≡ None
-LookFinds (Passed o) = Unit {0}
-LookFinds (Failed s) = Unit {0}
+LookFinds _ = Unit {0}
 
 abbrev LookKeeps : State → AfterLook → Type 0
 LookKeeps before l = LookTraces before l × LookFinds l

@@ -2,14 +2,12 @@
 -- is still written, so that none was saved.
 use Rattle.std.proofs.Common.{◌≡◌, refl, sym, ap, subst, ◌∙◌, true, false, Bool, List, ℕ, Option, Some, None}
 use Rattle.ckd_command.specs.declared.registers.Registers.{Registers}
-use Rattle.ckd_command.specs.declared.tables.Aim.{Aim}
 use Rattle.ckd_command.specs.declared.begin.Opened.{Opened}
 use Rattle.ckd_command.specs.Answers.{Beginning, Sight}
 use Rattle.ckd_command.specs.Answers as answer
-use Rattle.ckd_command.specs.Tables.{aim}
 use Rattle.ckd_command.specs.Commands.{Closing, closing}
 use Rattle.ckd_command.specs.Commands as commands
-use Rattle.ckd_command.specs.Drive.{State, Fault, SaveFails, with_registers, is_written, Open, track_under, AfterBegin, Rejected, Immediate, Started, begin, begun, at_cylinder_zero, AfterLook, Passed, look, looked, look_for, Closed, failed, close, closed, closed_moving}
+use Rattle.ckd_command.specs.Drive.{State, Fault, SaveFails, with_registers, is_written, Open, track_under, AfterBegin, Rejected, Immediate, Started, begin, begun, at_cylinder_zero, AfterLook, Passed, look, looked, Closed, failed, close, closed, closed_moving}
 use Rattle.ckd_command.proofs.Marks.{by_save, untrue}
 
 -- Begin.
@@ -44,11 +42,8 @@ looked_stable : (left : List ℕ) (o : Open) (s : Sight) → NotPassed (looked N
 looked_stable left o (answer.NextHead r) h = absurd h
 looked_stable left o _ h = refl
 
-look_for_stable : (left : List ℕ) (o : Open) (a : Aim) (s : Sight) → NotPassed (look_for None o a s) → look_for (Some (SaveFails left)) o a s ≡ look_for None o a s
-look_for_stable left o _ s h = looked_stable left o s h
-
 pub look_stable : (left : List ℕ) (o : Open) (l : AfterLook) → look None o ≡ l → NotPassed l → look (Some (SaveFails left)) o ≡ l
-look_stable left o l e h = look_for_stable left o (aim o.opened.command) _ (subst NotPassed (sym e) h) ∙ e
+look_stable left o l e h = looked_stable left o _ (subst NotPassed (sym e) h) ∙ e
 
 -- Close.
 

@@ -1,5 +1,5 @@
 -- Files one behind the other, of which one changes.
-use Rattle.std.proofs.Common.{◌≡◌, ℕ, zero, suc, ◌+◌, ◌-◌, ◌*◌, ◌<◌, ◌≤◌, nat_lt, Bool, true, false, if◌then◌else◌, List, [], ◌∷◌, ◌++◌, length, take, drop, map, set, slice_range, Option, Some, None, IsSome, Result, Ok, Err, OnOk, OnErr, refl, sym, ap, ◌∙◌, subst, add-one, arith, length-append, length-drop}
+use Rattle.std.proofs.Common.{◌≡◌, ℕ, zero, suc, ◌+◌, ◌-◌, ◌*◌, ◌<◌, ◌≤◌, nat_lt, Bool, true, false, if◌then◌else◌, List, [], ◌∷◌, ◌++◌, length, take, drop, map, set, slice_range, Option, Some, None, IsSome, Result, Ok, Err, OnOk, OnErr, refl, sym, ap, ◌∙◌, add-one, arith, length-append, length-drop}
 use Rattle.std.proofs.lemmas.List.{take-append-le, drop-append-le, append_assoc, drop-drop, map-append, set_split, set-get_or}
 use Rattle.std.proofs.lemmas.List.Edits.{length-between}
 use Rattle.std.proofs.lemmas.Bool.{ltb-true, ltb-false}
@@ -14,7 +14,7 @@ use Rattle.ckd_image.specs.Store.{overwritten, Torn, Counts}
 use Rattle.ckd_image.specs.Header.{head_of}
 use Rattle.ckd_image.specs.Files.{slot_bytes, behind, place_in, file_at, held, each, HoldTracks}
 use Rattle.ckd_image.proofs.SlotLemmas.{slot_within}
-use Rattle.ckd_image.proofs.Writes.{length-overwritten, take-overwritten_before, drop-overwritten_before, torn_within, torn_is}
+use Rattle.ckd_image.proofs.Writes.{range_is, length-overwritten, take-overwritten_before, drop-overwritten_before, torn_within, torn_is}
 
 -- Parts of a list.
 
@@ -30,12 +30,11 @@ overwritten_middle front mid back bytes at h =
     ∙ drop-append-le (at + length bytes) mid back h in
     rw (before, after) (simp append_assoc)
 
-range_middle : (front mid back : List ℕ) (at n : ℕ) → at + n ≤ length mid → slice_range (front ++ (mid ++ back)) (length front + at) (length front + at + n) ≡ slice_range mid at (at + n)
+range_middle : (front mid back : List ℕ) (at n : ℕ) → at + n ≤ length mid → slice_range (front ++ (mid ++ back)) (length front + at) (length front + at + n) ≡ take n (drop at mid)
 range_middle front mid back at n h =
-    let count : length front + at + n - (length front + at) ≡ n = omega arith in
-    let fewer : at + n - at ≡ n = omega arith in
     let room : n ≤ length (drop at mid) = simp length-drop (omega arith) in
-    rw (count, fewer) (ap (take n) (drop-append-add front (mid ++ back) at ∙ drop-append-le at mid back (omega arith)) ∙ take-append-le n (drop at mid) back room)
+    range_is (front ++ (mid ++ back)) (length front + at) n
+    ∙ ap (take n) (drop-append-add front (mid ++ back) at ∙ drop-append-le at mid back (omega arith)) ∙ take-append-le n (drop at mid) back room
 
 pub sum_cons : (n : ℕ) (ns : List ℕ) → sum (n ∷ ns) ≡ n + sum ns
 sum_cons n ns = sum_by-cons (λ (k : ℕ). k) n ns
@@ -166,11 +165,8 @@ module _ {S : Type 0} where
   located : (content : S → List ℕ) (size : ℕ) (files : List (Option S)) (tracks : List ℕ) (track : ℕ) → HoldTracks content size files tracks → length files ≡ length tracks → track < sum tracks → Located content size files track (place_in tracks track)
   located content size [] [] track holds count h = absurd (omega arith)
   located content size (f ∷ files) (n ∷ tracks) track holds count h =
-      by (nat_lt track n) refl (λ above. located content size files tracks (track - n) (tracks_behind content size f files n tracks holds).1 (omega arith) (below above (subst (λ (k : ℕ). track < k) (sum_cons n tracks) h)))
+      by (nat_lt track n) refl (λ above. located content size files tracks (track - n) (tracks_behind content size f files n tracks holds).1 (omega arith) (omega (arith, sum_cons n tracks)))
     where
-      below : n ≤ track → track < n + sum tracks → track - n < sum tracks
-      below above h = omega arith
-
       by : (b : Bool) → nat_lt track n ≡ b → (n ≤ track → Located content size files (track - n) (place_in tracks (track - n))) → Located content size (f ∷ files) track (if b then record { file = 0; track = track } else behind (place_in tracks (track - n)))
       by true e next = first_located content size f files n tracks track holds (ltb-true track n e)
       by false e next = let above = ltb-false track n e in next_located content size f files n tracks track (place_in tracks (track - n)) holds above (next above)
@@ -186,14 +182,8 @@ module _ {S : Type 0} where
   range_located content size files track at p l is =
       let file = held content [] (file_at files p.file) in
       let within = l.within in
-      rw (whole content size files track p l, l.before) (behind_header file (p.track * size) at is
+      rw (whole content size files track p l, l.before, range_is file at size, is) (ap (take size) (sym (drop-drop (p.track * size) 512 file))
       ∙ sym (range_middle (before_file content files p.file) (drop 512 file) (behind_file content files p.file) (p.track * size) size (simp length-drop (omega arith))))
-    where
-      behind_header : (file : List ℕ) (k at : ℕ) → at ≡ 512 + k → slice_range file at (at + size) ≡ slice_range (drop 512 file) k (k + size)
-      behind_header file k at e =
-          let a : at + size - at ≡ size = omega arith in
-          let b : k + size - k ≡ size = omega arith in
-          rw (a, b, e) (ap (take size) (sym (drop-drop k 512 file)))
 
   -- A write.
 

@@ -1,7 +1,7 @@
 -- An image and its files.
-use Rattle.std.proofs.Common.{◌≡◌, ℕ, ◌+◌, ◌-◌, ◌*◌, ◌/◌, ◌<◌, ◌≤◌, List, [], ◌∷◌, length, take, drop, map, get_or, set, slice_range, Option, Result, Ok, Err, OnOk, OnErr, refl, sym, ap, ◌∙◌, arith, length-append}
+use Rattle.std.proofs.Common.{◌≡◌, ℕ, ◌+◌, ◌*◌, ◌<◌, ◌≤◌, List, [], ◌∷◌, length, take, drop, map, get_or, set, slice_range, Option, Result, Ok, Err, OnOk, OnErr, refl, sym, ap, ◌∙◌, arith, length-append}
 use Rattle.std.proofs.lemmas.List.Edits.{length-between}
-use Rattle.std.proofs.Math.Nat.{add-mul, zero-mul, mul-div_cancel}
+use Rattle.std.proofs.Math.Nat.{add-mul, zero-mul, eq_of_mul-eq-mul_right}
 use Rattle.std.specs.List.{concat, sum}
 use Rattle.ckd_track.specs.declared.geometries.Geometry.{Geometry}
 use Rattle.ckd_image.specs.declared.store.StoreFault.{StoreFault}
@@ -13,7 +13,7 @@ use Rattle.ckd_image.specs.Header.{mount_of}
 use Rattle.ckd_image.specs.Files.{slot_bytes, held, each, HoldTracks}
 use Rattle.ckd_image.proofs.MountLemmas.{mount_fits}
 use Rattle.ckd_image.proofs.FileLemmas.{sum_cons, slot_bytes-cons, tracks_behind}
-use Rattle.ckd_image.proofs.Writes.{torn_is}
+use Rattle.ckd_image.proofs.Writes.{range_is, torn_is}
 use Rattle.ckd_image.proofs.SlotLemmas.{length-slots_in, get_or-slots_in, slot_within, length-slot, sizes-slots_in, concat-slots_in, slots_in-overwritten}
 
 abbrev pub slots_of : Geometry → List (List ℕ) → List (List ℕ)
@@ -57,9 +57,6 @@ is_image g files origins failures loads saves mounts =
 
 -- The tracks of the files are those of the geometry.
 
-cancel : (a b c : ℕ) → 0 < c → a * c ≡ b * c → a ≡ b
-cancel a b c some e = sym (mul-div_cancel a some) ∙ ap (λ (k : ℕ). k / c) e ∙ mul-div_cancel b some
-
 module _ {S : Type 0} where
   bytes_held : (content : S → List ℕ) (size : ℕ) (files : List (Option S)) (tracks : List ℕ) → HoldTracks content size files tracks → length files ≡ length tracks → length (slot_bytes (each content files)) ≡ sum tracks * size
   bytes_held content size [] [] holds count = sym (zero-mul size)
@@ -74,15 +71,13 @@ module _ {S : Type 0} where
   tracks_held content g files tracks mounts holds count =
       let fits = mount_fits (each content files) g mounts in
       let some = fits.is_geometry.room in
-      cancel (sum tracks) (tracks_of g) g.track_size (omega arith) (sym (bytes_held content g.track_size files tracks holds count) ∙ fits.is_length)
+      eq_of_mul-eq-mul_right g.track_size (omega arith) (sum tracks) (tracks_of g) (sym (bytes_held content g.track_size files tracks holds count) ∙ fits.is_length)
 
 -- One slot.
 
 -- what stands in its place is the slot
 pub slot_is : (g : Geometry) (files : List (List ℕ)) (track : ℕ) → track < tracks_of g → slice_range (slot_bytes files) (track * g.track_size) (track * g.track_size + g.track_size) ≡ get_or (slots_of g files) track []
-slot_is g files track exists =
-    let count : track * g.track_size + g.track_size - track * g.track_size ≡ g.track_size = omega arith in
-    rw count (sym (get_or-slots_in g.track_size (tracks_of g) track (slot_bytes files) exists))
+slot_is g files track exists = range_is (slot_bytes files) (track * g.track_size) g.track_size ∙ sym (get_or-slots_in g.track_size (tracks_of g) track (slot_bytes files) exists)
 
 slots_put : (g : Geometry) (files new : List (List ℕ)) (bytes : List ℕ) (track : ℕ) → mount_of files ≡ Ok g → track < tracks_of g → length bytes ≡ g.track_size → slot_bytes new ≡ overwritten (slot_bytes files) (track * g.track_size) bytes → slots_of g new ≡ set (slots_of g files) track bytes
 slots_put g files new bytes track mounts exists size is =

@@ -105,6 +105,11 @@ record Joined (model : DriveModel) (size before total : ℕ) (files : List (List
   pub whole : AllByRecursion (HoldsWhole size) files
   pub bytes : before * (heads_of model * size) + length (slot_bytes files) ≡ total * (heads_of model * size)
 
+-- one more file, which holds c cylinders of so many bytes, before those that hold the others
+more_bytes : (bytes before c total : ℕ) (file : List ℕ) (files : List (List ℕ)) → length file ≡ 512 + c * bytes → (before + c) * bytes + length (slot_bytes files) ≡ total * bytes
+    → before * bytes + length (slot_bytes (file ∷ files)) ≡ total * bytes
+more_bytes bytes before c total file files long all = simp (length-append, length-drop) (omega (arith, add-mul before c bytes, long, all))
+
 joined_last : (model : DriveModel) (size before total : ℕ) (h : FileHeader) (file : List ℕ) → h.len ≡ length file → cylinders_of (heads_of model * size) before h.len ≡ Some total → Joined model size before total (file ∷ [])
 joined_last model size before total h file len e =
     let bytes = heads_of model * size in
@@ -116,22 +121,14 @@ joined_last model size before total h file len e =
     let some = leb-true 1 c rest.0 in
     let limit = ltb-true (before + c) 65536 rest.1 in
     let is : before + c ≡ total = cc in
-    record { above = omega arith; most = omega arith; whole = (one_whole model size c file (omega arith) long, tt); bytes = sums before c total long is }
-  where
-    sums : (before c total : ℕ) → length file ≡ 512 + c * (heads_of model * size) → before + c ≡ total → before * (heads_of model * size) + length (slot_bytes (file ∷ [])) ≡ total * (heads_of model * size)
-    sums before c total long is = rw (sym is, add-mul before c (heads_of model * size)) (simp (length-append, length-drop) (omega arith))
+    record { above = omega arith; most = omega arith; whole = (one_whole model size c file (omega arith) long, tt); bytes = more_bytes bytes before c total file [] long (rw is (omega arith)) }
 
 joined_next : (model : DriveModel) (size before next total : ℕ) (file : List ℕ) (files : List (List ℕ)) → before ≤ next → length file ≡ 512 + (next - before) * (heads_of model * size) → Joined model size next total files → Joined model size before total (file ∷ files)
 joined_next model size before next total file files in_order long j =
     let above = j.above in
     let most = j.most in
-    record { above = omega arith; most = most; whole = (one_whole model size (next - before) file (omega arith) long, j.whole); bytes = sums before next in_order long j.bytes }
-  where
-    sums : (before next : ℕ) → before ≤ next → length file ≡ 512 + (next - before) * (heads_of model * size) → next * (heads_of model * size) + length (slot_bytes files) ≡ total * (heads_of model * size) → before * (heads_of model * size) + length (slot_bytes (file ∷ files)) ≡ total * (heads_of model * size)
-    sums before next order long all =
-        let split : before + (next - before) ≡ next = omega arith in
-        let whole : next * (heads_of model * size) ≡ before * (heads_of model * size) + (next - before) * (heads_of model * size) = ap (λ (k : ℕ). k * (heads_of model * size)) (sym split) ∙ add-mul before (next - before) (heads_of model * size) in
-        simp (length-append, length-drop) (omega (arith, whole, long, all))
+    let split : before + (next - before) ≡ next = omega arith in
+    record { above = omega arith; most = most; whole = (one_whole model size (next - before) file (omega arith) long, j.whole); bytes = more_bytes (heads_of model * size) before (next - before) total file files long (rw split j.bytes) }
 
 joined : (first : FileHeader) (n previous : ℕ) (model : DriveModel) (size before total : ℕ) (headers : List FileHeader) (files : List (List ℕ)) → before ≤ previous + 1 → are_parts first n previous headers ≡ true → AreHeaders headers files → cylinders_in (heads_of model * size) before headers ≡ Some total → Joined model size before total files
 joined first n previous model size before total [] files order parts are found = cc

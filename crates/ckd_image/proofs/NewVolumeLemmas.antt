@@ -99,10 +99,7 @@ length-so_far g old now n size is =
     ap length is ∙ length-overwritten_start old (begun g n) ∙ ap (λ (m : ℕ). max (length old) m) (length-begun g n (slot_room g size))
 
 pub not_longer : (g : Geometry) (old now : List ℕ) (n : ℕ) → g.track_size ≡ slot_size_of g.model → now ≡ overwritten old 0 (begun g n) → n ≤ tracks_of g → length now ≤ max (length old) (image_length g)
-not_longer g old now n size is h =
-    let long = length-so_far g old now n size is in
-    let within = mul-le-mul_right {m = n} {n = tracks_of g} g.track_size h in
-    omega arith
+not_longer g old now n size is h = omega (arith, length-so_far g old now n size is, mul-le-mul_right {m = n} {n = tracks_of g} g.track_size h)
 
 pub one_more : (g : Geometry) (old now next : List ℕ) (n : ℕ) → g.track_size ≡ slot_size_of g.model → now ≡ overwritten old 0 (begun g n) → next ≡ overwritten now (512 + n * g.track_size) (new_slot g n) → next ≡ overwritten old 0 (begun g (n + 1))
 one_more g old now next n size is written =
@@ -115,8 +112,7 @@ one_more g old now next n size is written =
 pub written_whole : (model : DriveModel) (cylinders : ℕ) (old now : List ℕ) → length old ≤ image_length (new_geometry model cylinders) → now ≡ overwritten old 0 (new_file (new_geometry model cylinders)) → now ≡ new_file (new_geometry model cylinders)
 written_whole model cylinders old now short is =
     let new = new_geometry model cylinders in
-    let long = length-begun new (tracks_of new) (slot_room new refl) in
-    is ∙ overwritten_whole old (new_file new) (omega arith)
+    is ∙ overwritten_whole old (new_file new) (omega (arith, length-begun new (tracks_of new) (slot_room new refl)))
 
 pub new_file_mounted : (model : DriveModel) (cylinders : ℕ) → 1 ≤ cylinders → cylinders < 65536 → mount_of (new_file (new_geometry model cylinders) ∷ []) ≡ Ok (new_geometry model cylinders)
 new_file_mounted model cylinders least most =

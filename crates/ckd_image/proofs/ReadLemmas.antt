@@ -1,6 +1,6 @@
 -- Files that are gone through in order.
-use Rattle.std.proofs.Common.{◌≡◌, ℕ, zero, suc, ◌+◌, ◌-◌, ◌*◌, ◌/◌, ◌<◌, ◌≤◌, List, [], ◌∷◌, ◌++◌, length, take, drop, map, set, replicate, slice_index_or, Option, Some, None, IsSome, Result, Ok, Err, All, refl, sym, ap, ◌∙◌, add-one, arith, length-append, length-take, drop-cons}
-use Rattle.std.proofs.lemmas.List.{append-nil, length-set, length-map, map-set, get_or-set_other, take_at, drop_at}
+use Rattle.std.proofs.Common.{◌≡◌, ℕ, zero, suc, ◌+◌, ◌-◌, ◌*◌, ◌/◌, ◌<◌, List, [], ◌∷◌, ◌++◌, length, take, drop, map, set, replicate, slice_index_or, Option, Some, None, IsSome, Result, Ok, Err, All, refl, sym, ap, ◌∙◌, add-one, arith, length-append, length-take, drop-cons}
+use Rattle.std.proofs.lemmas.List.{append-nil, length-set, length-map, map-set, take_at, drop_at}
 use Rattle.std.proofs.Math.ListN.{get_or-map}
 use Rattle.std.proofs.Math.Seq.{take-suc}
 use Rattle.std.proofs.Math.Nat.{mul-div_cancel}
@@ -142,9 +142,6 @@ module _ {S : Type 0} where
       by fault e = (headers_fault (map head_of (each content old)) place [] read fault n.long r.front (rw n.here e.0), each_same failures 0 now next place n.changed e.1 ∙ r.none)
 
   -- Lists.
-
-  pub others-set : (files now : List (Option S)) (place k : ℕ) (x : Option S) → now ≡ set files place x → place + 1 ≤ k → file_at now k ≡ file_at files k
-  others-set files now place k x is h = rw is (get_or-set_other files place k x None (λ e. absurd (omega arith)))
 
   pub each_pushed : {T : Type 0} (f : S → T) (old now : List (Option S)) (file : Option S) → now ≡ old ++ file ∷ [] → each f now ≡ each f old ++ each f (file ∷ [])
   each_pushed f old now file is = ap (each f) is ∙ each-append f old (file ∷ [])

@@ -44,14 +44,13 @@ pub slots_in-overwritten : (size n k : ℕ) (bytes slot : List ℕ) → k < n �
 unfolding slots_in
 slots_in-overwritten size zero k bytes slot h l room = absurd (omega arith)
 slots_in-overwritten size (suc n) zero bytes slot h l room =
-    let start = zero-mul size in
     let first = take_at slot (drop (length slot) bytes) size l in
     let others = ap (slots_in size n) (drop_at slot (drop (length slot) bytes) size l ∙ ap (λ (m : ℕ). drop m bytes) l) in
-    rw (start, zero-add (length slot), first, others) refl
+    rw (zero-mul size, zero-add (length slot), first, others) refl
 slots_in-overwritten size (suc n) (suc k) bytes slot h l room =
     let at : suc k * size ≡ size + k * size = omega (arith, suc-mul k size) in
     let whole : size + n * size ≤ length bytes = omega (arith, suc-mul n size) in
     let below : k < n = omega arith in
     let in_front : size + k * size ≤ length bytes = omega (arith, slot_within size n k below) in
-    let rest : n * size ≤ length (drop size bytes) = simp length-drop (omega arith) in
-    rw (at, take-overwritten_before bytes slot (size + k * size) size (omega arith) in_front, drop-overwritten_before bytes slot size (k * size) in_front, slots_in-overwritten size n k (drop size bytes) slot below l rest) refl
+    rw (at, take-overwritten_before bytes slot (size + k * size) size (omega arith) in_front, drop-overwritten_before bytes slot size (k * size) in_front,
+      slots_in-overwritten size n k (drop size bytes) slot below l (simp length-drop (omega arith))) refl

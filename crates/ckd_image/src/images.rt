@@ -174,6 +174,7 @@ impl<S: ImageStore> Image<S> {
     }
 
     /// What the headers say.
+    #[tactic(auto, using(crate::proofs::ImageLemmas::is_image))]
     pub fn geometry(&self) -> Geometry
         ensures geometry { result ≡ self.now.geometry }
         ensures image { IsImage self.now }

@@ -21,6 +21,7 @@ const LARGEST_SLOT: usize = 7680;
 const SPELLED: usize = 5 + 16 + 8;
 
 /// Writes a new volume from the beginning of the store on: its header, and each slot in order.
+#[tactic(auto, using(crate::proofs::NewVolumeLemmas::not_longer))]
 pub fn write_new_volume<S: ImageStore>(store: &mut S, geometry: Geometry) -> Result<(), StoreFault>
     requires { geometry.track_size ≡ slot_size_of geometry.model }
     ensures written { OnOk result

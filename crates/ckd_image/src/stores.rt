@@ -130,6 +130,7 @@ pub(crate) fn write_store<S: ImageStore>(
 }
 
 /// The tracks in a file, of this many bytes each; none where there is no file.
+#[tactic(auto, using(crate::proofs::ReadLemmas::counted_one))]
 fn tracks_in<S: ImageStore>(file: &Option<S>, size: u32) -> u32
     requires some { 0 < size }
     requires whole { AllByRecursion (HoldsWhole size) (each S.content (file.now ∷ [])) }

@@ -6,7 +6,7 @@ ghost use Rattle.ckd_sense.specs.Masks.{mask_of_byte, permit_of, inhibits_write,
 use crate::commands::Command;
 
 /// Which writes the file mask allows: its bits C0 (hexadecimal).
-#[derive(Clone, Copy)]
+#[derive(Clone, Copy, PartialEq, Eq)]
 pub enum WritePermission {
     /// 00: every write but Write Home Address and Write R0.
     InhibitHomeAddressAndR0,
@@ -19,7 +19,7 @@ pub enum WritePermission {
 }
 
 /// Which seeks the file mask allows: its bits 18 (hexadecimal).
-#[derive(Clone, Copy)]
+#[derive(Clone, Copy, PartialEq, Eq)]
 pub enum SeekPermission {
     /// 00: all seeks, Recalibrate and Read IPL, and head changes by the multi-track bit.
     PermitAllSeeks,

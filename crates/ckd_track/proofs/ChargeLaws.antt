@@ -28,16 +28,14 @@ covers : (model : DriveModel) (kl dl : ℕ) → Covers model kl dl
 covers D2311 kl dl = record { kept = omega arith; first = omega arith; last = omega arith; most = omega arith }
 covers D2314 kl dl = record { kept = omega arith; first = omega arith; last = omega arith; most = omega arith }
 
-others-le : (model : DriveModel) (rs : List Record) → All IsRecord rs → length (flat_map record_bytes rs) ≤ sum_by (record_charge model) rs
-others-le model rs are = omega (arith, length-records rs are, sum_by-le-sum_by record_size (record_charge model) rs (λ r. (covers model (length r.key_area) (length r.data_area)).kept))
-
 kept_and_new-le : (model : DriveModel) (kept : List Record) (kl dl : ℕ) → All IsRecord kept
     → length (flat_map record_bytes kept) + (kl + dl) ≤ 16 + (kept_charges model kept + new_charge model kept kl dl)
 kept_and_new-le model [] kl dl are = omega (arith, (covers model kl dl).first)
 kept_and_new-le model (r ∷ rs) kl dl are =
-    let others = others-le model rs (All-tail IsRecord r rs are) in
+    let others = length-records rs (All-tail IsRecord r rs are) in
+    let charged = sum_by-le-sum_by record_size (record_charge model) rs (λ r. (covers model (length r.key_area) (length r.data_area)).kept) in
     let own = length-record_bytes r (All-head IsRecord r rs are) in
-    omega (arith, others, own, (covers model (length r.key_area) (length r.data_area)).first, (covers model kl dl).last, length-append (record_bytes r) (flat_map record_bytes rs))
+    omega (arith, others, charged, own, (covers model (length r.key_area) (length r.data_area)).first, (covers model kl dl).last, length-append (record_bytes r) (flat_map record_bytes rs))
 
 -- What fits has room.
 
@@ -101,17 +99,13 @@ kept_charges-le model [] i j le = rw (take_all {A = Record} i [] (omega arith), 
 kept_charges-le model (r ∷ rs) zero j le = omega arith
 kept_charges-le model (r ∷ rs) (suc i) zero le = absurd (omega (arith, le))
 kept_charges-le model (r ∷ rs) (suc i) (suc j) le =
-    let less = sum_by-take-le (record_charge model) (take j rs) i in
-    let same : take i (take j rs) ≡ take i rs = take-take i j rs (omega (arith, le)) in
-    omega (arith, rw same at less)
+    omega (arith, rw (take-take i j rs (omega (arith, le))) at (sum_by-take-le (record_charge model) (take j rs) i))
 
 -- the records after one that takes more than is left leave nothing either
 pub none_left : (model : DriveModel) (rs : List Record) (i to left : ℕ) → left + kept_charges model (take i rs) ≡ capacity_of model → i < to → to ≤ length rs
     → (charge_at model i (slice_index_or rs i no_record) ≤ left → ⊥) → capacity_left model (take to rs) ≡ None
 none_left model rs i to left before lt within over =
-    let one = kept_charges-more model rs i (omega (arith, lt, within)) in
-    let more = kept_charges-le model rs (i + 1) to (omega (arith, lt)) in
-    let past : capacity_of model < kept_charges model (take to rs) = omega (arith, one, more, before, over) in
+    let past : capacity_of model < kept_charges model (take to rs) = omega (arith, kept_charges-more model rs i (omega (arith, lt, within)), kept_charges-le model rs (i + 1) to (omega (arith, lt)), before, over) in
     grind (arith, nat_tests)
 
 -- where the first records take more, so do all that begin with them

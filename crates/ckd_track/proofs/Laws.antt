@@ -1,5 +1,5 @@
 -- A slot that spells a track is read as that track, and what is read is what is spelled.
-use Rattle.std.proofs.Common.{◌≡◌, ◌∙◌, ap, sym, refl, inl, inr, ℕ, zero, suc, ◌+◌, ◌-◌, ◌*◌, ◌/◌, ◌%◌, ◌≤◌, ◌<◌, ◌⊎◌, ◌↔◌, List, [], ◌∷◌, ◌++◌, length, drop, take, slice_index, flat_map, length-drop, length-take, length-append, drop-drop, append_assoc, Option, Some, None, Result, Ok, Err, All, arith}
+use Rattle.std.proofs.Common.{◌≡◌, ◌∙◌, ap, sym, refl, add-zero, inl, inr, ℕ, zero, suc, ◌+◌, ◌-◌, ◌*◌, ◌/◌, ◌%◌, ◌≤◌, ◌<◌, ◌⊎◌, ◌↔◌, List, [], ◌∷◌, ◌++◌, length, drop, take, slice_index, flat_map, length-drop, length-take, length-append, drop-drop, append_assoc, Option, Some, None, Result, Ok, Err, All, arith}
 use Rattle.std.proofs.lemmas.Grind.{common_steps}
 use Rattle.std.proofs.lemmas.List.{take-append-drop, take_at, drop_at, take_more}
 use Rattle.std.proofs.lemmas.List.Elements.{All-nil, All-cons, All-head, All-tail, All-drop}
@@ -39,7 +39,6 @@ begins_with_record bytes size small is =
     let fits : 8 + body_length bytes ≤ length bytes = omega (arith, is.is, is.fits) in
     let key : length r.key_area ≡ key_length bytes = omega (arith, length-take {A = ℕ}, length-drop {A = ℕ}) in
     let body : length r.data_area ≡ data_length bytes = omega (arith, length-take {A = ℕ}, length-drop {A = ℕ}) in
-    let f : slice_index bytes 5 < 256 = small 5 0 (omega arith) in
     let g : slice_index bytes 6 < 256 = small 6 0 (omega arith) in
     let h : slice_index bytes 7 < 256 = small 7 0 (omega arith) in
     let count : count_area r ≡ take 8 bytes = rw (key, body) (first_eight bytes (omega arith) h) in
@@ -48,7 +47,7 @@ begins_with_record bytes size small is =
     record {
       is_record = record {
         id = omega (arith, length-take {A = ℕ});
-        key_area = rw key f;
+        key_area = rw key (small 5 0 (omega arith));
         data_area = rw body (omega arith);
         no_end_mark = rw count is.no_end_mark;
       };
@@ -75,9 +74,7 @@ record Parsed (at : ℕ) (bytes : List ℕ) : Type 0 where
   stops : size_at (at + length (flat_map record_bytes records)) rest ≡ stopped stop
 
 at_once : (at : ℕ) (bytes : List ℕ) (stop : Option SlotFault) → size_at at bytes ≡ stopped stop → Parsed at bytes
-at_once at bytes stop stops =
-    let none : at + 0 ≡ at = omega arith in
-    record { records = []; rest = bytes; stop = stop; are_records = All-nil IsRecord; bytes_are = refl; stops = rw none stops }
+at_once at bytes stop stops = record { records = []; rest = bytes; stop = stop; are_records = All-nil IsRecord; bytes_are = refl; stops = rw add-zero stops }
 
 parsed_by : (at : ℕ) (bytes : List ℕ) (there : Result (Option ℕ) SlotFault) → size_at at bytes ≡ there → AreBytes bytes
     → ((size : ℕ) → IsSize bytes size → Parsed (at + size) (drop size bytes)) → Parsed at bytes
@@ -122,8 +119,7 @@ read_over : (rs : List Record) (rest : List ℕ) (stop : Option SlotFault) (most
     → records_from most at (flat_map record_bytes rs ++ rest) ≡ outcome rs stop
 read_over rs rest stop zero at are stops lt = absurd (omega (arith, lt))
 read_over [] rest stop (suc most) at are stops lt =
-    let none : at + 0 ≡ at = omega arith in
-    read_step most at rest ∙ ap (read_on (record_at rest) _) (rw none at stops) ∙ read_none (record_at rest) _ stop
+    read_step most at rest ∙ ap (read_on (record_at rest) _) (rw add-zero at stops) ∙ read_none (record_at rest) _ stop
 read_over (r ∷ rs) rest stop (suc most) at are stops lt =
     let is = All-head IsRecord r rs are in
     let own = (reads_back r [] is).own in
@@ -154,22 +150,20 @@ slot_parsed slot small = parsed (length slot) 5 (drop 5 slot) (All-drop (λ b. b
 
 -- The relation and the function are the same.
 
+-- a home address, records and what stops behind them are read as such
+read_parts : (slot ha : List ℕ) (rs : List Record) (rest : List ℕ) (stop : Option SlotFault) → length ha ≡ 5 → slot ≡ ha ++ (flat_map record_bytes rs ++ rest) → All IsRecord rs
+    → size_at (5 + length (flat_map record_bytes rs)) rest ≡ stopped stop → track_of slot ≡ behind_home_address ha (outcome rs stop)
+read_parts slot ha rs rest stop five whole are stops =
+    let F = flat_map record_bytes rs ++ rest in
+    let long : 5 ≤ length slot = omega (arith, ap length whole, five, length-append ha F) in
+    let p : Parsed 5 (drop 5 slot) = record { records = rs; rest = rest; stop = stop; are_records = are; bytes_are = ap (drop 5) whole ∙ drop_at ha F 5 five; stops = stops } in
+    slot_read slot long p ∙ ap (λ (xs : List ℕ). behind_home_address xs (outcome rs stop)) (ap (take 5) whole ∙ take_at ha F 5 five)
+
 pub spelled_is_read : (slot : List ℕ) (t : Track) → Spells slot t → track_of slot ≡ Ok t
 spelled_is_read slot t is =
-    let F = flat_map record_bytes t.records in
     let tail = end_mark ++ is.rest in
-    let whole : slot ≡ t.home_address ++ (F ++ tail) = is.bytes ∙ simp append_assoc in
-    let long : 5 ≤ length slot = omega (arith, ap length whole, is.home_address, length-append t.home_address (F ++ tail)) in
-    let ha : take 5 slot ≡ t.home_address = ap (take 5) whole ∙ take_at t.home_address (F ++ tail) 5 is.home_address in
-    let p : Parsed 5 (drop 5 slot) = record {
-      records = t.records;
-      rest = tail;
-      stop = None;
-      are_records = is.records;
-      bytes_are = ap (drop 5) whole ∙ drop_at t.home_address (F ++ tail) 5 is.home_address;
-      stops = told_size (5 + length F) tail (Ok None) (omega (arith, length-append end_mark is.rest), refl);
-    } in
-    slot_read slot long p ∙ rw ha refl
+    read_parts slot t.home_address t.records tail None is.home_address (is.bytes ∙ simp append_assoc) is.records
+    (told_size (5 + length (flat_map record_bytes t.records)) tail (Ok None) (omega (arith, length-append end_mark is.rest), refl))
 
 spelled_by : (slot : List ℕ) (t : Track) (p : Parsed 5 (drop 5 slot)) (stop : Option SlotFault) → 5 ≤ length slot → p.stop ≡ stop → behind_home_address (take 5 slot) (outcome p.records stop) ≡ Ok t → Spells slot t
 spelled_by slot t p (Some fault) long is e = absurd cc
@@ -220,15 +214,12 @@ stops_at slot p offset long is =
 fault_by : (slot : List ℕ) (p : Parsed 5 (drop 5 slot)) (fault : SlotFault) → 5 ≤ length slot → p.stop ≡ Some fault → HasFault slot fault
 fault_by slot p (NoEnd offset) long is =
     let told = size_tells _ p.rest (Err (NoEnd offset)) (p.stops ∙ ap stopped is) in
-    let short : length p.rest < 8 = told.1 in
     let s = stops_at slot p offset long told.0 in
-    inr (s.up_to, omega (arith, s.size, short))
+    inr (s.up_to, omega (arith, s.size, told.1))
 fault_by slot p (RecordPastEnd offset) long is =
     let told = size_tells _ p.rest (Err (RecordPastEnd offset)) (p.stops ∙ ap stopped is) in
-    let room : 8 ≤ length p.rest = told.1 in
-    let past : length p.rest < 8 + body_length p.rest = told.3 in
     let s = stops_at slot p offset long told.0 in
-    (s.up_to, omega (arith, s.size, room), rw s.rest told.2, rw s.rest (omega (arith, s.size, past)))
+    (s.up_to, omega (arith, s.size, told.1), rw s.rest told.2, rw s.rest (omega (arith, s.size, told.3)))
 
 fault_read : (ha : List ℕ) (rs : List Record) (stop : Option SlotFault) (fault : SlotFault) → behind_home_address ha (outcome rs stop) ≡ Err fault → stop ≡ Some fault
 fault_read ha rs None fault e = absurd cc
@@ -248,25 +239,15 @@ read_up_to slot offset fault up there =
     let F = flat_map record_bytes up.records in
     let further : drop (offset - 5) (drop 5 slot) ≡ drop offset slot = (let e : 5 + (offset - 5) ≡ offset = omega (arith, up.behind_home_address) in rw e at (drop-drop (offset - 5) 5 slot)) in
     let here : 5 + length F ≡ offset = omega (arith, ap length up.bytes, length-take (offset - 5) (drop 5 slot), length-drop 5 slot, up.within, up.behind_home_address) in
-    let p : Parsed 5 (drop 5 slot) = record {
-      records = up.records;
-      rest = drop offset slot;
-      stop = Some fault;
-      are_records = up.are_records;
-      bytes_are = sym (take-append-drop (offset - 5) (drop 5 slot)) ∙ rw (up.bytes, further) refl;
-      stops = rw here there;
-    } in
-    slot_read slot (omega (arith, up.within, up.behind_home_address)) p
+    read_parts slot (take 5 slot) up.records (drop offset slot) (Some fault) (omega (arith, length-take 5 slot, up.within, up.behind_home_address))
+    (sym (take-append-drop 5 slot) ∙ ap (λ (xs : List ℕ). take 5 slot ++ xs) (sym (take-append-drop (offset - 5) (drop 5 slot)) ∙ rw (up.bytes, further) refl)) up.are_records (rw here there)
 
 pub fault_is_read : (slot : List ℕ) (fault : SlotFault) → HasFault slot fault → track_of slot ≡ Err fault
 fault_is_read slot (NoEnd offset) (inl short) = short_slot slot short.0 ∙ (let e : offset ≡ 0 = short.1 in rw e refl)
 fault_is_read slot (NoEnd offset) (inr end) =
-    let short : length slot < offset + 8 = end.1 in
-    read_up_to slot offset (NoEnd offset) end.0 (told_size offset (drop offset slot) (Err (NoEnd offset)) (refl, omega (arith, length-drop offset slot)))
+    read_up_to slot offset (NoEnd offset) end.0 (told_size offset (drop offset slot) (Err (NoEnd offset)) (refl, omega (arith, end.1, length-drop offset slot)))
 fault_is_read slot (RecordPastEnd offset) past =
-    let room : offset + 8 ≤ length slot = past.1 in
-    let runs_over : length slot < offset + 8 + body_length (drop offset slot) = past.3 in
-    read_up_to slot offset (RecordPastEnd offset) past.0 (told_size offset (drop offset slot) (Err (RecordPastEnd offset)) (refl, omega (arith, length-drop offset slot), past.2, omega (arith, length-drop offset slot)))
+    read_up_to slot offset (RecordPastEnd offset) past.0 (told_size offset (drop offset slot) (Err (RecordPastEnd offset)) (refl, omega (arith, past.1, length-drop offset slot), past.2, omega (arith, past.3, length-drop offset slot)))
 
 -- what a reader that gives the slot's one track answers
 pub tells : (slot : List ℕ) → AreBytes slot → (r : Result Track SlotFault) → r ≡ track_of slot

@@ -1,5 +1,5 @@
 -- Where the records of a slot stand.
-use Rattle.std.proofs.Common.{◌≡◌, ◌∙◌, ap, refl, ℕ, suc, ◌+◌, ◌-◌, ◌*◌, ◌≤◌, ◌<◌, List, [], ◌∷◌, ◌++◌, length, drop, take, get_or, slice_index, length-drop, length-append, drop-drop, append_assoc, Option, Some, Result, Ok, Err, IsOk, All, IfSome, Bor, Fits, w8, arith}
+use Rattle.std.proofs.Common.{◌≡◌, ◌∙◌, ap, sym, refl, ℕ, suc, ◌+◌, ◌-◌, ◌*◌, ◌≤◌, ◌<◌, List, [], ◌∷◌, ◌++◌, length, drop, take, get_or, slice_index, length-drop, length-append, drop-drop, append_assoc, Option, Some, Result, Ok, Err, IsOk, All, IfSome, Bor, Fits, w8, arith}
 use Rattle.std.proofs.lemmas.Grind.{get_or_default_zero}
 use Rattle.std.proofs.lemmas.List.{take_at, take_rest}
 use Rattle.std.proofs.lemmas.Option.{MatchOption-at_some}
@@ -108,6 +108,11 @@ record_within slot i at fit e lt = (parts_in slot i at fit e lt).within
 pub bytes_within : (slot : List ℕ) (i at : ℕ) → ((i : ℕ) → Fits w8 (get_or slot i 0)) → at ≡ slice_index (record_offsets (track_in slot)) i → i < length (track_in slot).records → at + (8 + body_length (drop at slot)) + 8 ≤ length slot
 bytes_within slot i at fit e lt = let parts = parts_in slot i at fit e lt in omega (arith, parts.within, parts.key_size, parts.data_size)
 
+-- its key length, as the bytes there give it
+pub key_at : (slot : List ℕ) (i at : ℕ) → ((i : ℕ) → Fits w8 (get_or slot i 0)) → at ≡ slice_index (record_offsets (track_in slot)) i → i < length (track_in slot).records
+    → length (record_in (track_in slot) i).key_area ≡ slice_index (take (length slot - at) (drop at slot)) 5
+key_at slot i at fit e lt = rw (take_rest slot at) (sym (parts_in slot i at fit e lt).key_size)
+
 -- the next record's offset
 pub next_is : (slot : List ℕ) (i at size : ℕ) → ((i : ℕ) → Fits w8 (get_or slot i 0)) → at ≡ slice_index (record_offsets (track_in slot)) i → i + 1 < length (track_in slot).records
     → size ≡ 8 + body_length (drop at slot) → at + size ≡ slice_index (record_offsets (track_in slot)) (i + 1)
@@ -157,3 +162,6 @@ pub table_counts : (slot offsets : List ℕ) → offsets_of slot ≡ Ok offsets 
 table_counts slot offsets e = ap length (has_offsets slot offsets e).1 ∙ length-offsets_from 5 (track_in slot).records
 
 pub ruleset viewing = (table_spells, table_read, table_counts)
+
+-- what a look into a table asks
+pub ruleset placing = (table_is, few_records, length-offsets_from)

@@ -1,16 +1,18 @@
 -- What the writes leave of a slot that spells a whole track.
-use Rattle.std.proofs.Common.{◌≡◌, ◌∙◌, ap, sym, refl, inl, inr, ℕ, ◌+◌, ◌≤◌, ◌<◌, ◌⊎◌, false, List, [], ◌∷◌, ◌++◌, length, length-append, append_assoc, take, drop, flat_map, slice_index, set, bytes_eq, Ok, Option, None, Some, arith}
+use Rattle.std.proofs.Common.{◌≡◌, ◌∙◌, ap, sym, refl, inl, inr, ℕ, ◌+◌, ◌≤◌, ◌<◌, ◌⊎◌, false, List, [], ◌∷◌, ◌++◌, length, length-append, append_assoc, take, drop, flat_map, set, Ok, Option, None, Some, Fits, w8, arith}
+use Rattle.std.specs.Prelude.{slice_index, bytes_eq}
 use Rattle.std.specs.Result.{result_unwrap_or}
 use Rattle.std.proofs.lemmas.Bool.{cases_lt}
 use Rattle.std.proofs.lemmas.Grind.{flat_map-append}
 use Rattle.std.proofs.lemmas.List.{take-append-drop, append-nil, take_at, drop_all, get_or_append_left}
 use Rattle.std.proofs.lemmas.List.Elements.{All-nil, All-append, All-push, All-set}
-use Rattle.ckd_track.specs.Track.{Record, Track, IsRecord, Spells, count_area, record_bytes, record_size, record_in, record_offsets, end_mark, spelling, body_length, record_at, size_at, track_of, slot_of}
+use Rattle.ckd_track.specs.Track.{Record, Track, IsRecord, Spells, count_area, record_bytes, record_size, record_in, record_offsets, end_mark, spelling, body_length, record_at, size_at, track_of, track_in, slot_of}
 use Rattle.ckd_track.specs.Changes.{bare_track, kept_records, with_record, with_data, with_body, with_key_data, data_offset, offset_behind, end_offset, overwritten, ended_at}
 use Rattle.ckd_track.proofs.Spelled.{reads_back}
 use Rattle.ckd_track.proofs.Reading.{told_size}
 use Rattle.ckd_track.proofs.Laws.{AreBytes, begins_with_record}
 use Rattle.ckd_track.proofs.Slots.{kept_are, slot_of_reads}
+use Rattle.ckd_track.proofs.Offsets.{with_record as with_record_in}
 use Rattle.ckd_track.proofs.Places.{length-record_bytes, place, offset_is, drop-place, place-le, place-before, place-one, behind, behind-one, record_is, end_is}
 use Rattle.ckd_track.proofs.Rewritten.{length-overwritten, ended_at-slot, ended, changed_spells, changed_end, data_is_record, body_lengths, body_is_record, Rewrites, written, record_written}
 
@@ -57,6 +59,11 @@ module _ (s : List ℕ) (t : Track) (spells : Spells s t) where
   -- the areas of a record lie before the end mark
   pub record-before : (i : ℕ) → i < length t.records → slice_index (record_offsets t) i + record_size (record_in t i) ≤ end_offset t
   record-before i lt = omega (arith, end_at-record i lt, place-before s t spells (i + 1))
+
+-- and so in a slot of bytes
+pub areas_before : (s : List ℕ) (i : ℕ) → ((i : ℕ) → Fits w8 (slice_index s i)) → i < length (track_in s).records
+    → slice_index (record_offsets (track_in s)) i + record_size (record_in (track_in s) i) ≤ end_offset (track_in s)
+areas_before s i fit lt = record-before s (track_in s) (with_record_in s fit i lt) i lt
 
 -- A home address alone.
 
@@ -121,17 +128,13 @@ pub record Makes (count body : List ℕ) : Type 0 where
 pub makes : (count body : List ℕ) → AreBytes count → AreBytes body → length count ≡ 8 → bytes_eq count end_mark ≡ false → length body ≡ body_length count → Makes count body
 makes count body c b eight no_mark long =
     let bytes = count ++ body in
-    let first : take 8 bytes ≡ count = take_at count body 8 eight in
     let key : slice_index bytes 5 ≡ slice_index count 5 = get_or_append_left count body 0 5 (omega arith) in
     let high : slice_index bytes 6 ≡ slice_index count 6 = get_or_append_left count body 0 6 (omega arith) in
     let low : slice_index bytes 7 ≡ slice_index count 7 = get_or_append_left count body 0 7 (omega arith) in
     let total : length bytes ≡ 8 + body_length bytes = omega (arith, key, high, low, length-append count body) in
-    let begins = begins_with_record bytes (8 + body_length bytes) (All-append (λ b. b < 256) count body c b) (record { is = refl; fits = omega (arith, total); no_end_mark = rw first no_mark }) in
+    let begins = begins_with_record bytes (8 + body_length bytes) (All-append (λ b. b < 256) count body c b) (record { is = refl; fits = omega (arith, total); no_end_mark = rw (take_at count body 8 eight) no_mark }) in
     let none : drop (8 + body_length bytes) bytes ≡ [] = drop_all (8 + body_length bytes) bytes (omega (arith, total)) in
     record { is_record = begins.is_record; all = sym (begins.bytes_are ∙ rw none (append-nil (record_bytes (record_at bytes)))) }
-
-length-spelling_new : (t : Track) (after : Option ℕ) (new : Record) → length (spelling (with_record after new t)) ≡ offset_behind t after + length (record_bytes new) + 8
-length-spelling_new t after new = omega (arith, ap length (flat_map-append record_bytes (kept_records after t) (new ∷ [])), length-append {A = ℕ})
 
 module _ (s : List ℕ) (t : Track) (spells : Spells s t) (after : Option ℕ) (count body : List ℕ) (eight : length count ≡ 8) (made : Makes count body)
     (room : length (spelling (with_record after (record_at (count ++ body)) t)) ≤ length s) where
@@ -142,7 +145,7 @@ module _ (s : List ℕ) (t : Track) (spells : Spells s t) (after : Option ℕ) (
   front_of (Some i) le = record_written s t spells (i + 1) count body (record_at (count ++ body)) eight made.all le
 
   pub new_room : offset_behind t after + 8 + length body + 8 ≤ length s
-  new_room = omega (arith, length-spelling_new t after (record_at (count ++ body)), ap length made.all, length-append count body, eight, room)
+  new_room = omega (arith, ap length (flat_map-append record_bytes (kept_records after t) (record_at (count ++ body) ∷ [])), ap length made.all, length-append {A = ℕ}, eight, room)
 
   pub new_slot : ended_at (overwritten (overwritten s (offset_behind t after) count) (offset_behind t after + 8) body) (offset_behind t after + 8 + length body)
       ≡ slot_of (length s) (with_record after (record_at (count ++ body)) t)

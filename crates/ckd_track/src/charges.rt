@@ -65,6 +65,7 @@ fn kept_charge(model: DriveModel, view: &TrackView, i: usize) -> u32
 
 /// What the first `to` records of a track leave of the capacity, where others follow them, worked out from what the first
 /// `from` leave; `None` where they take more.
+#[tactic(auto, using(crate::proofs::ChargeLaws::none_behind))]
 pub fn capacity_behind(
     model: DriveModel,
     view: &TrackView,

@@ -96,6 +96,7 @@ impl<'a> TrackView<'a> {
     }
 
     /// Where record `i`'s count area begins in the slot.
+    #[tactic(auto, using(crate::proofs::Offsets::placing))]
     fn offset(&self, i: usize) -> usize
         requires { i < length self.now.records }
         ensures { result ≡ slice_index (record_offsets self.now) i }

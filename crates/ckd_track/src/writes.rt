@@ -107,6 +107,7 @@ fn record_place(slot: &[u8], i: usize) -> usize
 }
 
 /// Where the data area of record `i` begins, as an offset in the slot; also where it is empty.
+#[tactic(auto, using(crate::proofs::Offsets::key_at))]
 pub fn data_offset_of(slot: &[u8], i: usize) -> usize
     requires { i < length (track_in slot.now).records }
     ensures place { result ≡ data_offset (track_in slot.now) i }
@@ -181,6 +182,7 @@ fn rewrite(slot: &mut [u8], at: usize, bytes: &[u8])
 }
 
 /// Writes the data area of record `i`, which `body` gives in whole.
+#[tactic(auto, using(crate::proofs::Writing::areas_before))]
 pub fn put_data(slot: &mut [u8], i: usize, body: &[u8])
     requires place { i < length (track_in slot.old).records }
     requires area { length body.now ≡ length (record_in (track_in slot.old) i).data_area }
@@ -192,6 +194,7 @@ pub fn put_data(slot: &mut [u8], i: usize, body: &[u8])
 }
 
 /// Writes the key area and the data area of record `i`, which `body` gives in whole.
+#[tactic(auto, using(crate::proofs::Writing::areas_before))]
 pub fn put_key_data(slot: &mut [u8], i: usize, body: &[u8])
     requires place { i < length (track_in slot.old).records }
     requires areas { length body.now ≡ length (record_in (track_in slot.old) i).key_area

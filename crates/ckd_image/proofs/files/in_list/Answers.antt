@@ -1,6 +1,7 @@
-use Rattle.std.proofs.Common.{◌≡◌, ◌∙◌, ◌<◌, length, arith}
+use Rattle.std.proofs.Common.{◌≡◌, ◌∙◌, ◌<◌, length, None, arith}
+use Rattle.std.proofs.lemmas.List.{get_or-set_other}
 use Rattle.ckd_image.specs.Files.{file_at}
-use Rattle.ckd_image.proofs.ReadLemmas.{one_more_each, others-set}
+use Rattle.ckd_image.proofs.ReadLemmas.{one_more_each}
 use Rattle.ckd_image.proofs.files.in_list.Goals as goal
 
 pub loop-place-preserved : goal.loop-place-preserved
@@ -19,5 +20,5 @@ loop-place-preserved g c =
       there = c.append.ensures.there;
       long = i.long;
       room = let a = c.append.ensures.count in let b = i.room in omega arith;
-      rest = λ k h. others-set c.loop-place.files c.take_file-file.new.files place k _ c.take_file-file.ensures.files h ∙ i.rest k (omega arith);
+      rest = λ k h. rw c.take_file-file.ensures.files (get_or-set_other c.loop-place.files place k None None (λ e. absurd (omega arith))) ∙ i.rest k (omega arith);
     }

@@ -19,8 +19,6 @@ loop-place-preserved g c =
 
 pub returns-clause-ok : goal.returns-clause-ok
 returns-clause-ok g c =
-    let long = length-heads g.S.ImageStore.content c.args.files.now c.requires.there in
-    let over = c.loop-place-test.false in
     let heads = map head_of (each g.S.ImageStore.content c.args.files.now) in
-    let all : take c.loop-place.place heads ≡ heads = take_all c.loop-place.place heads (omega arith) in
+    let all : take c.loop-place.place heads ≡ heads = take_all c.loop-place.place heads (omega (arith, length-heads g.S.ImageStore.content c.args.files.now c.requires.there, c.loop-place-test.false)) in
     ap (headers_of []) (sym all) ∙ c.loop-place.invariant.front

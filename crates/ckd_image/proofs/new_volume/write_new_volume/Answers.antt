@@ -18,7 +18,3 @@ loop-track-preserved g c = record {
   same = c.write_new_slot.ensures.same ∙ c.loop-track.invariant.same;
   no_failure = c.in_ok-write_new_slot.ensures.counted ∙ c.loop-track.invariant.no_failure;
 }
-
-pub returns-clause-not_longer : goal.returns-clause-not_longer
-returns-clause-not_longer g c =
-    not_longer c.args.geometry (g.S.ImageStore.content c.args.store.now) (g.S.ImageStore.content c.loop-track.store) c.loop-track.track c.requires c.loop-track.invariant.written (omega arith)

@@ -1,12 +1,7 @@
 -- Where the records so far take more than the capacity, so do more of them.
-use Rattle.std.proofs.Common.{◌≡◌, ◌∙◌, sym, None}
-use Rattle.ckd_track.proofs.ChargeLaws.{none_behind, none_left}
+use Rattle.std.proofs.Common.{◌∙◌, sym}
+use Rattle.ckd_track.proofs.ChargeLaws.{none_left}
 use Rattle.ckd_track.proofs.charges.capacity_behind.Goals as goal
-
-pub returns-in_err-rest : goal.returns-in_err-rest
-returns-in_err-rest c =
-    let gone : c.args.left ≡ None = cc in
-    c.from_residual.ensures ∙ none_behind c.args.model c.args.view.now.records c.args.from c.args.to c.requires.order (sym gone ∙ c.requires.left)
 
 pub returns-in_err-rest-2 : goal.returns-in_err-rest-2
 returns-in_err-rest-2 c =

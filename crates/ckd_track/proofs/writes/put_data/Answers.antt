@@ -1,14 +1,9 @@
 -- Other bytes in the data area of a record.
-use Rattle.std.proofs.Common.{◌∙◌, ap, arith, rules}
+use Rattle.std.proofs.Common.{◌∙◌, ap, rules}
 use Rattle.ckd_track.specs.Track.{track_of, track_in}
 use Rattle.ckd_track.proofs.Offsets.{with_record}
-use Rattle.ckd_track.proofs.Writing.{record-before, data_slot, data_read}
+use Rattle.ckd_track.proofs.Writing.{data_slot, data_read}
 use Rattle.ckd_track.proofs.writes.put_data.Goals as goal
-
-pub rewrite-requires-clause-within : goal.rewrite-requires-clause-within
-rewrite-requires-clause-within c =
-    let s = c.args.slot.now in
-    omega (arith, c.data_offset_of-at.ensures.place, c.requires.area, record-before s (track_in s) (with_record s (search rules) c.args.i c.requires.place) c.args.i c.requires.place)
 
 pub returns : goal.returns
 returns c =

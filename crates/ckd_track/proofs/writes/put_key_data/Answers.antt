@@ -1,14 +1,9 @@
 -- Other bytes in the key area and the data area of a record.
-use Rattle.std.proofs.Common.{◌∙◌, ap, arith, rules}
+use Rattle.std.proofs.Common.{◌∙◌, ap, rules}
 use Rattle.ckd_track.specs.Track.{track_of, track_in}
 use Rattle.ckd_track.proofs.Offsets.{with_record}
-use Rattle.ckd_track.proofs.Writing.{record-before, key_data_slot, key_data_read}
+use Rattle.ckd_track.proofs.Writing.{key_data_slot, key_data_read}
 use Rattle.ckd_track.proofs.writes.put_key_data.Goals as goal
-
-pub rewrite-requires-clause-within : goal.rewrite-requires-clause-within
-rewrite-requires-clause-within c =
-    let s = c.args.slot.now in
-    omega (arith, c.record_place-at.ensures.place, c.requires.areas, record-before s (track_in s) (with_record s (search rules) c.args.i c.requires.place) c.args.i c.requires.place)
 
 pub returns : goal.returns
 returns c =

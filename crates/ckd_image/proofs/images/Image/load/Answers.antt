@@ -1,4 +1,4 @@
-use Rattle.std.proofs.Common.{◌≡◌, ◌∙◌, [], get_or, length, ap, rules}
+use Rattle.std.proofs.Common.{◌∙◌, [], get_or, ap, rules}
 use Rattle.std.proofs.lemmas.Result.{on_ok_weaker}
 use Rattle.ckd_image.specs.Image.{ImageState}
 use Rattle.ckd_image.specs.Files.{each, listed}
@@ -8,8 +8,7 @@ use Rattle.ckd_image.proofs.images.Image.load.Goals as goal
 pub read_slot-requires-clause-exists : goal.read_slot-requires-clause-exists
 read_slot-requires-clause-exists g c =
     let i = c.self.inside in
-    let count : length (listed i.stores) ≡ length i.tracks = search rules in
-    rw (tracks_held g.S.ImageStore.content i.geometry (listed i.stores) i.tracks c.self.invariant.0 c.self.invariant.1 count) (rw (← c.self.view_is) at c.requires.exists)
+    rw (tracks_held g.S.ImageStore.content i.geometry (listed i.stores) i.tracks c.self.invariant.0 c.self.invariant.1 (search rules)) (rw (← c.self.view_is) at c.requires.exists)
 
 pub returns-clause-slot : goal.returns-clause-slot
 returns-clause-slot g c =

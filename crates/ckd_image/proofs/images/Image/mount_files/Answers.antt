@@ -9,10 +9,8 @@ use Rattle.ckd_image.proofs.images.Image.mount_files.Goals as goal
 pub image_of-requires : goal.image_of-requires
 image_of-requires g c =
     let lent = c.as_mut_slice.ensures.value in
-    let read = c.read_headers.ensures in
-    let files = c.stores_of.ensures ∙ c.in_array.ensures in
     let volume = sym (c.volume_of_files.ensures ∙ ap volume_of c.as_slice.ensures.value) ∙ c.in-Ok-volume_of_files.is in
-    ap mount_of (each-array g.S.ImageStore.content c.args.files.items _ c.read_headers.new.files (listed c.stores_of.result) _ lent c.read_headers.auto.files read.kept files)
+    ap mount_of (each-array g.S.ImageStore.content c.args.files.items _ c.read_headers.new.files (listed c.stores_of.result) _ lent c.read_headers.auto.files c.read_headers.ensures.kept (c.stores_of.ensures ∙ c.in_array.ensures))
     ∙ mounts_by (each g.S.ImageStore.content c.args.files.items) c.in-Ok.headers.items c.in-Ok-volume_of_files.geometry (rw lent at c.in-Ok.ensures.ok) volume
 
 pub returns-in-Ok-volume_of_files : goal.returns-in-Ok-volume_of_files

@@ -1,4 +1,4 @@
-use Rattle.std.proofs.Common.{◌≡◌, ◌+◌, ◌∙◌, ap, length, subst, rules}
+use Rattle.std.proofs.Common.{◌+◌, ◌∙◌, ap, subst, rules}
 use Rattle.std.specs.List.{sum}
 use Rattle.ckd_image.specs.Header.{accepted}
 use Rattle.ckd_image.specs.Image.{ImageState}
@@ -9,8 +9,7 @@ use Rattle.ckd_image.proofs.images.Image.save.Goals as goal
 pub write_slot-requires-clause-exists : goal.write_slot-requires-clause-exists
 write_slot-requires-clause-exists g c =
     let i = c.self.inside in
-    let count : length (listed i.stores) ≡ length i.tracks = search rules in
-    rw (tracks_held g.S.ImageStore.content i.geometry (listed i.stores) i.tracks c.self.invariant.0 c.self.invariant.1 count) (rw (← c.self.view_is) at c.requires.exists)
+    rw (tracks_held g.S.ImageStore.content i.geometry (listed i.stores) i.tracks c.self.invariant.0 c.self.invariant.1 (search rules)) (rw (← c.self.view_is) at c.requires.exists)
 
 pub returns : goal.returns
 returns g c =
