@@ -124,7 +124,7 @@ impl<S: ImageStore> Job<S> {
     {
         let geometry = self.cache.geometry();
         let buffer = self.cache.buffer();
-        let reads_whole = tables::action_of(command) != Action::WriteHomeAddress;
+        let reads_whole = !matches!(tables::action_of(command), Action::WriteHomeAddress);
         if reads_whole && !buffer.is_readable() {
             add_cause(&mut self.registers, Sense::UNREADABLE_TRACK);
             return Seen::Missed;
