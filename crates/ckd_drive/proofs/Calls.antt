@@ -5,7 +5,7 @@ use Rattle.ckd_slot.specs.Cache.{CacheState, saved, after_save, after_failed_sav
 use Rattle.ckd_command.specs.Drive.{is_written_by, LoadFails, SaveFails, number_under, Fault}
 use Rattle.ckd_drive.specs.Work.{DriveState, CallsStore, fault_met, with_image}
 use Rattle.ckd_drive.specs.Invariant.{Stands, is_filled, Parts, BeginsWell, IsCleared, HalfDone, state_of, own_slot, own_track, parts_of, StageIs}
-use Rattle.std.proofs.lemmas.Bool.Decides.{nat_tests}
+use Rattle.std.proofs.lemmas.Bool.{eq-eqb, ne_eqb}
 use Rattle.ckd_sense.specs.declared.sense_bytes.TheConstants.Sense.{STORE_FAULT}
 use Rattle.ckd_command.specs.declared.registers.Registers.{Registers}
 use Rattle.ckd_command.specs.declared.registers.Mark.{Mark}
@@ -70,24 +70,18 @@ calls_behind_load loads saves old held new e l s same k =
 
 -- Calls in which a load or a saving fails.
 
-more_not : (n : ℕ) → (n + 1 == n) ≡ false
-more_not n = grind (arith, nat_tests)
+rises : (new old : ℕ) → new ≡ old + 1 → (new == old) ≡ false
+rises new old more = ne_eqb new old (λ same. omega (arith, more, same))
 
 pub fault_none : (old new : DriveState) → new.image.failures ≡ old.image.failures → fault_met old new ≡ None
-fault_none old new e = (let same : (new.image.failures == old.image.failures) ≡ true = grind (arith, nat_tests) in rw same refl)
+fault_none old new e = rw (eq-eqb new.image.failures old.image.failures e) refl
 
 pub fault_loading : (old new : DriveState) → new.image.failures ≡ old.image.failures + 1 → new.image.saves ≡ old.image.saves → fault_met old new ≡ Some LoadFails
-fault_loading old new e s =
-    let more : (new.image.failures == old.image.failures) ≡ false = rw e (more_not old.image.failures) in
-    let same : (new.image.saves == old.image.saves) ≡ true = grind (arith, nat_tests) in
-    rw (more, same) refl
+fault_loading old new e s = rw (rises new.image.failures old.image.failures e, eq-eqb new.image.saves old.image.saves s) refl
 
 pub fault_saving : (old new : DriveState) → new.image.failures ≡ old.image.failures + 1 → new.image.saves ≡ old.image.saves + 1
     → fault_met old new ≡ Some (SaveFails (slice_index_or new.image.slots (number_under old.state) []))
-fault_saving old new e s =
-    let more : (new.image.failures == old.image.failures) ≡ false = rw e (more_not old.image.failures) in
-    let more' : (new.image.saves == old.image.saves) ≡ false = rw s (more_not old.image.saves) in
-    rw (more, more') refl
+fault_saving old new e s = rw (rises new.image.failures old.image.failures e, rises new.image.saves old.image.saves s) refl
 
 abbrev pub lost_registers : Registers → Registers
 lost_registers r = with_cause (record r { credit = None }) STORE_FAULT

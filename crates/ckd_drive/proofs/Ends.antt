@@ -1,5 +1,5 @@
 -- How commands end.
-use Rattle.std.proofs.Common.{◌≡◌, ◌∙◌, ap, sym, refl, ℕ, ◌+◌, ◌<◌, List, [], ◌∷◌, ◌++◌, Bool, true, false, ◌&&◌, ◌||◌, ◌==◌, nat_lt, if◌then◌else◌, Option, Some, None, length, take, set-set, get_or-set_same, slice_set, slice_range, append-nil, length-drop, bytes_eq, arith}
+use Rattle.std.proofs.Common.{rules, ◌≡◌, ◌∙◌, ap, sym, refl, ℕ, ◌+◌, ◌<◌, List, [], ◌∷◌, ◌++◌, Bool, true, false, ◌&&◌, ◌||◌, ◌==◌, nat_lt, if◌then◌else◌, Option, Some, None, length, take, set-set, get_or-set_same, slice_set, slice_range, append-nil, length-drop, bytes_eq, arith}
 use Rattle.std.proofs.lemmas.List.{set-get_or}
 use Rattle.std.proofs.lemmas.Bool.{and_parts, cond_both, ltb-true}
 use Rattle.std.proofs.lemmas.Bool.Decides.{nat_tests}
@@ -42,12 +42,9 @@ three false false true p q s k w n = absurd (n refl w)
 three _ _ _ p q s k w n = refl
 
 field_closes : (a : Action) (g : Geometry) (t : Sighted) (o : Opened) (r : Registers) (b : List ℕ) → IsField a → (close_by a g t o r b).written ≡ None → close_by a g t o r b ≡ field_ends a g o r b
-field_closes action.SeekCylinderAndHead g t o r b f w = refl
-field_closes action.SeekHead g t o r b f w = refl
-field_closes action.SetFileMask g t o r b f w = refl
 field_closes action.WriteHomeAddress g t o r b f w = three (length b == 0) (nat_lt (length b) 5) (bytes_eq b (own_home_address r)) _ _ _ _ w (λ e x. cc)
 field_closes action.Format g t o r b f w = three (length b == 0) (nat_lt (length b) 8) (new_record_fits g t o b) _ _ _ _ w (λ e x. cc)
-field_closes _ g t o r b f w = absurd f
+field_closes _ g t o r b f w = search rules
 
 search_unwritten : (o : Opened) (r : Registers) (a b : Bool) → (search_ends o r a b).written ≡ None
 search_unwritten o r true b = refl

@@ -16,7 +16,7 @@ use Rattle.ckd_slot.specs.declared.windows.Window.{Window}
 use Rattle.ckd_drive.specs.declared.transfer.Transfer.TheVariants.{Field, Due, Filled}
 use Rattle.ckd_position.specs.Contents.{Sighted, is_readable, new_record, formatted, kept, padded, replaced, with_record_changed}
 use Rattle.ckd_command.specs.Commands.{Closing, command_end, own_home_address, new_record_fits, format_ends}
-use Rattle.ckd_slot.specs.Buffer.{HasFormatted, CanMake, FitsSlot, IsPlaceOf, SameRecords, fits_track, lengths_on, made_on}
+use Rattle.ckd_slot.specs.Buffer.{HasFormatted, CanMake, IsPlaceOf, fits_track, lengths_on, made_on}
 use Rattle.ckd_slot.specs.Cache.{CacheState, with_held, slot_held, after_format}
 use Rattle.ckd_drive.specs.declared.transfer.Written.TheVariants as written
 use Rattle.ckd_drive.specs.Invariant.{HalfDone, Works, Absorbs, HasDue, HasFilled, IsFound, at_work, own_slot, with_taken, own_track, action_now, IsFilled, AtHand, slot_at, whole_of, AtWork, geometry_in, action_in}
@@ -148,8 +148,7 @@ format_absorbs {half} {more} {f} {field} {count} i w k has =
     let t0 = formatted t a b in
     let held = slot_is c n (slot_held c) k.at_hand.held refl in
     let new = slot_of g.track_size (formatted (track_of (slot_held c)) a count) in
-    let H : List ℕ → Type 0 = λ y. HasFormatted g.model g.track_size a y t i w in
-    let is_new : HasFormatted g.model g.track_size a b t i w = subst H k.whole (rw held at has) in
+    let is_new : HasFormatted g.model g.track_size a b t i w = rw (held, k.whole) at has in
     let made : new ≡ slot_of g.track_size t0 = rw (held, k.whole) refl in
     let read = reads_new g.track_size t0 new is_new.spelled made in
     let now : List ℕ = slot_at (with_held c new).slots n in
@@ -235,16 +234,12 @@ made_absorbs half more w number count x at le =
     let new_at : slot_held c' ≡ made =
     slot_is c' n (slot_held c') h.at_hand.held refl ∙ new_slot_at c n (slot_of size (formatted t area count)) h.at_hand.held (there half x) ∙ ap (slot_of size) same_track in
     let w' : Window = record { start = w.start + length more; len = w.len - length more } in
-    let S : List ℕ → Type 0 = λ y. SameRecords y (overwritten y w.start more) in
-    let A : List ℕ → Type 0 = λ y. Absorbs half' more (with_held c' (overwritten y w.start more)) (slot_held c) (Filled w' (written.Record number)) in
-    let C : CacheState → Type 0 = λ y. Absorbs half' more y (slot_held c) (Filled w' (written.Record number)) in
     let same : with_held c' (overwritten made w.start more) ≡ with_held c (overwritten made w.start more) =
     ap (λ (s : List (List ℕ)). let y : CacheState = record c { slots = s; changed = true } in y) (set-set c.slots (unwrap_or c.held 0) (slot_of size (formatted t area count)) (overwritten made w.start more)) in
-    let a = subst C same (subst A new_at k.absorbs) in
+    let a : Absorbs half' more (with_held c (overwritten made w.start more)) (slot_held c) (Filled w' (written.Record number)) = rw (new_at, same) at k.absorbs in
     let here = slot_is c n (slot_held c) h.at_hand.held refl in
     let f = h.filled.filled in
     let short : length more ≤ w.len = omega (arith, le, left) in
-    let G : Track → Type 0 = λ y. FitsSlot size y in
     let P : Track → Type 0 = λ y. IsPlaceOf extent.KeyAndData y (Of part.Data number) w in
     record {
       due = h;
@@ -254,10 +249,10 @@ made_absorbs half more w number count x at le =
       can = record {
         there = omega (arith, h.fits.is_last, kept_le t area);
         no_end_mark = no_end_mark c.image.geometry.model (kept t area) count h.fits.fits;
-        fits = subst G same_track h.fits.spelled;
+        fits = rw same_track at h.fits.spelled;
         place = subst P same_track h.fits.place;
         room = short;
-        begins = subst S new_at k.records;
+        begins = rw new_at at k.records;
       };
       absorbs = record {
         works = a.works;

@@ -1,5 +1,5 @@
 -- What a look at a track finds, and a command that looks for its area and has just found where its bytes stand.
-use Rattle.std.proofs.Common.{◌≡◌, ◌∙◌, ap, sym, refl, ℕ, ◌+◌, List, [], true, Some, length, arith, false, ◌||◌, None, ◌==◌, Bool, Option}
+use Rattle.std.proofs.Common.{rules, ◌≡◌, ◌∙◌, ap, sym, refl, ℕ, ◌+◌, List, [], true, Some, length, arith, false, ◌||◌, None, ◌==◌, Bool, Option}
 use Rattle.std.proofs.lemmas.Bool.{false_from_ne_true, true_from_ne_false}
 use Rattle.ckd_track.specs.Track.{track_of, track_or_none}
 use Rattle.ckd_sense.specs.declared.commands.Command.{Command}
@@ -18,7 +18,7 @@ use Rattle.ckd_drive.proofs.Takes.{field_unwritten, field_wants, no_byte}
 use Rattle.ckd_command.proofs.Closings.{area_by, closing_by, sense_closes, sense_length}
 use Rattle.ckd_command.proofs.Lengths.{length_by}
 use Rattle.ckd_slot.specs.Cache.{CacheState, holds, loaded, after_hold, after_failed_hold, after_save, after_failed_save}
-use Rattle.ckd_drive.specs.Invariant.{IsFirstPlace, IsPlaced, IsField, ReadsWhole, FieldAtHand, AtHand, slot_at, AtWork, geometry_in, number_in, slot_in, at_work, Stands, StaysAt, CreditAtHand, remaining, first_progress, state_of, track_under, is_filled_by, HalfDone, Parts, parts_of, own_track, own_slot, AreaIsThere, SightKeeps}
+use Rattle.ckd_drive.specs.Invariant.{IsFirstPlace, IsPlaced, IsField, ReadsWhole, FieldAtHand, AtHand, slot_at, AtWork, geometry_in, number_in, slot_in, at_work, Stands, StaysAt, CreditAtHand, remaining, first_progress, state_of, track_under, is_filled_by, HalfDone, Parts, parts_of, own_track, own_slot, AreaIsThere, SightKeeps, StageIs, is_filled}
 use Rattle.ckd_track.specs.declared.geometries.Geometry.{Geometry}
 use Rattle.ckd_command.specs.declared.registers.Registers.{Registers}
 use Rattle.ckd_drive.specs.declared.transfer.Progress.{Progress}
@@ -28,7 +28,7 @@ use Rattle.ckd_drive.specs.Work.{fault_met, with_image, after_look, DriveState, 
 use Rattle.ckd_command.specs.Drive.{is_written_by, AfterLook, Ready, LoadFails, look as look_by, Fault}
 use Rattle.ckd_drive.proofs.Calls.{fault_none, fault_loading, lost_registers, save_lost, changed_is, no_more, calls_none, calls_of_failed_save, calls_of_failed_hold, calls_behind_load, comes_saved}
 use Rattle.ckd_drive.specs.Calls.{Comes, Looks, Leaves, Loses}
-use Rattle.ckd_drive.proofs.Standing.{no_filled_seen, volume_not_held, geometry_saved, lost_stands}
+use Rattle.ckd_drive.proofs.Standing.{no_credit, no_filled_seen, volume_not_held, geometry_saved, lost_stands}
 use Rattle.std.proofs.lemmas.Bool.Decides.{nat_tests}
 use Rattle.std.proofs.Math.Bool.{and-false, and-true}
 use Rattle.ckd_image.specs.Image.{ImageState}
@@ -44,7 +44,7 @@ use Rattle.ckd_position.specs.declared.areas.Next.TheVariants as next
 use Rattle.ckd_position.specs.Areas.{IsOnTrack, IfFound}
 use Rattle.ckd_position.specs.declared.extents.Extent.{Extent}
 use Rattle.ckd_position.specs.declared.extents.Extent.TheVariants as extent
-use Rattle.ckd_command.proofs.Sights.{passing, sight_by}
+use Rattle.ckd_command.proofs.Sights.{passing, sight_by, look_again}
 use Rattle.ckd_slot.specs.Buffer.{HasBytes}
 
 pub on_track : (e : Extent) (t : Sighted) (a : Area) → IsOnTrack (track_or_none t) a → HasBytes e t a
@@ -70,9 +70,21 @@ whole_by : (act : Action) (t : Sighted) → (needs_readable act ≡ true → is_
 whole_by action.WriteHomeAddress t h = tt
 whole_by _ t h = h refl
 
-pub found_whole : (g : Geometry) (t : Sighted) (o o' : Opened) (r : Registers) (k : Kind) → aim o.command ≡ Next k → Found o' ≡ sight g t o r → ReadsWhole (action_of o.command) t
+-- an area that a look found, over its slot
+pub record FoundAgain (old : HalfDone) (o : Opened) (slot : List ℕ) : Type 0 where
+  pub first : sight old.cache.image.geometry (track_of (own_slot old)) old.opened old.registers ≡ Found o
+  pub again : sight old.cache.image.geometry (track_of (own_slot old)) o old.registers ≡ Found o
+  pub whole : ReadsWhole (action_of o.command) (track_of (own_slot old))
+  pub slot_is : slot ≡ own_slot old
+
+pub found_again : (old : HalfDone) (o : Opened) (slot : List ℕ) (k : Kind) → aim old.opened.command ≡ Next k
+    → Found o ≡ sight old.cache.image.geometry (track_of (own_slot old)) old.opened old.registers → slot ≡ own_slot old → FoundAgain old o slot
 unfolding sight
-found_whole g t o o' r k is e = whole_by (action_of o.command) t (λ needs. true_from_ne_false (is_readable t) (λ unread. (let missed = rw (is, needs, unread) at e in cc)))
+found_again old o slot k is e slot_is =
+    let t = track_of (own_slot old) in
+    let again = look_again old.cache.image.geometry t old.opened o old.registers e in
+    let whole = whole_by (action_of old.opened.command) t (λ needs. true_from_ne_false (is_readable t) (λ unread. (let missed = rw (is, needs, unread) at e in cc))) in
+    record { first = sym e; again = again.1; whole = rw again.0 whole; slot_is = slot_is }
 
 -- What a command wants at hand.
 
@@ -104,12 +116,9 @@ whole_at : (c : CacheState) (n : ℕ) (o : Opened) (a : Action) → action_of o.
 whole_at c n o a is f h = record { held = h.held; readable = f (rw is at h.whole) }
 
 field_at_hand : (a : Action) (c : CacheState) (n : ℕ) (o : Opened) → action_of o.command ≡ a → IsField a → HandIfAimed c n o → FieldAtHand a c n
-field_at_hand action.SeekCylinderAndHead c n o is f h = tt
-field_at_hand action.SeekHead c n o is f h = tt
-field_at_hand action.SetFileMask c n o is f h = tt
 field_at_hand action.WriteHomeAddress c n o is f h = (hand_for c n o action.WriteHomeAddress is refl h).held
 field_at_hand action.Format c n o is f h = whole_at c n o action.Format is (λ x. x) (hand_for c n o action.Format is refl h)
-field_at_hand _ c n o is f h = absurd f
+field_at_hand _ c n o is f h = search rules
 
 pub first_placed : (job : AtWork) (p : Transfer)
     → IsFirstPlace (slot_in job) job.opened job.registers p → HandIfAimed job.cache (number_in job) job.opened → sight (geometry_in job) (track_of (slot_in job)) job.opened job.registers ≡ Found job.opened → IsPlaced (record job { passed = [] }) p
@@ -208,38 +217,34 @@ found_looks old was o p s x f h again first p_is s_is =
     (record { volume = x.volume; arm = x.arm; anchored = x.anchored; marked = rw empty marked; work = record { moved = refl; left = omega arith; placed = placed; no_credit = x.work.no_credit } })
     refl (rw first (and-false (is_written_by was))) (rw (no_filled_seen c.slots (own_track old) old.before place empty, first, left_is) refl))
 
--- The index passes.
+-- The arm stays, and its registers are these.
+stays_looks : (old : HalfDone) (was : Mark) (q : Registers) (s : Stage) → Stands (parts_of old was Looking) → old.cache.held ≡ Some (own_track old) → StaysAt old.registers q → is_filled s (record old { registers = q; passed = [] }) ≡ false
+    → StageIs s (record old { registers = q; passed = [] }) → look_saves (state_of (parts_of old was Looking)) ≡ false
+    → state_of (parts_of (record old { registers = q; passed = [] }) was s) ≡ with_image (after_look None (state_of (parts_of old was Looking))) old.cache.image
+    → Looks (parts_of old was Looking) (parts_of (record old { registers = q }) was s)
+stays_looks old was q s x held keeps plain work saves state =
+    comes_quiet _ _ (parts_of old was Looking) (parts_of (record old { registers = q; passed = [] }) was s) _
+    (record { volume = x.volume; arm = stays_arm old.cache.image.geometry old.registers q keeps x.arm; anchored = stays_held old.cache old.registers q keeps held; marked = rw plain x.marked; work = work })
+    refl saves state
+
+-- the index passes
 pub passed_looks : (old : HalfDone) (was : Mark) (q : Registers) (k : Kind)
     → Stands (parts_of old was Looking) → aim old.opened.command ≡ Next k → old.cache.held ≡ Some (own_track old)
     → sight old.cache.image.geometry (track_of (own_slot old)) old.opened old.registers ≡ IndexPassed q
     → Looks (parts_of old was Looking) (parts_of (record old { registers = q }) was Looking)
 passed_looks old was q k x aimed held sighted =
-    let c = old.cache in
-    let r = old.registers in
-    let keeps = rw sighted at (sight_keeps c.image.geometry (track_of (own_slot old)) old.opened r x.arm) in
-    comes_quiet _ _ (parts_of old was Looking) (parts_of (record old { registers = q; passed = [] }) was Looking) _
-    (record {
-      volume = x.volume;
-      arm = stays_arm c.image.geometry r q keeps x.arm;
-      anchored = stays_held c r q keeps held;
-      marked = x.marked;
-      work = record { transfers = x.work.transfers; credit = rw aimed tt; no_credit = keeps.credit ∙ x.work.no_credit };
-    })
-    refl (rw sighted (and-false (is_written_by was))) (rw sighted refl)
+    let keeps = rw sighted at (sight_keeps old.cache.image.geometry (track_of (own_slot old)) old.opened old.registers x.arm) in
+    stays_looks old was q Looking x held keeps refl (record { transfers = x.work.transfers; credit = rw aimed tt; no_credit = keeps.credit ∙ x.work.no_credit })
+    (rw sighted (and-false (is_written_by was))) (rw sighted refl)
 
--- It finds none.
+-- it finds none
 pub missed_looks : (old : HalfDone) (was : Mark) (q : Registers)
     → Stands (parts_of old was Looking) → old.cache.held ≡ Some (own_track old)
     → sight old.cache.image.geometry (track_of (own_slot old)) old.opened old.registers ≡ Missed q
     → Looks (parts_of old was Looking) (parts_of (record old { registers = q }) was Failed)
 missed_looks old was q x held sighted =
-    let c = old.cache in
-    let r = old.registers in
-    let keeps = rw sighted at (sight_keeps c.image.geometry (track_of (own_slot old)) old.opened r x.arm) in
-    let credit : q.credit ≡ None = keeps.credit ∙ x.work.no_credit in
-    comes_quiet _ _ (parts_of old was Looking) (parts_of (record old { registers = q; passed = [] }) was Failed) _
-    (record { volume = x.volume; arm = stays_arm c.image.geometry r q keeps x.arm; anchored = stays_held c r q keeps held; marked = x.marked; work = rw credit tt })
-    refl (rw sighted (and-false (is_written_by was))) (rw sighted refl)
+    let keeps = rw sighted at (sight_keeps old.cache.image.geometry (track_of (own_slot old)) old.opened old.registers x.arm) in
+    stays_looks old was q Failed x held keeps refl (no_credit old.cache q (own_track (record old { registers = q })) (keeps.credit ∙ x.work.no_credit)) (rw sighted (and-false (is_written_by was))) (rw sighted refl)
 
 -- It goes on at the next head.
 pub next_looks : (old new : HalfDone) (was now : Mark) (q : Registers) (k : Kind)

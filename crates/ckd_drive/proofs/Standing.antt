@@ -8,7 +8,6 @@ use Rattle.ckd_command.specs.declared.registers.Registers.{Registers}
 use Rattle.ckd_command.specs.Commands.{IsAtTrack}
 use Rattle.ckd_drive.specs.Invariant.{Stands, track_under, HalfDone, Parts, own_track, StageIs, CreditIs, is_filled, work_of, parts_of, Goes, seen_by, slot_at, is_filled_by, AtWork, number_in, state_of}
 use Rattle.std.proofs.lemmas.List.Elements.{All-set}
-use Rattle.ckd_track.specs.declared.model.DriveModel.{DriveModel}
 use Rattle.ckd_track.specs.declared.model.DriveModel.TheVariants.{D2311, D2314}
 use Rattle.ckd_command.specs.declared.registers.Mark.TheVariants.{Saved, Lost}
 use Rattle.ckd_drive.specs.declared.answers.Stage.{Stage}
@@ -40,12 +39,8 @@ idle_stage _ h e = absurd cc
 pub no_credit : (c : CacheState) (r : Registers) (n : ℕ) → r.credit ≡ None → CreditIs r.credit c n
 no_credit c r n e = rw e tt
 
-heads_above : (m : DriveModel) → 0 < heads_of m
-heads_above D2311 = omega arith
-heads_above D2314 = omega arith
-
 pub at_zero : (c : CacheState) (r : Registers) → IsVolume c → IsAtTrack c.image.geometry (moved_to r 0 0)
-at_zero c r v = (let g = v.geometry in record { cylinder = omega (arith, g.cylinders); head = heads_above c.image.geometry.model })
+at_zero c r v = (let g = v.geometry in record { cylinder = omega (arith, g.cylinders); head = elim c.image.geometry.model as (λ m. 0 < heads_of m) [ D2311 ↦ omega arith | D2314 ↦ omega arith ] })
 
 -- The slots.
 

@@ -121,11 +121,9 @@ zero_ends old new was now q b x well is l =
 begun_work : (x : AfterBegin) (d : DriveState) (s : Stage) (h : HalfDone) → is_idle d.work ≡ true → work_of s h ≡ (after_begun x d).work → begun_at s ≡ answer_of_begin x
 begun_work (Rejected t) d s h idle e = rw (idle_stage s h (ap is_idle e ∙ idle)) refl
 begun_work (Immediate t motion) d stage.Ended h idle e = refl
-begun_work (Immediate t motion) d stage.InMotion h idle e = refl
-begun_work (Immediate t motion) d stage.Failed h idle e = refl
-begun_work (Immediate t motion) d _ h idle e = absurd cc
+begun_work (Immediate t motion) d _ h idle e = cc
 begun_work (Started o) d stage.Looking h idle e = refl
-begun_work (Started o) d _ h idle e = absurd cc
+begun_work (Started o) d _ h idle e = cc
 
 -- what one call makes of the drive that begins a command
 pub record HasBegun (d : Parts) (now : DriveState) (code : ℕ) : Type 0 where

@@ -1,5 +1,5 @@
 -- Bytes that are taken.
-use Rattle.std.proofs.Common.{◌≡◌, ◌∙◌, ap, sym, refl, ℕ, ◌+◌, ◌-◌, ◌≤◌, List, [], ◌∷◌, ◌++◌, length, take, drop, slice_range, length-append, length-take, append_assoc, arith, Bool, true, false, ◌==◌, nat_lt, if◌then◌else◌, None, bytes_eq}
+use Rattle.std.proofs.Common.{rules, ◌≡◌, ◌∙◌, ap, sym, refl, ℕ, ◌+◌, ◌-◌, ◌≤◌, List, [], ◌∷◌, ◌++◌, length, take, drop, slice_range, length-append, length-take, append_assoc, arith, Bool, true, false, ◌==◌, nat_lt, if◌then◌else◌, None, bytes_eq}
 use Rattle.std.specs.Ordering.{nat_cmp, ordering_then}
 use Rattle.std.specs.declared.cmp.Ordering.{Ordering}
 use Rattle.std.specs.declared.cmp.Ordering.TheVariants as order
@@ -93,12 +93,8 @@ field_unwritten action.Format g t o r b f le n = unwritten_field r b 8 (format g
 field_unwritten _ g t o r b f le n = absurd f
 
 pub field_wants : (a : Action) (g : Geometry) (t : Sighted) (o : Opened) (r : Registers) (b : List ℕ) → IsField a → length b ≤ field_size a → ChangesNothing a g t o r b → length_for a g t o r b ≡ field_size a
-field_wants action.SeekCylinderAndHead g t o r b f le n = refl
-field_wants action.SeekHead g t o r b f le n = refl
-field_wants action.SetFileMask g t o r b f le n = refl
-field_wants action.WriteHomeAddress g t o r b f le n = refl
 field_wants action.Format g t o r b f le n = format_wants g t o r b (nat_lt (length b) 8) refl le n
-field_wants _ g t o r b f le n = absurd f
+field_wants _ g t o r b f le n = search rules
 
 pub field_small : (a : Action) → field_size a ≤ 8
 field_small action.Format = omega arith
