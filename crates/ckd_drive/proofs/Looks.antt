@@ -1,5 +1,5 @@
 -- What a look at a track finds, and a command that looks for its area and has just found where its bytes stand.
-use Rattle.std.proofs.Common.{rules, ◌≡◌, ◌∙◌, ap, sym, refl, ℕ, ◌+◌, List, [], true, Some, length, arith, false, ◌||◌, None, ◌==◌, Bool, Option}
+use Rattle.std.proofs.Common.{rules, ◌≡◌, ◌∙◌, ap, sym, refl, ℕ, ◌+◌, List, [], true, Some, length, arith, false, None, ◌==◌, Bool, Option}
 use Rattle.std.proofs.lemmas.Bool.{false_from_ne_true, true_from_ne_false}
 use Rattle.ckd_track.specs.Track.{track_of, track_or_none}
 use Rattle.ckd_sense.specs.declared.commands.Command.{Command}
@@ -8,7 +8,7 @@ use Rattle.ckd_command.specs.declared.tables.Aim.TheVariants.{NoArea, Credited, 
 use Rattle.ckd_command.specs.declared.tables.Action.{Action}
 use Rattle.ckd_command.specs.declared.tables.Action.TheVariants as action
 use Rattle.ckd_command.specs.declared.begin.Opened.{Opened}
-use Rattle.ckd_command.specs.Answers.{Found, IndexPassed, NextHead, Missed, moved_to}
+use Rattle.ckd_command.specs.Answers.{Sight, Found, IndexPassed, NextHead, Missed, moved_to}
 use Rattle.ckd_drive.specs.declared.transfer.Transfer.{Transfer}
 use Rattle.ckd_drive.specs.declared.transfer.Transfer.TheVariants.{Sense, Field, Read, Search, Fill, Due, Filled}
 use Rattle.ckd_command.specs.Tables.{action_of, aim, needs_readable}
@@ -169,9 +169,7 @@ first_len job (Due w number count) f x = absurd f
 first_len job (Filled w u) f x = absurd f
 first_len job _ f x = x.1.len
 
--- A look that finds the area.
-
--- A command whose area is found.
+-- What a look leaves.
 
 pub reads_whole : (a : Action) (t : Sighted) → is_readable t ≡ true → ReadsWhole a t
 reads_whole action.WriteHomeAddress t e = tt
@@ -198,141 +196,121 @@ comes_quiet loads saves d now after x image s state =
       at_hand = λ e. absurd (no_more d.job.cache.image.loads (sym (ap (λ (i : ImageState). i.loads) image) ∙ e));
     }
 
--- It finds its area.
-pub found_looks : (old : HalfDone) (was : Mark) (o : Opened) (p : Progress) (s : Stage)
-    → Stands (parts_of old was Looking) → IsFirstPlace (own_slot old) o old.registers p.place → HandIfAimed old.cache (own_track old) o
-    → sight old.cache.image.geometry (track_of (own_slot old)) o old.registers ≡ Found o → sight old.cache.image.geometry (track_of (own_slot old)) old.opened old.registers ≡ Found o
-    → p ≡ first_progress (action_of o.command) p.place → s ≡ Passing → Looks (parts_of old was Looking) (parts_of (record old { opened = o; progress = p }) was s)
-found_looks old was o p s x f h again first p_is s_is =
-    let c = old.cache in
-    let place = p.place in
-    let empty : is_filled_by place ≡ false = first_not_filled (own_slot old) o old.registers place f in
-    let after : HalfDone = record old { opened = o; progress = first_progress (action_of o.command) place; passed = [] } in
-    let placed = first_placed (at_work after) place f h again in
-    let len = first_len (at_work after) place f placed in
-    let left_is : remaining (action_of o.command) place 0 ≡ length_after c.image.geometry (track_of (own_slot old)) o old.registers [] = omega (arith, len) in
-    let marked : c.changed ≡ (is_written_by was || false) = x.marked in
-    rw (p_is, s_is)
-    (comes_quiet _ _ (parts_of old was Looking) (parts_of after was Passing) _
-    (record { volume = x.volume; arm = x.arm; anchored = x.anchored; marked = rw empty marked; work = record { moved = refl; left = omega arith; placed = placed; no_credit = x.work.no_credit } })
-    refl (rw first (and-false (is_written_by was))) (rw (no_filled_seen c.slots (own_track old) old.before place empty, first, left_is) refl))
-
--- The arm stays, and its registers are these.
-stays_looks : (old : HalfDone) (was : Mark) (q : Registers) (s : Stage) → Stands (parts_of old was Looking) → old.cache.held ≡ Some (own_track old) → StaysAt old.registers q → is_filled s (record old { registers = q; passed = [] }) ≡ false
-    → StageIs s (record old { registers = q; passed = [] }) → look_saves (state_of (parts_of old was Looking)) ≡ false
-    → state_of (parts_of (record old { registers = q; passed = [] }) was s) ≡ with_image (after_look None (state_of (parts_of old was Looking))) old.cache.image
-    → Looks (parts_of old was Looking) (parts_of (record old { registers = q }) was s)
-stays_looks old was q s x held keeps plain work saves state =
-    comes_quiet _ _ (parts_of old was Looking) (parts_of (record old { registers = q; passed = [] }) was s) _
-    (record { volume = x.volume; arm = stays_arm old.cache.image.geometry old.registers q keeps x.arm; anchored = stays_held old.cache old.registers q keeps held; marked = rw plain x.marked; work = work })
-    refl saves state
-
--- the index passes
-pub passed_looks : (old : HalfDone) (was : Mark) (q : Registers) (k : Kind)
-    → Stands (parts_of old was Looking) → aim old.opened.command ≡ Next k → old.cache.held ≡ Some (own_track old)
-    → sight old.cache.image.geometry (track_of (own_slot old)) old.opened old.registers ≡ IndexPassed q
-    → Looks (parts_of old was Looking) (parts_of (record old { registers = q }) was Looking)
-passed_looks old was q k x aimed held sighted =
-    let keeps = rw sighted at (sight_keeps old.cache.image.geometry (track_of (own_slot old)) old.opened old.registers x.arm) in
-    stays_looks old was q Looking x held keeps refl (record { transfers = x.work.transfers; credit = rw aimed tt; no_credit = keeps.credit ∙ x.work.no_credit })
-    (rw sighted (and-false (is_written_by was))) (rw sighted refl)
-
--- it finds none
-pub missed_looks : (old : HalfDone) (was : Mark) (q : Registers)
-    → Stands (parts_of old was Looking) → old.cache.held ≡ Some (own_track old)
-    → sight old.cache.image.geometry (track_of (own_slot old)) old.opened old.registers ≡ Missed q
-    → Looks (parts_of old was Looking) (parts_of (record old { registers = q }) was Failed)
-missed_looks old was q x held sighted =
-    let keeps = rw sighted at (sight_keeps old.cache.image.geometry (track_of (own_slot old)) old.opened old.registers x.arm) in
-    stays_looks old was q Failed x held keeps refl (no_credit old.cache q (own_track (record old { registers = q })) (keeps.credit ∙ x.work.no_credit)) (rw sighted (and-false (is_written_by was))) (rw sighted refl)
-
--- It goes on at the next head.
-pub next_looks : (old new : HalfDone) (was now : Mark) (q : Registers) (k : Kind)
-    → Stands (parts_of old was Looking) → aim old.opened.command ≡ Next k
-    → sight old.cache.image.geometry (track_of (own_slot old)) old.opened old.registers ≡ NextHead q
-    → Leaves old new now q → Looks (parts_of old was Looking) (parts_of new now Looking)
-next_looks old new was now q k x aimed sighted l =
-    let c = old.cache in
-    let keeps = rw sighted at (sight_keeps c.image.geometry (track_of (own_slot old)) old.opened old.registers x.arm) in
-    rw (l.0, l.1)
-    (comes_saved _ _ (parts_of old was Looking) (record old { cache = after_save c; registers = q; passed = [] }) Looking _ x refl (rw sighted (and-true (is_written_by was))) refl refl keeps.0
-    (record { transfers = x.work.transfers; credit = rw aimed tt; no_credit = keeps.1 ∙ x.work.no_credit }) (rw (sighted, geometry_saved c) refl))
-
--- The track can't be saved that it goes on from.
-pub lost_looks : (old new : HalfDone) (was now : Mark) (q : Registers)
-    → Stands (parts_of old was Looking)
-    → sight old.cache.image.geometry (track_of (own_slot old)) old.opened old.registers ≡ NextHead q
-    → Loses old new now → Looks (parts_of old was Looking) (parts_of new now Failed)
-lost_looks old new was now q x sighted l =
-    let d = parts_of old was Looking in
-    let c = old.cache in
-    let left = l.left in
-    let after : HalfDone = record old { cache = after_failed_save c left; registers = lost_registers old.registers; passed = [] } in
-    let drive = state_of (parts_of after Lost Failed) in
-    let s = save_lost d old new now drive x refl refl l refl in
-    rw (l.job, l.mark_is) (record {
-      stands = lost_stands d left after Failed x l.size refl refl refl refl tt;
-      state = rw (s.fault, sighted, s.written, s.held, s.whole) refl;
-      calls = calls_of_failed_save _ _ c left (state_of d) drive refl refl (changed_is d x refl ∙ rw sighted (sym (and-true (is_written_by was)))) l.changed;
-      at_hand = λ e. absurd (no_more c.image.loads e);
-    })
-
--- Its track can't be loaded.
-no_other : (c : CacheState) (n : ℕ) → c.held ≡ Some n → holds c.held n ≡ false → ⊥
-no_other c n e not = (let same : (n == n) ≡ true = grind (arith, nat_tests) in let other : (n == n) ≡ false = rw e at not in cc)
-
--- what is written is at hand
-not_written : (old : HalfDone) (was : Mark) → Stands (parts_of old was Looking) → holds old.cache.held (own_track old) ≡ false → is_written_by was ≡ false
-not_written old was x not = sym (changed_is (parts_of old was Looking) x refl) ∙ false_from_ne_true old.cache.changed (λ e. no_other old.cache (own_track old) (x.anchored e) not)
-
-pub unloaded_looks : (old : HalfDone) (was : Mark) (c' : CacheState) (r' : Registers) (k : Kind)
-    → Stands (parts_of old was Looking) → aim old.opened.command ≡ Next k
-    → holds old.cache.held (own_track old) ≡ false → c' ≡ after_failed_hold old.cache → r' ≡ with_cause old.registers STORE_FAULT
-    → Looks (parts_of old was Looking) (parts_of (record old { cache = c'; registers = r' }) was Failed)
-unloaded_looks old was c' r' k x aimed not e f =
-    let d = parts_of old was Looking in
-    let c = old.cache in
-    let drive = state_of (parts_of (record old { cache = after_failed_hold c; registers = with_cause old.registers STORE_FAULT; passed = [] }) was Failed) in
-    let met : fault_met (state_of d) drive ≡ Some LoadFails = fault_loading (state_of d) drive refl refl in
-    let unwritten : is_written_by was ≡ false = not_written old was x not in
-    let credit : old.registers.credit ≡ None = x.work.no_credit in
-    rw (e, f) (record {
-      stands = record { volume = volume_not_held c x.volume; arm = record { cylinder = x.arm.cylinder; head = x.arm.head }; anchored = λ t. absurd (no_other c (own_track old) (x.anchored t) not); marked = x.marked; work = rw credit tt };
-      state = rw (met, aimed) refl;
-      calls = calls_of_failed_hold _ _ c (state_of d) drive refl refl (rw aimed refl) (rw unwritten refl);
-      at_hand = λ _. unwritten;
-    })
-
--- Its track was loaded first.
 sighted_with : (l : AfterLook) (d : DriveState) (i j : ImageState) → with_image (after_sight l (with_image d j)) i ≡ with_image (after_sight l d) i
 sighted_with (Ready o) d i j = refl
 sighted_with _ d i j = refl
 
-abbrev with_loaded : HalfDone → (held : Option ℕ) → Bool → HalfDone
-with_loaded old held b = record old { cache = record old.cache { image = loaded old.cache.image b; held = held } }
+no_other : (c : CacheState) (n : ℕ) → c.held ≡ Some n → holds c.held n ≡ false → ⊥
+no_other c n e not = (let same : (n == n) ≡ true = grind (arith, nat_tests) in let other : (n == n) ≡ false = rw e at not in cc)
 
--- whether it was loaded or at hand, over any drive that came of it
-loaded_looks : (b : Bool) (old : HalfDone) (was : Mark) (k : Kind) (now : Parts) (held : Option ℕ)
-    → (b ≡ false → is_written_by was ≡ false) → aim old.opened.command ≡ Next k → now.job.cache.image.loads ≡ (loaded old.cache.image b).loads
-    → Looks (parts_of (with_loaded old held b) was Looking) now → Looks (parts_of old was Looking) now
-loaded_looks true old was k now held clean aimed e x = record { stands = x.stands; state = x.state; calls = x.calls; at_hand = x.at_hand }
-loaded_looks false old was k now held clean aimed e x =
-    let unwritten : is_written_by was ≡ false = clean refl in
-    let d = state_of (parts_of old was Looking) in
-    let new = state_of (parts_of (record now.job { passed = [] }) now.mark now.stage) in
-    record {
-      stands = x.stands;
-      state = x.state ∙ sighted_with (look_by (fault_met d new) (record { opened = old.opened; state = d.state })) d now.job.cache.image (loaded old.cache.image false);
-      calls = calls_behind_load _ _ d (with_image d (loaded old.cache.image false)) new refl (rw aimed refl) (rw unwritten refl) e x.calls;
-      at_hand = λ _. unwritten;
-    }
+-- A command looks for its area.
+module _ (old : HalfDone) (was : Mark) (x : Stands (parts_of old was Looking)) where
+  abbrev asked : Parts
+  asked = parts_of old was Looking
 
--- the look of a drive that holds the track now is that of the drive that was asked
-pub held_looks : (old : HalfDone) (was : Mark) (c : CacheState) (k : Kind) (now : Parts)
-    → Stands (parts_of old was Looking) → aim old.opened.command ≡ Next k → c ≡ after_hold old.cache (own_track old) → now.job.cache.image.loads ≡ c.image.loads
-    → Looks (parts_of (record old { cache = c }) was Looking) now → Looks (parts_of old was Looking) now
-held_looks old was c k now x aimed held loads l =
-    loaded_looks (holds old.cache.held (own_track old)) old was k now (Some (own_track old)) (not_written old was x) aimed (rw held at loads) (rw held at l)
+  -- what it sees, were it this command
+  abbrev sees : Opened → Sight
+  sees o = sight old.cache.image.geometry (track_of (own_slot old)) o old.registers
+
+  -- It finds its area.
+  pub found_looks : (o : Opened) (p : Progress) (s : Stage) → IsFirstPlace (own_slot old) o old.registers p.place → HandIfAimed old.cache (own_track old) o → sees o ≡ Found o → sees old.opened ≡ Found o
+      → p ≡ first_progress (action_of o.command) p.place → s ≡ Passing → Looks asked (parts_of (record old { opened = o; progress = p }) was s)
+  found_looks o p s f h again first p_is s_is =
+      let place = p.place in
+      let empty : is_filled_by place ≡ false = first_not_filled (own_slot old) o old.registers place f in
+      let after : HalfDone = record old { opened = o; progress = first_progress (action_of o.command) place; passed = [] } in
+      let placed = first_placed (at_work after) place f h again in
+      let len = first_len (at_work after) place f placed in
+      let left_is : remaining (action_of o.command) place 0 ≡ length_after old.cache.image.geometry (track_of (own_slot old)) o old.registers [] = omega (arith, len) in
+      rw (p_is, s_is)
+      (comes_quiet _ _ asked (parts_of after was Passing) _
+      (record { volume = x.volume; arm = x.arm; anchored = x.anchored; marked = rw empty x.marked; work = record { moved = refl; left = omega arith; placed = placed; no_credit = x.work.no_credit } })
+      refl (rw first (and-false (is_written_by was))) (rw (no_filled_seen old.cache.slots (own_track old) old.before place empty, first, left_is) refl))
+
+  -- The arm stays, and its registers are these.
+  stays_looks : (q : Registers) (s : Stage) → old.cache.held ≡ Some (own_track old) → StaysAt old.registers q → is_filled s (record old { registers = q; passed = [] }) ≡ false → StageIs s (record old { registers = q; passed = [] })
+      → look_saves (state_of asked) ≡ false → state_of (parts_of (record old { registers = q; passed = [] }) was s) ≡ with_image (after_look None (state_of asked)) old.cache.image
+      → Looks asked (parts_of (record old { registers = q }) was s)
+  stays_looks q s held keeps plain work saves state =
+      comes_quiet _ _ asked (parts_of (record old { registers = q; passed = [] }) was s) _
+      (record { volume = x.volume; arm = stays_arm old.cache.image.geometry old.registers q keeps x.arm; anchored = stays_held old.cache old.registers q keeps held; marked = rw plain x.marked; work = work })
+      refl saves state
+
+  -- the index passes
+  pub passed_looks : (q : Registers) (k : Kind) → aim old.opened.command ≡ Next k → old.cache.held ≡ Some (own_track old) → sees old.opened ≡ IndexPassed q → Looks asked (parts_of (record old { registers = q }) was Looking)
+  passed_looks q k aimed held sighted =
+      let keeps = rw sighted at (sight_keeps old.cache.image.geometry (track_of (own_slot old)) old.opened old.registers x.arm) in
+      stays_looks q Looking held keeps refl (record { transfers = x.work.transfers; credit = rw aimed tt; no_credit = keeps.credit ∙ x.work.no_credit }) (rw sighted (and-false (is_written_by was))) (rw sighted refl)
+
+  -- it finds none
+  pub missed_looks : (q : Registers) → old.cache.held ≡ Some (own_track old) → sees old.opened ≡ Missed q → Looks asked (parts_of (record old { registers = q }) was Failed)
+  missed_looks q held sighted =
+      let keeps = rw sighted at (sight_keeps old.cache.image.geometry (track_of (own_slot old)) old.opened old.registers x.arm) in
+      stays_looks q Failed held keeps refl (no_credit old.cache q (own_track (record old { registers = q })) (keeps.credit ∙ x.work.no_credit)) (rw sighted (and-false (is_written_by was))) (rw sighted refl)
+
+  -- It goes on at the next head.
+  pub next_looks : (new : HalfDone) (now : Mark) (q : Registers) (k : Kind) → aim old.opened.command ≡ Next k → sees old.opened ≡ NextHead q → Leaves old new now q → Looks asked (parts_of new now Looking)
+  next_looks new now q k aimed sighted l =
+      let keeps = rw sighted at (sight_keeps old.cache.image.geometry (track_of (own_slot old)) old.opened old.registers x.arm) in
+      rw (l.0, l.1)
+      (comes_saved _ _ asked (record old { cache = after_save old.cache; registers = q; passed = [] }) Looking _ x refl (rw sighted (and-true (is_written_by was))) refl refl keeps.0
+      (record { transfers = x.work.transfers; credit = rw aimed tt; no_credit = keeps.1 ∙ x.work.no_credit }) (rw (sighted, geometry_saved old.cache) refl))
+
+  -- The track can't be saved that it goes on from.
+  pub lost_looks : (new : HalfDone) (now : Mark) (q : Registers) → sees old.opened ≡ NextHead q → Loses old new now → Looks asked (parts_of new now Failed)
+  lost_looks new now q sighted l =
+      let after : HalfDone = record old { cache = after_failed_save old.cache l.left; registers = lost_registers old.registers; passed = [] } in
+      let drive = state_of (parts_of after Lost Failed) in
+      let s = save_lost asked old new now drive x refl refl l refl in
+      rw (l.job, l.mark_is) (record {
+        stands = lost_stands asked l.left after Failed x l.size refl refl refl refl tt;
+        state = rw (s.fault, sighted, s.written, s.held, s.whole) refl;
+        calls = calls_of_failed_save _ _ old.cache l.left (state_of asked) drive refl refl (changed_is asked x refl ∙ rw sighted (sym (and-true (is_written_by was)))) l.changed;
+        at_hand = λ e. absurd (no_more old.cache.image.loads e);
+      })
+
+  -- Its track can't be loaded; what is written is at hand.
+  not_written : holds old.cache.held (own_track old) ≡ false → is_written_by was ≡ false
+  not_written not = sym (changed_is asked x refl) ∙ false_from_ne_true old.cache.changed (λ e. no_other old.cache (own_track old) (x.anchored e) not)
+
+  pub unloaded_looks : (c' : CacheState) (r' : Registers) (k : Kind) → aim old.opened.command ≡ Next k → holds old.cache.held (own_track old) ≡ false → c' ≡ after_failed_hold old.cache → r' ≡ with_cause old.registers STORE_FAULT
+      → Looks asked (parts_of (record old { cache = c'; registers = r' }) was Failed)
+  unloaded_looks c' r' k aimed not e f =
+      let c = old.cache in
+      let drive = state_of (parts_of (record old { cache = after_failed_hold c; registers = with_cause old.registers STORE_FAULT; passed = [] }) was Failed) in
+      let met : fault_met (state_of asked) drive ≡ Some LoadFails = fault_loading (state_of asked) drive refl refl in
+      rw (e, f) (record {
+        stands = record {
+          volume = volume_not_held c x.volume;
+          arm = record { cylinder = x.arm.cylinder; head = x.arm.head };
+          anchored = λ t. absurd (no_other c (own_track old) (x.anchored t) not);
+          marked = x.marked;
+          work = rw x.work.no_credit tt;
+        };
+        state = rw (met, aimed) refl;
+        calls = calls_of_failed_hold _ _ c (state_of asked) drive refl refl (rw aimed refl) (rw (not_written not) refl);
+        at_hand = λ _. not_written not;
+      })
+
+  -- Its track was at hand, or was loaded first.
+  loaded_looks : (b : Bool) (k : Kind) (now : Parts) (held : Option ℕ) → (b ≡ false → is_written_by was ≡ false) → aim old.opened.command ≡ Next k → now.job.cache.image.loads ≡ (loaded old.cache.image b).loads
+      → Looks (parts_of (record old { cache = record old.cache { image = loaded old.cache.image b; held = held } }) was Looking) now → Looks asked now
+  loaded_looks true k now held clean aimed e l = record { stands = l.stands; state = l.state; calls = l.calls; at_hand = l.at_hand }
+  loaded_looks false k now held clean aimed e l =
+      let unwritten : is_written_by was ≡ false = clean refl in
+      let d = state_of asked in
+      let new = state_of (parts_of (record now.job { passed = [] }) now.mark now.stage) in
+      record {
+        stands = l.stands;
+        state = l.state ∙ sighted_with (look_by (fault_met d new) (record { opened = old.opened; state = d.state })) d now.job.cache.image (loaded old.cache.image false);
+        calls = calls_behind_load _ _ d (with_image d (loaded old.cache.image false)) new refl (rw aimed refl) (rw unwritten refl) e l.calls;
+        at_hand = λ _. unwritten;
+      }
+
+  -- the look of a drive that holds the track now is that of the drive that was asked
+  pub held_looks : (c : CacheState) (k : Kind) (now : Parts) → aim old.opened.command ≡ Next k → c ≡ after_hold old.cache (own_track old) → now.job.cache.image.loads ≡ c.image.loads
+      → Looks (parts_of (record old { cache = c }) was Looking) now → Looks asked now
+  held_looks c k now aimed held loads l = loaded_looks (holds old.cache.held (own_track old)) k now (Some (own_track old)) not_written aimed (rw held at loads) (rw held at l)
 
 -- The drive that was called, once no byte has passed.
 pub has_looked : (old now : Parts) (passed : List ℕ) (d : DriveState) → state_of old ≡ d → passed ≡ [] → Looks old now

@@ -11,7 +11,7 @@ use Rattle.ckd_command.specs.Answers as command_answer
 use Rattle.ckd_command.specs.declared.close.DriveEnding.{DriveEnding}
 use Rattle.ckd_command.specs.Tables.{aim}
 use Rattle.ckd_command.specs.Commands.{Closing, beginning, sight, closing}
-use Rattle.ckd_command.specs.Drive.{State, Fault, LoadFails, SaveFails, Rejected, Closed, begin, begun, looked, look_for, closed, with_registers, is_written, track_under, tells_equipment_check, unsaved, lost, failed, closed_by}
+use Rattle.ckd_command.specs.Drive.{State, Fault, LoadFails, SaveFails, Closed, begin, begun, looked, look_for, closed, with_registers, is_written, track_under, tells_equipment_check, unsaved, lost, failed, closed_by}
 use Rattle.ckd_command.proofs.CommandFacts.{NotTold, BeginsSilent, SightSilent, closing_facts, beginning_silent, sight_silent, store_fault_is_told}
 use Rattle.ckd_drive.specs.declared.answers.Begun.{Begun}
 use Rattle.ckd_drive.specs.declared.answers.Begun.TheVariants as answer

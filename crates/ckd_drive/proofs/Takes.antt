@@ -1,5 +1,5 @@
 -- Bytes that are taken.
-use Rattle.std.proofs.Common.{rules, ◌≡◌, ◌∙◌, ap, sym, refl, ℕ, ◌+◌, ◌-◌, ◌≤◌, List, [], ◌∷◌, ◌++◌, length, take, drop, slice_range, length-append, length-take, append_assoc, arith, Bool, true, false, ◌==◌, nat_lt, if◌then◌else◌, None, bytes_eq}
+use Rattle.std.proofs.Common.{rules, ◌≡◌, ◌∙◌, ap, sym, refl, ℕ, ◌+◌, ◌-◌, ◌≤◌, List, [], ◌∷◌, ◌++◌, length, take, drop, slice_range, length-append, length-take, append_assoc, arith, Bool, true, false, ◌==◌, nat_lt, None, bytes_eq}
 use Rattle.std.specs.Ordering.{nat_cmp, ordering_then}
 use Rattle.std.specs.declared.cmp.Ordering.{Ordering}
 use Rattle.std.specs.declared.cmp.Ordering.TheVariants as order
@@ -76,16 +76,13 @@ unwritten_field r b size c le h =
     let P : Closing → Type 0 = λ k. k.written ≡ None in
     cond_both (length b == 0) _ _ P (λ _. refl) (λ _. cond_both (nat_lt (length b) size) _ _ P (λ _. refl) (λ long. h (grind (arith, nat_tests))))
 
-seeks_unwritten : (a : Bool) (x y : Closing) → x.written ≡ None → y.written ≡ None → (if a then x else y).written ≡ None
-seeks_unwritten a x y p q = cond_both a x y (λ k. k.written ≡ None) (λ _. p) (λ _. q)
-
 format_wants : (g : Geometry) (t : Sighted) (o : Opened) (r : Registers) (b : List ℕ) (short : Bool) → nat_lt (length b) 8 ≡ short → length b ≤ 8 → ChangesNothing action.Format g t o r b → length_for action.Format g t o r b ≡ 8
 format_wants g t o r b true e le n = rw e refl
 format_wants g t o r b false e le n = (let own = n (grind (arith, nat_tests)) in rw (e, own) refl)
 
 pub field_unwritten : (a : Action) (g : Geometry) (t : Sighted) (o : Opened) (r : Registers) (b : List ℕ) → IsField a → length b ≤ field_size a → ChangesNothing a g t o r b → (close_by a g t o r b).written ≡ None
-field_unwritten action.SeekCylinderAndHead g t o r b f le n = unwritten_field r b 6 _ le (λ _. seeks_unwritten _ _ _ refl refl)
-field_unwritten action.SeekHead g t o r b f le n = unwritten_field r b 6 _ le (λ _. seeks_unwritten _ _ _ refl refl)
+field_unwritten action.SeekCylinderAndHead g t o r b f le n = unwritten_field r b 6 _ le (λ _. cond_both _ _ _ (λ (k : Closing). k.written ≡ None) (λ _. refl) (λ _. refl))
+field_unwritten action.SeekHead g t o r b f le n = unwritten_field r b 6 _ le (λ _. cond_both _ _ _ (λ (k : Closing). k.written ≡ None) (λ _. refl) (λ _. refl))
 field_unwritten action.SetFileMask g t o r [] f le n = refl
 field_unwritten action.SetFileMask g t o r (x ∷ b) f le n = refl
 field_unwritten action.WriteHomeAddress g t o r b f le n = unwritten_field (at_end o r) b 5 (write_home_address o r b) le (λ five. (let own = n five in rw own refl))

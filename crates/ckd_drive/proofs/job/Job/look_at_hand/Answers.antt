@@ -31,24 +31,24 @@ returns-in-Found g c =
     let ready = rw c.look_at.ensures.stays at p.ensures.ready in
     let stays = rw c.in-Found.is at c.look_at.ensures.registers in
     rw (c.look_at.ensures.stays, stays)
-    record { looks = found_looks old c.args.mark.now _ p.new.progress p.result c.requires.stands (rw x.slot_is at placed) (λ _. record { held = c.requires.held; whole = x.whole }) x.again x.first ready p.ensures.passing; loads = refl }
+    record { looks = found_looks old c.args.mark.now c.requires.stands _ p.new.progress p.result (rw x.slot_is at placed) (λ _. record { held = c.requires.held; whole = x.whole }) x.again x.first ready p.ensures.passing; loads = refl }
 
 pub returns-in-IndexPassed : goal.returns-in-IndexPassed
 returns-in-IndexPassed g c =
     rw c.look_at.ensures.stays
-    record { looks = passed_looks (half_done c.args.self.now) c.args.mark.now c.look_at.new.self.registers c.args.kind c.requires.stands c.requires.aim c.requires.held (sym (rw c.in-IndexPassed.is at c.look_at.ensures.seen_is)); loads = refl }
+    record { looks = passed_looks _ c.args.mark.now c.requires.stands c.look_at.new.self.registers c.args.kind c.requires.aim c.requires.held (sym (rw c.in-IndexPassed.is at c.look_at.ensures.seen_is)); loads = refl }
 
 pub returns-in-Missed : goal.returns-in-Missed
 returns-in-Missed g c =
     rw c.look_at.ensures.stays
-    record { looks = missed_looks (half_done c.args.self.now) c.args.mark.now c.look_at.new.self.registers c.requires.stands c.requires.held (sym (rw c.in-Missed.is at c.look_at.ensures.seen_is)); loads = refl }
+    record { looks = missed_looks _ c.args.mark.now c.requires.stands c.look_at.new.self.registers c.requires.held (sym (rw c.in-Missed.is at c.look_at.ensures.seen_is)); loads = refl }
 
 pub returns-in-Ok : goal.returns-in-Ok
 returns-in-Ok g c =
     let q = c.look_at.new.self.registers in
     let left : Leaves (half_done c.args.self.now) (half_done c.leave.new.self) c.leave.new.mark (moved_to q q.cylinder (q.head + 1)) = rw c.look_at.ensures.stays at c.in-Ok.ensures.leaves in
     record {
-      looks = next_looks _ _ c.args.mark.now _ _ c.args.kind c.requires.stands c.requires.aim (sym (rw c.in-NextHead.is at c.look_at.ensures.seen_is)) left;
+      looks = next_looks _ c.args.mark.now c.requires.stands _ _ _ c.args.kind c.requires.aim (sym (rw c.in-NextHead.is at c.look_at.ensures.seen_is)) left;
       loads = ap (λ (h : HalfDone). h.cache.image.loads) left.0 ∙ loads_saved c.args.self.now.cache;
     }
 
@@ -56,4 +56,4 @@ pub returns-in-Err : goal.returns-in-Err
 returns-in-Err g c =
     let stays = rw c.in-NextHead.is at c.look_at.ensures.registers in
     let lost : Loses (half_done c.args.self.now) (half_done c.leave.new.self) c.leave.new.mark = rw (c.look_at.ensures.stays, stays) at c.in-Err.ensures.loses in
-    record { looks = lost_looks _ _ c.args.mark.now _ _ c.requires.stands (sym (rw c.in-NextHead.is at c.look_at.ensures.seen_is)) lost; loads = ap (λ (h : HalfDone). h.cache.image.loads) lost.job }
+    record { looks = lost_looks _ c.args.mark.now c.requires.stands _ _ _ (sym (rw c.in-NextHead.is at c.look_at.ensures.seen_is)) lost; loads = ap (λ (h : HalfDone). h.cache.image.loads) lost.job }
