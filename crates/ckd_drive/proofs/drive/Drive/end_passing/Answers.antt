@@ -48,10 +48,10 @@ moved g c =
     let e : Closes made u = record { stands = f.stands; passes = passes; made = f.made; out = c.in-Moves.ensures.closes } in
     let E : DriveState → Type 0 = λ now. Ended now (parts_of new c.leave.new.mark Idle) c.match-leave.result in
     subst E (f.state ∙ c.self.view_is) (elim c.match-leave.branch [
-      | in-Ok w ↦ (let l : Leaves made.job new c.leave.new.mark u.registers = rw k.ensures.stays at w.in-Ok.ensures.leaves in rw w.result-is (leaves_ends new c.leave.new.mark e refl l))
+      | in-Ok w ↦ (let l : Leaves made.job new c.leave.new.mark u.registers = rw k.ensures.stays at w.in-Ok.ensures.leaves in rw w.result-is (leaves_ends e new c.leave.new.mark refl l))
       | in-Err w ↦
           (let l : Loses made.job new c.leave.new.mark = rw (k.ensures.stays, c.in-Moves.ensures.registers) at w.in-Err.ensures.loses in
-          rw w.result-is (lost_ends new c.leave.new.mark e refl l))
+          rw w.result-is (lost_ends e new c.leave.new.mark refl l))
     ])
 
 pub invariant_of-self-in-Moves : goal.invariant_of-self-in-Moves
