@@ -18,7 +18,7 @@ use Rattle.ckd_command.specs.Answers.{CommandEnd}
 use Rattle.ckd_slot.specs.declared.windows.Window.{Window}
 use Rattle.ckd_drive.specs.declared.transfer.Transfer.{Transfer}
 use Rattle.ckd_drive.specs.declared.transfer.Transfer.TheVariants.{Field, Search, Due, Filled}
-use Rattle.ckd_drive.specs.declared.answers.Stage.TheVariants.{Idle, Passing}
+use Rattle.ckd_drive.specs.declared.answers.Stage.TheVariants.{Idle}
 use Rattle.ckd_command.specs.Tables.{action_of}
 use Rattle.ckd_position.specs.Contents.{Sighted}
 use Rattle.ckd_command.specs.Commands.{Closing, IsAtTrack, area_bytes, closing, close_by, command_end, search_ends, own_home_address, new_record_fits, number as number_of, whole_field, at_end}
@@ -32,6 +32,7 @@ use Rattle.ckd_drive.specs.Work.{DriveState, CallsStore, closed_of, ending_of, a
 use Rattle.ckd_drive.proofs.Calls.{changed_is, calls_none, calls_of_save, calls_of_failed_save, fault_none, lost_registers, save_lost}
 use Rattle.ckd_drive.specs.Calls.{Ends, Leaves, Loses}
 use Rattle.ckd_drive.proofs.Reported.{end_reports}
+use Rattle.ckd_drive.proofs.Moving.{Finished}
 use Rattle.ckd_drive.proofs.Standing.{no_credit, geometry_saved, failures_saved, saved_stands, lost_stands, seen_track, goes_of, no_filled_seen, number_there}
 use Rattle.ckd_command.proofs.Closings.{closing_by}
 use Rattle.ckd_command.proofs.Arms.{AtSameTrack, closing_at}
@@ -103,11 +104,10 @@ staying job m (Filled w v) u made lt x out = (let there = written_there job w v 
 staying job m (Due w number count) u made lt x out = absurd cc
 staying job m p u made lt x out = rw (unwritten_is job p made x refl, ← out) refl
 
--- A drive stands while the bytes of a command pass, which would close so; a record that was due is made.
-pub record Closes (d : Parts) (u : CommandEnd) : Type 0 where
-  pub stands : Stands d
-  pub passes : d.stage ≡ Passing
-  pub made : is_due d.job.progress.place ≡ false
+-- A drive that is so for those who call it stands while the bytes of a command pass, which would close so; a record that was
+-- due is made.
+pub record Closes (d : Parts) (now : DriveState) (u : CommandEnd) : Type 0 where
+  pub drive : Finished d now d.job
   pub out : u ≡ command_end_at d.job.cache.image.geometry d.job.registers d.job.opened d.job.progress.moved d.job.progress.place
 
 -- Where the arm is then, and the credit.
@@ -186,9 +186,9 @@ ended : (now : DriveState) (after : Parts) (ending : DriveEnding) → Stands aft
     → ending ≡ ending_of (closed_of (fault_met now (state_of after)) now now.work) → CallsStore false (end_saves now) now (state_of after) → Ended now after ending
 ended now after ending stands state says calls = record { stands = stands; ends = record { state = state; ends = says; calls = calls; reported = end_reports now (state_of after) ending state says calls } }
 
-module _ {d : Parts} {u : CommandEnd} (e : Closes d u) where
+module _ {d : Parts} {now : DriveState} {u : CommandEnd} (e : Closes d now u) where
   goes : Goes d.job
-  goes = goes_of d e.stands e.passes
+  goes = goes_of d e.drive.stands e.drive.passes
 
   -- how the command closes by the definitions, and by the track as they see it
   abbrev closing_seen : Closing
@@ -196,17 +196,17 @@ module _ {d : Parts} {u : CommandEnd} (e : Closes d u) where
 
   -- it is the same
   closes_so : command_end closing_seen ≡ u
-  closes_so = command_end_is (at_work d.job) d.job.progress.place d.job.progress.moved e.made (number_there d e.stands) goes.placed goes.moved ∙ sym e.out
+  closes_so = command_end_is (at_work d.job) d.job.progress.place d.job.progress.moved e.drive.made (number_there d e.drive.stands) goes.placed goes.moved ∙ sym e.out
 
   off_so : closing_seen.moves_off ≡ u.moves_off
   off_so = ap (λ (y : CommandEnd). y.moves_off) closes_so
 
   -- which saving the definitions see at the end
   saves_at_end : end_saves (state_of d) ≡ (is_written_by d.mark && u.moves_off)
-  saves_at_end = rw (e.passes, off_so) refl
+  saves_at_end = rw (e.drive.passes, off_so) refl
 
   lands_so : Lands d.job.cache d.job.cache.image.geometry (own_track d.job) u
-  lands_so = rw e.out (lands (at_work d.job) d.job.progress.place d.job.progress.moved goes.placed goes.no_credit e.stands.arm)
+  lands_so = rw e.out (lands (at_work d.job) d.job.progress.place d.job.progress.moved goes.placed goes.no_credit e.drive.stands.arm)
 
   arm_stays : u.moves_off ≡ false → AtSameTrack d.job.registers u.registers
   arm_stays off = elim (closing_at d.job.cache.image.geometry (seen_track (at_work d.job) d.job.progress.place) d.job.opened d.job.registers d.job.passed) [
@@ -218,24 +218,24 @@ module _ {d : Parts} {u : CommandEnd} (e : Closes d u) where
   unfilled moves = moving_unfilled (at_work d.job) d.job.progress.place d.job.progress.moved (ap (λ (y : CommandEnd). y.moves_off) (sym e.out) ∙ moves)
 
   -- the arm stays
-  pub stays_ends : u.moves_off ≡ false → Ended (state_of d) (parts_of (record d.job { registers = u.registers }) (mark_left d.job.progress.place d.mark) Idle) u.ending
+  pub stays_ends : u.moves_off ≡ false → Ended now (parts_of (record d.job { registers = u.registers }) (mark_left d.job.progress.place d.mark) Idle) u.ending
   stays_ends off =
       let after : Parts = parts_of (record d.job { registers = u.registers }) (mark_left d.job.progress.place d.mark) Idle in
       let none : fault_met (state_of d) (state_of after) ≡ None = fault_none (state_of d) (state_of after) refl in
       let stays : closing_seen.moves_off ≡ false = off_so ∙ off in
       let closed : closed_of None (state_of d) (state_of d).work ≡ record { state = (state_of after).state; unit = u.ending.unit; motion = u.ending.motion } =
-      rw (e.passes, stays) (staying (at_work d.job) d.mark d.job.progress.place u e.made (number_there d e.stands) goes.placed closes_so) in
+      rw (e.drive.passes, stays) (staying (at_work d.job) d.mark d.job.progress.place u e.drive.made (number_there d e.drive.stands) goes.placed closes_so) in
       let k = arm_stays off in
       let same : track_under d.job.cache.image.geometry u.registers ≡ own_track d.job = rw (k.cylinder, k.head) refl in
-      ended (state_of d) after u.ending
+      rw (← e.drive.state) (ended (state_of d) after u.ending
       (record {
-        volume = e.stands.volume;
-        arm = record { cylinder = rw k.cylinder e.stands.arm.cylinder; head = rw k.head e.stands.arm.head };
-        anchored = rw same e.stands.anchored;
-        marked = marks d.job.progress.place d.mark d.job.cache.changed (rw e.passes at e.stands.marked);
+        volume = e.drive.stands.volume;
+        arm = record { cylinder = rw k.cylinder e.drive.stands.arm.cylinder; head = rw k.head e.drive.stands.arm.head };
+        anchored = rw same e.drive.stands.anchored;
+        marked = marks d.job.progress.place d.mark d.job.cache.changed (rw e.drive.passes at e.drive.stands.marked);
         work = rw same (lands_so.stays off);
       })
-      (rw (none, closed) refl) (rw (none, closed) refl) (calls_none _ _ (state_of d) (state_of after) refl (saves_at_end ∙ rw off (and-false (is_written_by d.mark))))
+      (rw (none, closed) refl) (rw (none, closed) refl) (calls_none _ _ (state_of d) (state_of after) refl (saves_at_end ∙ rw off (and-false (is_written_by d.mark)))))
     where
       marks : (q : Transfer) (m : Mark) (b : Bool) → b ≡ (is_written_by m || is_filled_by q) → b ≡ (is_written_by (mark_left q m) || false)
       marks (Filled w u) Saved b e = e
@@ -245,11 +245,11 @@ module _ {d : Parts} {u : CommandEnd} (e : Closes d u) where
   moves_so : (moves : u.moves_off ≡ true) → (closing_seen.moves_off ≡ true) × (is_filled d.stage d.job ≡ false) × (seen_by d.job.cache.slots (own_track d.job) d.job.before d.job.progress.place ≡ d.job.cache.slots)
       × (d.job.cache.changed ≡ end_saves (state_of d))
   moves_so moves =
-      let plain : is_filled d.stage d.job ≡ false = rw e.passes (unfilled moves) in
-      (off_so ∙ moves, plain, no_filled_seen d.job.cache.slots (own_track d.job) d.job.before d.job.progress.place (unfilled moves), changed_is d e.stands plain ∙ sym (saves_at_end ∙ rw moves (and-true (is_written_by d.mark))))
+      let plain : is_filled d.stage d.job ≡ false = rw e.drive.passes (unfilled moves) in
+      (off_so ∙ moves, plain, no_filled_seen d.job.cache.slots (own_track d.job) d.job.before d.job.progress.place (unfilled moves), changed_is d e.drive.stands plain ∙ sym (saves_at_end ∙ rw moves (and-true (is_written_by d.mark))))
 
   -- the track that it leaves is saved
-  pub leaves_ends : (new : HalfDone) (m : Mark) → u.moves_off ≡ true → Leaves d.job new m u.registers → Ended (state_of d) (parts_of new m Idle) u.ending
+  pub leaves_ends : (new : HalfDone) (m : Mark) → u.moves_off ≡ true → Leaves d.job new m u.registers → Ended now (parts_of new m Idle) u.ending
   leaves_ends new m moves l =
       let c = d.job.cache in
       let k = moves_so moves in
@@ -257,22 +257,22 @@ module _ {d : Parts} {u : CommandEnd} (e : Closes d u) where
       let after : Parts = parts_of (record d.job { cache = after_save c; registers = u.registers }) Saved Idle in
       let none : fault_met (state_of d) (state_of after) ≡ None = fault_none (state_of d) (state_of after) (failures_saved c) in
       let closed : closed_of None (state_of d) (state_of d).work ≡ record { state = record { volume = record { geometry = c.image.geometry; slots = c.slots }; registers = u.registers; mark = Saved }; unit = u.ending.unit; motion = u.ending.motion } =
-      rw (e.passes, k.0, ← closes_so, k.2) refl in
-      rw (l.0, l.1)
+      rw (e.drive.passes, k.0, ← closes_so, k.2) refl in
+      rw (← e.drive.state, l.0, l.1)
       (ended (state_of d) after u.ending
-      (saved_stands d after.job Idle e.stands refl refl at.0 (no_credit (after_save c) u.registers (own_track after.job) at.1))
+      (saved_stands d after.job Idle e.drive.stands refl refl at.0 (no_credit (after_save c) u.registers (own_track after.job) at.1))
       (rw (none, closed, geometry_saved c) refl) (rw (none, closed) refl) (calls_of_save _ _ c (state_of d) (state_of after) refl refl k.3))
 
   -- that track can't be saved
-  pub lost_ends : (new : HalfDone) (m : Mark) → u.moves_off ≡ true → Loses d.job new m → Ended (state_of d) (parts_of new m Idle) failed_ending
+  pub lost_ends : (new : HalfDone) (m : Mark) → u.moves_off ≡ true → Loses d.job new m → Ended now (parts_of new m Idle) failed_ending
   lost_ends new m moves l =
       let c = d.job.cache in
       let k = moves_so moves in
       let after : Parts = parts_of (record d.job { cache = after_failed_save c l.left; registers = lost_registers d.job.registers }) Lost Idle in
-      let s = save_lost d d.job new m (state_of after) e.stands k.1 refl l refl in
+      let s = save_lost d d.job new m (state_of after) e.drive.stands k.1 refl l refl in
       let closed : closed_of (Some (SaveFails l.left)) (state_of d) (state_of d).work ≡ record { state = (state_of after).state; unit = record { 0 = 0x0E }; motion = false } =
-      rw (e.passes, k.0, k.2, s.written, s.held, s.whole) refl in
-      rw (l.job, l.mark_is)
+      rw (e.drive.passes, k.0, k.2, s.written, s.held, s.whole) refl in
+      rw (← e.drive.state, l.job, l.mark_is)
       (ended (state_of d) after failed_ending
-      (lost_stands d l.left after.job Idle e.stands l.size refl refl refl refl tt)
+      (lost_stands d l.left after.job Idle e.drive.stands l.size refl refl refl refl tt)
       (rw (s.fault, closed) refl) (rw (s.fault, closed) refl) (calls_of_failed_save _ _ c l.left (state_of d) (state_of after) refl refl k.3 l.changed))

@@ -16,11 +16,11 @@ use Rattle.ckd_command.specs.Commands.{Closing, area_bytes, command_end}
 use Rattle.ckd_slot.specs.Buffer.{Lies}
 use Rattle.ckd_slot.specs.Cache.{CacheState, IsVolume, slot_held}
 use Rattle.ckd_drive.specs.Work as work
-use Rattle.ckd_drive.specs.Work.{DriveState, gives_now, left_of, given_now, passed_of, moved_on}
+use Rattle.ckd_drive.specs.Work.{DriveState, gives_now, left_of, given_now, passed_of, moved_on, passes_now}
 use Rattle.ckd_drive.specs.Invariant.{Stands, IsPlaced, IsField, ClosesUnwritten, remaining, given_on, state_of, slot_at, is_filled_by, Parts, AtWork, closing_in, HalfDone, Works, Absorbs, own_slot, own_track, action_now, area_in, seen_with, with_taken, with_place, Finishes, is_due, at_work, parts_of}
 use Rattle.ckd_command.proofs.Closings.{area_by, closing_by, sense_closes as closes_sense, sense_length}
 use Rattle.ckd_command.proofs.Lengths.{length_by}
-use Rattle.ckd_drive.proofs.Standing.{goes_of, slot_is}
+use Rattle.ckd_drive.proofs.Standing.{goes_of, slot_is, passing_in}
 use Rattle.std.proofs.Math.Bool.{or-false}
 use Rattle.ckd_command.specs.Drive.{is_written_by}
 
@@ -130,15 +130,20 @@ pub taken_state : {d : Parts} {more : List ℕ} {c : CacheState} {before : List 
 taken_state now is now_is a = rw (← now_is, is, a.image, a.seen_same) refl
 
 -- A command once a record that was due is made: its drive is as it was for those who call it.
-pub record Finished (d : Parts) (h : HalfDone) : Type 0 where
+pub record Finished (d : Parts) (now : DriveState) (h : HalfDone) : Type 0 where
   pub stands : Stands (parts_of h d.mark d.stage)
-  pub state : state_of (parts_of h d.mark d.stage) ≡ state_of d
+  pub passes : d.stage ≡ Passing
+  pub state : state_of (parts_of h d.mark d.stage) ≡ now
   pub made : is_due h.progress.place ≡ false
 
-pub finished : (d : Parts) (c : CacheState) (before : List ℕ) (place : Transfer) → Stands d → d.stage ≡ Passing → Finishes d.job d.job.progress.place c before place → Finished d (with_place d.job c before place)
-finished d c before place x is f = by_place d.job.progress.place refl f
+pub finished : (d : Parts) (now : DriveState) (c : CacheState) (before : List ℕ) (place : Transfer) → Stands d → state_of d ≡ now → passes_now now.work ≡ true → Finishes d.job d.job.progress.place c before place
+    → Finished d now (with_place d.job c before place)
+finished d now c before place x now_is passing f = by_place d.job.progress.place refl f
   where
-    by_place : (p : Transfer) → d.job.progress.place ≡ p → Finishes d.job p c before place → Finished d (with_place d.job c before place)
+    is : d.stage ≡ Passing
+    is = passing_in d now now_is passing
+
+    by_place : (p : Transfer) → d.job.progress.place ≡ p → Finishes d.job p c before place → Finished d now (with_place d.job c before place)
     by_place (Due w number count) at k =
         let a = k.0 in
         let job = d.job in
@@ -147,10 +152,10 @@ finished d c before place x is f = by_place d.job.progress.place refl f
         let moved : job.progress.moved + 0 ≡ job.progress.moved = omega arith in
         let left : job.progress.left - 0 ≡ job.progress.left = omega arith in
         let same : with_taken job [] c before place ≡ with_place job c before place = rw (nothing, moved, left) refl in
-        record { stands = rw is (subst S same (taken_stands x is a)); state = rw (is, a.image, a.seen_same) refl; made = k.1 }
+        record { stands = rw is (subst S same (taken_stands x is a)); passes = is; state = rw (← now_is, is, a.image, a.seen_same) refl; made = k.1 }
     by_place p at k =
-        let F : Transfer → Type 0 = λ q. Finished d (with_place d.job d.job.cache d.job.before q) in
-        rw (k.0, k.1, k.2) (subst F at (record { stands = x; state = refl; made = rw at refl }))
+        let F : Transfer → Type 0 = λ q. Finished d now (with_place d.job d.job.cache d.job.before q) in
+        rw (k.0, k.1, k.2) (subst F at (record { stands = x; passes = is; state = now_is; made = rw at refl }))
 
 -- Bytes that are given.
 
