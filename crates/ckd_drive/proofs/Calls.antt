@@ -42,7 +42,7 @@ save_by loads false old new c slots e f = calls_none loads false old new (f ∙ 
 pub calls_of_save : (loads saves : Bool) (c : CacheState) (old new : DriveState) → old.image ≡ c.image → new.image ≡ (after_save c).image → c.changed ≡ saves → CallsStore loads saves old new
 calls_of_save loads saves c old new e f s = rw (← s) (save_by loads c.changed old new c c.slots e f)
 
--- its saving fails
+-- its saving fails: by each thing that the calls tell of it
 pub calls_of_failed_save : (loads saves : Bool) (c : CacheState) (left : List ℕ) (old new : DriveState) → old.image ≡ c.image → new.image ≡ (after_failed_save c left).image → c.changed ≡ saves → c.changed ≡ true → CallsStore loads saves old new
 calls_of_failed_save loads saves c left old new e f s changed =
     let saves_is : saves ≡ true = sym s ∙ changed in
@@ -107,7 +107,7 @@ pub record SaveLost (d : Parts) (left : List ℕ) (new : DriveState) : Type 0 wh
   pub whole : overwritten (own_slot d.job) 0 left ≡ left
   pub fault : fault_met (state_of d) new ≡ Some (SaveFails left)
 
--- whatever the registers were as it was left
+-- Whatever the registers were as it was left. Its premises are many, since four calls come here.
 pub save_lost : (d : Parts) (h h' : HalfDone) (m : Mark) (new : DriveState) → Stands d → is_filled d.stage d.job ≡ false → h.cache ≡ d.job.cache → (l : Loses h h' m) → new.image ≡ (after_failed_save d.job.cache l.left).image → SaveLost d l.left new
 save_lost d h h' m new x f same l image =
     let c = d.job.cache in
@@ -125,7 +125,8 @@ save_lost d h h' m new x f same l image =
       fault = fault_saving (state_of d) new (ap (λ (i : ImageState). i.failures) image) (ap (λ (i : ImageState). i.saves) image) ∙ rw (image, held, left_is) refl;
     }
 
--- What a part of a call comes to that saves the track, if it was written, and meets no fault.
+-- What a part of a call comes to that saves the track, if it was written, and meets no fault. Its premises are many, since a look
+-- and two ways of beginning come here, each by facts of its own.
 pub comes_saved : (loads saves : Bool) (d : Parts) (h : HalfDone) (s : Stage) (after : Option Fault → DriveState)
     → Stands d → is_filled d.stage d.job ≡ false → saves ≡ is_written_by d.mark → h.cache ≡ after_save d.job.cache → is_filled s h ≡ false → IsAtTrack d.job.cache.image.geometry h.registers → StageIs s h
     → state_of (parts_of h Saved s) ≡ with_image (after None) h.cache.image → Comes loads saves (state_of d) after (parts_of h Saved s)

@@ -24,7 +24,7 @@ use Rattle.ckd_position.specs.Contents.{Sighted}
 use Rattle.ckd_command.specs.Commands.{Closing, IsAtTrack, area_bytes, closing, close_by, command_end, search_ends, own_home_address, new_record_fits, number as number_of, whole_field, at_end}
 use Rattle.ckd_slot.specs.Cache.{CacheState, after_save, after_failed_save}
 use Rattle.ckd_drive.specs.Invariant.{Stands, mark_left, HasFilled, state_of, IsPlaced, IsField, CreditIs, AtHand, command_end_at, field_ends, seen_by, track_under, is_filled, is_filled_by, is_due, HalfDone, Parts, parts_of, own_track, AtWork, at_work, geometry_in, number_in, slot_in, closing_in, closes_by, Goes}
-use Rattle.ckd_command.specs.Drive.{closed_staying, SaveFails, is_written_by}
+use Rattle.ckd_command.specs.Drive.{State, closed_staying, SaveFails, is_written_by}
 use Rattle.ckd_command.specs.declared.close.DriveEnding.{DriveEnding}
 use Rattle.ckd_drive.specs.declared.transfer.Written.{Written}
 use Rattle.ckd_drive.specs.declared.transfer.Written.TheVariants as written
@@ -256,7 +256,8 @@ module _ {d : Parts} {now : DriveState} {u : CommandEnd} (e : Closes d now u) wh
       let at = lands_so.moves moves in
       let after : Parts = parts_of (record d.job { cache = after_save c; registers = u.registers }) Saved Idle in
       let none : fault_met (state_of d) (state_of after) ≡ None = fault_none (state_of d) (state_of after) (failures_saved c) in
-      let closed : closed_of None (state_of d) (state_of d).work ≡ record { state = record { volume = record { geometry = c.image.geometry; slots = c.slots }; registers = u.registers; mark = Saved }; unit = u.ending.unit; motion = u.ending.motion } =
+      let left : State = record { volume = record { geometry = c.image.geometry; slots = c.slots }; registers = u.registers; mark = Saved } in
+      let closed : closed_of None (state_of d) (state_of d).work ≡ record { state = left; unit = u.ending.unit; motion = u.ending.motion } =
       rw (e.drive.passes, k.0, ← closes_so, k.2) refl in
       rw (← e.drive.state, l.0, l.1)
       (ended (state_of d) after u.ending

@@ -78,7 +78,7 @@ window_moves half more w v l room begins le =
 
 -- Bytes that pass.
 
--- the track stays as it is-- the track stays as it is
+-- the track stays as it is-- the track stays as it is: by all that the bytes come to, since each place of them comes here
 pub absorbs_plain : (half : HalfDone) (more : List ℕ) (place' : Transfer)
     → Works half → is_filled_by half.progress.place ≡ false → is_filled_by place' ≡ false
     → seen_with half half.before place' ≡ seen_with half half.before half.progress.place
@@ -227,31 +227,28 @@ sense_lends d b now x is at now_is =
     let h = (rw at at goes.placed).0 in
     let left : p.left ≤ 6 - length d.job.passed = rw at at goes.left in
     let long : length b ≡ 6 = ap length h.bytes_are in
-    let size : length (slice_range b p.moved (p.moved + p.left)) ≡ p.left = omega (arith, length-take (p.moved + p.left - p.moved) (drop p.moved b), length-drop p.moved b, long, left, goes.moved, h.room) in
-    record {
-      size = rw (← now_is, is) size;
-      bytes_are = rw (← now_is, is, ← goes.moved, area_by action.GiveSense _ d.job.opened d.job.registers h.is_sense, h.bytes_are) refl;
-    }
+    rw (← now_is, is) (record {
+      size = omega (arith, length-take (p.moved + p.left - p.moved) (drop p.moved b), length-drop p.moved b, long, left, goes.moved, h.room);
+      bytes_are = rw (← goes.moved, area_by action.GiveSense _ d.job.opened d.job.registers h.is_sense, h.bytes_are) refl;
+    })
 
 -- the bytes of an area, by the slot as the code reads it
 pub read_lends : (d : Parts) (slot : List ℕ) (w : Window) (u : Bool) (now : DriveState)
     → Stands d → d.stage ≡ Passing → d.job.progress.place ≡ Read w u → slot ≡ slot_held d.job.cache → state_of d ≡ now → Lends now (slice_range slot w.start (w.start + d.job.progress.left))
 read_lends d slot w u now x is at here_is now_is =
     let p = d.job.progress in
-    let passed = d.job.passed in
     let old = own_slot d.job in
     let goes = goes_of d x is in
     let left : p.left ≤ w.len = rw at at goes.left in
     let h = (rw at at goes.placed).0 in
     let slot_now : slot ≡ old = slot_is d.job.cache (own_track d.job) slot h.held here_is in
     let area = area_bytes (track_of old) d.job.opened d.job.registers in
-    let here : slice_range old w.start (w.start + p.left) ≡ slice_range area (length passed) (length passed + p.left) =
-    lies_first old (drop (length passed) area) w p.left h.lies left ∙ rw (behind_less (length passed) p.left) refl in
-    let size : length (slice_range old w.start (w.start + p.left)) ≡ p.left = omega (arith, length-take (w.start + p.left - w.start) (drop w.start old), length-drop w.start old, left, h.lies.within) in
-    record {
-      size = rw (slot_now, ← now_is, is) size;
-      bytes_are = rw (slot_now, ← now_is, is, at) here;
-    }
+    let here : slice_range old w.start (w.start + p.left) ≡ slice_range area (length d.job.passed) (length d.job.passed + p.left) =
+    lies_first old (drop (length d.job.passed) area) w p.left h.lies left ∙ rw (behind_less (length d.job.passed) p.left) refl in
+    rw (slot_now, ← now_is, is) (record {
+      size = omega (arith, length-take (w.start + p.left - w.start) (drop w.start old), length-drop w.start old, left, h.lies.within);
+      bytes_are = rw at here;
+    })
 
 -- what passing so many of these bytes makes of the drive
 pub record HasPassed (d : Parts) (bytes : List ℕ) (now : DriveState) (k : ℕ) : Type 0 where
@@ -260,7 +257,7 @@ pub record HasPassed (d : Parts) (bytes : List ℕ) (now : DriveState) (k : ℕ)
   pub state : state_of (parts_of (with_taken d.job (take k bytes) d.job.cache d.job.before (given_on d.job.progress.place k)) d.mark Passing)
       ≡ record now { work = moved_on (slice_range (given_now now now.work) (length (passed_of now.work)) (length (passed_of now.work) + k)) now.work }
 
--- by the bytes that are lent, as the caller of a drive has them
+-- by the bytes that are lent, and by all that the caller of a drive has of it
 pub has_passed : (d : Parts) (bytes : List ℕ) (now : DriveState) (k : ℕ)
     → Stands d → d.stage ≡ Passing → state_of d ≡ now → gives_now now.work ≡ true → k ≤ left_of now.work
     → length bytes ≡ left_of now.work → bytes ≡ slice_range (given_now now now.work) (length (passed_of now.work)) (length (passed_of now.work) + left_of now.work)

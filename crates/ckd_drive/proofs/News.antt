@@ -22,7 +22,7 @@ use Rattle.ckd_slot.specs.Buffer.{lengths_on}
 use Rattle.ckd_slot.specs.Cache.{slot_held, with_held}
 use Rattle.ckd_drive.specs.declared.transfer.Written.{Written}
 use Rattle.ckd_drive.specs.declared.transfer.Written.TheVariants as written
-use Rattle.ckd_drive.specs.Invariant.{HalfDone, Works, Absorbs, own_track, own_slot, action_now, HasFilled, IsFilled, slot_at, track_under, is_filled_by, whole_of, AtWork, geometry_in, slot_in, action_in, at_work, with_taken, closes_by}
+use Rattle.ckd_drive.specs.Invariant.{HalfDone, Works, Absorbs, own_track, own_slot, action_now, HasFilled, IsFilled, slot_at, is_filled_by, whole_of, AtWork, geometry_in, slot_in, action_in, at_work, with_taken, closes_by}
 use Rattle.ckd_slot.proofs.Writes.{bare_fits}
 use Rattle.ckd_drive.proofs.Fills.{there, new_slot_at, written_absorbs, reads_new}
 use Rattle.ckd_command.proofs.Closings.{closing_by}
@@ -34,7 +34,7 @@ use Rattle.ckd_drive.proofs.Standing.{no_filled_seen, slot_is}
 abbrev pub new_work : HalfDone → (more new : List ℕ) → Window → Written → AtWork
 new_work half more new w what = at_work (with_taken half more (with_held half.cache new) (own_slot half) (Filled w what))
 
--- it goes on
+-- It goes on. Its premises are many, since three commands come here, each by facts of its own.
 pub newly_absorbs : (half : HalfDone) (more new : List ℕ) (w : Window) (what : Written) (le0 : length {A = ℕ} [] ≤ w.len)
     → Works half → half.cache.held ≡ Some (own_track half) → is_filled_by half.progress.place ≡ false
     → sight half.cache.image.geometry (track_of (own_slot half)) half.opened half.registers ≡ Found half.opened
@@ -45,29 +45,25 @@ pub newly_absorbs : (half : HalfDone) (more new : List ℕ) (w : Window) (what :
     → Absorbs half more (with_held half.cache new) (slot_held half.cache) (Filled w what)
 newly_absorbs half more new w what le0 x held plain again takes some left small f is =
     let c = half.cache in
+    let n = own_track half in
     let passed = half.passed in
-    let g = c.image.geometry in
-    let n : ℕ = track_under g half.registers in
-    let lt = there half x in
-    let old = slot_at c.slots n in
     let k = f.closes [] le0 in
-    let read = reads_new g.track_size k.track new k.fits is in
-    let at_new = new_slot_at c n new held lt in
+    let read = reads_new c.image.geometry.track_size k.track new k.fits is in
+    let at_new = new_slot_at c n new held (there half x) in
     let same : (passed ++ more) ++ [] ≡ passed ++ more = append-nil (passed ++ more) in
-    let made : new ≡ f.head ++ (padded (drop f.lead ((passed ++ more) ++ [])) f.room ++ f.tail) = is ∙ sym (sym k.slot_is) in
-    let made' : new ≡ f.head ++ (padded (drop f.lead (passed ++ more)) f.room ++ f.tail) = made ∙ ap (λ (b : List ℕ). f.head ++ (padded (drop f.lead b) f.room ++ f.tail)) same in
-    let wants : length_after g (track_of old) half.opened half.registers (passed ++ more) ≡ f.lead + f.room = ap (λ (b : List ℕ). length_after g (track_of old) half.opened half.registers b) (sym same) ∙ f.wants [] le0 in
+    let made : new ≡ f.head ++ (padded (drop f.lead (passed ++ more)) f.room ++ f.tail) = rw same at (is ∙ k.slot_is) in
+    let wants = rw same at (f.wants [] le0) in
     let far = length-append passed more in
     let has : HasFilled (new_work half more new w what) w what = record {
       at_hand = record { held = held; readable = rw at_new read.0 };
-      size = x.volume.sizes n [] lt;
+      size = x.volume.sizes n [] (there half x);
       filled = f;
-      slot_is = at_new ∙ made';
+      slot_is = at_new ∙ made;
       found = record { again = again; len = omega (arith, wants, f.rest, f.begins) };
       takes = takes;
       some = omega (arith, some, far);
     } in
-    rw (slot_is c n (slot_held c) held refl) (written_absorbs half old more new w what x held read.2 left has (set-get_or c.slots n [] ∙ sym (no_filled_seen c.slots n half.before half.progress.place plain)) small)
+    rw (slot_is c n (slot_held c) held refl) (written_absorbs half (own_slot half) more new w what x held read.2 left has (set-get_or c.slots n [] ∙ sym (no_filled_seen c.slots n half.before half.progress.place plain)) small)
 
 -- What a field is that came whole.
 
@@ -83,7 +79,7 @@ is_whole action.WriteHomeAddress own moved f = cond_both (moved == 5 && bytes_eq
 is_whole action.Format own moved f = cond_both (moved == 8) _ _ (IsWhole action.Format own moved f) (λ eight. (refl, eqb-true moved 8 eight, refl)) (λ _. tt)
 is_whole _ own moved f = tt
 
--- what is no whole field changes nothing
+-- what is no whole field changes nothing, by each thing that the test of a field reads
 pub no_change : (a : Action) (g : Geometry) (t : Sighted) (o : Opened) (r : Registers) (moved : ℕ) (f b : List ℕ) → whole_of a (own_home_address r) moved f ≡ whole.No → length b ≡ moved → take moved f ≡ b → ChangesNothing a g t o r b
 no_change action.WriteHomeAddress g t o r moved f b e long is = λ five.
     (let m : moved ≡ 5 = sym long ∙ five in

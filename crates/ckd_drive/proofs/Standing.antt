@@ -72,7 +72,7 @@ failures_saved c = elim c.changed as (λ b. (saved c.image c.slots b).failures �
 pub saved_stands : (d : Parts) (h : HalfDone) (s : Stage) → Stands d → h.cache ≡ after_save d.job.cache → is_filled s h ≡ false → IsAtTrack d.job.cache.image.geometry h.registers → StageIs s h → Stands (parts_of h Saved s)
 saved_stands d h s x e f at w = record { volume = rw e (volume_saved d.job.cache x.volume); arm = rw (e, geometry_saved d.job.cache) at; anchored = λ t. absurd (let no = rw e at t in cc); marked = rw (f, e) refl; work = w }
 
--- Where its saving failed.
+-- Where its saving failed: by all that a drive stands by, since four calls come here.
 pub lost_stands : (d : Parts) (left : List ℕ) (h : HalfDone) (s : Stage)
     → Stands d → length left ≡ d.job.cache.image.geometry.track_size → h.cache ≡ after_failed_save d.job.cache left → is_filled s h ≡ false → h.registers.cylinder ≡ d.job.registers.cylinder → h.registers.head ≡ d.job.registers.head → StageIs s h
     → Stands (parts_of h Lost s)

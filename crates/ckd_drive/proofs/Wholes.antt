@@ -85,6 +85,7 @@ module _ {h : HalfDone} {k : Kind} {slot : List ℕ} (l : Lent h k slot) where
   unfolding sight
   sees x whole is = rw (← slot_own, l.aimed, reads, whole, ← is) refl
 
+  -- by what each call of the code says of its area and its bytes, which makes its premises many
   pub gives_whole : (m : Mark) (a : Area) (read : WholeRead) (bytes : List ℕ) → is_readable (track_of slot) ≡ true → next.Found a ≡ next_of_kind (track_or_none (track_of slot)) h.registers.position k
       → Of Data read.record ≡ area_left (extent_of h.opened.command) a → ends_with_data (extent_of h.opened.command) ≡ true → read.no_data ≡ has_no_data (track_of slot) (Some a)
       → bytes ≡ bytes_of (extent_of h.opened.command) (track_of slot) a → GivesWhole (state_of (parts_of h m Looking)) bytes read

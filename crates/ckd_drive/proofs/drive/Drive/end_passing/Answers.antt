@@ -18,7 +18,8 @@ abbrev made_of : {S : Type 0} → Parts → Job S → Parts
 made_of d new = parts_of (with_place d.job new.cache new.before.bytes new.progress.place) d.mark d.stage
 
 -- its command closes so
-closes : (g : Over) (c : After-close-closed g) (u : CommandEnd) → u ≡ command_end_at c.close-closed.new.self.cache.image.geometry c.self.inside.job.registers c.self.inside.job.opened c.self.inside.job.progress.moved c.close-closed.new.self.progress.place
+closes : (g : Over) (c : After-close-closed g) (u : CommandEnd)
+    → u ≡ command_end_at c.close-closed.new.self.cache.image.geometry c.self.inside.job.registers c.self.inside.job.opened c.self.inside.job.progress.moved c.close-closed.new.self.progress.place
     → Closes (made_of (parts_in c.self.inside) c.close-closed.new.self) c.args.self.now u
 closes g c u out =
     let k = c.close-closed in
@@ -28,7 +29,8 @@ closes g c u out =
 -- the arm stays
 stayed : (g : Over) (c : goal.After-self-in-Stays-1 g) → Ended c.args.self.now (parts_of (half_done c.close-closed.new.self) c.mark_left-self-inside.result Idle) (closed_as (Stays c.in-Stays.unit) c.close-closed.new.self.registers).ending
 stayed g c =
-    rw (c.mark_left-self-inside.ensures, c.close-closed.ensures.stays) (stays_ends (closes g (goal.at.invariant_of-self g c).After-close-closed (closed_as (Stays c.in-Stays.unit) c.close-closed.new.self.registers) c.in-Stays.ensures.closes) refl)
+    rw (c.mark_left-self-inside.ensures, c.close-closed.ensures.stays)
+    (stays_ends (closes g (goal.at.invariant_of-self g c).After-close-closed (closed_as (Stays c.in-Stays.unit) c.close-closed.new.self.registers) c.in-Stays.ensures.closes) refl)
 
 pub invariant_of-self : goal.invariant_of-self
 invariant_of-self g c = (stayed g c).stands
