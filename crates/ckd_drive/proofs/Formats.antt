@@ -1,5 +1,5 @@
 -- A track that gets a new record.
-use Rattle.std.proofs.Common.{◌≡◌, ◌∙◌, ap, sym, subst, refl, ℕ, ◌+◌, ◌-◌, ◌<◌, ◌≤◌, ◌^◌, List, [], ◌∷◌, ◌++◌, true, false, Option, Some, length, take, drop, slice_range, replicate, unwrap_or, set-set, length-append, length-drop, length-take, drop-drop, append_assoc, append-nil, arith}
+use Rattle.std.proofs.Common.{◌≡◌, ◌∙◌, ap, sym, subst, refl, ℕ, ◌+◌, ◌-◌, ◌<◌, ◌≤◌, List, [], ◌∷◌, ◌++◌, true, false, Option, Some, length, take, drop, slice_range, replicate, unwrap_or, set-set, length-append, length-drop, length-take, drop-drop, append_assoc, append-nil, arith}
 use Rattle.std.proofs.Math.Bool.{or-false, or-true}
 use Rattle.std.proofs.Math.Seq.{get_or-append_seam, set-append_seam}
 use Rattle.std.proofs.lemmas.List.{drop_at, take_all, take-append-le}
@@ -14,7 +14,7 @@ use Rattle.ckd_position.specs.declared.extents.Extent.TheVariants as extent
 use Rattle.ckd_drive.specs.declared.transfer.Whole.TheVariants as whole
 use Rattle.ckd_slot.specs.declared.windows.Window.{Window}
 use Rattle.ckd_drive.specs.declared.transfer.Transfer.TheVariants.{Field, Due, Filled}
-use Rattle.ckd_position.specs.Contents.{Sighted, is_readable, new_record, formatted, kept, padded, replaced, with_record_changed}
+use Rattle.ckd_position.specs.Contents.{Sighted, new_record, formatted, kept, padded, replaced, with_record_changed}
 use Rattle.ckd_command.specs.Commands.{Closing, command_end, own_home_address, new_record_fits, format_ends}
 use Rattle.ckd_slot.specs.Buffer.{HasFormatted, CanMake, IsPlaceOf, fits_track, lengths_on, made_on}
 use Rattle.ckd_slot.specs.Cache.{CacheState, with_held, slot_held, after_format}
@@ -64,23 +64,21 @@ length-record b m le =
     let long = length-padded m (body_length b) le in
     omega (arith, length-take (key_length b) (padded m (body_length b)), length-drop (key_length b) (padded m (body_length b)), long)
 
-record_last : (t : Sighted) (after : Option Area) (b : List ℕ) (i : ℕ) → i ≡ length (kept t after) → record_in (formatted t after b) i ≡ new_record b
-record_last t after b i e = rw e (get_or-append_seam (kept t after) (new_record b) [] no_record)
+-- with zeros as yet
+record_last : (t : Sighted) (after : Option Area) (b : List ℕ) (i : ℕ) → length b ≡ 8 → i ≡ length (kept t after) → record_in (formatted t after b) i ≡ record_with b (padded [] (body_length b))
+record_last t after b i eight e = rw e (get_or-append_seam (kept t after) (new_record b) [] no_record) ∙ (ap new_record (sym (append-nil b)) ∙ new_with b [] eight (omega arith))
 
 pub format_bytes : (t : Sighted) (after : Option Area) (b : List ℕ) (i : ℕ) → i ≡ length (kept t after) → length b ≡ 8 → update_length extent.KeyAndData (record_in (formatted t after b) i) ≡ body_length b
-format_bytes t after b i e eight =
-    let new : new_record b ≡ record_with b (padded [] (body_length b)) = ap new_record (sym (append-nil b)) ∙ new_with b [] eight (omega arith) in
-    ap (update_length extent.KeyAndData) (record_last t after b i e ∙ new) ∙ length-record b [] (omega arith)
+format_bytes t after b i e eight = ap (update_length extent.KeyAndData) (record_last t after b i eight e) ∙ length-record b [] (omega arith)
 
 pub format_written : (t : Sighted) (after : Option Area) (b m : List ℕ) (part : Part) (i : ℕ) → length b ≡ 8 → i ≡ length (kept t after) → length m ≤ body_length b
     → with_record_changed (replaced extent.KeyAndData (padded (drop 8 (b ++ m)) (update_length extent.KeyAndData (record_in (formatted t after b) i)))) (Of part i) (formatted t after b) ≡ formatted t after (b ++ m)
 format_written t after b m part i eight e le =
     let n = body_length b in
     let k = key_length b in
-    let new : new_record b ≡ record_with b (padded [] n) = ap new_record (sym (append-nil b)) ∙ new_with b [] eight (omega arith) in
     let sum : length (take k (padded [] n)) + length (drop k (padded [] n)) ≡ n = length-record b [] (omega arith) in
     let key : length (take k (padded [] n)) ≡ k = omega (arith, length-take k (padded [] n), length-padded [] n (omega arith)) in
-    rw (drop_at b m 8 eight, record_last t after b i e ∙ new, sum, key, padded_whole m n le, new_with b m eight le, e, set-append_seam (kept t after) (new_record b) [] (record_with b (padded m n))) refl
+    rw (drop_at b m 8 eight, record_last t after b i eight e, sum, key, padded_whole m n le, new_with b m eight le, e, set-append_seam (kept t after) (new_record b) [] (record_with b (padded m n))) refl
 
 -- the record that a formatting write fills, behind its count bytes
 abbrev format_filling : AtWork → Part → ℕ → Filling
@@ -203,10 +201,6 @@ due_absorbs {half} {more} {f} {field} {count} i w k has =
 
 -- a record that is due, once it is made with these bytes
 pub record NextMade (half : HalfDone) (more : List ℕ) (w : Window) (number : ℕ) (count : List ℕ) : Type 0 where
-  pub due : HasDue (at_work half) w number count
-  pub readable : is_readable (track_of (slot_held half.cache)) ≡ true
-  pub le : length more ≤ w.len
-  pub room : w.start + w.len < 2 ^ 32
   pub can : CanMake half.cache.image.geometry.track_size (track_of (slot_held half.cache)) number count w more
   pub absorbs : Absorbs half more (with_held half.cache (overwritten (slot_of half.cache.image.geometry.track_size (made_on (track_of (slot_held half.cache)) number count)) w.start more))
       (slot_held half.cache) (Filled (record { start = w.start + length more; len = w.len - length more }) (written.Record number))
@@ -237,15 +231,9 @@ made_absorbs half more w number count x at le =
     let same : with_held c' (overwritten made w.start more) ≡ with_held c (overwritten made w.start more) =
     ap (λ (s : List (List ℕ)). let y : CacheState = record c { slots = s; changed = true } in y) (set-set c.slots (unwrap_or c.held 0) (slot_of size (formatted t area count)) (overwritten made w.start more)) in
     let a : Absorbs half' more (with_held c (overwritten made w.start more)) (slot_held c) (Filled w' (written.Record number)) = rw (new_at, same) at k.absorbs in
-    let here = slot_is c n (slot_held c) h.at_hand.held refl in
-    let f = h.filled.filled in
     let short : length more ≤ w.len = omega (arith, le, left) in
     let P : Track → Type 0 = λ y. IsPlaceOf extent.KeyAndData y (Of part.Data number) w in
     record {
-      due = h;
-      readable = rw here h.at_hand.readable;
-      le = short;
-      room = omega (arith, f.within, x.volume.geometry.limit);
       can = record {
         there = omega (arith, h.fits.is_last, kept_le t area);
         no_end_mark = no_end_mark c.image.geometry.model (kept t area) count h.fits.fits;

@@ -18,7 +18,7 @@ use Rattle.ckd_drive.proofs.Takes.{field_unwritten, field_wants, no_byte}
 use Rattle.ckd_command.proofs.Closings.{area_by, closing_by, sense_closes, sense_length}
 use Rattle.ckd_command.proofs.Lengths.{length_by}
 use Rattle.ckd_slot.specs.Cache.{CacheState, holds, loaded, after_hold, after_failed_hold, after_save, after_failed_save}
-use Rattle.ckd_drive.specs.Invariant.{IsFirstPlace, IsPlaced, IsField, ReadsWhole, FieldAtHand, AtHand, slot_at, AtWork, geometry_in, number_in, slot_in, at_work, Stands, StaysAt, CreditAtHand, remaining, first_progress, state_of, track_under, is_filled_by, HalfDone, Parts, parts_of, own_track, own_slot, AreaIsThere, SightKeeps, StageIs, is_filled}
+use Rattle.ckd_drive.specs.Invariant.{IsFirstPlace, IsPlaced, IsField, ReadsWhole, FieldAtHand, AtHand, slot_at, AtWork, geometry_in, number_in, slot_in, at_work, Stands, StaysAt, CreditAtHand, remaining, first_progress, state_of, is_filled_by, HalfDone, Parts, parts_of, own_track, own_slot, AreaIsThere, SightKeeps, StageIs, is_filled}
 use Rattle.ckd_track.specs.declared.geometries.Geometry.{Geometry}
 use Rattle.ckd_command.specs.declared.registers.Registers.{Registers}
 use Rattle.ckd_drive.specs.declared.transfer.Progress.{Progress}
@@ -171,18 +171,8 @@ first_len job _ f x = x.1.len
 
 -- What a look leaves.
 
-pub reads_whole : (a : Action) (t : Sighted) → is_readable t ≡ true → ReadsWhole a t
-reads_whole action.WriteHomeAddress t e = tt
-reads_whole _ t e = e
-
 pub credit_hand : (c : CacheState) (n : ℕ) (o : Opened) → aim o.command ≡ Credited → CreditAtHand (aim o.command) c n → HandIfAimed c n o
-credit_hand c n o is h = λ _. (let at : AtHand c n = rw is at h in record { held = at.held; whole = reads_whole (action_of o.command) _ at.readable })
-
-pub stays_arm : (g : Geometry) (r q : Registers) → StaysAt r q → IsAtTrack g r → IsAtTrack g q
-stays_arm g r q k at = record { cylinder = rw k.cylinder at.cylinder; head = rw k.head at.head }
-
-pub stays_held : (c : CacheState) (r q : Registers) → StaysAt r q → c.held ≡ Some (track_under c.image.geometry r) → (c.changed ≡ true → c.held ≡ Some (track_under c.image.geometry q))
-stays_held c r q k held = λ _. held ∙ (rw (k.cylinder, k.head) refl)
+credit_hand c n o is h = λ _. (let at : AtHand c n = rw is at h in record { held = at.held; whole = whole_by (action_of o.command) _ (λ _. at.readable) })
 
 -- The store is not called.
 comes_quiet : (loads saves : Bool) (d now : Parts) (after : Option Fault → DriveState) → Stands now → now.job.cache.image ≡ d.job.cache.image → saves ≡ false
@@ -233,7 +223,7 @@ module _ (old : HalfDone) (was : Mark) (x : Stands (parts_of old was Looking)) w
       → Looks asked (parts_of (record old { registers = q }) was s)
   stays_looks q s held keeps plain work saves state =
       comes_quiet _ _ asked (parts_of (record old { registers = q; passed = [] }) was s) _
-      (record { volume = x.volume; arm = stays_arm old.cache.image.geometry old.registers q keeps x.arm; anchored = stays_held old.cache old.registers q keeps held; marked = rw plain x.marked; work = work })
+      (record { volume = x.volume; arm = record { cylinder = rw keeps.cylinder x.arm.cylinder; head = rw keeps.head x.arm.head }; anchored = λ _. held ∙ rw (keeps.cylinder, keeps.head) refl; marked = rw plain x.marked; work = work })
       refl saves state
 
   -- the index passes

@@ -1,6 +1,6 @@
 -- A failed call of the store is reported: it follows from what the definitions say of the state, and from how often the
 -- store was called.
-use Rattle.std.proofs.Common.{◌≡◌, ◌∙◌, inl, inr, ◌⊎◌, ap, sym, subst, refl, ℕ, ◌+◌, List, Bool, true, false, ◌&&◌, Option, Some, None, arith}
+use Rattle.std.proofs.Common.{◌≡◌, ◌∙◌, inl, inr, ◌⊎◌, ap, sym, subst, refl, ℕ, ◌+◌, List, Bool, true, false, Option, Some, None, arith}
 use Rattle.std.proofs.lemmas.Bool.{and_parts, true_from_ne_false}
 use Rattle.ckd_command.specs.declared.registers.Registers.{Registers}
 use Rattle.ckd_command.specs.declared.registers.Mark.TheVariants.{Written}
@@ -11,7 +11,7 @@ use Rattle.ckd_command.specs.Answers as command_answer
 use Rattle.ckd_command.specs.declared.close.DriveEnding.{DriveEnding}
 use Rattle.ckd_command.specs.Tables.{aim}
 use Rattle.ckd_command.specs.Commands.{Closing, beginning, sight, closing}
-use Rattle.ckd_command.specs.Drive.{State, Fault, LoadFails, SaveFails, Closed, begin, begun, looked, look_for, closed, with_registers, is_written, track_under, tells_equipment_check, unsaved, lost, failed, closed_by}
+use Rattle.ckd_command.specs.Drive.{State, Fault, LoadFails, SaveFails, Closed, begin, begun, looked, look_for, closed, with_registers, is_written, track_under, tells_equipment_check, unsaved, lost, failed}
 use Rattle.ckd_command.proofs.CommandFacts.{NotTold, BeginsSilent, SightSilent, closing_facts, beginning_silent, sight_silent, store_fault_is_told}
 use Rattle.ckd_drive.specs.declared.answers.Begun.{Begun}
 use Rattle.ckd_drive.specs.declared.answers.Begun.TheVariants as answer
@@ -133,13 +133,10 @@ end_quiet d (Passing o b left) = go (closing d.state.volume.geometry (track_unde
 end_quiet d _ = λ e. e
 
 loses_at_end : (d : DriveState) (w : Work) (left : List ℕ) → end_saves_of d w ≡ true → closed_of (Some (SaveFails left)) d w ≡ failed (lost d.state left)
-loses_at_end d (Passing o b l) left e = go (closing d.state.volume.geometry (track_under d.state) o d.state.registers b) e
-  where
-    go : (c : Closing) → (is_written d.state && c.moves_off) ≡ true → closed_by (Some (SaveFails left)) d.state c ≡ failed (lost d.state left)
-    go c h =
-        let both = and_parts (is_written d.state) c.moves_off h in
-        let written : d.state.mark ≡ Written = mark_written d.state.mark both.0 in
-        rw (both.1, written) refl
+loses_at_end d (Passing o b l) left e =
+    let both = and_parts (is_written d.state) (closing d.state.volume.geometry (track_under d.state) o d.state.registers b).moves_off e in
+    let written : d.state.mark ≡ Written = mark_written d.state.mark both.0 in
+    rw (both.1, written) refl
 loses_at_end d _ left e = absurd cc
 
 pub end_reports : (old new : DriveState) (e : DriveEnding)
