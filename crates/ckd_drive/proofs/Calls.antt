@@ -97,9 +97,8 @@ mark_written _ t = absurd cc
 -- bytes as long as those that stand there take their place
 overwritten_whole : (old new : List ℕ) → length new ≡ length old → overwritten old 0 new ≡ new
 overwritten_whole [] [] e = refl
-overwritten_whole [] (y ∷ ys) e = absurd (omega (arith, e))
-overwritten_whole (x ∷ xs) [] e = absurd (omega (arith, e))
 overwritten_whole (x ∷ xs) (y ∷ ys) e = ap (λ (r : List ℕ). y ∷ r) (overwritten_whole xs ys (omega (arith, e)))
+overwritten_whole _ _ e = absurd (omega (arith, e))
 
 pub record SaveLost (d : Parts) (left : List ℕ) (new : DriveState) : Type 0 where
   pub held : d.job.cache.held ≡ Some (own_track d.job)

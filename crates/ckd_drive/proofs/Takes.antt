@@ -33,9 +33,8 @@ then_assoc _ b c = refl
 
 compare_more : (x a : List ℕ) (y b : List ℕ) → length x ≡ length a → ordering_then (slice_cmp nat_cmp x a) (slice_cmp nat_cmp y b) ≡ slice_cmp nat_cmp (x ++ y) (a ++ b)
 compare_more [] [] y b e = refl
-compare_more [] (a ∷ bs) y b e = absurd (omega (arith, e))
-compare_more (x ∷ xs) [] y b e = absurd (omega (arith, e))
 compare_more (x ∷ xs) (a ∷ bs) y b e = then_assoc (nat_cmp x a) (slice_cmp nat_cmp xs bs) (slice_cmp nat_cmp y b) ∙ ap (λ (o : Ordering). ordering_then (nat_cmp x a) o) (compare_more xs bs y b (omega (arith, e)))
+compare_more _ _ y b e = absurd (omega (arith, e))
 
 order_more : (area passed more : List ℕ) → length passed + length more ≤ length area → ordering_then (order_of area passed) (slice_cmp nat_cmp (take (length more) (drop (length passed) area)) more) ≡ order_of area (passed ++ more)
 order_more area passed more le =
