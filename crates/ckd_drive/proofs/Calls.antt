@@ -53,7 +53,7 @@ pub calls_of_failed_hold : (loads saves : Bool) (c : CacheState) (old new : Driv
 calls_of_failed_hold loads saves c old new e f l s =
     rw (e, f, l, s) (record { loads = inr (refl, refl, refl); saves = omega arith; failures = inr (refl, inr refl); slots = λ _. refl; untouched = λ _ e. absurd (no_more c.image.loads (sym e)); lasting = refl; geometry = refl })
 
--- the track was loaded first
+-- the track was loaded first: by what the calls tell before and behind the load
 pub calls_behind_load : (loads saves : Bool) (old held new : DriveState) → held.image ≡ record old.image { loads = old.image.loads + 1 } → loads ≡ true → saves ≡ false → new.image.loads ≡ held.image.loads
     → CallsStore loads saves held new → CallsStore loads saves old new
 calls_behind_load loads saves old held new e l s same k =

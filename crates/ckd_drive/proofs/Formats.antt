@@ -64,7 +64,7 @@ length-record b m le =
     let long = length-padded m (body_length b) le in
     omega (arith, length-take (key_length b) (padded m (body_length b)), length-drop (key_length b) (padded m (body_length b)), long)
 
--- with zeros as yet
+-- with zeros for its key and data, as yet
 record_last : (t : Sighted) (after : Option Area) (b : List ℕ) (i : ℕ) → length b ≡ 8 → i ≡ length (kept t after) → record_in (formatted t after b) i ≡ record_with b (padded [] (body_length b))
 record_last t after b i eight e = rw e (get_or-append_seam (kept t after) (new_record b) [] no_record) ∙ (ap new_record (sym (append-nil b)) ∙ new_with b [] eight (omega arith))
 

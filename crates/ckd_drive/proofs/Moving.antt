@@ -78,7 +78,7 @@ window_moves half more w v l room begins le =
 
 -- Bytes that pass.
 
--- the track stays as it is-- the track stays as it is: by all that the bytes come to, since each place of them comes here
+-- the track stays as it is: by all that the bytes come to, since each place of them comes here
 pub absorbs_plain : (half : HalfDone) (more : List ℕ) (place' : Transfer)
     → Works half → is_filled_by half.progress.place ≡ false → is_filled_by place' ≡ false
     → seen_with half half.before place' ≡ seen_with half half.before half.progress.place
