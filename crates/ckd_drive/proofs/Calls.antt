@@ -5,7 +5,7 @@ use Rattle.ckd_slot.specs.Cache.{CacheState, saved, after_save, after_failed_sav
 use Rattle.ckd_command.specs.Drive.{is_written_by, LoadFails, SaveFails, number_under, Fault}
 use Rattle.ckd_drive.specs.Work.{DriveState, CallsStore, fault_met, with_image}
 use Rattle.ckd_drive.specs.Invariant.{Stands, is_filled, Parts, BeginsWell, IsCleared, HalfDone, state_of, own_slot, own_track, parts_of, StageIs}
-use Rattle.std.proofs.lemmas.Bool.Decides.{nat_tests}
+use Rattle.std.proofs.lemmas.Bool.{eq-eqb, ne_eqb}
 use Rattle.ckd_sense.specs.declared.sense_bytes.TheConstants.Sense.{STORE_FAULT}
 use Rattle.ckd_command.specs.declared.registers.Registers.{Registers}
 use Rattle.ckd_command.specs.declared.registers.Mark.{Mark}
@@ -42,7 +42,7 @@ save_by loads false old new c slots e f = calls_none loads false old new (f ∙ 
 pub calls_of_save : (loads saves : Bool) (c : CacheState) (old new : DriveState) → old.image ≡ c.image → new.image ≡ (after_save c).image → c.changed ≡ saves → CallsStore loads saves old new
 calls_of_save loads saves c old new e f s = rw (← s) (save_by loads c.changed old new c c.slots e f)
 
--- its saving fails
+-- its saving fails: by each thing that the calls tell of it
 pub calls_of_failed_save : (loads saves : Bool) (c : CacheState) (left : List ℕ) (old new : DriveState) → old.image ≡ c.image → new.image ≡ (after_failed_save c left).image → c.changed ≡ saves → c.changed ≡ true → CallsStore loads saves old new
 calls_of_failed_save loads saves c left old new e f s changed =
     let saves_is : saves ≡ true = sym s ∙ changed in
@@ -53,7 +53,7 @@ pub calls_of_failed_hold : (loads saves : Bool) (c : CacheState) (old new : Driv
 calls_of_failed_hold loads saves c old new e f l s =
     rw (e, f, l, s) (record { loads = inr (refl, refl, refl); saves = omega arith; failures = inr (refl, inr refl); slots = λ _. refl; untouched = λ _ e. absurd (no_more c.image.loads (sym e)); lasting = refl; geometry = refl })
 
--- the track was loaded first
+-- the track was loaded first: by what the calls tell before and behind the load
 pub calls_behind_load : (loads saves : Bool) (old held new : DriveState) → held.image ≡ record old.image { loads = old.image.loads + 1 } → loads ≡ true → saves ≡ false → new.image.loads ≡ held.image.loads
     → CallsStore loads saves held new → CallsStore loads saves old new
 calls_behind_load loads saves old held new e l s same k =
@@ -70,24 +70,18 @@ calls_behind_load loads saves old held new e l s same k =
 
 -- Calls in which a load or a saving fails.
 
-more_not : (n : ℕ) → (n + 1 == n) ≡ false
-more_not n = grind (arith, nat_tests)
+rises : (new old : ℕ) → new ≡ old + 1 → (new == old) ≡ false
+rises new old more = ne_eqb new old (λ same. omega (arith, more, same))
 
 pub fault_none : (old new : DriveState) → new.image.failures ≡ old.image.failures → fault_met old new ≡ None
-fault_none old new e = (let same : (new.image.failures == old.image.failures) ≡ true = grind (arith, nat_tests) in rw same refl)
+fault_none old new e = rw (eq-eqb new.image.failures old.image.failures e) refl
 
 pub fault_loading : (old new : DriveState) → new.image.failures ≡ old.image.failures + 1 → new.image.saves ≡ old.image.saves → fault_met old new ≡ Some LoadFails
-fault_loading old new e s =
-    let more : (new.image.failures == old.image.failures) ≡ false = rw e (more_not old.image.failures) in
-    let same : (new.image.saves == old.image.saves) ≡ true = grind (arith, nat_tests) in
-    rw (more, same) refl
+fault_loading old new e s = rw (rises new.image.failures old.image.failures e, eq-eqb new.image.saves old.image.saves s) refl
 
 pub fault_saving : (old new : DriveState) → new.image.failures ≡ old.image.failures + 1 → new.image.saves ≡ old.image.saves + 1
     → fault_met old new ≡ Some (SaveFails (slice_index_or new.image.slots (number_under old.state) []))
-fault_saving old new e s =
-    let more : (new.image.failures == old.image.failures) ≡ false = rw e (more_not old.image.failures) in
-    let more' : (new.image.saves == old.image.saves) ≡ false = rw s (more_not old.image.saves) in
-    rw (more, more') refl
+fault_saving old new e s = rw (rises new.image.failures old.image.failures e, rises new.image.saves old.image.saves s) refl
 
 abbrev pub lost_registers : Registers → Registers
 lost_registers r = with_cause (record r { credit = None }) STORE_FAULT
@@ -103,9 +97,8 @@ mark_written _ t = absurd cc
 -- bytes as long as those that stand there take their place
 overwritten_whole : (old new : List ℕ) → length new ≡ length old → overwritten old 0 new ≡ new
 overwritten_whole [] [] e = refl
-overwritten_whole [] (y ∷ ys) e = absurd (omega (arith, e))
-overwritten_whole (x ∷ xs) [] e = absurd (omega (arith, e))
 overwritten_whole (x ∷ xs) (y ∷ ys) e = ap (λ (r : List ℕ). y ∷ r) (overwritten_whole xs ys (omega (arith, e)))
+overwritten_whole _ _ e = absurd (omega (arith, e))
 
 pub record SaveLost (d : Parts) (left : List ℕ) (new : DriveState) : Type 0 where
   pub held : d.job.cache.held ≡ Some (own_track d.job)
@@ -113,7 +106,7 @@ pub record SaveLost (d : Parts) (left : List ℕ) (new : DriveState) : Type 0 wh
   pub whole : overwritten (own_slot d.job) 0 left ≡ left
   pub fault : fault_met (state_of d) new ≡ Some (SaveFails left)
 
--- whatever the registers were as it was left
+-- Whatever the registers were as it was left. Its premises are many, since four calls come here.
 pub save_lost : (d : Parts) (h h' : HalfDone) (m : Mark) (new : DriveState) → Stands d → is_filled d.stage d.job ≡ false → h.cache ≡ d.job.cache → (l : Loses h h' m) → new.image ≡ (after_failed_save d.job.cache l.left).image → SaveLost d l.left new
 save_lost d h h' m new x f same l image =
     let c = d.job.cache in
@@ -131,7 +124,8 @@ save_lost d h h' m new x f same l image =
       fault = fault_saving (state_of d) new (ap (λ (i : ImageState). i.failures) image) (ap (λ (i : ImageState). i.saves) image) ∙ rw (image, held, left_is) refl;
     }
 
--- What a part of a call comes to that saves the track, if it was written, and meets no fault.
+-- What a part of a call comes to that saves the track, if it was written, and meets no fault. Its premises are many, since a look
+-- and two ways of beginning come here, each by facts of its own.
 pub comes_saved : (loads saves : Bool) (d : Parts) (h : HalfDone) (s : Stage) (after : Option Fault → DriveState)
     → Stands d → is_filled d.stage d.job ≡ false → saves ≡ is_written_by d.mark → h.cache ≡ after_save d.job.cache → is_filled s h ≡ false → IsAtTrack d.job.cache.image.geometry h.registers → StageIs s h
     → state_of (parts_of h Saved s) ≡ with_image (after None) h.cache.image → Comes loads saves (state_of d) after (parts_of h Saved s)

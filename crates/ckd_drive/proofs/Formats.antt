@@ -1,5 +1,5 @@
 -- A track that gets a new record.
-use Rattle.std.proofs.Common.{◌≡◌, ◌∙◌, ap, sym, subst, refl, ℕ, ◌+◌, ◌-◌, ◌<◌, ◌≤◌, ◌^◌, List, [], ◌∷◌, ◌++◌, true, false, Option, Some, length, take, drop, slice_range, replicate, unwrap_or, set-set, length-append, length-drop, length-take, drop-drop, append_assoc, append-nil, arith}
+use Rattle.std.proofs.Common.{◌≡◌, ◌∙◌, ap, sym, subst, refl, ℕ, ◌+◌, ◌-◌, ◌<◌, ◌≤◌, List, [], ◌∷◌, ◌++◌, true, false, Option, Some, length, take, drop, slice_range, replicate, unwrap_or, set-set, length-append, length-drop, length-take, drop-drop, append_assoc, append-nil, arith}
 use Rattle.std.proofs.Math.Bool.{or-false, or-true}
 use Rattle.std.proofs.Math.Seq.{get_or-append_seam, set-append_seam}
 use Rattle.std.proofs.lemmas.List.{drop_at, take_all, take-append-le}
@@ -14,20 +14,19 @@ use Rattle.ckd_position.specs.declared.extents.Extent.TheVariants as extent
 use Rattle.ckd_drive.specs.declared.transfer.Whole.TheVariants as whole
 use Rattle.ckd_slot.specs.declared.windows.Window.{Window}
 use Rattle.ckd_drive.specs.declared.transfer.Transfer.TheVariants.{Field, Due, Filled}
-use Rattle.ckd_command.specs.Tables.{action_of}
-use Rattle.ckd_position.specs.Contents.{Sighted, is_readable, new_record, formatted, kept, padded, replaced, with_record_changed}
+use Rattle.ckd_position.specs.Contents.{Sighted, new_record, formatted, kept, padded, replaced, with_record_changed}
 use Rattle.ckd_command.specs.Commands.{Closing, command_end, own_home_address, new_record_fits, format_ends}
-use Rattle.ckd_slot.specs.Buffer.{HasFormatted, CanMake, FitsSlot, IsPlaceOf, SameRecords, fits_track, lengths_on, made_on}
+use Rattle.ckd_slot.specs.Buffer.{HasFormatted, CanMake, IsPlaceOf, fits_track, lengths_on, made_on}
 use Rattle.ckd_slot.specs.Cache.{CacheState, with_held, slot_held, after_format}
 use Rattle.ckd_drive.specs.declared.transfer.Written.TheVariants as written
-use Rattle.ckd_drive.specs.Invariant.{HalfDone, Works, MayTake, Absorbs, HasDue, HasFilled, IsFound, at_work, own_slot, with_taken, own_track, action_now, IsFilled, AtHand, slot_at, track_under, whole_of, AtWork, geometry_in, action_in}
+use Rattle.ckd_drive.specs.Invariant.{HalfDone, Works, Absorbs, HasDue, HasFilled, IsFound, at_work, own_slot, with_taken, own_track, action_now, IsFilled, AtHand, slot_at, whole_of, AtWork, geometry_in, action_in}
 use Rattle.ckd_slot.proofs.Writes.{update_length, update_place, made_formatted, kept_le, length-padded, padded_whole}
 use Rattle.ckd_track.proofs.ChargeLaws.{no_end_mark}
 use Rattle.ckd_drive.proofs.Fills.{there, new_slot_at, reads_new, Filling, room_of, ClosesFilled, form_filled, filled_absorbs}
 use Rattle.ckd_command.proofs.Closings.{formats_on}
 use Rattle.ckd_command.proofs.Lengths.{same_count}
-use Rattle.ckd_drive.proofs.Takes.{field_goes, field_absorbs}
-use Rattle.ckd_drive.proofs.News.{new_work, newly_absorbs, is_count}
+use Rattle.ckd_drive.proofs.Takes.{Collects, field_goes, field_absorbs}
+use Rattle.ckd_drive.proofs.News.{new_work, newly_absorbs, is_whole}
 use Rattle.ckd_drive.proofs.Standing.{slot_is}
 
 abbrev record_with : (b body : List ℕ) → Record
@@ -65,23 +64,21 @@ length-record b m le =
     let long = length-padded m (body_length b) le in
     omega (arith, length-take (key_length b) (padded m (body_length b)), length-drop (key_length b) (padded m (body_length b)), long)
 
-record_last : (t : Sighted) (after : Option Area) (b : List ℕ) (i : ℕ) → i ≡ length (kept t after) → record_in (formatted t after b) i ≡ new_record b
-record_last t after b i e = rw e (get_or-append_seam (kept t after) (new_record b) [] no_record)
+-- with zeros for its key and data, as yet
+record_last : (t : Sighted) (after : Option Area) (b : List ℕ) (i : ℕ) → length b ≡ 8 → i ≡ length (kept t after) → record_in (formatted t after b) i ≡ record_with b (padded [] (body_length b))
+record_last t after b i eight e = rw e (get_or-append_seam (kept t after) (new_record b) [] no_record) ∙ (ap new_record (sym (append-nil b)) ∙ new_with b [] eight (omega arith))
 
 pub format_bytes : (t : Sighted) (after : Option Area) (b : List ℕ) (i : ℕ) → i ≡ length (kept t after) → length b ≡ 8 → update_length extent.KeyAndData (record_in (formatted t after b) i) ≡ body_length b
-format_bytes t after b i e eight =
-    let new : new_record b ≡ record_with b (padded [] (body_length b)) = ap new_record (sym (append-nil b)) ∙ new_with b [] eight (omega arith) in
-    ap (update_length extent.KeyAndData) (record_last t after b i e ∙ new) ∙ length-record b [] (omega arith)
+format_bytes t after b i e eight = ap (update_length extent.KeyAndData) (record_last t after b i eight e) ∙ length-record b [] (omega arith)
 
 pub format_written : (t : Sighted) (after : Option Area) (b m : List ℕ) (part : Part) (i : ℕ) → length b ≡ 8 → i ≡ length (kept t after) → length m ≤ body_length b
     → with_record_changed (replaced extent.KeyAndData (padded (drop 8 (b ++ m)) (update_length extent.KeyAndData (record_in (formatted t after b) i)))) (Of part i) (formatted t after b) ≡ formatted t after (b ++ m)
 format_written t after b m part i eight e le =
     let n = body_length b in
     let k = key_length b in
-    let new : new_record b ≡ record_with b (padded [] n) = ap new_record (sym (append-nil b)) ∙ new_with b [] eight (omega arith) in
     let sum : length (take k (padded [] n)) + length (drop k (padded [] n)) ≡ n = length-record b [] (omega arith) in
     let key : length (take k (padded [] n)) ≡ k = omega (arith, length-take k (padded [] n), length-padded [] n (omega arith)) in
-    rw (drop_at b m 8 eight, record_last t after b i e ∙ new, sum, key, padded_whole (padded m n) n (length-padded m n le), new_with b m eight le, e, set-append_seam (kept t after) (new_record b) [] (record_with b (padded m n))) refl
+    rw (drop_at b m 8 eight, record_last t after b i eight e, sum, key, padded_whole (padded m n) n (length-padded m n le), new_with b m eight le, e, set-append_seam (kept t after) (new_record b) [] (record_with b (padded m n))) refl
 
 -- the record that a formatting write fills, behind its count bytes
 abbrev format_filling : AtWork → Part → ℕ → Filling
@@ -101,98 +98,86 @@ format_filled job m part i is eight fits e le =
       wants = rw n k.wants;
     }
 
--- the count bytes have come whole, and fit
-pub record FormatGoes (half : HalfDone) (more count : List ℕ) : Type 0 where
+-- the count bytes have come whole, and are these
+pub record FormatGoes (half : HalfDone) (more f field count : List ℕ) : Type 0 where
+  pub collects : Collects half more f field
   pub is : action_now half ≡ action.Format
   pub eight : length (half.passed ++ more) ≡ 8
   pub whole : count ≡ half.passed ++ more
   pub at_hand : AtHand half.cache (own_track half)
 
 -- by what the code has read of its field
-pub format_goes : (half : HalfDone) (more f field count : List ℕ) → MayTake half more → half.progress.place ≡ Field f → field ≡ overwritten f half.progress.moved more → length field ≡ 8
-    → whole_of (action_now half) (own_home_address half.registers) (half.progress.moved + length more) field ≡ whole.Count count → FormatGoes half more count
-format_goes half more f field count may at is long e =
-    let p = half.progress in
-    let k = field_goes half more f may at in
-    let goes = may.works.goes in
-    let moved : p.moved + length more ≡ length (half.passed ++ more) = omega (arith, goes.moved, k.long) in
-    let new = is_count (action_of half.opened.command) (own_home_address half.registers) (p.moved + length more) field count e in
-    let eight : length (half.passed ++ more) ≡ 8 = sym moved ∙ new.eight in
-    let come : take 8 field ≡ half.passed ++ more = rw (eight, ← is) at k.collected in
+pub format_goes : {half : HalfDone} {more f field : List ℕ} (count : List ℕ) → Collects half more f field → length field ≡ 8
+    → whole_of (action_now half) (own_home_address half.registers) (half.progress.moved + length more) field ≡ whole.Count count → FormatGoes half more f field count
+format_goes {half} {more} {f} {field} count x long e =
+    let k = field_goes x in
+    let new = rw e at (is_whole (action_now half) (own_home_address half.registers) (half.progress.moved + length more) field) in
+    let eight : length (half.passed ++ more) ≡ 8 = sym k.moved ∙ new.1 in
     record {
-      is = new.is;
+      collects = x;
+      is = new.0;
       eight = eight;
-      whole = new.count ∙ sym (take_all 8 field (omega (arith, long))) ∙ come;
-      at_hand = rw new.is at k.has.at_hand;
+      whole = new.2 ∙ sym (take_all 8 field (omega (arith, long))) ∙ rw eight at k.collected;
+      at_hand = rw new.0 at k.has.at_hand;
     }
 
 -- a record that does not fit
-pub format_stays : (half : HalfDone) (more f field count : List ℕ) → MayTake half more → half.progress.place ≡ Field f → field ≡ overwritten f half.progress.moved more → length field ≡ 8
-    → whole_of (action_now half) (own_home_address half.registers) (half.progress.moved + length more) field ≡ whole.Count count
+pub format_stays : {half : HalfDone} {more f field count : List ℕ} → FormatGoes half more f field count
     → fits_track half.cache.image.geometry.model half.opened.area count (track_of (slot_held half.cache)) ≡ false → Absorbs half more half.cache half.before (Field field)
-format_stays half more f field count may at is long e no_room =
-    let k = format_goes half more f field count may at is long e in
+format_stays {half} k no_room =
     let held = slot_is half.cache (own_track half) (slot_held half.cache) k.at_hand.held refl in
-    field_absorbs half more f field may at is (rw k.is (λ _. rw (held, k.whole) at no_room))
+    field_absorbs k.collects (rw k.is (λ _. rw (held, k.whole) at no_room))
 
 -- a record that fits
-pub format_absorbs : (half : HalfDone) (more f field count : List ℕ) (i : ℕ) (w : Window) → MayTake half more → half.progress.place ≡ Field f → field ≡ overwritten f half.progress.moved more → length field ≡ 8
-    → whole_of (action_now half) (own_home_address half.registers) (half.progress.moved + length more) field ≡ whole.Count count
-    → HasFormatted half.cache.image.geometry.model half.cache.image.geometry.track_size half.opened.area count (track_of (slot_held half.cache)) i w
+abbrev Fits : HalfDone → (count : List ℕ) → ℕ → Window → Type 0
+Fits half count i w = HasFormatted half.cache.image.geometry.model half.cache.image.geometry.track_size half.opened.area count (track_of (slot_held half.cache)) i w
+
+format_absorbs : {half : HalfDone} {more f field count : List ℕ} (i : ℕ) (w : Window) → FormatGoes half more f field count → Fits half count i w
     → Absorbs half more (after_format half.cache half.opened.area count) (slot_held half.cache) (Filled w (written.Record i))
-format_absorbs half more f field count i w may at is long e has =
-    let k = format_goes half more f field count may at is long e in
+format_absorbs {half} {more} {f} {field} {count} i w k has =
+    let may = k.collects.may in
     let c = half.cache in
-    let r = half.registers in
     let g = c.image.geometry in
-    let n : ℕ = track_under g r in
-    let old = slot_at c.slots n in
-    let t = track_of old in
+    let n = own_track half in
+    let t = track_of (own_slot half) in
     let a = half.opened.area in
     let b = half.passed ++ more in
-    let goes = field_goes half more f may at in
+    let goes = field_goes k.collects in
     let t0 = formatted t a b in
     let held = slot_is c n (slot_held c) k.at_hand.held refl in
     let new = slot_of g.track_size (formatted (track_of (slot_held c)) a count) in
-    let H : List ℕ → Type 0 = λ y. HasFormatted g.model g.track_size a y t i w in
-    let is_new : HasFormatted g.model g.track_size a b t i w = subst H k.whole (rw held at has) in
-    let made : new ≡ slot_of g.track_size t0 = ap (λ (y : List ℕ). slot_of g.track_size (formatted (track_of y) a count)) held ∙ ap (λ (y : List ℕ). slot_of g.track_size (formatted t a y)) k.whole in
+    let is_new : HasFormatted g.model g.track_size a b t i w = rw (held, k.whole) at has in
+    let made : new ≡ slot_of g.track_size t0 = rw (held, k.whole) refl in
     let read = reads_new g.track_size t0 new is_new.spelled made in
-    let at_new = new_slot_at c n new k.at_hand.held (there half may.works) in
     let now : List ℕ = slot_at (with_held c new).slots n in
-    let lens : lengths_on (track_in now) ≡ lengths_on t0 = ap (λ (y : List ℕ). lengths_on (track_in y)) at_new ∙ ap lengths_on read.1 in
+    let lens : lengths_on (track_in now) ≡ lengths_on t0 = ap (λ (y : List ℕ). lengths_on (track_in y)) (new_slot_at c n new k.at_hand.held (there half may.works)) ∙ ap lengths_on read.1 in
     let last : i < length t0.records = omega (arith, is_new.is_last, length-append (kept t a) (new_record b ∷ [])) in
     let place = update_place extent.KeyAndData t0 part.Data i w tt last is_new.place in
-    let bytes = format_bytes t a b i is_new.is_last k.eight in
     let job = new_work half more new w (written.Record i) in
-    let filled : IsFilled job now w (command_end (format_ends r i)) =
+    let filled : IsFilled job now w (command_end (format_ends half.registers i)) =
     form_filled job now w (format_filling job part.Data i) tt is_new.spelled last lens (omega (arith, k.eight)) (omega arith) (omega (arith, place.0, k.eight)) (omega (arith, place.1, k.eight))
     (λ m le. format_filled job m part.Data i k.is k.eight is_new.fits is_new.is_last (omega (arith, le, place.1))) in
     let whole : with_record_changed (replaced extent.KeyAndData (padded (drop 8 (b ++ [])) (update_length extent.KeyAndData (record_in t0 i)))) (Of part.Data i) t0 ≡ t0 =
     format_written t a b [] part.Data i k.eight is_new.is_last (omega arith) ∙ ap (λ (y : List ℕ). formatted t a y) (append-nil b) in
-    let left : half.progress.left ≤ 8 - length half.passed = rw (at, k.is) at may.works.goes.left in
-    newly_absorbs half more new w (written.Record i) (omega arith) may.works k.at_hand.held (rw at refl) goes.again
-    may.taking (omega (arith, k.eight, goes.long)) (omega (arith, left, k.eight, goes.long)) (omega (arith, k.eight, goes.long))
+    newly_absorbs half more new w (written.Record i) (omega arith) may.works k.at_hand.held (rw k.collects.placed refl) goes.again
+    may.taking (omega (arith, k.eight, goes.long)) (let left = rw k.is at goes.left in omega (arith, left, k.eight)) (omega (arith, k.eight, goes.long))
     filled (made ∙ ap (slot_of g.track_size) (sym whole))
 
 -- a record that fits is due, and the track stays
-pub due_absorbs : (half : HalfDone) (more f field count : List ℕ) (i : ℕ) (w : Window) → MayTake half more → half.progress.place ≡ Field f → field ≡ overwritten f half.progress.moved more → length field ≡ 8
-    → whole_of (action_now half) (own_home_address half.registers) (half.progress.moved + length more) field ≡ whole.Count count
-    → HasFormatted half.cache.image.geometry.model half.cache.image.geometry.track_size half.opened.area count (track_of (slot_held half.cache)) i w
-    → Absorbs half more half.cache half.before (Due w i count)
-due_absorbs half more f field count i w may at is long e has =
-    let a = format_absorbs half more f field count i w may at is long e has in
-    let k = format_goes half more f field count may at is long e in
+pub due_absorbs : {half : HalfDone} {more f field count : List ℕ} (i : ℕ) (w : Window) → FormatGoes half more f field count → Fits half count i w → Absorbs half more half.cache half.before (Due w i count)
+due_absorbs {half} {more} {f} {field} {count} i w k has =
+    let a = format_absorbs i w k has in
+    let works = k.collects.may.works in
+    let at = k.collects.placed in
     let job = at_work (with_taken half more (after_format half.cache half.opened.area count) (slot_held half.cache) (Filled w (written.Record i))) in
     let h : HasFilled job w (written.Record i) = a.works.goes.placed in
-    let here = slot_is half.cache (own_track half) (slot_held half.cache) k.at_hand.held refl in
     let F : List ℕ → Type 0 = λ y. IsFound job (track_of y) (Filled w (written.Record i)) in
-    let found : IsFound job (track_of (own_slot half)) (Filled w (written.Record i)) = subst F here h.found in
+    let found : IsFound job (track_of (own_slot half)) (Filled w (written.Record i)) = subst F (slot_is half.cache (own_track half) (slot_held half.cache) k.at_hand.held refl) h.found in
     record {
       works = record {
-        volume = may.works.volume;
-        arm = may.works.arm;
-        anchored = may.works.anchored;
+        volume = works.volume;
+        arm = works.arm;
+        anchored = works.anchored;
         goes = record {
           moved = a.works.goes.moved;
           left = a.works.goes.left;
@@ -204,7 +189,7 @@ due_absorbs half more f field count i w may at is long e has =
             found = record { again = found.again; len = found.len };
             plain = rw at at a.seen_same;
           };
-          no_credit = may.works.goes.no_credit;
+          no_credit = works.goes.no_credit;
         };
       };
       image = refl;
@@ -216,10 +201,6 @@ due_absorbs half more f field count i w may at is long e has =
 
 -- a record that is due, once it is made with these bytes
 pub record NextMade (half : HalfDone) (more : List ℕ) (w : Window) (number : ℕ) (count : List ℕ) : Type 0 where
-  pub due : HasDue (at_work half) w number count
-  pub readable : is_readable (track_of (slot_held half.cache)) ≡ true
-  pub le : length more ≤ w.len
-  pub room : w.start + w.len < 2 ^ 32
   pub can : CanMake half.cache.image.geometry.track_size (track_of (slot_held half.cache)) number count w more
   pub absorbs : Absorbs half more (with_held half.cache (overwritten (slot_of half.cache.image.geometry.track_size (made_on (track_of (slot_held half.cache)) number count)) w.start more))
       (slot_held half.cache) (Filled (record { start = w.start + length more; len = w.len - length more }) (written.Record number))
@@ -247,29 +228,19 @@ made_absorbs half more w number count x at le =
     let new_at : slot_held c' ≡ made =
     slot_is c' n (slot_held c') h.at_hand.held refl ∙ new_slot_at c n (slot_of size (formatted t area count)) h.at_hand.held (there half x) ∙ ap (slot_of size) same_track in
     let w' : Window = record { start = w.start + length more; len = w.len - length more } in
-    let S : List ℕ → Type 0 = λ y. SameRecords y (overwritten y w.start more) in
-    let A : List ℕ → Type 0 = λ y. Absorbs half' more (with_held c' (overwritten y w.start more)) (slot_held c) (Filled w' (written.Record number)) in
-    let C : CacheState → Type 0 = λ y. Absorbs half' more y (slot_held c) (Filled w' (written.Record number)) in
     let same : with_held c' (overwritten made w.start more) ≡ with_held c (overwritten made w.start more) =
     ap (λ (s : List (List ℕ)). let y : CacheState = record c { slots = s; changed = true } in y) (set-set c.slots (unwrap_or c.held 0) (slot_of size (formatted t area count)) (overwritten made w.start more)) in
-    let a = subst C same (subst A new_at k.absorbs) in
-    let here = slot_is c n (slot_held c) h.at_hand.held refl in
-    let f = h.filled.filled in
+    let a : Absorbs half' more (with_held c (overwritten made w.start more)) (slot_held c) (Filled w' (written.Record number)) = rw (new_at, same) at k.absorbs in
     let short : length more ≤ w.len = omega (arith, le, left) in
-    let G : Track → Type 0 = λ y. FitsSlot size y in
     let P : Track → Type 0 = λ y. IsPlaceOf extent.KeyAndData y (Of part.Data number) w in
     record {
-      due = h;
-      readable = rw here h.at_hand.readable;
-      le = short;
-      room = omega (arith, f.within, x.volume.geometry.limit);
       can = record {
         there = omega (arith, h.fits.is_last, kept_le t area);
         no_end_mark = no_end_mark c.image.geometry.model (kept t area) count h.fits.fits;
-        fits = subst G same_track h.fits.spelled;
+        fits = rw same_track at h.fits.spelled;
         place = subst P same_track h.fits.place;
         room = short;
-        begins = subst S new_at k.records;
+        begins = rw new_at at k.records;
       };
       absorbs = record {
         works = a.works;

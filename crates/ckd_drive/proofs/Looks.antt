@@ -1,5 +1,5 @@
 -- What a look at a track finds, and a command that looks for its area and has just found where its bytes stand.
-use Rattle.std.proofs.Common.{◌≡◌, ◌∙◌, ap, sym, refl, ℕ, ◌+◌, List, [], true, Some, length, arith, false, ◌||◌, None, ◌==◌, Bool, Option}
+use Rattle.std.proofs.Common.{rules, ◌≡◌, ◌∙◌, ap, sym, refl, ℕ, ◌+◌, List, [], true, Some, length, arith, false, None, ◌==◌, Bool, Option}
 use Rattle.std.proofs.lemmas.Bool.{false_from_ne_true, true_from_ne_false}
 use Rattle.ckd_track.specs.Track.{track_of, track_or_none}
 use Rattle.ckd_sense.specs.declared.commands.Command.{Command}
@@ -8,7 +8,7 @@ use Rattle.ckd_command.specs.declared.tables.Aim.TheVariants.{NoArea, Credited, 
 use Rattle.ckd_command.specs.declared.tables.Action.{Action}
 use Rattle.ckd_command.specs.declared.tables.Action.TheVariants as action
 use Rattle.ckd_command.specs.declared.begin.Opened.{Opened}
-use Rattle.ckd_command.specs.Answers.{Found, IndexPassed, NextHead, Missed, moved_to}
+use Rattle.ckd_command.specs.Answers.{Sight, Found, IndexPassed, NextHead, Missed, moved_to}
 use Rattle.ckd_drive.specs.declared.transfer.Transfer.{Transfer}
 use Rattle.ckd_drive.specs.declared.transfer.Transfer.TheVariants.{Sense, Field, Read, Search, Fill, Due, Filled}
 use Rattle.ckd_command.specs.Tables.{action_of, aim, needs_readable}
@@ -18,7 +18,7 @@ use Rattle.ckd_drive.proofs.Takes.{field_unwritten, field_wants, no_byte}
 use Rattle.ckd_command.proofs.Closings.{area_by, closing_by, sense_closes, sense_length}
 use Rattle.ckd_command.proofs.Lengths.{length_by}
 use Rattle.ckd_slot.specs.Cache.{CacheState, holds, loaded, after_hold, after_failed_hold, after_save, after_failed_save}
-use Rattle.ckd_drive.specs.Invariant.{IsFirstPlace, IsPlaced, IsField, ReadsWhole, FieldAtHand, AtHand, slot_at, AtWork, geometry_in, number_in, slot_in, at_work, Stands, StaysAt, CreditAtHand, remaining, first_progress, state_of, track_under, is_filled_by, HalfDone, Parts, parts_of, own_track, own_slot, AreaIsThere, SightKeeps}
+use Rattle.ckd_drive.specs.Invariant.{IsFirstPlace, IsPlaced, IsField, ReadsWhole, FieldAtHand, AtHand, slot_at, AtWork, geometry_in, number_in, slot_in, at_work, Stands, StaysAt, CreditAtHand, remaining, first_progress, state_of, is_filled_by, HalfDone, Parts, parts_of, own_track, own_slot, AreaIsThere, SightKeeps, StageIs, is_filled}
 use Rattle.ckd_track.specs.declared.geometries.Geometry.{Geometry}
 use Rattle.ckd_command.specs.declared.registers.Registers.{Registers}
 use Rattle.ckd_drive.specs.declared.transfer.Progress.{Progress}
@@ -28,7 +28,7 @@ use Rattle.ckd_drive.specs.Work.{fault_met, with_image, after_look, DriveState, 
 use Rattle.ckd_command.specs.Drive.{is_written_by, AfterLook, Ready, LoadFails, look as look_by, Fault}
 use Rattle.ckd_drive.proofs.Calls.{fault_none, fault_loading, lost_registers, save_lost, changed_is, no_more, calls_none, calls_of_failed_save, calls_of_failed_hold, calls_behind_load, comes_saved}
 use Rattle.ckd_drive.specs.Calls.{Comes, Looks, Leaves, Loses}
-use Rattle.ckd_drive.proofs.Standing.{no_filled_seen, volume_not_held, geometry_saved, lost_stands}
+use Rattle.ckd_drive.proofs.Standing.{no_credit, no_filled_seen, volume_not_held, geometry_saved, lost_stands}
 use Rattle.std.proofs.lemmas.Bool.Decides.{nat_tests}
 use Rattle.std.proofs.Math.Bool.{and-false, and-true}
 use Rattle.ckd_image.specs.Image.{ImageState}
@@ -44,7 +44,7 @@ use Rattle.ckd_position.specs.declared.areas.Next.TheVariants as next
 use Rattle.ckd_position.specs.Areas.{IsOnTrack, IfFound}
 use Rattle.ckd_position.specs.declared.extents.Extent.{Extent}
 use Rattle.ckd_position.specs.declared.extents.Extent.TheVariants as extent
-use Rattle.ckd_command.proofs.Sights.{passing, sight_by}
+use Rattle.ckd_command.proofs.Sights.{passing, sight_by, look_again}
 use Rattle.ckd_slot.specs.Buffer.{HasBytes}
 
 pub on_track : (e : Extent) (t : Sighted) (a : Area) → IsOnTrack (track_or_none t) a → HasBytes e t a
@@ -70,9 +70,21 @@ whole_by : (act : Action) (t : Sighted) → (needs_readable act ≡ true → is_
 whole_by action.WriteHomeAddress t h = tt
 whole_by _ t h = h refl
 
-pub found_whole : (g : Geometry) (t : Sighted) (o o' : Opened) (r : Registers) (k : Kind) → aim o.command ≡ Next k → Found o' ≡ sight g t o r → ReadsWhole (action_of o.command) t
+-- an area that a look found, over its slot
+pub record FoundAgain (old : HalfDone) (o : Opened) (slot : List ℕ) : Type 0 where
+  pub first : sight old.cache.image.geometry (track_of (own_slot old)) old.opened old.registers ≡ Found o
+  pub again : sight old.cache.image.geometry (track_of (own_slot old)) o old.registers ≡ Found o
+  pub whole : ReadsWhole (action_of o.command) (track_of (own_slot old))
+  pub slot_is : slot ≡ own_slot old
+
+pub found_again : (old : HalfDone) (o : Opened) (slot : List ℕ) (k : Kind) → aim old.opened.command ≡ Next k
+    → Found o ≡ sight old.cache.image.geometry (track_of (own_slot old)) old.opened old.registers → slot ≡ own_slot old → FoundAgain old o slot
 unfolding sight
-found_whole g t o o' r k is e = whole_by (action_of o.command) t (λ needs. true_from_ne_false (is_readable t) (λ unread. (let missed = rw (is, needs, unread) at e in cc)))
+found_again old o slot k is e slot_is =
+    let t = track_of (own_slot old) in
+    let again = look_again old.cache.image.geometry t old.opened o old.registers e in
+    let whole = whole_by (action_of old.opened.command) t (λ needs. true_from_ne_false (is_readable t) (λ unread. (let missed = rw (is, needs, unread) at e in cc))) in
+    record { first = sym e; again = again.1; whole = rw again.0 whole; slot_is = slot_is }
 
 -- What a command wants at hand.
 
@@ -104,12 +116,9 @@ whole_at : (c : CacheState) (n : ℕ) (o : Opened) (a : Action) → action_of o.
 whole_at c n o a is f h = record { held = h.held; readable = f (rw is at h.whole) }
 
 field_at_hand : (a : Action) (c : CacheState) (n : ℕ) (o : Opened) → action_of o.command ≡ a → IsField a → HandIfAimed c n o → FieldAtHand a c n
-field_at_hand action.SeekCylinderAndHead c n o is f h = tt
-field_at_hand action.SeekHead c n o is f h = tt
-field_at_hand action.SetFileMask c n o is f h = tt
 field_at_hand action.WriteHomeAddress c n o is f h = (hand_for c n o action.WriteHomeAddress is refl h).held
 field_at_hand action.Format c n o is f h = whole_at c n o action.Format is (λ x. x) (hand_for c n o action.Format is refl h)
-field_at_hand _ c n o is f h = absurd f
+field_at_hand _ c n o is f h = search rules
 
 pub first_placed : (job : AtWork) (p : Transfer)
     → IsFirstPlace (slot_in job) job.opened job.registers p → HandIfAimed job.cache (number_in job) job.opened → sight (geometry_in job) (track_of (slot_in job)) job.opened job.registers ≡ Found job.opened → IsPlaced (record job { passed = [] }) p
@@ -160,22 +169,10 @@ first_len job (Due w number count) f x = absurd f
 first_len job (Filled w u) f x = absurd f
 first_len job _ f x = x.1.len
 
--- A look that finds the area.
-
--- A command whose area is found.
-
-pub reads_whole : (a : Action) (t : Sighted) → is_readable t ≡ true → ReadsWhole a t
-reads_whole action.WriteHomeAddress t e = tt
-reads_whole _ t e = e
+-- What a look leaves.
 
 pub credit_hand : (c : CacheState) (n : ℕ) (o : Opened) → aim o.command ≡ Credited → CreditAtHand (aim o.command) c n → HandIfAimed c n o
-credit_hand c n o is h = λ _. (let at : AtHand c n = rw is at h in record { held = at.held; whole = reads_whole (action_of o.command) _ at.readable })
-
-pub stays_arm : (g : Geometry) (r q : Registers) → StaysAt r q → IsAtTrack g r → IsAtTrack g q
-stays_arm g r q k at = record { cylinder = rw k.cylinder at.cylinder; head = rw k.head at.head }
-
-pub stays_held : (c : CacheState) (r q : Registers) → StaysAt r q → c.held ≡ Some (track_under c.image.geometry r) → (c.changed ≡ true → c.held ≡ Some (track_under c.image.geometry q))
-stays_held c r q k held = λ _. held ∙ (rw (k.cylinder, k.head) refl)
+credit_hand c n o is h = λ _. (let at : AtHand c n = rw is at h in record { held = at.held; whole = whole_by (action_of o.command) _ (λ _. at.readable) })
 
 -- The store is not called.
 comes_quiet : (loads saves : Bool) (d now : Parts) (after : Option Fault → DriveState) → Stands now → now.job.cache.image ≡ d.job.cache.image → saves ≡ false
@@ -189,145 +186,121 @@ comes_quiet loads saves d now after x image s state =
       at_hand = λ e. absurd (no_more d.job.cache.image.loads (sym (ap (λ (i : ImageState). i.loads) image) ∙ e));
     }
 
--- It finds its area.
-pub found_looks : (old : HalfDone) (was : Mark) (o : Opened) (p : Progress) (s : Stage)
-    → Stands (parts_of old was Looking) → IsFirstPlace (own_slot old) o old.registers p.place → HandIfAimed old.cache (own_track old) o
-    → sight old.cache.image.geometry (track_of (own_slot old)) o old.registers ≡ Found o → sight old.cache.image.geometry (track_of (own_slot old)) old.opened old.registers ≡ Found o
-    → p ≡ first_progress (action_of o.command) p.place → s ≡ Passing → Looks (parts_of old was Looking) (parts_of (record old { opened = o; progress = p }) was s)
-found_looks old was o p s x f h again first p_is s_is =
-    let c = old.cache in
-    let place = p.place in
-    let empty : is_filled_by place ≡ false = first_not_filled (own_slot old) o old.registers place f in
-    let after : HalfDone = record old { opened = o; progress = first_progress (action_of o.command) place; passed = [] } in
-    let placed = first_placed (at_work after) place f h again in
-    let len = first_len (at_work after) place f placed in
-    let left_is : remaining (action_of o.command) place 0 ≡ length_after c.image.geometry (track_of (own_slot old)) o old.registers [] = omega (arith, len) in
-    let marked : c.changed ≡ (is_written_by was || false) = x.marked in
-    rw (p_is, s_is)
-    (comes_quiet _ _ (parts_of old was Looking) (parts_of after was Passing) _
-    (record { volume = x.volume; arm = x.arm; anchored = x.anchored; marked = rw empty marked; work = record { moved = refl; left = omega arith; placed = placed; no_credit = x.work.no_credit } })
-    refl (rw first (and-false (is_written_by was))) (rw (no_filled_seen c.slots (own_track old) old.before place empty, first, left_is) refl))
-
--- The index passes.
-pub passed_looks : (old : HalfDone) (was : Mark) (q : Registers) (k : Kind)
-    → Stands (parts_of old was Looking) → aim old.opened.command ≡ Next k → old.cache.held ≡ Some (own_track old)
-    → sight old.cache.image.geometry (track_of (own_slot old)) old.opened old.registers ≡ IndexPassed q
-    → Looks (parts_of old was Looking) (parts_of (record old { registers = q }) was Looking)
-passed_looks old was q k x aimed held sighted =
-    let c = old.cache in
-    let r = old.registers in
-    let keeps = rw sighted at (sight_keeps c.image.geometry (track_of (own_slot old)) old.opened r x.arm) in
-    comes_quiet _ _ (parts_of old was Looking) (parts_of (record old { registers = q; passed = [] }) was Looking) _
-    (record {
-      volume = x.volume;
-      arm = stays_arm c.image.geometry r q keeps x.arm;
-      anchored = stays_held c r q keeps held;
-      marked = x.marked;
-      work = record { transfers = x.work.transfers; credit = rw aimed tt; no_credit = keeps.credit ∙ x.work.no_credit };
-    })
-    refl (rw sighted (and-false (is_written_by was))) (rw sighted refl)
-
--- It finds none.
-pub missed_looks : (old : HalfDone) (was : Mark) (q : Registers)
-    → Stands (parts_of old was Looking) → old.cache.held ≡ Some (own_track old)
-    → sight old.cache.image.geometry (track_of (own_slot old)) old.opened old.registers ≡ Missed q
-    → Looks (parts_of old was Looking) (parts_of (record old { registers = q }) was Failed)
-missed_looks old was q x held sighted =
-    let c = old.cache in
-    let r = old.registers in
-    let keeps = rw sighted at (sight_keeps c.image.geometry (track_of (own_slot old)) old.opened r x.arm) in
-    let credit : q.credit ≡ None = keeps.credit ∙ x.work.no_credit in
-    comes_quiet _ _ (parts_of old was Looking) (parts_of (record old { registers = q; passed = [] }) was Failed) _
-    (record { volume = x.volume; arm = stays_arm c.image.geometry r q keeps x.arm; anchored = stays_held c r q keeps held; marked = x.marked; work = rw credit tt })
-    refl (rw sighted (and-false (is_written_by was))) (rw sighted refl)
-
--- It goes on at the next head.
-pub next_looks : (old new : HalfDone) (was now : Mark) (q : Registers) (k : Kind)
-    → Stands (parts_of old was Looking) → aim old.opened.command ≡ Next k
-    → sight old.cache.image.geometry (track_of (own_slot old)) old.opened old.registers ≡ NextHead q
-    → Leaves old new now q → Looks (parts_of old was Looking) (parts_of new now Looking)
-next_looks old new was now q k x aimed sighted l =
-    let c = old.cache in
-    let keeps = rw sighted at (sight_keeps c.image.geometry (track_of (own_slot old)) old.opened old.registers x.arm) in
-    rw (l.0, l.1)
-    (comes_saved _ _ (parts_of old was Looking) (record old { cache = after_save c; registers = q; passed = [] }) Looking _ x refl (rw sighted (and-true (is_written_by was))) refl refl keeps.0
-    (record { transfers = x.work.transfers; credit = rw aimed tt; no_credit = keeps.1 ∙ x.work.no_credit }) (rw (sighted, geometry_saved c) refl))
-
--- The track can't be saved that it goes on from.
-pub lost_looks : (old new : HalfDone) (was now : Mark) (q : Registers)
-    → Stands (parts_of old was Looking)
-    → sight old.cache.image.geometry (track_of (own_slot old)) old.opened old.registers ≡ NextHead q
-    → Loses old new now → Looks (parts_of old was Looking) (parts_of new now Failed)
-lost_looks old new was now q x sighted l =
-    let d = parts_of old was Looking in
-    let c = old.cache in
-    let left = l.left in
-    let after : HalfDone = record old { cache = after_failed_save c left; registers = lost_registers old.registers; passed = [] } in
-    let drive = state_of (parts_of after Lost Failed) in
-    let s = save_lost d old new now drive x refl refl l refl in
-    rw (l.job, l.mark_is) (record {
-      stands = lost_stands d left after Failed x l.size refl refl refl refl tt;
-      state = rw (s.fault, sighted, s.written, s.held, s.whole) refl;
-      calls = calls_of_failed_save _ _ c left (state_of d) drive refl refl (changed_is d x refl ∙ rw sighted (sym (and-true (is_written_by was)))) l.changed;
-      at_hand = λ e. absurd (no_more c.image.loads e);
-    })
-
--- Its track can't be loaded.
-no_other : (c : CacheState) (n : ℕ) → c.held ≡ Some n → holds c.held n ≡ false → ⊥
-no_other c n e not = (let same : (n == n) ≡ true = grind (arith, nat_tests) in let other : (n == n) ≡ false = rw e at not in cc)
-
--- what is written is at hand
-not_written : (old : HalfDone) (was : Mark) → Stands (parts_of old was Looking) → holds old.cache.held (own_track old) ≡ false → is_written_by was ≡ false
-not_written old was x not = sym (changed_is (parts_of old was Looking) x refl) ∙ false_from_ne_true old.cache.changed (λ e. no_other old.cache (own_track old) (x.anchored e) not)
-
-pub unloaded_looks : (old : HalfDone) (was : Mark) (c' : CacheState) (r' : Registers) (k : Kind)
-    → Stands (parts_of old was Looking) → aim old.opened.command ≡ Next k
-    → holds old.cache.held (own_track old) ≡ false → c' ≡ after_failed_hold old.cache → r' ≡ with_cause old.registers STORE_FAULT
-    → Looks (parts_of old was Looking) (parts_of (record old { cache = c'; registers = r' }) was Failed)
-unloaded_looks old was c' r' k x aimed not e f =
-    let d = parts_of old was Looking in
-    let c = old.cache in
-    let drive = state_of (parts_of (record old { cache = after_failed_hold c; registers = with_cause old.registers STORE_FAULT; passed = [] }) was Failed) in
-    let met : fault_met (state_of d) drive ≡ Some LoadFails = fault_loading (state_of d) drive refl refl in
-    let unwritten : is_written_by was ≡ false = not_written old was x not in
-    let credit : old.registers.credit ≡ None = x.work.no_credit in
-    rw (e, f) (record {
-      stands = record { volume = volume_not_held c x.volume; arm = record { cylinder = x.arm.cylinder; head = x.arm.head }; anchored = λ t. absurd (no_other c (own_track old) (x.anchored t) not); marked = x.marked; work = rw credit tt };
-      state = rw (met, aimed) refl;
-      calls = calls_of_failed_hold _ _ c (state_of d) drive refl refl (rw aimed refl) (rw unwritten refl);
-      at_hand = λ _. unwritten;
-    })
-
--- Its track was loaded first.
 sighted_with : (l : AfterLook) (d : DriveState) (i j : ImageState) → with_image (after_sight l (with_image d j)) i ≡ with_image (after_sight l d) i
 sighted_with (Ready o) d i j = refl
 sighted_with _ d i j = refl
 
-abbrev with_loaded : HalfDone → (held : Option ℕ) → Bool → HalfDone
-with_loaded old held b = record old { cache = record old.cache { image = loaded old.cache.image b; held = held } }
+no_other : (c : CacheState) (n : ℕ) → c.held ≡ Some n → holds c.held n ≡ false → ⊥
+no_other c n e not = (let same : (n == n) ≡ true = grind (arith, nat_tests) in let other : (n == n) ≡ false = rw e at not in cc)
 
--- whether it was loaded or at hand, over any drive that came of it
-loaded_looks : (b : Bool) (old : HalfDone) (was : Mark) (k : Kind) (now : Parts) (held : Option ℕ)
-    → (b ≡ false → is_written_by was ≡ false) → aim old.opened.command ≡ Next k → now.job.cache.image.loads ≡ (loaded old.cache.image b).loads
-    → Looks (parts_of (with_loaded old held b) was Looking) now → Looks (parts_of old was Looking) now
-loaded_looks true old was k now held clean aimed e x = record { stands = x.stands; state = x.state; calls = x.calls; at_hand = x.at_hand }
-loaded_looks false old was k now held clean aimed e x =
-    let unwritten : is_written_by was ≡ false = clean refl in
-    let d = state_of (parts_of old was Looking) in
-    let new = state_of (parts_of (record now.job { passed = [] }) now.mark now.stage) in
-    record {
-      stands = x.stands;
-      state = x.state ∙ sighted_with (look_by (fault_met d new) (record { opened = old.opened; state = d.state })) d now.job.cache.image (loaded old.cache.image false);
-      calls = calls_behind_load _ _ d (with_image d (loaded old.cache.image false)) new refl (rw aimed refl) (rw unwritten refl) e x.calls;
-      at_hand = λ _. unwritten;
-    }
+-- A command looks for its area.
+module _ (old : HalfDone) (was : Mark) (x : Stands (parts_of old was Looking)) where
+  abbrev asked : Parts
+  asked = parts_of old was Looking
 
--- the look of a drive that holds the track now is that of the drive that was asked
-pub held_looks : (old : HalfDone) (was : Mark) (c : CacheState) (k : Kind) (now : Parts)
-    → Stands (parts_of old was Looking) → aim old.opened.command ≡ Next k → c ≡ after_hold old.cache (own_track old) → now.job.cache.image.loads ≡ c.image.loads
-    → Looks (parts_of (record old { cache = c }) was Looking) now → Looks (parts_of old was Looking) now
-held_looks old was c k now x aimed held loads l =
-    loaded_looks (holds old.cache.held (own_track old)) old was k now (Some (own_track old)) (not_written old was x) aimed (rw held at loads) (rw held at l)
+  -- what it sees, were it this command
+  abbrev sees : Opened → Sight
+  sees o = sight old.cache.image.geometry (track_of (own_slot old)) o old.registers
+
+  -- It finds its area.
+  pub found_looks : (o : Opened) (p : Progress) (s : Stage) → IsFirstPlace (own_slot old) o old.registers p.place → HandIfAimed old.cache (own_track old) o → sees o ≡ Found o → sees old.opened ≡ Found o
+      → p ≡ first_progress (action_of o.command) p.place → s ≡ Passing → Looks asked (parts_of (record old { opened = o; progress = p }) was s)
+  found_looks o p s f h again first p_is s_is =
+      let place = p.place in
+      let empty : is_filled_by place ≡ false = first_not_filled (own_slot old) o old.registers place f in
+      let after : HalfDone = record old { opened = o; progress = first_progress (action_of o.command) place; passed = [] } in
+      let placed = first_placed (at_work after) place f h again in
+      let len = first_len (at_work after) place f placed in
+      let left_is : remaining (action_of o.command) place 0 ≡ length_after old.cache.image.geometry (track_of (own_slot old)) o old.registers [] = omega (arith, len) in
+      rw (p_is, s_is)
+      (comes_quiet _ _ asked (parts_of after was Passing) _
+      (record { volume = x.volume; arm = x.arm; anchored = x.anchored; marked = rw empty x.marked; work = record { moved = refl; left = omega arith; placed = placed; no_credit = x.work.no_credit } })
+      refl (rw first (and-false (is_written_by was))) (rw (no_filled_seen old.cache.slots (own_track old) old.before place empty, first, left_is) refl))
+
+  -- The arm stays, and its registers are these.
+  stays_looks : (q : Registers) (s : Stage) → old.cache.held ≡ Some (own_track old) → StaysAt old.registers q → is_filled s (record old { registers = q; passed = [] }) ≡ false → StageIs s (record old { registers = q; passed = [] })
+      → look_saves (state_of asked) ≡ false → state_of (parts_of (record old { registers = q; passed = [] }) was s) ≡ with_image (after_look None (state_of asked)) old.cache.image
+      → Looks asked (parts_of (record old { registers = q }) was s)
+  stays_looks q s held keeps plain work saves state =
+      comes_quiet _ _ asked (parts_of (record old { registers = q; passed = [] }) was s) _
+      (record { volume = x.volume; arm = record { cylinder = rw keeps.cylinder x.arm.cylinder; head = rw keeps.head x.arm.head }; anchored = λ _. held ∙ rw (keeps.cylinder, keeps.head) refl; marked = rw plain x.marked; work = work })
+      refl saves state
+
+  -- the index passes
+  pub passed_looks : (q : Registers) (k : Kind) → aim old.opened.command ≡ Next k → old.cache.held ≡ Some (own_track old) → sees old.opened ≡ IndexPassed q → Looks asked (parts_of (record old { registers = q }) was Looking)
+  passed_looks q k aimed held sighted =
+      let keeps = rw sighted at (sight_keeps old.cache.image.geometry (track_of (own_slot old)) old.opened old.registers x.arm) in
+      stays_looks q Looking held keeps refl (record { transfers = x.work.transfers; credit = rw aimed tt; no_credit = keeps.credit ∙ x.work.no_credit }) (rw sighted (and-false (is_written_by was))) (rw sighted refl)
+
+  -- it finds none
+  pub missed_looks : (q : Registers) → old.cache.held ≡ Some (own_track old) → sees old.opened ≡ Missed q → Looks asked (parts_of (record old { registers = q }) was Failed)
+  missed_looks q held sighted =
+      let keeps = rw sighted at (sight_keeps old.cache.image.geometry (track_of (own_slot old)) old.opened old.registers x.arm) in
+      stays_looks q Failed held keeps refl (no_credit old.cache q (own_track (record old { registers = q })) (keeps.credit ∙ x.work.no_credit)) (rw sighted (and-false (is_written_by was))) (rw sighted refl)
+
+  -- It goes on at the next head.
+  pub next_looks : (new : HalfDone) (now : Mark) (q : Registers) (k : Kind) → aim old.opened.command ≡ Next k → sees old.opened ≡ NextHead q → Leaves old new now q → Looks asked (parts_of new now Looking)
+  next_looks new now q k aimed sighted l =
+      let keeps = rw sighted at (sight_keeps old.cache.image.geometry (track_of (own_slot old)) old.opened old.registers x.arm) in
+      rw (l.0, l.1)
+      (comes_saved _ _ asked (record old { cache = after_save old.cache; registers = q; passed = [] }) Looking _ x refl (rw sighted (and-true (is_written_by was))) refl refl keeps.0
+      (record { transfers = x.work.transfers; credit = rw aimed tt; no_credit = keeps.1 ∙ x.work.no_credit }) (rw (sighted, geometry_saved old.cache) refl))
+
+  -- The track can't be saved that it goes on from.
+  pub lost_looks : (new : HalfDone) (now : Mark) (q : Registers) → sees old.opened ≡ NextHead q → Loses old new now → Looks asked (parts_of new now Failed)
+  lost_looks new now q sighted l =
+      let after : HalfDone = record old { cache = after_failed_save old.cache l.left; registers = lost_registers old.registers; passed = [] } in
+      let drive = state_of (parts_of after Lost Failed) in
+      let s = save_lost asked old new now drive x refl refl l refl in
+      rw (l.job, l.mark_is) (record {
+        stands = lost_stands asked l.left after Failed x l.size refl refl refl refl tt;
+        state = rw (s.fault, sighted, s.written, s.held, s.whole) refl;
+        calls = calls_of_failed_save _ _ old.cache l.left (state_of asked) drive refl refl (changed_is asked x refl ∙ rw sighted (sym (and-true (is_written_by was)))) l.changed;
+        at_hand = λ e. absurd (no_more old.cache.image.loads e);
+      })
+
+  -- Its track can't be loaded; what is written is at hand.
+  not_written : holds old.cache.held (own_track old) ≡ false → is_written_by was ≡ false
+  not_written not = sym (changed_is asked x refl) ∙ false_from_ne_true old.cache.changed (λ e. no_other old.cache (own_track old) (x.anchored e) not)
+
+  pub unloaded_looks : (c' : CacheState) (r' : Registers) (k : Kind) → aim old.opened.command ≡ Next k → holds old.cache.held (own_track old) ≡ false → c' ≡ after_failed_hold old.cache → r' ≡ with_cause old.registers STORE_FAULT
+      → Looks asked (parts_of (record old { cache = c'; registers = r' }) was Failed)
+  unloaded_looks c' r' k aimed not e f =
+      let c = old.cache in
+      let drive = state_of (parts_of (record old { cache = after_failed_hold c; registers = with_cause old.registers STORE_FAULT; passed = [] }) was Failed) in
+      let met : fault_met (state_of asked) drive ≡ Some LoadFails = fault_loading (state_of asked) drive refl refl in
+      rw (e, f) (record {
+        stands = record {
+          volume = volume_not_held c x.volume;
+          arm = record { cylinder = x.arm.cylinder; head = x.arm.head };
+          anchored = λ t. absurd (no_other c (own_track old) (x.anchored t) not);
+          marked = x.marked;
+          work = rw x.work.no_credit tt;
+        };
+        state = rw (met, aimed) refl;
+        calls = calls_of_failed_hold _ _ c (state_of asked) drive refl refl (rw aimed refl) (rw (not_written not) refl);
+        at_hand = λ _. not_written not;
+      })
+
+  -- Its track was at hand, or was loaded first.
+  loaded_looks : (b : Bool) (k : Kind) (now : Parts) (held : Option ℕ) → (b ≡ false → is_written_by was ≡ false) → aim old.opened.command ≡ Next k → now.job.cache.image.loads ≡ (loaded old.cache.image b).loads
+      → Looks (parts_of (record old { cache = record old.cache { image = loaded old.cache.image b; held = held } }) was Looking) now → Looks asked now
+  loaded_looks true k now held clean aimed e l = record { stands = l.stands; state = l.state; calls = l.calls; at_hand = l.at_hand }
+  loaded_looks false k now held clean aimed e l =
+      let unwritten : is_written_by was ≡ false = clean refl in
+      let d = state_of asked in
+      let new = state_of (parts_of (record now.job { passed = [] }) now.mark now.stage) in
+      record {
+        stands = l.stands;
+        state = l.state ∙ sighted_with (look_by (fault_met d new) (record { opened = old.opened; state = d.state })) d now.job.cache.image (loaded old.cache.image false);
+        calls = calls_behind_load _ _ d (with_image d (loaded old.cache.image false)) new refl (rw aimed refl) (rw unwritten refl) e l.calls;
+        at_hand = λ _. unwritten;
+      }
+
+  -- the look of a drive that holds the track now is that of the drive that was asked
+  pub held_looks : (c : CacheState) (k : Kind) (now : Parts) → aim old.opened.command ≡ Next k → c ≡ after_hold old.cache (own_track old) → now.job.cache.image.loads ≡ c.image.loads
+      → Looks (parts_of (record old { cache = c }) was Looking) now → Looks asked now
+  held_looks c k now aimed held loads l = loaded_looks (holds old.cache.held (own_track old)) k now (Some (own_track old)) not_written aimed (rw held at loads) (rw held at l)
 
 -- The drive that was called, once no byte has passed.
 pub has_looked : (old now : Parts) (passed : List ℕ) (d : DriveState) → state_of old ≡ d → passed ≡ [] → Looks old now

@@ -3,7 +3,7 @@ use Rattle.std.proofs.Common.{◌≡◌, ◌∙◌, ap, sym, refl, ℕ, ◌+◌,
 use Rattle.std.proofs.lemmas.List.{take-append-drop, drop_all, set-get_or}
 use Rattle.std.proofs.lemmas.Bool.{and_parts, cond_both, eqb-true, false_from_ne_true}
 use Rattle.ckd_track.specs.Track.{track_of, track_in, slot_of}
-use Rattle.ckd_track.specs.Changes.{overwritten, bare_track}
+use Rattle.ckd_track.specs.Changes.{bare_track}
 use Rattle.ckd_track.proofs.Slots.{length-slot_of}
 use Rattle.ckd_track.specs.declared.geometries.Geometry.{Geometry}
 use Rattle.ckd_command.specs.declared.registers.Registers.{Registers}
@@ -11,29 +11,30 @@ use Rattle.ckd_command.specs.declared.tables.Action.{Action}
 use Rattle.ckd_command.specs.declared.tables.Action.TheVariants as action
 use Rattle.ckd_command.specs.declared.begin.Opened.{Opened}
 use Rattle.ckd_command.specs.Answers.{Found}
+use Rattle.ckd_drive.specs.declared.transfer.Whole.{Whole}
 use Rattle.ckd_drive.specs.declared.transfer.Whole.TheVariants as whole
 use Rattle.ckd_slot.specs.declared.windows.Window.{Window}
 use Rattle.ckd_drive.specs.declared.transfer.Transfer.TheVariants.{Field, Filled}
-use Rattle.ckd_command.specs.Tables.{action_of, is_giving}
+use Rattle.ckd_command.specs.Tables.{is_giving}
 use Rattle.ckd_position.specs.Contents.{Sighted, padded}
 use Rattle.ckd_command.specs.Commands.{Closing, sight, length_after, closing, command_end, own_home_address, home_address_ends, writes}
 use Rattle.ckd_slot.specs.Buffer.{lengths_on}
 use Rattle.ckd_slot.specs.Cache.{slot_held, with_held}
 use Rattle.ckd_drive.specs.declared.transfer.Written.{Written}
 use Rattle.ckd_drive.specs.declared.transfer.Written.TheVariants as written
-use Rattle.ckd_drive.specs.Invariant.{HalfDone, Works, MayTake, Absorbs, own_track, own_slot, action_now, HasFilled, IsFilled, slot_at, track_under, is_filled_by, whole_of, AtWork, geometry_in, slot_in, action_in, at_work, with_taken, closes_by}
+use Rattle.ckd_drive.specs.Invariant.{HalfDone, Works, Absorbs, own_track, own_slot, action_now, HasFilled, IsFilled, slot_at, is_filled_by, whole_of, AtWork, geometry_in, slot_in, action_in, at_work, with_taken, closes_by}
 use Rattle.ckd_slot.proofs.Writes.{bare_fits}
 use Rattle.ckd_drive.proofs.Fills.{there, new_slot_at, written_absorbs, reads_new}
 use Rattle.ckd_command.proofs.Closings.{closing_by}
 use Rattle.ckd_command.proofs.Lengths.{length_by}
-use Rattle.ckd_drive.proofs.Takes.{ChangesNothing, field_goes, field_absorbs}
+use Rattle.ckd_drive.proofs.Takes.{ChangesNothing, Collects, field_goes, field_absorbs}
 use Rattle.ckd_drive.proofs.Standing.{no_filled_seen, slot_is}
 
 -- a command whose first bytes change the track, once they came: the slot is this
 abbrev pub new_work : HalfDone → (more new : List ℕ) → Window → Written → AtWork
 new_work half more new w what = at_work (with_taken half more (with_held half.cache new) (own_slot half) (Filled w what))
 
--- it goes on
+-- It goes on. Its premises are many, since three commands come here, each by facts of its own.
 pub newly_absorbs : (half : HalfDone) (more new : List ℕ) (w : Window) (what : Written) (le0 : length {A = ℕ} [] ≤ w.len)
     → Works half → half.cache.held ≡ Some (own_track half) → is_filled_by half.progress.place ≡ false
     → sight half.cache.image.geometry (track_of (own_slot half)) half.opened half.registers ≡ Found half.opened
@@ -44,56 +45,41 @@ pub newly_absorbs : (half : HalfDone) (more new : List ℕ) (w : Window) (what :
     → Absorbs half more (with_held half.cache new) (slot_held half.cache) (Filled w what)
 newly_absorbs half more new w what le0 x held plain again takes some left small f is =
     let c = half.cache in
+    let n = own_track half in
     let passed = half.passed in
-    let g = c.image.geometry in
-    let n : ℕ = track_under g half.registers in
-    let lt = there half x in
-    let old = slot_at c.slots n in
     let k = f.closes [] le0 in
-    let read = reads_new g.track_size k.track new k.fits is in
-    let at_new = new_slot_at c n new held lt in
+    let read = reads_new c.image.geometry.track_size k.track new k.fits is in
+    let at_new = new_slot_at c n new held (there half x) in
     let same : (passed ++ more) ++ [] ≡ passed ++ more = append-nil (passed ++ more) in
-    let made : new ≡ f.head ++ (padded (drop f.lead ((passed ++ more) ++ [])) f.room ++ f.tail) = is ∙ sym (sym k.slot_is) in
-    let made' : new ≡ f.head ++ (padded (drop f.lead (passed ++ more)) f.room ++ f.tail) = made ∙ ap (λ (b : List ℕ). f.head ++ (padded (drop f.lead b) f.room ++ f.tail)) same in
-    let wants : length_after g (track_of old) half.opened half.registers (passed ++ more) ≡ f.lead + f.room = ap (λ (b : List ℕ). length_after g (track_of old) half.opened half.registers b) (sym same) ∙ f.wants [] le0 in
+    let made : new ≡ f.head ++ (padded (drop f.lead (passed ++ more)) f.room ++ f.tail) = rw same at (is ∙ k.slot_is) in
+    let wants = rw same at (f.wants [] le0) in
     let far = length-append passed more in
     let has : HasFilled (new_work half more new w what) w what = record {
       at_hand = record { held = held; readable = rw at_new read.0 };
-      size = x.volume.sizes n [] lt;
+      size = x.volume.sizes n [] (there half x);
       filled = f;
-      slot_is = at_new ∙ made';
+      slot_is = at_new ∙ made;
       found = record { again = again; len = omega (arith, wants, f.rest, f.begins) };
       takes = takes;
       some = omega (arith, some, far);
     } in
-    rw (slot_is c n (slot_held c) held refl) (written_absorbs half old more new w what x held read.2 left has (set-get_or c.slots n [] ∙ sym (no_filled_seen c.slots n half.before half.progress.place plain)) small)
+    rw (slot_is c n (slot_held c) held refl) (written_absorbs half (own_slot half) more new w what x held read.2 left has (set-get_or c.slots n [] ∙ sym (no_filled_seen c.slots n half.before half.progress.place plain)) small)
 
 -- What a field is that came whole.
 
-pub record IsHome (a : Action) (own : List ℕ) (moved : ℕ) (f h : List ℕ) : Type 0 where
-  pub is : a ≡ action.WriteHomeAddress
-  pub five : moved ≡ 5
-  pub own_address : bytes_eq (take 5 f) own ≡ true
-  pub home : h ≡ take 5 f
+-- what is known of it: a home address is the track's own, and count bytes are those of a formatting write
+abbrev pub IsWhole : Action → (own : List ℕ) → (moved : ℕ) → (field : List ℕ) → Whole → Type 0
+IsWhole a own moved f (whole.HomeAddress h) = (a ≡ action.WriteHomeAddress) × (moved ≡ 5) × (bytes_eq (take 5 f) own ≡ true) × (h ≡ take 5 f)
+IsWhole a own moved f (whole.Count b) = (a ≡ action.Format) × (moved ≡ 8) × (b ≡ f)
+IsWhole a own moved f whole.No = Unit {0}
 
-pub is_home : (a : Action) (own : List ℕ) (moved : ℕ) (f h : List ℕ) → whole_of a own moved f ≡ whole.HomeAddress h → IsHome a own moved f h
-is_home action.WriteHomeAddress own moved f h e = cond_both (moved == 5 && bytes_eq (take 5 f) own) _ _ (λ w. w ≡ whole.HomeAddress h → IsHome action.WriteHomeAddress own moved f h)
-    (λ whole is. (let t = and_parts (moved == 5) (bytes_eq (take 5 f) own) whole in record { is = refl; five = eqb-true moved 5 t.0; own_address = t.1; home = cc })) (λ _ is. absurd cc) e
-is_home action.Format own moved f h e = absurd (cond_both (moved == 8) _ _ (λ w. w ≡ whole.HomeAddress h → ⊥) (λ _ is. cc) (λ _ is. cc) e)
-is_home _ own moved f h e = absurd cc
+pub is_whole : (a : Action) (own : List ℕ) (moved : ℕ) (f : List ℕ) → IsWhole a own moved f (whole_of a own moved f)
+is_whole action.WriteHomeAddress own moved f = cond_both (moved == 5 && bytes_eq (take 5 f) own) _ _ (IsWhole action.WriteHomeAddress own moved f)
+    (λ whole. (let t = and_parts (moved == 5) (bytes_eq (take 5 f) own) whole in (refl, eqb-true moved 5 t.0, t.1, refl))) (λ _. tt)
+is_whole action.Format own moved f = cond_both (moved == 8) _ _ (IsWhole action.Format own moved f) (λ eight. (refl, eqb-true moved 8 eight, refl)) (λ _. tt)
+is_whole _ own moved f = tt
 
-pub record IsCount (a : Action) (moved : ℕ) (f b : List ℕ) : Type 0 where
-  pub is : a ≡ action.Format
-  pub eight : moved ≡ 8
-  pub count : b ≡ f
-
-pub is_count : (a : Action) (own : List ℕ) (moved : ℕ) (f b : List ℕ) → whole_of a own moved f ≡ whole.Count b → IsCount a moved f b
-is_count action.Format own moved f b e = cond_both (moved == 8) _ _ (λ w. w ≡ whole.Count b → IsCount action.Format moved f b)
-    (λ eight is. record { is = refl; eight = eqb-true moved 8 eight; count = cc }) (λ _ is. absurd cc) e
-is_count action.WriteHomeAddress own moved f b e = absurd (cond_both (moved == 5 && bytes_eq (take 5 f) own) _ _ (λ w. w ≡ whole.Count b → ⊥) (λ _ is. cc) (λ _ is. cc) e)
-is_count _ own moved f b e = absurd cc
-
--- what is no whole field changes nothing
+-- what is no whole field changes nothing, by each thing that the test of a field reads
 pub no_change : (a : Action) (g : Geometry) (t : Sighted) (o : Opened) (r : Registers) (moved : ℕ) (f b : List ℕ) → whole_of a (own_home_address r) moved f ≡ whole.No → length b ≡ moved → take moved f ≡ b → ChangesNothing a g t o r b
 no_change action.WriteHomeAddress g t o r moved f b e long is = λ five.
     (let m : moved ≡ 5 = sym long ∙ five in
@@ -101,16 +87,11 @@ no_change action.WriteHomeAddress g t o r moved f b e long is = λ five.
 no_change action.Format g t o r moved f b e long is = λ eight. absurd (let m : moved ≡ 8 = sym long ∙ eight in let e' = rw m at e in cc)
 no_change _ g t o r moved f b e long is = tt
 
-pub field_stays : (half : HalfDone) (more f field : List ℕ) → MayTake half more → half.progress.place ≡ Field f → field ≡ overwritten f half.progress.moved more
-    → whole_of (action_now half) (own_home_address half.registers) (half.progress.moved + length more) field ≡ whole.No → Absorbs half more half.cache half.before (Field field)
-field_stays half more f field may at is none =
-    let passed = half.passed in
-    let k = field_goes half more f may at in
-    let goes = may.works.goes in
-    let moved : half.progress.moved + length more ≡ length (passed ++ more) = omega (arith, goes.moved, k.long) in
-    let come : take (length (passed ++ more)) field ≡ passed ++ more = rw is k.collected in
-    field_absorbs half more f field may at is
-    (no_change (action_of half.opened.command) half.cache.image.geometry (track_of (slot_at half.cache.slots (track_under half.cache.image.geometry half.registers))) half.opened half.registers (length (passed ++ more)) field (passed ++ more) (rw moved at none) refl come)
+pub field_stays : {half : HalfDone} {more f field : List ℕ} → Collects half more f field → whole_of (action_now half) (own_home_address half.registers) (half.progress.moved + length more) field ≡ whole.No
+    → Absorbs half more half.cache half.before (Field field)
+field_stays {half} {more} {f} {field} x none =
+    let k = field_goes x in
+    field_absorbs x (no_change (action_now half) half.cache.image.geometry (track_of (own_slot half)) half.opened half.registers (length (half.passed ++ more)) field (half.passed ++ more) (rw k.moved at none) refl k.collected)
 
 -- the home address
 
@@ -155,31 +136,26 @@ home_filled job now is five own room lens =
     }
 
 -- by what the code has read of its field, and by the slot that it made
-pub home_absorbs : (half : HalfDone) (more f field h new : List ℕ) → MayTake half more → half.progress.place ≡ Field f → field ≡ overwritten f half.progress.moved more
+pub home_absorbs : {half : HalfDone} {more f field : List ℕ} (h new : List ℕ) → Collects half more f field
     → whole_of (action_now half) (own_home_address half.registers) (half.progress.moved + length more) field ≡ whole.HomeAddress h → new ≡ slot_of half.cache.image.geometry.track_size (bare_track h)
     → Absorbs half more (with_held half.cache new) (slot_held half.cache) (Filled (record { start = 5; len = 0 }) written.HomeAddress)
-home_absorbs half more f field h new may at is e new_is =
+home_absorbs {half} {more} {f} {field} h new x e new_is =
+    let works = x.may.works in
     let c = half.cache in
-    let r = half.registers in
-    let p = half.progress in
-    let g = c.image.geometry in
-    let room : 13 ≤ g.track_size = omega (arith, may.works.volume.geometry.room) in
-    let n : ℕ = track_under g r in
-    let k = field_goes half more f may at in
-    let goes = may.works.goes in
-    let moved : p.moved + length more ≡ length (half.passed ++ more) = omega (arith, goes.moved, k.long) in
-    let home = is_home (action_of half.opened.command) (own_home_address r) (p.moved + length more) field h e in
+    let size = c.image.geometry.track_size in
+    let room : 13 ≤ size = omega (arith, works.volume.geometry.room) in
+    let n = own_track half in
+    let k = field_goes x in
+    let home = rw e at (is_whole (action_now half) (own_home_address half.registers) (half.progress.moved + length more) field) in
     let b = half.passed ++ more in
-    let five : length b ≡ 5 = sym moved ∙ home.five in
-    let come : take 5 field ≡ b = rw (five, ← is) at k.collected in
-    let h_is : h ≡ b = home.home ∙ come in
-    let own : bytes_eq b (own_home_address r) ≡ true = rw come at home.own_address in
-    let held : c.held ≡ Some n = rw home.is at k.has.at_hand in
-    let made : new ≡ slot_of g.track_size (bare_track b) = new_is ∙ ap (λ (y : List ℕ). slot_of g.track_size (bare_track y)) h_is in
-    let read = reads_new g.track_size (bare_track b) new (bare_fits g.track_size b five room) made in
-    let at_new = new_slot_at c n new held (there half may.works) in
-    let lens : lengths_on (track_in (slot_at (with_held c new).slots n)) ≡ lengths_on (bare_track b) = ap (λ (y : List ℕ). lengths_on (track_in y)) at_new ∙ ap lengths_on read.1 in
-    let left : p.left ≤ 5 - length half.passed = rw (at, home.is) at goes.left in
-    newly_absorbs half more new (record { start = 5; len = 0 }) written.HomeAddress (omega arith) may.works held (rw at refl) k.again
-    may.taking (omega (arith, five, k.long)) (omega (arith, left, five, k.long)) (omega (arith, five, k.long))
-    (home_filled (new_work half more new (record { start = 5; len = 0 }) written.HomeAddress) (slot_at (with_held c new).slots n) home.is five own room lens) made
+    let five : length b ≡ 5 = sym k.moved ∙ home.1 in
+    let come : take 5 field ≡ b = rw five at k.collected in
+    let held : c.held ≡ Some n = rw home.0 at k.has.at_hand in
+    let made : new ≡ slot_of size (bare_track b) = new_is ∙ ap (λ (y : List ℕ). slot_of size (bare_track y)) (home.3 ∙ come) in
+    let read = reads_new size (bare_track b) new (bare_fits size b five room) made in
+    let now : List ℕ = slot_at (with_held c new).slots n in
+    let lens : lengths_on (track_in now) ≡ lengths_on (bare_track b) = ap (λ (y : List ℕ). lengths_on (track_in y)) (new_slot_at c n new held (there half works)) ∙ ap lengths_on read.1 in
+    let w : Window = record { start = 5; len = 0 } in
+    newly_absorbs half more new w written.HomeAddress (omega arith) works held (rw x.placed refl) k.again
+    x.may.taking (omega (arith, five, k.long)) (let left = rw home.0 at k.left in omega (arith, left, five)) (omega (arith, five, k.long))
+    (home_filled (new_work half more new w written.HomeAddress) now home.0 five (rw come at home.2) room lens) made

@@ -1,6 +1,6 @@
 -- A failed call of the store is reported: it follows from what the definitions say of the state, and from how often the
 -- store was called.
-use Rattle.std.proofs.Common.{◌≡◌, ◌∙◌, inl, inr, ◌⊎◌, ap, sym, subst, refl, ℕ, ◌+◌, List, Bool, true, false, ◌&&◌, Option, Some, None, arith}
+use Rattle.std.proofs.Common.{◌≡◌, ◌∙◌, inl, inr, ◌⊎◌, ap, sym, subst, refl, ℕ, ◌+◌, List, Bool, true, false, Option, Some, None, arith}
 use Rattle.std.proofs.lemmas.Bool.{and_parts, true_from_ne_false}
 use Rattle.ckd_command.specs.declared.registers.Registers.{Registers}
 use Rattle.ckd_command.specs.declared.registers.Mark.TheVariants.{Written}
@@ -11,7 +11,7 @@ use Rattle.ckd_command.specs.Answers as command_answer
 use Rattle.ckd_command.specs.declared.close.DriveEnding.{DriveEnding}
 use Rattle.ckd_command.specs.Tables.{aim}
 use Rattle.ckd_command.specs.Commands.{Closing, beginning, sight, closing}
-use Rattle.ckd_command.specs.Drive.{State, Fault, LoadFails, SaveFails, Rejected, Closed, begin, begun, looked, look_for, closed, with_registers, is_written, track_under, tells_equipment_check, unsaved, lost, failed, closed_by}
+use Rattle.ckd_command.specs.Drive.{State, Fault, LoadFails, SaveFails, Closed, begin, begun, looked, look_for, closed, with_registers, is_written, track_under, tells_equipment_check, unsaved, lost, failed}
 use Rattle.ckd_command.proofs.CommandFacts.{NotTold, BeginsSilent, SightSilent, closing_facts, beginning_silent, sight_silent, store_fault_is_told}
 use Rattle.ckd_drive.specs.declared.answers.Begun.{Begun}
 use Rattle.ckd_drive.specs.declared.answers.Begun.TheVariants as answer
@@ -65,16 +65,12 @@ begun_quiet : (d : DriveState) (b : Beginning) → BeginsSilent d.state.register
 begun_quiet d (command_answer.ToCylinderZero r None) k = k
 begun_quiet d _ k = k
 
-pub record LosesAtBegin (f : Option Fault) (s : State) (b : Beginning) : Type 0 where
-  pub state : State
-  pub rejected : begun f s b ≡ Rejected state
-  pub tells : TellsFault state
+abbrev FailsAtBegin : Option Fault → DriveState → Beginning → Type 0
+FailsAtBegin f d b = (answer_of_begin (begun f d.state b) ≡ answer.Rejected) × TellsFault (after_begun (begun f d.state b) d).state
 
-loses_at_begin : (s : State) (b : Beginning) (left : List ℕ) → is_written s ≡ true → goes_to_cylinder_zero b ≡ true → LosesAtBegin (Some (SaveFails left)) s b
-loses_at_begin s (command_answer.ToCylinderZero r o) left w e =
-    let written : s.mark ≡ Written = mark_written s.mark w in
-    record { state = lost (with_registers s r) left; rejected = rw written refl; tells = lost_tells (with_registers s r) left }
-loses_at_begin s _ left w e = absurd cc
+loses_at_begin : (d : DriveState) (b : Beginning) (left : List ℕ) → is_written d.state ≡ true → goes_to_cylinder_zero b ≡ true → FailsAtBegin (Some (SaveFails left)) d b
+loses_at_begin d (command_answer.ToCylinderZero r o) left w e = (let written : d.state.mark ≡ Written = mark_written d.state.mark w in rw written (refl, lost_tells (with_registers d.state r) left))
+loses_at_begin d _ left w e = absurd cc
 
 pub begin_reports : (old new : DriveState) (code : ℕ) (a : Begun)
     → new ≡ with_image (after_begin (fault_met old new) code old) new.image → a ≡ answer_of_begin (begin (fault_met old new) code old.state) → CallsStore false (begin_saves code old) old new
@@ -82,10 +78,7 @@ pub begin_reports : (old new : DriveState) (code : ℕ) (a : Begun)
 begin_reports old new code a state says k =
     let b = beginning code old.state.registers in
     rw says (reports_by (λ f. answer_of_begin (begin f code old.state) ≡ answer.Rejected) false (begin_saves code old) old new (λ f. (after_begin f code old).state) (ap (λ (d : DriveState). d.state) state) k (begun_quiet old b (beginning_silent code old.state.registers))
-    (λ left saved.
-    (let both = and_parts (is_written old.state) (goes_to_cylinder_zero b) saved in
-    let x = loses_at_begin old.state b left both.0 both.1 in
-    (rw x.rejected refl, rw x.rejected x.tells)))
+    (λ left saved. (let both = and_parts (is_written old.state) (goes_to_cylinder_zero b) saved in loses_at_begin old b left both.0 both.1))
     (λ loaded more. absurd cc))
 
 -- Look.
@@ -140,13 +133,10 @@ end_quiet d (Passing o b left) = go (closing d.state.volume.geometry (track_unde
 end_quiet d _ = λ e. e
 
 loses_at_end : (d : DriveState) (w : Work) (left : List ℕ) → end_saves_of d w ≡ true → closed_of (Some (SaveFails left)) d w ≡ failed (lost d.state left)
-loses_at_end d (Passing o b l) left e = go (closing d.state.volume.geometry (track_under d.state) o d.state.registers b) e
-  where
-    go : (c : Closing) → (is_written d.state && c.moves_off) ≡ true → closed_by (Some (SaveFails left)) d.state c ≡ failed (lost d.state left)
-    go c h =
-        let both = and_parts (is_written d.state) c.moves_off h in
-        let written : d.state.mark ≡ Written = mark_written d.state.mark both.0 in
-        rw (both.1, written) refl
+loses_at_end d (Passing o b l) left e =
+    let both = and_parts (is_written d.state) (closing d.state.volume.geometry (track_under d.state) o d.state.registers b).moves_off e in
+    let written : d.state.mark ≡ Written = mark_written d.state.mark both.0 in
+    rw (both.1, written) refl
 loses_at_end d _ left e = absurd cc
 
 pub end_reports : (old new : DriveState) (e : DriveEnding)

@@ -8,7 +8,6 @@ use Rattle.ckd_command.specs.declared.registers.Registers.{Registers}
 use Rattle.ckd_command.specs.Commands.{IsAtTrack}
 use Rattle.ckd_drive.specs.Invariant.{Stands, track_under, HalfDone, Parts, own_track, StageIs, CreditIs, is_filled, work_of, parts_of, Goes, seen_by, slot_at, is_filled_by, AtWork, number_in, state_of}
 use Rattle.std.proofs.lemmas.List.Elements.{All-set}
-use Rattle.ckd_track.specs.declared.model.DriveModel.{DriveModel}
 use Rattle.ckd_track.specs.declared.model.DriveModel.TheVariants.{D2311, D2314}
 use Rattle.ckd_command.specs.declared.registers.Mark.TheVariants.{Saved, Lost}
 use Rattle.ckd_drive.specs.declared.answers.Stage.{Stage}
@@ -40,12 +39,8 @@ idle_stage _ h e = absurd cc
 pub no_credit : (c : CacheState) (r : Registers) (n : ℕ) → r.credit ≡ None → CreditIs r.credit c n
 no_credit c r n e = rw e tt
 
-heads_above : (m : DriveModel) → 0 < heads_of m
-heads_above D2311 = omega arith
-heads_above D2314 = omega arith
-
 pub at_zero : (c : CacheState) (r : Registers) → IsVolume c → IsAtTrack c.image.geometry (moved_to r 0 0)
-at_zero c r v = (let g = v.geometry in record { cylinder = omega (arith, g.cylinders); head = heads_above c.image.geometry.model })
+at_zero c r v = (let g = v.geometry in record { cylinder = omega (arith, g.cylinders); head = elim c.image.geometry.model as (λ m. 0 < heads_of m) [ D2311 ↦ omega arith | D2314 ↦ omega arith ] })
 
 -- The slots.
 
@@ -77,7 +72,7 @@ failures_saved c = elim c.changed as (λ b. (saved c.image c.slots b).failures �
 pub saved_stands : (d : Parts) (h : HalfDone) (s : Stage) → Stands d → h.cache ≡ after_save d.job.cache → is_filled s h ≡ false → IsAtTrack d.job.cache.image.geometry h.registers → StageIs s h → Stands (parts_of h Saved s)
 saved_stands d h s x e f at w = record { volume = rw e (volume_saved d.job.cache x.volume); arm = rw (e, geometry_saved d.job.cache) at; anchored = λ t. absurd (let no = rw e at t in cc); marked = rw (f, e) refl; work = w }
 
--- Where its saving failed.
+-- Where its saving failed: by all that a drive stands by, since four calls come here.
 pub lost_stands : (d : Parts) (left : List ℕ) (h : HalfDone) (s : Stage)
     → Stands d → length left ≡ d.job.cache.image.geometry.track_size → h.cache ≡ after_failed_save d.job.cache left → is_filled s h ≡ false → h.registers.cylinder ≡ d.job.registers.cylinder → h.registers.head ≡ d.job.registers.head → StageIs s h
     → Stands (parts_of h Lost s)

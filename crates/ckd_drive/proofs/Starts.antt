@@ -73,47 +73,40 @@ well_begun d now code x is idle =
     let credit : CreditIs d.job.registers.credit d.job.cache (own_track d.job) = rw at_rest at x.work in
     (at_rest, begins_well d.job.cache (own_track d.job) code d.job.registers credit)
 
--- The arm can't go to cylinder 0, since the track can't be saved.
-pub lost_begins : (old new : HalfDone) (was now : Mark) (q : Registers) (o : Option Opened) (b : Beginning)
-    → Stands (parts_of old was stage.Idle) → BeginsWell old.cache (own_track old) old.registers b → b ≡ ToCylinderZero q o → Loses (record old { registers = q }) new now
-    → Begins (parts_of old was stage.Idle) (parts_of new now stage.Idle) b
-lost_begins old new was now q o b x well is l =
-    let d = parts_of old was stage.Idle in
-    let c = old.cache in
-    let left = l.left in
-    let k = to_zero c (own_track old) old.registers q o (rw is at well) in
-    let after : HalfDone = record old { cache = after_failed_save c left; registers = lost_registers q } in
-    let drive = state_of (parts_of after Lost stage.Idle) in
-    let s = save_lost d (record old { registers = q }) new now drive x refl refl l refl in
-    rw (is, l.job, l.mark_is) (record {
-      stands = lost_stands d left after stage.Idle x l.size refl refl k.cylinder k.head tt;
-      state = rw (s.fault, s.written, s.held, k.cylinder, k.head, s.whole) refl;
-      calls = calls_of_failed_save _ _ c left (state_of d) drive refl refl (changed_is d x refl ∙ sym (and-true (is_written_by was))) l.changed;
-      at_hand = λ e. absurd (no_more c.image.loads e);
-    })
+-- An idle drive begins a command that goes to cylinder 0.
+module _ (old : HalfDone) (was : Mark) (x : Stands (parts_of old was stage.Idle)) (b : Beginning) (well : BeginsWell old.cache (own_track old) old.registers b) where
+  abbrev idle : Parts
+  idle = parts_of old was stage.Idle
 
--- The arm goes there, and the command works.
-pub zero_begins : (old new : HalfDone) (was now : Mark) (q : Registers) (o : Opened) (b : Beginning)
-    → Stands (parts_of old was stage.Idle) → BeginsWell old.cache (own_track old) old.registers b → b ≡ ToCylinderZero q (Some o) → Leaves old new now (moved_to q 0 0)
-    → Begins (parts_of old was stage.Idle) (parts_of (record new { opened = o }) now stage.Looking) b
-zero_begins old new was now q o b x well is l =
-    let c = old.cache in
-    let w = rw is at well in
-    rw (is, l.0, l.1)
-    (comes_saved _ _ (parts_of old was stage.Idle) (record old { cache = after_save c; registers = moved_to q 0 0; opened = o }) stage.Looking _ x refl (and-true (is_written_by was)) refl refl (at_zero c q x.volume)
-    (record { transfers = w.1; credit = rw w.2 tt; no_credit = w.0.credit }) (rw (geometry_saved c) refl))
+  -- The arm can't go there, since the track can't be saved.
+  pub lost_begins : (new : HalfDone) (now : Mark) (q : Registers) (o : Option Opened) → b ≡ ToCylinderZero q o → Loses (record old { registers = q }) new now → Begins idle (parts_of new now stage.Idle) b
+  lost_begins new now q o is l =
+      let k = to_zero old.cache (own_track old) old.registers q o (rw is at well) in
+      let after : HalfDone = record old { cache = after_failed_save old.cache l.left; registers = lost_registers q } in
+      let drive = state_of (parts_of after Lost stage.Idle) in
+      let s = save_lost idle (record old { registers = q }) new now drive x refl refl l refl in
+      rw (is, l.job, l.mark_is) (record {
+        stands = lost_stands idle l.left after stage.Idle x l.size refl refl k.cylinder k.head tt;
+        state = rw (s.fault, s.written, s.held, k.cylinder, k.head, s.whole) refl;
+        calls = calls_of_failed_save _ _ old.cache l.left (state_of idle) drive refl refl (changed_is idle x refl ∙ sym (and-true (is_written_by was))) l.changed;
+        at_hand = λ e. absurd (no_more old.cache.image.loads e);
+      })
 
--- The arm goes there, and the command is over.
-pub zero_ends : (old new : HalfDone) (was now : Mark) (q : Registers) (b : Beginning)
-    → Stands (parts_of old was stage.Idle) → BeginsWell old.cache (own_track old) old.registers b → b ≡ ToCylinderZero q None → Leaves old new now (moved_to q 0 0)
-    → Begins (parts_of old was stage.Idle) (parts_of new now stage.InMotion) b
-zero_ends old new was now q b x well is l =
-    let c = old.cache in
-    let r = moved_to q 0 0 in
-    let after : HalfDone = record old { cache = after_save c; registers = r } in
-    rw (is, l.0, l.1)
-    (comes_saved _ _ (parts_of old was stage.Idle) after stage.InMotion _ x refl (and-true (is_written_by was)) refl refl (at_zero c q x.volume)
-    (no_credit (after_save c) r (own_track after) (rw is at well).credit) (rw (geometry_saved c) refl))
+  -- It goes there, and the command works.
+  pub zero_begins : (new : HalfDone) (now : Mark) (q : Registers) (o : Opened) → b ≡ ToCylinderZero q (Some o) → Leaves old new now (moved_to q 0 0) → Begins idle (parts_of (record new { opened = o }) now stage.Looking) b
+  zero_begins new now q o is l =
+      let w = rw is at well in
+      rw (is, l.0, l.1)
+      (comes_saved _ _ idle (record old { cache = after_save old.cache; registers = moved_to q 0 0; opened = o }) stage.Looking _ x refl (and-true (is_written_by was)) refl refl (at_zero old.cache q x.volume)
+      (record { transfers = w.1; credit = rw w.2 tt; no_credit = w.0.credit }) (rw (geometry_saved old.cache) refl))
+
+  -- It goes there, and the command is over.
+  pub zero_ends : (new : HalfDone) (now : Mark) (q : Registers) → b ≡ ToCylinderZero q None → Leaves old new now (moved_to q 0 0) → Begins idle (parts_of new now stage.InMotion) b
+  zero_ends new now q is l =
+      let after : HalfDone = record old { cache = after_save old.cache; registers = moved_to q 0 0 } in
+      rw (is, l.0, l.1)
+      (comes_saved _ _ idle after stage.InMotion _ x refl (and-true (is_written_by was)) refl refl (at_zero old.cache q x.volume)
+      (no_credit after.cache after.registers (own_track after) (rw is at well).credit) (rw (geometry_saved old.cache) refl))
 
 -- The drive that was called.
 
@@ -121,11 +114,9 @@ zero_ends old new was now q b x well is l =
 begun_work : (x : AfterBegin) (d : DriveState) (s : Stage) (h : HalfDone) → is_idle d.work ≡ true → work_of s h ≡ (after_begun x d).work → begun_at s ≡ answer_of_begin x
 begun_work (Rejected t) d s h idle e = rw (idle_stage s h (ap is_idle e ∙ idle)) refl
 begun_work (Immediate t motion) d stage.Ended h idle e = refl
-begun_work (Immediate t motion) d stage.InMotion h idle e = refl
-begun_work (Immediate t motion) d stage.Failed h idle e = refl
-begun_work (Immediate t motion) d _ h idle e = absurd cc
+begun_work (Immediate t motion) d _ h idle e = cc
 begun_work (Started o) d stage.Looking h idle e = refl
-begun_work (Started o) d _ h idle e = absurd cc
+begun_work (Started o) d _ h idle e = cc
 
 -- what one call makes of the drive that begins a command
 pub record HasBegun (d : Parts) (now : DriveState) (code : ℕ) : Type 0 where

@@ -1,5 +1,5 @@
 -- Bytes that are taken.
-use Rattle.std.proofs.Common.{◌≡◌, ◌∙◌, ap, sym, refl, ℕ, ◌+◌, ◌-◌, ◌≤◌, List, [], ◌∷◌, ◌++◌, length, take, drop, slice_range, length-append, length-take, append_assoc, arith, Bool, true, false, ◌==◌, nat_lt, if◌then◌else◌, None, bytes_eq}
+use Rattle.std.proofs.Common.{rules, ◌≡◌, ◌∙◌, ap, sym, refl, ℕ, ◌+◌, ◌-◌, ◌≤◌, List, [], ◌∷◌, ◌++◌, length, take, drop, slice_range, length-append, length-take, append_assoc, arith, Bool, true, false, ◌==◌, nat_lt, None, bytes_eq}
 use Rattle.std.specs.Ordering.{nat_cmp, ordering_then}
 use Rattle.std.specs.declared.cmp.Ordering.{Ordering}
 use Rattle.std.specs.declared.cmp.Ordering.TheVariants as order
@@ -12,12 +12,11 @@ use Rattle.ckd_command.specs.declared.tables.Action.TheVariants as action
 use Rattle.ckd_command.specs.Answers.{Found}
 use Rattle.ckd_slot.specs.declared.windows.Window.{Window}
 use Rattle.ckd_drive.specs.declared.transfer.Transfer.TheVariants.{Field, Search}
-use Rattle.ckd_command.specs.Tables.{action_of}
-use Rattle.ckd_command.specs.Commands.{Closing, sight, area_bytes, length_after, close_by, length_for, own_home_address, new_record_fits, write_home_address, format, whole_field, at_end}
-use Rattle.ckd_drive.specs.Invariant.{HalfDone, MayTake, Absorbs, own_slot, own_track, action_now, HasField, slot_at, track_under, order_of, field_size, at_work, IsField}
+use Rattle.ckd_command.specs.Commands.{Closing, sight, close_by, length_for, own_home_address, new_record_fits, write_home_address, format, whole_field, at_end}
+use Rattle.ckd_drive.specs.Invariant.{HalfDone, MayTake, Absorbs, own_slot, action_now, area_in, HasField, order_of, field_size, at_work, IsField}
 use Rattle.ckd_command.proofs.Closings.{closing_by}
 use Rattle.ckd_command.proofs.Lengths.{length_by}
-use Rattle.ckd_drive.proofs.Moving.{slot_small, lies_first, window_moves, absorbs_plain}
+use Rattle.ckd_drive.proofs.Moving.{window_moves, absorbs_plain}
 use Rattle.std.proofs.lemmas.Bool.{cond_both}
 use Rattle.std.proofs.lemmas.Bool.Decides.{nat_tests}
 use Rattle.ckd_track.specs.declared.geometries.Geometry.{Geometry}
@@ -34,9 +33,8 @@ then_assoc _ b c = refl
 
 compare_more : (x a : List ℕ) (y b : List ℕ) → length x ≡ length a → ordering_then (slice_cmp nat_cmp x a) (slice_cmp nat_cmp y b) ≡ slice_cmp nat_cmp (x ++ y) (a ++ b)
 compare_more [] [] y b e = refl
-compare_more [] (a ∷ bs) y b e = absurd (omega (arith, e))
-compare_more (x ∷ xs) [] y b e = absurd (omega (arith, e))
 compare_more (x ∷ xs) (a ∷ bs) y b e = then_assoc (nat_cmp x a) (slice_cmp nat_cmp xs bs) (slice_cmp nat_cmp y b) ∙ ap (λ (o : Ordering). ordering_then (nat_cmp x a) o) (compare_more xs bs y b (omega (arith, e)))
+compare_more _ _ y b e = absurd (omega (arith, e))
 
 order_more : (area passed more : List ℕ) → length passed + length more ≤ length area → ordering_then (order_of area passed) (slice_cmp nat_cmp (take (length more) (drop (length passed) area)) more) ≡ order_of area (passed ++ more)
 order_more area passed more le =
@@ -51,24 +49,17 @@ pub search_absorbs : (half : HalfDone) (more slot : List ℕ) (w : Window) (so_f
     → now ≡ ordering_then so_far (slice_cmp nat_cmp (slice_range slot w.start (w.start + length more)) more)
     → Absorbs half more half.cache half.before (Search (record { start = w.start + length more; len = w.len - length more }) now)
 search_absorbs half more slot w so_far now may at slot_is now_is =
-    let c = half.cache in
-    let passed = half.passed in
-    let o = half.opened in
-    let t = track_of (own_slot half) in
-    let left : half.progress.left ≤ w.len = rw at at may.works.goes.left in
-    let le : length more ≤ w.len = omega (arith, left, may.room) in
-    let placed = rw at at may.works.goes.placed in
+    let x = may.works in
+    let left : half.progress.left ≤ w.len = rw at at x.goes.left in
+    let placed = rw at at x.goes.placed in
     let h = placed.0 in
-    let area = area_bytes t o half.registers in
-    let m = window_moves (own_slot half) area passed more w h.lies h.room le in
-    let piece : slice_range slot w.start (w.start + length more) ≡ take (length more) (drop (length passed) area) = rw slot_is (lies_first (own_slot half) (drop (length passed) area) w (length more) h.lies le) in
-    let compared : now ≡ order_of area (passed ++ more) = now_is ∙ rw (h.compared, piece) (order_more area passed more (omega (arith, m.whole, le))) in
-    let wants : length_after c.image.geometry t o half.registers (passed ++ more) ≡ length area = length_by action.Search c.image.geometry t o half.registers (passed ++ more) h.is_search in
-    absorbs_plain half more (Search (record { start = w.start + length more; len = w.len - length more }) now) may.works (rw at refl) refl (rw at refl) (rw at refl) (
-      record { is_search = h.is_search; at_hand = h.at_hand; lies = m.lies; room = m.room; begins = omega (arith, h.begins, m.far); compared = compared },
-      record { again = placed.1.again; len = omega (arith, wants, m.whole, m.far, le) },
+    let m = window_moves half more w x.volume h.lies h.room h.begins (omega (arith, left, may.room)) in
+    let compared = now_is ∙ rw (h.compared, slot_is, m.first) (order_more (area_in (at_work half)) half.passed more (omega (arith, m.room, length-append half.passed more))) in
+    absorbs_plain half more (Search (record { start = w.start + length more; len = w.len - length more }) now) x (rw at refl) refl (rw at refl) (rw at refl) (
+      record { is_search = h.is_search; at_hand = h.at_hand; lies = m.lies; room = m.room; begins = m.begins; compared = compared },
+      record { again = placed.1.again; len = length_by action.Search half.cache.image.geometry (track_of (own_slot half)) half.opened half.registers (half.passed ++ more) h.is_search ∙ m.len },
     )
-    (omega (arith, h.begins, h.lies.within, le, slot_small c (own_track half) may.works.volume))
+    m.small
 
 -- Fields: how many bytes they want, and that they write nothing until they are whole.
 
@@ -84,16 +75,13 @@ unwritten_field r b size c le h =
     let P : Closing → Type 0 = λ k. k.written ≡ None in
     cond_both (length b == 0) _ _ P (λ _. refl) (λ _. cond_both (nat_lt (length b) size) _ _ P (λ _. refl) (λ long. h (grind (arith, nat_tests))))
 
-seeks_unwritten : (a : Bool) (x y : Closing) → x.written ≡ None → y.written ≡ None → (if a then x else y).written ≡ None
-seeks_unwritten a x y p q = cond_both a x y (λ k. k.written ≡ None) (λ _. p) (λ _. q)
-
 format_wants : (g : Geometry) (t : Sighted) (o : Opened) (r : Registers) (b : List ℕ) (short : Bool) → nat_lt (length b) 8 ≡ short → length b ≤ 8 → ChangesNothing action.Format g t o r b → length_for action.Format g t o r b ≡ 8
 format_wants g t o r b true e le n = rw e refl
 format_wants g t o r b false e le n = (let own = n (grind (arith, nat_tests)) in rw (e, own) refl)
 
 pub field_unwritten : (a : Action) (g : Geometry) (t : Sighted) (o : Opened) (r : Registers) (b : List ℕ) → IsField a → length b ≤ field_size a → ChangesNothing a g t o r b → (close_by a g t o r b).written ≡ None
-field_unwritten action.SeekCylinderAndHead g t o r b f le n = unwritten_field r b 6 _ le (λ _. seeks_unwritten _ _ _ refl refl)
-field_unwritten action.SeekHead g t o r b f le n = unwritten_field r b 6 _ le (λ _. seeks_unwritten _ _ _ refl refl)
+field_unwritten action.SeekCylinderAndHead g t o r b f le n = unwritten_field r b 6 _ le (λ _. cond_both _ _ _ (λ (k : Closing). k.written ≡ None) (λ _. refl) (λ _. refl))
+field_unwritten action.SeekHead g t o r b f le n = unwritten_field r b 6 _ le (λ _. cond_both _ _ _ (λ (k : Closing). k.written ≡ None) (λ _. refl) (λ _. refl))
 field_unwritten action.SetFileMask g t o r [] f le n = refl
 field_unwritten action.SetFileMask g t o r (x ∷ b) f le n = refl
 field_unwritten action.WriteHomeAddress g t o r b f le n = unwritten_field (at_end o r) b 5 (write_home_address o r b) le (λ five. (let own = n five in rw own refl))
@@ -101,12 +89,8 @@ field_unwritten action.Format g t o r b f le n = unwritten_field r b 8 (format g
 field_unwritten _ g t o r b f le n = absurd f
 
 pub field_wants : (a : Action) (g : Geometry) (t : Sighted) (o : Opened) (r : Registers) (b : List ℕ) → IsField a → length b ≤ field_size a → ChangesNothing a g t o r b → length_for a g t o r b ≡ field_size a
-field_wants action.SeekCylinderAndHead g t o r b f le n = refl
-field_wants action.SeekHead g t o r b f le n = refl
-field_wants action.SetFileMask g t o r b f le n = refl
-field_wants action.WriteHomeAddress g t o r b f le n = refl
 field_wants action.Format g t o r b f le n = format_wants g t o r b (nat_lt (length b) 8) refl le n
-field_wants _ g t o r b f le n = absurd f
+field_wants _ g t o r b f le n = search rules
 
 pub field_small : (a : Action) → field_size a ≤ 8
 field_small action.Format = omega arith
@@ -126,46 +110,52 @@ collected_more f passed more e =
     let is : overwritten f m more ≡ (passed ++ more) ++ drop (m + length more) f = ap (λ (z : List ℕ). z ++ (more ++ drop (m + length more) f)) e ∙ sym (append_assoc passed more (drop (m + length more) f)) in
     rw is (take_at (passed ++ more) (drop (m + length more) f) (length (passed ++ more)) refl)
 
--- what is known of a field, with more bytes
-pub record FieldGoes (half : HalfDone) (more f : List ℕ) : Type 0 where
+-- a field is collected, and is this with more bytes
+pub record Collects (half : HalfDone) (more f field : List ℕ) : Type 0 where
+  pub may : MayTake half more
+  pub placed : half.progress.place ≡ Field f
+  pub is : field ≡ overwritten f half.progress.moved more
+
+-- what is known of it then
+pub record FieldGoes (half : HalfDone) (more f field : List ℕ) : Type 0 where
   pub has : HasField (at_work half) f
   pub again : sight half.cache.image.geometry (track_of (own_slot half)) half.opened half.registers ≡ Found half.opened
   pub long : length (half.passed ++ more) ≡ length half.passed + length more
+  pub moved : half.progress.moved + length more ≡ length (half.passed ++ more)
   pub room : length (half.passed ++ more) ≤ field_size (action_now half)
-  pub collected : take (length (half.passed ++ more)) (overwritten f half.progress.moved more) ≡ half.passed ++ more
+  pub left : half.progress.left - length more ≤ field_size (action_now half) - length (half.passed ++ more)
+  pub collected : take (length (half.passed ++ more)) field ≡ half.passed ++ more
 
-pub field_goes : (half : HalfDone) (more f : List ℕ) → MayTake half more → half.progress.place ≡ Field f → FieldGoes half more f
-field_goes half more f may at =
-    let passed = half.passed in
-    let g = half.cache.image.geometry in
-    let goes = may.works.goes in
-    let left : half.progress.left ≤ field_size (action_of half.opened.command) - length passed = rw at at goes.left in
-    let placed = rw at at goes.placed in
+pub field_goes : {half : HalfDone} {more f field : List ℕ} → Collects half more f field → FieldGoes half more f field
+field_goes {half} {more} {f} {field} x =
+    let goes = x.may.works.goes in
+    let left : half.progress.left ≤ field_size (action_now half) - length half.passed = rw x.placed at goes.left in
+    let placed = rw x.placed at goes.placed in
     let h = placed.0 in
-    let far : length (passed ++ more) ≡ length passed + length more = length-append passed more in
+    let far = length-append half.passed more in
     record {
       has = h;
       again = placed.1.again;
       long = far;
-      room = omega (arith, far, left, may.room, h.room);
-      collected = rw (← goes.moved) (collected_more f passed more h.collected);
+      moved = omega (arith, goes.moved, far);
+      room = omega (arith, far, left, x.may.room, h.room);
+      left = omega (arith, far, left);
+      collected = rw (x.is, ← goes.moved) (collected_more f half.passed more h.collected);
     }
 
-pub field_absorbs : (half : HalfDone) (more f field : List ℕ)
-    → MayTake half more → half.progress.place ≡ Field f → field ≡ overwritten f half.progress.moved more
+pub field_absorbs : {half : HalfDone} {more f field : List ℕ} → Collects half more f field
     → ChangesNothing (action_now half) half.cache.image.geometry (track_of (own_slot half)) half.opened half.registers (half.passed ++ more)
     → Absorbs half more half.cache half.before (Field field)
-field_absorbs half more f field may at is nothing =
+field_absorbs {half} {more} {f} {field} x nothing =
     let r = half.registers in
-    let p = half.progress in
     let g = half.cache.image.geometry in
-    let n : ℕ = track_under g r in
-    let a = action_of half.opened.command in
-    let t = track_of (slot_at half.cache.slots n) in
-    let k = field_goes half more f may at in
+    let a = action_now half in
+    let t = track_of (own_slot half) in
+    let at = x.placed in
+    let k = field_goes x in
     let wants = length_by a g t half.opened r (half.passed ++ more) refl ∙ field_wants a g t half.opened r (half.passed ++ more) k.has.is_field k.room nothing in
-    absorbs_plain half more (Field field) may.works (rw at refl) refl (rw at refl) (rw at (let far = k.long in omega (arith, far))) (
-      record { is_field = k.has.is_field; room = k.room; collected = rw is k.collected; at_hand = k.has.at_hand },
+    absorbs_plain half more (Field field) x.may.works (rw at refl) refl (rw at refl) (rw at (let far = k.long in omega (arith, far))) (
+      record { is_field = k.has.is_field; room = k.room; collected = k.collected; at_hand = k.has.at_hand },
       record { again = k.again; len = (let room = k.room in omega (arith, wants, room)) },
       ap (λ (y : Closing). y.written) (closing_by a g t half.opened r (half.passed ++ more) refl) ∙ field_unwritten a g t half.opened r (half.passed ++ more) k.has.is_field k.room nothing,
     )

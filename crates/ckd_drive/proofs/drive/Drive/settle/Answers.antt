@@ -7,30 +7,23 @@ use Rattle.ckd_drive.specs.declared.answers.Stage.{Stage}
 use Rattle.ckd_drive.specs.declared.answers.Stage.TheVariants.{Idle, Passing}
 use Rattle.ckd_slot.specs.Cache.{after_save, after_failed_save}
 use Rattle.ckd_drive.specs.Work.{DriveState, passed_of, fault_met, with_image, after_settle, settled_mark, CallsStore}
-use Rattle.ckd_drive.specs.Invariant.{Stands, StageIs, IsPlaced, state_of, work_of, seen, is_filled, is_filled_by, HalfDone, Parts, parts_of, own_track, at_work, AtWork}
+use Rattle.ckd_drive.specs.Invariant.{Stands, StageIs, IsPlaced, state_of, work_of, seen, is_filled, is_filled_by, seen_with, HalfDone, Parts, parts_of, at_work}
 use Rattle.ckd_drive.specs.Calls.{Loses}
 use Rattle.ckd_drive.specs.Jobs.{half_done}
 use Rattle.ckd_drive.proofs.Calls.{fault_none, lost_registers, save_lost, changed_is, calls_of_save, calls_of_failed_save}
-use Rattle.ckd_drive.proofs.Standing.{failures_saved, geometry_saved, no_filled_seen, parts_in}
+use Rattle.ckd_drive.proofs.Standing.{failures_saved, geometry_saved, parts_in}
 use Rattle.ckd_command.specs.Drive.{is_written}
 use Rattle.ckd_drive.proofs.Reported.{settle_reports}
 use Rattle.ckd_drive.proofs.drive.Drive.settle.Goals as goal
 
-unfilled_place : (job : AtWork) (p : Transfer) → IsPlaced job p → job.passed ≡ [] → is_filled_by p ≡ false
-unfilled_place job (Filled w u) x e = absurd (let some : 0 < length job.passed = x.some in let none : length job.passed ≡ 0 = ap length e in omega (arith, some, none))
-unfilled_place job _ x e = refl
+-- where no byte has passed the track is not being written, and is seen as it is
+unwritten_by : (p : Transfer) (h : HalfDone) → IsPlaced (at_work h) p → h.passed ≡ [] → (is_filled_by p ≡ false) × (seen_with h h.before p ≡ h.cache.slots)
+unwritten_by (Filled w u) h x e = absurd (let some : 0 < length h.passed = x.some in let none : length h.passed ≡ 0 = ap length e in omega (arith, some, none))
+unwritten_by _ h x e = (refl, refl)
 
-unfilled_by : (s : Stage) (h : HalfDone) → StageIs s h → passed_of (work_of s h) ≡ [] → is_filled s h ≡ false
-unfilled_by Passing h x e = unfilled_place (at_work h) h.progress.place x.placed e
-unfilled_by _ h x e = refl
-
-unfilled : (d : Parts) (now : DriveState)
-    → Stands d → state_of d ≡ now → passed_of now.work ≡ [] → is_filled d.stage d.job ≡ false
-unfilled d now x is e = unfilled_by d.stage d.job x.work (ap (λ (y : DriveState). passed_of y.work) is ∙ e)
-
-seen_plain : (s : Stage) (h : HalfDone) → is_filled s h ≡ false → seen s h ≡ h.cache.slots
-seen_plain Passing h f = no_filled_seen h.cache.slots (own_track h) h.before h.progress.place f
-seen_plain _ h f = refl
+unwritten : (s : Stage) (h : HalfDone) → StageIs s h → passed_of (work_of s h) ≡ [] → (is_filled s h ≡ false) × (seen s h ≡ h.cache.slots)
+unwritten Passing h x e = unwritten_by h.progress.place h x.placed e
+unwritten _ h x e = (refl, refl)
 
 -- a drive that settled
 record Settled (now : DriveState) (after : Parts) : Type 0 where
@@ -40,22 +33,22 @@ record Settled (now : DriveState) (after : Parts) : Type 0 where
 settled : (d : Parts) (came : HalfDone) (now : DriveState) → Stands d → state_of d ≡ now → passed_of now.work ≡ [] → came ≡ record d.job { cache = after_save d.job.cache }
     → Settled now (parts_of came (settled_mark d.mark) Idle)
 settled d came now x is e save =
-    let unwritten = unfilled d now x is e in
+    let plain = unwritten d.stage d.job x.work (ap (λ (y : DriveState). passed_of y.work) is ∙ e) in
     let after = state_of (parts_of (record d.job { cache = after_save d.job.cache }) (settled_mark d.mark) Idle) in
     let none : fault_met (state_of d) after ≡ None = fault_none (state_of d) after (failures_saved d.job.cache) in
     rw (save, ← is) (record {
-      state = rw (none, seen_plain d.stage d.job unwritten, geometry_saved d.job.cache) refl;
-      calls = calls_of_save _ _ d.job.cache (state_of d) after refl refl (changed_is d x unwritten);
+      state = rw (none, plain.1, geometry_saved d.job.cache) refl;
+      calls = calls_of_save _ _ d.job.cache (state_of d) after refl refl (changed_is d x plain.0);
     })
 
 unsettled : (d : Parts) (came : HalfDone) (m : Mark) (now : DriveState) → Stands d → state_of d ≡ now → passed_of now.work ≡ [] → Loses d.job came m → Settled now (parts_of came m Idle)
 unsettled d came m now x is e l =
-    let unwritten = unfilled d now x is e in
+    let plain = unwritten d.stage d.job x.work (ap (λ (y : DriveState). passed_of y.work) is ∙ e) in
     let after = state_of (parts_of (record d.job { cache = after_failed_save d.job.cache l.left; registers = lost_registers d.job.registers }) Lost Idle) in
-    let s = save_lost d d.job came m after x unwritten refl l refl in
+    let s = save_lost d d.job came m after x plain.0 refl l refl in
     rw (← is, l.job, l.mark_is) (record {
-      state = rw (s.fault, seen_plain d.stage d.job unwritten, s.written, s.held, s.whole) refl;
-      calls = calls_of_failed_save _ _ d.job.cache l.left (state_of d) after refl refl (changed_is d x unwritten) l.changed;
+      state = rw (s.fault, plain.1, s.written, s.held, s.whole) refl;
+      calls = calls_of_failed_save _ _ d.job.cache l.left (state_of d) after refl refl (changed_is d x plain.0) l.changed;
     })
 
 pub returns : goal.returns

@@ -1,5 +1,5 @@
-use Rattle.std.proofs.Common.{◌≡◌, ◌∙◌, refl}
-use Rattle.ckd_drive.specs.Invariant.{own_track, own_slot}
+use Rattle.std.proofs.Common.{◌∙◌, refl}
+use Rattle.ckd_drive.specs.Invariant.{own_track}
 use Rattle.ckd_drive.specs.Jobs.{half_done}
 use Rattle.ckd_drive.proofs.Takes.{search_absorbs}
 use Rattle.ckd_drive.proofs.job.Job.search.Goals as goal
@@ -9,9 +9,9 @@ pub returns : goal.returns
 returns g c =
     let half = half_done c.args.self.now in
     let placed = rw c.requires.at at c.requires.may.works.goes.placed in
-    let slot : c.bytes.result.now ≡ own_slot half = c.bytes.ensures ∙ slot_is half.cache (own_track half) c.buffer.result.now placed.0.at_hand.held c.buffer.ensures.slot in
     rw (c.search_on.ensures, c.behind.ensures)
     record {
-      absorbs = search_absorbs half c.args.bytes.now c.bytes.result.now c.args.window c.args.so_far c.compared-so_far.result c.requires.may c.requires.at slot c.compared-so_far.ensures;
+      absorbs = search_absorbs half c.args.bytes.now c.bytes.result.now c.args.window c.args.so_far c.compared-so_far.result c.requires.may c.requires.at
+          (c.bytes.ensures ∙ slot_is half.cache (own_track half) c.buffer.result.now placed.0.at_hand.held c.buffer.ensures.slot) c.compared-so_far.ensures;
       stays = refl;
     }
