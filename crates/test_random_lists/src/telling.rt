@@ -58,7 +58,7 @@ fn track_at(disk: &Disk, at: u64) -> (u16, u16, u16)
 
 /// Whether a program is over with unit check and without incorrect length.
 fn has_unit_check(view: &View) -> bool {
-    match view.subchannel {
+    match &view.subchannel {
         SubchannelView::Pending(_, csw) => csw.unit.0 & 0x02 != 0 && csw.channel.0 & 0x40 == 0,
         _ => false,
     }
@@ -66,10 +66,11 @@ fn has_unit_check(view: &View) -> bool {
 
 /// Whether a program is over with unit check and without incorrect length, and its device's sense bytes have equipment check.
 pub(crate) fn has_equipment_check(channel: &mut TestChannel) -> bool {
-    let SubchannelView::Pending(device, _) = channel.state().subchannel else {
+    let view = channel.state();
+    let SubchannelView::Pending(device, _) = view.subchannel else {
         return false;
     };
-    if !has_unit_check(&channel.state()) {
+    if !has_unit_check(&view) {
         return false;
     }
     let address = u16::from(device).saturating_add(0x100);
