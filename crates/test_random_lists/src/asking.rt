@@ -26,14 +26,20 @@ pub(crate) fn answers_well(
 // Whether an interruption waits.
 fn is_pending(view: &View) -> bool {
     match &view.subchannel {
-        SubchannelView::Idle => {
-            view.drives
-                .iter()
-                .any(|drive| matches!(drive, Some((_, Arm::Arrived))))
-        }
+        SubchannelView::Idle => has_arrived(view),
         SubchannelView::Working(_, asks) => *asks,
         SubchannelView::Pending(_, _) => true,
     }
+}
+
+// Whether an arm has arrived.
+fn has_arrived(view: &View) -> bool {
+    for drive in &view.drives {
+        if matches!(drive, Some((_, Arm::Arrived))) {
+            return true;
+        }
+    }
+    false
 }
 
 fn tells_of_all(channel: &mut TestChannel, view: &View, disks: &[Disk]) -> bool {

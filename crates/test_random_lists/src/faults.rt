@@ -178,9 +178,12 @@ pub(crate) fn keeps_slots(device: u8, first: &Left, left: &Left, lost: &[u64]) -
 }
 
 fn content_of(left: &Left, device: u8) -> Option<&Content> {
-    left.contents
-        .iter()
-        .find(|content| content.device == device)
+    for content in left.contents.as_slice() {
+        if content.device == device {
+            return Some(content);
+        }
+    }
+    None
 }
 
 // Whether only the slots are others that begin at these places; the header begins at 0.

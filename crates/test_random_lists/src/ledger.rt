@@ -7,11 +7,11 @@ use s360_events::Condition;
 use s360_laws::arm::Arm;
 use s360_words::UnitStatus;
 
-/// How many addresses are watched.
+/// How many addresses are watched: those of the drives of all lists.
 const WATCHED: usize = 4;
 
-/// These addresses: those of the drives of all lists.
-const ADDRESSES: [u16; WATCHED] = [0x190, 0x191, 0x192, 0x193];
+/// The first one.
+const FIRST: u16 = 0x190;
 
 /// How often the ends of an address were stored since its last accepted program, or the last reset.
 #[derive(Drop)]
@@ -93,22 +93,30 @@ impl Ledger {
 
     // Whether the channel end of each accepted program is stored.
     fn may_accept(&self) -> bool {
-        self.entries
-            .iter()
-            .all(|entry| !entry.is_accepted || entry.channel_ends == 1)
+        for entry in &self.entries {
+            if entry.is_accepted && entry.channel_ends != 1 {
+                return false;
+            }
+        }
+        true
     }
 
     fn entry(&mut self, address: u16) -> Option<&mut Entry> {
-        let place = ADDRESSES.iter().position(|watched| *watched == address)?;
-        self.entries.get_mut(place)
+        let place = address.checked_sub(FIRST)?;
+        self.entries.get_mut(usize::from(place))
     }
 
     // Whether what was stored and what the channel shows as owed are together what is due, for each address.
     fn is_balanced(&self, view: &View) -> bool {
-        self.entries.iter().zip(ADDRESSES.iter()).all(|(entry, address)| {
-            let (channel_owes, device_owes) = owed(view, *address);
-            entry.is_balanced(channel_owes, device_owes)
-        })
+        let mut address = FIRST;
+        for entry in &self.entries {
+            let (channel_owes, device_owes) = owed(view, address);
+            if !entry.is_balanced(channel_owes, device_owes) {
+                return false;
+            }
+            address = address.saturating_add(1);
+        }
+        true
     }
 }
 
@@ -136,8 +144,7 @@ fn stored(answer: &Answer) -> Option<(u16, UnitStatus)> {
 // How often channel end and device end are owed to an address.
 fn owed(view: &View, address: u16) -> (u8, u8) {
     let device = (address % 256) as u8;
-    let moves = view.drives.iter().any(|drive| is_moved(drive, device));
-    let by_arm = u8::from(moves);
+    let by_arm = u8::from(is_moved(view, device));
     match &view.subchannel {
         SubchannelView::Working(working, _) if *working == device => (1, by_arm.saturating_add(1)),
         SubchannelView::Pending(pending, csw) if *pending == device => {
@@ -148,9 +155,14 @@ fn owed(view: &View, address: u16) -> (u8, u8) {
     }
 }
 
-fn is_moved(drive: &Option<(u8, Arm)>, device: u8) -> bool {
-    match drive {
-        Some((number, arm)) => *number == device && *arm != Arm::AtRest,
-        None => false,
+// Whether the arm of a device is not at rest.
+fn is_moved(view: &View, device: u8) -> bool {
+    for drive in &view.drives {
+        if let Some((number, arm)) = drive {
+            if *number == device && *arm != Arm::AtRest {
+                return true;
+            }
+        }
     }
+    false
 }

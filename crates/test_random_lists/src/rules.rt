@@ -94,14 +94,16 @@ impl Shown {
 
     // Whether the drives are the same behind, where the arm of the one at an address does this.
     fn moves(&self, address: u16, arm: Arm, behind: &Shown) -> bool {
-        self.view.drives.iter().zip(&behind.view.drives).all(|(before, behind)| {
-            match before {
-                Some((device, _)) if u16::from(*device) == address % 256 => {
-                    *behind == Some((*device, arm))
-                }
-                _ => *behind == *before,
+        for (before, behind) in self.view.drives.iter().zip(&behind.view.drives) {
+            let due = match before {
+                Some((device, _)) if u16::from(*device) == address % 256 => Some((*device, arm)),
+                _ => *before,
+            };
+            if *behind != due {
+                return false;
             }
-        })
+        }
+        true
     }
 
     // Whether nothing runs behind and nothing pends, and the arm of the drive at an address does this.
@@ -116,13 +118,16 @@ impl Shown {
 
     // Whether nothing runs behind and nothing pends, and each arm is at rest.
     fn is_at_rest(&self, behind: &Shown) -> bool {
-        let at_rest = self.view.drives.iter().zip(&behind.view.drives).all(|(before, behind)| {
-            match before {
-                Some((device, _)) => *behind == Some((*device, Arm::AtRest)),
-                None => behind.is_none(),
+        for (before, behind) in self.view.drives.iter().zip(&behind.view.drives) {
+            let due = match before {
+                Some((device, _)) => Some((*device, Arm::AtRest)),
+                None => None,
+            };
+            if *behind != due {
+                return false;
             }
-        });
-        behind.view.subchannel == SubchannelView::Idle && at_rest
+        }
+        behind.view.subchannel == SubchannelView::Idle
     }
 
     fn starts(&self, address: u16, told: &Condition<Status>, behind: &Shown) -> bool {

@@ -11,8 +11,8 @@ use s360_channel::{SubchannelView, View};
 use s360_deck::Answer;
 use test_watched_channels::{Disk, TestChannel};
 
-/// Whether an event reports so many faults: none where none was met, and otherwise one. A step and a halt report it by unit check, a reset by
-/// the track that is lost.
+/// Whether an event reports so many faults: none where none was met, and otherwise one. A step and a halt report it by unit check, a reset
+/// by the track that is lost.
 pub(crate) fn tells(
     disks: &[Disk],
     answer: &Answer,
@@ -33,9 +33,12 @@ fn names(disks: &[Disk], unsaved: Option<(u16, u16, u16)>, lost: Option<u64>) ->
     let (Some((address, cylinder, head)), Some(at)) = (unsaved, lost) else {
         return false;
     };
-    disks
-        .iter()
-        .any(|disk| track_at(disk, at) == (address, cylinder, head))
+    for disk in disks {
+        if track_at(disk, at) == (address, cylinder, head) {
+            return true;
+        }
+    }
+    false
 }
 
 // The input/output address of a disk, and the cylinder and head of the track whose slot begins at this place of its image.
