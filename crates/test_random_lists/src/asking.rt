@@ -16,44 +16,48 @@ pub(crate) fn answers_well(
     disks: &[Disk],
 ) -> Result<bool> {
     let view = channel.state();
-    if channel.is_pending() != is_pending(&view) {
+    if channel.is_pending() != is_pending(&view) || !tells_of_all(channel, &view, disks) {
         return Ok(false);
     }
-    for disk in disks {
-        if !tells_of(channel, &view, disk) {
-            return Ok(false);
-        }
-    }
-    let is_exchanged = exchanges(alloc, channel)?;
-    Ok(is_exchanged && channel.state() == view)
+    let mut other = Storage::new(alloc, 8_192)?;
+    Ok(exchanges(channel, &mut other) && channel.state() == view)
 }
 
 // Whether an interruption waits.
 fn is_pending(view: &View) -> bool {
-    match view.subchannel {
-        SubchannelView::Idle => {
-            view.drives
-                .iter()
-                .any(|drive| matches!(drive, Some((_, Arm::Arrived))))
-        }
-        SubchannelView::Working(_, asks) => asks,
+    match &view.subchannel {
+        SubchannelView::Idle => has_arrived(view),
+        SubchannelView::Working(_, asks) => *asks,
         SubchannelView::Pending(_, _) => true,
     }
 }
 
+// Whether an arm has arrived.
+fn has_arrived(view: &View) -> bool {
+    for drive in &view.drives {
+        if matches!(drive, Some((_, Arm::Arrived))) {
+            return true;
+        }
+    }
+    false
+}
+
+fn tells_of_all(channel: &mut TestChannel, view: &View, disks: &[Disk]) -> bool {
+    for disk in disks {
+        if !tells_of(channel, view, disk) {
+            return false;
+        }
+    }
+    true
+}
+
 // Whether a channel tells what it has at a disk's address, and keeps a drive there of which something is owed.
 fn tells_of(channel: &mut TestChannel, view: &View, disk: &Disk) -> bool {
-    let Some(seen) = channel.drive(disk.device) else {
+    let (Some(seen), Some(image)) = (channel.drive(disk.device), channel.image(disk.device)) else {
         return false;
     };
-    let is_of_model = match channel.image(disk.device) {
-        Some(image) => image.geometry().model == disk.model,
-        None => false,
-    };
-    if !is_of_model
-        || seen.model != disk.model
-        || !view.drives.contains(&Some((disk.device, seen.arm)))
-    {
+    let is_of_model = seen.model == disk.model && image.geometry().model == disk.model;
+    if !is_of_model || !view.drives.contains(&Some((disk.device, seen.arm))) {
         return false;
     }
     match owed(view, disk.device, seen.arm) {
@@ -64,9 +68,9 @@ fn tells_of(channel: &mut TestChannel, view: &View, disk: &Disk) -> bool {
 
 // What is owed of a drive.
 fn owed(view: &View, device: u8, arm: Arm) -> Option<DetachFault> {
-    match view.subchannel {
-        SubchannelView::Working(working, _) if working == device => Some(DetachFault::ProgramRuns),
-        SubchannelView::Pending(pending, _) if pending == device => Some(DetachFault::EndingPends),
+    match &view.subchannel {
+        SubchannelView::Working(working, _) if *working == device => Some(DetachFault::ProgramRuns),
+        SubchannelView::Pending(pending, _) if *pending == device => Some(DetachFault::EndingPends),
         _ if arm != Arm::AtRest => Some(DetachFault::DeviceEndOwed),
         _ => None,
     }
@@ -81,31 +85,52 @@ fn is_refused(channel: &mut TestChannel, device: u8, fault: DetachFault) -> bool
 }
 
 // Whether another storage takes the place of a channel's own, bytes and keys, and comes back.
-fn exchanges(alloc: Global, channel: &mut TestChannel) -> Result<bool> {
-    let mut other = Storage::new(alloc, 8_192)?;
+fn exchanges(channel: &mut TestChannel, other: &mut Storage) -> bool {
     let is_made = other.put(0x1000, &[0x5A]) && other.set_key(0x1000, 5);
-    let (key, byte) = (channel.key(0x1000), channel.storage().byte(0x1000));
-    if !is_made || channel.exchange_storage(&mut other).is_err() {
-        return Ok(false);
+    let own = key_and_byte(channel);
+    if !is_made || channel.exchange_storage(other).is_err() {
+        return false;
     }
-    let is_other = channel.key(0x1000) == Some(5) && channel.storage().byte(0x1000) == Some(0x5A);
-    let is_handed_out = other.key(0x1000) == key && other.byte(0x1000) == byte;
-    let is_back = channel.exchange_storage(&mut other).is_ok() && channel.key(0x1000) == key;
-    Ok(is_other && is_handed_out && is_back)
+    let is_other = key_and_byte(channel) == (Some(5), Some(0x5A));
+    let is_handed_out = (other.key(0x1000), other.byte(0x1000)) == own;
+    let is_back = channel.exchange_storage(other).is_ok() && channel.key(0x1000) == own.0;
+    is_other && is_handed_out && is_back
+}
+
+// The key and the first byte of a block.
+fn key_and_byte(channel: &TestChannel) -> (Option<u8>, Option<u8>) {
+    (channel.key(0x1000), channel.storage().byte(0x1000))
 }
 
 /// Whether a drive is attached at the address 0 of a channel over a disk, and another one at that address is refused.
 pub(crate) fn attaches_once(alloc: Global, disk: &Disk) -> Result<bool> {
     let watch = Watch::new();
     let mut channel = channel_over(alloc, &watch, &[], Failure::NONE)?;
-    let image = image_of(alloc, &watch, disk)?;
-    let is_first = channel.attach(alloc, 0, image).is_ok();
-    let image = image_of(alloc, &watch, disk)?;
-    let is_taken = match channel.attach(alloc, 0, image) {
-        Ok(()) => false,
-        Err((fault, _)) => fault == AttachFault::UnitTaken,
-    };
-    Ok(is_first && is_taken)
+    attaches_once_at(alloc, &mut channel, &watch, disk)
+}
+
+fn attaches_once_at<'a>(
+    alloc: Global,
+    channel: &mut TestChannel<'a>,
+    watch: &'a Watch,
+    disk: &Disk,
+) -> Result<bool> {
+    let first = attach(alloc, channel, watch, disk)?;
+    let second = attach(alloc, channel, watch, disk)?;
+    Ok(first.is_none() && second == Some(AttachFault::UnitTaken))
+}
+
+// Attaches an image of a disk at the address 0; why it is refused.
+fn attach<'a>(
+    alloc: Global,
+    channel: &mut TestChannel<'a>,
+    watch: &'a Watch,
+    disk: &Disk,
+) -> Result<Option<AttachFault>> {
+    match channel.attach(alloc, 0, image_of(alloc, watch, disk)?) {
+        Ok(()) => Ok(None),
+        Err((fault, _)) => Ok(Some(fault)),
+    }
 }
 
 // An image of a disk.

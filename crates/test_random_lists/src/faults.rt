@@ -1,15 +1,13 @@
 //! Lists of events over stores of which a call fails.
 
 use crate::telling::has_equipment_check;
-use crate::watching::{Watched, most_calls};
+use crate::trials::{Trial, are_left_alike};
+use crate::watching::most_calls;
 use anyhow::Result;
 use s360_channel::SubchannelView;
 use s360_deck::{Answer, Event};
-use std::alloc::Global;
 use std::fmt;
-use test_watched_channels::{
-    Content, Disk, Failure, Left, TestChannel, Watch, channel_over, finish,
-};
+use test_watched_channels::{Content, Failure, Left, TestChannel, Watch, channel_over, finish};
 
 /// The length of an image's header, behind which the slots stand.
 pub(crate) const HEADER_LENGTH: usize = 512;
@@ -18,7 +16,7 @@ pub(crate) const HEADER_LENGTH: usize = 512;
 const MOST_UNITS: u32 = 300;
 
 /// What came of a list over stores of which a call fails.
-#[derive(Clone, Copy, PartialEq, Eq)]
+#[derive(Drop)]
 pub(crate) enum Ending {
     /// There was no such call, and all is as without faults.
     NoCall,
@@ -47,58 +45,49 @@ impl fmt::Display for Ending {
     }
 }
 
-/// What an event came to at the channel whose store fails.
-#[derive(Clone, Copy, PartialEq, Eq)]
-enum Met {
-    /// No fault yet.
-    Nothing,
-    /// A fault, in a step or at a halt.
-    InProgram,
-    /// A fault at a reset, which reports this track.
-    AtReset(Option<(u16, u16, u16)>),
-    /// Too many calls.
-    Calls,
+/// Does a list at two channels unit by unit, up to the first call that fails at one of them, and judges what came of it.
+pub(crate) fn fail_list(trial: &Trial) -> Result<Ending> {
+    let (plain_watch, watch) = (Watch::new(), Watch::new());
+    let mut plain = channel_over(trial.alloc, &plain_watch, trial.disks, Failure::NONE)?;
+    let mut failing = trial.channel(&watch)?;
+    let ending = play_both(&watch, &mut plain, &mut failing, trial.events);
+    let lost = watch.lost();
+    let plain = finish(trial.alloc, plain)?;
+    let failing = finish(trial.alloc, failing)?;
+    Ok(match ending {
+        None => judge_end(trial.failure.device, &watch, &plain, &failing),
+        Some(Ending::Told) => judge(trial.failure.device, lost, &plain, &failing),
+        Some(ending) => ending,
+    })
 }
 
-/// Does a list at two channels unit by unit, up to the first call that fails at one of them, and judges what came of it.
-pub(crate) fn fail_list(
-    alloc: Global,
-    disks: &[Disk],
+// Does a list at both channels up to the first call that fails, or to another answer: what came of it, and nothing where no event met a
+// fault.
+fn play_both(
+    watch: &Watch,
+    plain: &mut TestChannel,
+    failing: &mut TestChannel,
     events: &[Event],
-    failure: Failure,
-) -> Result<Ending> {
-    let plain_watch = Watch::new();
-    let mut plain = channel_over(alloc, &plain_watch, disks, Failure::NONE)?;
-    let watch = Watch::new();
-    let mut failing = channel_over(alloc, &watch, disks, failure)?;
+) -> Option<Ending> {
     for event in events {
-        match both(&watch, &mut plain, &mut failing, event) {
-            Met::Nothing => {}
-            Met::Calls => return Ok(Ending::Calls),
-            Met::AtReset(None) => return Ok(Ending::NotTold),
-            Met::AtReset(Some(_)) => return judge(
-                alloc,
-                failure.device,
-                watch.lost(),
-                plain,
-                failing,
-            ),
-            Met::InProgram => {
-                if !has_equipment_check(&mut failing) {
-                    return Ok(Ending::NotTold);
-                }
-                return judge(alloc, failure.device, watch.lost(), plain, failing);
-            }
+        let ending = both(watch, plain, failing, event);
+        if ending.is_some() {
+            return ending;
         }
         if plain.state() != failing.state() {
-            return Ok(Ending::OtherWithoutFault);
+            return Some(Ending::OtherWithoutFault);
         }
     }
-    end(alloc, &watch, failure.device, plain, failing)
+    None
 }
 
 // An event at both channels; a step or run unit by unit, until a call fails.
-fn both(watch: &Watch, plain: &mut TestChannel, failing: &mut TestChannel, event: &Event) -> Met {
+fn both(
+    watch: &Watch,
+    plain: &mut TestChannel,
+    failing: &mut TestChannel,
+    event: &Event,
+) -> Option<Ending> {
     let units = match event {
         Event::Step(units) => u32::from(*units),
         Event::Run(units) => *units,
@@ -109,132 +98,111 @@ fn both(watch: &Watch, plain: &mut TestChannel, failing: &mut TestChannel, event
     };
     for _ in 0..units.min(MOST_UNITS) {
         if !matches!(failing.state().subchannel, SubchannelView::Working(_, _)) {
-            return Met::Nothing;
+            return None;
         }
         let _ = plain.step(1);
-        let met = react(watch, failing, &Event::Step(1));
-        if met != Met::Nothing {
-            return met;
+        let ending = react(watch, failing, &Event::Step(1));
+        if ending.is_some() {
+            return ending;
         }
     }
-    Met::Nothing
+    None
 }
 
 // An event at the channel whose store fails.
-fn react(watch: &Watch, failing: &mut TestChannel, event: &Event) -> Met {
+fn react(watch: &Watch, failing: &mut TestChannel, event: &Event) -> Option<Ending> {
     let calls = watch.calls();
     let answer = failing.react(event);
     if watch.calls().saturating_sub(calls) > most_calls(&answer) {
-        return Met::Calls;
+        return Some(Ending::Calls);
     }
-    match answer {
-        _ if !watch.has_failed() => Met::Nothing,
-        Answer::Reset(unsaved) => Met::AtReset(unsaved),
-        _ => Met::InProgram,
+    if !watch.has_failed() {
+        return None;
     }
+    let is_told = match answer {
+        Answer::Reset(unsaved) => unsaved.is_some(),
+        _ => has_equipment_check(failing),
+    };
+    Some(if is_told {
+        Ending::Told
+    } else {
+        Ending::NotTold
+    })
 }
 
 // What is left after the first call that failed: at most the track is another that could not be saved.
-fn judge(
-    alloc: Global,
-    disk: u8,
-    lost: Option<u64>,
-    plain: TestChannel,
-    failing: TestChannel,
-) -> Result<Ending> {
-    let plain = finish(alloc, plain)?;
-    let failing = finish(alloc, failing)?;
-    if is_only_lost(alloc, disk, lost, &plain, &failing)? {
-        return Ok(Ending::Told);
+fn judge(device: u8, lost: Option<u64>, plain: &Left, failing: &Left) -> Ending {
+    if is_only_lost(device, lost, plain, failing) {
+        Ending::Told
+    } else {
+        Ending::OtherTracks
     }
-    Ok(Ending::OtherTracks)
 }
 
 // What is left where no event of the list met a fault; the last reset may meet it.
-fn end(
-    alloc: Global,
-    watch: &Watch,
-    disk: u8,
-    plain: TestChannel,
-    failing: TestChannel,
-) -> Result<Ending> {
-    let plain = finish(alloc, plain)?;
-    let failing = finish(alloc, failing)?;
+fn judge_end(device: u8, watch: &Watch, plain: &Left, failing: &Left) -> Ending {
     if watch.has_failed() {
-        return Ok(if failing.unsaved.is_none() {
-            Ending::NotTold
-        } else if is_only_lost(alloc, disk, watch.lost(), &plain, &failing)? {
-            Ending::Told
-        } else {
-            Ending::OtherTracks
-        });
+        if failing.unsaved.is_none() {
+            return Ending::NotTold;
+        }
+        return judge(device, watch.lost(), plain, failing);
     }
-    if plain.has_same_images(&failing) && plain.has_same_storage(&failing) {
-        return Ok(Ending::NoCall);
+    if are_left_alike(plain, failing) {
+        Ending::NoCall
+    } else {
+        Ending::OtherWithoutFault
     }
-    Ok(Ending::OtherWithoutFault)
 }
 
 // Whether all images are the same but for the slot of this disk that begins here.
-fn is_only_lost(
-    alloc: Global,
-    device: u8,
-    lost: Option<u64>,
-    one: &Left,
-    other: &Left,
-) -> Result<bool> {
+fn is_only_lost(device: u8, lost: Option<u64>, one: &Left, other: &Left) -> bool {
     for (one, other) in one.contents.iter().zip(other.contents.iter()) {
-        let others = other_slots(alloc, one, other)?;
-        if !others
-            .iter()
-            .all(|at| one.device == device && Some(*at) == lost)
-        {
-            return Ok(false);
+        let is_kept = match lost {
+            Some(at) if one.device == device => differ_only_at(one, other, &[at]),
+            _ => differ_only_at(one, other, &[]),
+        };
+        if !is_kept {
+            return false;
         }
     }
-    Ok(true)
+    true
 }
 
 /// Whether a disk whose store fails for good has the slots behind all events that it had behind the first fault, but for those that
 /// could not be saved.
-pub(crate) fn keeps_slots(alloc: Global, device: u8, watched: &Watched) -> Result<bool> {
-    let Some(first) = &watched.first else {
-        return Ok(true);
-    };
-    let (Some(one), Some(other)) = (
-        first
-            .contents
-            .iter()
-            .find(|content| content.device == device),
-        watched
-            .left
-            .contents
-            .iter()
-            .find(|content| content.device == device),
-    ) else {
-        return Ok(false);
-    };
-    let others = other_slots(alloc, one, other)?;
-    Ok(others.iter().all(|at| watched.lost.as_slice().contains(at)))
+pub(crate) fn keeps_slots(device: u8, first: &Left, left: &Left, lost: &[u64]) -> bool {
+    match (content_of(first, device), content_of(left, device)) {
+        (Some(one), Some(other)) => differ_only_at(one, other, lost),
+        _ => false,
+    }
 }
 
-// Where the slots begin that are others, and the header at 0.
-fn other_slots(alloc: Global, one: &Content, other: &Content) -> Result<Vec<u64>> {
+fn content_of(left: &Left, device: u8) -> Option<&Content> {
+    for content in left.contents.as_slice() {
+        if content.device == device {
+            return Some(content);
+        }
+    }
+    None
+}
+
+// Whether only the slots are others that begin at these places; the header begins at 0.
+fn differ_only_at(one: &Content, other: &Content, places: &[u64]) -> bool {
     let size = (one.geometry.track_size as usize).max(1);
-    let mut others = Vec::new(alloc);
     let (header, slots) = parts(one.store.bytes());
     let (other_header, other_slots) = parts(other.store.bytes());
-    if header != other_header || slots.len() != other_slots.len() {
-        others.push(0)?;
+    let is_as_long = header == other_header && slots.len() == other_slots.len();
+    if !is_as_long && !places.contains(&0) {
+        return false;
     }
     let mut at: u64 = HEADER_LENGTH as u64;
     for (slot, other) in slots.chunks(size).zip(other_slots.chunks(size)) {
-        if slot != other {
-            others.push(at)?;
+        if slot != other && !places.contains(&at) {
+            return false;
         }
         at = at.saturating_add(size as u64);
     }
-    Ok(others)
+    true
 }
 
 // The header of an image, and its slots.

@@ -7,42 +7,27 @@ use s360_events::Condition;
 use s360_laws::arm::Arm;
 use s360_words::UnitStatus;
 
-/// How many addresses are watched.
+/// How many addresses are watched: those of the drives of all lists.
 const WATCHED: usize = 4;
 
-/// These addresses: those of the drives of all lists.
-const ADDRESSES: [u16; WATCHED] = [0x190, 0x191, 0x192, 0x193];
-
-/// What came last for an address.
-#[derive(Clone, Copy, PartialEq, Eq)]
-enum Since {
-    Nothing,
-    Acceptance,
-    Reset,
-}
+/// The first one.
+const FIRST: u16 = 0x190;
 
 /// How often the ends of an address were stored since its last accepted program, or the last reset.
-#[derive(Clone, Copy, PartialEq, Eq)]
+#[derive(Drop)]
 struct Entry {
-    since: Since,
+    /// Whether a program was accepted, and behind it no reset.
+    is_accepted: bool,
     channel_ends: u8,
     device_ends: u8,
 }
 
 impl Entry {
     const NEW: Entry = Entry {
-        since: Since::Nothing,
+        is_accepted: false,
         channel_ends: 0,
         device_ends: 0,
     };
-
-    fn begun(since: Since) -> Entry {
-        Entry {
-            since,
-            channel_ends: 0,
-            device_ends: 0,
-        }
-    }
 
     fn store(&mut self, status: UnitStatus) {
         if status.0 & 0x08 != 0 {
@@ -55,14 +40,14 @@ impl Entry {
 
     // Whether what was stored and what is owed are together what is due.
     fn is_balanced(&self, channel_owes: u8, device_owes: u8) -> bool {
-        let due = u8::from(self.since == Since::Acceptance);
+        let due = u8::from(self.is_accepted);
         self.channel_ends.saturating_add(channel_owes) == due
             && self.device_ends.saturating_add(device_owes) == due
     }
 }
 
 /// The counts of a list.
-#[derive(Clone, Copy, PartialEq, Eq)]
+#[derive(Drop)]
 pub(crate) struct Ledger {
     entries: [Entry; WATCHED],
     /// How many programs were accepted.
@@ -77,10 +62,16 @@ impl Ledger {
         }
     }
 
-    /// Takes an answer in; whether it may come now.
-    pub(crate) fn takes(&mut self, answer: &Answer) -> bool {
+    /// Takes an answer in; whether it may come now, and behind it what was stored and what the channel shows as owed are together what is
+    /// due, for each address.
+    pub(crate) fn takes(&mut self, answer: &Answer, behind: &View) -> bool {
+        self.counts(answer) && self.is_balanced(behind)
+    }
+
+    // Counts what an answer tells; whether it may come now.
+    fn counts(&mut self, answer: &Answer) -> bool {
         if let Answer::Reset(_) = answer {
-            self.entries = [Entry::begun(Since::Reset); WATCHED];
+            self.entries = [Entry::NEW; WATCHED];
         }
         if let Some(address) = accepted(answer) {
             if !self.may_accept() {
@@ -88,7 +79,8 @@ impl Ledger {
             }
             self.programs = self.programs.saturating_add(1);
             if let Some(entry) = self.entry(address) {
-                *entry = Entry::begun(Since::Acceptance);
+                *entry = Entry::NEW;
+                entry.is_accepted = true;
             }
         }
         if let Some((address, status)) = stored(answer) {
@@ -101,20 +93,30 @@ impl Ledger {
 
     // Whether the channel end of each accepted program is stored.
     fn may_accept(&self) -> bool {
-        self.entries.iter().all(|entry| entry.since != Since::Acceptance || entry.channel_ends == 1)
+        for entry in &self.entries {
+            if entry.is_accepted && entry.channel_ends != 1 {
+                return false;
+            }
+        }
+        true
     }
 
     fn entry(&mut self, address: u16) -> Option<&mut Entry> {
-        let place = ADDRESSES.iter().position(|watched| *watched == address)?;
-        self.entries.get_mut(place)
+        let place = address.checked_sub(FIRST)?;
+        self.entries.get_mut(usize::from(place))
     }
 
-    /// Whether what was stored and what the channel shows as owed are together what is due, for each address.
-    pub(crate) fn is_balanced(&self, view: &View) -> bool {
-        self.entries.iter().zip(ADDRESSES.iter()).all(|(entry, address)| {
-            let (channel_owes, device_owes) = owed(view, *address);
-            entry.is_balanced(channel_owes, device_owes)
-        })
+    // Whether what was stored and what the channel shows as owed are together what is due, for each address.
+    fn is_balanced(&self, view: &View) -> bool {
+        let mut address = FIRST;
+        for entry in &self.entries {
+            let (channel_owes, device_owes) = owed(view, address);
+            if !entry.is_balanced(channel_owes, device_owes) {
+                return false;
+            }
+            address = address.saturating_add(1);
+        }
+        true
     }
 }
 
@@ -142,11 +144,10 @@ fn stored(answer: &Answer) -> Option<(u16, UnitStatus)> {
 // How often channel end and device end are owed to an address.
 fn owed(view: &View, address: u16) -> (u8, u8) {
     let device = (address % 256) as u8;
-    let moves = view.drives.iter().any(|drive| is_moved(drive, device));
-    let by_arm = u8::from(moves);
-    match view.subchannel {
-        SubchannelView::Working(working, _) if working == device => (1, by_arm.saturating_add(1)),
-        SubchannelView::Pending(pending, csw) if pending == device => {
+    let by_arm = u8::from(is_moved(view, device));
+    match &view.subchannel {
+        SubchannelView::Working(working, _) if *working == device => (1, by_arm.saturating_add(1)),
+        SubchannelView::Pending(pending, csw) if *pending == device => {
             let by_channel = u8::from(csw.unit.0 & 0x04 != 0);
             (1, by_arm.saturating_add(by_channel))
         }
@@ -154,9 +155,14 @@ fn owed(view: &View, address: u16) -> (u8, u8) {
     }
 }
 
-fn is_moved(drive: &Option<(u8, Arm)>, device: u8) -> bool {
-    match drive {
-        Some((number, arm)) => *number == device && *arm != Arm::AtRest,
-        None => false,
+// Whether the arm of a device is not at rest.
+fn is_moved(view: &View, device: u8) -> bool {
+    for drive in &view.drives {
+        if let Some((number, arm)) = drive {
+            if *number == device && *arm != Arm::AtRest {
+                return true;
+            }
+        }
     }
+    false
 }

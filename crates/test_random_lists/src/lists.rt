@@ -4,7 +4,7 @@ use crate::chains::{AREAS, HOME_ADDRESSES, IDENTIFIERS, MASKS, RECORDS, SEEKS, W
 use crate::chance::Chance;
 use anyhow::Result;
 use s360_events::{Event, ShowCount, StorageKey};
-use std::alloc::Global;
+use std::alloc::{AllocError, Global};
 
 /// Where chains stand, each of which has 128 bytes.
 pub(crate) const CHAINS: u32 = 0x400;
@@ -15,14 +15,38 @@ const MOVE: [u8; 8] = [0x13, 0, 0, 0, 0x20, 0, 0, 1];
 /// Where the channel address word stands.
 pub(crate) const ADDRESS_WORD: u32 = 0x48;
 
+/// A list that is made: what memory is refused for is left out, and the list comes to nothing at its end.
+#[derive(Drop)]
+struct Script {
+    events: Vec<Event>,
+    is_refused: bool,
+}
+
+impl Script {
+    fn add(&mut self, event: Event) {
+        if self.events.push(event).is_err() {
+            self.is_refused = true;
+        }
+    }
+
+    // The list, if there was memory for all of it.
+    fn finish(self) -> Result<Vec<Event>> {
+        let Script { events, is_refused } = self;
+        if is_refused {
+            return Err(AllocError.into());
+        }
+        Ok(events)
+    }
+}
+
 /// A list for so many drives: tables of arguments and chains are stored first.
 pub(crate) fn random_list(alloc: Global, chance: &mut Chance, drives: u32) -> Result<Vec<Event>> {
-    let mut events = first_events(alloc, chance)?;
+    let mut script = first_events(alloc, chance);
     let turns = chance.below(16).saturating_add(8);
     for _ in 0..turns {
-        add_turn(chance, drives, &mut events)?;
+        add_turn(chance, drives, &mut script);
     }
-    Ok(events)
+    script.finish()
 }
 
 /// A list of so many events, for so many drives.
@@ -32,84 +56,88 @@ pub(crate) fn long_list(
     drives: u32,
     length: usize,
 ) -> Result<Vec<Event>> {
-    let mut events = first_events(alloc, chance)?;
+    let mut script = first_events(alloc, chance);
     for _ in 0..length {
-        if events.len() < length {
-            add_turn(chance, drives, &mut events)?;
+        if script.events.len() < length {
+            add_turn(chance, drives, &mut script);
         }
     }
-    events.truncate(length);
-    Ok(events)
+    script.events.truncate(length);
+    script.finish()
 }
 
 // Tables of arguments and chains are stored, and the channel address word.
-fn first_events(alloc: Global, chance: &mut Chance) -> Result<Vec<Event>> {
-    let mut events = Vec::new(alloc);
+fn first_events(alloc: Global, chance: &mut Chance) -> Script {
+    let mut script = Script {
+        events: Vec::new(alloc),
+        is_refused: false,
+    };
     for table in [SEEKS, IDENTIFIERS, MASKS, HOME_ADDRESSES, RECORDS] {
-        events.push(store_table(chance, table))?;
+        script.add(store_table(chance, table));
     }
     for place in 0..4 {
-        events.push(store_chain(chance, place))?;
+        script.add(store_chain(chance, place));
     }
-    events.push(store_address_word(chance))?;
-    Ok(events)
+    script.add(store_address_word(chance));
+    script
 }
 
 // A program, an arm that moves, or one event.
-fn add_turn(chance: &mut Chance, drives: u32, events: &mut Vec<Event>) -> Result<()> {
+fn add_turn(chance: &mut Chance, drives: u32, script: &mut Script) {
     if chance.percent(40) {
-        add_program(chance, drives, events)?;
+        add_program(chance, drives, script);
     } else if chance.percent(15) {
-        add_moving_arm(chance, drives, events)?;
+        add_moving_arm(chance, drives, script);
     } else {
-        events.push(random_event(chance, drives))?;
+        script.add(random_event(chance, drives));
     }
-    Ok(())
 }
 
 // A start, other events between its steps, and its ends.
-fn add_program(chance: &mut Chance, drives: u32, events: &mut Vec<Event>) -> Result<()> {
+fn add_program(chance: &mut Chance, drives: u32, script: &mut Script) {
     let address = device_address(chance, drives);
-    events.push(store_address_word(chance))?;
-    events.push(Event::Sio(address))?;
+    script.add(store_address_word(chance));
+    script.add(Event::Sio(address));
     let between = chance.below(4);
     for _ in 0..between {
-        events.push(Event::Step(units(chance)))?;
-        events.push(random_event(chance, drives))?;
+        script.add(Event::Step(units(chance)));
+        script.add(random_event(chance, drives));
     }
-    events.push(Event::Step(units(chance)))?;
+    script.add(Event::Step(units(chance)));
     if chance.percent(8) {
-        events.push(Event::Reset)?;
+        script.add(Event::Reset);
     }
-    events.push(Event::Interrupt)?;
-    events.push(Event::Arrive(address))?;
-    events.push(Event::Interrupt)?;
-    Ok(())
+    script.add(Event::Interrupt);
+    script.add(Event::Arrive(address));
+    script.add(Event::Interrupt);
 }
 
 // An arm is sent on its way, and arrives, while the program of a drive runs and others are tested.
-fn add_moving_arm(chance: &mut Chance, drives: u32, events: &mut Vec<Event>) -> Result<()> {
+fn add_moving_arm(chance: &mut Chance, drives: u32, script: &mut Script) {
     let moving = device_address(chance, drives);
-    events.push(Event::Interrupt)?;
-    events.push(stored(CHAINS, &MOVE))?;
-    let [_, a0, a1, a2] = CHAINS.to_be_bytes();
-    events.push(stored(ADDRESS_WORD, &[0, a0, a1, a2]))?;
-    events.push(Event::Sio(moving))?;
-    events.push(store_chain(chance, 1))?;
-    events.push(store_address_word(chance))?;
-    events.push(Event::Sio(device_address(chance, drives)))?;
+    script.add(Event::Interrupt);
+    script.add(stored(CHAINS, &MOVE));
+    script.add(stored_address_word(0, CHAINS));
+    script.add(Event::Sio(moving));
+    script.add(store_chain(chance, 1));
+    script.add(store_address_word(chance));
+    script.add(Event::Sio(device_address(chance, drives)));
     for _ in 0..chance.below(4) {
-        events.push(Event::Step(chance.below(4).min(65_535) as u16))?;
-        events.push(match chance.below(9) {
-            0 | 1 => Event::Arrive(moving),
-            2 | 3 => Event::Tio(moving),
-            4 | 5 => Event::Tio(device_address(chance, drives)),
-            6 => Event::Interrupt,
-            7 => Event::Sio(moving),
-            _ => Event::Hio(moving),
-        })?;
+        script.add(Event::Step(chance.below(4).min(65_535) as u16));
+        script.add(event_while_moving(chance, drives, moving));
     }
-    Ok(())
+}
+
+// An event for a drive whose arm moves, or another one.
+fn event_while_moving(chance: &mut Chance, drives: u32, moving: u16) -> Event {
+    match chance.below(9) {
+        0 | 1 => Event::Arrive(moving),
+        2 | 3 => Event::Tio(moving),
+        4 | 5 => Event::Tio(device_address(chance, drives)),
+        6 => Event::Interrupt,
+        7 => Event::Sio(moving),
+        _ => Event::Hio(moving),
+    }
 }
 
 // An event, of those that programs need most of all.
@@ -185,7 +213,10 @@ fn store_address_word(chance: &mut Chance) -> Event {
     } else {
         0
     };
-    let at = CHAINS.saturating_add(place).saturating_add(within);
+    stored_address_word(key, CHAINS.saturating_add(place).saturating_add(within))
+}
+
+fn stored_address_word(key: u8, at: u32) -> Event {
     let [_, a0, a1, a2] = at.to_be_bytes();
     stored(ADDRESS_WORD, &[key, a0, a1, a2])
 }

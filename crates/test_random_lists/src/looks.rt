@@ -1,16 +1,17 @@
 //! A list of events that is watched, and the same list that nobody watches.
 
+use crate::trials::{Driven, Trial, are_left_alike};
 use crate::watching::are_alike;
 use anyhow::Result;
 use ckd_image::ImageStore;
 use s360_channel::Channel;
-use s360_deck::{Answer, Event, drive};
-use s360_trace::{Moment, Watcher};
+use s360_deck::Answer;
+use s360_trace::{Moment, Watcher, drive};
 use std::alloc::Global;
-use test_watched_channels::{Disk, Failure, Watch, channel_over, finish};
+use test_watched_channels::{Watch, finish};
 
 /// Who only looks.
-#[derive(Clone, Copy)]
+#[derive(Drop)]
 pub(crate) struct Looks {
     /// How many units were told.
     pub units: u64,
@@ -26,34 +27,44 @@ impl Watcher for Looks {
     }
 }
 
-/// Drives a fresh channel over these disks through a list, and another that is watched; answers how many units they did, where
-/// answers, calls of stores, storage and images are the same.
-pub(crate) fn units_if_same<W: Watcher>(
-    alloc: Global,
-    disks: &[Disk],
-    events: &[Event],
-    failure: Failure,
-    watcher: &mut W,
-) -> Result<Option<u64>> {
-    let (watch, again) = (Watch::new(), Watch::new());
-    let mut plain = channel_over(alloc, &watch, disks, failure)?;
-    let mut watched = channel_over(alloc, &again, disks, failure)?;
-    let answers = drive(alloc, &mut plain, events)?;
-    let others = s360_trace::drive(alloc, &mut watched, events, watcher)?;
-    if !all_alike(alloc, answers.as_slice(), others.as_slice())? {
+/// Drives a fresh channel through a list, and another that is watched; answers how many units they did, where answers, calls of stores,
+/// storage and images are the same.
+pub(crate) fn units_if_same<W: Watcher>(trial: &Trial, watcher: &mut W) -> Result<Option<u64>> {
+    let watched = watched(trial, watcher)?;
+    units_if_driven(trial, &watched)
+}
+
+// Drives a fresh channel that is watched through a list.
+fn watched<W: Watcher>(trial: &Trial, watcher: &mut W) -> Result<Driven> {
+    let watch = Watch::new();
+    let mut channel = trial.channel(&watch)?;
+    let answers = drive(trial.alloc, &mut channel, trial.events, watcher)?;
+    Ok(Driven {
+        answers,
+        calls: watch.calls(),
+        failed: watch.failed(),
+        left: finish(trial.alloc, channel)?,
+    })
+}
+
+// How many units a list does, where it comes to this.
+fn units_if_driven(trial: &Trial, watched: &Driven) -> Result<Option<u64>> {
+    let driven = Driven::of(trial)?;
+    if !are_all_alike(
+        trial.alloc,
+        driven.answers.as_slice(),
+        watched.answers.as_slice(),
+    )? {
         return Ok(None);
     }
-    let calls = (watch.calls(), watch.failed());
-    if calls != (again.calls(), again.failed()) {
-        return Ok(None);
-    }
-    let (left, other) = (finish(alloc, plain)?, finish(alloc, watched)?);
-    let same = left.has_same_storage(&other) && left.has_same_images(&other);
-    Ok(same.then_some(units_of(answers.as_slice())))
+    let same = driven.calls == watched.calls
+        && driven.failed == watched.failed
+        && are_left_alike(&driven.left, &watched.left);
+    Ok(same.then_some(units_of(driven.answers.as_slice())))
 }
 
 // Whether two lists of answers have the same lines.
-fn all_alike(alloc: Global, answers: &[Answer], others: &[Answer]) -> Result<bool> {
+fn are_all_alike(alloc: Global, answers: &[Answer], others: &[Answer]) -> Result<bool> {
     for (one, other) in answers.iter().zip(others) {
         if !are_alike(alloc, one, other)? {
             return Ok(false);

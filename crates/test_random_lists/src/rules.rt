@@ -26,7 +26,7 @@ const INTERRUPTION: u8 = 0x80;
 const PROGRAM_CHECK: u8 = 0x20;
 
 /// What a channel shows between two events, and the word with which a program begins that starts now, where one may.
-#[derive(Clone, Copy)]
+#[derive(Drop)]
 pub(crate) struct Shown {
     pub view: View,
     pub program: Option<Watched>,
@@ -44,23 +44,30 @@ impl Shown {
 
     /// Whether channel 1 may answer an event so, and show this behind it.
     pub(crate) fn may_lead(&self, event: &Event, answer: &Answer, behind: &Shown) -> bool {
-        let view = behind.view;
         match (event, answer) {
-            (Event::Sio(address), Answer::Sio(_, told)) => self.starts(*address, *told, behind),
-            (Event::Hio(address), Answer::Hio(_, told)) => self.halts(*address, *told, behind),
+            (Event::Sio(address), Answer::Sio(_, told)) => self.starts(*address, told, behind),
+            (Event::Hio(address), Answer::Hio(_, told)) => self.halts(*address, told, behind),
             (Event::Step(units), Answer::Step(done)) => {
                 self.goes_on(u32::from(*units), u32::from(*done), behind)
             }
             (Event::Run(units), Answer::Run(done)) => self.goes_on(*units, *done, behind),
-            (Event::Interrupt, Answer::Interrupt(told)) => self.interrupted() == (*told, view),
-            (Event::Reset, Answer::Reset(_)) => view == self.at_rest(),
-            _ if behind.program != self.program => false,
-            (Event::Tio(address), Answer::Tio(_, told)) => self.tested(*address) == (*told, view),
-            (Event::Tch, Answer::Tch(told)) => *told == self.channel_tested() && view == self.view,
-            (Event::Arrive(address), Answer::Arrive(_, told)) => {
-                self.arrives(*address) == (*told, view)
+            (Event::Interrupt, Answer::Interrupt(told)) => self.interrupts(told, behind),
+            (Event::Reset, Answer::Reset(_)) => self.is_at_rest(behind),
+            _ => behind.program == self.program && self.may_lead_quietly(event, answer, behind),
+        }
+    }
+
+    // The same for an event that changes no program.
+    fn may_lead_quietly(&self, event: &Event, answer: &Answer, behind: &Shown) -> bool {
+        match (event, answer) {
+            (Event::Tio(address), Answer::Tio(_, told)) => self.tests(*address, told, behind),
+            (Event::Tch, Answer::Tch(told)) => {
+                *told == self.channel_tested() && self.view == behind.view
             }
-            _ => may_store(event, answer) && view == self.view,
+            (Event::Arrive(address), Answer::Arrive(_, told)) => {
+                self.arrives(*address, *told, behind)
+            }
+            _ => may_store(event, answer) && self.view == behind.view,
         }
     }
 
@@ -75,130 +82,138 @@ impl Shown {
             return None;
         }
         let device = (address % 256) as u8;
-        for drive in self.view.drives {
+        for drive in &self.view.drives {
             if let Some((number, arm)) = drive {
-                if number == device {
-                    return Some(arm);
+                if *number == device {
+                    return Some(*arm);
                 }
             }
         }
         None
     }
 
-    // The same channel, where the arm of the drive at an address does this.
-    fn with_arm(&self, address: u16, arm: Arm) -> View {
-        let mut view = self.view;
-        for place in 0..8 {
-            if let Some((device, _)) = view.drives[place] {
-                if u16::from(device) == address % 256 {
-                    view.drives[place] = Some((device, arm));
-                }
+    // Whether the drives are the same behind, where the arm of the one at an address does this.
+    fn moves(&self, address: u16, arm: Arm, behind: &Shown) -> bool {
+        for (before, behind) in self.view.drives.iter().zip(&behind.view.drives) {
+            let due = match before {
+                Some((device, _)) if u16::from(*device) == address % 256 => Some((*device, arm)),
+                _ => *before,
+            };
+            if *behind != due {
+                return false;
             }
         }
-        view
+        true
     }
 
-    // The same channel, where nothing runs and nothing pends.
-    fn idle(&self) -> View {
-        let mut view = self.view;
-        view.subchannel = SubchannelView::Idle;
-        view
+    // Whether nothing runs behind and nothing pends, and the arm of the drive at an address does this.
+    fn idles(&self, address: u16, arm: Arm, behind: &Shown) -> bool {
+        behind.view.subchannel == SubchannelView::Idle && self.moves(address, arm, behind)
     }
 
-    // The same channel behind a reset.
-    fn at_rest(&self) -> View {
-        let mut view = self.idle();
-        for place in 0..8 {
-            if let Some((device, _)) = view.drives[place] {
-                view.drives[place] = Some((device, Arm::AtRest));
+    // Whether nothing runs behind and nothing pends, and each arm does what it did.
+    fn is_idle(&self, behind: &Shown) -> bool {
+        behind.view.subchannel == SubchannelView::Idle && behind.view.drives == self.view.drives
+    }
+
+    // Whether nothing runs behind and nothing pends, and each arm is at rest.
+    fn is_at_rest(&self, behind: &Shown) -> bool {
+        for (before, behind) in self.view.drives.iter().zip(&behind.view.drives) {
+            let due = match before {
+                Some((device, _)) => Some((*device, Arm::AtRest)),
+                None => None,
+            };
+            if *behind != due {
+                return false;
             }
         }
-        view
+        behind.view.subchannel == SubchannelView::Idle
     }
 
-    fn starts(&self, address: u16, told: Condition<Status>, behind: &Shown) -> bool {
-        let stays = self.stays(behind);
-        match (self.view.subchannel, self.arm(address)) {
-            _ if address / 256 != 1 => told == Condition::Three && stays,
-            (SubchannelView::Idle, None) => told == Condition::Three && stays,
-            (SubchannelView::Idle, Some(Arm::InMotion)) => told == status(BUSY, 0) && stays,
+    fn starts(&self, address: u16, told: &Condition<Status>, behind: &Shown) -> bool {
+        let due = match (&self.view.subchannel, self.arm(address)) {
+            _ if address / 256 != 1 => Condition::Three,
+            (SubchannelView::Idle, None) => Condition::Three,
+            (SubchannelView::Idle, Some(Arm::InMotion)) => status(BUSY, 0),
             (SubchannelView::Idle, Some(Arm::Arrived)) => {
-                told == status(BUSY | DEVICE_END, 0)
-                    && behind.view == self.with_arm(address, Arm::AtRest)
+                return *told == status(BUSY | DEVICE_END, 0)
+                    && self.idles(address, Arm::AtRest, behind);
             }
-            (SubchannelView::Idle, Some(Arm::AtRest)) => self.begins(address, told, behind),
-            _ => told == Condition::Two && stays,
-        }
+            (SubchannelView::Idle, Some(Arm::AtRest)) => return self.begins(address, told, behind),
+            _ => Condition::Two,
+        };
+        *told == due && self.stays(behind)
     }
 
     // A start at a drive whose arm is at rest.
-    fn begins(&self, address: u16, told: Condition<Status>, behind: &Shown) -> bool {
-        let Some(word) = self.word else {
-            return told == status(0, PROGRAM_CHECK) && self.stays(behind);
+    fn begins(&self, address: u16, told: &Condition<Status>, behind: &Shown) -> bool {
+        let Some(word) = &self.word else {
+            return *told == status(0, PROGRAM_CHECK) && self.stays(behind);
         };
-        let device = (address % 256) as u8;
         let channel = if word.asks { INTERRUPTION } else { 0 };
-        if told == Condition::Zero {
-            return behind.view.subchannel == SubchannelView::Working(device, word.asks)
-                && behind.view.drives == self.view.drives
-                && word.is_begun(device, behind.program);
+        match told {
+            Condition::Zero => self.runs((address % 256) as u8, word, behind),
+            _ if *told == status(CHANNEL_END, channel) => {
+                self.idles(address, Arm::InMotion, behind)
+            }
+            _ => {
+                let is_over = *told == status(CHANNEL_END | DEVICE_END, channel);
+                (is_over || *told == status(UNIT_CHECK, 0)) && self.stays(behind)
+            }
         }
-        if told == status(CHANNEL_END, channel) {
-            return behind.view == self.with_arm(address, Arm::InMotion);
-        }
-        let is_over = told == status(CHANNEL_END | DEVICE_END, channel);
-        (is_over || told == status(UNIT_CHECK, 0)) && self.stays(behind)
     }
 
-    fn tested(&self, address: u16) -> (Condition<Csw>, View) {
-        match (self.view.subchannel, self.arm(address)) {
-            _ if address / 256 != 1 => (Condition::Three, self.view),
-            (SubchannelView::Working(_, _), _) => (Condition::Two, self.view),
-            (SubchannelView::Pending(device, csw), _) => {
-                if u16::from(device) == address % 256 {
-                    (Condition::Stored(csw), self.idle())
-                } else {
-                    (Condition::Two, self.view)
-                }
+    // Whether a device's program runs that has fetched this word and no more.
+    fn runs(&self, device: u8, word: &FirstWord, behind: &Shown) -> bool {
+        behind.view.subchannel == SubchannelView::Working(device, word.asks)
+            && behind.view.drives == self.view.drives
+            && word.is_begun(device, &behind.program)
+    }
+
+    fn tests(&self, address: u16, told: &Condition<Csw>, behind: &Shown) -> bool {
+        let due = match (&self.view.subchannel, self.arm(address)) {
+            _ if address / 256 != 1 => Condition::Three,
+            (SubchannelView::Pending(device, csw), _) if u16::from(*device) == address % 256 => {
+                return *told == Condition::Stored(*csw) && self.is_idle(behind);
             }
-            (SubchannelView::Idle, None) => (Condition::Three, self.view),
-            (SubchannelView::Idle, Some(Arm::InMotion)) => {
-                (Condition::Stored(of_unit(BUSY)), self.view)
-            }
+            (SubchannelView::Idle, None) => Condition::Three,
+            (SubchannelView::Idle, Some(Arm::InMotion)) => Condition::Stored(of_unit(BUSY)),
             (SubchannelView::Idle, Some(Arm::Arrived)) => {
-                let behind = self.with_arm(address, Arm::AtRest);
-                (Condition::Stored(of_unit(DEVICE_END)), behind)
+                return *told == Condition::Stored(of_unit(DEVICE_END))
+                    && self.idles(address, Arm::AtRest, behind);
             }
-            (SubchannelView::Idle, Some(Arm::AtRest)) => (Condition::Zero, self.view),
-        }
+            (SubchannelView::Idle, Some(Arm::AtRest)) => Condition::Zero,
+            _ => Condition::Two,
+        };
+        *told == due && self.view == behind.view
     }
 
-    fn halts(&self, address: u16, told: Condition<Status>, behind: &Shown) -> bool {
-        let stays = self.stays(behind);
-        match (self.view.subchannel, self.arm(address)) {
-            _ if address / 256 != 1 => told == Condition::Three && stays,
+    fn halts(&self, address: u16, told: &Condition<Status>, behind: &Shown) -> bool {
+        let due = match (&self.view.subchannel, self.arm(address)) {
+            _ if address / 256 != 1 => Condition::Three,
             (SubchannelView::Working(_, _), _) => {
-                told == Condition::Two && self.is_ended(behind) && self.is_cut(behind)
+                return *told == Condition::Two && self.is_ended(behind) && self.is_cut(behind);
             }
-            (SubchannelView::Pending(_, _), _) => told == Condition::Zero && stays,
-            (SubchannelView::Idle, None) => told == Condition::Three && stays,
-            (SubchannelView::Idle, Some(_)) => told == status(0, 0) && stays,
-        }
+            (SubchannelView::Pending(_, _), _) => Condition::Zero,
+            (SubchannelView::Idle, None) => Condition::Three,
+            (SubchannelView::Idle, Some(_)) => status(0, 0),
+        };
+        *told == due && self.stays(behind)
     }
 
     // Whether the word that pends behind a cut has the place and the count of the program that was seen before it.
     fn is_cut(&self, behind: &Shown) -> bool {
-        match (self.program, behind.view.subchannel) {
+        match (&self.program, &behind.view.subchannel) {
             (Some(seen), SubchannelView::Pending(_, csw)) => {
-                let place = place_of(&seen);
-                (csw.key, csw.address, csw.count) == (place.key, place.address, place.count)
+                let place = place_of(seen);
+                csw.key == place.key && csw.address == place.address && csw.count == place.count
             }
             _ => false,
         }
     }
 
     fn channel_tested(&self) -> Condition<()> {
-        match self.view.subchannel {
+        match &self.view.subchannel {
             SubchannelView::Idle => Condition::Zero,
             SubchannelView::Working(_, _) => Condition::Two,
             SubchannelView::Pending(_, _) => Condition::Stored(()),
@@ -208,69 +223,74 @@ impl Shown {
     // Whether the program that ran has ended, and no other arm has changed.
     fn is_ended(&self, behind: &Shown) -> bool {
         let (SubchannelView::Working(device, _), SubchannelView::Pending(pending, _)) = (
-            self.view.subchannel,
-            behind.view.subchannel,
+            &self.view.subchannel,
+            &behind.view.subchannel,
         ) else {
             return false;
         };
-        let address = u16::from(device).saturating_add(256);
-        pending == device
-            && (behind.view.drives == self.with_arm(address, Arm::AtRest).drives
-                || behind.view.drives == self.with_arm(address, Arm::InMotion).drives)
+        let address = u16::from(*device);
+        *pending == *device
+            && (self.moves(address, Arm::AtRest, behind)
+                || self.moves(address, Arm::InMotion, behind))
     }
 
     // Units: all that were asked for, unless the program ends in the last one that is done.
     fn goes_on(&self, units: u32, done: u32, behind: &Shown) -> bool {
-        let SubchannelView::Working(device, _) = self.view.subchannel else {
+        let SubchannelView::Working(device, _) = &self.view.subchannel else {
             return done == 0 && self.stays(behind);
         };
-        match behind.view.subchannel {
+        match &behind.view.subchannel {
             SubchannelView::Working(working, _) => {
-                working == device && done == units && behind.view.drives == self.view.drives
+                *working == *device && done == units && behind.view.drives == self.view.drives
             }
             _ => 0 < done && done <= units && self.is_ended(behind),
         }
     }
 
-    fn arrives(&self, address: u16) -> (bool, View) {
+    fn arrives(&self, address: u16, told: bool, behind: &Shown) -> bool {
         if self.arm(address) == Some(Arm::InMotion) {
-            return (true, self.with_arm(address, Arm::Arrived));
+            return told
+                && behind.view.subchannel == self.view.subchannel
+                && self.moves(address, Arm::Arrived, behind);
         }
-        (false, self.view)
+        !told && self.view == behind.view
     }
 
-    fn interrupted(&self) -> (Option<(u16, Csw)>, View) {
-        match self.view.subchannel {
-            SubchannelView::Pending(device, csw) => {
-                (
-                    Some((u16::from(device).saturating_add(256), csw)),
-                    self.idle(),
-                )
+    fn interrupts(&self, told: &Option<(u16, Csw)>, behind: &Shown) -> bool {
+        match (&self.view.subchannel, &self.program) {
+            (SubchannelView::Pending(device, csw), _) => {
+                is_from(told, *device, csw) && self.is_idle(behind)
             }
-            SubchannelView::Idle => self.interrupted_by_arm(),
-            SubchannelView::Working(device, asks) => match self.program {
-                Some(seen) if asks => {
-                    let mut behind = self.view;
-                    behind.subchannel = SubchannelView::Working(device, false);
-                    (
-                        Some((u16::from(device).saturating_add(256), place_of(&seen))),
-                        behind,
-                    )
-                }
-                _ => (None, self.view),
-            },
+            (SubchannelView::Idle, _) => self.interrupts_by_arm(told, behind),
+            (SubchannelView::Working(device, true), Some(seen)) => {
+                is_from(told, *device, &place_of(seen))
+                    && behind.view.subchannel == SubchannelView::Working(*device, false)
+                    && behind.view.drives == self.view.drives
+            }
+            _ => told.is_none() && self.view == behind.view,
         }
     }
 
     // The device end of the lowest address whose arm has arrived.
-    fn interrupted_by_arm(&self) -> (Option<(u16, Csw)>, View) {
-        for address in 256..512 {
+    fn interrupts_by_arm(&self, told: &Option<(u16, Csw)>, behind: &Shown) -> bool {
+        for device in 0..=255u8 {
+            let address = u16::from(device).saturating_add(256);
             if self.arm(address) == Some(Arm::Arrived) {
-                let behind = self.with_arm(address, Arm::AtRest);
-                return (Some((address, of_unit(DEVICE_END))), behind);
+                return is_from(told, device, &of_unit(DEVICE_END))
+                    && self.idles(address, Arm::AtRest, behind);
             }
         }
-        (None, self.view)
+        told.is_none() && self.view == behind.view
+    }
+}
+
+// Whether an interruption is that of a device of this channel, and stores this word.
+fn is_from(told: &Option<(u16, Csw)>, device: u8, word: &Csw) -> bool {
+    match told {
+        Some((address, csw)) => {
+            *address == u16::from(device).saturating_add(256) && *csw == *word
+        }
+        None => false,
     }
 }
 

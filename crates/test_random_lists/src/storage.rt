@@ -4,6 +4,7 @@ use anyhow::Result;
 use s360_channel::Watched;
 use s360_deck::Answer;
 use s360_events::Condition;
+use s360_words::Csw;
 use std::alloc::Global;
 use test_watched_channels::TestChannel;
 
@@ -19,7 +20,7 @@ const ADDRESS_WORD: u32 = 0x48;
 const BLOCK: u32 = 2_048;
 
 /// A word with which a program may begin: where it stands, its count, and whether it asks for an interruption.
-#[derive(Clone, Copy)]
+#[derive(Drop)]
 pub(crate) struct FirstWord {
     key: u8,
     address: u32,
@@ -30,19 +31,16 @@ pub(crate) struct FirstWord {
 
 impl FirstWord {
     /// Whether this is a device's program that has fetched its first word and no more.
-    pub(crate) fn is_begun(&self, device: u8, seen: Option<Watched>) -> bool {
-        let Some(
-            Watched {
-                device: at,
-                program,
-            },
-        ) = seen
-        else {
+    pub(crate) fn is_begun(&self, device: u8, seen: &Option<Watched>) -> bool {
+        let Some(seen) = seen else {
             return false;
         };
-        at == device
-            && (program.key, program.last) == (self.key, self.address)
-            && (program.next, program.residual) == (self.address.saturating_add(8), self.count)
+        let program = &seen.program;
+        seen.device == device
+            && program.key == self.key
+            && program.last == self.address
+            && program.next == self.address.saturating_add(8)
+            && program.residual == self.count
             && program.interruption == self.asks
     }
 }
@@ -75,38 +73,34 @@ pub(crate) fn first_word(channel: &TestChannel) -> Option<FirstWord> {
 /// Whether the channel status word in storage is the one that an answer tells, or has its status bytes.
 pub(crate) fn holds_what_is_told(channel: &TestChannel, answer: &Answer) -> bool {
     match answer {
-        Answer::Interrupt(Some((_, csw))) => {
-            channel.peek(STATUS_WORD, 8) == Some(csw.to_bytes().as_slice())
+        Answer::Interrupt(Some((_, csw))) | Answer::Tio(_, Condition::Stored(csw)) => {
+            holds_word(channel, csw)
         }
-        Answer::Tio(_, Condition::Stored(csw)) => {
-            channel.peek(STATUS_WORD, 8) == Some(csw.to_bytes().as_slice())
-        }
-        Answer::Sio(_, Condition::Stored(told)) => {
-            channel.peek(STATUS, 2) == Some([told.unit.0, told.channel.0].as_slice())
-        }
-        Answer::Hio(_, Condition::Stored(told)) => {
-            channel.peek(STATUS, 2) == Some([told.unit.0, told.channel.0].as_slice())
+        Answer::Sio(_, Condition::Stored(told)) | Answer::Hio(_, Condition::Stored(told)) => {
+            channel.peek(STATUS, 2) == Some(&[told.unit.0, told.channel.0])
         }
         _ => true,
     }
+}
+
+fn holds_word(channel: &TestChannel, csw: &Csw) -> bool {
+    channel.peek(STATUS_WORD, 8) == Some(&csw.to_bytes())
 }
 
 /// The bytes of all blocks that have another key than the program that is seen; none where its key is 0.
 pub(crate) fn protected(
     alloc: Global,
     channel: &TestChannel,
-    seen: Option<Watched>,
+    seen: &Option<Watched>,
 ) -> Result<Vec<u8>> {
-    let mut bytes = Vec::new(alloc);
-    let Some(Watched { device: _, program }) = seen else {
-        return Ok(bytes);
+    let key = match seen {
+        Some(seen) => seen.program.key,
+        None => 0,
     };
-    if program.key == 0 {
-        return Ok(bytes);
-    }
+    let mut bytes = Vec::new(alloc);
     for block in 0..4 {
         let at = BLOCK.saturating_mul(block);
-        if channel.key(at) != Some(program.key) {
+        if key != 0 && channel.key(at) != Some(key) {
             bytes.extend_from_slice(channel.peek(at, BLOCK).unwrap_or(&[]))?;
         }
     }

@@ -11,8 +11,8 @@ use s360_channel::{SubchannelView, View};
 use s360_deck::Answer;
 use test_watched_channels::{Disk, TestChannel};
 
-/// Whether an event reports so many faults: none where none was met, and otherwise one. A step and a halt report it by unit check, a reset by
-/// the track that is lost.
+/// Whether an event reports so many faults: none where none was met, and otherwise one. A step and a halt report it by unit check, a reset
+/// by the track that is lost.
 pub(crate) fn tells(
     disks: &[Disk],
     answer: &Answer,
@@ -33,9 +33,12 @@ fn names(disks: &[Disk], unsaved: Option<(u16, u16, u16)>, lost: Option<u64>) ->
     let (Some((address, cylinder, head)), Some(at)) = (unsaved, lost) else {
         return false;
     };
-    disks
-        .iter()
-        .any(|disk| track_at(disk, at) == (address, cylinder, head))
+    for disk in disks {
+        if track_at(disk, at) == (address, cylinder, head) {
+            return true;
+        }
+    }
+    false
 }
 
 // The input/output address of a disk, and the cylinder and head of the track whose slot begins at this place of its image.
@@ -58,7 +61,7 @@ fn track_at(disk: &Disk, at: u64) -> (u16, u16, u16)
 
 /// Whether a program is over with unit check and without incorrect length.
 fn has_unit_check(view: &View) -> bool {
-    match view.subchannel {
+    match &view.subchannel {
         SubchannelView::Pending(_, csw) => csw.unit.0 & 0x02 != 0 && csw.channel.0 & 0x40 == 0,
         _ => false,
     }
@@ -66,10 +69,11 @@ fn has_unit_check(view: &View) -> bool {
 
 /// Whether a program is over with unit check and without incorrect length, and its device's sense bytes have equipment check.
 pub(crate) fn has_equipment_check(channel: &mut TestChannel) -> bool {
-    let SubchannelView::Pending(device, _) = channel.state().subchannel else {
+    let view = channel.state();
+    let SubchannelView::Pending(device, _) = view.subchannel else {
         return false;
     };
-    if !has_unit_check(&channel.state()) {
+    if !has_unit_check(&view) {
         return false;
     }
     let address = u16::from(device).saturating_add(0x100);

@@ -33,7 +33,7 @@ const SUPPRESS: u8 = 0x20;
 const SKIP: u8 = 0x10;
 
 /// A word of a read: flags, the place of its bytes in the areas, and its count.
-#[derive(Clone, Copy)]
+#[derive(Drop)]
 struct Part {
     flags: u8,
     place: u16,
@@ -130,14 +130,14 @@ impl Course {
             let address = AREAS.saturating_add(u32::from(part.place));
             self.word(code, address, part.flags, part.count);
             if !is_over {
-                left = self.read(part, left);
-                is_over = self.is_read(part, left);
+                left = self.read(&part, left);
+                is_over = self.is_read(&part, left);
             }
         }
     }
 
     // Bytes go into the area of a word, as far as there are some; how many of the record are left.
-    fn read(&mut self, part: Part, left: u16) -> u16 {
+    fn read(&mut self, part: &Part, left: u16) -> u16 {
         let count = part.count.min(left);
         if part.flags & SKIP == 0 {
             for at in 0..usize::from(count) {
@@ -154,7 +154,7 @@ impl Course {
     }
 
     // Whether the read is over behind a word; the program then ends, unless it chains and the length is correct.
-    fn is_read(&mut self, part: Part, left: u16) -> bool {
+    fn is_read(&mut self, part: &Part, left: u16) -> bool {
         let chains_data = part.flags & CHAIN_DATA != 0;
         if chains_data && self.residual == 0 {
             return false;
@@ -187,7 +187,11 @@ impl Course {
     pub(crate) fn is_so(&self, alloc: Global, disks: &[Disk]) -> Result<bool> {
         let watch = Watch::new();
         let mut channel = channel_over(alloc, &watch, disks, Failure::NONE)?;
-        store_program(&mut channel, self.words.as_slice());
+        Ok(self.is_so_at(&mut channel))
+    }
+
+    fn is_so_at(&self, channel: &mut TestChannel) -> bool {
+        store_program(channel, self.words.as_slice());
         let late = self.late_word();
         if late.is_some() {
             let _ = channel.poke(SECOND, &[0; 8]);
@@ -199,8 +203,7 @@ impl Course {
         }
         let _ = channel.step(65_535);
         let is_ended = channel.interrupt() == self.ending();
-        let has_area = channel.peek(AREAS, AREA as u32) == Some(self.area.as_slice());
-        Ok(is_begun && is_ended && has_area)
+        is_begun && is_ended && channel.peek(AREAS, AREA as u32) == Some(self.area.as_slice())
     }
 
     // The interruption at its end.
@@ -244,36 +247,41 @@ fn store_program(channel: &mut TestChannel, words: &[u8]) {
     let _ = channel.poke(ADDRESS_WORD, &[0, a0, a1, a2]);
 }
 
+/// A No-Operation, and a transfer back to it.
+const ENDLESS: [u8; 16] = [
+    0x03,
+    0,
+    0,
+    0,
+    CHAIN_COMMAND,
+    0,
+    0,
+    1,
+    0x08,
+    0,
+    (CHAINS / 0x100) as u8,
+    0,
+    0,
+    0,
+    0,
+    0,
+];
+
 /// Whether a program that does not end does all units that are asked of it, more than 16 bits count, and goes on.
 pub(crate) fn goes_on(alloc: Global, chance: &mut Chance, disks: &[Disk]) -> Result<bool> {
     let watch = Watch::new();
     let mut channel = channel_over(alloc, &watch, disks, Failure::NONE)?;
-    let [_, a0, a1, a2] = CHAINS.to_be_bytes();
-    let words = [
-        0x03,
-        0,
-        0,
-        0,
-        CHAIN_COMMAND,
-        0,
-        0,
-        1,
-        0x08,
-        a0,
-        a1,
-        a2,
-        0,
-        0,
-        0,
-        0,
-    ];
-    store_program(&mut channel, &words);
-    let is_begun = channel.sio(DRIVE) == Condition::Zero;
     let units = chance.below(9_000).saturating_add(65_536);
+    Ok(goes_on_at(&mut channel, units))
+}
+
+fn goes_on_at(channel: &mut TestChannel, units: u32) -> bool {
+    store_program(channel, &ENDLESS);
+    let is_begun = channel.sio(DRIVE) == Condition::Zero;
     let is_done = matches!(channel.react(&Event::Run(units)), Answer::Run(done) if done == units);
     let is_working = matches!(
         channel.state().subchannel,
         SubchannelView::Working(0x90, false)
     );
-    Ok(is_begun && is_done && is_working)
+    is_begun && is_done && is_working
 }
