@@ -56,6 +56,7 @@ NO_RUN_SHOWS = {
     "s360_words/caw_takes_any_low_bits": "the fetch of the first word refuses such an address with the same answer",
     "ckd_slot/bytes_behind_the_end_mark_are_left": "no drive puts bytes behind an end mark; the contract alone leaves it open",
     "ckd_position/search_compares_at_most_four_bytes": "no drive asks that function: it compares piece by piece, by another",
+    "s360_program/whole_command_is_never_seen_as_whole": "it costs time alone: the bytes and the end then come one step after another",
 }
 PROGRAM = "dasd_cmd"
 HEAD = re.compile(r"^(?P<indent> *)(?P<before>(?:pub(?:\([a-z]+\))? )?(?:const )?)fn (?P<name>\w+)", re.M)
