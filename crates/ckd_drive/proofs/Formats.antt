@@ -164,7 +164,7 @@ format_absorbs {half} {more} {f} {field} {count} i w k has =
     filled (made ∙ ap (slot_of g.track_size) (sym whole))
 
 -- a record that fits is due, and the track stays
-pub due_absorbs : {half : HalfDone} {more f field count : List ℕ} (i : ℕ) (w : Window) → FormatGoes half more f field count → Fits half count i w → Absorbs half more half.cache half.before (Due w i count)
+pub due_absorbs : {half : HalfDone} {more f field count : List ℕ} (i : ℕ) (w : Window) → FormatGoes half more f field count → Fits half count i w → Absorbs half more half.cache half.before (Due (record { number = i; place = w; count = count }))
 due_absorbs {half} {more} {f} {field} {count} i w k has =
     let a = format_absorbs i w k has in
     let works = k.collects.may.works in
@@ -205,7 +205,7 @@ pub record NextMade (half : HalfDone) (more : List ℕ) (w : Window) (number : �
   pub absorbs : Absorbs half more (with_held half.cache (overwritten (slot_of half.cache.image.geometry.track_size (made_on (track_of (slot_held half.cache)) number count)) w.start more))
       (slot_held half.cache) (Filled (record { start = w.start + length more; len = w.len - length more }) (written.Record number))
 
-pub made_absorbs : (half : HalfDone) (more : List ℕ) (w : Window) (number : ℕ) (count : List ℕ) → Works half → half.progress.place ≡ Due w number count → length more ≤ half.progress.left → NextMade half more w number count
+pub made_absorbs : (half : HalfDone) (more : List ℕ) (w : Window) (number : ℕ) (count : List ℕ) → Works half → half.progress.place ≡ Due (record { number = number; place = w; count = count }) → length more ≤ half.progress.left → NextMade half more w number count
 made_absorbs half more w number count x at le =
     let c = half.cache in
     let size = c.image.geometry.track_size in

@@ -144,7 +144,7 @@ finished d now c before place x now_is passing f = by_place d.job.progress.place
     is = passing_in d now now_is passing
 
     by_place : (p : Transfer) → d.job.progress.place ≡ p → Finishes d.job p c before place → Finished d now (with_place d.job c before place)
-    by_place (Due w number count) at k =
+    by_place (Due due) at k =
         let a = k.0 in
         let job = d.job in
         let S : HalfDone → Type 0 = λ h. Stands (parts_of h d.mark Passing) in
@@ -211,7 +211,7 @@ given_absorbs half more k x n may giving = rw n (by_place half.progress.place re
     by_place (Field f) at = absurd (field_takes (action_now half) (rw at at x.goes.placed).0.is_field giving)
     by_place (Search w so_far) at = absurd (not_given _ action.Search (rw at at x.goes.placed).0.is_search refl giving)
     by_place (Fill w u) at = absurd (not_given _ action.Update (rw at at x.goes.placed).0.is_update refl giving)
-    by_place (Due w number count) at = absurd (not_given _ _ refl (rw at at x.goes.placed).filled.takes giving)
+    by_place (Due due) at = absurd (not_given _ _ refl (rw at at x.goes.placed).filled.takes giving)
     by_place (Filled w u) at = absurd (not_given _ _ refl (rw at at x.goes.placed).takes giving)
 
 -- what may be given: so many bytes, and they are what the definitions give

@@ -62,7 +62,7 @@ remaining a (Field f) moved = field_size a - moved
 remaining a (Read w no_data) moved = w.len
 remaining a (Search w so_far) moved = w.len
 remaining a (Fill w no_data) moved = w.len
-remaining a (Due w number count) moved = w.len
+remaining a (Due due) moved = due.place.len
 remaining a (Filled w what) moved = w.len
 
 -- how a command closes that has written
@@ -309,7 +309,7 @@ pub record HasDue (job : AtWork) (w : Window) (number : ℕ) (count : List ℕ) 
       (track_of (slot_held job.cache)) number w
   pub volume : IsVolume (with_made job count).cache
   pub filled : HasFilled (with_made job count) w (written.Record number)
-  pub found : IsFound job (track_of (slot_in job)) (Due w number count)
+  pub found : IsFound job (track_of (slot_in job)) (Due (record { number = number; place = w; count = count }))
   pub plain : slice_set (with_made job count).cache.slots (number_in job) (slot_held job.cache) ≡ job.cache.slots
 
 -- a command that works by a credit has the credit's track at hand
@@ -328,7 +328,7 @@ IsPlaced job (Read w no_data) = HasRead job w × IsFound job (track_of (slot_in 
 IsPlaced job (Search w so_far) = HasSearched job w so_far × IsFound job (track_of (slot_in job)) (Search w so_far)
 IsPlaced job (Fill w no_data) = WillFill job w × IsFound job (track_of (slot_in job)) (Fill w no_data)
     × ClosesUnwritten job (track_of (slot_in job)) (area_end job no_data)
-IsPlaced job (Due w number count) = HasDue job w number count
+IsPlaced job (Due due) = HasDue job due.place due.number due.count
 IsPlaced job (Filled w what) = HasFilled job w what
 
 -- What a look has found.
@@ -483,7 +483,7 @@ command_end_at g r o moved (Read w no_data) = command_end (area_ends o r no_data
 command_end_at g r o moved (Fill w no_data) = command_end (area_ends o r no_data)
 command_end_at g r o moved (Filled w what) = closes_by r o what
 -- a record that is due is made before
-command_end_at g r o moved (Due w number count) = command_end (area_ends o r false)
+command_end_at g r o moved (Due due) = command_end (area_ends o r false)
 
 -- no more bytes passed than the field has
 abbrev pub MovedInField : Action → (moved : ℕ) → Transfer → Type 0
@@ -543,10 +543,10 @@ with_place h c before place = record h { cache = c; before = before; progress = 
 
 -- whether a new record is due
 abbrev pub is_due : Transfer → Bool
-is_due (Due w number count) = true
+is_due (Due due) = true
 is_due _ = false
 
 -- where a record was due it has been made with zeros, and where none was all is as it was
 abbrev pub Finishes : HalfDone → Transfer → CacheState → (before : List ℕ) → Transfer → Type 0
-Finishes h (Due w number count) c before place = Absorbs h [] c before place × (is_due place ≡ false)
+Finishes h (Due due) c before place = Absorbs h [] c before place × (is_due place ≡ false)
 Finishes h was c before place = (c ≡ h.cache) × (before ≡ h.before) × (place ≡ was)

@@ -11,7 +11,7 @@ ghost use Rattle.ckd_drive.specs.Jobs.{half_done, ClosesTo};
 ghost use Rattle.ckd_drive.specs.declared.transfer.Transfer.TheVariants as held;
 
 use crate::job::Job;
-use crate::transfer::{Transfer, Written};
+use crate::transfer::{NewRecord, Transfer, Written};
 use ckd_command::{
     Action, CHANNEL_AND_DEVICE_END, Closed, Mark, Opened, Registers, close_area, close_format,
     close_home_address, close_in_unit_check, close_search, close_seek, close_seek_head,
@@ -113,13 +113,13 @@ impl<S: ImageStore> Job<S> {
     // A new record of which no byte came behind its count area is made with zeros.
     // By itself, since few records are left so.
     #[inline(never)]
-    fn close_due(&mut self, place: Window, number: usize, count: [u8; 8]) -> Closed
+    fn close_due(&mut self, due: &NewRecord) -> Closed
         requires works { Works (half_done self.old) }
-        requires at { self.old.progress.place ≡ held.Due place number count }
+        requires at { self.old.progress.place ≡ held.Due due.now }
         ensures { ClosesTo self.old result self.new }
     {
-        self.make(&[], place, number, count);
-        close_format(&mut self.registers, number)
+        self.make(&[], due);
+        close_format(&mut self.registers, due.number)
     }
 
     /// How the command closes, as far as it is known by the place of its bytes and by how many have passed. A new record that is
@@ -145,9 +145,9 @@ impl<S: ImageStore> Job<S> {
                 close_search(opened, registers, satisfied, window.len == 0)
             }
             Transfer::Field(field) => field_ends(geometry, opened, registers, &field[..moved]),
-            Transfer::Due(place, number, count) => {
-                let (place, number, count) = (*place, *number, *count);
-                self.close_due(place, number, count)
+            Transfer::Due(due) => {
+                let due = *due;
+                self.close_due(&due)
             }
         }
     }

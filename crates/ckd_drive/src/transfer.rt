@@ -32,11 +32,21 @@ pub enum Transfer {
     Search(Window, Ordering),
     /// These bytes are to be replaced, none was yet; and whether the area's record has no data.
     Fill(Window, bool),
-    /// A new record fits the track, which is as it was: its key and data will stand there, and it has this number and these
-    /// count bytes.
-    Due(Window, usize, [u8; 8]),
+    /// This new record fits the track, which is as it was.
+    Due(NewRecord),
     /// The track is changed, these bytes are zeros that may still be replaced, and the command then closes so.
     Filled(Window, Written),
+}
+
+/// A record that a formatting write makes once bytes of its key and data come, or the command ends.
+#[derive(Clone, Copy)]
+pub struct NewRecord {
+    /// Its number.
+    pub number: usize,
+    /// Where its key and data will stand.
+    pub place: Window,
+    /// Its count bytes.
+    pub count: [u8; 8],
 }
 
 /// What a command has written.
@@ -93,10 +103,10 @@ pub(crate) fn remaining(action: Action, place: &Transfer, moved: usize) -> usize
     match place {
         Transfer::Sense(_) => 6usize.saturating_sub(moved),
         Transfer::Field(_) => field_size(action).saturating_sub(moved),
+        Transfer::Due(due) => due.place.len,
         Transfer::Read(window, _)
         | Transfer::Search(window, _)
         | Transfer::Fill(window, _)
-        | Transfer::Due(window, _, _)
         | Transfer::Filled(window, _) => window.len,
     }
 }
@@ -224,7 +234,11 @@ impl<S: ImageStore> Job<S> {
                     self.progress.place = Transfer::Field(field);
                     return;
                 };
-                self.progress.place = Transfer::Due(place, number, count);
+                self.progress.place = Transfer::Due(NewRecord {
+                    number,
+                    place,
+                    count,
+                });
             }
         }
     }
@@ -248,20 +262,23 @@ impl<S: ImageStore> Job<S> {
 
     /// A new record that is due is made with the first bytes of its key and data, however many.
     #[inline(never)]
-    pub(crate) fn make(&mut self, bytes: &[u8], place: Window, number: usize, count: [u8; 8])
+    pub(crate) fn make(&mut self, bytes: &[u8], due: &NewRecord)
         requires works { Works (half_done self.old) }
-        requires at { self.old.progress.place ≡ held.Due place number count }
+        requires at { self.old.progress.place ≡ held.Due due.now }
         requires room { length bytes.now ≤ self.old.progress.left }
         ensures takes { Takes self.old bytes.now self.new }
         ensures filled { self.new.progress.place ≡ held.Filled (record {
-          start = place.start + length bytes.now;
-          len = place.len - length bytes.now;
-        }) (written.Record number) }
+          start = due.now.place.start + length bytes.now;
+          len = due.now.place.len - length bytes.now;
+        }) (written.Record due.now.number) }
     {
         // noted first, so that the copy is the last that is done
         self.before = Trace::of(self.cache.buffer().bytes());
-        self.progress.place = Transfer::Filled(behind(place, bytes.len()), Written::Record(number));
-        self.cache.format(number, count, place, bytes);
+        self.progress.place = Transfer::Filled(
+            behind(due.place, bytes.len()),
+            Written::Record(due.number),
+        );
+        self.cache.format(due.number, due.count, due.place, bytes);
     }
 
     // More bytes of an area that is being written.
@@ -285,7 +302,7 @@ impl<S: ImageStore> Job<S> {
             Transfer::Search(window, so_far) => self.search(bytes, window, so_far),
             Transfer::Field(field) => self.collect(bytes, field),
             Transfer::Fill(window, no_data) => self.fill(bytes, window, no_data),
-            Transfer::Due(place, number, count) => self.make(bytes, place, number, count),
+            Transfer::Due(due) => self.make(bytes, &due),
             Transfer::Filled(window, written) => self.fill_on(bytes, window, written),
             Transfer::Sense(_) | Transfer::Read(_, _) => unreachable!(),
         }
