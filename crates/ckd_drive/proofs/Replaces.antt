@@ -130,7 +130,8 @@ fill_goes half more a w no_data may at area some =
 abbrev pub replaced_slot : HalfDone → (slot more : List ℕ) → Area → List ℕ
 replaced_slot half slot more a = slot_of half.cache.image.geometry.track_size (with_record_changed (replaced (extent_of half.opened.command) more) a (track_in slot))
 
--- the drive then holds a track that is being written
+-- the drive then holds a track that is being written; what is known of a command that comes to write is a premise each, since they
+-- come from the look, the bytes and the slot
 fill_absorbs : (half : HalfDone) (more : List ℕ) (a : Area) (w : Window) (no_data : Bool) → MayTake half more → half.progress.place ≡ Fill w no_data → half.opened.area ≡ Some a → 0 < length more
     → FillGoes half more a w no_data → FitsSlot half.cache.image.geometry.track_size (track_in (own_slot half))
     → Absorbs half more (with_held half.cache (replaced_slot half (own_slot half) more a)) (slot_held half.cache) (Filled (record { start = w.start + length more; len = w.len - length more }) (written.Area no_data))

@@ -96,6 +96,7 @@ pub put_buffer : {old offsets : List ℕ} {records : Option ℕ} {zeros_from : �
 put_buffer {old} {zeros_from} at b x room s =
     kept_buffer x s (length-overwritten old at b room) (zero_over old at b zeros_from (max zeros_from (at + length b)) x.cleared (omega arith) (omega arith) (omega (arith, x.cleared.within, room)))
 
+-- a buffer whose slot is updated; it names each field that the buffer keeps beside its slot
 pub updated_buffer : {old offsets body : List ℕ} {records : Option ℕ} {zeros_from off : ℕ} {charged : Charged} {t : Track} → IsBuffer old offsets records zeros_from charged → Reads old → IsUpdated old (track_in old) off body t
     → IsBuffer (slot_of (length old) t) offsets records (end_offset (track_in old) + 8) charged
 updated_buffer {old} {body} {off} {t} x r k =

@@ -332,6 +332,7 @@ pub record Made (slot : List ℕ) (number : ℕ) (count : List ℕ) (w : Window)
   pub few : 13 + 8 * number ≤ length slot
   pub size : length slot < 2 ^ 32
 
+-- a new record in a buffer; it names each field that the buffer keeps beside its slot, and the record by its parts
 pub made_by : {slot offsets : List ℕ} {records : Option ℕ} {zeros_from : ℕ} {charged : Charged} {bytes : List ℕ} (number : ℕ) (count : List ℕ) (w : Window)
     → IsBuffer slot offsets records zeros_from charged → is_readable (track_of slot) ≡ true → AreBytes count → length count ≡ 8 → CanMake (length slot) (track_of slot) number count w bytes → Made slot number count w
 made_by {slot} number count w x r bytes eight can =

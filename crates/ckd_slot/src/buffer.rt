@@ -419,7 +419,8 @@ impl TrackBuffer {
     }
 
     /// Puts these bytes, and zeros behind them, in the place of the bytes that an update changes in a record, and zeros
-    /// behind the end mark. They stand at this place. The track fits the slot, as it did.
+    /// behind the end mark. The place is that of the data, or of the key and data, of a record that stands on the track, as
+    /// [`part`](TrackBuffer::part) answers it, and has room for the bytes. The track fits the slot, before and afterwards.
     pub fn replace(&mut self, place: Window, bytes: &[u8])
         requires readable { is_readable (track_of self.old) ≡ true }
         requires there { HasUpdateAt (track_in self.old) place }

@@ -183,7 +183,8 @@ impl<S: ImageStore> TrackCache<S> {
     }
 
     /// Puts these bytes, and zeros behind them, in the place of the bytes that an update changes in a record of the
-    /// slot at hand, and zeros behind the end mark. They stand at this place.
+    /// slot at hand, and zeros behind the end mark. The place is that of the data, or of the key and data, of a record that
+    /// stands there, and has room for the bytes. The track fits the slot, before and afterwards.
     pub fn replace(&mut self, place: Window, bytes: &[u8])
         requires held { IsSome self.old.held }
         requires readable { is_readable (track_of (slot_held self.old)) ≡ true }

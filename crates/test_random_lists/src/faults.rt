@@ -191,8 +191,8 @@ fn differ_only_at(one: &Content, other: &Content, places: &[u64]) -> bool {
     let size = (one.geometry.track_size as usize).max(1);
     let (header, slots) = parts(one.store.bytes());
     let (other_header, other_slots) = parts(other.store.bytes());
-    let is_as_long = header == other_header && slots.len() == other_slots.len();
-    if !is_as_long && !places.contains(&0) {
+    let are_alike_around = header == other_header && slots.len() == other_slots.len();
+    if !are_alike_around && !places.contains(&0) {
         return false;
     }
     let mut at: u64 = HEADER_LENGTH as u64;

@@ -15,7 +15,8 @@ const MOVE: [u8; 8] = [0x13, 0, 0, 0, 0x20, 0, 0, 1];
 /// Where the channel address word stands.
 pub(crate) const ADDRESS_WORD: u32 = 0x48;
 
-/// A list that is made: what memory is refused for is left out, and the list comes to nothing at its end.
+/// A list that is made: what memory is refused for is left out, and the list comes to nothing at its end, so that those who add
+/// events ask for nothing.
 #[derive(Drop)]
 struct Script {
     events: Vec<Event>,

@@ -114,10 +114,10 @@ fn play_watched_lists(rt: &HostRuntime) -> Result<()> {
 
 // The list of a seed.
 fn watch_units(alloc: Global, seed: u64, same: &mut Tally) -> Result<()> {
-    let lot = Lot::of(alloc, seed)?;
-    for failure in [Failure::NONE, lot.fault] {
+    let case = Case::of(alloc, seed)?;
+    for failure in [Failure::NONE, case.fault] {
         let mut looks = Looks { units: 0 };
-        let units = units_if_same(&lot.trial(alloc, failure), &mut looks)?;
+        let units = units_if_same(&case.trial(alloc, failure), &mut looks)?;
         same.add(units == Some(looks.units));
     }
     Ok(())
@@ -208,15 +208,15 @@ fn tell<T: fmt::Display>(rt: &HostRuntime, number: u32, how: &str, came: &T) -> 
 
 // What is drawn for a list.
 #[derive(Drop)]
-struct Lot {
+struct Case {
     disks: Vec<Disk>,
     list: Vec<Event>,
     // a call of the store of the drive that the list starts first; the first call is that of the mount
     fault: Failure,
 }
 
-impl Lot {
-    fn of(alloc: Global, seed: u64) -> Result<Lot> {
+impl Case {
+    fn of(alloc: Global, seed: u64) -> Result<Case> {
         let mut chance = Chance::new(seed);
         let drives = chance.below(4).saturating_add(1);
         let disks = test_disks(alloc, drives)?;
@@ -226,7 +226,7 @@ impl Lot {
             at: chance.below(3).saturating_add(2),
             for_good: chance.percent(50),
         };
-        Ok(Lot { disks, list, fault })
+        Ok(Case { disks, list, fault })
     }
 
     fn trial(&self, alloc: Global, failure: Failure) -> Trial {
@@ -250,8 +250,8 @@ struct RandomLists {
 impl RandomLists {
     // One list more.
     fn play(&mut self, rt: &HostRuntime, number: u32) -> Result<()> {
-        let lot = Lot::of(rt.alloc(), u64::from(number))?;
-        let trial = lot.trial(rt.alloc(), Failure::NONE);
+        let case = Case::of(rt.alloc(), u64::from(number))?;
+        let trial = case.trial(rt.alloc(), Failure::NONE);
         self.compare(rt, number, &trial)?;
         self.watch(rt, number, &trial)
     }
@@ -291,8 +291,8 @@ struct FailingLists {
 impl FailingLists {
     // One list more.
     fn play(&mut self, rt: &HostRuntime, number: u32) -> Result<()> {
-        let lot = Lot::of(rt.alloc(), u64::from(number).saturating_add(1_000_000))?;
-        let trial = lot.trial(rt.alloc(), lot.fault);
+        let case = Case::of(rt.alloc(), u64::from(number).saturating_add(1_000_000))?;
+        let trial = case.trial(rt.alloc(), case.fault);
         match fail_list(&trial)? {
             Ending::NoCall => {
                 self.no_call = self.no_call.saturating_add(1);

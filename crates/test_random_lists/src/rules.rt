@@ -94,12 +94,12 @@ impl Shown {
 
     // Whether the drives are the same behind, where the arm of the one at an address does this.
     fn moves(&self, address: u16, arm: Arm, behind: &Shown) -> bool {
-        for (before, behind) in self.view.drives.iter().zip(&behind.view.drives) {
+        for (before, now) in self.view.drives.iter().zip(&behind.view.drives) {
             let due = match before {
                 Some((device, _)) if u16::from(*device) == address % 256 => Some((*device, arm)),
                 _ => *before,
             };
-            if *behind != due {
+            if *now != due {
                 return false;
             }
         }
@@ -118,12 +118,12 @@ impl Shown {
 
     // Whether nothing runs behind and nothing pends, and each arm is at rest.
     fn is_at_rest(&self, behind: &Shown) -> bool {
-        for (before, behind) in self.view.drives.iter().zip(&behind.view.drives) {
+        for (before, now) in self.view.drives.iter().zip(&behind.view.drives) {
             let due = match before {
                 Some((device, _)) => Some((*device, Arm::AtRest)),
                 None => None,
             };
-            if *behind != due {
+            if *now != due {
                 return false;
             }
         }

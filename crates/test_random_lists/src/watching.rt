@@ -230,7 +230,10 @@ impl Watcher<'_> {
         let events = self.trial.events;
         let done = events.get(..place.saturating_add(1)).unwrap_or(events);
         match left_behind(self.trial, done)? {
-            Some(left) => self.account.keep_fault(self.watch.lost(), left),
+            Some(left) => {
+                self.account.keep_fault(self.watch.lost(), left)?;
+                Ok(None)
+            }
             None => Ok(Some(Breach::Sense)),
         }
     }
@@ -259,7 +262,7 @@ impl Account {
     }
 
     // Keeps a fault, and what it leaves where it is the first.
-    fn keep_fault(&mut self, lost: Option<u64>, left: Left) -> Result<Option<Breach>> {
+    fn keep_fault(&mut self, lost: Option<u64>, left: Left) -> Result<()> {
         self.faults = self.faults.saturating_add(1);
         if self.first.is_none() {
             self.first = Some(left);
@@ -267,7 +270,7 @@ impl Account {
         if let Some(at) = lost {
             self.lost.push(at)?;
         }
-        Ok(None)
+        Ok(())
     }
 
     // What came of a list that leaves this, where `drive` leaves that.

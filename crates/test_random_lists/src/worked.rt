@@ -247,7 +247,7 @@ fn store_program(channel: &mut TestChannel, words: &[u8]) {
     let _ = channel.poke(ADDRESS_WORD, &[0, a0, a1, a2]);
 }
 
-/// A No-Operation, and a transfer back to it.
+/// A No-Operation, and a transfer back to it at `CHAINS`, an address of two bytes of which the last is 0.
 const ENDLESS: [u8; 16] = [
     0x03,
     0,
