@@ -13,8 +13,12 @@ torn_sixty s new at bytes begins is =
 
 -- what a write that may fail tells; it names what is stored, what is counted and how it fails, before and behind the write
 pub told : (old new : Stored) (before now at : ℕ) (bytes : List ℕ) (fails room : Bool) (r : Result (Unit {0}) StoreFault) → at ≤ length old.content → is_ok r ≡ (not fails && room) → new ≡ (if fails then after_torn_write old at bytes else (if room then record old { content = overwritten old.content at bytes } else record old { failures = old.failures + 1 })) → now ≡ before + (if fails then 1 else 0)
-    → record { written : OnOk r (new.content ≡ overwritten old.content at bytes); torn : OnErr r (Torn old.content new.content at (length bytes));
-      same : new.origin ≡ old.origin; counted : Counts (old.failures + before) (new.failures + now) r }
+    → record {
+      written : OnOk r (new.content ≡ overwritten old.content at bytes);
+      torn : OnErr r (Torn old.content new.content at (length bytes));
+      same : new.origin ≡ old.origin;
+      counted : Counts (old.failures + before) (new.failures + now) r;
+    }
 told old new before now at bytes true room (Err e) begins ok is counted = record { written = tt; torn = torn_sixty old new at bytes begins is; same = rw is refl; counted = rw is (omega arith) }
 told old new before now at bytes false true (Ok v) begins ok is counted = rw is (record { written = refl; torn = tt; same = refl; counted = omega arith })
 told old new before now at bytes false false (Err e) begins ok is counted = rw is (record { written = tt; torn = record { before = refl; behind = refl; same_length = refl }; same = refl; counted = omega arith })

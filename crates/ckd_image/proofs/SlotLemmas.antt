@@ -52,5 +52,9 @@ slots_in-overwritten size (suc n) (suc k) bytes slot h l room =
     let whole : size + n * size ≤ length bytes = omega (arith, suc-mul n size) in
     let below : k < n = omega arith in
     let in_front : size + k * size ≤ length bytes = omega (arith, slot_within size n k below) in
-    rw (at, take-overwritten_before bytes slot (size + k * size) size (omega arith) in_front, drop-overwritten_before bytes slot size (k * size) in_front,
-      slots_in-overwritten size n k (drop size bytes) slot below l (simp length-drop (omega arith))) refl
+    rw (
+      at,
+      take-overwritten_before bytes slot (size + k * size) size (omega arith) in_front,
+      drop-overwritten_before bytes slot size (k * size) in_front,
+      slots_in-overwritten size n k (drop size bytes) slot below l (simp length-drop (omega arith)),
+    ) refl

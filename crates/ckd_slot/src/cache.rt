@@ -149,6 +149,7 @@ impl<S: ImageStore> TrackCache<S> {
     {
         // the geometry is that of an image, so that a slot has room for a home address and the end mark
         let _geometry = self.image.geometry();
+        // noted first, so that the copy is the last that is done
         self.changed = true;
         self.buffer.write_home_address(home_address);
     }

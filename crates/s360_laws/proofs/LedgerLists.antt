@@ -48,8 +48,6 @@ Balance u t m m_two =
 abbrev Fine : Machine → Event → Option FaultAfter → Answer × Machine → Type 0
 Fine m e x r = AreDistinct r.1.devices × Rest r.1 r.1.subchannel × ((u : ℕ) → Balance u (e, x, r.0) m r.1)
 
-
-
 -- a program that ended: its device end, or the motion of its arm
 end_owes : (c motion : Bool) → c ≡ not motion → cond c 1 0 + arm_owes (cond motion InMotion AtRest) ≡ 1
 end_owes c motion h = grind arith
@@ -154,8 +152,6 @@ over m d s st e w g ds z = record {
 
 pub good_stands : (m : Machine) (d : ℕ) (s : Script) (w : Stands m d s) → StandingGood w.seen
 good_stands m d s w = subst RunGood w.stands (good_run (start_of m w.drive.drive) s)
-
-
 
 -- The lowest device end.
 

@@ -138,7 +138,6 @@ close_marked : (o : Open) (b : List ℕ) → is_written (close None o b).state �
 close_marked o b = grind arith
 
 moved_marked : (key : ℕ) (o : Open) (t : Transfer) (u : TransferUnit) → Marked (cond (leaves_moved o t u) false (cond (writes_moved o t u) true (is_written o.state))) (next_moved None key o t u)
-
 moved_marked key o t Completes =
     let c = close None o t.bytes in
     let w = cond (closing_of o t.bytes).moves_off false (cond (is_some (closing_of o t.bytes).written) true (is_written o.state)) in

@@ -21,19 +21,19 @@ returns-in-NextCommand-clause-step g c =
 
 pub transfer-requires-clause-fits : goal.transfer-requires-clause-fits
 transfer-requires-clause-fits g c = elim c.match-self.branch [
-  in-Look+in_default w ↦
-    let k = w.in_default.ensures.found in
-    rw (w.self-is, w.drive-is, k.run) (look_fits c.args.self.now c.args.storage.now c.args.drive.now w.look.new.drive k.looked k.left k.answer) |
-  in-Bytes w ↦ rw (w.self-is, w.drive-is) c.requires.fits
+  | in-Look+in_default w ↦
+      let k = w.in_default.ensures.found in
+      rw (w.self-is, w.drive-is, k.run) (look_fits c.args.self.now c.args.storage.now c.args.drive.now w.look.new.drive k.looked k.left k.answer)
+  | in-Bytes w ↦ rw (w.self-is, w.drive-is) c.requires.fits
 ]
 
 pub returns-clause-step : goal.returns-clause-step
 returns-clause-step g c = elim c.match-self.branch [
-  in-Look+in_default w ↦
-    let a = c.args in
-    let t = c.transfer in
-    let k = w.in_default.ensures.found in
-    finds a.self.now t.new.self a.storage.now t.new.storage k.left a.most a.drive.now w.look.new.drive t.new.drive k.looked k.answer
-    (rw w.drive-is at t.ensures.loads) (rw (w.self-is, w.storage-is, w.drive-is, k.run, k.storage) at t.ensures.step) |
-  in-Bytes w ↦ rw (w.self-is, w.storage-is, w.drive-is) at c.transfer.ensures.step
+  | in-Look+in_default w ↦
+      let a = c.args in
+      let t = c.transfer in
+      let k = w.in_default.ensures.found in
+      finds a.self.now t.new.self a.storage.now t.new.storage k.left a.most a.drive.now w.look.new.drive t.new.drive k.looked k.answer
+      (rw w.drive-is at t.ensures.loads) (rw (w.self-is, w.storage-is, w.drive-is, k.run, k.storage) at t.ensures.step)
+  | in-Bytes w ↦ rw (w.self-is, w.storage-is, w.drive-is) at c.transfer.ensures.step
 ]

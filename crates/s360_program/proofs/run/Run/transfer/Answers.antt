@@ -18,8 +18,8 @@ returns-then-residual-eq0-2-clause-step g c =
     let f = c.flow_of-flow in
     let e = c.conclude in
     let needs : a.self.now.place.residual ≡ 0 → chains_data a.self.now.ccw ≡ false = elim c.else-residual-eq0.branch [
-      else-residual-eq0-via-then-residual-eq0+else-chains_data w ↦ λ z. sym w.chains_data.ensures ∙ w.if-chains_data.false |
-      else-residual-eq0-via-else-residual-eq0 w ↦ λ z. absurd (w.if-residual-eq0.false z)
+      | else-residual-eq0-via-then-residual-eq0+else-chains_data w ↦ λ z. sym w.chains_data.ensures ∙ w.if-chains_data.false
+      | else-residual-eq0-via-else-residual-eq0 w ↦ λ z. absurd (w.if-residual-eq0.false z)
     ] in
     let spent : (a.self.now.place.residual ≡ 0) ⊎ (f.result.left ≡ 0) = elim c.then-residual-eq0-2.either [ inl z ↦ inl z | inr z ↦ inr z.1 ] in
     one_unit a.self.now e.new.self a.storage.now a.storage.now a.drive.now e.new.drive a.most e.result c.requires.fits c.requires.some (kept a.storage.now) (λ q. search rules)
