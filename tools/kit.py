@@ -15,11 +15,12 @@ def kit():
     return Path(page).parent
 
 
-def kit_crate(folder):
-    """The module of `rt` that knows crates, and the crate of this folder as it sees it."""
+def kit_crate(folder, top=TOP):
+    """The module of `rt` that knows crates, and the crate of this folder as it sees it, in the repository whose top this is."""
+    # the module reads the words of its program, and would leave its compiled form in the kit
     sys.argv, sys.dont_write_bytecode = ["rt"], True
     loader = importlib.machinery.SourceFileLoader("rtlib", str(kit() / "bin" / "rtlib.py"))
     rtlib = importlib.util.module_from_spec(importlib.util.spec_from_loader("rtlib", loader))
     sys.modules["rtlib"] = rtlib
     loader.exec_module(rtlib)
-    return rtlib, rtlib.Crate(str(folder), str(TOP), {}, name=None)
+    return rtlib, rtlib.Crate(str(folder), str(top), {}, name=None)

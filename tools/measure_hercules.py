@@ -236,8 +236,12 @@ def run_hercules(folder: pathlib.Path) -> None:
     """Runs Hercules in a folder with its files, by callgrind, to its end."""
     words = ["valgrind", "--tool=callgrind", "--callgrind-out-file=counts", "hercules", "-f", "configuration", "-d"]
     environment = dict(os.environ, GLIBC_TUNABLES=TUNABLES, HERCULES_RC="commands")
-    with open(folder / "log", "wb") as log:
-        subprocess.run(words, cwd=folder, env=environment, stdin=subprocess.DEVNULL, stdout=log, stderr=log, timeout=PATIENCE, check=False)
+    try:
+        with open(folder / "log", "wb") as log:
+            how = {"cwd": folder, "env": environment, "stdin": subprocess.DEVNULL, "stdout": log, "stderr": log}
+            subprocess.run(words, timeout=PATIENCE, check=False, **how)
+    except subprocess.TimeoutExpired:
+        sys.exit(f"Hercules did not end within {PATIENCE} seconds:\n{(folder / 'log').read_text(errors='replace')}")
 
 
 def counted_in(folder: pathlib.Path) -> Counted:
