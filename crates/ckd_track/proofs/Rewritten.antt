@@ -122,8 +122,9 @@ module _ (s : List ℕ) (t : Track) (spells : Spells s t) (i : ℕ) (lt : i < le
   pub body_is_record : (body : List ℕ) → length body ≡ length (record_in t i).key_area + length (record_in t i).data_area → IsRecord (with_body body (record_in t i))
   body_is_record body same = same_is_record (record_in t i) _ _ (record_is s t spells i lt) (body_lengths body same)
 
--- A new record behind the first k: of two writes it names the slot, the place, both texts and their lengths, and the record that they make.
+-- A new record behind the first k.
 
+-- of two writes it names the slot, the place, both texts and their lengths, and the record that they make
 pub record_written : (s : List ℕ) (t : Track) → Spells s t → (k : ℕ) (count body : List ℕ) (new : Record) → length count ≡ 8 → record_bytes new ≡ count ++ body → place t k + 8 + length body ≤ length s
     → take (place t k + 8 + length body) (overwritten (overwritten s (place t k) count) (place t k + 8) body) ≡ t.home_address ++ flat_map record_bytes (take k t.records ++ new ∷ [])
 record_written s t spells k count body new eight is room =

@@ -19,10 +19,12 @@ zero_over s at b z k is le within room =
     let long = length-overwritten s at b (omega (arith, within, room)) in
     record { within = omega (arith, long, room); zeros = rw long (drop_over s at k b within room ∙ (zero_later s z k is le room).zeros) }
 
--- the same of the slot that a write at its front leaves, and of one that a clearing leaves
+-- the same of the slot that a write at its front leaves, and of one that a clearing leaves; each bound is a premise,
+-- and the new slot is named by an equation, since a tactic cites them by what the call before told
 pub zero_front : (s new b : List ℕ) (z k : ℕ) → new ≡ overwritten s 0 b → IsZeroFrom s z → z ≤ k → length b ≤ k → k ≤ length s → IsZeroFrom new k
 zero_front s new b z k is zeros le within room = rw is (zero_over s 0 b z k zeros le (omega arith) room)
 
+-- its premises are many for the same reason
 pub zero_cleared : (s new : List ℕ) (at n z k : ℕ) → new ≡ overwritten s at (replicate n 0) → IsZeroFrom s z → z ≤ k → at + n ≤ k → k ≤ length s → IsZeroFrom new k
 zero_cleared s new at n z k is zeros le within room = rw is (zero_over s at (replicate n 0) z k zeros le (omega (arith, within, length-replicate {A = ℕ} n 0)) room)
 
