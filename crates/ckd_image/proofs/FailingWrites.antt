@@ -11,7 +11,8 @@ torn_sixty s new at bytes begins is =
     let count = min 60 (length s.content - at) in
     rw (ap (λ (v : Stored). v.content) is) (torn_within s.content (take count bytes) at (length bytes) (simp length-take (omega arith)) (simp length-take (omega arith)))
 
--- what a write that may fail tells; it names what is stored, what is counted and how it fails, before and behind the write
+-- what a write that may fail tells; it names what is stored, what is counted and how it fails, before and behind the
+-- write, since it goes by the cases of whether it fails, whether there is room and what is answered
 pub told : (old new : Stored) (before now at : ℕ) (bytes : List ℕ) (fails room : Bool) (r : Result (Unit {0}) StoreFault) → at ≤ length old.content → is_ok r ≡ (not fails && room) → new ≡ (if fails then after_torn_write old at bytes else (if room then record old { content = overwritten old.content at bytes } else record old { failures = old.failures + 1 })) → now ≡ before + (if fails then 1 else 0)
     → record {
       written : OnOk r (new.content ≡ overwritten old.content at bytes);

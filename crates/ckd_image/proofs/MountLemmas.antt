@@ -123,6 +123,7 @@ joined_last model size before total h file len e =
     let is : before + c ≡ total = cc in
     record { above = omega arith; most = omega arith; whole = (one_whole model size c file (omega arith) long, tt); bytes = more_bytes bytes before c total file [] long (rw is (omega arith)) }
 
+-- a file before others; it names where the file begins, where the others begin and where all end, since it joins them
 joined_next : (model : DriveModel) (size before next total : ℕ) (file : List ℕ) (files : List (List ℕ)) → before ≤ next → length file ≡ 512 + (next - before) * (heads_of model * size) → Joined model size next total files → Joined model size before total (file ∷ files)
 joined_next model size before next total file files in_order long j =
     let above = j.above in
@@ -130,6 +131,8 @@ joined_next model size before next total file files in_order long j =
     let split : before + (next - before) ≡ next = omega arith in
     record { above = omega arith; most = most; whole = (one_whole model size (next - before) file (omega arith) long, j.whole); bytes = more_bytes (heads_of model * size) before (next - before) total file files long (rw split j.bytes) }
 
+-- files in parts, by their headers; its premises are many, since it goes along both lists at once, and the number of a
+-- part, the end of the one before it and where it begins are others with each step
 joined : (first : FileHeader) (n previous : ℕ) (model : DriveModel) (size before total : ℕ) (headers : List FileHeader) (files : List (List ℕ)) → before ≤ previous + 1 → are_parts first n previous headers ≡ true → AreHeaders headers files → cylinders_in (heads_of model * size) before headers ≡ Some total → Joined model size before total files
 joined first n previous model size before total [] files order parts are found = cc
 joined first n previous model size before total (last ∷ []) (file ∷ []) order parts are found = joined_last model size before total last file are.0.is_len found
