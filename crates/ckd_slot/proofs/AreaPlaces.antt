@@ -32,6 +32,8 @@ home_lies slot t e s = record { within = omega arith; size = refl; here = refl }
 lies_by : (slot bytes : List ℕ) (at n : ℕ) → at + n ≤ length slot → length bytes ≡ n → take n (drop at slot) ≡ bytes → Lies slot (record { start = at; len = n }) bytes
 lies_by slot bytes at n room size here = let e : at + n - at ≡ n = omega arith in record { within = room; size = size; here = rw e here }
 
+-- each area of a record lies at its place; the record is named apart from the track that has it, since each case of the
+-- extent goes by the record alone
 pub record_lies : (slot : List ℕ) (r : Record) (at : ℕ) (e : Extent) (part : Part) (i : ℕ) (t : Sighted) → StandsAt slot at r → PartsAt slot at r → record_on t i ≡ r
     → Lies slot (record_place e at (key_length (drop at slot)) (data_length (drop at slot))) (bytes_of e t (Of part i))
 record_lies slot r at extent.Identifier part i t s p is =

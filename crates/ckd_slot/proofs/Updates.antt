@@ -36,6 +36,7 @@ pub record HasForm (size : ℕ) (t0 : Track) (e : Extent) (i : ℕ) (body : List
   pub within : update_offset e t0 i + length body ≤ size
   pub slot : slot_of size t' ≡ take (update_offset e t0 i) (slot_of size t0) ++ (body ++ drop (update_offset e t0 i + length body) (slot_of size t0))
 
+-- An update makes such a slot. Its premises are many, since three updates come here, each with bytes of its own.
 pub form_of : (size : ℕ) (t0 : Track) (e : Extent) (part : Part) (i : ℕ) (body : List ℕ) → IsUpdate e → FitsSlot size t0 → i < length t0.records → length body ≡ update_length e (record_in t0 i)
     → HasForm size t0 e i body (with_record_changed (replaced e body) (Of part i) t0)
 form_of size t0 e part i body u f lt same =
@@ -84,6 +85,7 @@ put_indexed {old} {new} {offsets} {records = Some n} x s long = record {
 }
 put_indexed {old} {new} {offsets} {records = None} x s long = absurd (let no : is_readable (track_of old) ≡ false = x.read in let yes = ap is_readable s.old_read in cc)
 
+-- a buffer whose slot got other bytes; it names each field that the buffer keeps beside its slot
 pub kept_buffer : {old new offsets : List ℕ} {records : Option ℕ} {zeros_from z : ℕ} {charged : Charged} → IsBuffer old offsets records zeros_from charged → SameRecords old new → length new ≡ length old → IsZeroFrom new z → IsBuffer new offsets records z charged
 kept_buffer {old} {new} {charged} x s long cleared = record {
   indexed = put_indexed x.indexed s long;
@@ -91,6 +93,7 @@ kept_buffer {old} {new} {charged} x s long cleared = record {
   charges = x.charges ∙ sym (same_left charged.model (track_in new) (track_in old) charged.records s.lengths);
 }
 
+-- a buffer in whose slot bytes are put; it names each field that the buffer keeps beside its slot
 pub put_buffer : {old offsets : List ℕ} {records : Option ℕ} {zeros_from : ℕ} {charged : Charged} (at : ℕ) (b : List ℕ) → IsBuffer old offsets records zeros_from charged → at + length b ≤ length old → SameRecords old (overwritten old at b)
     → IsBuffer (overwritten old at b) offsets records (max zeros_from (at + length b)) charged
 put_buffer {old} {zeros_from} at b x room s =

@@ -114,7 +114,8 @@ pub record Fitting (slot : List ℕ) (number : ℕ) (after : Option Area) (count
   pub there : number ≤ length (track_in slot).records
   pub room : length (spelling (formatted (track_of slot) after count)) ≤ length slot
 
--- by what the code asked of the track as it sees it, and by the answer
+-- by what the code asked of the track as it sees it, and by the answer; each is a premise, since the code has them from
+-- several calls
 pub fitting : (slot : List ℕ) (model : DriveModel) (before : Option ℕ) (after : Option Area) (count : List ℕ) (seen : Track) (n : ℕ) (answer : Bool) → Spells slot (track_in slot) → AreBytes count → length count ≡ 8
     → kept_records before (track_in slot) ≡ kept (track_of slot) after → ForSome before (λ i. i < length (track_in slot).records) → track_of slot ≡ Ok seen → n ≡ number_up_to before
     → answer ≡ has_room model (take n seen.records) (key_length count) (data_length count) → answer ≡ true → capacity_of model + 37 ≤ length slot → Fitting slot n after count × (fits_track model after count (track_of slot) ≡ true)
@@ -254,6 +255,8 @@ pub record IsUpdated (slot : List ℕ) (t : Track) (off : ℕ) (body : List ℕ)
   pub fits : FitsSlot (length slot) t'
   pub lengths : lengths_on t' ≡ lengths_on t
 
+-- A track with another record of the same lengths in place of one. Its premises are many, since two extents come here,
+-- each by facts of its own.
 updated_by : (slot : List ℕ) (t : Track) (i off : ℕ) (body : List ℕ) (r : Record) → Spells slot t → i < length t.records → off + length body ≤ end_offset t → IsRecord r → lengths_of r ≡ lengths_of (record_in t i)
     → ended_at (overwritten slot off body) (end_offset t) ≡ slot_of (length slot) (record t { records = set t.records i r }) → IsUpdated slot t off body (record t { records = set t.records i r })
 updated_by slot t i off body r s lt within is same law =
@@ -282,7 +285,8 @@ length-padded b n le = omega (arith, length-append b (replicate (n - length b) 0
 pub padded_whole : (b : List ℕ) (n : ℕ) → length b ≡ n → padded b n ≡ b
 padded_whole b n e = (let z : n - length b ≡ 0 = omega (arith, e) in rw z (append-nil b))
 
--- a record that gets all the bytes of its area
+-- a record that gets all the bytes of its area; what is asked for that is a premise each, since it is cited of a slot
+-- that is made of a track, and of a slot and a window
 pub update_is : (e : Extent) (slot : List ℕ) (t : Track) (part : Part) (i : ℕ) (body : List ℕ) → IsUpdate e → Spells slot t → i < length t.records → length body ≡ update_length e (record_in t i)
     → IsUpdated slot t (update_offset e t i) body (with_record_changed (replaced e body) (Of part i) t)
 update_is extent.Data slot t part i body u s lt same =
