@@ -41,6 +41,7 @@ sense_closes g t o r b is = closing_by action.GiveSense g t o r b is ∙ rw (sen
 updated_is : (slot : List ℕ) (a : Area) (t : Sighted) (area : Option Area) (change : Record → Record) (c : Closing) → t ≡ Ok (track_in slot) → area ≡ Some a → updated t area change c ≡ writes (with_record_changed change a (track_in slot)) c
 updated_is slot a t area change c e f = rw (e, f) refl
 
+-- it closes by a write; what the closing asks of it is a premise each: the action, the track, the area and a byte
 pub update_closes : (g : Geometry) (slot : List ℕ) (o : Opened) (r : Registers) (a : Area) (b : List ℕ) → action_of o.command ≡ action.Update → track_of slot ≡ Ok (track_in slot) → o.area ≡ Some a → 0 < length b
     → closing g (track_of slot) o r b ≡ writes (with_record_changed (replaced (extent_of o.command) b) a (track_in slot)) (end_of_area (track_of slot) o r)
 update_closes g slot o r a b is reads there some =

@@ -37,7 +37,7 @@ passing P g o r passed head missed =
     (λ _. cond_both (not (allows_head_change r.file_mask)) _ _ P (λ _. missed cause.HEAD_CHANGE_NOT_ALLOWED refl) (λ _. cond_both (r.head + 1 == heads_of g.model) _ _ P (λ _. missed cause.END_OF_CYLINDER refl) head))
     (λ _. turning P r r.lap passed (missed cause.NO_RECORD_FOUND refl))
 
--- what holds of these ways holds of every look
+-- what holds of these ways holds of every look; it has a premise for each of them
 pub sight_by : (P : Sight → Type 0) (g : Geometry) (t : Sighted) (o : Opened) (r : Registers) → P (Found o) → ((a : Area) → P (Found (record o { area = Some a })))
     → P (Missed (with_cause r cause.UNREADABLE_TRACK)) → P (IndexPassed (record r { position = AtIndex; lap = Second }))
     → ((r.head + 1 == heads_of g.model) ≡ false → P (NextHead (moved_to r r.cylinder (r.head + 1)))) → ((c : Sense) → bit_and c.0 cause.EQUIPMENT_CHECK.0 ≡ 0 → P (Missed (with_cause (at_index r) c)))
