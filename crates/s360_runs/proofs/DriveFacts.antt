@@ -101,8 +101,9 @@ abbrev pub FailsOr : {A : Type 0} → (met : Bool) → Fault → (before : IdleD
 FailsOr met f before at fails call =
     (met ≡ true → (t : State) × (call (Some f) ≡ fails t) × Fails f before at t) × (met ≡ false → call (Some f) ≡ call None)
 
--- One whose save fails where the arm or the head leaves a written track. The drive moves off from the registers `r`, and the volume
--- and the arm are tied to those before it: a command that is closed has other registers than the phase that it ends.
+-- One whose save fails where the arm or the head leaves a written track. The drive moves off from the registers `r`,
+-- and the volume and the arm are tied to those before it: a command that is closed has other registers than the phase
+-- that it ends. Its premises are many, since a closing, a look and a beginning come here.
 leaves_or : {A : Type 0} (left : List ℕ) (s : State) (r : Registers) (before : IdleDrive) (at : Registers) (fails : State → A) (y : A) → s.volume ≡ before.volume → AtSameTrack at r
     → FailsOr (is_written s) (SaveFails left) before at fails (λ f. moving_off f (with_registers s r) fails y)
 leaves_or left s r before at fails y e k =

@@ -56,8 +56,8 @@ next_keeps n v x h = grind arith
 
 -- Faults.
 
--- A fault that is met loses the track under the arm at most, and that only where it was written: `x` is a unit or a cut with the
--- fault, and `y` the one without it.
+-- A fault that is met loses the track under the arm at most, and that only where it was written: `x` is a unit or a cut
+-- with the fault, and `y` the one without it. Its premises are many, since both come here, each by facts of its own.
 faulty_keeps : (n : ℕ) (f : Fault) (key : ℕ) (g : ProgramPhase) (x y : Next) → Away n g → NextTellsWritten g x → NextKeeps n (state_in g).volume y → (x ≡ y) ⊎ NextByFault f key g x → NextKeeps n (state_in g).volume x
 faulty_keeps n f key g x y a told k (inl e) = rw e k
 faulty_keeps n f key g (GoesOn next) y a told k (inr h) = absurd h
