@@ -102,6 +102,8 @@ at_once : (a u : ℕ) (x : Option FaultAfter) (unit : UnitStatus) (channel : Cha
     → (is_accepted u (Sio a, x, StatusStored unit channel) ≡ (a == u)) × (tells unit CHANNEL_END ≡ true)
 at_once a u x unit channel h = grind arith
 
+-- a start, by what its first unit comes to; that is named, since it goes by its cases, and what is known of the device
+-- at the address is a premise each
 begin_fine : (m : Machine) (x : Option FaultAfter) (a d : ℕ) (v : Device) (f : First) → IsAt m a d v → v.arm ≡ AtRest → FirstGood (start_of m v.drive) f → AreDistinct m.devices → Fine (idle m) (Sio a) x (started d (idle m) f)
 begin_fine m x a d v BadStart at free g ds = (ds, tt, λ u. grind arith)
 begin_fine m x a d v (RejectedStart w) at free g ds = (
@@ -224,10 +226,13 @@ stays_sound m (e ∷ es) h = stays_sound (react e.0 e.1 m).1 es (stays m e.0 e.1
 abbrev Holds : ℕ → Since → ℕ → ℕ → Type 0
 Holds b s n o = n + o ≡ due b s
 
+-- one exchange more, of numbers and tests alone, so that tactics read no machine
 holds_next : (b : ℕ) (s : Since) (r a : Bool) (n t o o_two : ℕ) → Holds b s n o → t + o_two ≡ cond r 0 (cond a 1 o)
     → Holds b (cond r SinceReset (cond a SinceAcceptance s)) (cond (r || a) 0 n + t) o_two
 holds_next b s r a n t o o_two h e = grind arith
 
+-- all exchanges; it names twice what was owed and what was stored since, as channel end and device end go along one
+-- list
 holds_all : (u b q : ℕ) (es : List Input) (m : Machine) (s : Since) (c d : ℕ) → IsSound m → Holds b s c (owes_channel_end u m) → Holds q s d (owes_device_end u m)
     → Holds b (fold (later u) s (exchanges es m)) (fold (counted CHANNEL_END u) c (exchanges es m)) (owes_channel_end u (after_all es m))
     × Holds q (fold (later u) s (exchanges es m)) (fold (counted DEVICE_END u) d (exchanges es m)) (owes_device_end u (after_all es m))
@@ -316,7 +321,7 @@ held_answer m p csw Tch x = refl
 held_answer m p csw Interrupt x = refl
 held_answer m p csw e x = tt
 
--- its CSW was taken
+-- its CSW was taken; its premises are many, since a test and an interruption come here
 taken : (m : Machine) (p q a : ℕ) (csw other : Csw) → address_of m q ≡ a → Pending q other ≡ Pending p csw → tells csw.unit CHANNEL_END ≡ true → ((a == address_of m p) && tells other.unit CHANNEL_END) ≡ false → ⊥
 taken m p q a csw other e is t h = grind arith
 
@@ -324,6 +329,7 @@ taken m p q a csw other e is t h = grind arith
 abbrev StillHeld : Machine → ℕ → Csw → Machine → Type 0
 StillHeld m p csw after = (n : Machine) × (after ≡ pending n p csw) × (n.channel ≡ m.channel)
 
+-- one event more; it names the state, the event and what is answered, since it goes by the cases of the reaction
 held_next : (m : Machine) (p : ℕ) (csw : Csw) (x : Option FaultAfter) {c : Subchannel} {e : Event} {r : Answer × Machine} → Reacts m x c e r → c ≡ Pending p csw → tells csw.unit CHANNEL_END ≡ true
     → ends_holding (address_of m p) (e, x, r.0) ≡ false → StillHeld m p csw r.1
 held_next m p csw x (Same c e a q k) is t h = (m, ap (λ c. with_subchannel c m) is, refl)

@@ -42,7 +42,8 @@ pub record IsAt (m : Machine) (a d : ℕ) (v : Device) : Type 0 where
   pub address : address_of m d ≡ a
   pub is_there : device_at m d ≡ Some v
 
--- what holds of the device at an address before and after a change of one device, by whether it is that one
+-- what holds of the device at an address before and after a change of one device, by whether it is that one; its
+-- premises are many, since each use has a statement of its own, and shows it where it is that one and where it is not
 pub changed_for : (m : Machine) (f : Device → Device) → Keeps f → (a d : ℕ) (v : Device) → IsAt m a d v → (u : ℕ) (P : Bool → Option Device → Option Device → Type 0)
     → P true (Some (f v)) (Some v) → ((y : Option Device) → P false y y) → P (a == u) (device_for (with_device d f m) u) (device_for m u)
 changed_for m f k a d v at u P here there = subst (λ a. P (a == u) (device_for (with_device d f m) u) (device_for m u)) at.address

@@ -59,6 +59,8 @@ pub record EndedIn (script more : Script) (key : ℕ) (g : ProgramPhase) (used :
   pub walked : walk front key g ≡ EndsWith [] st e
   pub all_used : used ≡ units_in script + units_in front
 
+-- it names both parts of the script, where the program stood between them and how it ended, since it splits its run
+-- there
 pub ended_in : (s : Start) (script more : Script) (key : ℕ) (g : ProgramPhase) (used : ℕ) (st : Storage) (e : Ending) → StandsAt s script key g
     → run (script ++ more) s ≡ Ended used st e → EndedIn script more key g used st e
 ended_in s script more key g used st e h r = go (walk more key g) refl
@@ -73,7 +75,8 @@ ended_in s script more key g used st e h r = go (walk more key g) refl
         let split = ap units_in y.1 in
         record { front = y.0; rest = rest; parts = y.1; walked = y.2 ∙ same; all_used = omega (arith, units_in_two) }
 
--- A program that ended in a step ended at its last unit that counts.
+-- A program that ended in a step ended at its last unit that counts. It names what `ended_in` does, by which it goes,
+-- and the step for the second part of the script.
 pub ended_there : (s : Start) (script : Script) (key : ℕ) (g : ProgramPhase) (k used : ℕ) (x : Option FaultAfter) (st : Storage) (e : Ending) → StandsAt s script key g
     → run (script ++ units_with k x) s ≡ Ended used st e → run (script ++ units_with (used - units_in script) x) s ≡ Ended used st e
 ended_there s script key g k used x st e h r =
@@ -86,7 +89,8 @@ ended_there s script key g k used x st e h r =
 
 -- A step that the program outlives has met no fault.
 
--- so its run goes on as without the fault
+-- so its run goes on as without the fault; it names the script before the step, the step and the script behind it, and
+-- where the program stood before it and after it, since it compares two runs part by part
 pub unmet : (s : Start) (script : Script) (key : ℕ) (g : ProgramPhase) (k : ℕ) (x : Option FaultAfter) (seen : Standing) → StandsAt s script key g → run (script ++ units_with k x) s ≡ NotEnded seen
     → (more : Script) → run ((script ++ units k) ++ more) s ≡ run ((script ++ units_with k x) ++ more) s
 unmet s script key g k x seen st r more = go (walk (units_with k x) key g) refl
