@@ -14,7 +14,7 @@ use Rattle.s360_runs.proofs.Walks.{walks_on}
 use Rattle.s360_program.specs.Advances.{IsMet, CameToEnd, Cuts, TellsOf, CutTellsOf}
 use Rattle.s360_program.specs.Steps.{IsMetBy, EndsBy, ToldOf}
 
--- units behind units
+-- units behind units; it names both ends and the middle of two walks that it joins
 pub more_units : (key k : ℕ) (phase at next : ProgramPhase) (done n : ℕ) → k ≡ key → walk (units done) key phase ≡ StandsIn at → walk (units n) k at ≡ StandsIn next → walk (units (done + n)) key phase ≡ StandsIn next
 more_units key k phase at next done n e before h =
     ap (λ u. walk u key phase) (sym (replicate-append-replicate done n (OneUnit None))) ∙ walks_on (units done) (units n) key phase

@@ -50,6 +50,7 @@ immediate_is (Started o) d0 d1 a e = absurd (cc a)
 
 -- No command is there.
 
+-- the program ends there; by all that the answer clause of the code has at hand, a premise each
 pub misses : (key : ℕ) (p q : Place) (s : Storage) (told : Csw × Bool) (d0 d2 : DriveState) → NoCcw ≡ fetch s p true → unsaved d0.state ≡ None
     → q ≡ past_no_ccw p → Settles (untouched d0.state) key q condition.ProgramCheck told d0 d2
     → EndsBy (λ f. unit f key (Between (record { storage = s; place = p; state = d0.state }))) told s d0 d2

@@ -94,6 +94,8 @@ not_failed ccw e k h is = go (chains_command ccw) (rw is at h)
 good_end : (ccw : Ccw) (k : ChannelCondition) (d0 d1 : DriveState) (e : DriveEnding) → Reports (e ≡ failed_ending) d0 d1 → chains_after ccw e.unit k ≡ true → d1.image.failures ≡ d0.image.failures
 good_end ccw k d0 d1 e reports chains = unfailed (e ≡ failed_ending) d0 d1 (not_failed ccw e k chains) reports
 
+-- a command that chains goes on to the next; its premises are many, since two answers of the code come here, each with
+-- the run, the place and the drive that it comes to
 pub chains_on : (r q : Run) (s : Storage) (ccw : Ccw) (incorrect : Bool) (k : ChannelCondition) (d0 d1 : DriveState) (e : DriveEnding) → EndsCommand e d0 d1
     → k ≡ condition_for incorrect e.unit → chains_after ccw e.unit k ≡ true
     → r.key < 16 → q.key ≡ r.key → stage_of q ≡ stage.Between → place_of q.place ≡ modified_place (place_of r.place) e.unit → PlaceWithin (place_of q.place)

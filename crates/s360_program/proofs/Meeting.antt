@@ -131,6 +131,7 @@ length_untold asked unit k h = ap (λ b. has (with_interruption asked (if b && i
     go false condition.ProgramCheck = refl
     go false condition.ProtectionCheck = refl
 
+-- its premises are many, since a save that fails as the program ends and a call that failed before it come here
 tells_fault : (f : Option Fault) (key : ℕ) (p : Place) (c : Closed) (k : ChannelCondition) (told : Csw × Bool) (d : DriveState) → tells (settled f c).unit UNIT_CHECK ≡ true
     → tells_equipment_check d.state.registers.sense ≡ true → IsEnding (ending f key p c (status_of k)) told d → TellsFault told.0 d
 tells_fault f key p c k told d unit sense is = record {
@@ -235,6 +236,7 @@ module _ (next : Option Fault → Next) (c : Closed) (key : ℕ) (p : Place) (k 
 
 -- A call of the drive goes well, and more calls follow.
 
+-- it names the drive before, between and behind the calls, since it joins what is said of each two
 pub more_after : (At : Option Fault → Type 0) (next later : Option Fault → Next) (s : Storage) (told : Csw × Bool) (d0 d1 d2 : DriveState)
     → ((f : Option Fault) → At f → next f ≡ later f) → At None → ((left : List ℕ) → d2.image.failures ≡ d1.image.failures + 1 → At (Some (SaveFails left)))
     → d1.image.failures ≡ d0.image.failures → d2.image.loads ≡ d1.image.loads → GainsNoCheck (drive_of d0.state) (drive_of d1.state)

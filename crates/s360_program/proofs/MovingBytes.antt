@@ -130,6 +130,8 @@ pub record MayPass (m : ℕ) (seg : Segment) (s : State) (w : Work) : Type 0 whe
 within : (b left m most L : ℕ) → b + left ≤ L → m ≤ most → most ≤ left → b + m ≤ L
 within b left m most L x y z = omega arith
 
+-- so many bytes are taken; the work is named apart from the drive, since it goes by its cases, and what the code has at
+-- hand of them is a premise each
 pub takes_so : (m : ℕ) (seg : Segment) (s : Storage) (d d2 : DriveState) (w : Work) → MayPass m seg d.state w → takes_now w ≡ true → seg.address + m ≤ length s.bytes
     → d2 ≡ record d { work = moved_on (slice_range s.bytes seg.address (seg.address + m)) w } → MovesBytesBy seg (Ok m) s s d d2 w
 takes_so m seg s d d2 Idle h t inside e = absurd h.moving
@@ -156,6 +158,8 @@ takes_so m seg s d d2 (Passing o b left) h t inside e = (
         not_true true h = cc
         not_true false h = refl
 
+-- so many bytes are given; its premises are many, since a read that skips, one that stores and one of a whole area come
+-- here
 pub gives_so : (m : ℕ) (seg : Segment) (s s2 : Storage) (d d2 : DriveState) (w : Work) → MayPass m seg d.state w → gives_now w ≡ true → ((i : ℕ) → i < m → IsFree seg.key seg.ccw s (seg.address + i))
     → d2 ≡ record d { work = moved_on (slice_range (given_now d w) (length (passed_of w)) (length (passed_of w) + m)) w }
     → s2 ≡ (if not (skips seg.ccw) then stored s seg.address (slice_range (given_now d w) (length (passed_of w)) (length (passed_of w) + m)) else s)

@@ -98,6 +98,7 @@ looked_quiet f o d0 d1 e at w is =
 
 -- An immediate command, and a look that finds the area, each with what follows in the unit.
 
+-- it names the drive before, between and behind, since it joins the beginning and what follows in the unit
 pub immediately_quiet : (f : Option Fault) (code : ℕ) (d0 d1 d2 : DriveState) → unsaved d0.state ≡ None → is_idle d0.work ≡ true → d1 ≡ with_image (after_begin f code d0) d1.image
     → CallsStore false (begin_saves code d0) d0 d1 → (is_written d1.state ≡ false → is_written (closed_of None d1 d1.work).state ≡ false → d2.image ≡ d1.image)
     → IsQuiet d0 → d2.image ≡ d0.image
@@ -131,6 +132,7 @@ quiet_at ccw a p s d (Over x) f w c = absurd f
 quiet_at ccw a p s d (Looking o) f w c = absurd f
 quiet_at ccw a p s d (Passing o b l) f w c = record { looks = refl; unwritten = rw w c }
 
+-- it names the drive before, between and behind, since it joins the look and what follows in the units
 pub finds_quiet : (r : Run) (s : Storage) (left n : ℕ) (d0 d1 d2 : DriveState) → Looked r d0 d1 → seen.Ready left ≡ answer_of_look d1.work → 0 < n
     → (NeedNoStore r.key (phase_in (run_of (in_bytes r)) s d1) n → d2.image ≡ d1.image) → NeedNoStore r.key (phase_in (run_of r) s d0) n → d2.image ≡ d0.image
 finds_quiet r s left n d0 d1 d2 k answer some later h = later from ∙ looks_quiet r d0 d1 k q

@@ -17,7 +17,8 @@ use Rattle.s360_program.proofs.Transferring.{counts_some, unit_steps}
 pub kept : (s : Storage) → KeepsStorage s s
 kept s = record { size = refl; keys = refl }
 
--- a step that makes no call of the store where its first unit needs none
+-- a step that makes no call of the store where its first unit needs none; it names run, storage and drive before and
+-- behind, since a step is said of all of them
 pub quietly : (r r2 : Run) (s s2 : Storage) (d0 d2 : DriveState) (most : ℕ) (a : Step) → Fits r d0 → KeepsStorage s s2 → (IsQuiet d0 → d2.image ≡ d0.image)
     → Steps r.key (phase_in (run_of r) s d0) most a r2 s2 d0 d2 → IsStep r s d0 most a r2 s2 d2
 quietly r r2 s s2 d0 d2 most a fits keeps quiet steps = record {
@@ -26,7 +27,7 @@ quietly r r2 s s2 d0 d2 most a fits keeps quiet steps = record {
   quiet = λ h. quiet (first_quiet (run_of r) s d0 (count_of a) r.key fits.stands (counts_some r.key (phase_in (run_of r) s d0) most a r2 s2 d0 d2 steps) h);
 }
 
--- one unit
+-- one unit; it names run, storage and drive before and behind, since a step is said of all of them
 pub one_unit : (r r2 : Run) (s s2 : Storage) (d0 d2 : DriveState) (most : ℕ) (a : Step) → Fits r d0 → 0 < most → KeepsStorage s s2 → (IsQuiet d0 → d2.image ≡ d0.image)
     → ComesBy r.key (λ f. unit f r.key (phase_in (run_of r) s d0)) a r2 s2 d0 d2 → IsStep r s d0 most a r2 s2 d2
 one_unit r r2 s s2 d0 d2 most a fits some keeps quiet comes =

@@ -43,6 +43,7 @@ use Rattle.s360_runs.proofs.AtOnce.{at_once}
 pub over_once : (key : ℕ) (phase : ProgramPhase) (most : ℕ) (told : Csw × Bool) (s : Storage) (d0 d1 : DriveState) → 0 < most → EndsBy (λ f. unit f key phase) told s d0 d1 → OverBy key phase most 1 told s d0 d1
 over_once key phase most told s d0 d1 h e = record { earlier = 0; last = refl; few = omega arith; at = phase; goes = refl; ends = e }
 
+-- a step that is one unit; it names phase, run, storage and both drives, since a step is said of all of them
 pub unit_steps : (key : ℕ) (phase : ProgramPhase) (most : ℕ) (r : Run) (s : Storage) (a : Step) (d0 d1 : DriveState) → 0 < most → ComesBy key (λ f. unit f key phase) a r s d0 d1 → Steps key phase most a r s d0 d1
 unit_steps key phase most r s (step.Units n) d0 d1 h c =
     let w = c.1 in
@@ -57,7 +58,8 @@ unit_steps key phase most r s (step.Units n) d0 d1 h c =
     }
 unit_steps key phase most r s (step.Over n) d0 d1 h c = subst (λ n. Steps key phase most (step.Over n) r s d0 d1) (sym c.0) (over_once key phase most (told_of r) s d0 d1 h c.1)
 
--- the same from a drive that has only looked again
+-- the same from a drive that has only looked again; it names the drive before, between and behind, since it joins that
+-- and the unit
 pub unit_comes : (next later : Option Fault → Next) (key : ℕ) (s : Storage) (r : Run) (a : Step) (d0 d1 d2 : DriveState) → ((f : Option Fault) → next f ≡ later f) → d1.image ≡ d0.image → d1.state ≡ d0.state
     → d2.image.loads ≡ d1.image.loads → ComesBy key later a r s d1 d2 → ComesBy key next a r s d0 d2
 unit_comes next later key s r a d0 d1 d2 e image state loads is =
@@ -282,7 +284,8 @@ pub all_told : (m n : ℕ) (gives : Bool) → (m == n && (gives || not (m == 8))
 all_told m n true h = (grind (arith, nat_tests), inl refl)
 all_told m n false h = (grind (arith, nat_tests), inr (λ e. grind (arith, nat_tests)))
 
--- what the drive is at behind them
+-- what the drive is at behind them; the work is named apart from the drive, since it goes by its cases, and storage and
+-- drive before and behind, since bytes that move are said of all of them
 behind_bytes : (g : Segment) (m : ℕ) (p : Place) (s s2 : Storage) (d d2 : DriveState) (w : Work) → MovesBytesBy g (Ok m) s s2 d d2 w → m ≤ p.residual
     → (left_of d2.work ≡ left_of w - m) × (length (passed_of d2.work) ≡ length (passed_of w) + m) × (gives_now d2.work ≡ gives_now w) × (d2.image ≡ d.image) × (d2.state ≡ d.state)
 behind_bytes g m p s s2 d d2 Idle q le = absurd q
