@@ -34,7 +34,8 @@ use Rattle.s360_channel.proofs.Works.{seen_there}
 
 -- From what a channel shows after a call to what the call does; the cases of the input/output instructions.
 
--- what a quiet call does, from what the channel shows afterwards
+-- what a quiet call does, from what the channel shows afterwards; it names the parts of the channel before and behind,
+-- since many calls come here, each of which changes other parts
 pub quiet : (e : Event) (m : Machine) (answer : Answer) (number : ℕ) (s : Storage) (sub : Subchannel) (us : List AttachedState) (s' : Storage) (sub' : Subchannel) (us' : List AttachedState)
     → StandsFor (of_parts number s sub us) m → images us' ≡ images us → ShowsNext (react e None m) answer (of_parts number s' sub' us') → DoesQuietly e m answer (of_parts number s' sub' us')
 quiet e m answer number s sub us s' sub' us' st same h = record {
@@ -192,14 +193,14 @@ module _ (a number : ℕ) (s : Storage) (sub : Subchannel) (us : List AttachedSt
 
 -- Interruptions, by what the subchannel does.
 
--- while the channel is available
+-- while the channel is available; it names the parts of the channel before and behind, as the code has them at hand
 pub interrupt_idle : (number : ℕ) (s : Storage) (us : List AttachedState) (m : Machine) (told : Option (ℕ × Csw)) (s' : Storage) (us' : List AttachedState) → StandsFor (of_parts number s Idle us) m
     → DoesOn number (λ m. interrupt_device m (lowest (filter has_arrived m.devices))) (Interrupted told) s us s' Idle us' → images us' ≡ images us → DoesQuietly Interrupt m (Interrupted told) (of_parts number s' Idle us')
 interrupt_idle number s us m told s' us' st does same = quiet Interrupt m (Interrupted told) number s Idle us s' Idle us' st same
     (subst (λ m. ShowsNext (react Interrupt None m) (Interrupted told) (of_parts number s' Idle us')) (sym st.shows.0)
     (does st.shows.1 (distinct_drives (of_parts number s Idle us) m (seen_by (of_parts number s Idle us) m Idle st.shows) st.sound)))
 
--- while a channel status word pends
+-- while a channel status word pends; it names the parts of the channel before and behind, as the code has them at hand
 pub interrupt_pending : (number : ℕ) (s : Storage) (device : ℕ) (csw : Csw) (us : List AttachedState) (m : Machine) (told : ℕ × Csw) (s' : Storage) → StandsFor (of_parts number s (Pending device csw) us) m
     → told ≡ (256 * number + device, csw) → s' ≡ changed (csw_stored csw) s → DoesQuietly Interrupt m (Interrupted (Some told)) (of_parts number s' Idle us)
 interrupt_pending number s device csw us m told s' st is stored = quiet Interrupt m (Interrupted (Some told)) number s (Pending device csw) us s' Idle us st refl

@@ -215,7 +215,8 @@ at_attached place How old new u d at =
 pub still_there : (place : ℕ) (How : DriveState → DriveState → Type 0) (old new : List AttachedState) → DriveChanges place How old new → place < length new
 still_there place How old new d = subst (λ n. place < n) (sym (ap length d.becomes ∙ length-set old place (with_drive d.attached d.drive))) (slice_get_within old place d.attached d.was)
 
--- a program that is over, at the drive that it changed
+-- a program that is over, at the drive that it changed; it names the drives before, between and behind, since it joins
+-- two changes of them
 over_at : (place : ℕ) (csw : Csw) (motion : Bool) (old between new : List AttachedState) (u : AttachedState) (drive : DriveState) (subchannel : Subchannel) → IsOver place csw motion between new subchannel
     → slice_get old place ≡ Some u → between ≡ slice_set old place (with_drive u drive)
     → (new ≡ slice_set old place (with_both u motion drive)) × (subchannel ≡ Pending u.device csw)
@@ -342,7 +343,7 @@ module _ (c : ChannelState) (m : Machine) (a : ℕ) (s : StandsFor c m) (here : 
     none_calls 1 c (record c { storage = st }) refl,
   )
 
--- the program that runs is cut
+-- the program that runs is cut; by all that the answer clause of the code has at hand, a premise each
 pub halts_working : (c : ChannelState) (m : Machine) (place : ℕ) (r : RunningState) → c.subchannel ≡ Working place r → StandsFor c m → (drives : List AttachedState) (subchannel : Subchannel) → CutsProgram c.subchannel c.drives drives subchannel
     → (a : ℕ) → a / 256 ≡ c.number → Does (Hio a) m (WithCode Two) c (record { number = c.number; storage = c.storage; subchannel = subchannel; drives = drives })
     × CallsAtMost 1 c (record { number = c.number; storage = c.storage; subchannel = subchannel; drives = drives })

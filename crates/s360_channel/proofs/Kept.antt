@@ -176,6 +176,7 @@ blocks_of n h = go (nat_le 4096 n) (nat_le n 16777216) (n % 2048 == 0) refl h
     go true false c e h = absurd (cc)
     go false b c e h = absurd (cc)
 
+-- two storages whose sizes are alike; by all that the code has read of both, a premise each
 pub as_large : (s t : Storage) (a b : ℕ) → a ≡ length s.bytes → is_size a ≡ true → length s.keys ≡ a / 2048 → b ≡ length t.bytes → length t.keys ≡ b / 2048 → a ≡ b → IsAsLarge s t
 as_large s t a b e z k f l h = record {
   bytes = sym e ∙ (h ∙ f);

@@ -71,6 +71,7 @@ reported_one_more : (es : List Input) (i : Input) (m : Machine) → AllReported 
 reported_one_more [] i m h r = (r, tt)
 reported_one_more (e ∷ es) i m h r = (h.0, reported_one_more es i (react e.0 e.1 m).1 h.1 r)
 
+-- it names the channel before, between and behind, since it joins what was met and one event more
 met_one_more : (es : List Input) (given : List Answer) (old mid new : ChannelState) (i : Input) (a : Answer)
     → AllMet es given old mid → IsMet i.1 a mid new → CallsAtMost (most_calls i.0 a) mid new → AllMet (es ++ i ∷ []) (given ++ a ∷ []) old new
 met_one_more [] [] old mid new i a h k l = (new, subst (λ old. IsMet i.1 a old new) h k, subst (λ old. CallsAtMost (most_calls i.0 a) old new) h l, refl)
@@ -86,6 +87,7 @@ along f kept [] (b ∷ given) old new h = absurd h
 along f kept (e ∷ es) [] old new h = absurd h
 along f kept (e ∷ es) (b ∷ given) old new h = along f kept es given h.0 new h.3 ∙ kept _ _ _ h.2
 
+-- it names the channel before, between and behind, since it joins a list of events and one more
 does_one_more : (m : Machine) (events : List Event) (given : List Answer) (old mid new : ChannelState) (d : Drove m events given old mid) (e : Event) (a : Answer)
     → Does e (after_all d.inputs m) a mid new → CallsAtMost (most_calls e a) mid new → Drove m (events ++ e ∷ []) (given ++ a ∷ []) old new
 does_one_more m events given old mid new d e a does calls =
@@ -100,13 +102,14 @@ does_one_more m events given old mid new d e a does calls =
       reported = reported_one_more d.inputs i m d.reported does.reports;
     }
 
--- one event more
+-- one event more; it names the channel before, between and behind, since it joins a list of events and that one
 pub drove_one_more : (m : Machine) (events : List Event) (given : List Answer) (old mid new : ChannelState) (e : Event) (a : Answer)
     → ((now : Machine) → StandsFor mid now → Does e now a mid new) → CallsAtMost (most_calls e a) mid new → Drove m events given old mid → Drove m (events ++ e ∷ []) (given ++ a ∷ []) old new
 drove_one_more m events given old mid new e a does calls d =
     does_one_more m events given old mid new d e a (does (after_all d.inputs m) d.stands) calls
 
--- one event more of a list of a deck's events
+-- one event more of a list of a deck's events; it names the channel before, between and behind, since it joins the
+-- events up to there and that one
 pub goes_on : (m : Machine) (events : List deck_event.Event) (i : ℕ) (d : deck_event.Event) (given : List deck_answer.Answer) (old mid new : ChannelState) (a : deck_answer.Answer)
     → i < length events → ((now : Machine) → StandsFor mid now → Does (event_seen (get_or events i d)) now (answer_seen a) mid new)
     → CallsAtMost (most_calls (event_seen (get_or events i d)) (answer_seen a)) mid new

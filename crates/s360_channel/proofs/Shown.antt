@@ -48,6 +48,7 @@ idle_shown c m h e = let k = subst (Shows c m) e h.shows in ap (λ (m : Machine)
 pub pending_shown : (c : ChannelState) (m : Machine) (device : ℕ) (csw : Csw) → StandsFor c m → c.subchannel ≡ code.Pending device csw → shown.Pending device csw ≡ subchannel_seen m m.subchannel
 pending_shown c m device csw h e = let k = subst (Shows c m) e h.shows in ap (λ (m : Machine). subchannel_seen m m.subchannel) (sym k.0)
 
+-- by all that the answer clause of the code has at hand, a premise each
 pub working_shown : (c : ChannelState) (m : Machine) (place : ℕ) (r : RunningState) (device : ℕ) (asked : Bool) → (h : StandsFor c m) → c.subchannel ≡ code.Working place r
     → Some device ≡ option_map (λ u. u.device) (slice_get c.drives place)
     → ((w : WorksFor c place r m) → asked ≡ is_some (standing_in r.key (phase_in r c.storage w.attached.drive)).interruption)
@@ -110,7 +111,7 @@ all_places (a ∷ b ∷ c ∷ d ∷ e ∷ f ∷ g ∷ []) l = refl
 all_places (a ∷ b ∷ c ∷ d ∷ e ∷ f ∷ g ∷ h ∷ []) l = refl
 all_places (a ∷ b ∷ c ∷ d ∷ e ∷ f ∷ g ∷ h ∷ i ∷ us) l = absurd (omega (arith, l))
 
--- and two lists of eight are equal place by place
+-- and two lists of eight are equal place by place; it names each place of both, with an equation for each two
 pub eight_places : {A : Type 0} {a b c d e f g h a' b' c' d' e' f' g' h' : A} → a ≡ a' → b ≡ b' → c ≡ c' → d ≡ d' → e ≡ e' → f ≡ f' → g ≡ g' → h ≡ h'
     → a ∷ b ∷ c ∷ d ∷ e ∷ f ∷ g ∷ h ∷ [] ≡ a' ∷ b' ∷ c' ∷ d' ∷ e' ∷ f' ∷ g' ∷ h' ∷ []
 eight_places p q r s t u v w = cc
@@ -158,6 +159,7 @@ shows_volume c m device image s e off = e off ∙ (both (attached_with device c.
     both None = refl
     both (Some u) = refl
 
+-- the volume that is lent; by all that the answer clause of the code has at hand, a premise each
 pub lends_volume : (c : ChannelState) (m : Machine) (device place : ℕ) (d : DriveState) (image : ImageState) → StandsFor c m → position (is_at device) c.drives ≡ Some place
     → Some d ≡ option_map (λ (u : AttachedState). u.drive) (slice_get c.drives place) → image ≡ d.image → d.image.geometry ≡ d.state.volume.geometry
     → (is_idle d.work ≡ true → is_written d.state ≡ false → d.image.slots ≡ d.state.volume.slots) → ShowsVolume device m (Some image)
@@ -226,6 +228,7 @@ phase_there c place r m w sound = record {
   stands = w.runs.run;
 }
 
+-- by all that the answer clause of the code has at hand, a premise each
 pub sees_program : (c : ChannelState) (m : Machine) (place : ℕ) (r : RunningState) (device : ℕ) (seen : ProgramView) → StandsFor c m → c.subchannel ≡ code.Working place r
     → Some device ≡ option_map (λ u. u.device) (slice_get c.drives place)
     → ((s : Storage) (d : DriveState) → Stands r d → seen ≡ seen_in r.key (phase_in r s d))

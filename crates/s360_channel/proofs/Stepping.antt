@@ -38,7 +38,8 @@ use Rattle.s360_channel.proofs.Works.{channel_of, devices_of, distinct_drives, d
 
 -- Drives in which the drive and the arm of one of them changed, and a program that is over there.
 
--- What an event that meets this fault does at a channel, from what the machine comes to and what the channel shows then.
+-- What an event that meets this fault does at a channel, from what the machine comes to and what the channel shows
+-- then. Its premises are many, since steps, a halt and a reset come here.
 pub does_this : (e : Event) (m : Machine) (answer : Answer) (old new : ChannelState) (fault : Option FaultAfter) (after : Machine) → StandsFor old m → react e fault m ≡ (answer, after)
     → new.number ≡ old.number → length new.drives ≤ 8 → Shows new after new.subchannel → IsMet fault answer old new → Reports e m fault → Does e m answer old new
 does_this e m answer old new fault after s is same few shows met reports = record {
