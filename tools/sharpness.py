@@ -10,7 +10,7 @@ of them is taken; the program is then run once a number. A wrong body is caught 
 if it does not end in the time that it has. For each suite one line tells how many were caught, and then which were not.
 
 A suite may have wrong bodies of its own in tools/wrong_bodies/SUITE: files of the form of a must-fail edit, whose `file:` begins at
-`crates`. They stand for what no must-fail edit shows, and the gate does not look at them.
+`crates`. They stand for what no must-fail edit shows, or none shows any more, and the gate does not look at them.
 
 What stands outside a function (an edit of a definition, of a table, or of a function of a trait) is not tried, and is counted; so is
 what NO_RUN_SHOWS names.
@@ -56,7 +56,6 @@ NO_RUN_SHOWS = {
     "s360_words/caw_takes_any_low_bits": "the fetch of the first word refuses such an address with the same answer",
     "ckd_slot/bytes_behind_the_end_mark_are_left": "no drive puts bytes behind an end mark; the contract alone leaves it open",
     "ckd_position/search_compares_at_most_four_bytes": "no drive asks that function: it compares piece by piece, by another",
-    "s360_program/whole_command_is_never_seen_as_whole": "it costs time alone: the bytes and the end then come one step after another",
 }
 PROGRAM = "dasd_cmd"
 HEAD = re.compile(r"^(?P<indent> *)(?P<before>(?:pub(?:\([a-z]+\))? )?(?:const )?)fn (?P<name>\w+)", re.M)
