@@ -23,7 +23,8 @@ use Rattle.ckd_command.specs.Tables.{action_of}
 use Rattle.ckd_position.specs.Contents.{Sighted}
 use Rattle.ckd_command.specs.Commands.{Closing, IsAtTrack, area_bytes, closing, close_by, command_end, search_ends, own_home_address, new_record_fits, number as number_of, whole_field, at_end}
 use Rattle.ckd_slot.specs.Cache.{CacheState, after_save, after_failed_save}
-use Rattle.ckd_drive.specs.Invariant.{Stands, mark_left, HasFilled, state_of, IsPlaced, IsField, CreditIs, AtHand, command_end_at, field_ends, seen_by, track_under, is_filled, is_filled_by, is_due, HalfDone, Parts, parts_of, own_track, AtWork, at_work, geometry_in, number_in, slot_in, closing_in, closes_by, Goes}
+use Rattle.ckd_drive.specs.Invariant.{Stands, HasFilled, state_of, IsPlaced, IsField, CreditIs, AtHand, seen_by, track_under, is_filled, is_filled_by, HalfDone, Parts, parts_of, own_track, AtWork, at_work, geometry_in, number_in, slot_in, closing_in, closes_by, Goes}
+use Rattle.ckd_drive.specs.Passing.{mark_left, command_end_at, field_ends, is_due}
 use Rattle.ckd_command.specs.Drive.{State, closed_staying, SaveFails, is_written_by}
 use Rattle.ckd_command.specs.declared.close.DriveEnding.{DriveEnding}
 use Rattle.ckd_drive.specs.declared.transfer.Written.{Written}
@@ -55,7 +56,7 @@ search_stays o r false b = (refl, refl)
 -- how a command closes is known by its place
 pub command_end_is : (job : AtWork) (p : Transfer) (moved : ℕ)
     → is_due p ≡ false → number_in job < length job.cache.slots → IsPlaced job p → length job.passed ≡ moved → command_end (closing_in job (seen_track job p)) ≡ command_end_at (geometry_in job) job.registers job.opened moved p
-command_end_is job (Due due) moved made lt x m = absurd cc
+command_end_is job (Due w number count) moved made lt x m = absurd cc
 command_end_is job (Filled w u) moved made lt x m =
     let k = x.filled.closes [] (omega arith) in
     let same : job.passed ++ [] ≡ job.passed = append-nil job.passed in
@@ -78,7 +79,7 @@ command_end_is job _ moved made lt x m = x.2.so
 
 pub unwritten_is : (job : AtWork) (p : Transfer)
     → is_due p ≡ false → IsPlaced job p → is_filled_by p ≡ false → (closing_in job (seen_track job p)).written ≡ None
-unwritten_is job (Due due) made x f = absurd cc
+unwritten_is job (Due w number count) made x f = absurd cc
 unwritten_is job (Filled w u) made x f = absurd cc
 unwritten_is job (Field y) made x f = x.2
 unwritten_is job (Search w so_far) made x f =
@@ -101,7 +102,7 @@ pub staying : (job : AtWork) (m : Mark) (p : Transfer) (u : CommandEnd)
     → closed_staying (record { volume = record { geometry = geometry_in job; slots = seen_by job.cache.slots (number_in job) job.before p }; registers = job.registers; mark = m }) (closing_in job (seen_track job p))
     ≡ record { state = record { volume = record { geometry = geometry_in job; slots = job.cache.slots }; registers = u.registers; mark = mark_left p m }; unit = u.ending.unit; motion = u.ending.motion }
 staying job m (Filled w v) u made lt x out = (let there = written_there job w v lt x in rw (there.1, there.2, ← out) refl)
-staying job m (Due due) u made lt x out = absurd cc
+staying job m (Due w number count) u made lt x out = absurd cc
 staying job m p u made lt x out = rw (unwritten_is job p made x refl, ← out) refl
 
 -- A drive that is so for those who call it stands while the bytes of a command pass, which would close so; a record that was

@@ -17,7 +17,8 @@ use Rattle.ckd_command.specs.Commands.{length_after, closing, command_end}
 use Rattle.ckd_slot.specs.Buffer.{FitsSlot, IsUpdate, SameRecords, lengths_on}
 use Rattle.ckd_slot.specs.Cache.{CacheState, slot_held, with_held}
 use Rattle.ckd_drive.specs.declared.transfer.Written.{Written}
-use Rattle.ckd_drive.specs.Invariant.{HalfDone, Works, MayTake, Absorbs, own_track, seen_with, with_taken, HasFilled, IsFilled, slot_at, track_under, AtWork, geometry_in, slot_in, at_work, closes_by}
+use Rattle.ckd_drive.specs.Invariant.{HalfDone, own_track, seen_with, HasFilled, IsFilled, slot_at, track_under, AtWork, geometry_in, slot_in, at_work, closes_by}
+use Rattle.ckd_drive.specs.Passing.{Works, MayTake, Absorbs, with_taken}
 use Rattle.ckd_slot.proofs.Writes.{update_offset, update_length, length-padded}
 use Rattle.ckd_slot.proofs.Updates.{form_of, padded_on, same_records}
 use Rattle.ckd_drive.proofs.Standing.{slot_is, number_below}

@@ -19,7 +19,8 @@ use Rattle.ckd_command.specs.Commands.{Closing, command_end, own_home_address, n
 use Rattle.ckd_slot.specs.Buffer.{HasFormatted, CanMake, IsPlaceOf, fits_track, lengths_on, made_on}
 use Rattle.ckd_slot.specs.Cache.{CacheState, with_held, slot_held, after_format}
 use Rattle.ckd_drive.specs.declared.transfer.Written.TheVariants as written
-use Rattle.ckd_drive.specs.Invariant.{HalfDone, Works, Absorbs, HasDue, HasFilled, IsFound, at_work, own_slot, with_taken, own_track, action_now, IsFilled, AtHand, slot_at, whole_of, AtWork, geometry_in, action_in}
+use Rattle.ckd_drive.specs.Invariant.{HalfDone, HasDue, HasFilled, IsFound, at_work, own_slot, own_track, action_now, IsFilled, AtHand, slot_at, AtWork, geometry_in, action_in}
+use Rattle.ckd_drive.specs.Passing.{Works, Absorbs, with_taken, whole_of}
 use Rattle.ckd_slot.proofs.Writes.{update_length, update_place, made_formatted, kept_le, length-padded, padded_whole}
 use Rattle.ckd_track.proofs.ChargeLaws.{no_end_mark}
 use Rattle.ckd_drive.proofs.Fills.{there, new_slot_at, reads_new, Filling, room_of, ClosesFilled, form_filled, filled_absorbs}
@@ -164,7 +165,7 @@ format_absorbs {half} {more} {f} {field} {count} i w k has =
     filled (made ∙ ap (slot_of g.track_size) (sym whole))
 
 -- a record that fits is due, and the track stays
-pub due_absorbs : {half : HalfDone} {more f field count : List ℕ} (i : ℕ) (w : Window) → FormatGoes half more f field count → Fits half count i w → Absorbs half more half.cache half.before (Due (record { number = i; place = w; count = count }))
+pub due_absorbs : {half : HalfDone} {more f field count : List ℕ} (i : ℕ) (w : Window) → FormatGoes half more f field count → Fits half count i w → Absorbs half more half.cache half.before (Due w i count)
 due_absorbs {half} {more} {f} {field} {count} i w k has =
     let a = format_absorbs i w k has in
     let works = k.collects.may.works in
@@ -205,7 +206,7 @@ pub record NextMade (half : HalfDone) (more : List ℕ) (w : Window) (number : �
   pub absorbs : Absorbs half more (with_held half.cache (overwritten (slot_of half.cache.image.geometry.track_size (made_on (track_of (slot_held half.cache)) number count)) w.start more))
       (slot_held half.cache) (Filled (record { start = w.start + length more; len = w.len - length more }) (written.Record number))
 
-pub made_absorbs : (half : HalfDone) (more : List ℕ) (w : Window) (number : ℕ) (count : List ℕ) → Works half → half.progress.place ≡ Due (record { number = number; place = w; count = count }) → length more ≤ half.progress.left → NextMade half more w number count
+pub made_absorbs : (half : HalfDone) (more : List ℕ) (w : Window) (number : ℕ) (count : List ℕ) → Works half → half.progress.place ≡ Due w number count → length more ≤ half.progress.left → NextMade half more w number count
 made_absorbs half more w number count x at le =
     let c = half.cache in
     let size = c.image.geometry.track_size in

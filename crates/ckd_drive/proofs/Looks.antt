@@ -18,7 +18,8 @@ use Rattle.ckd_drive.proofs.Takes.{field_unwritten, field_wants, no_byte}
 use Rattle.ckd_command.proofs.Closings.{area_by, closing_by, sense_closes, sense_length}
 use Rattle.ckd_command.proofs.Lengths.{length_by}
 use Rattle.ckd_slot.specs.Cache.{CacheState, holds, loaded, after_hold, after_failed_hold, after_save, after_failed_save}
-use Rattle.ckd_drive.specs.Invariant.{IsFirstPlace, IsPlaced, IsField, ReadsWhole, FieldAtHand, AtHand, slot_at, AtWork, geometry_in, number_in, slot_in, at_work, Stands, StaysAt, CreditAtHand, remaining, first_progress, state_of, is_filled_by, HalfDone, Parts, parts_of, own_track, own_slot, AreaIsThere, SightKeeps, StageIs, is_filled}
+use Rattle.ckd_drive.specs.Invariant.{IsFirstPlace, IsPlaced, IsField, ReadsWhole, FieldAtHand, AtHand, slot_at, AtWork, geometry_in, number_in, slot_in, at_work, Stands, StaysAt, CreditAtHand, remaining, state_of, is_filled_by, HalfDone, Parts, parts_of, own_track, own_slot, AreaIsThere, SightKeeps, StageIs, is_filled}
+use Rattle.ckd_drive.specs.Passing.{first_progress}
 use Rattle.ckd_track.specs.declared.geometries.Geometry.{Geometry}
 use Rattle.ckd_command.specs.declared.registers.Registers.{Registers}
 use Rattle.ckd_drive.specs.declared.transfer.Progress.{Progress}
@@ -155,7 +156,7 @@ first_placed job (Fill w u) f h again =
       record { again = again; len = omega (arith, length_by action.Update (geometry_in job) t job.opened job.registers [] f.0, ap length area, f.1.size) },
       record { so = ap command_end is ∙ sym f.3; unwritten = ap (λ (k : Closing). k.written) is },
     )
-first_placed job (Due due) f h again = absurd f
+first_placed job (Due w number count) f h again = absurd f
 first_placed job (Filled w u) f h again = absurd f
 
 first_not_filled : (slot : List ℕ) (o : Opened) (r : Registers) (p : Transfer) → IsFirstPlace slot o r p → is_filled_by p ≡ false
@@ -165,7 +166,7 @@ first_not_filled slot o r _ f = refl
 -- how many bytes it wants, by its place
 pub first_len : (job : AtWork) (p : Transfer) → IsFirstPlace (slot_in job) job.opened job.registers p → IsPlaced (record job { passed = [] }) p
     → length_after (geometry_in job) (track_of (slot_in job)) job.opened job.registers [] ≡ 0 + remaining (action_of job.opened.command) p 0
-first_len job (Due due) f x = absurd f
+first_len job (Due w number count) f x = absurd f
 first_len job (Filled w u) f x = absurd f
 first_len job _ f x = x.1.len
 

@@ -17,7 +17,8 @@ use Rattle.ckd_slot.specs.Buffer.{Lies}
 use Rattle.ckd_slot.specs.Cache.{CacheState, IsVolume, slot_held}
 use Rattle.ckd_drive.specs.Work as work
 use Rattle.ckd_drive.specs.Work.{DriveState, gives_now, left_of, given_now, passed_of, moved_on, passes_now}
-use Rattle.ckd_drive.specs.Invariant.{Stands, IsPlaced, IsField, ClosesUnwritten, remaining, given_on, state_of, slot_at, is_filled_by, Parts, AtWork, closing_in, HalfDone, Works, Absorbs, own_slot, own_track, action_now, area_in, seen_with, with_taken, with_place, Finishes, is_due, at_work, parts_of}
+use Rattle.ckd_drive.specs.Invariant.{Stands, IsPlaced, IsField, ClosesUnwritten, remaining, state_of, slot_at, is_filled_by, Parts, AtWork, closing_in, HalfDone, own_slot, own_track, action_now, area_in, seen_with, at_work, parts_of}
+use Rattle.ckd_drive.specs.Passing.{given_on, Works, Absorbs, with_taken, with_place, Finishes, is_due}
 use Rattle.ckd_command.proofs.Closings.{area_by, closing_by, sense_closes as closes_sense, sense_length}
 use Rattle.ckd_command.proofs.Lengths.{length_by}
 use Rattle.ckd_drive.proofs.Standing.{goes_of, slot_is, passing_in}
@@ -144,7 +145,7 @@ finished d now c before place x now_is passing f = by_place d.job.progress.place
     is = passing_in d now now_is passing
 
     by_place : (p : Transfer) → d.job.progress.place ≡ p → Finishes d.job p c before place → Finished d now (with_place d.job c before place)
-    by_place (Due due) at k =
+    by_place (Due w number count) at k =
         let a = k.0 in
         let job = d.job in
         let S : HalfDone → Type 0 = λ h. Stands (parts_of h d.mark Passing) in
@@ -211,7 +212,7 @@ given_absorbs half more k x n may giving = rw n (by_place half.progress.place re
     by_place (Field f) at = absurd (field_takes (action_now half) (rw at at x.goes.placed).0.is_field giving)
     by_place (Search w so_far) at = absurd (not_given _ action.Search (rw at at x.goes.placed).0.is_search refl giving)
     by_place (Fill w u) at = absurd (not_given _ action.Update (rw at at x.goes.placed).0.is_update refl giving)
-    by_place (Due due) at = absurd (not_given _ _ refl (rw at at x.goes.placed).filled.takes giving)
+    by_place (Due w number count) at = absurd (not_given _ _ refl (rw at at x.goes.placed).filled.takes giving)
     by_place (Filled w u) at = absurd (not_given _ _ refl (rw at at x.goes.placed).takes giving)
 
 -- what may be given: so many bytes, and they are what the definitions give

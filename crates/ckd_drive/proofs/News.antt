@@ -22,7 +22,8 @@ use Rattle.ckd_slot.specs.Buffer.{lengths_on}
 use Rattle.ckd_slot.specs.Cache.{slot_held, with_held}
 use Rattle.ckd_drive.specs.declared.transfer.Written.{Written}
 use Rattle.ckd_drive.specs.declared.transfer.Written.TheVariants as written
-use Rattle.ckd_drive.specs.Invariant.{HalfDone, Works, Absorbs, own_track, own_slot, action_now, HasFilled, IsFilled, slot_at, is_filled_by, whole_of, AtWork, geometry_in, slot_in, action_in, at_work, with_taken, closes_by}
+use Rattle.ckd_drive.specs.Invariant.{HalfDone, own_track, own_slot, action_now, HasFilled, IsFilled, slot_at, is_filled_by, AtWork, geometry_in, slot_in, action_in, at_work, closes_by}
+use Rattle.ckd_drive.specs.Passing.{Works, Absorbs, whole_of, with_taken}
 use Rattle.ckd_slot.proofs.Writes.{bare_fits}
 use Rattle.ckd_drive.proofs.Fills.{there, new_slot_at, written_absorbs, reads_new}
 use Rattle.ckd_command.proofs.Closings.{closing_by}

@@ -21,7 +21,8 @@ use Rattle.ckd_command.specs.Commands.{Closing, bytes_at, area_bytes, sight, end
 use Rattle.ckd_slot.specs.Buffer.{FitsSlot, IsUpdate, IsUpdateAt, IsRecordOf, lengths_on}
 use Rattle.ckd_slot.specs.Cache.{with_held, slot_held}
 use Rattle.ckd_drive.specs.declared.transfer.Written.TheVariants as written
-use Rattle.ckd_drive.specs.Invariant.{HalfDone, MayTake, Absorbs, own_track, own_slot, action_now, IsFilled, AtHand, slot_at, track_under, AtWork, geometry_in, action_in}
+use Rattle.ckd_drive.specs.Invariant.{HalfDone, own_track, own_slot, action_now, IsFilled, AtHand, slot_at, track_under, AtWork, geometry_in, action_in}
+use Rattle.ckd_drive.specs.Passing.{MayTake, Absorbs}
 use Rattle.ckd_slot.proofs.Writes.{update_length, update_place, length-padded, padded_changes}
 use Rattle.ckd_slot.proofs.Updates.{form_of}
 use Rattle.ckd_drive.proofs.Fills.{there, new_slot_at, reads_new, Filling, ClosesFilled, form_filled, old_read}

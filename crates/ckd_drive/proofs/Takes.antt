@@ -13,7 +13,8 @@ use Rattle.ckd_command.specs.Answers.{Found}
 use Rattle.ckd_slot.specs.declared.windows.Window.{Window}
 use Rattle.ckd_drive.specs.declared.transfer.Transfer.TheVariants.{Field, Search}
 use Rattle.ckd_command.specs.Commands.{Closing, sight, close_by, length_for, own_home_address, new_record_fits, write_home_address, format, whole_field, at_end}
-use Rattle.ckd_drive.specs.Invariant.{HalfDone, MayTake, Absorbs, own_slot, action_now, area_in, HasField, order_of, field_size, at_work, IsField}
+use Rattle.ckd_drive.specs.Invariant.{HalfDone, own_slot, action_now, area_in, HasField, order_of, field_size, at_work, IsField}
+use Rattle.ckd_drive.specs.Passing.{MayTake, Absorbs}
 use Rattle.ckd_command.proofs.Closings.{closing_by}
 use Rattle.ckd_command.proofs.Lengths.{length_by}
 use Rattle.ckd_drive.proofs.Moving.{window_moves, absorbs_plain}

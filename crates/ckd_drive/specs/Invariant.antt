@@ -1,12 +1,11 @@
 -- A command half done, as the drive holds it.
-use Rattle.std.specs.Prelude.{◌≡◌, ℕ, ◌+◌, ◌-◌, ◌^◌, ◌≤◌, ◌<◌, List, [], ◌++◌, Bool, true, false, ◌&&◌, ◌||◌, ◌==◌, nat_lt, Option, Some, None, bytes_eq, length, take, drop, slice_index_or, slice_set, if◌then◌else◌}
+use Rattle.std.specs.Prelude.{◌≡◌, ℕ, ◌+◌, ◌-◌, ◌≤◌, ◌<◌, List, [], ◌++◌, Bool, true, false, ◌||◌, Option, Some, None, length, take, drop, slice_index_or, slice_set}
 use Rattle.ckd_track.specs.Track.{Track, track_of, track_in, slot_of}
 use Rattle.ckd_track.specs.declared.geometries.Geometry.{Geometry}
 use Rattle.ckd_track.specs.Geometry.{track_at}
 use Rattle.ckd_command.specs.declared.registers.Registers.{Registers}
 use Rattle.ckd_command.specs.declared.registers.Credit.{Credit}
 use Rattle.ckd_command.specs.declared.registers.Mark.{Mark}
-use Rattle.ckd_command.specs.declared.registers.Mark.TheVariants.{Written}
 use Rattle.ckd_command.specs.declared.tables.Action.{Action}
 use Rattle.ckd_command.specs.declared.tables.Action.TheVariants as action
 use Rattle.ckd_position.specs.declared.areas.Area.{Area}
@@ -26,17 +25,13 @@ use Rattle.ckd_drive.specs.declared.transfer.Transfer.{Transfer}
 use Rattle.ckd_drive.specs.declared.transfer.Transfer.TheVariants.{Sense, Field, Read, Search, Fill, Due, Filled}
 use Rattle.ckd_drive.specs.declared.transfer.Written.{Written as WrittenBy}
 use Rattle.ckd_drive.specs.declared.transfer.Written.TheVariants as written
-use Rattle.ckd_drive.specs.declared.transfer.Whole.{Whole}
-use Rattle.ckd_drive.specs.declared.transfer.Whole.TheVariants as whole
 use Rattle.ckd_drive.specs.declared.transfer.Progress.{Progress}
 use Rattle.ckd_drive.specs.declared.answers.Stage.{Stage}
 use Rattle.ckd_drive.specs.declared.answers.Stage.TheVariants as stage
-use Rattle.ckd_command.specs.Tables.{action_of, extent_of, aim, comparison, is_giving}
-use Rattle.ckd_position.specs.Comparisons.{accepts}
+use Rattle.ckd_command.specs.Tables.{action_of, extent_of, aim, is_giving}
 use Rattle.ckd_sense.specs.SenseBytes.{sense_bytes}
-use Rattle.ckd_sense.specs.declared.sense_bytes.TheConstants.Sense as cause
 use Rattle.ckd_position.specs.Contents.{Sighted, is_readable, padded}
-use Rattle.ckd_command.specs.Commands.{Closing, IsAtTrack, sight as sight_on, area_bytes, bytes_at, area_ends, end_of_area, search_ends, whole_field, seek_cylinder_and_head, seek_head, set_file_mask, fails, ends, at_end, ending_status, length_after, closing, command_end, home_address_ends, format_ends}
+use Rattle.ckd_command.specs.Commands.{Closing, IsAtTrack, sight as sight_on, area_bytes, bytes_at, area_ends, end_of_area, length_after, closing, command_end, home_address_ends, format_ends}
 use Rattle.ckd_slot.specs.Buffer.{Lies, HasBytes, IsPlaceOf, FitsSlot, HasFormatted, lengths_on}
 use Rattle.ckd_slot.specs.Cache.{CacheState, IsVolume, slot_held, after_format}
 use Rattle.ckd_command.specs.Drive.{is_written_by}
@@ -62,7 +57,7 @@ remaining a (Field f) moved = field_size a - moved
 remaining a (Read w no_data) moved = w.len
 remaining a (Search w so_far) moved = w.len
 remaining a (Fill w no_data) moved = w.len
-remaining a (Due due) moved = due.place.len
+remaining a (Due w number count) moved = w.len
 remaining a (Filled w what) moved = w.len
 
 -- how a command closes that has written
@@ -309,7 +304,7 @@ pub record HasDue (job : AtWork) (w : Window) (number : ℕ) (count : List ℕ) 
       (track_of (slot_held job.cache)) number w
   pub volume : IsVolume (with_made job count).cache
   pub filled : HasFilled (with_made job count) w (written.Record number)
-  pub found : IsFound job (track_of (slot_in job)) (Due (record { number = number; place = w; count = count }))
+  pub found : IsFound job (track_of (slot_in job)) (Due w number count)
   pub plain : slice_set (with_made job count).cache.slots (number_in job) (slot_held job.cache) ≡ job.cache.slots
 
 -- a command that works by a credit has the credit's track at hand
@@ -328,7 +323,7 @@ IsPlaced job (Read w no_data) = HasRead job w × IsFound job (track_of (slot_in 
 IsPlaced job (Search w so_far) = HasSearched job w so_far × IsFound job (track_of (slot_in job)) (Search w so_far)
 IsPlaced job (Fill w no_data) = WillFill job w × IsFound job (track_of (slot_in job)) (Fill w no_data)
     × ClosesUnwritten job (track_of (slot_in job)) (area_end job no_data)
-IsPlaced job (Due due) = HasDue job due.place due.number due.count
+IsPlaced job (Due w number count) = HasDue job w number count
 IsPlaced job (Filled w what) = HasFilled job w what
 
 -- What a look has found.
@@ -441,112 +436,3 @@ BeginsWell c n r (answer.Started q o) = IsCleared r q × (action_of o.command �
 BeginsWell c n r (answer.ToCylinderZero q None) = IsCleared r q
 BeginsWell c n r (answer.ToCylinderZero q (Some o)) = IsCleared r q × (action_of o.command ≡ action.NoTransfer → ⊥)
     × (aim o.command ≡ Next kind.FirstData)
-
--- More bytes.
-
--- a command once so many more bytes passed, and the rest have this place
-abbrev pub next_progress : Progress → (more : ℕ) → Transfer → Progress
-next_progress p n place = record { moved = p.moved + n; left = p.left - n; place = place }
-
--- a command of this action that has just found the place of its bytes: none passed, and all that are known of may
-abbrev pub first_progress : Action → Transfer → Progress
-first_progress a place = record { moved = 0; left = remaining a place 0; place = place }
-
--- so many bytes may be given that have this place
-abbrev pub MayGive : Transfer → ℕ → Type 0
-MayGive (Read w no_data) n = (n ≤ w.len) × (w.start + w.len < 2 ^ 32)
-MayGive _ n = Unit {0}
-
--- the place of those behind them
-abbrev pub given_on : Transfer → ℕ → Transfer
-given_on (Read w no_data) n = Read (record { start = w.start + n; len = w.len - n }) no_data
-given_on p n = p
-
--- How a command closes, by its place.
-
--- a field that did not change the track
-abbrev pub field_ends : Action → Geometry → Opened → Registers → List ℕ → Closing
-field_ends action.SeekCylinderAndHead g o r b = whole_field r b 6 (seek_cylinder_and_head g r b)
-field_ends action.SeekHead g o r b = whole_field r b 6 (seek_head g r b)
-field_ends action.SetFileMask g o r b = set_file_mask r b
-field_ends action.WriteHomeAddress g o r b = whole_field (at_end o r) b 5 (fails (at_end o r) cause.WRONG_HOME_ADDRESS)
-field_ends action.Format g o r b = whole_field r b 8 (fails r cause.RECORD_DOES_NOT_FIT)
-field_ends _ g o r b = ends r ending_status
-
--- how a command closes after so many bytes, by where the rest stand
-abbrev pub command_end_at : Geometry → Registers → Opened → (moved : ℕ) → Transfer → CommandEnd
-command_end_at g r o moved (Field f) = command_end (field_ends (action_of o.command) g o r (take moved f))
-command_end_at g r o moved (Search w so_far) = command_end (search_ends o r (nat_lt 0 moved
-    && accepts (comparison o.command) so_far) (w.len == 0))
-command_end_at g r o moved (Sense b) = command_end (area_ends o r false)
-command_end_at g r o moved (Read w no_data) = command_end (area_ends o r no_data)
-command_end_at g r o moved (Fill w no_data) = command_end (area_ends o r no_data)
-command_end_at g r o moved (Filled w what) = closes_by r o what
--- a record that is due is made before
-command_end_at g r o moved (Due due) = command_end (area_ends o r false)
-
--- no more bytes passed than the field has
-abbrev pub MovedInField : Action → (moved : ℕ) → Transfer → Type 0
-MovedInField a moved (Field f) = moved ≤ field_size a
-MovedInField a moved _ = Unit {0}
-
--- the mark of a track that a command leaves whose arm stays
-abbrev pub mark_left : Transfer → Mark → Mark
-mark_left (Filled w what) m = Written
-mark_left _ m = m
-
--- What a field is, once it came whole.
-abbrev pub whole_of : Action → (own : List ℕ) → (moved : ℕ) → (field : List ℕ) → Whole
-whole_of action.WriteHomeAddress own moved f = if moved == 5 && bytes_eq (take 5 f) own
-    then whole.HomeAddress (take 5 f) else whole.No
-whole_of action.Format own moved f = if moved == 8 then whole.Count f else whole.No
-whole_of _ own moved f = whole.No
-
--- Bytes that are taken.
-
--- it holds what a drive holds
-pub record Works (h : HalfDone) : Type 0 where
-  pub volume : IsVolume h.cache
-  pub arm : IsAtTrack h.cache.image.geometry h.registers
-  pub anchored : h.cache.changed ≡ true → h.cache.held ≡ Some (own_track h)
-  pub goes : Goes h
-
--- these bytes are taken by the drive, and may be
-pub record MayTake (h : HalfDone) (more : List ℕ) : Type 0 where
-  pub works : Works h
-  pub room : length more ≤ h.progress.left
-  pub taking : is_giving (action_now h) ≡ false
-
--- the command once these bytes were taken: the rest have this place
-abbrev pub with_taken : HalfDone → (more : List ℕ) → CacheState → (before : List ℕ) → Transfer → HalfDone
-with_taken h more c before place = record h {
-  cache = c;
-  before = before;
-  passed = h.passed ++ more;
-  progress = next_progress h.progress (length more) place;
-}
-
--- the command half done takes these bytes, and is then over this cache, with this slot before it wrote and this place of the rest
-pub record Absorbs (h : HalfDone) (more : List ℕ) (c : CacheState) (before : List ℕ) (place : Transfer) : Type 0 where
-  pub works : Works (with_taken h more c before place)
-  pub image : c.image ≡ h.cache.image
-  pub seen_same : seen_by c.slots (own_track h) before place ≡ seen_with h h.before h.progress.place
-  pub changed : c.changed ≡ (h.cache.changed || is_filled_by place)
-  pub still : is_filled_by h.progress.place ≡ true → is_filled_by place ≡ true
-  pub small : length h.passed + length more < 2 ^ 32
-
--- A record that is due is made as the command closes.
-
--- the command once it is over this cache, with this slot before it wrote and this place of the rest
-abbrev pub with_place : HalfDone → CacheState → (before : List ℕ) → Transfer → HalfDone
-with_place h c before place = record h { cache = c; before = before; progress = record h.progress { place = place } }
-
--- whether a new record is due
-abbrev pub is_due : Transfer → Bool
-is_due (Due due) = true
-is_due _ = false
-
--- where a record was due it has been made with zeros, and where none was all is as it was
-abbrev pub Finishes : HalfDone → Transfer → CacheState → (before : List ℕ) → Transfer → Type 0
-Finishes h (Due due) c before place = Absorbs h [] c before place × (is_due place ≡ false)
-Finishes h was c before place = (c ≡ h.cache) × (before ≡ h.before) × (place ≡ was)

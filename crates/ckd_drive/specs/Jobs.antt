@@ -9,7 +9,8 @@ use Rattle.ckd_command.specs.Commands.{beginning, sight}
 use Rattle.ckd_drive.specs.declared.job.Job.{Job}
 use Rattle.ckd_drive.specs.declared.answers.Stage.{Stage}
 use Rattle.ckd_drive.specs.declared.answers.Stage.TheVariants as stage
-use Rattle.ckd_drive.specs.Invariant.{HalfDone, own_track, own_slot, Absorbs, Parts, parts_of, BeginsWell, AreaIsThere, Finishes, command_end_at, state_of}
+use Rattle.ckd_drive.specs.Invariant.{HalfDone, own_track, own_slot, Parts, parts_of, BeginsWell, AreaIsThere, state_of}
+use Rattle.ckd_drive.specs.Passing.{Absorbs, Finishes, command_end_at}
 use Rattle.ckd_drive.specs.Calls.{Begins, Looks}
 use Rattle.ckd_drive.specs.Work.{gives_at_once}
 use Rattle.ckd_slot.specs.Cache.{holds}

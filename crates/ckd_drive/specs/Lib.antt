@@ -1,5 +1,6 @@
 pub mod Work
 pub mod Invariant
+pub mod Passing
 pub mod Calls
 pub mod Jobs
 pub mod Laws

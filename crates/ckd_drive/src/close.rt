@@ -1,17 +1,17 @@
 //! A command closes, by its bytes that have passed.
 
-ghost use Rattle.std.specs.Prelude.{◌≡◌, ◌≤◌, length};
+ghost use Rattle.std.specs.Prelude.{◌≡◌, ◌≤◌, true, length};
 ghost use Rattle.ckd_command.specs.Tables.{action_of};
 ghost use Rattle.ckd_command.specs.Commands.{command_end, whole_field, at_end, fails};
 ghost use Rattle.ckd_command.specs.Answers.{closed_as, ClosedStays};
 ghost use Rattle.ckd_sense.specs.declared.sense_bytes.TheConstants.Sense.{WRONG_HOME_ADDRESS};
 ghost use Rattle.ckd_drive.specs.Work.{settled_mark, owed_mark};
-ghost use Rattle.ckd_drive.specs.Invariant.{field_ends, MovedInField, mark_left, field_size, closes_by, Works};
+ghost use Rattle.ckd_drive.specs.Invariant.{field_size, closes_by};
+ghost use Rattle.ckd_drive.specs.Passing.{field_ends, MovedInField, mark_left, is_due, Works};
 ghost use Rattle.ckd_drive.specs.Jobs.{half_done, ClosesTo};
-ghost use Rattle.ckd_drive.specs.declared.transfer.Transfer.TheVariants as held;
 
 use crate::job::Job;
-use crate::transfer::{NewRecord, Transfer, Written};
+use crate::transfer::{Transfer, Written};
 use ckd_command::{
     Action, CHANNEL_AND_DEVICE_END, Closed, Mark, Opened, Registers, close_area, close_format,
     close_home_address, close_in_unit_check, close_search, close_seek, close_seek_head,
@@ -113,13 +113,16 @@ impl<S: ImageStore> Job<S> {
     // A new record of which no byte came behind its count area is made with zeros.
     // By itself, since few records are left so.
     #[inline(never)]
-    fn close_due(&mut self, due: &NewRecord) -> Closed
+    fn close_due(&mut self) -> Closed
         requires works { Works (half_done self.old) }
-        requires at { self.old.progress.place ≡ held.Due due.now }
+        requires due { is_due self.old.progress.place ≡ true }
         ensures { ClosesTo self.old result self.new }
     {
-        self.make(&[], due);
-        close_format(&mut self.registers, due.number)
+        let Transfer::Due(_, number, _) = self.progress.place else {
+            unreachable!();
+        };
+        self.make(&[]);
+        close_format(&mut self.registers, number)
     }
 
     /// How the command closes, as far as it is known by the place of its bytes and by how many have passed. A new record that is
@@ -145,10 +148,7 @@ impl<S: ImageStore> Job<S> {
                 close_search(opened, registers, satisfied, window.len == 0)
             }
             Transfer::Field(field) => field_ends(geometry, opened, registers, &field[..moved]),
-            Transfer::Due(due) => {
-                let due = *due;
-                self.close_due(&due)
-            }
+            Transfer::Due(_, _, _) => self.close_due(),
         }
     }
 }

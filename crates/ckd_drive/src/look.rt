@@ -5,7 +5,8 @@ ghost use Rattle.ckd_command.specs.declared.tables.Aim.TheVariants.{Next, NoArea
 ghost use Rattle.ckd_command.specs.Tables.{aim, action_of};
 ghost use Rattle.ckd_drive.specs.declared.answers.Stage.TheVariants as stage;
 ghost use Rattle.ckd_drive.specs.Work.{answer_of_look};
-ghost use Rattle.ckd_drive.specs.Invariant.{HalfDone, Stands, work_of, own_track, remaining, first_progress, AreaOf, IsFirstPlace, ReadsWhole};
+ghost use Rattle.ckd_drive.specs.Invariant.{HalfDone, Stands, work_of, own_track, remaining, AreaOf, IsFirstPlace, ReadsWhole};
+ghost use Rattle.ckd_drive.specs.Passing.{first_progress};
 ghost use Rattle.ckd_drive.specs.Jobs.{half_done, parts_held, Sees, LooksTo};
 ghost use Rattle.ckd_command.specs.declared.registers.Registers.{Registers};
 ghost use Rattle.ckd_track.specs.Model.{heads_of};

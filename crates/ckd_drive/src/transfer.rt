@@ -1,7 +1,8 @@
 //! The bytes of a command that pass: where they stand, and what becomes of those that it takes.
 
-ghost use Rattle.std.specs.Prelude.{◌≡◌, ◌≤◌, ◌<◌, ◌+◌, length, ◌-◌, ◌^◌, slice_range};
-ghost use Rattle.ckd_drive.specs.Invariant.{MayTake, Works, MayGive, whole_of, remaining, field_size, given_on};
+ghost use Rattle.std.specs.Prelude.{◌≡◌, ◌≤◌, ◌<◌, ◌+◌, true, length, ◌-◌, ◌^◌, slice_range};
+ghost use Rattle.ckd_drive.specs.Invariant.{remaining, field_size};
+ghost use Rattle.ckd_drive.specs.Passing.{MayTake, Works, MayGive, IsNoSearch, whole_of, given_on, is_due, made_by};
 ghost use Rattle.ckd_drive.specs.Jobs.{half_done, Takes};
 ghost use Rattle.ckd_command.specs.Commands.{own_home_address};
 ghost use Rattle.std.specs.Ordering.{nat_cmp, ordering_then};
@@ -32,21 +33,12 @@ pub enum Transfer {
     Search(Window, Ordering),
     /// These bytes are to be replaced, none was yet; and whether the area's record has no data.
     Fill(Window, bool),
-    /// This new record fits the track, which is as it was.
-    Due(NewRecord),
+    /// A new record fits the track, which is as it was: its key and data will stand there, and it has this number and these
+    /// count bytes. It is made once bytes of its key and data come, or the command ends.
+    // No struct of its own: with one inside, each read and each search takes a tenth more instructions.
+    Due(Window, usize, [u8; 8]),
     /// The track is changed, these bytes are zeros that may still be replaced, and the command then closes so.
     Filled(Window, Written),
-}
-
-/// A record that a formatting write makes once bytes of its key and data come, or the command ends.
-#[derive(Clone, Copy)]
-pub struct NewRecord {
-    /// Its number.
-    pub number: usize,
-    /// Where its key and data will stand.
-    pub place: Window,
-    /// Its count bytes.
-    pub count: [u8; 8],
 }
 
 /// What a command has written.
@@ -103,10 +95,10 @@ pub(crate) fn remaining(action: Action, place: &Transfer, moved: usize) -> usize
     match place {
         Transfer::Sense(_) => 6usize.saturating_sub(moved),
         Transfer::Field(_) => field_size(action).saturating_sub(moved),
-        Transfer::Due(due) => due.place.len,
         Transfer::Read(window, _)
         | Transfer::Search(window, _)
         | Transfer::Fill(window, _)
+        | Transfer::Due(window, _, _)
         | Transfer::Filled(window, _) => window.len,
     }
 }
@@ -234,11 +226,7 @@ impl<S: ImageStore> Job<S> {
                     self.progress.place = Transfer::Field(field);
                     return;
                 };
-                self.progress.place = Transfer::Due(NewRecord {
-                    number,
-                    place,
-                    count,
-                });
+                self.progress.place = Transfer::Due(place, number, count);
             }
         }
     }
@@ -262,23 +250,20 @@ impl<S: ImageStore> Job<S> {
 
     /// A new record that is due is made with the first bytes of its key and data, however many.
     #[inline(never)]
-    pub(crate) fn make(&mut self, bytes: &[u8], due: &NewRecord)
+    pub(crate) fn make(&mut self, bytes: &[u8])
         requires works { Works (half_done self.old) }
-        requires at { self.old.progress.place ≡ held.Due due.now }
+        requires due { is_due self.old.progress.place ≡ true }
         requires room { length bytes.now ≤ self.old.progress.left }
         ensures takes { Takes self.old bytes.now self.new }
-        ensures filled { self.new.progress.place ≡ held.Filled (record {
-          start = due.now.place.start + length bytes.now;
-          len = due.now.place.len - length bytes.now;
-        }) (written.Record due.now.number) }
+        ensures filled { self.new.progress.place ≡ made_by self.old.progress.place (length bytes.now) }
     {
+        let Transfer::Due(place, number, count) = self.progress.place else {
+            unreachable!();
+        };
         // noted first, so that the copy is the last that is done
         self.before = Trace::of(self.cache.buffer().bytes());
-        self.progress.place = Transfer::Filled(
-            behind(due.place, bytes.len()),
-            Written::Record(due.number),
-        );
-        self.cache.format(due.number, due.count, due.place, bytes);
+        self.progress.place = Transfer::Filled(behind(place, bytes.len()), Written::Record(number));
+        self.cache.format(number, count, place, bytes);
     }
 
     // More bytes of an area that is being written.
@@ -292,6 +277,23 @@ impl<S: ImageStore> Job<S> {
         self.cache.put(window.start, bytes);
     }
 
+    // A command that has found its area, and is no search, collects these bytes or writes them.
+    // By itself, so that a search, the commonest, is short where it stands.
+    #[inline(never)]
+    fn collect_or_write(&mut self, bytes: &[u8])
+        requires may { MayTake (half_done self.old) bytes.now }
+        requires no_search { IsNoSearch self.old.progress.place }
+        ensures { Takes self.old bytes.now self.new }
+    {
+        match self.progress.place {
+            Transfer::Field(field) => self.collect(bytes, field),
+            Transfer::Fill(window, no_data) => self.fill(bytes, window, no_data),
+            Transfer::Due(_, _, _) => self.make(bytes),
+            Transfer::Filled(window, written) => self.fill_on(bytes, window, written),
+            Transfer::Search(_, _) | Transfer::Sense(_) | Transfer::Read(_, _) => unreachable!(),
+        }
+    }
+
     /// A command that has found its area takes these bytes, and the rest have the place that is left.
     #[inline(always)]
     pub(crate) fn absorb(&mut self, bytes: &[u8])
@@ -300,11 +302,7 @@ impl<S: ImageStore> Job<S> {
     {
         match self.progress.place {
             Transfer::Search(window, so_far) => self.search(bytes, window, so_far),
-            Transfer::Field(field) => self.collect(bytes, field),
-            Transfer::Fill(window, no_data) => self.fill(bytes, window, no_data),
-            Transfer::Due(due) => self.make(bytes, &due),
-            Transfer::Filled(window, written) => self.fill_on(bytes, window, written),
-            Transfer::Sense(_) | Transfer::Read(_, _) => unreachable!(),
+            _ => self.collect_or_write(bytes),
         }
     }
 }

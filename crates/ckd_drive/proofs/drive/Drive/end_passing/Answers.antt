@@ -3,7 +3,8 @@ use Rattle.ckd_command.specs.declared.close.Closed.TheVariants.{Stays, Moves}
 use Rattle.ckd_command.specs.Answers.{CommandEnd, closed_as}
 use Rattle.ckd_drive.specs.declared.answers.Stage.TheVariants.{Idle}
 use Rattle.ckd_drive.specs.Calls.{Leaves, Loses}
-use Rattle.ckd_drive.specs.Invariant.{Parts, parts_of, with_place, command_end_at}
+use Rattle.ckd_drive.specs.Invariant.{Parts, parts_of}
+use Rattle.ckd_drive.specs.Passing.{with_place, command_end_at}
 use Rattle.ckd_drive.specs.declared.job.Job.{Job}
 use Rattle.ckd_drive.proofs.Moving.{finished}
 use Rattle.ckd_drive.specs.Jobs.{half_done}
