@@ -25,8 +25,12 @@ pub(crate) fn takes(drive: &mut RecordedDrive, bytes: &[u8], piece: usize) -> us
     for part in bytes.chunks(piece) {
         let n = take(drive, part);
         look(drive);
-        let more = take(drive, &part[n..]);
-        taken = taken.saturating_add(n).saturating_add(more);
+        taken = taken.saturating_add(n);
+        let rest = &part[n..];
+        // a piece of no byte makes a record that is due, and so would hide what the command's end makes of it
+        if !rest.is_empty() {
+            taken = taken.saturating_add(take(drive, rest));
+        }
     }
     taken
 }
