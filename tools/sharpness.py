@@ -284,6 +284,8 @@ def verdict(made, suite, number, seconds):
 
 def measure(tools, suite, crates):
     with tempfile.TemporaryDirectory() as folder:
+        # a row over real files has `dasd` run by a user who is not this one
+        os.chmod(folder, 0o755)
         room, top = Path(folder), Path(folder) / "copy"
         kept = shutil.ignore_patterns("out", ".git")
         shutil.copytree(TOP / "crates", top / "crates", ignore=kept)
